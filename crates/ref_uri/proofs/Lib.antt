@@ -1,0 +1,5 @@
+pub mod OnLiterals
+pub mod Rows
+pub mod EncodedLemmas
+pub mod AuthorityLemmas
+pub mod PathLemmas
