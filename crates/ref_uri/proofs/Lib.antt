@@ -3,3 +3,7 @@ pub mod Rows
 pub mod EncodedLemmas
 pub mod AuthorityLemmas
 pub mod PathLemmas
+pub mod StructureLemmas
+pub mod AsciiLemmas
+pub mod RestLemmas
+pub mod LengthsLemmas

@@ -9,6 +9,8 @@ mod characters;
 mod error;
 mod lengths;
 mod parser;
+mod reference;
 
 
 pub use error::ParseError;
+pub use reference::UriRef;

@@ -5,24 +5,8 @@ use Rattle.ref_uri.specs.Components.{scheme, authority, path, query, fragment, b
 use Rattle.ref_uri.specs.Authority.{is_authority}
 use Rattle.ref_uri.specs.Lengths.{the_lengths, lengths_of}
 use Rattle.ref_uri.proofs.PathLemmas.{no_scheme, no_authority, no_path, no_query, no_fragment, all_there, refusal, scheme_test}
+use Rattle.ref_uri.proofs.RestLemmas.{scheme_gone, authority_gone, path_gone, query_gone}
 use Rattle.ref_uri.proofs.parser.parse.Goals as goal
-
--- The rests are those of the definition.
-scheme_gone : (text rest : List ℕ) (s : Option ℕ) → s ≡ option_map length (scheme text) → rest ≡ behind s 1 text → rest ≡ after_scheme text
-unfolding after_scheme
-scheme_gone text rest s len is = is ∙ ap (λ n. behind n 1 text) len
-
-authority_gone : (text before rest : List ℕ) (a : Option ℕ) → before ≡ after_scheme text → a ≡ option_map length (authority_in_front before) → rest ≡ behind a 2 before → rest ≡ after_authority text
-unfolding after_authority authority
-authority_gone text before rest a same len is = is ∙ ap (λ n. behind n 2 before) len ∙ ap (λ t. behind (option_map length (authority_in_front t)) 2 t) same
-
-path_gone : (text before rest : List ℕ) (p : ℕ) → before ≡ after_authority text → p ≡ position_or_len ends_path before → rest ≡ drop p before → rest ≡ after_path text
-unfolding after_path
-path_gone text before rest p same len is = is ∙ ap (λ n. drop n before) len ∙ ap (λ t. drop (position_or_len ends_path t) t) same
-
-query_gone : (text before rest : List ℕ) (q : Option ℕ) → before ≡ after_path text → q ≡ option_map length (query_in_front before) → rest ≡ behind q 1 before → rest ≡ after_query text
-unfolding after_query query
-query_gone text before rest q same len is = is ∙ ap (λ n. behind n 1 before) len ∙ ap (λ t. behind (option_map length (query_in_front t)) 1 t) same
 
 path_tested : (text before : List ℕ) → before ≡ after_authority text → is_path (path text) ≡ is_path (before_first ends_path before)
 unfolding path
