@@ -17,124 +17,22 @@ use Rattle.ref_uri.specs.Components.{Components, components, text_of, framed, sc
 use Rattle.ref_uri.specs.Reference.{is_uri_reference}
 use Rattle.ref_uri.proofs.EncodedLemmas.{passes_at_first, any_is_found}
 use Rattle.ref_uri.proofs.AuthorityLemmas.{is_authority-userinfo}
+use Rattle.ref_uri.proofs.AuthorityCharacters.{is_authority_character, authority_characters, list_all-wider}
 use Rattle.ref_uri.proofs.StructureLemmas.{text_of-components}
 
--- the characters of an authority
-abbrev pub is_authority_character : ℕ → Bool
-is_authority_character c = is_userinfo_character c || (eqb c 37 || (eqb c 64 || (eqb c 91 || eqb c 93)))
-
--- each character is one that a text may hold
+-- each character is ASCII
 abbrev pub all_ascii : List ℕ → Bool
 all_ascii text = list_all is_ascii text
-
--- what passes a narrower test passes a wider one
-pub list_all-wider : (p q : ℕ → Bool) → ((c : ℕ) → p c ≡ true → q c ≡ true) → (text : List ℕ) → list_all p text ≡ true → list_all q text ≡ true
-list_all-wider p q wider [] h = refl
-list_all-wider p q wider (c ∷ text) h =
-    let both = and_parts (p c) (list_all p text) h in
-    and_from (q c) (list_all q text) (wider c both.0) (list_all-wider p q wider text both.1)
 
 pub ascii-append : (a b : List ℕ) → all_ascii a ≡ true → all_ascii b ≡ true → all_ascii (a ++ b) ≡ true
 ascii-append a b h k = list_all-append is_ascii a b ∙ and_from (all_ascii a) (all_ascii b) h k
 
--- a text of two parts
-ascii_from_parts : (n : ℕ) (text : List ℕ) → all_ascii (take n text) ≡ true → all_ascii (drop n text) ≡ true → all_ascii text ≡ true
-ascii_from_parts n text h k = subst (λ (t : List ℕ). all_ascii t ≡ true) (take-append-drop n text) (ascii-append (take n text) (drop n text) h k)
-
--- a text of two parts with a character between
-ascii_around : (n : ℕ) (text : List ℕ) → n < length text → all_ascii (take n text) ≡ true → is_ascii (get_or text n 0) ≡ true → all_ascii (drop (n + 1) text) ≡ true → all_ascii text ≡ true
-ascii_around n text lt h c k =
-    let e : n + 1 ≡ suc n = omega arith in
-    ascii_from_parts n text h (rw (drop-cons text n 0 lt) (and_from (is_ascii (get_or text n 0)) (all_ascii (drop (suc n) text)) c (subst (λ (m : ℕ). all_ascii (drop m text) ≡ true) e k)))
-
 encoded_ascii : (allowed : ℕ → Bool) → ((c : ℕ) → allowed c ≡ true → is_ascii c ≡ true) → (text : List ℕ) → is_encoded allowed text ≡ true → all_ascii text ≡ true
-encoded_ascii allowed ascii text h =
-    list_all-wider (λ c. allowed c || eqb c 37) is_ascii (λ c k. elim (or_cases (allowed c) (eqb c 37) k) [ inl a ↦ ascii c a | inr percent ↦ ascii_of c 37 (eqb-true c 37 percent) refl ]) text (and_parts _ _ h).0
-  where
-    ascii_of : (c d : ℕ) → c ≡ d → is_ascii d ≡ true → is_ascii c ≡ true
-    ascii_of c d e k = ap is_ascii e ∙ k
-
-address_ascii : (text : List ℕ) → is_address text ≡ true → all_ascii text ≡ true
-address_ascii text h = list_all-wider is_address_character is_ascii (λ c k. grind (arith, nat_tests)) text (and_parts (ltb 0 (length text)) (list_all is_address_character text) h).1
-
-version_ascii : (text : List ℕ) → is_version_and_address text ≡ true → all_ascii text ≡ true
-version_ascii text h =
-    let dot = position_or_len (λ c. eqb c 46) text in
-    let last = and_parts (ltb 0 (length (take dot text)) && ltb 0 (length (drop (dot + 1) text)) && list_all is_ascii_hexdigit (take dot text)) (list_all is_userinfo_character (drop (dot + 1) text)) h in
-    let third = and_parts (ltb 0 (length (take dot text)) && ltb 0 (length (drop (dot + 1) text))) (list_all is_ascii_hexdigit (take dot text)) last.0 in
-    let second = and_parts (ltb 0 (length (take dot text))) (ltb 0 (length (drop (dot + 1) text))) third.0 in
-    let more : 0 < length (drop (dot + 1) text) = ltb-true 0 (length (drop (dot + 1) text)) second.1 in
-    let within : dot < length text = omega (arith, more, length-drop (dot + 1) text) in
-    ascii_around dot text within
-      (list_all-wider is_ascii_hexdigit is_ascii (λ c k. grind (arith, nat_tests)) (take dot text) third.1)
-      (ap is_ascii (eqb-true (get_or text dot 0) 46 (passes_at_first (λ c. eqb c 46) text within)))
-      (list_all-wider is_userinfo_character is_ascii (λ c k. grind (arith, nat_tests)) (drop (dot + 1) text) last.1)
-
-future_ascii : (text : List ℕ) → is_future_address text ≡ true → all_ascii text ≡ true
-future_ascii [] h = refl
-future_ascii (v ∷ rest) h =
-    let both = and_parts (eqb v 118 || eqb v 86) (is_version_and_address rest) h in
-    let letter : (eqb v 118 || eqb v 86) ≡ true = both.0 in
-    let first : is_ascii v ≡ true = grind (arith, nat_tests) in
-    and_from (is_ascii v) (all_ascii rest) first (version_ascii rest both.1)
-
-bracket_ascii : (text : List ℕ) → is_address_and_bracket text ≡ true → all_ascii text ≡ true
-bracket_ascii text h =
-    let end = position_or_len (λ c. eqb c 93) text in
-    let both = and_parts (eqb (end + 1) (length text)) (is_address (take end text) || is_future_address (take end text)) h in
-    let length_is : end + 1 ≡ length text = eqb-true (end + 1) (length text) both.0 in
-    let within : end < length text = omega arith in
-    ascii_around end text within
-      (elim (or_cases (is_address (take end text)) (is_future_address (take end text)) both.1) [ inl a ↦ address_ascii (take end text) a | inr f ↦ future_ascii (take end text) f ])
-      (ap is_ascii (eqb-true (get_or text end 0) 93 (passes_at_first (λ c. eqb c 93) text within)))
-      (nothing_left (end + 1) text length_is)
-  where
-    nothing_left : (n : ℕ) (text : List ℕ) → n ≡ length text → all_ascii (drop n text) ≡ true
-    nothing_left n text e = ap all_ascii (drop_all n text (omega arith))
-
-host_ascii : (text : List ℕ) → is_host text ≡ true → all_ascii text ≡ true
-host_ascii text h =
-    elim (or_cases (is_bracketed text) (is_encoded is_name_character text) h) [
-      inl bracketed ↦ in_brackets text bracketed
-    | inr name ↦ encoded_ascii is_name_character (λ c k. grind (arith, nat_tests)) text name
-    ]
-  where
-    in_brackets : (text : List ℕ) → is_bracketed text ≡ true → all_ascii text ≡ true
-    in_brackets [] k = refl
-    in_brackets (c ∷ rest) k =
-        let both = and_parts (eqb c 91) (is_address_and_bracket rest) k in
-        and_from (is_ascii c) (all_ascii rest) (ap is_ascii (eqb-true c 91 both.0)) (bracket_ascii rest both.1)
-
-port_ascii : (text : List ℕ) → is_port_part text ≡ true → all_ascii text ≡ true
-port_ascii [] h = refl
-port_ascii (c ∷ digits) h =
-    let both = and_parts (eqb c 58) (list_all is_ascii_digit digits) h in
-    and_from (is_ascii c) (all_ascii digits) (ap is_ascii (eqb-true c 58 both.0)) (list_all-wider is_ascii_digit is_ascii (λ d k. grind (arith, nat_tests)) digits both.1)
-
-host_and_port_ascii : (text : List ℕ) → (is_host (take (host_len text) text) && is_port_part (drop (host_len text) text)) ≡ true → all_ascii text ≡ true
-host_and_port_ascii text h =
-    let both = and_parts (is_host (take (host_len text) text)) (is_port_part (drop (host_len text) text)) h in
-    ascii_from_parts (host_len text) text (host_ascii (take (host_len text) text) both.0) (port_ascii (drop (host_len text) text) both.1)
+encoded_ascii allowed inside text h =
+    list_all-wider (λ c. allowed c || eqb c 37) is_ascii (λ c k. elim (or_cases (allowed c) (eqb c 37) k) [ inl a ↦ inside c a | inr percent ↦ ap is_ascii (eqb-true c 37 percent) ]) text (and_parts _ _ h).0
 
 authority_ascii : (text : List ℕ) → is_authority text ≡ true → all_ascii text ≡ true
-authority_ascii text h =
-    elim (cases_lt (position_or_len (λ x. eqb x 64) text) (length text)) [ inl lt ↦ with_userinfo lt | inr le ↦ without le ]
-  where
-    with_userinfo : position_or_len (λ x. eqb x 64) text < length text → all_ascii text ≡ true
-    with_userinfo lt =
-        let at = position_or_len (λ x. eqb x 64) text in
-        let rest = drop (at + 1) text in
-        let all = sym (is_authority-userinfo text lt) ∙ h in
-        let outer = and_parts (is_encoded is_userinfo_character (take at text) && is_host (take (host_len rest) rest)) (is_port_part (drop (host_len rest) rest)) all in
-        let inner = and_parts (is_encoded is_userinfo_character (take at text)) (is_host (take (host_len rest) rest)) outer.0 in
-        ascii_around at text lt
-          (encoded_ascii is_userinfo_character (λ c k. grind (arith, nat_tests)) (take at text) inner.0)
-          (ap is_ascii (eqb-true (get_or text at 0) 64 (passes_at_first (λ x. eqb x 64) text lt)))
-          (host_and_port_ascii rest (and_from (is_host (take (host_len rest) rest)) (is_port_part (drop (host_len rest) rest)) inner.1 outer.1))
-    without : length text ≤ position_or_len (λ x. eqb x 64) text → all_ascii text ≡ true
-    without le =
-        let absent : list_any (λ x. eqb x 64) text ≡ false = any_is_found (λ x. eqb x 64) text ∙ le-ltb _ _ le in
-        host_and_port_ascii text (rw absent at h)
+authority_ascii text h = list_all-wider is_authority_character is_ascii (λ c k. grind (arith, nat_tests)) text (authority_characters text h)
 
 scheme_ascii : (text : List ℕ) → is_scheme text ≡ true → all_ascii text ≡ true
 scheme_ascii [] h = refl

@@ -99,7 +99,7 @@ path_behind_authority (c ∷ text) =
     goes_on k h = let e : 1 + k ≡ suc k = omega arith in rw e h
 
 -- behind `//` no scheme's `:` comes first
-slashes_come_first : (text : List ℕ) → begins_with_slashes text ≡ true → eqb (get_or text (position_or_len ends_scheme text) 0) 58 ≡ false
+pub slashes_come_first : (text : List ℕ) → begins_with_slashes text ≡ true → eqb (get_or text (position_or_len ends_scheme text) 0) 58 ≡ false
 slashes_come_first [] h = absurd (false≢true h)
 slashes_come_first (c ∷ text) h =
     let slash : eqb c 47 ≡ true = (and_parts (eqb c 47) (eqb (get_or (c ∷ text) 1 0) 47) h).0 in

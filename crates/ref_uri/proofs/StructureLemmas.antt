@@ -99,7 +99,7 @@ query_then_fragment (c ∷ text) (inr mark) =
     other : eqb c 63 ≡ false → eqb c 35 ≡ true
     other absent = grind (arith, nat_tests)
 
-regroup : (s a p q f : List ℕ) → s ++ a ++ p ++ q ++ f ≡ s ++ (a ++ (p ++ (q ++ f)))
+pub regroup : (s a p q f : List ℕ) → s ++ a ++ p ++ q ++ f ≡ s ++ (a ++ (p ++ (q ++ f)))
 regroup s a p q f = simp append_assoc
 
 -- the components of a text make the text
