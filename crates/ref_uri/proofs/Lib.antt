@@ -7,5 +7,6 @@ pub mod StructureLemmas
 pub mod AuthorityCharacters
 pub mod AsciiLemmas
 pub mod UniqueLemmas
+pub mod FragmentLemmas
 pub mod RestLemmas
 pub mod LengthsLemmas

@@ -4,3 +4,4 @@ pub mod Components
 pub mod Authority
 pub mod Reference
 pub mod Lengths
+pub mod Errors

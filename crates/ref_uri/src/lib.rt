@@ -10,7 +10,10 @@ mod error;
 mod lengths;
 mod parser;
 mod reference;
+mod traits;
+mod uri;
 
 
-pub use error::ParseError;
+pub use error::{ParseError, UriParseFault};
 pub use reference::UriRef;
+pub use uri::Uri;
