@@ -7,6 +7,7 @@
 mod authority;
 mod characters;
 mod error;
+pub mod laws;
 mod lengths;
 mod parser;
 mod reference;
