@@ -6,21 +6,17 @@ ghost use Rattle.ref_uri.specs.Reference.{is_uri_reference, is_uri, IsTextOfComp
 /// Every text is that of its components (RFC 3986, 5.3 and appendix B).
 pub fn components_make_their_text()
     ensures { (text : List ℕ) → text_of (components text) ≡ text }
-{
-}
+{}
 
 /// Components that hold what they may are determined by their text.
 pub fn components_are_determined()
     ensures { (c : Components) → are_components c ≡ true → components (text_of c) ≡ c }
-{
-}
+{}
 
 /// A text is a URI reference exactly where it is the text of components that hold what they may.
 pub fn references_are_texts_of_components()
     ensures { (text : List ℕ) → (is_uri_reference text ≡ true) ↔ IsTextOfComponents text }
-{
-}
-
+{}
 
 /// The two examples that the standard takes apart, and texts with components that are empty or absent (RFC 3986, 3).
 pub fn components_of_examples()
@@ -35,8 +31,7 @@ pub fn components_of_examples()
     ensures empty_query { query (codes "a?#") ≡ Some [] }
     ensures empty_fragment { fragment (codes "a?#") ≡ Some [] }
     ensures absent_query { query (codes "a#?") ≡ None }
-{
-}
+{}
 
 /// Texts that are URI references, and texts that aren't.
 pub fn references_of_examples()
@@ -53,5 +48,4 @@ pub fn references_of_examples()
     ensures two_ats { is_uri_reference (codes "//a@b@c") ≡ false }
     ensures port_of_letters { is_uri_reference (codes "//a:b") ≡ false }
     ensures open_bracket { is_uri_reference (codes "//[::1") ≡ false }
-{
-}
+{}

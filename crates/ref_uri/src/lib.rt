@@ -7,6 +7,7 @@
 mod authority;
 mod characters;
 mod error;
+pub mod examples;
 pub mod laws;
 mod lengths;
 mod parser;
@@ -14,7 +15,9 @@ mod reference;
 mod traits;
 mod uri;
 
-
 pub use error::{ParseError, UriParseFault};
 pub use reference::UriRef;
 pub use uri::Uri;
+
+#[cfg(test)]
+mod tests;

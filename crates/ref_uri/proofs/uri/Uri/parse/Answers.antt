@@ -18,6 +18,6 @@ invariant_of-result c =
     let reference : is_uri_reference c.args.text.now ≡ true = ap is_uri_reference (sym same) ∙ sym c.in_ok-lengths.ensures.accepted in
     let lengths = c.in_ok-lengths.ensures.lengths ∙ ap lengths_of same in
     let has_scheme : is_some (scheme c.args.text.now) ≡ true =
-        sym (some_of_length (scheme c.args.text.now)) ∙ ap is_some (sym (ap (λ (l : Lengths). l.scheme) lengths)) ∙ grind (arith, common_steps) in
+    sym (some_of_length (scheme c.args.text.now)) ∙ ap is_some (sym (ap (λ (l : Lengths). l.scheme) lengths)) ∙ grind (arith, common_steps) in
     subst (λ (t : List ℕ). IsParsedUri t c.in_ok-lengths.lengths) (sym c.in_ok-text.ensures.ok)
-      (record { ascii = reference_ascii c.args.text.now reference; reference = reference; lengths_are = lengths }, has_scheme)
+    (record { ascii = reference_ascii c.args.text.now reference; reference = reference; lengths_are = lengths }, has_scheme)
