@@ -1,3 +1,4 @@
 pub mod Path
 pub mod Pointer
+pub mod Rows
 pub mod Segment
