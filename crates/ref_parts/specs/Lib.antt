@@ -1,3 +1,4 @@
+pub mod Items
 pub mod Path
 pub mod Pointer
 pub mod Rows

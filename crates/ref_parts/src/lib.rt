@@ -6,4 +6,5 @@
 pub mod escape;
 pub mod evaluate;
 pub mod laws;
+pub mod list;
 pub mod path;
