@@ -1,4 +1,5 @@
 pub mod Items
+pub mod Link
 pub mod Path
 pub mod Pointer
 pub mod Rows
