@@ -1,3 +1,4 @@
+pub mod Encoded
 pub mod Items
 pub mod Link
 pub mod Path

@@ -3,6 +3,7 @@
 //! Read `specs/Path.antt` first: it says what a path is, and which value stands at it.
 #![tactic(auto)]
 
+pub mod encoded;
 pub mod escape;
 pub mod evaluate;
 pub mod laws;
