@@ -78,9 +78,9 @@ escape_none bs =
     cond_both (ltb n (length bs)) (Some n) None (λ o. o ≡ None → escape bs ≡ bs)
     (λ yes none. absurd (cc))
     (λ no none.
-        let whole = take_all n bs (ltb-false n (length bs) no) in
-        let plain = subst (All (λ b. is_escaped b ≡ false)) whole (front_plain bs) in
-        ap escape (sym (append-nil bs)) ∙ escape_front bs [] plain ∙ append-nil bs)
+    let whole = take_all n bs (ltb-false n (length bs) no) in
+    let plain = subst (All (λ b. is_escaped b ≡ false)) whole (front_plain bs) in
+    ap escape (sym (append-nil bs)) ∙ escape_front bs [] plain ∙ append-nil bs)
 
 -- ---- unescaping
 

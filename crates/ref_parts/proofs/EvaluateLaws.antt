@@ -75,6 +75,6 @@ index_from_parse {E = E} s (Ok n) h plus lone =
 index_from_parse {E = E} s (Err e) h plus lone =
     let failed = parse_plain own {E = E} 64 s (Err e) h plus in
     sym (cond-false _ _ _ (false_from_ne_true _ (λ yes.
-        let tests = and_parts (is_index_text s) _ yes in
-        let parts = is_index_text_parts s tests.0 in
-        failed (parts.0, parts.1, ltb-true _ (2 ^ 64) tests.1))))
+    let tests = and_parts (is_index_text s) _ yes in
+    let parts = is_index_text_parts s tests.0 in
+    failed (parts.0, parts.1, ltb-true _ (2 ^ 64) tests.1))))

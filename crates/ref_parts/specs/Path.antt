@@ -65,11 +65,13 @@ part_equivalence = record { refl = reflexive; symm = symmetric; congr = alike }
     reflexive : (p : Part) → part_eq p p ≡ true
     reflexive (Key k) = nat_list_eq_equiv.refl k
     reflexive (Index i) = nat_eq_equiv.refl i
+
     symmetric : (p q : Part) → part_eq p q ≡ part_eq q p
     symmetric (Key k) (Key m) = nat_list_eq_equiv.symm k m
     symmetric (Key k) (Index j) = refl
     symmetric (Index i) (Key m) = refl
     symmetric (Index i) (Index j) = nat_eq_equiv.symm i j
+
     alike : (p q r : Part) → part_eq p q ≡ true → part_eq p r ≡ part_eq q r
     alike (Key k) (Key m) (Key n) e = nat_list_eq_equiv.congr k m n e
     alike (Key k) (Key m) (Index l) e = refl

@@ -1,18 +1,37 @@
 //! Text that is escaped for a URI's fragment (RFC 3986, section 3.5) and can be read back.
 ghost use Rattle.std.specs.Prelude.{◌≡◌, ◌++◌, [], string_bytes, OnOk, OnErr, IfOk};
-ghost use Rattle.percent_encoding.specs.Percent.{percent_decode as without_escapes};
+ghost use Rattle.percent_encoding.specs.Percent.{percent_decode as decoded};
 ghost use Rattle.ref_parts.specs.Encoded.{encoded, IsEncoded};
 
-use percent_encoding::{AsciiSet, DecodeError, NON_ALPHANUMERIC, ascii_set, percent_decode, utf8_percent_encode};
+use percent_encoding::{
+    AsciiSet, DecodeError, NON_ALPHANUMERIC, ascii_set, percent_decode, utf8_percent_encode,
+};
 use std::alloc::{AllocError, Global};
 use std::marker::Model;
 
 /// What a fragment doesn't hold as it is: all but `unreserved`, `sub-delims` and `:@/?`.
-const ESCAPED: AsciiSet = ascii_set!(NON_ALPHANUMERIC
-    .remove(b'-').remove(b'.').remove(b'_').remove(b'~')
-    .remove(b'!').remove(b'$').remove(b'&').remove(b'\'').remove(b'(').remove(b')')
-    .remove(b'*').remove(b'+').remove(b',').remove(b';').remove(b'=')
-    .remove(b':').remove(b'@').remove(b'/').remove(b'?'));
+const ESCAPED: AsciiSet = ascii_set!(
+    NON_ALPHANUMERIC
+        .remove(b'-')
+        .remove(b'.')
+        .remove(b'_')
+        .remove(b'~')
+        .remove(b'!')
+        .remove(b'$')
+        .remove(b'&')
+        .remove(b'\'')
+        .remove(b'(')
+        .remove(b')')
+        .remove(b'*')
+        .remove(b'+')
+        .remove(b',')
+        .remove(b';')
+        .remove(b'=')
+        .remove(b':')
+        .remove(b'@')
+        .remove(b'/')
+        .remove(b'?')
+);
 
 /// Text that grows and is kept escaped. Contracts see what was pushed since `new` or `clear`.
 #[derive(Debug, Drop)]
@@ -23,7 +42,7 @@ pub struct EncodedBuffer {
 /// Escaped text of an `EncodedBuffer`. Contracts see the text that it stands for.
 #[derive(Debug, Drop)]
 pub struct EncodedString<'a> {
-    text: &'a str,
+    encoded: &'a str,
 }
 
 impl Model for EncodedBuffer {
@@ -45,9 +64,9 @@ impl<'a> Model for EncodedString<'a> {
 
     ghost Value = { List ℕ };
 
-    ghost view = { λ s. percent_decode s.text.now };
+    ghost view = { λ s. percent_decode s.encoded.now };
 
-    ghost invariant = { λ s. IsEncoded s.text.now };
+    ghost invariant = { λ s. IsEncoded s.encoded.now };
 }
 
 impl EncodedBuffer {
@@ -74,7 +93,7 @@ impl EncodedBuffer {
     pub fn as_str(&self) -> &str
         ensures { result.now ≡ encoded self.now }
     {
-        self.text.as_str()
+        self.as_encoded().as_str()
     }
 
     /// The escaped text, to be lent on. Takes no memory.
@@ -82,7 +101,7 @@ impl EncodedBuffer {
         ensures { result ≡ self.now }
     {
         EncodedString {
-            text: self.text.as_str(),
+            encoded: self.text.as_str(),
         }
     }
 
@@ -97,7 +116,7 @@ impl EncodedBuffer {
     pub fn decode(&self, alloc: Global) -> Result<String, AllocError>
         ensures { IfOk result (λ text. string_bytes text ≡ self.now) }
     {
-        decoded(alloc, self.text.as_str())
+        self.as_encoded().decode(alloc)
     }
 }
 
@@ -106,21 +125,21 @@ impl<'a> EncodedString<'a> {
     pub fn as_str(&self) -> &'a str
         ensures { result.now ≡ encoded self.now }
     {
-        self.text
+        self.encoded
     }
 
     /// The text that the escaped text stands for. Refused where there is no memory for it.
     pub fn decode(&self, alloc: Global) -> Result<String, AllocError>
         ensures { IfOk result (λ text. string_bytes text ≡ self.now) }
     {
-        decoded(alloc, self.text)
+        without_escapes(alloc, self.encoded)
     }
 }
 
 // The text without its escapes, which is UTF-8.
-fn decoded(alloc: Global, text: &str) -> Result<String, AllocError>
+fn without_escapes(alloc: Global, text: &str) -> Result<String, AllocError>
     requires { IsEncoded text.now }
-    ensures { IfOk result (λ read. string_bytes read ≡ without_escapes text.now) }
+    ensures { IfOk result (λ read. string_bytes read ≡ decoded text.now) }
 {
     match percent_decode(text.as_bytes()).decode_utf8(alloc) {
         Ok(read) => read.into_owned(alloc),

@@ -47,7 +47,11 @@ pub fn write_escaped_str(buffer: &mut String, value: &str) -> Result<(), AllocEr
 fn escaped_len(bytes: &[u8]) -> usize
     ensures { result ≡ length (escape bytes.now) }
 {
-    bytes.len() + bytes.iter().filter(|byte| **byte == b'~' || **byte == b'/').count()
+    bytes.len()
+        + bytes
+            .iter()
+            .filter(|byte| **byte == b'~' || **byte == b'/')
+            .count()
 }
 
 // Appends the escaped text, for which the buffer has room.
@@ -59,7 +63,11 @@ fn push_escaped(buffer: &mut String, value: &str)
     'runs: while let Some(index) = first_escape(rest.as_bytes()) {
         let (run, escaped) = rest.split_at(index);
         push_within(buffer, run);
-        let token = if rest.as_bytes()[index] == b'~' { "~0" } else { "~1" };
+        let token = if rest.as_bytes()[index] == b'~' {
+            "~0"
+        } else {
+            "~1"
+        };
         push_within(buffer, token);
         rest = &rest[index + 1..];
     }

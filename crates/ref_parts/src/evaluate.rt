@@ -50,11 +50,7 @@ fn value_along<'a>(
 }
 
 // The element or the member that a token names.
-fn step<'a>(
-    alloc: Global,
-    target: &'a Value,
-    token: &str,
-) -> Result<Option<&'a Value>, AllocError>
+fn step<'a>(alloc: Global, target: &'a Value, token: &str) -> Result<Option<&'a Value>, AllocError>
     ensures value { IfOk result (λ found. option_map (λ v. view v.now) found ≡ next (view target.now) (unescape token.now)) }
     ensures without_memory { All (λ b. b ≢ tilde) token.now → IsOk result }
 {

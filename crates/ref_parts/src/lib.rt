@@ -9,3 +9,5 @@ pub mod evaluate;
 pub mod laws;
 pub mod list;
 pub mod path;
+#[cfg(test)]
+mod tests;

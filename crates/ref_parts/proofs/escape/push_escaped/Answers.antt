@@ -16,7 +16,7 @@ push_within-requires-in-Some c =
     let rest = c.runs.rest.now in
     let found : first_escape rest ≡ Some c.in-Some.index = ap first_escape (sym c.as_bytes.ensures.value) ∙ sym c.first_escape.ensures ∙ c.in-Some.is in
     let token : length c.if-as_bytes-index-eq126.token.now ≡ 2 =
-        elim c.if-as_bytes-index-eq126.branch [ then-as_bytes-index-eq126 w ↦ ap (λ t. length t.now) w.token-is | else-as_bytes-index-eq126 w ↦ ap (λ t. length t.now) w.token-is ] in
+    elim c.if-as_bytes-index-eq126.branch [ then-as_bytes-index-eq126 w ↦ ap (λ t. length t.now) w.token-is | else-as_bytes-index-eq126 w ↦ ap (λ t. length t.now) w.token-is ] in
     omega (arith, token, length_turn rest c.in-Some.index (CutsAt-first_escape rest c.in-Some.index found), c.runs.invariant.1, c.split_at.ensures.front_len, c.push_within.ensures.len, c.push_within.ensures.capacity)
 
 pub runs-preserved : goal.runs-preserved
@@ -28,15 +28,16 @@ runs-preserved c =
     let token = c.if-as_bytes-index-eq126.token.now in
     let here : get_or c.as_bytes-in-Some.result.now c.in-Some.index 0 ≡ get_or rest c.in-Some.index 0 = ap (λ x. get_or x c.in-Some.index 0) c.as_bytes-in-Some.ensures.value in
     let is_token : token ≡ escaped_byte (get_or rest c.in-Some.index 0) =
-        elim c.if-as_bytes-index-eq126.branch [
-          then-as_bytes-index-eq126 w ↦ ap (λ t. t.now) w.token-is ∙ sym (ap escaped_byte (sym here ∙ w.if-as_bytes-index-eq126.true))
-        | else-as_bytes-index-eq126 w ↦ ap (λ t. t.now) w.token-is ∙ sym (ap escaped_byte (⊎_elim (λ tilde. absurd (w.if-as_bytes-index-eq126.false (here ∙ tilde))) (λ slash. slash) cut.byte))
-        ] in
+    elim c.if-as_bytes-index-eq126.branch [
+      | then-as_bytes-index-eq126 w ↦ ap (λ t. t.now) w.token-is ∙ sym (ap escaped_byte (sym here ∙ w.if-as_bytes-index-eq126.true))
+      | else-as_bytes-index-eq126 w ↦ ap (λ t. t.now) w.token-is ∙ sym (ap escaped_byte (⊎_elim (λ tilde. absurd (w.if-as_bytes-index-eq126.false (here ∙ tilde))) (λ slash. slash) cut.byte))
+    ] in
     let bytes = c.push_within-in-Some.ensures.bytes ∙ ap (λ x. x ++ token) (c.push_within.ensures.bytes ∙ ap (λ x. buffer ++ x) c.split_at.ensures.front) in
-    let left = ap escape c.range_from-rest.ensures.value in
-    (ap (λ x. x ++ escape c.range_from-rest.result.now) bytes ∙ ap (λ x. ((buffer ++ take c.in-Some.index rest) ++ token) ++ x) left ∙ escape_turn buffer rest c.in-Some.index token cut is_token ∙ c.runs.invariant.0,
-     omega (arith, ap length is_token, length_turn rest c.in-Some.index cut, ap length left, c.runs.invariant.1, c.split_at.ensures.front_len, c.push_within.ensures.len, c.push_within.ensures.capacity, c.push_within-in-Some.ensures.len, c.push_within-in-Some.ensures.capacity, length_token rest c.in-Some.index cut),
-     c.range_from-rest.utf8)
+    let left = ap escape c.range_from-rest.ensures.value in (
+      ap (λ x. x ++ escape c.range_from-rest.result.now) bytes ∙ ap (λ x. ((buffer ++ take c.in-Some.index rest) ++ token) ++ x) left ∙ escape_turn buffer rest c.in-Some.index token cut is_token ∙ c.runs.invariant.0,
+      omega (arith, ap length is_token, length_turn rest c.in-Some.index cut, ap length left, c.runs.invariant.1, c.split_at.ensures.front_len, c.push_within.ensures.len, c.push_within.ensures.capacity, c.push_within-in-Some.ensures.len, c.push_within-in-Some.ensures.capacity, length_token rest c.in-Some.index cut),
+      c.range_from-rest.utf8,
+    )
 
 pub returns : goal.returns
 returns c =

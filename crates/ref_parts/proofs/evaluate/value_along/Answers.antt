@@ -21,7 +21,7 @@ tokens-preserved c =
     let turn = value_along_turn (view l.target.now) l.rest.now c.in-Some.token.now c.in-Some.more.now cut.0 cut.1 in
     let found = rw c.in-Some-2.is at c.in_ok-value.ensures.value in
     let keeps = λ (plain : All (λ b. b ≢ 126) c.args.text.now).
-        All-tail (λ b. b ≢ 126) 47 c.in-Some.more.now (All-back (λ b. b ≢ 126) c.in-Some.token.now (47 ∷ c.in-Some.more.now) (subst (All (λ b. b ≢ 126)) cut.0 (l.invariant.1 plain))) in
+    All-tail (λ b. b ≢ 126) 47 c.in-Some.more.now (All-back (λ b. b ≢ 126) c.in-Some.token.now (47 ∷ c.in-Some.more.now) (subst (All (λ b. b ≢ 126)) cut.0 (l.invariant.1 plain))) in
     (ap (option_and_then (λ e. value_along e (tokens c.in-Some.more.now))) found ∙ sym turn ∙ l.invariant.0, keeps, search rules)
 
 pub returns-clause-value : goal.returns-clause-value
