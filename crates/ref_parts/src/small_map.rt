@@ -7,6 +7,7 @@ ghost use Rattle.ref_parts.specs.FiniteMap.{pairs, Puts, EachOnce, IsPlaceOf, Is
 use arrayvec::ArrayVec;
 use std::alloc::{AllocError, Global};
 use std::collections::HashMap;
+use std::fmt;
 use std::hash::Hash;
 use std::marker::Model;
 
@@ -132,6 +133,66 @@ impl<K: Eq + Hash + Drop, V: Drop, const N: usize> SmallMap<K, V, N> {
         ensures err { OnErr result (self.new ≡ self.old) }
     {
         put(&mut self.form, alloc, key, value)
+    }
+}
+
+impl<K: Eq + Hash + Clone + Drop, V: Clone + Drop, const N: usize> SmallMap<K, V, N> {
+    /// A copy of the map, where the clones of its keys and values are equal to them.
+    ///
+    /// Takes what memory those clones and a hashed map take, and is refused where there is none.
+    pub fn clone(&self) -> Result<Self, AllocError>
+        requires keys { (x y : K) → K.is_clone x y → y ≡ x }
+        requires values { (x y : V) → V.is_clone x y → y ≡ x }
+        ensures { IfOk result (λ copy. copy ≡ self.now) }
+    {
+        Ok(SmallMap {
+            form: copied(&self.form)?,
+        })
+    }
+}
+
+
+impl<K: Eq + Hash, V, const N: usize> Default for SmallMap<K, V, N> {
+    ghost is_default = { λ map. map ≡ [] };
+
+    fn default() -> Self {
+        SmallMap::new()
+    }
+}
+
+impl<K: Eq + Hash + fmt::Debug, V: fmt::Debug, const N: usize> fmt::Debug for SmallMap<K, V, N> {
+    fn fmt<W: fmt::Write>(&self, f: &mut fmt::Formatter<W>) -> fmt::Result {
+        let mut pairs = f.debug_map();
+        match &self.form {
+            Form::Small(slots) => {
+                for slot in slots.as_slice() {
+                    if let Some((key, value)) = slot {
+                        pairs.entry(key, value);
+                    }
+                }
+            }
+            Form::Large(map) => {
+                for (key, value) in map {
+                    pairs.entry(key, value);
+                }
+            }
+        }
+        pairs.finish()
+    }
+}
+
+// A copy of either form.
+fn copied<K: Eq + Hash + Clone + Drop, V: Clone + Drop, const N: usize>(
+    form: &Form<K, V, N>,
+) -> Result<Form<K, V, N>, AllocError>
+    requires keys { (x y : K) → K.is_clone x y → y ≡ x }
+    requires values { (x y : V) → V.is_clone x y → y ≡ x }
+    ensures same { IfOk result (λ copy. entries_of copy ≡ entries_of form.now) }
+    ensures kept { IfOk result (λ copy. IsFormOf K.eq N form.now → IsFormOf K.eq N copy) }
+{
+    match form {
+        Form::Small(slots) => Ok(Form::Small(slots.clone()?)),
+        Form::Large(map) => Ok(Form::Large(map.clone()?)),
     }
 }
 
