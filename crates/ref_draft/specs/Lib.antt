@@ -1,0 +1,6 @@
+pub mod Keywords
+pub mod Schema
+pub mod Children
+pub mod Anchors
+pub mod Scan
+pub mod Parts

@@ -1,0 +1,4 @@
+#![tactic(auto)]
+
+pub mod draft;
+pub mod spec;
