@@ -67,9 +67,12 @@ pub record Walked : Type 0 where
   pub value : Data
   pub draft : Draft
 
--- the children with their drafts
+abbrev pub with_draft : Draft → Child → Walked
+with_draft d child = record { path = child.0; value = child.1; draft = detect d child.1 }
+
+-- The children with their drafts
 abbrev pub walked : Draft → Data → List Walked
-walked d value = map (λ child. record { path = child.0; value = child.1; draft = detect d child.1 }) (children d value)
+walked d value = map (with_draft d) (children d value)
 
 -- the values under each of an object's keywords but those that `subresources_of` leaves out
 abbrev pub values_below : Draft → Members → List Data

@@ -1,7 +1,7 @@
 -- The tables of the drafts: under which keywords a schema stands, which keywords a draft knows, and the name of its
 -- identifier. Every other definition reads these. Draft 4: Validation, section 5; Drafts 6 and 7: Validation,
 -- section 6; 2019-09: Core, section 9; 2020-12: Core, section 10.
-use Rattle.std.specs.Prelude.{ℕ, List, [], ◌∷◌, ◌++◌, map, Bool, true, false, ◌&&◌, not, codes, if◌then◌else◌}
+use Rattle.std.specs.Prelude.{ℕ, List, [], ◌∷◌, ◌++◌, map, Bool, true, false, ◌&&◌, ◌||◌, not, codes, if◌then◌else◌}
 use Rattle.std.specs.List.{list_any}
 use Rattle.std.specs.Str.{bytes_eq}
 use Rattle.ref_draft.specs.declared.draft.Draft.{Draft}
@@ -85,16 +85,21 @@ abbrev pub boolean_or_schema : Draft → List (List ℕ)
 boolean_or_schema Draft4 = map codes ("additionalItems" ∷ "additionalProperties" ∷ [])
 boolean_or_schema _ = []
 
+-- How a keyword holds its subschemas, by a row, the keywords that may have a boolean in place of a schema, and whether
+-- the draft is before 2020-12
+abbrev pub holding_by : Row → List (List ℕ) → Bool → List ℕ → Holding
+holding_by r booleans before_2020 keyword =
+  if is_one_of keyword booleans then WholeObject
+  else (if is_one_of keyword r.values then Whole
+  else (if is_one_of keyword r.arrays then Elements
+  else (if is_one_of keyword r.maps then Members
+  else (if before_2020 && bytes_eq keyword (codes "items") then ElementsOrWhole
+  else (if before_2020 && bytes_eq keyword (codes "dependencies") then ObjectMembers
+  else Nothing)))))
+
 -- How a keyword of a draft holds its subschemas
 abbrev pub holding : Draft → List ℕ → Holding
-holding d keyword =
-  if is_one_of keyword (boolean_or_schema d) then WholeObject
-  else (if is_one_of keyword (row d).values then Whole
-  else (if is_one_of keyword (row d).arrays then Elements
-  else (if is_one_of keyword (row d).maps then Members
-  else (if is_before_2020 d && bytes_eq keyword (codes "items") then ElementsOrWhole
-  else (if is_before_2020 d && bytes_eq keyword (codes "dependencies") then ObjectMembers
-  else Nothing)))))
+holding d keyword = holding_by (row d) (boolean_or_schema d) (is_before_2020 d) keyword
 
 -- What `subresources_of` leaves out: in 2019-09 what is under `dependencies`
 abbrev pub is_left_out : Draft → List ℕ → Bool
@@ -132,17 +137,17 @@ known_since_7 = map codes ("else" ∷ "if" ∷ "then" ∷ [])
 abbrev pub known_since_2019 : List (List ℕ)
 known_since_2019 = map codes ("contentSchema" ∷ "$anchor" ∷ "$defs" ∷ "$recursiveAnchor" ∷ "$recursiveRef" ∷ "dependentRequired" ∷ "dependentSchemas" ∷ "maxContains" ∷ "minContains" ∷ "unevaluatedItems" ∷ "unevaluatedProperties" ∷ [])
 
+abbrev pub is_known_in_2019 : List ℕ → Bool
+is_known_in_2019 k = is_one_of k known_in_all || is_one_of k known_since_6 || is_one_of k known_since_7 || is_one_of k known_since_2019
+
 abbrev pub known_since_2020 : List (List ℕ)
 known_since_2020 = map codes ("$dynamicAnchor" ∷ "$dynamicRef" ∷ "prefixItems" ∷ [])
 
-abbrev pub known_in_2020 : List (List ℕ)
-known_in_2020 = known_in_all ++ known_since_6 ++ known_since_7 ++ known_since_2019 ++ known_since_2020
-
 -- The keywords that a draft knows. A custom meta-schema's are those of 2020-12.
-abbrev pub known : Draft → List (List ℕ)
-known Draft4 = known_in_all ++ known_in_4
-known Draft6 = known_in_all ++ known_since_6
-known Draft7 = known_in_all ++ known_since_6 ++ known_since_7
-known Draft201909 = known_in_all ++ known_since_6 ++ known_since_7 ++ known_since_2019
-known Draft202012 = known_in_2020
-known Unknown = known_in_2020
+abbrev pub is_known : Draft → List ℕ → Bool
+is_known Draft4 k = is_one_of k known_in_all || is_one_of k known_in_4
+is_known Draft6 k = is_one_of k known_in_all || is_one_of k known_since_6
+is_known Draft7 k = is_one_of k known_in_all || is_one_of k known_since_6 || is_one_of k known_since_7
+is_known Draft201909 k = is_known_in_2019 k
+is_known Draft202012 k = is_known_in_2019 k || is_one_of k known_since_2020
+is_known Unknown k = is_known_in_2019 k || is_one_of k known_since_2020

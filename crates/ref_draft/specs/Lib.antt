@@ -3,4 +3,5 @@ pub mod Schema
 pub mod Children
 pub mod Anchors
 pub mod Scan
-pub mod Parts
+pub mod Views
+pub mod ScanSteps

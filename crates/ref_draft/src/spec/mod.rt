@@ -1,8 +1,15 @@
 //! How the keywords of a draft hold their subschemas.
-ghost use Rattle.std.specs.Prelude.{◌≡◌};
-ghost use Rattle.ref_draft.specs.Keywords.{holding};
 
-use crate::draft::Draft;
+pub mod children;
+pub(crate) mod draft201909;
+pub(crate) mod draft202012;
+pub(crate) mod draft4;
+pub(crate) mod draft6;
+pub(crate) mod draft7;
+pub(crate) mod ids;
+pub(crate) mod known;
+pub(crate) mod scan;
+pub mod walk;
 
 /// How the value of a keyword holds subschemas.
 #[derive(Debug, PartialEq, Eq, Clone, Copy)]
@@ -21,24 +28,4 @@ pub(crate) enum Holding {
     ObjectMembers,
     /// There are none.
     Nothing,
-}
-
-fn holding_7(keyword: &str) -> Holding
-    ensures { result ≡ holding Draft.Draft7 keyword.now }
-{
-    match keyword {
-        "additionalItems"
-        | "additionalProperties"
-        | "contains"
-        | "else"
-        | "if"
-        | "not"
-        | "propertyNames"
-        | "then" => Holding::Whole,
-        "allOf" | "anyOf" | "oneOf" => Holding::Elements,
-        "definitions" | "patternProperties" | "properties" => Holding::Members,
-        "items" => Holding::ElementsOrWhole,
-        "dependencies" => Holding::ObjectMembers,
-        _ => Holding::Nothing,
-    }
 }
