@@ -1,2 +1,4 @@
 pub mod Trim
 pub mod Held
+pub mod Disjoint
+pub mod Scanning
