@@ -5,3 +5,4 @@ pub mod Anchors
 pub mod Scan
 pub mod Views
 pub mod ScanSteps
+pub mod Rows

@@ -6,9 +6,10 @@
 
 pub mod anchor;
 pub mod draft;
+pub mod laws;
 pub mod resource;
 pub mod segments;
-pub mod spec;
+mod spec;
 
 pub use anchor::{Anchor, AnchorIter};
 pub use draft::Draft;
