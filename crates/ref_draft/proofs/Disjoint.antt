@@ -29,10 +29,10 @@ same k l = (bytes_eq-Decides k l).0
 apart : (k : List ℕ) (ks others : List (List ℕ)) → are_apart ks others ≡ true → is_one_of k ks ≡ true → is_one_of k others ≡ false
 apart k [] others test among = absurd (true≢false (sym among))
 apart k (l ∷ ks) others test among =
-  let parts = both (not (is_one_of l others)) (are_apart ks others) test in
-  ⊎_elim (λ here. ap (λ w. is_one_of w others) (same k l here) ∙ negated (is_one_of l others) parts.0)
-  (λ later. apart k ks others parts.1 later)
-  (or_cases (bytes_eq k l) (is_one_of k ks) among)
+    let parts = both (not (is_one_of l others)) (are_apart ks others) test in
+    ⊎_elim (λ here. ap (λ w. is_one_of w others) (same k l here) ∙ negated (is_one_of l others) parts.0)
+    (λ later. apart k ks others parts.1 later)
+    (or_cases (bytes_eq k l) (is_one_of k ks) among)
 
 arrays_apart : (d : Draft) → are_apart (scan_row d).arrays (scan_row d).values ≡ true
 arrays_apart Draft4 = refl
@@ -53,9 +53,9 @@ maps_apart Unknown = refl
 -- a child keyword is no value keyword
 pub child_is_no_value : (d : Draft) (k : List ℕ) → is_child_keyword d k ≡ true → is_value_keyword d k ≡ false
 child_is_no_value d k child =
-  ⊎_elim (λ array. apart k (scan_row d).arrays (scan_row d).values (arrays_apart d) array)
-  (λ map. apart k (scan_row d).maps (scan_row d).values (maps_apart d) map)
-  (or_cases (is_one_of k (scan_row d).arrays) (is_one_of k (scan_row d).maps) child)
+    ⊎_elim (λ array. apart k (scan_row d).arrays (scan_row d).values (arrays_apart d) array)
+    (λ map. apart k (scan_row d).maps (scan_row d).values (maps_apart d) map)
+    (or_cases (is_one_of k (scan_row d).arrays) (is_one_of k (scan_row d).maps) child)
 
 at_items : (d : Draft) (object on past : Bool) → is_before_2020 d ≡ true → go_on (scan_holding d (codes "items")) object on past ≡ object
 at_items Draft4 object on past before = refl
@@ -76,6 +76,6 @@ at_dependencies Unknown object on past before = absurd (true≢false (sym before
 -- before 2020-12 the scan stops at `items` and `dependencies`, and accepts where the value is an object
 pub stops_at_items : (d : Draft) (k : List ℕ) (object on past : Bool) → is_before_2020 d ≡ true → is_items_or_dependencies k ≡ true → go_on (scan_holding d k) object on past ≡ object
 stops_at_items d k object on past before items =
-  ⊎_elim (λ here. ap (λ w. go_on (scan_holding d w) object on past) (same k (codes "items") here) ∙ at_items d object on past before)
-  (λ here. ap (λ w. go_on (scan_holding d w) object on past) (same k (codes "dependencies") here) ∙ at_dependencies d object on past before)
-  (or_cases (bytes_eq k (codes "items")) (bytes_eq k (codes "dependencies")) items)
+    ⊎_elim (λ here. ap (λ w. go_on (scan_holding d w) object on past) (same k (codes "items") here) ∙ at_items d object on past before)
+    (λ here. ap (λ w. go_on (scan_holding d w) object on past) (same k (codes "dependencies") here) ∙ at_dependencies d object on past before)
+    (or_cases (bytes_eq k (codes "items")) (bytes_eq k (codes "dependencies")) items)

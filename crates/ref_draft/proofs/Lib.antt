@@ -2,3 +2,4 @@ pub mod Trim
 pub mod Held
 pub mod Disjoint
 pub mod Scanning
+pub mod Depth

@@ -20,8 +20,16 @@ use Rattle.ref_draft.proofs.Disjoint.{child_is_no_value, stops_at_items}
 add : (d : Draft) (v : Data) (parts : List Part) (piece : Piece) → IsPieceOf d piece → IsAccepted d parts v → IsAccepted d (parts_of piece ++ parts) v
 add d v parts piece ok (inl w) = inl (piece ∷ w.0, (ok, w.1), ap (λ ps. parts_of piece ++ ps) w.2)
 add d v parts piece ok (inr w) =
-  inr (w.0, w.1, piece ∷ w.2, w.3, w.4, (ok, w.5), w.6,
-  ap (λ ps. parts_of piece ++ ps) w.7 ∙ sym (append_assoc (parts_of piece) (spelled w.2) (Key w.3 ∷ w.4)))
+    inr (
+      w.0,
+      w.1,
+      piece ∷ w.2,
+      w.3,
+      w.4,
+      (ok, w.5),
+      w.6,
+      ap (λ ps. parts_of piece ++ ps) w.7 ∙ sym (append_assoc (parts_of piece) (spelled w.2) (Key w.3 ∷ w.4)),
+    )
 
 -- the parts after a child keyword
 past : (d : Draft) (v : Data) (k : List ℕ) (parts : List Part) → is_child_keyword d k ≡ true → ((part : Part) (rest : List Part) → parts ≡ part ∷ rest → scan d (is_object v) rest ≡ true → IsAccepted d rest v)
@@ -57,11 +65,11 @@ at_key d v k parts true array map items dependencies e a m i s on rests h = add 
 at_key d v k parts false true map items dependencies e a m i s on rests h = past d v k parts (or_left (is_one_of k (scan_row d).arrays) (is_one_of k (scan_row d).maps) a) rests h
 at_key d v k parts false false true items dependencies e a m i s on rests h = past d v k parts (or_right (is_one_of k (scan_row d).arrays) (is_one_of k (scan_row d).maps) m) rests h
 at_key d v k parts false false false true dependencies e a m i s on rests h =
-  let facts = both (is_before_2020 d) (bytes_eq k (codes "items")) i in
-  stop d v k parts facts.0 (or_left (bytes_eq k (codes "items")) (bytes_eq k (codes "dependencies")) facts.1) h
+    let facts = both (is_before_2020 d) (bytes_eq k (codes "items")) i in
+    stop d v k parts facts.0 (or_left (bytes_eq k (codes "items")) (bytes_eq k (codes "dependencies")) facts.1) h
 at_key d v k parts false false false false true e a m i s on rests h =
-  let facts = both (is_before_2020 d) (bytes_eq k (codes "dependencies")) s in
-  stop d v k parts facts.0 (or_right (bytes_eq k (codes "items")) (bytes_eq k (codes "dependencies")) facts.1) h
+    let facts = both (is_before_2020 d) (bytes_eq k (codes "dependencies")) s in
+    stop d v k parts facts.0 (or_right (bytes_eq k (codes "items")) (bytes_eq k (codes "dependencies")) facts.1) h
 at_key d v k parts false false false false false e a m i s on rests h = absurd (true≢false (sym h))
 
 mutual
@@ -74,8 +82,8 @@ mutual
   sound_after : (d : Draft) (v : Data) (parts : List Part) (part : Part) (rest : List Part) → parts ≡ part ∷ rest → scan d (is_object v) rest ≡ true → IsAccepted d rest v
   sound_after d v [] part rest is h = absurd (cc)
   sound_after d v (first ∷ parts) part rest is h =
-    let same : parts ≡ rest = cc in
-    rw (← same) (sound d v parts (rw same h))
+      let same : parts ≡ rest = cc in
+      rw (← same) (sound d v parts (rw same h))
 
 -- ---- what is accepted, the scan accepts
 
@@ -99,13 +107,19 @@ passes d object (AChild k part) rest ok = at_child (is_value_keyword d k) (is_on
 passes_word : (d : Draft) (object : Bool) (pieces : List Piece) (rest : List Part) → IsWord d pieces → scan d object (spelled pieces ++ rest) ≡ scan d object rest
 passes_word d object [] rest word = refl
 passes_word d object (piece ∷ pieces) rest word =
-  ap (scan d object) (append_assoc (parts_of piece) (spelled pieces) rest) ∙ passes d object piece (spelled pieces ++ rest) word.0 ∙ passes_word d object pieces rest word.1
+    ap (scan d object) (append_assoc (parts_of piece) (spelled pieces) rest) ∙ passes d object piece (spelled pieces ++ rest) word.0 ∙ passes_word d object pieces rest word.1
 
 complete : (d : Draft) (v : Data) (parts : List Part) → IsAccepted d parts v → scan d (is_object v) parts ≡ true
 complete d v parts (inl w) = ap (scan d (is_object v)) (w.2 ∙ sym (append-nil (spelled w.0))) ∙ passes_word d (is_object v) w.0 [] w.1
 complete d v parts (inr w) =
-  ap (scan d (is_object v)) w.7 ∙ passes_word d (is_object v) w.2 (Key w.3 ∷ w.4) w.5
-  ∙ stops_at_items d w.3 (is_object v) (scan d (is_object v) w.4) (scan_past d (is_object v) w.4) w.0 w.6 ∙ w.1
+    ap (scan d (is_object v)) w.7 ∙ passes_word d (is_object v) w.2 (Key w.3 ∷ w.4) w.5
+    ∙ stops_at_items d w.3 (is_object v) (scan d (is_object v) w.4) (scan_past d (is_object v) w.4) w.0 w.6 ∙ w.1
 
 pub scan_accepts : (d : Draft) (v : Data) (parts : List Part) → (scan d (is_object v) parts ≡ true) ↔ IsAccepted d parts v
 scan_accepts d v parts = (sound d v parts, complete d v parts)
+
+pub accepted : (d : Draft) (v : Data) (parts : List Part) → scan d (is_object v) parts ≡ true → IsAccepted d parts v
+accepted = sound
+
+pub refused : (d : Draft) (v : Data) (parts : List Part) → scan d (is_object v) parts ≡ false → IsAccepted d parts v → ⊥
+refused d v parts e h = true≢false (sym (complete d v parts h) ∙ e)

@@ -13,10 +13,10 @@ trimmed-hash (c ∷ text) = ap (before c) (trimmed-hash text)
 -- cutting one `#` leaves the trimmed text as it was
 trimmed-cut : (m : List ℕ) (n : ℕ) → FindsCharSuffix 35 m (Some n) → trimmed (take (length m - n) m) ≡ trimmed m
 trimmed-cut m n finds =
-  let within : n ≤ length m = omega (arith, finds.0, finds.1.ends) in
-  let width : n ≡ 1 = finds.0 in
-  let ends = (ends_char 35 m true (n, finds, within, rw finds.0 finds.2) (omega arith)).0 refl in
-  rw width (sym (trimmed-hash (take (length m - 1) m)) ∙ sym (ap trimmed ends))
+    let within : n ≤ length m = omega (arith, finds.0, finds.1.ends) in
+    let width : n ≡ 1 = finds.0 in
+    let ends = (ends_char 35 m true (n, finds, within, rw finds.0 finds.2) (omega arith)).0 refl in
+    rw width (sym (trimmed-hash (take (length m - 1) m)) ∙ sym (ap trimmed ends))
 
 trimmed-cuts : (s : List ℕ) (ns : List ℕ) (r : List ℕ) → CutsSuffixes (FindsCharSuffix 35) s ns r → trimmed r ≡ trimmed s
 trimmed-cuts s [] r cuts = ap trimmed cuts

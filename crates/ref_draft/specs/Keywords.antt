@@ -25,7 +25,7 @@ abbrev pub row_4 : Row
 row_4 = record {
   values = map codes ("additionalItems" ∷ "additionalProperties" ∷ "contains" ∷ "contentSchema" ∷ "else" ∷ "if" ∷ "not" ∷ "propertyNames" ∷ "then" ∷ "unevaluatedItems" ∷ "unevaluatedProperties" ∷ []);
   arrays = map codes ("allOf" ∷ "anyOf" ∷ "oneOf" ∷ "prefixItems" ∷ []);
-  maps = map codes ("$defs" ∷ "definitions" ∷ "dependentSchemas" ∷ "patternProperties" ∷ "properties" ∷ [])
+  maps = map codes ("$defs" ∷ "definitions" ∷ "dependentSchemas" ∷ "patternProperties" ∷ "properties" ∷ []);
 }
 
 -- Draft 6
@@ -33,7 +33,7 @@ abbrev pub row_6 : Row
 row_6 = record {
   values = map codes ("additionalItems" ∷ "additionalProperties" ∷ "contains" ∷ "not" ∷ "propertyNames" ∷ []);
   arrays = map codes ("allOf" ∷ "anyOf" ∷ "oneOf" ∷ []);
-  maps = map codes ("definitions" ∷ "patternProperties" ∷ "properties" ∷ [])
+  maps = map codes ("definitions" ∷ "patternProperties" ∷ "properties" ∷ []);
 }
 
 -- Draft 7
@@ -41,7 +41,7 @@ abbrev pub row_7 : Row
 row_7 = record {
   values = map codes ("additionalItems" ∷ "additionalProperties" ∷ "contains" ∷ "else" ∷ "if" ∷ "not" ∷ "propertyNames" ∷ "then" ∷ []);
   arrays = map codes ("allOf" ∷ "anyOf" ∷ "oneOf" ∷ []);
-  maps = map codes ("definitions" ∷ "patternProperties" ∷ "properties" ∷ [])
+  maps = map codes ("definitions" ∷ "patternProperties" ∷ "properties" ∷ []);
 }
 
 -- 2019-09
@@ -49,7 +49,7 @@ abbrev pub row_2019 : Row
 row_2019 = record {
   values = map codes ("additionalItems" ∷ "additionalProperties" ∷ "contains" ∷ "contentSchema" ∷ "else" ∷ "if" ∷ "not" ∷ "propertyNames" ∷ "then" ∷ "unevaluatedItems" ∷ "unevaluatedProperties" ∷ []);
   arrays = map codes ("allOf" ∷ "anyOf" ∷ "oneOf" ∷ []);
-  maps = map codes ("$defs" ∷ "definitions" ∷ "dependentSchemas" ∷ "patternProperties" ∷ "properties" ∷ [])
+  maps = map codes ("$defs" ∷ "definitions" ∷ "dependentSchemas" ∷ "patternProperties" ∷ "properties" ∷ []);
 }
 
 -- 2020-12
@@ -57,7 +57,7 @@ abbrev pub row_2020 : Row
 row_2020 = record {
   values = map codes ("additionalProperties" ∷ "contains" ∷ "contentSchema" ∷ "else" ∷ "if" ∷ "items" ∷ "not" ∷ "propertyNames" ∷ "then" ∷ "unevaluatedItems" ∷ "unevaluatedProperties" ∷ []);
   arrays = map codes ("allOf" ∷ "anyOf" ∷ "oneOf" ∷ "prefixItems" ∷ []);
-  maps = map codes ("$defs" ∷ "definitions" ∷ "dependentSchemas" ∷ "patternProperties" ∷ "properties" ∷ [])
+  maps = map codes ("$defs" ∷ "definitions" ∷ "dependentSchemas" ∷ "patternProperties" ∷ "properties" ∷ []);
 }
 
 -- The row of each draft. A custom meta-schema has that of 2020-12.
@@ -89,13 +89,13 @@ boolean_or_schema _ = []
 -- the draft is before 2020-12
 abbrev pub holding_by : Row → List (List ℕ) → Bool → List ℕ → Holding
 holding_by r booleans before_2020 keyword =
-  if is_one_of keyword booleans then WholeObject
-  else (if is_one_of keyword r.values then Whole
-  else (if is_one_of keyword r.arrays then Elements
-  else (if is_one_of keyword r.maps then Members
-  else (if before_2020 && bytes_eq keyword (codes "items") then ElementsOrWhole
-  else (if before_2020 && bytes_eq keyword (codes "dependencies") then ObjectMembers
-  else Nothing)))))
+    if is_one_of keyword booleans then WholeObject
+    else (if is_one_of keyword r.values then Whole
+    else (if is_one_of keyword r.arrays then Elements
+    else (if is_one_of keyword r.maps then Members
+    else (if before_2020 && bytes_eq keyword (codes "items") then ElementsOrWhole
+    else (if before_2020 && bytes_eq keyword (codes "dependencies") then ObjectMembers
+    else Nothing)))))
 
 -- How a keyword of a draft holds its subschemas
 abbrev pub holding : Draft → List ℕ → Holding

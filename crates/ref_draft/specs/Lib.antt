@@ -6,3 +6,4 @@ pub mod Scan
 pub mod Views
 pub mod ScanSteps
 pub mod Rows
+pub mod Order

@@ -15,7 +15,7 @@ abbrev pub draft_4_row : Row
 draft_4_row = record {
   values = map codes ("additionalItems" ∷ "additionalProperties" ∷ "not" ∷ []);
   arrays = map codes ("allOf" ∷ "anyOf" ∷ "oneOf" ∷ []);
-  maps = map codes ("definitions" ∷ "patternProperties" ∷ "properties" ∷ [])
+  maps = map codes ("definitions" ∷ "patternProperties" ∷ "properties" ∷ []);
 }
 
 -- the row that the scan reads: the walk's but for Draft 4
@@ -68,9 +68,9 @@ SpellsWord d parts = (pieces : List Piece) × IsWord d pieces × (parts ≡ spel
 -- before 2020-12: the parts are a word, then `items` or `dependencies`, then any parts, and the value is an object
 abbrev pub PassesItems : Draft → List Part → Data → Type 0
 PassesItems d parts value =
-  IsTrue (is_before_2020 d) × IsTrue (is_object value)
-  × (pieces : List Piece) × (keyword : List ℕ) × (rest : List Part)
-  × IsWord d pieces × IsTrue (is_items_or_dependencies keyword) × (parts ≡ spelled pieces ++ Key keyword ∷ rest)
+    IsTrue (is_before_2020 d) × IsTrue (is_object value)
+    × (pieces : List Piece) × (keyword : List ℕ) × (rest : List Part)
+    × IsWord d pieces × IsTrue (is_items_or_dependencies keyword) × (parts ≡ spelled pieces ++ Key keyword ∷ rest)
 
 -- The parts are accepted at a value: an identifier there may change the base
 abbrev pub IsAccepted : Draft → List Part → Data → Type 0

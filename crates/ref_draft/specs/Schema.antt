@@ -26,13 +26,13 @@ trimmed (c ∷ text) = before c (trimmed text)
 -- what follows `http` or `https` in the URI of each meta-schema; the one without a version is that of 2020-12
 abbrev pub meta_schemas : List (List ℕ × Draft)
 meta_schemas =
-  (codes "://json-schema.org/draft/2020-12/schema", Draft202012)
-  ∷ (codes "://json-schema.org/draft/2019-09/schema", Draft201909)
-  ∷ (codes "://json-schema.org/draft-07/schema", Draft7)
-  ∷ (codes "://json-schema.org/draft-06/schema", Draft6)
-  ∷ (codes "://json-schema.org/draft-04/schema", Draft4)
-  ∷ (codes "://json-schema.org/schema", Draft202012)
-  ∷ []
+    (codes "://json-schema.org/draft/2020-12/schema", Draft202012)
+    ∷ (codes "://json-schema.org/draft/2019-09/schema", Draft201909)
+    ∷ (codes "://json-schema.org/draft-07/schema", Draft7)
+    ∷ (codes "://json-schema.org/draft-06/schema", Draft6)
+    ∷ (codes "://json-schema.org/draft-04/schema", Draft4)
+    ∷ (codes "://json-schema.org/schema", Draft202012)
+    ∷ []
 
 -- whether a text is such a URI, with either scheme
 abbrev pub is_at : List ℕ → List ℕ → Bool

@@ -41,7 +41,9 @@ impl Resource {
     pub fn from_contents(contents: Value) -> Resource
         ensures { resource result ≡ record { contents = view contents; draft = detect Draft.Draft202012 (view contents) } }
     {
-        Draft::Draft202012.detect(&contents).create_resource(contents)
+        Draft::Draft202012
+            .detect(&contents)
+            .create_resource(contents)
     }
 
     /// A copy of the document with the same draft. Refuses only for want of memory, which it takes for the document.

@@ -21,14 +21,9 @@ pub(crate) fn holding(keyword: &str) -> Holding
         | "then"
         | "unevaluatedItems"
         | "unevaluatedProperties" => Holding::Whole,
-        "allOf"
-        | "anyOf"
-        | "oneOf" => Holding::Elements,
-        "$defs"
-        | "definitions"
-        | "dependentSchemas"
-        | "patternProperties"
-        | "properties" => Holding::Members,
+        "allOf" | "anyOf" | "oneOf" => Holding::Elements,
+        "$defs" | "definitions" | "dependentSchemas" | "patternProperties" | "properties" =>
+            Holding::Members,
         "items" => Holding::ElementsOrWhole,
         "dependencies" => Holding::ObjectMembers,
         _ => Holding::Nothing,

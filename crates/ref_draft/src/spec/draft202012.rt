@@ -21,15 +21,9 @@ pub(crate) fn holding(keyword: &str) -> Holding
         | "then"
         | "unevaluatedItems"
         | "unevaluatedProperties" => Holding::Whole,
-        "allOf"
-        | "anyOf"
-        | "oneOf"
-        | "prefixItems" => Holding::Elements,
-        "$defs"
-        | "definitions"
-        | "dependentSchemas"
-        | "patternProperties"
-        | "properties" => Holding::Members,
+        "allOf" | "anyOf" | "oneOf" | "prefixItems" => Holding::Elements,
+        "$defs" | "definitions" | "dependentSchemas" | "patternProperties" | "properties" =>
+            Holding::Members,
         _ => Holding::Nothing,
     }
 }

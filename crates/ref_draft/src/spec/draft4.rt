@@ -11,8 +11,7 @@ pub(crate) fn holding(keyword: &str) -> Holding
     ensures { result ≡ holding Draft.Draft4 keyword.now }
 {
     match keyword {
-        "additionalItems"
-        | "additionalProperties" => Holding::WholeObject,
+        "additionalItems" | "additionalProperties" => Holding::WholeObject,
         "contains"
         | "contentSchema"
         | "else"
@@ -22,15 +21,9 @@ pub(crate) fn holding(keyword: &str) -> Holding
         | "then"
         | "unevaluatedItems"
         | "unevaluatedProperties" => Holding::Whole,
-        "allOf"
-        | "anyOf"
-        | "oneOf"
-        | "prefixItems" => Holding::Elements,
-        "$defs"
-        | "definitions"
-        | "dependentSchemas"
-        | "patternProperties"
-        | "properties" => Holding::Members,
+        "allOf" | "anyOf" | "oneOf" | "prefixItems" => Holding::Elements,
+        "$defs" | "definitions" | "dependentSchemas" | "patternProperties" | "properties" =>
+            Holding::Members,
         "items" => Holding::ElementsOrWhole,
         "dependencies" => Holding::ObjectMembers,
         _ => Holding::Nothing,
@@ -42,15 +35,9 @@ pub(crate) fn scan_holding(keyword: &str) -> Holding
     ensures { result ≡ scan_holding Draft.Draft4 keyword.now }
 {
     match keyword {
-        "additionalItems"
-        | "additionalProperties"
-        | "not" => Holding::Whole,
-        "allOf"
-        | "anyOf"
-        | "oneOf" => Holding::Elements,
-        "definitions"
-        | "patternProperties"
-        | "properties" => Holding::Members,
+        "additionalItems" | "additionalProperties" | "not" => Holding::Whole,
+        "allOf" | "anyOf" | "oneOf" => Holding::Elements,
+        "definitions" | "patternProperties" | "properties" => Holding::Members,
         "items" => Holding::ElementsOrWhole,
         "dependencies" => Holding::ObjectMembers,
         _ => Holding::Nothing,

@@ -10,17 +10,10 @@ pub(crate) fn holding(keyword: &str) -> Holding
     ensures { result ≡ holding Draft.Draft6 keyword.now }
 {
     match keyword {
-        "additionalItems"
-        | "additionalProperties"
-        | "contains"
-        | "not"
-        | "propertyNames" => Holding::Whole,
-        "allOf"
-        | "anyOf"
-        | "oneOf" => Holding::Elements,
-        "definitions"
-        | "patternProperties"
-        | "properties" => Holding::Members,
+        "additionalItems" | "additionalProperties" | "contains" | "not" | "propertyNames" =>
+            Holding::Whole,
+        "allOf" | "anyOf" | "oneOf" => Holding::Elements,
+        "definitions" | "patternProperties" | "properties" => Holding::Members,
         "items" => Holding::ElementsOrWhole,
         "dependencies" => Holding::ObjectMembers,
         _ => Holding::Nothing,

@@ -18,12 +18,8 @@ pub(crate) fn holding(keyword: &str) -> Holding
         | "not"
         | "propertyNames"
         | "then" => Holding::Whole,
-        "allOf"
-        | "anyOf"
-        | "oneOf" => Holding::Elements,
-        "definitions"
-        | "patternProperties"
-        | "properties" => Holding::Members,
+        "allOf" | "anyOf" | "oneOf" => Holding::Elements,
+        "definitions" | "patternProperties" | "properties" => Holding::Members,
         "items" => Holding::ElementsOrWhole,
         "dependencies" => Holding::ObjectMembers,
         _ => Holding::Nothing,

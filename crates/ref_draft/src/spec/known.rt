@@ -6,7 +6,39 @@ ghost use Rattle.ref_draft.specs.Keywords.{is_one_of, is_known_in_2019, known_in
 pub(crate) fn in_all(keyword: &str) -> bool
     ensures { result ≡ is_one_of keyword.now known_in_all }
 {
-    matches!(keyword, "$ref" | "$schema" | "additionalItems" | "additionalProperties" | "allOf" | "anyOf" | "definitions" | "dependencies" | "enum" | "exclusiveMaximum" | "exclusiveMinimum" | "format" | "items" | "maxItems" | "maxLength" | "maxProperties" | "maximum" | "minItems" | "minLength" | "minProperties" | "minimum" | "multipleOf" | "not" | "oneOf" | "pattern" | "patternProperties" | "properties" | "required" | "type" | "uniqueItems")
+    matches!(
+        keyword,
+        "$ref"
+            | "$schema"
+            | "additionalItems"
+            | "additionalProperties"
+            | "allOf"
+            | "anyOf"
+            | "definitions"
+            | "dependencies"
+            | "enum"
+            | "exclusiveMaximum"
+            | "exclusiveMinimum"
+            | "format"
+            | "items"
+            | "maxItems"
+            | "maxLength"
+            | "maxProperties"
+            | "maximum"
+            | "minItems"
+            | "minLength"
+            | "minProperties"
+            | "minimum"
+            | "multipleOf"
+            | "not"
+            | "oneOf"
+            | "pattern"
+            | "patternProperties"
+            | "properties"
+            | "required"
+            | "type"
+            | "uniqueItems"
+    )
 }
 
 // In Draft 4 alone.
@@ -20,7 +52,10 @@ pub(crate) fn in_4(keyword: &str) -> bool
 pub(crate) fn since_6(keyword: &str) -> bool
     ensures { result ≡ is_one_of keyword.now known_since_6 }
 {
-    matches!(keyword, "$id" | "const" | "contains" | "propertyNames" | "contentEncoding" | "contentMediaType")
+    matches!(
+        keyword,
+        "$id" | "const" | "contains" | "propertyNames" | "contentEncoding" | "contentMediaType"
+    )
 }
 
 // In Draft 7 and later.
@@ -34,7 +69,20 @@ pub(crate) fn since_7(keyword: &str) -> bool
 fn since_2019(keyword: &str) -> bool
     ensures { result ≡ is_one_of keyword.now known_since_2019 }
 {
-    matches!(keyword, "contentSchema" | "$anchor" | "$defs" | "$recursiveAnchor" | "$recursiveRef" | "dependentRequired" | "dependentSchemas" | "maxContains" | "minContains" | "unevaluatedItems" | "unevaluatedProperties")
+    matches!(
+        keyword,
+        "contentSchema"
+            | "$anchor"
+            | "$defs"
+            | "$recursiveAnchor"
+            | "$recursiveRef"
+            | "dependentRequired"
+            | "dependentSchemas"
+            | "maxContains"
+            | "minContains"
+            | "unevaluatedItems"
+            | "unevaluatedProperties"
+    )
 }
 
 // In 2020-12.
