@@ -1,11 +1,10 @@
 -- The columns of a row share no keyword, and before 2020-12 none has `items` or `dependencies`.
-use Rattle.std.proofs.Common.{◌≡◌, ℕ, List, [], ◌∷◌, ◌++◌, Bool, true, false, ◌&&◌, ◌||◌, not, codes, inl, inr, ⊎_elim, refl, sym, ap, ◌∙◌, true≢false}
+use Rattle.std.proofs.Common.{◌≡◌, ℕ, List, [], ◌∷◌, Bool, true, false, ◌&&◌, not, codes, ⊎_elim, refl, sym, ap, ◌∙◌, true≢false}
 use Rattle.std.specs.Str.{bytes_eq}
 use Rattle.std.proofs.lemmas.Bool.{or_cases}
 use Rattle.std.proofs.lemmas.Slice.Eq.{bytes_eq-Decides}
 use Rattle.ref_draft.specs.declared.draft.Draft.{Draft}
 use Rattle.ref_draft.specs.declared.draft.Draft.TheVariants.{Draft4, Draft6, Draft7, Draft201909, Draft202012, Unknown}
-use Rattle.ref_draft.specs.declared.spec.Holding.{Holding}
 use Rattle.ref_draft.specs.Keywords.{is_one_of, is_before_2020}
 use Rattle.ref_draft.specs.Scan.{scan_row, is_value_keyword, is_child_keyword, is_items_or_dependencies}
 use Rattle.ref_draft.specs.ScanSteps.{scan_holding, go_on}

@@ -1,5 +1,5 @@
 -- The values of the children under one keyword, as lists of values of the program.
-use Rattle.std.proofs.Common.{◌≡◌, ℕ, suc, List, [], ◌∷◌, ◌++◌, map, Bool, true, false, cond, refl, ap, ◌∙◌, String, Global}
+use Rattle.std.proofs.Common.{◌≡◌, ℕ, suc, List, [], ◌∷◌, map, Bool, true, false, cond, refl, ap, ◌∙◌, String, Global}
 use Rattle.std.specs.List.{filter}
 use Rattle.std.specs.Map.{values_of}
 use Rattle.serde_json.specs.Data.{Data}

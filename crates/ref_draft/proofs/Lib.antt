@@ -3,3 +3,4 @@ pub mod Held
 pub mod Disjoint
 pub mod Scanning
 pub mod Depth
+pub mod Given

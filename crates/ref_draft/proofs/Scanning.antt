@@ -1,17 +1,16 @@
 -- The scan accepts exactly the parts that the definition does.
-use Rattle.std.proofs.Common.{◌≡◌, ℕ, List, [], ◌∷◌, ◌++◌, Bool, true, false, ◌&&◌, ◌||◌, cond, codes, ◌⊎◌, inl, inr, ⊎_elim, ◌↔◌, refl, sym, ap, ◌∙◌, true≢false, append_assoc}
+use Rattle.std.proofs.Common.{◌≡◌, ℕ, List, [], ◌∷◌, ◌++◌, Bool, true, false, ◌&&◌, ◌||◌, cond, codes, inl, inr, ◌↔◌, refl, sym, ap, ◌∙◌, true≢false, append_assoc}
 use Rattle.std.specs.Str.{bytes_eq}
 use Rattle.std.proofs.lemmas.List.{append-nil}
-use Rattle.std.proofs.lemmas.Bool.{or_cases}
 use Rattle.serde_json.specs.Data.{Data}
 use Rattle.ref_parts.specs.Path.{Part, Key, Index}
 use Rattle.ref_draft.specs.declared.draft.Draft.{Draft}
 use Rattle.ref_draft.specs.declared.spec.Holding.{Holding}
-use Rattle.ref_draft.specs.declared.spec.Holding.TheVariants.{Whole, WholeObject, Elements, Members, ElementsOrWhole, ObjectMembers, Nothing}
+use Rattle.ref_draft.specs.declared.spec.Holding.TheVariants.{Whole, Elements, Members, ElementsOrWhole, ObjectMembers, Nothing}
 use Rattle.ref_draft.specs.Keywords.{is_one_of, is_before_2020}
 use Rattle.ref_draft.specs.Children.{is_object}
-use Rattle.ref_draft.specs.Scan.{scan_row, is_value_keyword, is_child_keyword, is_items_or_dependencies, Piece, AnIndex, AValue, AChild, parts_of, spelled, IsPieceOf, IsWord, SpellsWord, PassesItems, IsAccepted}
-use Rattle.ref_draft.specs.ScanSteps.{scan_holding, go_on, scan, scan_past}
+use Rattle.ref_draft.specs.Scan.{scan_row, is_value_keyword, is_child_keyword, is_items_or_dependencies, Piece, AnIndex, AValue, AChild, parts_of, spelled, IsPieceOf, IsWord, IsAccepted}
+use Rattle.ref_draft.specs.ScanSteps.{go_on, scan, scan_past}
 use Rattle.ref_draft.proofs.Disjoint.{child_is_no_value, stops_at_items}
 
 -- ---- what the scan accepts is accepted

@@ -1,6 +1,6 @@
 -- What `trim_end_matches` gives at the character `#` is the text without the `#` characters at its end.
-use Rattle.std.proofs.Common.{◌≡◌, ◌≢◌, ℕ, ◌<◌, ◌≤◌, ◌+◌, ◌-◌, List, [], ◌∷◌, ◌++◌, length, take, Bool, true, false, Option, Some, None, IfSome, cond, nat_eq, Bor, MatchOption, drop, option_map, refl, sym, ap, ◌∙◌, arith, rules}
-use Rattle.std.specs.Str.Pattern.{FindsCharSuffix, CutsSuffixes, IsFullyTrimmed, IsTrimEndMatches}
+use Rattle.std.proofs.Common.{◌≡◌, ◌≢◌, ℕ, ◌≤◌, ◌+◌, ◌-◌, List, [], ◌∷◌, ◌++◌, length, take, Bool, true, false, Option, Some, None, IfSome, nat_eq, Bor, MatchOption, drop, option_map, refl, sym, ap, ◌∙◌, arith, rules}
+use Rattle.std.specs.Str.Pattern.{FindsCharSuffix, CutsSuffixes, IsTrimEndMatches}
 use Rattle.std.specs.Str.Pattern.{FindsCharPrefix}
 use Rattle.std.proofs.lemmas.Str.Pattern.{ends_char, strip_prefix_char}
 use Rattle.ref_draft.specs.Anchors.{after_hash}

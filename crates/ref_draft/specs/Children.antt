@@ -1,6 +1,6 @@
 -- The subschemas of a schema: what stands right below it under its draft's keywords (2020-12 Core, section 10;
 -- earlier drafts as `Keywords` lists).
-use Rattle.std.specs.Prelude.{ℕ, suc, List, [], ◌∷◌, ◌++◌, map, filter, Bool, not, is_some, if◌then◌else◌}
+use Rattle.std.specs.Prelude.{ℕ, suc, List, [], ◌∷◌, ◌++◌, map, filter, Bool, not, is_some}
 use Rattle.std.specs.Option.{option_map_or}
 use Rattle.serde_json.specs.Data.{Data, Items, no_items, item, Members, no_members, member}
 use Rattle.serde_json.specs.Find.{as_array, as_object}
@@ -74,11 +74,15 @@ with_draft d child = record { path = child.0; value = child.1; draft = detect d 
 abbrev pub walked : Draft → Data → List Walked
 walked d value = map (with_draft d) (children d value)
 
--- the values under each of an object's keywords but those that `subresources_of` leaves out
-abbrev pub values_below : Draft → Members → List Data
-values_below d no_members = []
-values_below d (member keyword value ms) = (if is_left_out d keyword then [] else map (λ child. child.1) (held (holding d keyword) keyword value)) ++ values_below d ms
+-- the keyword at the front of a path
+abbrev pub keyword_of : List Part → List ℕ
+keyword_of (Key keyword ∷ path) = keyword
+keyword_of path = []
 
--- The values that `subresources_of` gives: those of the children, but for what it leaves out
+-- whether `subresources_of` gives a child
+abbrev pub is_given : Draft → Child → Bool
+is_given d child = not (is_left_out d (keyword_of child.0))
+
+-- The values that `subresources_of` gives: those of the children but for what it leaves out
 abbrev pub subresources : Draft → Data → List Data
-subresources d value = option_map_or (values_below d) (as_object value) []
+subresources d value = map (λ child. child.1) (filter (is_given d) (children d value))

@@ -1,14 +1,14 @@
 -- Rows that compute: what the definitions say of literal schemas. Their names are told in `src/laws.rt`.
 use Prim.Native.String.{String as Literal}
-use Rattle.std.specs.Prelude.{◌≡◌, ℕ, List, [], ◌∷◌, map, codes, Bool, true, false, Option, Some, None}
-use Rattle.serde_json.specs.Data.{Num, unsigned, Data, boolean, number, string, array, object, Items, no_items, item, Members, no_members, member}
+use Rattle.std.specs.Prelude.{◌≡◌, List, [], ◌∷◌, map, codes, true, false, Some, None}
+use Rattle.serde_json.specs.Data.{Data, boolean, string, array, object, no_items, item, no_members, member}
 use Rattle.ref_parts.specs.Path.{Part, Key, Index}
 use Rattle.ref_draft.specs.declared.draft.Draft.{Draft}
 use Rattle.ref_draft.specs.declared.draft.Draft.TheVariants.{Draft4, Draft6, Draft7, Draft201909, Draft202012, Unknown}
-use Rattle.ref_draft.specs.Keywords.{id_keyword, is_known}
-use Rattle.ref_draft.specs.Schema.{trimmed, from_schema_uri, detect, identifier}
-use Rattle.ref_draft.specs.Children.{Child, children, subresources}
-use Rattle.ref_draft.specs.Anchors.{Kind, Plain, Dynamic, anchors}
+use Rattle.ref_draft.specs.Keywords.{is_known}
+use Rattle.ref_draft.specs.Schema.{detect, identifier}
+use Rattle.ref_draft.specs.Children.{children, subresources}
+use Rattle.ref_draft.specs.Anchors.{Plain, Dynamic, anchors}
 use Rattle.ref_draft.specs.Scan.{IsAccepted}
 
 -- ---- literals

@@ -6,7 +6,7 @@ use Rattle.std.specs.Str.{bytes_eq}
 use Rattle.serde_json.specs.Data.{Data}
 use Rattle.ref_parts.specs.Path.{Part, Key, Index}
 use Rattle.ref_draft.specs.declared.draft.Draft.{Draft}
-use Rattle.ref_draft.specs.declared.draft.Draft.TheVariants.{Draft4, Draft6, Draft7, Draft201909, Draft202012, Unknown}
+use Rattle.ref_draft.specs.declared.draft.Draft.TheVariants.{Draft4}
 use Rattle.ref_draft.specs.Keywords.{Row, row, is_one_of, is_before_2020}
 use Rattle.ref_draft.specs.Children.{is_object}
 

@@ -1,9 +1,9 @@
 -- What contracts see of the crate's types.
-use Rattle.std.specs.Prelude.{ℕ, List, [], ◌∷◌, ◌++◌, map, filter, Option, Some, None}
+use Rattle.std.specs.Prelude.{◌≡◌, All, ℕ, List, [], ◌∷◌, ◌++◌, map, filter, Option, Some, None}
 use Rattle.std.specs.Option.{option_map_or}
 use Rattle.std.specs.Cow.{cow_str_bytes}
 use Rattle.std.specs.Slice.Iter.{iter_rest}
-use Rattle.serde_json.specs.Data.{Data}
+use Rattle.serde_json.specs.Data.{Data, object}
 use Rattle.serde_json.specs.View.{view, members_view}
 use Rattle.serde_json.specs.declared.value.Value.{Value}
 use Rattle.ref_parts.specs.Path as path
@@ -24,18 +24,26 @@ use Rattle.ref_draft.specs.declared.spec.children.ChildIterInner.{ChildIterInner
 use Rattle.ref_draft.specs.declared.spec.children.ChildIterInner.TheVariants as inner
 use Rattle.ref_draft.specs.declared.spec.walk.Child.{Child}
 use Rattle.ref_draft.specs.Anchors.{Kind, Plain, Dynamic}
-use Rattle.ref_draft.specs.Children.{Walked, is_object, values_below}
+use Rattle.ref_draft.specs.Schema.{identifier}
+use Rattle.ref_draft.specs.Children.{Child as Pair, Walked, is_object, subresources, with_draft}
 
 -- a tree, and the draft that it is read by
 pub record Tagged : Type 0 where
   pub contents : Data
   pub draft : Draft
 
+abbrev pub tagged : Draft → Data → Tagged
+tagged d t = record { contents = t; draft = d }
+
 abbrev pub resource : Resource → Tagged
-resource r = record { contents = view r.contents; draft = r.draft }
+resource r = tagged r.draft (view r.contents)
 
 abbrev pub resource_ref : ResourceRef → Tagged
-resource_ref r = record { contents = view r.contents.now; draft = r.draft }
+resource_ref r = tagged r.draft (view r.contents.now)
+
+-- its identifier
+abbrev pub id_of : Tagged → Option (List ℕ)
+id_of t = identifier t.draft t.contents
 
 -- an anchor's name and kind, and what it names
 abbrev pub anchor_name : Anchor → List ℕ × Kind
@@ -45,6 +53,10 @@ anchor_name (anchor.Dynamic name resource) = (name.now, Dynamic)
 abbrev pub anchor_resource : Anchor → Tagged
 anchor_resource (anchor.Default name resource) = resource_ref resource
 anchor_resource (anchor.Dynamic name resource) = resource_ref resource
+
+-- each anchor names this
+abbrev pub AllName : Tagged → List Anchor → Type 0
+AllName t anchors = All (λ a. anchor_resource a ≡ t) anchors
 
 -- the anchors that an iterator has left
 abbrev pub anchors_left : AnchorIter → List Anchor
@@ -80,4 +92,8 @@ inner_left inner.Empty = []
 
 -- the values that an iterator has left: those under the keyword that it is at, then those under the keywords after it
 abbrev pub values_left : ChildIter → List Data
-values_left it = inner_left it.current ++ option_map_or (λ members. values_below it.draft (members_view members)) it.members []
+values_left it = inner_left it.current ++ option_map_or (λ members. subresources it.draft (object (members_view members))) it.members []
+
+-- the children cs were added at the end, each with the draft that d detects on it
+abbrev pub Adds : Draft → List Pair → List Child → List Child → Type 0
+Adds d cs old new = map walked_child new ≡ map walked_child old ++ map (with_draft d) cs

@@ -1,10 +1,10 @@
 //! Anchors, which name a subschema within a document: a plain one by `$anchor`, or before 2019-09 by an identifier that
 //! begins with `#`, and a dynamic one by `$dynamicAnchor`.
-ghost use Rattle.std.specs.Prelude.{◌≡◌, map, All, codes};
+ghost use Rattle.std.specs.Prelude.{◌≡◌, map, codes};
 ghost use Rattle.std.specs.Iterator.{YieldsFirst, item_count};
 ghost use Rattle.serde_json.specs.View.{view};
 ghost use Rattle.ref_draft.specs.Anchors.{in_identifier, named_by, plain_and_dynamic, Plain};
-ghost use Rattle.ref_draft.specs.Views.{anchor_name, anchor_resource, anchors_left};
+ghost use Rattle.ref_draft.specs.Views.{AllName, anchor_name, anchors_left, tagged};
 
 use crate::draft::Draft;
 use crate::resource::ResourceRef;
@@ -74,7 +74,7 @@ impl<'a> Iterator for AnchorIter<'a> {
 // The anchor that stands in the identifier, after a `#` (Draft 7 Core, 8.2.3).
 pub(crate) fn in_identifier<'a>(draft: Draft, contents: &'a Value) -> AnchorIter<'a>
     ensures names { map anchor_name (anchors_left result) ≡ in_identifier draft (view contents.now) }
-    ensures resources { All (λ a. anchor_resource a ≡ record { contents = view contents.now; draft = draft }) (anchors_left result) }
+    ensures resources { AllName (tagged draft (view contents.now)) (anchors_left result) }
 {
     match text_under(contents, draft.id_keyword()).and_then(after_hash) {
         Some(name) => AnchorIter::One(Anchor::Default {
@@ -88,7 +88,7 @@ pub(crate) fn in_identifier<'a>(draft: Draft, contents: &'a Value) -> AnchorIter
 // The plain anchor that `$anchor` names (2019-09 Core, 8.2.3).
 pub(crate) fn plain<'a>(draft: Draft, contents: &'a Value) -> AnchorIter<'a>
     ensures names { map anchor_name (anchors_left result) ≡ named_by (codes "$anchor") Plain (view contents.now) }
-    ensures resources { All (λ a. anchor_resource a ≡ record { contents = view contents.now; draft = draft }) (anchors_left result) }
+    ensures resources { AllName (tagged draft (view contents.now)) (anchors_left result) }
 {
     match text_under(contents, "$anchor") {
         Some(name) => AnchorIter::One(Anchor::Default {
@@ -102,7 +102,7 @@ pub(crate) fn plain<'a>(draft: Draft, contents: &'a Value) -> AnchorIter<'a>
 // The plain anchor that `$anchor` names, then the dynamic one of `$dynamicAnchor` (2020-12 Core, 8.2.2).
 pub(crate) fn plain_and_dynamic<'a>(draft: Draft, contents: &'a Value) -> AnchorIter<'a>
     ensures names { map anchor_name (anchors_left result) ≡ plain_and_dynamic (view contents.now) }
-    ensures resources { All (λ a. anchor_resource a ≡ record { contents = view contents.now; draft = draft }) (anchors_left result) }
+    ensures resources { AllName (tagged draft (view contents.now)) (anchors_left result) }
 {
     let resource = ResourceRef::new(contents, draft);
     let plain = text_under(contents, "$anchor");

@@ -1,12 +1,12 @@
 //! The versions of JSON Schema.
-ghost use Rattle.std.specs.Prelude.{◌≡◌, ◌↔◌, map, IfOk, All, IsTrue};
+ghost use Rattle.std.specs.Prelude.{◌≡◌, ◌↔◌, map, IfOk, IsTrue};
 ghost use Rattle.serde_json.specs.View.{view};
 ghost use Rattle.ref_draft.specs.Keywords.{holding, id_keyword, is_known, is_before_2019, is_before_2020};
 ghost use Rattle.ref_draft.specs.Schema.{from_schema_uri, draft_of_uri, detect, text_under};
 ghost use Rattle.ref_draft.specs.Children.{subresources, walked};
 ghost use Rattle.ref_draft.specs.Anchors.{anchors};
 ghost use Rattle.ref_draft.specs.Scan.{IsAccepted};
-ghost use Rattle.ref_draft.specs.Views.{Tagged, resource, resource_ref, values_left, walked_child, anchor_name, anchor_resource, anchors_left};
+ghost use Rattle.ref_draft.specs.Views.{AllName, anchor_name, anchors_left, resource, resource_ref, tagged, values_left, walked_child};
 
 use crate::anchor::{self, AnchorIter};
 use crate::resource::{Resource, ResourceRef};
@@ -39,14 +39,14 @@ pub enum Draft {
 impl Draft {
     /// The value as a resource of this draft. It takes no memory.
     pub fn create_resource(self, contents: Value) -> Resource
-        ensures { resource result ≡ record { contents = view contents; draft = self } }
+        ensures { resource result ≡ tagged self (view contents) }
     {
         Resource::new(contents, self)
     }
 
     /// The borrowed value as a resource of this draft. It takes no memory.
     pub fn create_resource_ref(self, contents: &Value) -> ResourceRef<'_>
-        ensures { resource_ref result ≡ record { contents = view contents.now; draft = self } }
+        ensures { resource_ref result ≡ tagged self (view contents.now) }
     {
         ResourceRef::new(contents, self)
     }
@@ -125,7 +125,7 @@ impl Draft {
     /// Before 2019-09 an anchor stands in the identifier, after a leading `#`. It takes no memory: one look-up or two.
     pub fn anchors<'a>(self, contents: &'a Value) -> AnchorIter<'a>
         ensures names { map anchor_name (anchors_left result) ≡ anchors self (view contents.now) }
-        ensures resources { All (λ a. anchor_resource a ≡ record { contents = view contents.now; draft = self }) (anchors_left result) }
+        ensures resources { AllName (tagged self (view contents.now)) (anchors_left result) }
     {
         match self {
             Draft::Draft4 | Draft::Draft6 | Draft::Draft7 => anchor::in_identifier(self, contents),

@@ -1,8 +1,8 @@
 //! A tree with the draft that it is read by.
 ghost use Rattle.std.specs.Prelude.{◌≡◌, IfOk, option_map};
 ghost use Rattle.serde_json.specs.View.{view};
-ghost use Rattle.ref_draft.specs.Schema.{detect, identifier};
-ghost use Rattle.ref_draft.specs.Views.{resource, resource_ref};
+ghost use Rattle.ref_draft.specs.Schema.{detect};
+ghost use Rattle.ref_draft.specs.Views.{id_of, resource, resource_ref, tagged};
 
 use crate::draft::Draft;
 use crate::spec::ids::identifier;
@@ -18,7 +18,7 @@ pub struct Resource {
 
 impl Resource {
     pub(crate) fn new(contents: Value, draft: Draft) -> Self
-        ensures { resource result ≡ record { contents = view contents; draft = draft } }
+        ensures { resource result ≡ tagged draft (view contents) }
     {
         Resource { contents, draft }
     }
@@ -39,7 +39,7 @@ impl Resource {
 
     /// The document as a resource of the draft that 2020-12 detects on it. It takes no memory.
     pub fn from_contents(contents: Value) -> Resource
-        ensures { resource result ≡ record { contents = view contents; draft = detect Draft.Draft202012 (view contents) } }
+        ensures { let tree = view contents in resource result ≡ tagged (detect Draft.Draft202012 tree) tree }
     {
         Draft::Draft202012
             .detect(&contents)
@@ -67,7 +67,7 @@ pub struct ResourceRef<'a> {
 impl<'a> ResourceRef<'a> {
     /// The document as a resource of the draft.
     pub fn new(contents: &'a Value, draft: Draft) -> Self
-        ensures { resource_ref result ≡ record { contents = view contents.now; draft = draft } }
+        ensures { resource_ref result ≡ tagged draft (view contents.now) }
     {
         ResourceRef { contents, draft }
     }
@@ -88,7 +88,8 @@ impl<'a> ResourceRef<'a> {
 
     /// The document as a resource of the draft that 2020-12 detects on it. It takes no memory.
     pub fn from_contents(contents: &'a Value) -> Self
-        ensures { resource_ref result ≡ record { contents = view contents.now; draft = detect Draft.Draft202012 (view contents.now) } }
+        ensures { let tree = view contents.now in
+            resource_ref result ≡ tagged (detect Draft.Draft202012 tree) tree }
     {
         ResourceRef::new(contents, Draft::Draft202012.detect(contents))
     }
@@ -98,7 +99,7 @@ impl<'a> ResourceRef<'a> {
     /// anchor (Draft 7 Core, 8.2 and 8.3). It borrows the document's text and takes no memory: two look-ups, and time
     /// linear in the text.
     pub fn id(&self) -> Option<&'a str>
-        ensures { option_map (λ text. text.now) result ≡ identifier (resource_ref self.now).draft (resource_ref self.now).contents }
+        ensures { option_map (λ text. text.now) result ≡ id_of (resource_ref self.now) }
     {
         identifier(self.draft, self.contents)
     }

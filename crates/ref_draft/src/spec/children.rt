@@ -1,9 +1,9 @@
 //! The iterator over the values right below a schema that its draft reads as schemas.
-ghost use Rattle.std.specs.Prelude.{◌≡◌, [], map, option_map, if◌then◌else◌};
+ghost use Rattle.std.specs.Prelude.{◌≡◌, [], map, filter};
 ghost use Rattle.std.specs.Iterator.{YieldsFirstBy, item_count};
 ghost use Rattle.serde_json.specs.View.{view};
 ghost use Rattle.ref_draft.specs.Keywords.{holding, is_left_out};
-ghost use Rattle.ref_draft.specs.Children.{held, subresources};
+ghost use Rattle.ref_draft.specs.Children.{held, is_given, subresources};
 ghost use Rattle.ref_draft.specs.Views.{inner_left, objects_of, values_left};
 ghost use Rattle.std.specs.Borrow.{Bor};
 ghost use Rattle.serde_json.specs.declared.value.Value.{Value};
@@ -76,12 +76,14 @@ pub enum ChildIterInner<'a> {
 impl<'a> ChildIterInner<'a> {
     // The values under a keyword of the draft: in 2019-09 none under `dependencies`.
     fn under(draft: Draft, keyword: &str, value: &'a Value) -> Self
-        ensures { inner_left result ≡ (if is_left_out draft keyword.now then [] else map (λ child. child.1) (held (holding draft keyword.now) keyword.now (view value.now))) }
+        ensures { inner_left result ≡ map (λ child. child.1)
+            (filter (is_given draft) (held (holding draft keyword.now) keyword.now (view value.now))) }
     {
-        if matches!(draft, Draft::Draft201909) && keyword == "dependencies" {
-            return ChildIterInner::Empty;
+        if is_left_out(draft, keyword) {
+            ChildIterInner::Empty
+        } else {
+            ChildIterInner::held(draft.holding(keyword), keyword, value)
         }
-        ChildIterInner::held(draft.holding(keyword), keyword, value)
     }
 
     fn held(holding: Holding, keyword: &str, value: &'a Value) -> Self
@@ -131,6 +133,16 @@ impl<'a> Iterator for ChildIterInner<'a> {
             ChildIterInner::FilteredObject(values) => next_object(values),
             ChildIterInner::Empty => None,
         }
+    }
+}
+
+// Whether nothing under the keyword is given: in 2019-09 under `dependencies`.
+fn is_left_out(draft: Draft, keyword: &str) -> bool
+    ensures { result ≡ is_left_out draft keyword.now }
+{
+    match draft {
+        Draft::Draft201909 => keyword == "dependencies",
+        _ => false,
     }
 }
 

@@ -4,7 +4,7 @@ ghost use Rattle.ref_parts.specs.Path.{Key};
 ghost use Rattle.serde_json.specs.View.{view, items_view, members_view};
 ghost use Rattle.ref_draft.specs.Keywords.{holding};
 ghost use Rattle.ref_draft.specs.Children.{walked, with_draft, held, elements_from, each_member, has_object};
-ghost use Rattle.ref_draft.specs.Views.{walked_child, parts_of};
+ghost use Rattle.ref_draft.specs.Views.{Adds, parts_of, walked_child};
 
 use crate::draft::Draft;
 use crate::spec::Holding;
@@ -49,7 +49,9 @@ fn push_held<'a>(
     keyword: &'a str,
     value: &'a Value,
 ) -> Result<(), AllocError>
-    ensures { OnOk result (map walked_child children.new.items ≡ map walked_child children.old.items ++ map (with_draft draft) (held (holding draft keyword.now) keyword.now (view value.now))) }
+    ensures { OnOk result
+        (Adds draft (held (holding draft keyword.now) keyword.now (view value.now))
+        children.old.items children.new.items) }
 {
     match draft.holding(keyword) {
         Holding::Whole => push(children, draft, keyword, None, value),
@@ -81,7 +83,9 @@ fn push_elements<'a>(
     keyword: &'a str,
     items: &'a [Value],
 ) -> Result<(), AllocError>
-    ensures { OnOk result (map walked_child children.new.items ≡ map walked_child children.old.items ++ map (with_draft draft) (elements_from keyword.now 0 (items_view items.now))) }
+    ensures { OnOk result
+        (Adds draft (elements_from keyword.now 0 (items_view items.now))
+        children.old.items children.new.items) }
 {
     for (index, item) in items.iter().enumerate() {
         push(children, draft, keyword, Some(index.into()), item)?;
@@ -96,7 +100,9 @@ fn push_members<'a>(
     keyword: &'a str,
     members: &'a Map<String, Value>,
 ) -> Result<(), AllocError>
-    ensures { OnOk result (map walked_child children.new.items ≡ map walked_child children.old.items ++ map (with_draft draft) (each_member keyword.now (members_view members.now.entries))) }
+    ensures { OnOk result
+        (Adds draft (each_member keyword.now (members_view members.now.entries))
+        children.old.items children.new.items) }
 {
     for (key, member) in members {
         push(children, draft, keyword, Some(key.as_str().into()), member)?;
@@ -111,7 +117,9 @@ fn push_object_members<'a>(
     keyword: &'a str,
     members: &'a Map<String, Value>,
 ) -> Result<(), AllocError>
-    ensures { OnOk result (map walked_child children.new.items ≡ map walked_child children.old.items ++ map (with_draft draft) (filter has_object (each_member keyword.now (members_view members.now.entries)))) }
+    ensures { OnOk result
+        (Adds draft (filter has_object (each_member keyword.now (members_view members.now.entries)))
+        children.old.items children.new.items) }
 {
     for (key, member) in members {
         push_object(children, draft, keyword, Some(key.as_str().into()), member)?;
@@ -127,7 +135,9 @@ fn push_object<'a>(
     segment: Option<JsonPointerSegment<'a>>,
     value: &'a Value,
 ) -> Result<(), AllocError>
-    ensures { OnOk result (map walked_child children.new.items ≡ map walked_child children.old.items ++ map (with_draft draft) (filter has_object ((Key keyword.now ∷ parts_of segment.entry, view value.now) ∷ []))) }
+    ensures { OnOk result
+        (Adds draft (filter has_object ((Key keyword.now ∷ parts_of segment.entry, view value.now) ∷ []))
+        children.old.items children.new.items) }
 {
     if value.is_object() {
         push(children, draft, keyword, segment, value)?;
@@ -143,7 +153,9 @@ fn push<'a>(
     segment: Option<JsonPointerSegment<'a>>,
     value: &'a Value,
 ) -> Result<(), AllocError>
-    ensures { OnOk result (map walked_child children.new.items ≡ map walked_child children.old.items ++ with_draft draft (Key keyword.now ∷ parts_of segment.entry, view value.now) ∷ []) }
+    ensures { OnOk result
+        (Adds draft ((Key keyword.now ∷ parts_of segment.entry, view value.now) ∷ [])
+        children.old.items children.new.items) }
 {
     let draft = draft.detect(value);
     children.push(Child {

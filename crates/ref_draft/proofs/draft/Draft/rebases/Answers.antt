@@ -1,4 +1,4 @@
-use Rattle.std.proofs.Common.{◌≡◌, ◌∙◌, ap, true, sym}
+use Rattle.std.proofs.Common.{◌≡◌, ◌∙◌, ap, sym}
 use Rattle.serde_json.specs.View.{view}
 use Rattle.ref_draft.specs.Children.{is_object}
 use Rattle.ref_draft.specs.ScanSteps.{scan}

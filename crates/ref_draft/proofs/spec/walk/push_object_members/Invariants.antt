@@ -1,11 +1,8 @@
-use Rattle.std.proofs.Common.{◌≡◌, ◌++◌, map, drop, length, List, [], ◌∷◌}
-use Rattle.std.specs.Option.{option_map_or}
-use Rattle.std.specs.Slice.Iter.{iter_rest}
+use Rattle.std.proofs.Common.{◌≡◌, ◌++◌, map}
 use Rattle.std.specs.List.{filter}
-use Rattle.serde_json.specs.View.{view, items_view, members_view}
-use Rattle.ref_draft.specs.Children.{with_draft, below, elements_from, each_member, has_object}
-use Rattle.ref_draft.specs.ScanSteps.{scan}
-use Rattle.ref_draft.specs.Views.{walked_child, objects_of, values_left, part_of}
+use Rattle.serde_json.specs.View.{members_view}
+use Rattle.ref_draft.specs.Children.{with_draft, each_member, has_object}
+use Rattle.ref_draft.specs.Views.{walked_child}
 use Rattle.ref_draft.proofs.spec.walk.push_object_members.Given as goal
 
 abbrev pub invariant-loop-key : goal.invariant-loop-key

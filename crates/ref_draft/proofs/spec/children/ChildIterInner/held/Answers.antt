@@ -1,4 +1,4 @@
-use Rattle.std.proofs.Common.{◌≡◌, ◌∙◌, map, ap}
+use Rattle.std.proofs.Common.{◌∙◌, map, ap}
 use Rattle.serde_json.specs.View.{view}
 use Rattle.ref_draft.specs.Views.{objects_of}
 use Rattle.ref_draft.proofs.Held.{values-elements, values-members, values-objects}
