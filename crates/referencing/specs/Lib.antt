@@ -1,0 +1,13 @@
+pub mod Fault
+pub mod World
+pub mod Places
+pub mod Bearing
+pub mod Anchors
+pub mod Wants
+pub mod Preparing
+pub mod Bases
+pub mod Pointers
+pub mod Lookup
+pub mod Recursive
+pub mod Follow
+pub mod Vocabularies

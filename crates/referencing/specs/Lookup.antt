@@ -1,0 +1,97 @@
+-- Where a reference leads (2020-12 Core, 8.2.3).
+use Rattle.std.specs.Prelude.{ℕ, Bool, true, false, not, ◌||◌, ◌==◌, List, [], ◌∷◌, length, bytes_eq, Option, Some, None, Result, Ok, Err, if◌then◌else◌}
+use Rattle.serde_json.specs.Data.{Data}
+use Rattle.ref_draft.specs.declared.draft.Draft.{Draft}
+use Rattle.ref_draft.specs.Schema.{identifier}
+use Rattle.ref_draft.specs.Anchors.{Kind, Plain, Dynamic}
+use Rattle.ref_uri.specs.Targets.{Refusal, target, fragment_part, against}
+use Rattle.referencing.specs.World.{World}
+use Rattle.referencing.specs.Places.{Place}
+use Rattle.referencing.specs.Bearing.{means, last_of}
+use Rattle.referencing.specs.Anchors.{Named, anchor}
+use Rattle.referencing.specs.Fault.{Fault, NoSuchAnchor, InvalidUri, not_retrieved}
+use Rattle.referencing.specs.Bases.{Along}
+use Rattle.referencing.specs.Pointers.{◌>>=◌, as_invalid_uri, or_fault, pointed}
+
+-- where a lookup starts from: the base URI, and the dynamic scope, inner to outer
+pub record Resolver : Type 0 where
+  pub base : List ℕ
+  pub scope : List (List ℕ)
+
+-- what a lookup answers
+pub record Found : Type 0 where
+  pub value : Data
+  pub draft : Draft
+  pub resolver : Resolver
+
+-- at a URI: the old base goes in front of the scope where the scope was empty or the base changes
+abbrev pub moved : Resolver → List ℕ → Resolver
+moved r uri = record {
+  base = uri;
+  scope = (if (length r.scope == 0) || not (bytes_eq uri r.base) then r.base ∷ r.scope else r.scope);
+}
+
+-- a value's identifier changes the base and nothing else
+abbrev pub in_subresource : Resolver → Draft → Data → Result Resolver Refusal
+in_subresource r draft value = by_identifier (identifier draft value)
+  where
+    at_base : Result (List ℕ) Refusal → Result Resolver Refusal
+    at_base (Ok uri) = Ok (record r { base = uri })
+    at_base (Err refusal) = Err refusal
+    by_identifier : Option (List ℕ) → Result Resolver Refusal
+    by_identifier None = Ok r
+    by_identifier (Some id) = at_base (against r.base id)
+
+-- the anchors of a name in the scope, each under its URI: one that isn't there is passed over, another fault ends it
+abbrev pub with_entry : List ℕ → Result Named Fault → Result (List (List ℕ × Named)) Fault → Result (List (List ℕ × Named)) Fault
+with_entry uri (Ok n) (Ok entries) = Ok ((uri, n) ∷ entries)
+with_entry uri (Ok n) (Err fault) = Err fault
+with_entry uri (Err (NoSuchAnchor name)) rest = rest
+with_entry uri (Err fault) rest = Err fault
+
+abbrev pub in_scope : World → List ℕ → List (List ℕ) → Result (List (List ℕ × Named)) Fault
+in_scope world name [] = Ok []
+in_scope world name (uri ∷ scope) = with_entry uri (anchor world uri name) (in_scope world name scope)
+
+abbrev pub is_dynamic : Kind → Bool
+is_dynamic Plain = false
+is_dynamic Dynamic = true
+
+-- the outermost dynamic entry, or what was found first (2020-12 Core, 8.2.3.2)
+abbrev pub outermost : List ℕ × Named → List (List ℕ × Named) → List ℕ × Named
+outermost first [] = first
+outermost first (e ∷ entries) = outermost (if is_dynamic e.1.kind then e else first) entries
+
+-- a dynamic anchor: the outermost of the scope, whose identifier is resolved where it was found
+abbrev pub dynamically : World → Resolver → Named → Result Found Fault
+dynamically world r first =
+    in_scope world first.name r.scope >>= λ entries. at (outermost (r.base, first) entries)
+  where
+    at : List ℕ × Named → Result Found Fault
+    at (uri, n) =
+        as_invalid_uri (in_subresource (record r { base = uri }) n.place.draft n.place.value)
+        >>= λ moved. Ok (record { value = n.place.value; draft = n.place.draft; resolver = moved })
+
+-- a plain anchor answers its place
+abbrev pub named_found : World → Resolver → Named → Kind → Result Found Fault
+named_found world r n Plain = Ok (record { value = n.place.value; draft = n.place.draft; resolver = r })
+named_found world r n Dynamic = dynamically world r n
+
+-- what a fragment means in the resource at a place: the resource, what a pointer leads to, or what an anchor names
+abbrev pub at_fragment : World → Resolver → Place → List ℕ → Result Found Fault
+at_fragment world r p [] = Ok (record { value = p.value; draft = p.draft; resolver = r })
+at_fragment world r p (c ∷ text) = if c == 47 then by_pointer (pointed p.draft (c ∷ text) r.base p.value text) else by_name (anchor world r.base (c ∷ text))
+  where
+    by_pointer : Result (Data × Along) Fault → Result Found Fault
+    by_pointer (Ok found) = Ok (record { value = found.0; draft = p.draft; resolver = record r { base = found.1.base } })
+    by_pointer (Err fault) = Err fault
+    by_name : Result Named Fault → Result Found Fault
+    by_name (Ok n) = named_found world r n n.kind
+    by_name (Err fault) = Err fault
+
+-- where a reference leads from a resolver
+unfoldable pub lookup : World → Resolver → List ℕ → Result Found Fault
+lookup world r reference =
+    as_invalid_uri (target r.base reference)
+    >>= λ uri. or_fault (means world uri) (not_retrieved uri)
+    >>= λ place. at_fragment world (moved r uri) place (fragment_part reference)

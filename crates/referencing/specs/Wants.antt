@@ -1,0 +1,78 @@
+-- What the documents of a layer want, and what is wrong with them.
+use Rattle.std.specs.Prelude.{ℕ, Bool, true, false, if◌then◌else◌, List, [], ◌∷◌, ◌++◌, flat_map, filter, not, codes, Option, Some, None, Result, Ok, Err, is_some, option_and_then}
+use Rattle.std.specs.Option.{option_map_or}
+use Rattle.serde_json.specs.Data.{Data}
+use Rattle.ref_draft.specs.declared.draft.Draft.{Draft}
+use Rattle.ref_draft.specs.declared.draft.Draft.TheVariants.{Draft4, Draft6, Draft7, Draft201909, Draft202012, Unknown}
+use Rattle.ref_draft.specs.Schema.{text_under, from_schema_uri}
+use Rattle.ref_uri.specs.Reference.{with_fragment}
+use Rattle.ref_uri.specs.Targets.{Refusal, target, parsed}
+use Rattle.referencing.specs.World.{Layer, World, Document}
+use Rattle.referencing.specs.Places.{Place, places}
+use Rattle.referencing.specs.Bearing.{means}
+
+-- why a URI is wanted: a schema refers to it, or names it as its meta-schema
+pub data Cause : Type 0 where
+  Reference : Cause
+  MetaSchema : Cause
+
+pub record Want : Type 0 where
+  pub cause : Cause
+  pub uri : List ℕ
+
+abbrev pub is_unknown : Draft → Bool
+is_unknown Draft4 = false
+is_unknown Draft6 = false
+is_unknown Draft7 = false
+is_unknown Draft201909 = false
+is_unknown Draft202012 = false
+is_unknown Unknown = true
+
+-- the URI of a text that names a meta-schema of no known draft: its fragment takes no part
+abbrev pub schema_uri : List ℕ → Option (Result (List ℕ) Refusal)
+schema_uri text = if is_unknown (from_schema_uri text) then Some (without_fragment (parsed text)) else None
+  where
+    without_fragment : Result (List ℕ) Refusal → Result (List ℕ) Refusal
+    without_fragment (Ok uri) = Ok (with_fragment uri None)
+    without_fragment (Err refusal) = Err refusal
+
+-- what a place's text under `$ref` refers to, and what its `$schema` names, where its base is known
+abbrev pub reference_at : List ℕ → Data → Option (Result (List ℕ) Refusal)
+reference_at base value = option_map_or (λ r. Some (target base r)) (text_under (codes "$ref") value) None
+
+abbrev pub schema_at : Data → Option (Result (List ℕ) Refusal)
+schema_at value = option_and_then schema_uri (text_under (codes "$schema") value)
+
+abbrev pub wanted : Cause → Option (Result (List ℕ) Refusal) → List Want
+wanted cause None = []
+wanted cause (Some (Ok uri)) = record { cause = cause; uri = uri } ∷ []
+wanted cause (Some (Err refusal)) = []
+
+abbrev pub refused : Option (Result (List ℕ) Refusal) → List Refusal
+refused None = []
+refused (Some (Ok uri)) = []
+refused (Some (Err refusal)) = refusal ∷ []
+
+-- a place wants what it refers to, then its meta-schema
+abbrev pub wants_at : Result (List ℕ) Refusal → Data → List Want
+wants_at (Ok base) value = wanted Reference (reference_at base value) ++ wanted MetaSchema (schema_at value)
+wants_at (Err refusal) value = []
+
+-- a place's faults: its identifier, its reference, its meta-schema
+abbrev pub faults_at : Result (List ℕ) Refusal → Data → List Refusal
+faults_at (Ok base) value = refused (reference_at base value) ++ refused (schema_at value)
+faults_at (Err refusal) value = refusal ∷ []
+
+-- by documents and places
+abbrev pub wants : Layer → List Want
+wants layer = flat_map (λ d. flat_map (λ p. wants_at p.base p.value) (places d)) layer
+
+abbrev pub faults : Layer → List Refusal
+faults layer = flat_map (λ d. flat_map (λ p. faults_at p.base p.value) (places d)) layer
+
+-- a want is open where its URI means no place
+abbrev pub is_open : World → Want → Bool
+is_open world want = not (is_some (means world want.uri))
+
+abbrev pub open_wants : World → Layer → List Want
+open_wants world layer = filter (is_open world) (wants layer)
