@@ -109,9 +109,9 @@ module _ {K V : Type 0} {eq : K → K → Bool} (laws : IsEquivalence eq) where
   pub Puts-push : (xs : List (K × V)) (key : K) (value : V) → lookup (eq key) xs ≡ None → Puts eq xs (xs ++ (key, value) ∷ []) key value
   Puts-push xs key value none = record {
     found = λ q. ⊎_elim
-      (λ (e : eq key q ≡ true). lookup-append_none (eq q) xs ((key, value) ∷ []) (alike key q e xs ∙ none) ∙ own key q value [] e ∙ sym (cond-true (eq key q) _ _ e))
-      (λ (e : eq key q ≡ false). lookup-append_same (eq q) xs ((key, value) ∷ []) [] (other (key, value) q [] e) ∙ ap (lookup (eq q)) (append-nil xs) ∙ sym (cond-false (eq key q) _ _ e))
-      (cases_Bool (eq key q));
+        (λ (e : eq key q ≡ true). lookup-append_none (eq q) xs ((key, value) ∷ []) (alike key q e xs ∙ none) ∙ own key q value [] e ∙ sym (cond-true (eq key q) _ _ e))
+        (λ (e : eq key q ≡ false). lookup-append_same (eq q) xs ((key, value) ∷ []) [] (other (key, value) q [] e) ∙ ap (lookup (eq q)) (append-nil xs) ∙ sym (cond-false (eq key q) _ _ e))
+        (cases_Bool (eq key q));
     count = length-append xs ((key, value) ∷ []) ∙ sym (ap (λ o. length xs + cond (is_some o) 0 1) none);
   }
 
@@ -119,23 +119,23 @@ module _ {K V : Type 0} {eq : K → K → Bool} (laws : IsEquivalence eq) where
   pub Puts-at : (xs ys : List (K × V)) (old : K × V) (key : K) (value : V) → lookup (eq key) xs ≡ None → eq key old.0 ≡ true → Puts eq (xs ++ old ∷ ys) (xs ++ (key, value) ∷ ys) key value
   Puts-at xs ys old key value none here = record {
     found = λ q. ⊎_elim
-      (λ (e : eq key q ≡ true). lookup-append_none (eq q) xs ((key, value) ∷ ys) (alike key q e xs ∙ none) ∙ own key q value ys e ∙ sym (cond-true (eq key q) _ _ e))
-      (λ (e : eq key q ≡ false).
+        (λ (e : eq key q ≡ true). lookup-append_none (eq q) xs ((key, value) ∷ ys) (alike key q e xs ∙ none) ∙ own key q value ys e ∙ sym (cond-true (eq key q) _ _ e))
+        (λ (e : eq key q ≡ false).
         lookup-append_same (eq q) xs ((key, value) ∷ ys) (old ∷ ys) (other (key, value) q ys e ∙ sym (other old q ys (sym (laws.congr key old.0 q here) ∙ e)))
         ∙ sym (cond-false (eq key q) _ _ e))
-      (cases_Bool (eq key q));
+        (cases_Bool (eq key q));
     count =
-      let has = lookup-append_none (eq key) xs (old ∷ ys) none ∙ cond-true (eq key old.0) (Some old.1) (lookup (eq key) ys) here in
-      length-append xs ((key, value) ∷ ys) ∙ sym (ap (λ o. length (xs ++ old ∷ ys) + cond (is_some o) 0 1) has ∙ add-zero _ ∙ length-append xs (old ∷ ys));
+        let has = lookup-append_none (eq key) xs (old ∷ ys) none ∙ cond-true (eq key old.0) (Some old.1) (lookup (eq key) ys) here in
+        length-append xs ((key, value) ∷ ys) ∙ sym (ap (λ o. length (xs ++ old ∷ ys) + cond (is_some o) 0 1) has ∙ add-zero _ ∙ length-append xs (old ∷ ys));
   }
 
   -- where a look-up finds nothing, each key is another
   pub lookup-head_none : (q : K) (e : K × V) (es : List (K × V)) → lookup (eq q) (e ∷ es) ≡ None → (eq q e.0 ≡ false) × (lookup (eq q) es ≡ None)
   lookup-head_none q e es =
-    elim (eq q e.0) as (λ b. cond b (Some e.1) (lookup (eq q) es) ≡ None → (b ≡ false) × (lookup (eq q) es ≡ None)) [
-      | true ↦ λ none. absurd (cc)
-      | false ↦ λ none. (refl, none)
-    ]
+      elim (eq q e.0) as (λ b. cond b (Some e.1) (lookup (eq q) es) ≡ None → (b ≡ false) × (lookup (eq q) es ≡ None)) [
+        | true ↦ λ none. absurd (cc)
+        | false ↦ λ none. (refl, none)
+      ]
 
   lookup-head_from : (q : K) (e : K × V) (es : List (K × V)) → eq q e.0 ≡ false → lookup (eq q) es ≡ None → lookup (eq q) (e ∷ es) ≡ None
   lookup-head_from q e es apart none = cond-false (eq q e.0) _ _ apart ∙ none
@@ -143,17 +143,18 @@ module _ {K V : Type 0} {eq : K → K → Bool} (laws : IsEquivalence eq) where
   pub EachOnce-push : (xs : List (K × V)) (key : K) (value : V) → EachOnce eq xs → lookup (eq key) xs ≡ None → EachOnce eq (xs ++ (key, value) ∷ [])
   EachOnce-push [] key value once none = (refl, tt)
   EachOnce-push (e ∷ xs) key value once none =
-    let parts = lookup-head_none key e xs none in
-    (lookup-append_none (eq e.0) xs ((key, value) ∷ []) once.0 ∙ cond-false (eq e.0 key) _ _ (laws.symm e.0 key ∙ parts.0),
-     EachOnce-push xs key value once.1 parts.1)
+      let parts = lookup-head_none key e xs none in (
+        lookup-append_none (eq e.0) xs ((key, value) ∷ []) once.0 ∙ cond-false (eq e.0 key) _ _ (laws.symm e.0 key ∙ parts.0),
+        EachOnce-push xs key value once.1 parts.1,
+      )
 
   pub EachOnce-pop : (xs : List (K × V)) (e : K × V) → EachOnce eq (xs ++ e ∷ []) → EachOnce eq xs × (lookup (eq e.0) xs ≡ None)
   EachOnce-pop [] e once = (tt, refl)
   EachOnce-pop (x ∷ xs) e once =
-    let rest = EachOnce-pop xs e once.1 in
-    let here = none-append (eq x.0) xs (e ∷ []) once.0 in
-    let apart = (lookup-head_none x.0 e [] here.1).0 in
-    ((here.0, rest.0), lookup-head_from e.0 x xs (laws.symm e.0 x.0 ∙ apart) rest.1)
+      let rest = EachOnce-pop xs e once.1 in
+      let here = none-append (eq x.0) xs (e ∷ []) once.0 in
+      let apart = (lookup-head_none x.0 e [] here.1).0 in
+      ((here.0, rest.0), lookup-head_from e.0 x xs (laws.symm e.0 x.0 ∙ apart) rest.1)
 
   pub Lacks-pop : (map xs : List (K × V)) (e : K × V) → Lacks eq map (xs ++ e ∷ []) → Lacks eq map xs × (lookup (eq e.0) map ≡ None)
   Lacks-pop map [] e lacks = (tt, lacks.0)
@@ -167,21 +168,22 @@ module _ {K V : Type 0} {eq : K → K → Bool} (laws : IsEquivalence eq) where
   pub Lacks-puts : (old new : List (K × V)) (key : K) (value : V) (xs : List (K × V)) → Puts eq old new key value → lookup (eq key) xs ≡ None → Lacks eq old xs → Lacks eq new xs
   Lacks-puts old new key value [] puts none lacks = tt
   Lacks-puts old new key value (x ∷ xs) puts none lacks =
-    let parts = lookup-head_none key x xs none in
-    (puts.found x.0 ∙ cond-false (eq key x.0) _ _ parts.0 ∙ lacks.0, Lacks-puts old new key value xs puts parts.1 lacks.1)
+      let parts = lookup-head_none key x xs none in
+      (puts.found x.0 ∙ cond-false (eq key x.0) _ _ parts.0 ∙ lacks.0, Lacks-puts old new key value xs puts parts.1 lacks.1)
 
   -- a pair moved from behind the slots into the map
   pub moved_turn : (xs old new : List (K × V)) (e : K × V) (q : K) → Puts eq old new e.0 e.1 → lookup (eq q) (xs ++ new) ≡ lookup (eq q) ((xs ++ e ∷ []) ++ old)
   moved_turn xs old new e q puts =
-    lookup-append_same (eq q) xs new (e ∷ old) (puts.found q ∙ ap (λ b. cond b (Some e.1) (lookup (eq q) old)) (laws.symm e.0 q))
-    ∙ ap (lookup (eq q)) (sym (append_assoc xs (e ∷ []) old))
+      lookup-append_same (eq q) xs new (e ∷ old) (puts.found q ∙ ap (λ b. cond b (Some e.1) (lookup (eq q) old)) (laws.symm e.0 q))
+      ∙ ap (lookup (eq q)) (sym (append_assoc xs (e ∷ []) old))
 
   pub EachOnce-at : (xs ys : List (K × V)) (old : K × V) (key : K) (value : V) → lookup (eq key) xs ≡ None → eq key old.0 ≡ true → EachOnce eq (xs ++ old ∷ ys) → EachOnce eq (xs ++ (key, value) ∷ ys)
   EachOnce-at [] ys old key value none here once = (alike old.0 key (laws.symm old.0 key ∙ here) ys ∙ once.0, once.1)
   EachOnce-at (x ∷ xs) ys old key value none here once =
-    let parts = lookup-head_none key x xs none in
-    ((Puts-at xs ys old key value parts.1 here).found x.0 ∙ cond-false (eq key x.0) _ _ parts.0 ∙ once.0,
-     EachOnce-at xs ys old key value parts.1 here once.1)
+      let parts = lookup-head_none key x xs none in (
+        (Puts-at xs ys old key value parts.1 here).found x.0 ∙ cond-false (eq key x.0) _ _ parts.0 ∙ once.0,
+        EachOnce-at xs ys old key value parts.1 here once.1,
+      )
 
   -- maps that answer alike take a pair alike
   pub Puts-over : (old same new : List (K × V)) (key : K) (value : V) → ((q : K) → lookup (eq q) same ≡ lookup (eq q) old) → length same ≡ length old → Puts eq same new key value → Puts eq old new key value
@@ -202,13 +204,13 @@ module _ {K V : Type 0} {eq : K → K → Bool} (laws : IsEquivalence eq) where
   -- a pair in the slot of an equal key
   pub Puts-slot_at : (front back : List (Option (K × V))) (old : K × V) (key : K) (value : V) → lookup (eq key) (pairs front) ≡ None → eq key old.0 ≡ true → Puts eq (pairs (front ++ Some old ∷ back)) (pairs (front ++ Some (key, value) ∷ back)) key value
   Puts-slot_at front back old key value none here =
-    subst (λ was. Puts eq was (pairs (front ++ Some (key, value) ∷ back)) key value) (sym (pairs-append front (Some old ∷ back)))
-    (subst (λ new. Puts eq (pairs front ++ old ∷ pairs back) new key value) (sym (pairs-append front (Some (key, value) ∷ back))) (Puts-at (pairs front) (pairs back) old key value none here))
+      subst (λ was. Puts eq was (pairs (front ++ Some (key, value) ∷ back)) key value) (sym (pairs-append front (Some old ∷ back)))
+      (subst (λ new. Puts eq (pairs front ++ old ∷ pairs back) new key value) (sym (pairs-append front (Some (key, value) ∷ back))) (Puts-at (pairs front) (pairs back) old key value none here))
 
   pub EachOnce-slot_at : (front back : List (Option (K × V))) (old : K × V) (key : K) (value : V) → lookup (eq key) (pairs front) ≡ None → eq key old.0 ≡ true → EachOnce eq (pairs (front ++ Some old ∷ back)) → EachOnce eq (pairs (front ++ Some (key, value) ∷ back))
   EachOnce-slot_at front back old key value none here once =
-    subst (EachOnce eq) (sym (pairs-append front (Some (key, value) ∷ back)))
-    (EachOnce-at (pairs front) (pairs back) old key value none here (subst (EachOnce eq) (pairs-append front (Some old ∷ back)) once))
+      subst (EachOnce eq) (sym (pairs-append front (Some (key, value) ∷ back)))
+      (EachOnce-at (pairs front) (pairs back) old key value none here (subst (EachOnce eq) (pairs-append front (Some old ∷ back)) once))
 
 pub no_slots : {X : Type 0} (xs : List X) → (0 < length xs → ⊥) → xs ≡ []
 no_slots [] none = refl

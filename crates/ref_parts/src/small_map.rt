@@ -151,7 +151,6 @@ impl<K: Eq + Hash + Clone + Drop, V: Clone + Drop, const N: usize> SmallMap<K, V
     }
 }
 
-
 impl<K: Eq + Hash, V, const N: usize> Default for SmallMap<K, V, N> {
     ghost is_default = { λ map. map ≡ [] };
 

@@ -1,6 +1,7 @@
 //! The shared list and the small map.
 
 use crate::list::List;
+use crate::small_map::{BorrowedKey, SmallMap};
 use std::alloc::{AllocError, Global};
 use std::hash::{DefaultHasher, Hash, Hasher};
 use std::rc::Rc;
@@ -73,5 +74,90 @@ fn a_list_of_a_million_items_is_dropped(rt: HostRuntime) -> Result<(), Fail> {
         count = count.saturating_add(1);
     }
     assert_eq!(rt; count, 1_000_000);
+    Ok(())
+}
+
+// The value at a key, through the bound alone.
+fn value_at<K: Eq + Hash, Q: BorrowedKey<K>>(map: &SmallMap<K, u32, 2>, key: Q) -> Option<u32> {
+    map.get(key).copied()
+}
+
+#[test]
+fn a_map_answers_by_key(rt: HostRuntime) -> Result<(), Fail> {
+    let alloc = rt.alloc();
+    let mut map: SmallMap<String, u32, 2> = SmallMap::new();
+    assert!(rt; map.is_small());
+    map.insert(alloc, String::from_str(alloc, "key")?, 1)?;
+    map.insert(alloc, String::from_str(alloc, "key")?, 2)?;
+    assert_eq!(rt; value_at(&map, "key"), Some(2));
+    assert_eq!(rt; value_at(&map, "missing"), None);
+    assert_eq!(rt; value_at(&map, &String::from_str(alloc, "key")?), Some(2));
+    assert_eq!(rt; format!(in alloc; "{map:?}")?.as_str(), "{\"key\": 2}");
+    let empty: SmallMap<u32, u32, 2> = SmallMap::default();
+    assert_eq!(rt; value_at(&empty, &1), None);
+    Ok(())
+}
+
+#[test]
+fn a_map_is_small_up_to_its_bound(rt: HostRuntime) -> Result<(), Fail> {
+    let alloc = rt.alloc();
+    let mut map: SmallMap<u32, u32, 2> = SmallMap::new();
+    map.insert(alloc, 1, 10)?;
+    map.insert(alloc, 2, 20)?;
+    assert!(rt; map.is_small());
+    map.insert(alloc, 2, 21)?;
+    assert!(rt; map.is_small());
+    map.insert(alloc, 3, 30)?;
+    assert!(rt; !map.is_small());
+    for (key, value) in [(1, Some(10)), (2, Some(21)), (3, Some(30)), (4, None)] {
+        assert_eq!(rt; map.get(&key).copied(), value, "at {key}");
+    }
+    map.insert(alloc, 1, 11)?;
+    assert_eq!(rt; map.get(&1).copied(), Some(11));
+    Ok(())
+}
+
+#[test]
+fn copies_of_maps_stand_alone(rt: HostRuntime) -> Result<(), Fail> {
+    let alloc = rt.alloc();
+    let mut small: SmallMap<u32, u32, 4> = SmallMap::new();
+    for key in 0..4u32 {
+        small.insert(alloc, key, key.saturating_mul(10))?;
+    }
+    assert!(rt; small.is_small());
+    let mut large = small.clone()?;
+    large.insert(alloc, 4, 40)?;
+    assert!(rt; !large.is_small());
+    assert!(rt; small.is_small());
+    assert_eq!(rt; small.get(&4).copied(), None);
+    let copy = large.clone()?;
+    large.insert(alloc, 0, 7)?;
+    for key in 0..5u32 {
+        assert_eq!(rt;
+            copy.get(&key).copied(),
+            Some(key.saturating_mul(10)),
+            "at {key}"
+        );
+    }
+    assert_eq!(rt; large.get(&0).copied(), Some(7));
+    Ok(())
+}
+
+#[test]
+fn a_map_holds_maps(rt: HostRuntime) -> Result<(), Fail> {
+    let alloc = rt.alloc();
+    let mut one: SmallMap<String, u32, 2> = SmallMap::new();
+    one.insert(alloc, String::from_str(alloc, "a")?, 10)?;
+    one.insert(alloc, String::from_str(alloc, "b")?, 20)?;
+    let mut two: SmallMap<String, u32, 2> = SmallMap::new();
+    two.insert(alloc, String::from_str(alloc, "c")?, 30)?;
+    let mut map: SmallMap<u32, SmallMap<String, u32, 2>, 2> = SmallMap::new();
+    map.insert(alloc, 1, one)?;
+    map.insert(alloc, 2, two)?;
+    let one = map.get(&1).ok_or("no first map")?;
+    assert_eq!(rt; value_at(one, "a"), Some(10));
+    assert_eq!(rt; value_at(one, "b"), Some(20));
+    let two = map.get(&2).ok_or("no second map")?;
+    assert_eq!(rt; value_at(two, "c"), Some(30));
     Ok(())
 }

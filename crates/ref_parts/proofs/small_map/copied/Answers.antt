@@ -7,20 +7,20 @@ pub returns-in_ok-clone-in-Small-clause-same : goal.returns-in_ok-clone-in-Small
 returns-in_ok-clone-in-Small-clause-same g c =
     let slots = c.in-Small.slots.items in
     let same : c.in_ok-clone-in-Small.field-0.items ≡ slots = same_from_all_zip _ slots c.in_ok-clone-in-Small.field-0.items c.in_ok-clone-in-Small.ensures.cases
-        (elim [
-          | None ↦ elim [ None ↦ λ h. refl | Some b ↦ λ h. absurd h ]
-          | Some a ↦ elim [ None ↦ λ h. absurd h | Some b ↦ λ h i. Some (c.requires.keys a.0 b.0 h.0 i, c.requires.values a.1 b.1 h.1 i) ]
-        ]) in
+    (elim [
+      | None ↦ elim [ None ↦ λ h. refl | Some b ↦ λ h. absurd h ]
+      | Some a ↦ elim [ None ↦ λ h. absurd h | Some b ↦ λ h i. Some (c.requires.keys a.0 b.0 h.0 i, c.requires.values a.1 b.1 h.1 i) ]
+    ]) in
     ap pairs same ∙ sym (ap entries_of c.in-Small.is)
 
 pub returns-in_ok-clone-in-Small-clause-kept : goal.returns-in_ok-clone-in-Small-clause-kept
 returns-in_ok-clone-in-Small-clause-kept g c =
     let slots = c.in-Small.slots.items in
     let same : c.in_ok-clone-in-Small.field-0.items ≡ slots = same_from_all_zip _ slots c.in_ok-clone-in-Small.field-0.items c.in_ok-clone-in-Small.ensures.cases
-        (elim [
-          | None ↦ elim [ None ↦ λ h. refl | Some b ↦ λ h. absurd h ]
-          | Some a ↦ elim [ None ↦ λ h. absurd h | Some b ↦ λ h i. Some (c.requires.keys a.0 b.0 h.0 i, c.requires.values a.1 b.1 h.1 i) ]
-        ]) in
+    (elim [
+      | None ↦ elim [ None ↦ λ h. refl | Some b ↦ λ h. absurd h ]
+      | Some a ↦ elim [ None ↦ λ h. absurd h | Some b ↦ λ h i. Some (c.requires.keys a.0 b.0 h.0 i, c.requires.values a.1 b.1 h.1 i) ]
+    ]) in
     λ form. let small = rw c.in-Small.is at form in
     (subst AllHold (sym same) small.0, omega (arith, ap length same, small.1), subst (λ s. EachOnce g.K.PartialEq.eq (pairs s)) (sym same) small.2)
 

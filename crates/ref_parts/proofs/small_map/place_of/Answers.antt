@@ -23,8 +23,8 @@ loop-place-preserved g c =
     let test = g.K.PartialEq.eq c.args.key.now in
     let slot = c.index-slots-place.result in
     let here : lookup test (pairs (slot ∷ [])) ≡ None =
-        elim c.match-slot.branch [
-          in-Some+else-eq w ↦ ap (λ s. lookup test (pairs (s ∷ []))) w.in-Some.is ∙ cond-false _ _ _ (sym w.eq.ensures ∙ w.if-eq.false)
-        | in_default w ↦ ap (λ s. lookup test (pairs (s ∷ []))) w.in_default.is
-        ] in
+    elim c.match-slot.branch [
+      | in-Some+else-eq w ↦ ap (λ s. lookup test (pairs (s ∷ []))) w.in-Some.is ∙ cond-false _ _ _ (sym w.eq.ensures ∙ w.if-eq.false)
+      | in_default w ↦ ap (λ s. lookup test (pairs (s ∷ []))) w.in_default.is
+    ] in
     place_turn test c.args.slots.now c.loop-place.place slot c.loop-place-test.true c.index-slots-place.is c.loop-place.invariant here

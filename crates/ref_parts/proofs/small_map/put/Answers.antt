@@ -13,10 +13,11 @@ returns-in-Some-clause-kept g c =
     let i = c.in-Some.place in
     let new = c.set_slot.ensures ∙ set_read slots i (Some (c.args.key, c.args.value)) place.within in
     let hold = subst AllHold place.here.1 form.0 in
-    let once = subst (λ s. EachOnce g.K.PartialEq.eq (pairs s)) place.here.1 form.2 in
-    (subst AllHold (sym new) (AllHold-at (take i slots) (drop (i + 1) slots) place.here.0 (c.args.key, c.args.value) hold),
-     omega (arith, form.1, ap length c.set_slot.ensures, length-set slots i (Some (c.args.key, c.args.value))),
-     subst (λ s. EachOnce g.K.PartialEq.eq (pairs s)) (sym new) (EachOnce-slot_at laws (take i slots) (drop (i + 1) slots) place.here.0 c.args.key c.args.value place.first place.here.2 once))
+    let once = subst (λ s. EachOnce g.K.PartialEq.eq (pairs s)) place.here.1 form.2 in (
+      subst AllHold (sym new) (AllHold-at (take i slots) (drop (i + 1) slots) place.here.0 (c.args.key, c.args.value) hold),
+      omega (arith, form.1, ap length c.set_slot.ensures, length-set slots i (Some (c.args.key, c.args.value))),
+      subst (λ s. EachOnce g.K.PartialEq.eq (pairs s)) (sym new) (EachOnce-slot_at laws (take i slots) (drop (i + 1) slots) place.here.0 c.args.key c.args.value place.first place.here.2 once),
+    )
 
 pub returns-in-Some-clause-ok : goal.returns-in-Some-clause-ok
 returns-in-Some-clause-ok g c =
@@ -35,10 +36,11 @@ pub returns-then-len-clause-kept : goal.returns-then-len-clause-kept
 returns-then-len-clause-kept g c =
     let slots = c.in-Small.slots.items in
     let form = rw c.in-Small.is at c.requires in
-    let none = ap (λ s. lookup (g.K.PartialEq.eq c.args.key) (pairs s)) (sym c.as_slice.ensures.value) ∙ c.in_default.ensures in
-    (subst AllHold (sym c.push.ensures.items) (AllHold-append slots (Some (c.args.key, c.args.value) ∷ []) form.0 tt),
-     omega (arith, c.push.ensures.len, c.len.ensures.value, c.if-len.true),
-     subst (λ s. EachOnce g.K.PartialEq.eq (pairs s)) (sym c.push.ensures.items) (EachOnce-slot_push g.met.K.Eq.laws slots c.args.key c.args.value form.2 none))
+    let none = ap (λ s. lookup (g.K.PartialEq.eq c.args.key) (pairs s)) (sym c.as_slice.ensures.value) ∙ c.in_default.ensures in (
+      subst AllHold (sym c.push.ensures.items) (AllHold-append slots (Some (c.args.key, c.args.value) ∷ []) form.0 tt),
+      omega (arith, c.push.ensures.len, c.len.ensures.value, c.if-len.true),
+      subst (λ s. EachOnce g.K.PartialEq.eq (pairs s)) (sym c.push.ensures.items) (EachOnce-slot_push g.met.K.Eq.laws slots c.args.key c.args.value form.2 none),
+    )
 
 pub returns-then-len-clause-ok : goal.returns-then-len-clause-ok
 returns-then-len-clause-ok g c =
