@@ -9,7 +9,7 @@ use Rattle.serde_json.specs.declared.value.Value.{Value}
 use Rattle.ref_parts.specs.Path as path
 use Rattle.ref_parts.specs.Path.{Part}
 use Rattle.ref_parts.specs.Segment as pointer
-use Rattle.ref_parts.specs.declared.segments.JsonPointerSegment.{JsonPointerSegment}
+use Rattle.ref_parts.specs.declared.path.JsonPointerSegment.{JsonPointerSegment}
 use Rattle.ref_draft.specs.declared.draft.Draft.{Draft}
 use Rattle.ref_draft.specs.declared.resource.Resource.{Resource}
 use Rattle.ref_draft.specs.declared.resource.ResourceRef.{ResourceRef}

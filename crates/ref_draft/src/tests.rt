@@ -1,6 +1,6 @@
 // Schemas read by each draft. The expected values are those of the drafts' tables.
 use crate::{Anchor, Draft, Resource, ResourceRef, Segment, Segments};
-use ref_parts::segments::JsonPointerSegment;
+use ref_parts::path::JsonPointerSegment;
 use serde_json::Value;
 use std::alloc::Global;
 use std::borrow::CowStr;

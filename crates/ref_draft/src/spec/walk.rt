@@ -8,7 +8,7 @@ ghost use Rattle.ref_draft.specs.Views.{Adds, parts_of, walked_child};
 
 use crate::draft::Draft;
 use crate::spec::Holding;
-use ref_parts::segments::JsonPointerSegment;
+use ref_parts::path::JsonPointerSegment;
 use serde_json::{Map, Value};
 use std::alloc::{AllocError, Global};
 
