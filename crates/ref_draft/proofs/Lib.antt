@@ -4,3 +4,5 @@ pub mod Disjoint
 pub mod Scanning
 pub mod Depth
 pub mod Given
+pub mod Standing
+pub mod Agreement

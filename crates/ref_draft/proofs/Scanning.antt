@@ -9,7 +9,7 @@ use Rattle.ref_draft.specs.declared.spec.Holding.{Holding}
 use Rattle.ref_draft.specs.declared.spec.Holding.TheVariants.{Whole, Elements, Members, ElementsOrWhole, ObjectMembers, Nothing}
 use Rattle.ref_draft.specs.Keywords.{is_one_of, is_before_2020}
 use Rattle.ref_draft.specs.Children.{is_object}
-use Rattle.ref_draft.specs.Scan.{scan_row, is_value_keyword, is_child_keyword, is_items_or_dependencies, Piece, AnIndex, AValue, AChild, parts_of, spelled, IsPieceOf, IsWord, IsAccepted}
+use Rattle.ref_draft.specs.Scan.{scan_row, is_value_keyword, is_child_keyword, is_items_or_dependencies, Piece, AnIndex, AValue, AChild, parts_of, spelled, IsPieceOf, IsWord, SpellsWord, IsAccepted}
 use Rattle.ref_draft.specs.ScanSteps.{go_on, scan, scan_past}
 use Rattle.ref_draft.proofs.Disjoint.{child_is_no_value, stops_at_items}
 
@@ -17,18 +17,18 @@ use Rattle.ref_draft.proofs.Disjoint.{child_is_no_value, stops_at_items}
 
 -- a piece in front
 add : (d : Draft) (v : Data) (parts : List Part) (piece : Piece) → IsPieceOf d piece → IsAccepted d parts v → IsAccepted d (parts_of piece ++ parts) v
-add d v parts piece ok (inl w) = inl (piece ∷ w.0, (ok, w.1), ap (λ ps. parts_of piece ++ ps) w.2)
+add d v parts piece ok (inl w) = inl (record { pieces = piece ∷ w.pieces; word = (ok, w.word); spells = ap (λ ps. parts_of piece ++ ps) w.spells })
 add d v parts piece ok (inr w) =
-    inr (
-      w.0,
-      w.1,
-      piece ∷ w.2,
-      w.3,
-      w.4,
-      (ok, w.5),
-      w.6,
-      ap (λ ps. parts_of piece ++ ps) w.7 ∙ sym (append_assoc (parts_of piece) (spelled w.2) (Key w.3 ∷ w.4)),
-    )
+    inr (record {
+      before = w.before;
+      object = w.object;
+      pieces = piece ∷ w.pieces;
+      keyword = w.keyword;
+      rest = w.rest;
+      word = (ok, w.word);
+      items = w.items;
+      spells = ap (λ ps. parts_of piece ++ ps) w.spells ∙ sym (append_assoc (parts_of piece) (spelled w.pieces) (Key w.keyword ∷ w.rest));
+    })
 
 -- the parts after a child keyword
 past : (d : Draft) (v : Data) (k : List ℕ) (parts : List Part) → is_child_keyword d k ≡ true → ((part : Part) (rest : List Part) → parts ≡ part ∷ rest → scan d (is_object v) rest ≡ true → IsAccepted d rest v)
@@ -41,7 +41,8 @@ abbrev chosen : Bool → Bool → Bool → Bool → Bool → Holding
 chosen value array map items dependencies = cond value Whole (cond array Elements (cond map Members (cond items ElementsOrWhole (cond dependencies ObjectMembers Nothing))))
 
 stop : (d : Draft) (v : Data) (k : List ℕ) (parts : List Part) → is_before_2020 d ≡ true → is_items_or_dependencies k ≡ true → is_object v ≡ true → IsAccepted d (Key k ∷ parts) v
-stop d v k parts before items object = inr (before, object, [], k, parts, tt, items, refl)
+stop d v k parts before items object =
+    inr (record { before = before; object = object; pieces = []; keyword = k; rest = parts; word = tt; items = items; spells = refl })
 
 both : (a b : Bool) → (a && b) ≡ true → (a ≡ true) × (b ≡ true)
 both true b e = (refl, e)
@@ -73,7 +74,7 @@ at_key d v k parts false false false false false e a m i s on rests h = absurd (
 
 mutual
   sound : (d : Draft) (v : Data) (parts : List Part) → scan d (is_object v) parts ≡ true → IsAccepted d parts v
-  sound d v [] h = inl ([], tt, refl)
+  sound d v [] h = inl (record { pieces = []; word = tt; spells = refl })
   sound d v (Index i ∷ parts) h = add d v parts (AnIndex i) tt (sound d v parts h)
   sound d v (Key k ∷ parts) h = at_key d v k parts (is_value_keyword d k) (is_one_of k (scan_row d).arrays) (is_one_of k (scan_row d).maps) (is_before_2020 d && bytes_eq k (codes "items")) (is_before_2020 d && bytes_eq k (codes "dependencies"))
       refl refl refl refl refl (sound d v parts) (sound_after d v parts) h
@@ -109,10 +110,10 @@ passes_word d object (piece ∷ pieces) rest word =
     ap (scan d object) (append_assoc (parts_of piece) (spelled pieces) rest) ∙ passes d object piece (spelled pieces ++ rest) word.0 ∙ passes_word d object pieces rest word.1
 
 complete : (d : Draft) (v : Data) (parts : List Part) → IsAccepted d parts v → scan d (is_object v) parts ≡ true
-complete d v parts (inl w) = ap (scan d (is_object v)) (w.2 ∙ sym (append-nil (spelled w.0))) ∙ passes_word d (is_object v) w.0 [] w.1
+complete d v parts (inl w) = ap (scan d (is_object v)) (w.spells ∙ sym (append-nil (spelled w.pieces))) ∙ passes_word d (is_object v) w.pieces [] w.word
 complete d v parts (inr w) =
-    ap (scan d (is_object v)) w.7 ∙ passes_word d (is_object v) w.2 (Key w.3 ∷ w.4) w.5
-    ∙ stops_at_items d w.3 (is_object v) (scan d (is_object v) w.4) (scan_past d (is_object v) w.4) w.0 w.6 ∙ w.1
+    ap (scan d (is_object v)) w.spells ∙ passes_word d (is_object v) w.pieces (Key w.keyword ∷ w.rest) w.word
+    ∙ stops_at_items d w.keyword (is_object v) (scan d (is_object v) w.rest) (scan_past d (is_object v) w.rest) w.before w.items ∙ w.object
 
 pub scan_accepts : (d : Draft) (v : Data) (parts : List Part) → (scan d (is_object v) parts ≡ true) ↔ IsAccepted d parts v
 scan_accepts d v parts = (sound d v parts, complete d v parts)
@@ -122,3 +123,10 @@ accepted = sound
 
 pub refused : (d : Draft) (v : Data) (parts : List Part) → scan d (is_object v) parts ≡ false → IsAccepted d parts v → ⊥
 refused d v parts e h = true≢false (sym (complete d v parts h) ∙ e)
+
+-- a word followed by a child keyword alone
+pub stops_within : (d : Draft) (v : Data) (parts : List Part) (k : List ℕ) → SpellsWord d parts → is_child_keyword d k ≡ true → IsAccepted d (parts ++ Key k ∷ []) v → ⊥
+stops_within d v parts k w child =
+    refused d v (parts ++ Key k ∷ [])
+    (ap (λ ps. scan d (is_object v) (ps ++ Key k ∷ [])) w.spells ∙ passes_word d (is_object v) w.pieces (Key k ∷ []) w.word
+    ∙ at_child (is_value_keyword d k) (is_one_of k (scan_row d).arrays) (is_one_of k (scan_row d).maps) (is_before_2020 d && bytes_eq k (codes "items")) (is_before_2020 d && bytes_eq k (codes "dependencies")) true (is_object v) false (child_is_no_value d k child) child)

@@ -1,10 +1,11 @@
 -- The subschemas of a schema: what stands right below it under its draft's keywords (2020-12 Core, section 10;
 -- earlier drafts as `Keywords` lists).
-use Rattle.std.specs.Prelude.{ℕ, suc, List, [], ◌∷◌, ◌++◌, map, filter, Bool, not, is_some}
+use Rattle.std.specs.Prelude.{◌≡◌, Some, ℕ, suc, List, [], ◌∷◌, ◌++◌, map, filter, Bool, not, is_some}
 use Rattle.std.specs.Option.{option_map_or}
 use Rattle.serde_json.specs.Data.{Data, Items, no_items, item, Members, no_members, member}
 use Rattle.serde_json.specs.Find.{as_array, as_object}
-use Rattle.ref_parts.specs.Path.{Part, Key, Index}
+use Rattle.ref_parts.specs.Path.{Part, Key, Index, value_at}
+use Rattle.std.specs.List.{AllByRecursion}
 use Rattle.ref_draft.specs.declared.draft.Draft.{Draft}
 use Rattle.ref_draft.specs.declared.spec.Holding.{Holding}
 use Rattle.ref_draft.specs.declared.spec.Holding.TheVariants.{Whole, WholeObject, Elements, Members as EachMember, ElementsOrWhole, ObjectMembers, Nothing}
@@ -73,6 +74,10 @@ with_draft d child = record { path = child.0; value = child.1; draft = detect d 
 -- The children with their drafts
 abbrev pub walked : Draft → Data → List Walked
 walked d value = map (with_draft d) (children d value)
+
+-- each child stands at its path
+abbrev pub AllStand : Data → List Walked → Type 0
+AllStand value children = AllByRecursion (λ child. value_at value child.path ≡ Some child.value) children
 
 -- the keyword at the front of a path
 abbrev pub keyword_of : List Part → List ℕ

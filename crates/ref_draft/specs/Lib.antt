@@ -7,3 +7,4 @@ pub mod Views
 pub mod ScanSteps
 pub mod Rows
 pub mod Order
+pub mod WalkSteps

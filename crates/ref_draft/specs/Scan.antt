@@ -8,7 +8,7 @@ use Rattle.ref_parts.specs.Path.{Part, Key, Index}
 use Rattle.ref_draft.specs.declared.draft.Draft.{Draft}
 use Rattle.ref_draft.specs.declared.draft.Draft.TheVariants.{Draft4}
 use Rattle.ref_draft.specs.Keywords.{Row, row, is_one_of, is_before_2020}
-use Rattle.ref_draft.specs.Children.{is_object}
+use Rattle.ref_draft.specs.Children.{Child, is_object}
 
 -- the row of Draft 4 that the scan reads: fewer keywords than the walk's
 abbrev pub draft_4_row : Row
@@ -62,16 +62,31 @@ abbrev pub is_items_or_dependencies : List ℕ → Bool
 is_items_or_dependencies keyword = bytes_eq keyword (codes "items") || bytes_eq keyword (codes "dependencies")
 
 -- the parts are a word
-abbrev pub SpellsWord : Draft → List Part → Type 0
-SpellsWord d parts = (pieces : List Piece) × IsWord d pieces × (parts ≡ spelled pieces)
+pub record SpellsWord (d : Draft) (parts : List Part) : Type 0 where
+  pub pieces : List Piece
+  pub word : IsWord d pieces
+  pub spells : parts ≡ spelled pieces
 
 -- before 2020-12: the parts are a word, then `items` or `dependencies`, then any parts, and the value is an object
-abbrev pub PassesItems : Draft → List Part → Data → Type 0
-PassesItems d parts value =
-    IsTrue (is_before_2020 d) × IsTrue (is_object value)
-    × (pieces : List Piece) × (keyword : List ℕ) × (rest : List Part)
-    × IsWord d pieces × IsTrue (is_items_or_dependencies keyword) × (parts ≡ spelled pieces ++ Key keyword ∷ rest)
+pub record PassesItems (d : Draft) (parts : List Part) (value : Data) : Type 0 where
+  pub before : IsTrue (is_before_2020 d)
+  pub object : IsTrue (is_object value)
+  pub pieces : List Piece
+  pub keyword : List ℕ
+  pub rest : List Part
+  pub word : IsWord d pieces
+  pub items : IsTrue (is_items_or_dependencies keyword)
+  pub spells : parts ≡ spelled pieces ++ Key keyword ∷ rest
 
 -- The parts are accepted at a value: an identifier there may change the base
 abbrev pub IsAccepted : Draft → List Part → Data → Type 0
 IsAccepted d parts value = SpellsWord d parts ⊎ PassesItems d parts value
+
+-- the drafts whose scan reads the walk's row: all but Draft 4
+abbrev pub ReadsTheWalk : Draft → Type 0
+ReadsTheWalk Draft4 = ⊥
+ReadsTheWalk d = ⊤
+
+-- the parts followed by a child's path are accepted at the child, where that is an object
+abbrev pub AcceptsChildren : Draft → List Part → List Child → Type 0
+AcceptsChildren d parts cs = AllByRecursion (λ child. IsTrue (is_object child.1) → IsAccepted d (parts ++ child.0) child.1) cs

@@ -16,12 +16,16 @@ use serde_json::Value;
 pub enum Anchor<'a> {
     /// A plain anchor, which means the same from everywhere.
     Default {
+        /// Its name, without a `#`.
         name: &'a str,
+        /// What it names.
         resource: ResourceRef<'a>,
     },
     /// A dynamic anchor, which the outermost schema of that name in the dynamic scope takes over (2020-12 Core, 8.2.3.2).
     Dynamic {
+        /// Its name.
         name: &'a str,
+        /// What it names.
         resource: ResourceRef<'a>,
     },
 }

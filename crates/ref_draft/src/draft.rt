@@ -3,7 +3,7 @@ ghost use Rattle.std.specs.Prelude.{◌≡◌, ◌↔◌, map, IfOk, IsTrue};
 ghost use Rattle.serde_json.specs.View.{view};
 ghost use Rattle.ref_draft.specs.Keywords.{holding, id_keyword, is_known, is_before_2019, is_before_2020};
 ghost use Rattle.ref_draft.specs.Schema.{from_schema_uri, draft_of_uri, detect, text_under};
-ghost use Rattle.ref_draft.specs.Children.{subresources, walked};
+ghost use Rattle.ref_draft.specs.Children.{AllStand, subresources, walked};
 ghost use Rattle.ref_draft.specs.Anchors.{anchors};
 ghost use Rattle.ref_draft.specs.Scan.{IsAccepted};
 ghost use Rattle.ref_draft.specs.Views.{AllName, anchor_name, anchors_left, resource, resource_ref, tagged, values_left, walked_child};
@@ -110,13 +110,15 @@ impl Draft {
 
     /// The values right below the value that this draft reads as schemas, each with its keyword, the segment after it
     /// and the draft that this one detects on it, in byte order of the keywords and then by index or in byte order of
-    /// the keys; none below a value that is no object. Refuses only for want of memory, which it takes for the list.
+    /// the keys; none below a value that is no object. Each is what is found under its keyword and segment. Refuses only
+    /// for want of memory, which it takes for the list.
     pub fn walk_children<'a>(
         self,
         alloc: Global,
         contents: &'a Value,
     ) -> Result<Vec<Child<'a>>, AllocError>
-        ensures { IfOk result (λ v. map walked_child v.items ≡ walked self (view contents.now)) }
+        ensures children { IfOk result (λ v. map walked_child v.items ≡ walked self (view contents.now)) }
+        ensures found { IfOk result (λ v. AllStand (view contents.now) (map walked_child v.items)) }
     {
         walk::children(alloc, self, contents)
     }

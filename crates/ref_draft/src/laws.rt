@@ -1,12 +1,14 @@
 //! What is proved of the definitions alone: the rows that compute, and laws. No function here does anything: its
 //! contract is the statement.
-ghost use Rattle.std.specs.Prelude.{◌≡◌, ◌<◌};
+ghost use Rattle.std.specs.Prelude.{◌≡◌, ◌<◌, ◌∷◌, ◌++◌, [], ℕ, IsTrue, List};
 ghost use Rattle.std.specs.List.{AllByRecursion};
 ghost use Rattle.std.specs.Ordering.{nat_cmp};
 ghost use Rattle.serde_json.specs.Data.{Data, depth};
 ghost use Rattle.ref_draft.specs.declared.draft.Draft.{Draft as Version};
 ghost use Rattle.ref_draft.specs.Children.{children};
 ghost use Rattle.ref_draft.specs.Order.{rank};
+ghost use Rattle.ref_draft.specs.Scan.{AcceptsChildren, IsAccepted, ReadsTheWalk, SpellsWord, is_child_keyword};
+ghost use Rattle.ref_parts.specs.Path.{Key, Part};
 ghost use Rattle.ref_draft.specs.Rows.{AnchorRows, ChildrenRows, DetectRows, IdentifierRows, KnownRows, ScanRows, SubresourceRows};
 
 use crate::draft::Draft;
@@ -24,6 +26,19 @@ pub fn default_is_2020()
 /// A child nests less deeply than the value that it is a child of, so that the levels of children end.
 pub fn children_are_shallower()
     ensures { (d : Version) (value : Data) → AllByRecursion (λ child. depth child.1 < depth value) (children d value) }
+{}
+
+/// Where the scan reads the walk's keywords and accepts the way to a value, it accepts the way on to each of its
+/// children that is an object.
+pub fn scan_goes_on_to_children()
+    ensures { (d : Version) (parts : List Part) (value : Data)
+        → ReadsTheWalk d → IsAccepted d parts value → AcceptsChildren d parts (children d value) }
+{}
+
+/// A word followed by a child keyword alone isn't accepted: the way ends at an array or object of schemas.
+pub fn scan_stops_at_a_child_keyword()
+    ensures { (d : Version) (value : Data) (parts : List Part) (keyword : List ℕ) → SpellsWord d parts
+        → IsTrue (is_child_keyword d keyword) → ¬ (IsAccepted d (parts ++ Key keyword ∷ []) value) }
 {}
 
 /// The draft of a schema by its `$schema`.

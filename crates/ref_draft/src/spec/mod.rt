@@ -12,7 +12,7 @@ pub(crate) mod scan;
 pub mod walk;
 
 /// How the value of a keyword holds subschemas.
-#[derive(Debug, PartialEq, Eq, Clone, Copy)]
+#[derive(Clone, Copy)]
 pub(crate) enum Holding {
     /// The value is one.
     Whole,

@@ -3,7 +3,8 @@ ghost use Rattle.std.specs.Prelude.{◌≡◌, ◌++◌, ◌∷◌, [], map, fil
 ghost use Rattle.ref_parts.specs.Path.{Key};
 ghost use Rattle.serde_json.specs.View.{view, items_view, members_view};
 ghost use Rattle.ref_draft.specs.Keywords.{holding};
-ghost use Rattle.ref_draft.specs.Children.{walked, with_draft, held, elements_from, each_member, has_object};
+ghost use Rattle.ref_draft.specs.Children.{AllStand, walked, with_draft, held, elements_from, each_member, has_object};
+ghost use Rattle.ref_draft.specs.WalkSteps.{HasUniqueKeys};
 ghost use Rattle.ref_draft.specs.Views.{Adds, parts_of, walked_child};
 
 use crate::draft::Draft;
@@ -31,15 +32,26 @@ pub(crate) fn children<'a>(
     draft: Draft,
     contents: &'a Value,
 ) -> Result<Vec<Child<'a>>, AllocError>
-    ensures { IfOk result (λ v. map walked_child v.items ≡ walked draft (view contents.now)) }
+    ensures children { IfOk result (λ v. map walked_child v.items ≡ walked draft (view contents.now)) }
+    ensures found { IfOk result (λ v. AllStand (view contents.now) (map walked_child v.items)) }
 {
     let mut children = Vec::new(alloc);
     if let Some(schema) = contents.as_object() {
         for (keyword, value) in schema {
+            keys_are_unique(value);
             push_held(&mut children, draft, keyword.as_str(), value)?;
         }
     }
     Ok(children)
+}
+
+// An object has each key once, as its map tells: so a child is what is found at its path. It does nothing.
+fn keys_are_unique(value: &Value)
+    ensures { HasUniqueKeys (view value.now) }
+{
+    if let Some(members) = value.as_object() {
+        let _ = members.iter();
+    }
 }
 
 // Adds the children under one keyword.

@@ -1,0 +1,145 @@
+-- A child stands at its path.
+use Rattle.std.proofs.Common.{◌≡◌, ℕ, zero, suc, ◌+◌, List, [], ◌∷◌, ◌++◌, map, Bool, true, false, cond, Option, Some, None, option_map, option_and_then, String, Global, string_cmp, string_bytes, refl, sym, ap, ◌∙◌, All, arith}
+use Rattle.std.specs.List.{filter, AllByRecursion}
+use Rattle.std.specs.Map.{lookup}
+use Rattle.std.specs.BTreeMap.{is_at}
+use Rattle.std.proofs.lemmas.List.Elements.{recursion_from_All}
+use Rattle.serde_json.specs.Data.{Data, null, boolean, number, string, array, object, Items, no_items, item, Members, no_members, member}
+use Rattle.serde_json.specs.Find.{as_array, as_object, get, get_item, get_member}
+use Rattle.serde_json.specs.View.{view, members_view}
+use Rattle.serde_json.specs.declared.value.Value.{Value}
+use Rattle.serde_json.proofs.Views.{view-lookup}
+use Rattle.ref_parts.specs.Path.{Part, Key, Index, value_at}
+use Rattle.ref_draft.specs.declared.draft.Draft.{Draft}
+use Rattle.ref_draft.specs.declared.spec.Holding.{Holding}
+use Rattle.ref_draft.specs.declared.spec.Holding.TheVariants.{Whole, WholeObject, Elements, Members as EachMember, ElementsOrWhole, ObjectMembers, Nothing}
+use Rattle.ref_draft.specs.Children.{Child, Walked, with_draft, AllStand, whole, elements_from, each_member, elements, members, held, has_object}
+use Rattle.ref_draft.specs.WalkSteps.{AreFoundIn, HasUniqueKeys, members_in}
+
+-- a path without its first part
+abbrev rest_of : List Part → List Part
+rest_of [] = []
+rest_of (part ∷ path) = path
+
+-- each child's path is the keyword and what leads to it from the keyword's value
+abbrev StandUnder : List ℕ → Data → List Child → Type 0
+StandUnder k v cs = AllByRecursion (λ child. (child.0 ≡ Key k ∷ rest_of child.0) × (value_at v (rest_of child.0) ≡ Some child.1)) cs
+
+kept : (k : List ℕ) (v : Data) (b : Bool) (c : Child) (cs : List Child) → c.0 ≡ Key k ∷ rest_of c.0 → value_at v (rest_of c.0) ≡ Some c.1 → StandUnder k v cs → StandUnder k v (cond b (c ∷ cs) cs)
+kept k v true c cs p q r = ((p, q), r)
+kept k v false c cs p q r = r
+
+stand_filter : (k : List ℕ) (v : Data) (cs : List Child) → StandUnder k v cs → StandUnder k v (filter has_object cs)
+stand_filter k v [] p = tt
+stand_filter k v (c ∷ cs) p = kept k v (has_object c) c (filter has_object cs) p.0.0 p.0.1 (stand_filter k v cs p.1)
+
+shift : (i j : ℕ) → i + suc j ≡ suc i + j
+shift i j = omega arith
+
+start : (i : ℕ) → i ≡ i + zero
+start i = omega arith
+
+front : (j : ℕ) → j ≡ 0 + j
+front j = omega arith
+
+stand_elements_from : (k : List ℕ) (i : ℕ) (ds all : Items) → ((j : ℕ) → get_item j ds ≡ get_item (i + j) all) → StandUnder k (array all) (elements_from k i ds)
+stand_elements_from k i no_items all same = tt
+stand_elements_from k i (item d ds) all same = (
+  (refl, ap (option_and_then (λ e. Some e)) (ap (λ n. get_item n all) (start i) ∙ sym (same zero))),
+  stand_elements_from k (suc i) ds all (λ j. same (suc j) ∙ ap (λ n. get_item n all) (shift i j)),
+)
+
+stand_each_member : (k : List ℕ) (all ms : Members) → AreFoundIn all ms → StandUnder k (object all) (each_member k ms)
+stand_each_member k all no_members found = tt
+stand_each_member k all (member l d ms) found = ((refl, ap (option_and_then (λ e. Some e)) found.0), stand_each_member k all ms found.1)
+
+stand_elements : (k : List ℕ) (v : Data) → StandUnder k v (elements k v)
+stand_elements k null = tt
+stand_elements k (boolean b) = tt
+stand_elements k (number x) = tt
+stand_elements k (string s) = tt
+stand_elements k (array ds) = stand_elements_from k 0 ds ds (λ j. ap (λ n. get_item n ds) (front j))
+stand_elements k (object ms) = tt
+
+stand_elements_or_whole : (k : List ℕ) (v : Data) → StandUnder k v (held ElementsOrWhole k v)
+stand_elements_or_whole k null = ((refl, refl), tt)
+stand_elements_or_whole k (boolean b) = ((refl, refl), tt)
+stand_elements_or_whole k (number x) = ((refl, refl), tt)
+stand_elements_or_whole k (string s) = ((refl, refl), tt)
+stand_elements_or_whole k (array ds) = stand_elements_from k 0 ds ds (λ j. ap (λ n. get_item n ds) (front j))
+stand_elements_or_whole k (object ms) = ((refl, refl), tt)
+
+stand_members : (k : List ℕ) (v : Data) → HasUniqueKeys v → StandUnder k v (members k v)
+stand_members k null u = tt
+stand_members k (boolean b) u = tt
+stand_members k (number x) u = tt
+stand_members k (string s) u = tt
+stand_members k (array ds) u = tt
+stand_members k (object ms) u = stand_each_member k ms ms u
+
+stand_held : (how : Holding) (k : List ℕ) (v : Data) → HasUniqueKeys v → StandUnder k v (held how k v)
+stand_held Whole k v u = ((refl, refl), tt)
+stand_held WholeObject k v u = stand_filter k v (whole k v) ((refl, refl), tt)
+stand_held Elements k v u = stand_elements k v
+stand_held EachMember k v u = stand_members k v u
+stand_held ElementsOrWhole k v u = stand_elements_or_whole k v
+stand_held ObjectMembers k v u = stand_filter k v (members k v) (stand_members k v u)
+stand_held Nothing k v u = tt
+
+-- ---- from an object
+
+-- found under its key, the keyword's value has its children where the object has them
+from_object : (d : Draft) (t : Data) (k : List ℕ) (v : Data) (cs : List Child) → get k t ≡ Some v → StandUnder k v cs → AllStand t (map (with_draft d) cs)
+from_object d t k v [] found p = tt
+from_object d t k v (c ∷ cs) found p =
+    (ap (value_at t) p.0.0 ∙ ap (option_and_then (λ e. value_at e (rest_of c.0))) found ∙ p.0.1, from_object d t k v cs found p.1)
+
+append : (t : Data) (xs ys : List Walked) → AllStand t xs → AllStand t ys → AllStand t (xs ++ ys)
+append t [] ys p q = q
+append t (x ∷ xs) ys p q = (p.0, append t xs ys p.1 q)
+
+get_in : (t : Data) (k : List ℕ) (v : Data) → get_member k (members_in t) ≡ Some v → get k t ≡ Some v
+get_in null k v e = e
+get_in (boolean b) k v e = e
+get_in (number x) k v e = e
+get_in (string s) k v e = e
+get_in (array ds) k v e = e
+get_in (object ms) k v e = e
+
+-- one keyword more
+pub step : (d : Draft) (t : Data) (how : Holding) (k : List ℕ) (v : Data) (done all : List Walked) → AllStand t done → get_member k (members_in t) ≡ Some v → HasUniqueKeys v → all ≡ done ++ map (with_draft d) (held how k v) → AllStand t all
+step d t how k v done all before found unique is = rw is (append t done (map (with_draft d) (held how k v)) before (from_object d t k v (held how k v) (get_in t k v found) (stand_held how k v unique)))
+
+-- ---- the entries of a map
+
+found_from : (all es : List (String Global × Value)) → AllByRecursion (λ e. lookup (is_at (string_cmp e.0)) all ≡ Some e.1) es → AreFoundIn (members_view all) (members_view es)
+found_from all [] p = tt
+found_from all (e ∷ es) p = (sym (view-lookup (string_bytes e.0) all) ∙ ap (option_map view) p.0, found_from all es p.1)
+
+-- what the library finds by its key is found among the members
+pub are_found : (all : List (String Global × Value)) → All (λ e. lookup (is_at (string_cmp e.0)) all ≡ Some e.1) all → AreFoundIn (members_view all) (members_view all)
+are_found all p = found_from all all (recursion_from_All _ all p)
+
+pub members_in_is : (t : Data) (ms : Members) → Some ms ≡ as_object t → members_in t ≡ ms
+members_in_is null ms e = absurd (cc)
+members_in_is (boolean b) ms e = absurd (cc)
+members_in_is (number x) ms e = absurd (cc)
+members_in_is (string s) ms e = absurd (cc)
+members_in_is (array ds) ms e = absurd (cc)
+members_in_is (object ns) ms e = cc
+
+pub unique_object : (t : Data) (ms : Members) → Some ms ≡ as_object t → AreFoundIn ms ms → HasUniqueKeys t
+unique_object null ms e found = tt
+unique_object (boolean b) ms e found = tt
+unique_object (number x) ms e found = tt
+unique_object (string s) ms e found = tt
+unique_object (array ds) ms e found = tt
+unique_object (object ns) ms e found = let same : ms ≡ ns = cc in rw (← same) found
+
+pub unique_other : (t : Data) → None ≡ as_object t → HasUniqueKeys t
+unique_other null e = tt
+unique_other (boolean b) e = tt
+unique_other (number x) e = tt
+unique_other (string s) e = tt
+unique_other (array ds) e = tt
+unique_other (object ns) e = absurd (cc)
