@@ -11,3 +11,4 @@ pub mod Lookup
 pub mod Recursive
 pub mod Follow
 pub mod Vocabularies
+pub mod Rows

@@ -14,6 +14,7 @@ use Rattle.ref_uri.specs.Targets.{Refusal, parsed}
 use Rattle.referencing.specs.World.{World}
 use Rattle.referencing.specs.Bearing.{means}
 use Rattle.referencing.specs.Wants.{is_unknown}
+use Rattle.referencing.specs.Pointers.{◌>>=◌}
 
 -- a known vocabulary: the last part of its URI, which is its displayed name, and whether 2019-09 has it
 pub record Known : Type 0 where
@@ -109,13 +110,14 @@ is_format_assertion (Custom uri) = false
 abbrev pub is_true : Data → Bool
 is_true value = option_map_or (λ b. b) (as_bool value) false
 
+abbrev pub with_member : VocabularySet → Data → Result Vocabulary Refusal → Result VocabularySet Refusal
+with_member s value (Ok v) = Ok (if is_true value || is_format_assertion v then with_vocabulary s v else s)
+with_member s value (Err refusal) = Err refusal
+
+-- each key of `$vocabulary` is read, also where its value is false
 abbrev pub collected : VocabularySet → Members → Result VocabularySet Refusal
 collected s no_members = Ok s
-collected s (member key value ms) = with_key (from_text key)
-  where
-    with_key : Result Vocabulary Refusal → Result VocabularySet Refusal
-    with_key (Ok v) = collected (if is_true value || is_format_assertion v then with_vocabulary s v else s) ms
-    with_key (Err refusal) = Err refusal
+collected s (member key value ms) = with_member s value (from_text key) >>= λ more. collected more ms
 
 -- the meta-schemas that are known by their identifier, with their set, or none before 2019-09
 abbrev pub known_set : List ℕ → Option (Option VocabularySet)

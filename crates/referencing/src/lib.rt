@@ -3,4 +3,4 @@
 //! order; the calls come next.
 #![tactic(auto)]
 
-pub mod laws;
+pub mod examples;

@@ -1,0 +1,7 @@
+use Rattle.std.proofs.Common.{refl}
+use Rattle.referencing.proofs.OnLiterals.{referencing_on_literals}
+use Rattle.referencing.proofs.examples.vocabularies.Goals as goal
+
+pub returns : goal.returns
+unfolding referencing_on_literals
+returns c = record { declared = refl; known = refl; before_2019 = refl; none = refl; custom = refl; own_draft = refl; no_document = refl }
