@@ -1,0 +1,10 @@
+pub mod Bytes
+pub mod Memory
+pub mod Outcome
+pub mod Request
+pub mod Served
+pub mod Registry
+pub mod Fault
+pub mod Pointer
+pub mod Follow
+pub mod Report

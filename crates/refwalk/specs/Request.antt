@@ -1,0 +1,137 @@
+-- A request: the fields of one JSON object.
+use Rattle.std.specs.Prelude.{ℕ, Bool, not, ◌||◌, List, [], ◌∷◌, codes, Option, Some, None, option_map, option_and_then, Result, Ok, Err, ok_or, is_some, bytes_eq, if◌then◌else◌}
+use Rattle.std.specs.List.{list_any, list_all}
+use Rattle.std.specs.Str.{is_utf8}
+use Rattle.serde_json.specs.Data.{Data, null, boolean, number, string, array, object, Items, no_items, item, Members, no_members, member}
+use Rattle.serde_json.specs.Find.{get, as_str, as_array, as_object, as_number, as_u64}
+use Rattle.serde_json.specs.Read.{read}
+use Rattle.serde_json.specs.Written.{has_float}
+use Rattle.ref_uri.specs.Reference.{is_uri_reference}
+use Rattle.refwalk.specs.declared.request.BadRequest.{BadRequest}
+use Rattle.refwalk.specs.declared.request.BadRequest.TheVariants as bad
+use Rattle.refwalk.specs.Outcome.{◌>>=◌}
+
+-- a document, and the text of the URI under which it is added
+pub record Document : Type 0 where
+  pub uri : List ℕ
+  pub tree : Data
+
+-- a step: a text is looked up, null is a recursive lookup, an object is entered
+pub data Step : Type 0 where
+  Lookup : List ℕ → Step
+  Recursive : Step
+  Enter : Data → Step
+
+pub record Request : Type 0 where
+  pub documents : List Document
+  pub base : List ℕ
+  pub steps : List Step
+  pub remote : Option (List Document)
+  pub meta : Option (List Document)
+  pub draft : Option (List ℕ)
+  pub limit : Option ℕ
+
+-- ---- lists in JSON
+
+abbrev pub items_list : Items → List Data
+items_list no_items = []
+items_list (item d ds) = d ∷ items_list ds
+
+abbrev pub keys_list : Members → List (List ℕ)
+keys_list no_members = []
+keys_list (member k d ms) = k ∷ keys_list ms
+
+-- what f gives of each element, if it gives something of each
+abbrev pub every : {A B : Type 0} → (A → Option B) → List A → Option (List B)
+every f [] = Some []
+every f (x ∷ xs) = option_and_then (λ y. option_map (λ ys. y ∷ ys) (every f xs)) (f x)
+
+-- an array whose elements are each read by f
+abbrev pub list_of : {B : Type 0} → (Data → Option B) → Data → Option (List B)
+list_of f d = option_and_then (λ ds. every f (items_list ds)) (as_array d)
+
+-- ---- the fields
+
+-- the value, if it passes the test
+abbrev pub if_passes : {A : Type 0} → (A → Bool) → A → Option A
+if_passes test x = if test x then Some x else None
+
+abbrev pub pair_of : List Data → Option Document
+pair_of [] = None
+pair_of (u ∷ []) = None
+pair_of (u ∷ t ∷ []) = option_map (λ s. record { uri = s; tree = t }) (as_str u)
+pair_of (u ∷ t ∷ x ∷ xs) = None
+
+-- `[text, schema]`
+abbrev pub document_of : Data → Option Document
+document_of d = option_and_then (λ ds. pair_of (items_list ds)) (as_array d)
+
+-- `[text, schema]`, where the text is a URI reference
+abbrev pub remote_of : Data → Option Document
+remote_of d = option_and_then (if_passes (λ e. is_uri_reference e.uri)) (document_of d)
+
+-- a text that is a URI reference
+abbrev pub base_of : Data → Option (List ℕ)
+base_of d = option_and_then (if_passes is_uri_reference) (as_str d)
+
+abbrev pub step_of : Data → Option Step
+step_of null = Some Recursive
+step_of (boolean b) = None
+step_of (number n) = None
+step_of (string s) = Some (Lookup s)
+step_of (array ds) = None
+step_of (object ms) = Some (Enter (object ms))
+
+-- the names of the five drafts
+abbrev pub is_draft_name : List ℕ → Bool
+is_draft_name s =
+    bytes_eq s (codes "4") || bytes_eq s (codes "6") || bytes_eq s (codes "7") || bytes_eq s (codes "2019-09") || bytes_eq s (codes "2020-12")
+
+abbrev pub draft_of : Data → Option (List ℕ)
+draft_of d = option_and_then (if_passes is_draft_name) (as_str d)
+
+-- a whole number of 64 bits
+abbrev pub limit_of : Data → Option ℕ
+limit_of d = option_and_then as_u64 (as_number d)
+
+-- a field that must be there
+abbrev pub required : {A : Type 0} → (Data → Option A) → Option Data → Option A
+required f found = option_and_then f found
+
+-- a field that may be absent
+abbrev pub optional : {A : Type 0} → (Data → Option A) → Option Data → Option (Option A)
+optional f None = Some None
+optional f (Some d) = option_map Some (f d)
+
+abbrev pub is_field : List ℕ → Bool
+is_field name =
+    bytes_eq name (codes "documents") || bytes_eq name (codes "base") || bytes_eq name (codes "steps") || bytes_eq name (codes "remote")
+    || bytes_eq name (codes "meta") || bytes_eq name (codes "draft") || bytes_eq name (codes "limit")
+
+-- ---- the whole
+
+-- the tree that serde_json reads; bytes that are no UTF-8 are no JSON (RFC 8259, section 8.1)
+abbrev pub tree_of : List ℕ → Option Data
+tree_of bytes = if is_utf8 bytes then read bytes else None
+
+-- the fields of an object, or the first that is bad
+unfoldable pub fields_of : Data → Result Request BadRequest
+fields_of d = do
+  documents ← ok_or (required (list_of document_of) (get (codes "documents") d)) bad.Documents
+  base ← ok_or (required base_of (get (codes "base") d)) bad.Base
+  steps ← ok_or (required (list_of step_of) (get (codes "steps") d)) bad.Steps
+  remote ← ok_or (optional (list_of remote_of) (get (codes "remote") d)) bad.Remote
+  meta ← ok_or (optional (list_of document_of) (get (codes "meta") d)) bad.Meta
+  draft ← ok_or (optional draft_of (get (codes "draft") d)) bad.Draft
+  limit ← ok_or (optional limit_of (get (codes "limit") d)) bad.Limit
+  Ok (record { documents = documents; base = base; steps = steps; remote = remote; meta = meta; draft = draft; limit = limit })
+
+-- the request that a tree is, or why it is none
+unfoldable pub request_of : Data → Result Request BadRequest
+request_of d = do
+  members ← ok_or (as_object d) bad.NotAnObject
+  (if has_float d then Err bad.Float else (if list_all is_field (keys_list members) then fields_of d else Err bad.UnknownField))
+
+-- the request that bytes are, or why they are none
+unfoldable pub read_request : List ℕ → Result Request BadRequest
+read_request bytes = ok_or (tree_of bytes) bad.NotJson >>= request_of
