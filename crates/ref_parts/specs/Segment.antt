@@ -1,0 +1,11 @@
+-- A segment of the program as a part of a path.
+use Rattle.std.specs.Cow.{cow_str_bytes}
+use Rattle.ref_parts.specs.Path as path
+use Rattle.ref_parts.specs.Path.{Part}
+use Rattle.ref_parts.specs.declared.segments.JsonPointerSegment.{JsonPointerSegment}
+use Rattle.ref_parts.specs.declared.segments.JsonPointerSegment.TheVariants.{Key, Index}
+
+-- a key is seen as its bytes, whether it is borrowed or owned
+abbrev pub part_of : JsonPointerSegment → Part
+part_of (Key k) = path.Key (cow_str_bytes k)
+part_of (Index i) = path.Index i
