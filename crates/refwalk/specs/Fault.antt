@@ -8,6 +8,8 @@ pub data Fault : Type 0 where
   InvalidPercentEncoding : List ℕ → Fault
   -- the pointer, and the part of it that is no index
   InvalidArrayIndex : List ℕ → List ℕ → Fault
+  NoSuchAnchor : List ℕ → Fault
+  InvalidAnchor : List ℕ → Fault
   -- the text is no URI reference
   InvalidUri : List ℕ → Fault
 
@@ -19,5 +21,7 @@ fault_text (InvalidPercentEncoding pointer) =
     codes "Invalid percent encoding in pointer '" ++ (pointer ++ codes "': the decoded bytes do not represent valid UTF-8")
 fault_text (InvalidArrayIndex pointer index) =
     codes "Failed to parse array index '" ++ (index ++ (codes "' in pointer '" ++ (pointer ++ codes "'")))
+fault_text (NoSuchAnchor anchor) = codes "Anchor '" ++ (anchor ++ codes "' does not exist")
+fault_text (InvalidAnchor anchor) = codes "Anchor '" ++ (anchor ++ codes "' is invalid")
 fault_text (InvalidUri uri) =
     codes "Invalid URI reference '" ++ (uri ++ codes "': not a URI reference of RFC 3986")

@@ -1,5 +1,5 @@
 -- Following the steps of a request.
-use Rattle.std.specs.Prelude.{ℕ, ◌+◌, Bool, not, ◌||◌, ◌==◌, List, [], ◌∷◌, length, drop, Option, Some, None, Result, Ok, Err, ok_or, bytes_eq, if◌then◌else◌}
+use Rattle.std.specs.Prelude.{ℕ, ◌+◌, Bool, not, ◌||◌, ◌==◌, List, [], ◌∷◌, length, Option, Some, None, Result, Ok, Err, ok_or, bytes_eq, if◌then◌else◌}
 use Rattle.serde_json.specs.Data.{Data}
 use Rattle.refwalk.specs.Request.{Document, Step, Lookup, Recursive, Enter}
 use Rattle.refwalk.specs.Registry.{means}
@@ -24,23 +24,17 @@ moved r uri = record {
   scope = (if (length r.scope == 0) || not (bytes_eq uri r.base) then r.base ∷ r.scope else r.scope);
 }
 
--- the URI that a reference means from a base, and its fragment: one that begins with `#` means the base
-abbrev pub target : List ℕ → List ℕ → List ℕ
-target base reference = base
+-- what a URI and a fragment lead to
+unfoldable pub looked_up : List Document → Resolver → List ℕ → List ℕ → Result Followed Fault
+looked_up world r uri fragment = do
+  root ← ok_or (means world uri) (Unretrievable uri)
+  value ← at_fragment fragment root
+  Ok (record { last = Some value; resolver = moved r uri })
 
-abbrev pub fragment : List ℕ → List ℕ
-fragment reference = drop 1 reference
-
--- what a reference leads to
-abbrev pub looked_up : List Document → Resolver → List ℕ → Result Followed Fault
-looked_up world r reference = do
-  root ← ok_or (means world (target r.base reference)) (Unretrievable (target r.base reference))
-  value ← at_fragment (fragment reference) root
-  Ok (record { last = Some value; resolver = moved r (target r.base reference) })
-
--- one step; only lookups are served so far
-abbrev pub stepped : List Document → Followed → Step → Result Followed Fault
-stepped world f (Lookup reference) = looked_up world f.resolver reference
+-- One step. So far only references that begin with `#` are served, and those mean the base; other steps change nothing.
+unfoldable pub stepped : List Document → Followed → Step → Result Followed Fault
+stepped world f (Lookup []) = Ok f
+stepped world f (Lookup (c ∷ fragment)) = if c == 35 then looked_up world f.resolver f.resolver.base fragment else Ok f
 stepped world f Recursive = Ok f
 stepped world f (Enter d) = Ok f
 
@@ -50,7 +44,7 @@ numbered n (Ok f) = Ok f
 numbered n (Err fault) = Err (n, fault)
 
 -- The steps one after another, counted from n on. The first fault ends them.
-abbrev pub followed_from : List Document → ℕ → Followed → List Step → Result Followed (ℕ × Fault)
+unfoldable pub followed_from : List Document → ℕ → Followed → List Step → Result Followed (ℕ × Fault)
 followed_from world n f [] = Ok f
 followed_from world n f (s ∷ ss) = numbered n (stepped world f s) >>= λ g. followed_from world (n + 1) g ss
 

@@ -8,3 +8,7 @@ pub mod Fault
 pub mod Pointer
 pub mod Follow
 pub mod Report
+pub mod FaultView
+pub mod RegistryView
+pub mod View
+pub mod Run

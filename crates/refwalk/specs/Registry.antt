@@ -1,5 +1,6 @@
 -- The documents of a request, and what a URI means among them.
 use Rattle.std.specs.Prelude.{ℕ, List, [], ◌∷◌, Option, Some, None, Result, Ok, Err, bytes_eq, if◌then◌else◌}
+use Rattle.std.specs.Option.{option_or}
 use Rattle.serde_json.specs.Data.{Data}
 use Rattle.ref_uri.specs.Reference.{is_uri_reference}
 use Rattle.refwalk.specs.Request.{Document}
@@ -9,16 +10,12 @@ use Rattle.refwalk.specs.Fault.{Fault, InvalidUri}
 -- the documents with one more, which takes the place of an earlier one under its URI
 abbrev pub added : List Document → Document → List Document
 added [] d = d ∷ []
-added (e ∷ es) d = if bytes_eq e.uri d.uri then d ∷ es else e ∷ added es d
+added (e ∷ es) d = if bytes_eq d.uri e.uri then d ∷ es else e ∷ added es d
 
--- the document added last under the URI
+-- the last of the documents under the URI
 abbrev pub means : List Document → List ℕ → Option Data
 means [] uri = None
-means (d ∷ ds) uri = or_else (means ds uri) (if bytes_eq d.uri uri then Some d.tree else None)
-where
-  or_else : Option Data → Option Data → Option Data
-  or_else None b = b
-  or_else (Some a) b = Some a
+means (d ∷ ds) uri = option_or (means ds uri) (if bytes_eq uri d.uri then Some d.tree else None)
 
 -- The documents in order of first addition, each under its URI without the `#` characters at its end, or the first of
 -- those texts that is no URI reference.

@@ -66,12 +66,16 @@ pair_of (u ∷ t ∷ x ∷ xs) = None
 abbrev pub document_of : Data → Option Document
 document_of d = option_and_then (λ ds. pair_of (items_list ds)) (as_array d)
 
--- `[text, schema]`, where the text is a URI reference
-abbrev pub remote_of : Data → Option Document
-remote_of d = option_and_then (if_passes (λ e. is_uri_reference e.uri)) (document_of d)
+-- a list of `[text, schema]`
+unfoldable pub documents_of : Data → Option (List Document)
+documents_of d = list_of document_of d
+
+-- the same, where each text is a URI reference
+unfoldable pub remote_of : Data → Option (List Document)
+remote_of d = option_and_then (if_passes (list_all (λ e. is_uri_reference e.uri))) (documents_of d)
 
 -- a text that is a URI reference
-abbrev pub base_of : Data → Option (List ℕ)
+unfoldable pub base_of : Data → Option (List ℕ)
 base_of d = option_and_then (if_passes is_uri_reference) (as_str d)
 
 abbrev pub step_of : Data → Option Step
@@ -82,12 +86,15 @@ step_of (string s) = Some (Lookup s)
 step_of (array ds) = None
 step_of (object ms) = Some (Enter (object ms))
 
+unfoldable pub steps_of : Data → Option (List Step)
+steps_of d = list_of step_of d
+
 -- the names of the five drafts
 abbrev pub is_draft_name : List ℕ → Bool
 is_draft_name s =
     bytes_eq s (codes "4") || bytes_eq s (codes "6") || bytes_eq s (codes "7") || bytes_eq s (codes "2019-09") || bytes_eq s (codes "2020-12")
 
-abbrev pub draft_of : Data → Option (List ℕ)
+unfoldable pub draft_of : Data → Option (List ℕ)
 draft_of d = option_and_then (if_passes is_draft_name) (as_str d)
 
 -- a whole number of 64 bits
@@ -95,13 +102,13 @@ abbrev pub limit_of : Data → Option ℕ
 limit_of d = option_and_then as_u64 (as_number d)
 
 -- a field that must be there
-abbrev pub required : {A : Type 0} → (Data → Option A) → Option Data → Option A
-required f found = option_and_then f found
+abbrev pub required : {A : Type 0} → BadRequest → (Data → Option A) → Option Data → Result A BadRequest
+required bad f found = ok_or (option_and_then f found) bad
 
 -- a field that may be absent
-abbrev pub optional : {A : Type 0} → (Data → Option A) → Option Data → Option (Option A)
-optional f None = Some None
-optional f (Some d) = option_map Some (f d)
+abbrev pub optional : {A : Type 0} → BadRequest → (Data → Option A) → Option Data → Result (Option A) BadRequest
+optional bad f None = Ok None
+optional bad f (Some d) = ok_or (option_map Some (f d)) bad
 
 abbrev pub is_field : List ℕ → Bool
 is_field name =
@@ -117,13 +124,13 @@ tree_of bytes = if is_utf8 bytes then read bytes else None
 -- the fields of an object, or the first that is bad
 unfoldable pub fields_of : Data → Result Request BadRequest
 fields_of d = do
-  documents ← ok_or (required (list_of document_of) (get (codes "documents") d)) bad.Documents
-  base ← ok_or (required base_of (get (codes "base") d)) bad.Base
-  steps ← ok_or (required (list_of step_of) (get (codes "steps") d)) bad.Steps
-  remote ← ok_or (optional (list_of remote_of) (get (codes "remote") d)) bad.Remote
-  meta ← ok_or (optional (list_of document_of) (get (codes "meta") d)) bad.Meta
-  draft ← ok_or (optional draft_of (get (codes "draft") d)) bad.Draft
-  limit ← ok_or (optional limit_of (get (codes "limit") d)) bad.Limit
+  documents ← required bad.Documents documents_of (get (codes "documents") d)
+  base ← required bad.Base base_of (get (codes "base") d)
+  steps ← required bad.Steps steps_of (get (codes "steps") d)
+  remote ← optional bad.Remote remote_of (get (codes "remote") d)
+  meta ← optional bad.Meta documents_of (get (codes "meta") d)
+  draft ← optional bad.Draft draft_of (get (codes "draft") d)
+  limit ← optional bad.Limit limit_of (get (codes "limit") d)
   Ok (record { documents = documents; base = base; steps = steps; remote = remote; meta = meta; draft = draft; limit = limit })
 
 -- the request that a tree is, or why it is none

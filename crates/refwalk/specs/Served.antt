@@ -1,6 +1,6 @@
 -- Which requests are answered so far.
-use Rattle.std.specs.Prelude.{ℕ, ◌+◌, ◌-◌, Bool, true, false, not, ◌||◌, ◌&&◌, ◌==◌, nat_lt, nat_le, List, [], ◌∷◌, codes, length, take, drop, bytes_eq, is_none}
-use Rattle.std.specs.List.{list_all, slice_split, suffix_len}
+use Rattle.std.specs.Prelude.{ℕ, Bool, true, false, not, ◌||◌, ◌&&◌, ◌==◌, nat_lt, nat_le, List, [], ◌∷◌, codes, length, take, drop, bytes_eq, is_none, reverse, if◌then◌else◌}
+use Rattle.std.specs.List.{list_all, slice_split}
 use Rattle.serde_json.specs.Data.{Data, null, boolean, number, string, array, object, Items, no_items, item, Members, no_members, member}
 use Rattle.ref_uri.specs.Reference.{is_uri_reference}
 use Rattle.refwalk.specs.Request.{Document, Step, Lookup, Recursive, Enter, Request}
@@ -36,17 +36,28 @@ is_lower c = nat_le 97 c && nat_le c 122
 abbrev pub is_run : (ℕ → Bool) → List ℕ → Bool
 is_run test text = nat_lt 0 (length text) && list_all test text
 
+abbrev pub is_host : List ℕ → Bool
+is_host text = is_run (λ c. is_lower c || (c == 46)) text
+
+abbrev pub is_segment : List ℕ → Bool
+is_segment text = is_run is_lower text
+
 abbrev pub is_host_and_segments : List (List ℕ) → Bool
 is_host_and_segments [] = false
-is_host_and_segments (host ∷ segments) = is_run (λ c. is_lower c || (c == 46)) host && list_all (is_run is_lower) segments
+is_host_and_segments (host ∷ segments) = is_host host && list_all is_segment segments
 
 -- `http://`, lower case letters and dots, and segments of lower case letters: such a URI is its own normal form
 abbrev pub is_plain : List ℕ → Bool
 is_plain text = bytes_eq (take 7 text) (codes "http://") && is_host_and_segments (slice_split (λ c. c == 47) (drop 7 text))
 
+-- the text from the first byte on that isn't `#`
+abbrev pub skip_hashes : List ℕ → List ℕ
+skip_hashes [] = []
+skip_hashes (c ∷ cs) = if c == 35 then skip_hashes cs else c ∷ cs
+
 -- the text without the `#` characters at its end
 abbrev pub trimmed : List ℕ → List ℕ
-trimmed text = take (length text - suffix_len (λ c. c == 35) text) text
+trimmed text = reverse (skip_hashes (reverse text))
 
 -- the URI is plain, or it is no URI at all, which is a fault of its own
 abbrev pub is_served_document : Document → Bool
