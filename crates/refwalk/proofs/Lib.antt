@@ -1,3 +1,8 @@
 mod Texts
 mod Trees
+mod Scopes
+mod Walks
 mod Registries
+mod Plain
+mod Steps
+mod Floats

@@ -11,4 +11,5 @@ pub mod Report
 pub mod FaultView
 pub mod RegistryView
 pub mod View
+pub mod Floats
 pub mod Run

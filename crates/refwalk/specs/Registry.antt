@@ -7,10 +7,10 @@ use Rattle.refwalk.specs.Request.{Document}
 use Rattle.refwalk.specs.Served.{trimmed}
 use Rattle.refwalk.specs.Fault.{Fault, InvalidUri}
 
--- the documents with one more, which takes the place of an earlier one under its URI
+-- the documents with one more, whose tree takes the place of an earlier one under its URI
 abbrev pub added : List Document → Document → List Document
 added [] d = d ∷ []
-added (e ∷ es) d = if bytes_eq d.uri e.uri then d ∷ es else e ∷ added es d
+added (e ∷ es) d = if bytes_eq d.uri e.uri then record { uri = e.uri; tree = d.tree } ∷ es else e ∷ added es d
 
 -- the last of the documents under the URI
 abbrev pub means : List Document → List ℕ → Option Data

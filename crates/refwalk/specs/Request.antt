@@ -1,9 +1,9 @@
 -- A request: the fields of one JSON object.
-use Rattle.std.specs.Prelude.{ℕ, Bool, not, ◌||◌, List, [], ◌∷◌, codes, Option, Some, None, option_map, option_and_then, Result, Ok, Err, ok_or, is_some, bytes_eq, if◌then◌else◌}
-use Rattle.std.specs.List.{list_any, list_all}
+use Rattle.std.specs.Prelude.{ℕ, Bool, true, ◌&&◌, ◌||◌, List, [], ◌∷◌, codes, Option, Some, None, option_map, option_and_then, Result, Ok, Err, ok_or, is_some, bytes_eq, if◌then◌else◌}
+use Rattle.std.specs.List.{list_all}
 use Rattle.std.specs.Str.{is_utf8}
 use Rattle.serde_json.specs.Data.{Data, null, boolean, number, string, array, object, Items, no_items, item, Members, no_members, member}
-use Rattle.serde_json.specs.Find.{get, as_str, as_array, as_object, as_number, as_u64}
+use Rattle.serde_json.specs.Find.{get, at, as_str, as_array, as_object, as_number, as_u64}
 use Rattle.serde_json.specs.Read.{read}
 use Rattle.serde_json.specs.Written.{has_float}
 use Rattle.ref_uri.specs.Reference.{is_uri_reference}
@@ -33,22 +33,14 @@ pub record Request : Type 0 where
 
 -- ---- lists in JSON
 
-abbrev pub items_list : Items → List Data
-items_list no_items = []
-items_list (item d ds) = d ∷ items_list ds
+-- what f gives of each item, if it gives something of each
+abbrev pub every : {B : Type 0} → (Data → Option B) → Items → Option (List B)
+every f no_items = Some []
+every f (item d ds) = option_and_then (λ y. option_map (λ ys. y ∷ ys) (every f ds)) (f d)
 
-abbrev pub keys_list : Members → List (List ℕ)
-keys_list no_members = []
-keys_list (member k d ms) = k ∷ keys_list ms
-
--- what f gives of each element, if it gives something of each
-abbrev pub every : {A B : Type 0} → (A → Option B) → List A → Option (List B)
-every f [] = Some []
-every f (x ∷ xs) = option_and_then (λ y. option_map (λ ys. y ∷ ys) (every f xs)) (f x)
-
--- an array whose elements are each read by f
+-- an array whose items are each read by f
 abbrev pub list_of : {B : Type 0} → (Data → Option B) → Data → Option (List B)
-list_of f d = option_and_then (λ ds. every f (items_list ds)) (as_array d)
+list_of f d = option_and_then (every f) (as_array d)
 
 -- ---- the fields
 
@@ -56,15 +48,11 @@ list_of f d = option_and_then (λ ds. every f (items_list ds)) (as_array d)
 abbrev pub if_passes : {A : Type 0} → (A → Bool) → A → Option A
 if_passes test x = if test x then Some x else None
 
-abbrev pub pair_of : List Data → Option Document
-pair_of [] = None
-pair_of (u ∷ []) = None
-pair_of (u ∷ t ∷ []) = option_map (λ s. record { uri = s; tree = t }) (as_str u)
-pair_of (u ∷ t ∷ x ∷ xs) = None
-
--- `[text, schema]`
+-- `[text, schema]`: a text, a second item, and no third
 abbrev pub document_of : Data → Option Document
-document_of d = option_and_then (λ ds. pair_of (items_list ds)) (as_array d)
+document_of d =
+    if is_some (at 2 d) then None
+    else option_and_then (λ u. option_and_then (λ s. option_map (λ t. record { uri = s; tree = t }) (at 1 d)) (as_str u)) (at 0 d)
 
 -- a list of `[text, schema]`
 unfoldable pub documents_of : Data → Option (List Document)
@@ -115,6 +103,11 @@ is_field name =
     bytes_eq name (codes "documents") || bytes_eq name (codes "base") || bytes_eq name (codes "steps") || bytes_eq name (codes "remote")
     || bytes_eq name (codes "meta") || bytes_eq name (codes "draft") || bytes_eq name (codes "limit")
 
+-- each key names a field
+abbrev pub are_fields : Members → Bool
+are_fields no_members = true
+are_fields (member k d ms) = is_field k && are_fields ms
+
 -- ---- the whole
 
 -- the tree that serde_json reads; bytes that are no UTF-8 are no JSON (RFC 8259, section 8.1)
@@ -137,7 +130,7 @@ fields_of d = do
 unfoldable pub request_of : Data → Result Request BadRequest
 request_of d = do
   members ← ok_or (as_object d) bad.NotAnObject
-  (if has_float d then Err bad.Float else (if list_all is_field (keys_list members) then fields_of d else Err bad.UnknownField))
+  (if has_float d then Err bad.Float else (if are_fields members then fields_of d else Err bad.UnknownField))
 
 -- the request that bytes are, or why they are none
 unfoldable pub read_request : List ℕ → Result Request BadRequest

@@ -10,6 +10,9 @@ use Rattle.refwalk.specs.declared.follow.Resolver.{Resolver}
 use Rattle.refwalk.specs.declared.follow.Followed.{Followed}
 use Rattle.refwalk.specs.declared.follow.StepFault.{StepFault}
 use Rattle.refwalk.specs.declared.report.Report.{Report}
+use Rattle.refwalk.specs.declared.fault.Fault.{Fault}
+use Rattle.refwalk.specs.declared.stop.Stop.{Stop}
+use Rattle.refwalk.specs.declared.stop.Stop.TheVariants.{Memory, Because}
 use Rattle.refwalk.specs.Request as request
 use Rattle.refwalk.specs.Fault as fault
 use Rattle.refwalk.specs.Follow as follow
@@ -42,6 +45,11 @@ followed_view f = record { last = option_map (λ v. view v.now) f.last; resolver
 
 abbrev pub step_fault_view : StepFault → ℕ × fault.Fault
 step_fault_view s = (s.step, fault_view s.fault)
+
+-- the same stop, with the number of the step
+abbrev pub numbered_stop : ℕ → Stop Fault → Stop StepFault
+numbered_stop n Memory = Memory
+numbered_stop n (Because fault) = Because (record { step = n; fault = fault })
 
 abbrev pub report_view : Report → report.Report
 report_view r = record { status = r.status; text = string_bytes r.text }

@@ -4,7 +4,7 @@ ghost use Rattle.refwalk.specs.Outcome.{Answers};
 ghost use Rattle.refwalk.specs.FaultView.{fault_view};
 ghost use Rattle.refwalk.specs.Follow as spec;
 ghost use Rattle.refwalk.specs.RegistryView.{documents_view};
-ghost use Rattle.refwalk.specs.View.{step_view, resolver_view, followed_view, step_fault_view};
+ghost use Rattle.refwalk.specs.View.{step_view, resolver_view, followed_view, step_fault_view, numbered_stop};
 
 use crate::fault::Fault;
 use crate::pointer::at_fragment;
@@ -55,16 +55,19 @@ pub fn follow<'a>(
     for (number, step) in steps.iter().enumerate() {
         state = match stepped(alloc, world, state, step) {
             Ok(next) => next,
-            Err(Stop::Memory) => return Err(Stop::Memory),
-            Err(Stop::Because(fault)) => {
-                return Err(Stop::Because(StepFault {
-                    step: number,
-                    fault,
-                }));
-            }
+            Err(stop) => return Err(numbered(number, stop)),
         };
     }
     Ok(state)
+}
+
+fn numbered<'a>(step: usize, stop: Stop<Fault<'a>>) -> Stop<StepFault<'a>>
+    ensures { result ≡ numbered_stop step stop.entry }
+{
+    match stop {
+        Stop::Memory => Stop::Memory,
+        Stop::Because(fault) => Stop::Because(StepFault { step, fault }),
+    }
 }
 
 #[tactic(auto, unfolding(crate::specs::Follow::stepped))]
@@ -110,8 +113,9 @@ fn looked_up<'a>(
 fn moved<'a>(mut resolver: Resolver<'a>, uri: &'a str) -> Result<Resolver<'a>, AllocError>
     ensures { IfOk result (λ r. resolver_view r ≡ spec.moved (resolver_view resolver.entry) uri.now) }
 {
-    if resolver.scope.is_empty() || uri != resolver.base {
-        resolver.scope.push(resolver.base)?;
+    let base = resolver.base;
+    if resolver.scope.is_empty() || uri != base {
+        resolver.scope.push(base)?;
     }
     resolver.base = uri;
     Ok(resolver)

@@ -48,6 +48,7 @@ impl<'a> Registry<'a> {
         ensures { option_map (λ v. view v.now) result
             ≡ spec.means (documents_view self.now.documents.entries) uri.now }
     {
+        let _keys_differ = self.documents.len();
         self.documents.get(uri).copied()
     }
 }

@@ -83,9 +83,7 @@ pub fn done_report(alloc: Global, followed: &Followed) -> Result<Report, AllocEr
 {
     let mut text = String::new(alloc);
     push_value(alloc, &mut text, followed.last)?;
-    text.push_str("base ")?;
-    text.push_str(followed.resolver.base)?;
-    text.push_str("\n")?;
+    push_line(&mut text, "base ", followed.resolver.base)?;
     push_scope(&mut text, followed.resolver.scope.as_slice())?;
     Ok(Report {
         status: Status::Done,
@@ -100,12 +98,23 @@ fn push_value(alloc: Global, text: &mut String, last: Option<&Value>) -> Result<
         ≡ string_bytes text.old ++ spec.value_lines (option_map (λ v. view v.now) last.entry)) }
 {
     let Some(value) = last else {
-        return text.push_str("no value\n");
+        return push_line(text, "no value", "");
     };
     let json = value.to_string(alloc)?;
-    text.push_str("value ")?;
-    text.push_str(json.as_str())?;
-    text.push_str("\ndraft 2020-12\n")
+    push_line(text, "value ", json.as_str())?;
+    push_line(text, "draft 2020-12", "")?;
+    Ok(())
+}
+
+// The label and the body, on a line.
+fn push_line(text: &mut String, label: &str, body: &str) -> Result<(), AllocError>
+    ensures { OnOk result (string_bytes text.new
+        ≡ string_bytes text.old ++ spec.line (label.now ++ body.now)) }
+{
+    text.push_str(label)?;
+    text.push_str(body)?;
+    text.push_str("\n")?;
+    Ok(())
 }
 
 // The line of the scope, of which the outermost URI comes first here and last there.
@@ -114,9 +123,12 @@ fn push_scope(text: &mut String, scope: &[&str]) -> Result<(), AllocError>
         ≡ string_bytes text.old ++ spec.scope_line (reverse (map (λ uri. uri.now) scope.now))) }
 {
     text.push_str("scope")?;
-    for uri in scope.iter().rev() {
+    let mut left = scope.len();
+    while left > 0 {
+        left -= 1;
         text.push_str(" ")?;
-        text.push_str(uri)?;
+        text.push_str(scope[left])?;
     }
-    text.push_str("\n")
+    text.push_str("\n")?;
+    Ok(())
 }

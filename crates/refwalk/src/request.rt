@@ -70,14 +70,14 @@ pub fn request_of(alloc: Global, tree: &Value) -> Result<Request<'_>, Stop<BadRe
     if has_float(tree) {
         return Err(Stop::Because(BadRequest::Float));
     }
-    if !has_known_fields(members) {
+    if !are_fields(members) {
         return Err(Stop::Because(BadRequest::UnknownField));
     }
     fields_of(alloc, tree)
 }
 
-fn has_known_fields(members: &Map<String, Value>) -> bool
-    ensures { result ≡ list_all spec.is_field (spec.keys_list (members_view members.now.entries)) }
+fn are_fields(members: &Map<String, Value>) -> bool
+    ensures { result ≡ spec.are_fields (members_view members.now.entries) }
 {
     for (key, _member) in members.iter() {
         if !is_field(key.as_str()) {
@@ -206,7 +206,7 @@ fn optional_limit(found: Option<&Value>) -> Result<Option<u64>, Stop<BadRequest>
     }
 }
 
-#[tactic(auto, unfolding(crate::specs::Request::documents_of))]
+#[tactic(auto, unfolding(crate::specs::Request::documents_of), using(crate::proofs::Trees::in_front_push))]
 fn documents_of(alloc: Global, value: &Value) -> Result<Option<Vec<Document<'_>>>, AllocError>
     ensures { IfOk result (λ o. option_map (λ v. map document_view v.items) o
         ≡ spec.documents_of (view value.now)) }
@@ -227,13 +227,12 @@ fn documents_of(alloc: Global, value: &Value) -> Result<Option<Vec<Document<'_>>
 fn document_of(value: &Value) -> Option<Document<'_>>
     ensures { option_map document_view result ≡ spec.document_of (view value.now) }
 {
-    match value.as_array()?.as_slice() {
-        [uri, tree] => {
-            let uri = uri.as_str()?;
-            Some(Document { uri, tree })
-        }
-        _ => None,
+    if value.get(2usize).is_some() {
+        return None;
     }
+    let uri = value.get(0usize)?.as_str()?;
+    let tree = value.get(1usize)?;
+    Some(Document { uri, tree })
 }
 
 #[tactic(auto, unfolding(crate::specs::Request::remote_of))]
@@ -265,7 +264,7 @@ fn base_of(value: &Value) -> Option<&str>
     if is_reference(base) { Some(base) } else { None }
 }
 
-#[tactic(auto, unfolding(crate::specs::Request::steps_of))]
+#[tactic(auto, unfolding(crate::specs::Request::steps_of), using(crate::proofs::Trees::in_front_push))]
 fn steps_of(alloc: Global, value: &Value) -> Result<Option<Vec<Step<'_>>>, AllocError>
     ensures { IfOk result (λ o. option_map (λ v. map step_view v.items) o
         ≡ spec.steps_of (view value.now)) }

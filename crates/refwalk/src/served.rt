@@ -9,14 +9,27 @@ use crate::scan::has_keyword;
 use crate::uri::{is_plain, is_reference, trimmed};
 
 /// Whether the request is answered by a report.
-#[tactic(auto, unfolding(crate::specs::Served::is_served))]
+#[tactic(auto, unfolding(crate::specs::Served::is_served), using(crate::proofs::Texts::list_all_map))]
 pub fn is_served(request: &Request) -> bool
     ensures { result ≡ spec.is_served (request_view request.now) }
 {
-    are_served_documents(request.documents.as_slice())
-        && is_plain(request.base)
-        && are_served_steps(request.steps.as_slice())
-        && request.remote.is_none()
+    if !are_served_documents(request.documents.as_slice()) {
+        return false;
+    }
+    if !is_plain(request.base) {
+        return false;
+    }
+    if !are_served_steps(request.steps.as_slice()) {
+        return false;
+    }
+    has_served_fields(request)
+}
+
+// The fields that may be absent are.
+fn has_served_fields(request: &Request) -> bool
+    ensures { result ≡ spec.has_served_fields (request_view request.now) }
+{
+    request.remote.is_none()
         && request.meta.is_none()
         && request.draft.is_none()
         && request.limit.is_none()
