@@ -6,3 +6,4 @@ mod Registries
 mod Plain
 mod Steps
 mod Floats
+mod Reports

@@ -1,5 +1,5 @@
 -- Steps that are followed one by one.
-use Rattle.std.proofs.Common.{◌≡◌, ℕ, ◌+◌, ◌<◌, Bool, true, false, List, [], ◌∷◌, length, map, drop, get_or, Result, Ok, Err, cond, eqb, refl, sym, ap, ◌∙◌, add-one}
+use Rattle.std.proofs.Common.{◌≡◌, ℕ, zero, suc, arith, ◌+◌, ◌<◌, ◌≤◌, Bool, true, false, List, [], ◌∷◌, length, map, drop, get_or, Result, Ok, Err, cond, eqb, refl, sym, ap, ◌∙◌, add-one}
 use Rattle.std.proofs.Math.Seq.{drop-cons}
 use Rattle.std.proofs.lemmas.Bool.Decides.{Decides-eqb}
 use Rattle.refwalk.specs.declared.request.Step.{Step}
@@ -45,3 +45,14 @@ pub followed-stop : (world : List request.Document) (n : ℕ) (f : Followed) (st
 followed-stop world n f Memory steps s h e is = tt
 followed-stop world n f (Because fault) steps s h e is =
     one_step world n f steps s h e ∙ ap (λ r. numbered n r >>= λ g. followed_from world (n + 1) g (map step_view (drop (n + 1) steps))) is
+
+drop_end : (steps : List Step) (n : ℕ) → length steps ≤ n → drop n steps ≡ []
+drop_end [] zero h = refl
+drop_end [] (suc n) h = refl
+drop_end (s ∷ ss) zero h = absurd (omega arith)
+drop_end (s ∷ ss) (suc n) h = drop_end ss n (omega arith)
+
+-- no step is left
+pub followed-end : (world : List request.Document) (n : ℕ) (f : Followed) (steps : List Step) → length steps ≤ n → followed_from world n f (map step_view (drop n steps)) ≡ Ok f
+unfolding followed_from
+followed-end world n f steps h = ap (λ xs. followed_from world n f (map step_view xs)) (drop_end steps n h)

@@ -21,6 +21,7 @@ use crate::source::Source;
 use crate::stop::Stop;
 use serde_json::Value;
 use std::alloc::{AllocError, Global};
+use std::fmt;
 
 const CHUNK: usize = 4096;
 
@@ -41,6 +42,17 @@ impl From<AllocError> for RunError {
 
     fn from(_refused: AllocError) -> RunError {
         RunError::Memory
+    }
+}
+
+impl fmt::Display for RunError {
+    fn fmt<W: fmt::Write>(&self, f: &mut fmt::Formatter<W>) -> fmt::Result {
+        match self {
+            RunError::Read => write!(f, "cannot read"),
+            RunError::Write => write!(f, "cannot write"),
+            RunError::Memory => write!(f, "out of memory"),
+            RunError::NotYet => write!(f, "not yet"),
+        }
     }
 }
 
@@ -103,7 +115,19 @@ pub fn run<R: Source, W: Sink>(
     ensures nothing_written { IfErr result (λ e. e ≢ RunError.Write → writer.new ≡ writer.old) }
 {
     let input = read_to_end(alloc, reader)?;
-    let report = answer(alloc, input.as_slice())?;
+    match answer(alloc, input.as_slice()) {
+        Ok(report) => write_report(writer, &report),
+        Err(error) => Err(error),
+    }
+}
+
+fn write_report<W: Sink>(writer: &mut W, report: &Report) -> Result<Status, RunError>
+    ensures status { IfOk result (λ status. status ≡ report.now.status) }
+    ensures taken { OnOk result (Appends (W.taken writer.old) (W.taken writer.new)
+        (string_bytes report.now.text)) }
+    ensures error { IfErr result (λ e. (e ≡ RunError.Write)
+        × HasFailed (W.failures writer.old) (W.failures writer.new)) }
+{
     match writer.write_all(report.text.as_bytes()) {
         Ok(()) => Ok(report.status),
         Err(_) => Err(RunError::Write),

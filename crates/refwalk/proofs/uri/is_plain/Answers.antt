@@ -1,4 +1,4 @@
-use Rattle.std.proofs.Common.{lit<, sym, ◌∙◌}
+use Rattle.std.proofs.Common.{lit<, refl, sym, ◌∙◌}
 use Rattle.std.proofs.lemmas.Str.Pattern.{split_once_first}
 use Rattle.refwalk.proofs.Plain.{plain-rest, plain-one, plain-more}
 use Rattle.refwalk.proofs.uri.is_plain.Goals as goal
@@ -24,4 +24,4 @@ returns-else-is_host c =
     let parts = rw c.in-Some-split_once.is at cut in
     let begins = c.in-Some.ensures.cases in
     let behind = plain-rest c.args.text.now c.in-Some.rest.now begins.0 begins.1.0 begins.1.1 begins.2 in
-    sym (behind ∙ plain-more c.in-Some.rest.now parts.0 ∙ rw (← parts.1, ← c.is_host-in-Some-split_once.ensures, c.if-is_host.false) (sym c.if-is_host.false))
+    sym (behind ∙ plain-more c.in-Some.rest.now parts.0 ∙ rw (← parts.1, ← c.is_host-in-Some-split_once.ensures, c.if-is_host.false) refl)
