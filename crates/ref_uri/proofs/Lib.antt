@@ -1,0 +1,11 @@
+pub mod OnLiterals
+pub mod Rows
+pub mod EncodedLemmas
+pub mod AuthorityLemmas
+pub mod PathLemmas
+pub mod StructureLemmas
+pub mod AuthorityCharacters
+pub mod AsciiLemmas
+pub mod UniqueLemmas
+pub mod RestLemmas
+pub mod LengthsLemmas

@@ -1,0 +1,81 @@
+-- The parts of an authority, `[userinfo "@"] host [":" port]` (RFC 3986, 3.2).
+use Rattle.std.specs.Prelude.{ℕ, ◌+◌, min, Bool, true, false, ◌||◌, ◌&&◌, not, List, [], ◌∷◌, length, take, drop, Option, Some, None, ◌==◌, nat_lt, if◌then◌else◌, slice_index}
+use Rattle.std.specs.List.{list_any, list_all, position_or_len, before_first, after_first}
+use Rattle.std.specs.Option.{option_map_or}
+use Rattle.std.specs.Char.{is_ascii_digit, is_ascii_hexdigit}
+use Rattle.ref_uri.specs.Characters.{is_encoded, is_unreserved, is_sub_delim, is_name_character, is_userinfo_character}
+
+-- what stands before the first such character, where there is one
+abbrev pub part_before : ℕ → List ℕ → Option (List ℕ)
+part_before c text = if list_any (λ x. x == c) text then Some (before_first (λ x. x == c) text) else None
+
+-- what follows the first such character, or all where there is none
+abbrev pub part_after : ℕ → List ℕ → List ℕ
+part_after c text = if list_any (λ x. x == c) text then after_first (λ x. x == c) text else text
+
+-- what stands before the `@` (3.2.1)
+abbrev pub userinfo : List ℕ → Option (List ℕ)
+userinfo authority = part_before 64 authority
+
+-- the host and the port
+abbrev pub host_and_port : List ℕ → List ℕ
+host_and_port authority = part_after 64 authority
+
+-- how long the host is: through `]` where it begins with `[`, else up to `:`
+abbrev pub host_len : List ℕ → ℕ
+host_len text =
+    if slice_index text 0 == 91 then min (position_or_len (λ c. c == 93) text + 1) (length text)
+    else position_or_len (λ c. c == 58) text
+
+-- a name or an address, in its brackets where it has any (3.2.2)
+abbrev pub host : List ℕ → List ℕ
+host authority = take (host_len (host_and_port authority)) (host_and_port authority)
+
+-- nothing, or `:` and the port (3.2.3)
+abbrev pub port_part : List ℕ → List ℕ
+port_part authority = drop (host_len (host_and_port authority)) (host_and_port authority)
+
+-- a hex digit, `:` or `.`
+abbrev pub is_address_character : ℕ → Bool
+is_address_character c = is_ascii_hexdigit c || (c == 58) || (c == 46)
+
+-- a run of them that isn't empty: which of them are IPv6 addresses is not told (3.2.2)
+abbrev pub is_address : List ℕ → Bool
+is_address text = nat_lt 0 (length text) && list_all is_address_character text
+
+-- hex digits, `.`, and unreserved, sub-delims or `:`, each at least once (IPvFuture behind its `v`, 3.2.2)
+abbrev pub is_version_and_address : List ℕ → Bool
+is_version_and_address text =
+    nat_lt 0 (length (before_first (λ c. c == 46) text)) && nat_lt 0 (length (after_first (λ c. c == 46) text))
+    && list_all is_ascii_hexdigit (before_first (λ c. c == 46) text)
+    && list_all is_userinfo_character (after_first (λ c. c == 46) text)
+
+-- an address of a later version begins with `v`
+abbrev pub is_future_address : List ℕ → Bool
+is_future_address [] = false
+is_future_address (v ∷ rest) = ((v == 118) || (v == 86)) && is_version_and_address rest
+
+-- an address, and then `]`
+abbrev pub is_address_and_bracket : List ℕ → Bool
+is_address_and_bracket text =
+    (position_or_len (λ c. c == 93) text + 1 == length text)
+    && (is_address (before_first (λ c. c == 93) text) || is_future_address (before_first (λ c. c == 93) text))
+
+-- `[`, an address, `]` (IP-literal, 3.2.2)
+abbrev pub is_bracketed : List ℕ → Bool
+is_bracketed [] = false
+is_bracketed (first ∷ rest) = (first == 91) && is_address_and_bracket rest
+
+-- an address in brackets, or a name that may be empty
+abbrev pub is_host : List ℕ → Bool
+is_host text = is_bracketed text || is_encoded is_name_character text
+
+-- nothing, or `:` and digits, of which there may be none
+abbrev pub is_port_part : List ℕ → Bool
+is_port_part [] = true
+is_port_part (c ∷ digits) = (c == 58) && list_all is_ascii_digit digits
+
+-- the parts hold what they may
+abbrev pub is_authority : List ℕ → Bool
+is_authority text =
+    option_map_or (is_encoded is_userinfo_character) (userinfo text) true && is_host (host text) && is_port_part (port_part text)

@@ -1,0 +1,96 @@
+-- Characters and triples (RFC 3986, 2).
+use Rattle.std.specs.Prelude.{ℕ, Bool, true, false, ◌||◌, ◌&&◌, List, [], ◌∷◌, ◌==◌, if◌then◌else◌}
+use Rattle.std.specs.List.{list_any, list_all}
+use Rattle.std.specs.Char.{is_ascii_alphabetic, is_ascii_alphanumeric, is_ascii_digit, is_ascii_hexdigit}
+
+abbrev pub hash_sign : ℕ
+hash_sign = 35
+
+abbrev pub percent_sign : ℕ
+percent_sign = 37
+
+abbrev pub plus_sign : ℕ
+plus_sign = 43
+
+abbrev pub hyphen : ℕ
+hyphen = 45
+
+abbrev pub full_stop : ℕ
+full_stop = 46
+
+abbrev pub slash : ℕ
+slash = 47
+
+abbrev pub colon : ℕ
+colon = 58
+
+abbrev pub question_mark : ℕ
+question_mark = 63
+
+abbrev pub at_sign : ℕ
+at_sign = 64
+
+abbrev pub left_bracket : ℕ
+left_bracket = 91
+
+abbrev pub right_bracket : ℕ
+right_bracket = 93
+
+-- unreserved: letters, digits and `-._~` (2.3)
+abbrev pub is_unreserved : ℕ → Bool
+is_unreserved c = is_ascii_alphanumeric c || (c == 45) || (c == 46) || (c == 95) || (c == 126)
+
+-- sub-delims: `!$&'()*+,;=` (2.2)
+abbrev pub is_sub_delim : ℕ → Bool
+is_sub_delim c =
+    (c == 33) || (c == 36) || (c == 38) || (c == 39) || (c == 40) || (c == 41) || (c == 42) || (c == 43) || (c == 44)
+    || (c == 59) || (c == 61)
+
+-- a scheme's characters after its first letter (3.1)
+abbrev pub is_scheme_character : ℕ → Bool
+is_scheme_character c = is_ascii_alphanumeric c || (c == 43) || (c == 45) || (c == 46)
+
+-- what a registered name may hold, triples aside (3.2.2)
+abbrev pub is_name_character : ℕ → Bool
+is_name_character c = is_unreserved c || is_sub_delim c
+
+-- what userinfo may hold, triples aside (3.2.1)
+abbrev pub is_userinfo_character : ℕ → Bool
+is_userinfo_character c = is_name_character c || (c == 58)
+
+-- pchar, triples aside (3.3)
+abbrev pub is_segment_character : ℕ → Bool
+is_segment_character c = is_name_character c || (c == 58) || (c == 64)
+
+-- the characters of a path (3.3)
+abbrev pub is_path_character : ℕ → Bool
+is_path_character c = is_segment_character c || (c == 47)
+
+-- the characters of a query or a fragment (3.4, 3.5)
+abbrev pub is_query_character : ℕ → Bool
+is_query_character c = is_segment_character c || (c == 47) || (c == 63)
+
+-- the text begins with two hex digits
+abbrev pub begins_with_hex_digits : List ℕ → Bool
+begins_with_hex_digits [] = false
+begins_with_hex_digits (high ∷ []) = false
+begins_with_hex_digits (high ∷ low ∷ rest) = is_ascii_hexdigit high && is_ascii_hexdigit low
+
+-- each `%` is followed by two hex digits (2.1)
+abbrev pub has_whole_triples : List ℕ → Bool
+has_whole_triples [] = true
+has_whole_triples (c ∷ rest) = (if c == 37 then begins_with_hex_digits rest else true) && has_whole_triples rest
+
+-- a text of characters that are allowed, hex digits among them, and of triples
+abbrev pub is_encoded : (ℕ → Bool) → List ℕ → Bool
+is_encoded allowed text = list_all (λ c. allowed c || (c == 37)) text && has_whole_triples text
+
+-- the text begins with a triple (2.1)
+abbrev pub begins_with_triple : List ℕ → Bool
+begins_with_triple [] = false
+begins_with_triple (c ∷ rest) = (c == 37) && begins_with_hex_digits rest
+
+-- the text begins with a character that is allowed, or with a triple
+abbrev pub begins_encoded : (ℕ → Bool) → List ℕ → Bool
+begins_encoded allowed [] = false
+begins_encoded allowed (c ∷ rest) = allowed c || begins_with_triple (c ∷ rest)

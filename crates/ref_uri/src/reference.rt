@@ -1,0 +1,106 @@
+//! A URI reference that borrows its text.
+ghost use Rattle.std.specs.Prelude.{◌≡◌, List, ℕ, is_ok, is_some, IfOk, IfErr, option_copied};
+ghost use Rattle.ref_uri.specs.Components.{scheme, authority, path, query, fragment};
+ghost use Rattle.ref_uri.specs.Reference.{is_uri_reference, with_fragment};
+
+use crate::error::ParseError;
+use crate::lengths::{Lengths, Parts};
+use crate::parser;
+use std::marker::Model;
+
+/// A URI reference, with or without a scheme (RFC 3986, 4.1), that borrows its text.
+#[derive(Drop)]
+pub struct UriRef<'a> {
+    text: &'a str,
+    lengths: Lengths,
+}
+
+impl<'a> Model for UriRef<'a> {
+    ghost use Rattle.std.specs.Prelude.{List, ℕ};
+    ghost use Rattle.ref_uri.specs.Lengths.{IsParsed};
+
+    ghost Value = { List ℕ };
+
+    ghost view = { λ r. r.text.now };
+
+    ghost invariant = { λ r. IsParsed r.text.now r.lengths };
+}
+
+impl<'a> UriRef<'a> {
+    /// The reference that the text is. `Syntax` exactly where the text is no URI reference (RFC 3986, 4.1 and
+    /// appendix A). Linear in the text; takes no memory and copies nothing.
+    pub fn parse(text: &'a str) -> Result<UriRef<'a>, ParseError>
+        ensures accepted { is_ok result ≡ is_uri_reference text.now }
+        ensures value { IfOk result (λ r. r ≡ text.now) }
+        ensures error { IfErr result (λ e. e ≡ ParseError.Syntax) }
+    {
+        let lengths = parser::parse(text.as_bytes())?;
+        Ok(UriRef { text, lengths })
+    }
+
+    fn parts(&self) -> Parts<'a>
+        ensures scheme { option_copied result.scheme ≡ scheme self.now }
+        ensures authority { option_copied result.authority ≡ authority self.now }
+        ensures path { result.path.now ≡ path self.now }
+        ensures query { option_copied result.query ≡ query self.now }
+        ensures fragment { option_copied result.fragment ≡ fragment self.now }
+    {
+        self.lengths.parts(self.text)
+    }
+
+    /// The text.
+    pub fn as_str(&self) -> &'a str
+        ensures { result.now ≡ self.now }
+    {
+        self.text
+    }
+
+    /// The scheme, where there is one (RFC 3986, 3.1).
+    pub fn scheme(&self) -> Option<&'a str>
+        ensures { option_copied result ≡ scheme self.now }
+    {
+        self.parts().scheme
+    }
+
+    /// The authority, where there is one: an empty one differs from none (RFC 3986, 3.2).
+    pub fn authority(&self) -> Option<&'a str>
+        ensures { option_copied result ≡ authority self.now }
+    {
+        self.parts().authority
+    }
+
+    /// The path, which may be empty (RFC 3986, 3.3).
+    pub fn path(&self) -> &'a str
+        ensures { result.now ≡ path self.now }
+    {
+        self.parts().path
+    }
+
+    /// The query, where there is one: an empty one differs from none (RFC 3986, 3.4).
+    pub fn query(&self) -> Option<&'a str>
+        ensures { option_copied result ≡ query self.now }
+    {
+        self.parts().query
+    }
+
+    /// The fragment, where there is one: an empty one differs from none (RFC 3986, 3.5).
+    pub fn fragment(&self) -> Option<&'a str>
+        ensures { option_copied result ≡ fragment self.now }
+    {
+        self.parts().fragment
+    }
+
+    /// Whether there is a scheme.
+    pub fn has_scheme(&self) -> bool
+        ensures { result ≡ is_some (scheme self.now) }
+    {
+        self.scheme().is_some()
+    }
+
+    /// Whether there is a fragment.
+    pub fn has_fragment(&self) -> bool
+        ensures { result ≡ is_some (fragment self.now) }
+    {
+        self.fragment().is_some()
+    }
+}
