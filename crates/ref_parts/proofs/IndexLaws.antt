@@ -48,9 +48,9 @@ parse_index_some s n =
     let test = is_index_text s && ltb (digits_value 10 s) (2 ^ 64) in
     cond_both test (Some (digits_value 10 s)) None (λ o. o ≡ Some n → (s ≡ decimal n) × (n < 2 ^ 64))
     (λ yes read.
-        let tests = and_parts (is_index_text s) (ltb (digits_value 10 s) (2 ^ 64)) yes in
-        let parts = is_index_text_parts s tests.0 in
-        let fits = ltb-true _ _ tests.1 in
-        let value : digits_value 10 s ≡ n = cc in
-        (sym (decimal-digits_value own s parts.0 parts.1 parts.2 fits) ∙ ap decimal value, omega (arith, value, fits)))
+    let tests = and_parts (is_index_text s) (ltb (digits_value 10 s) (2 ^ 64)) yes in
+    let parts = is_index_text_parts s tests.0 in
+    let fits = ltb-true _ _ tests.1 in
+    let value : digits_value 10 s ≡ n = cc in
+    (sym (decimal-digits_value own s parts.0 parts.1 parts.2 fits) ∙ ap decimal value, omega (arith, value, fits)))
     (λ no read. absurd (cc))

@@ -17,7 +17,6 @@ use Rattle.ref_parts.specs.Pointer.{escape, escaped_byte, unescape, tokens, part
 use Rattle.ref_parts.proofs.PointerLaws.{unescape-escape, unescape_front}
 use Rattle.ref_parts.proofs.IndexLaws.{own, parse_index-decimal}
 
-
 -- ---- tokens hold no `/`
 
 abbrev pub NoSlash : ℕ → Type 0
@@ -28,8 +27,8 @@ no_slash_escaped_byte b =
     cond_both (eqb b 126) (126 ∷ 48 ∷ []) _ (All NoSlash)
     (λ _. All-cons NoSlash 126 (48 ∷ []) refl (All-cons NoSlash 48 [] refl (All-nil NoSlash)))
     (λ _. cond_both (eqb b 47) (126 ∷ 49 ∷ []) (b ∷ []) (All NoSlash)
-        (λ _. All-cons NoSlash 126 (49 ∷ []) refl (All-cons NoSlash 49 [] refl (All-nil NoSlash)))
-        (λ other. All-cons NoSlash b [] other (All-nil NoSlash)))
+    (λ _. All-cons NoSlash 126 (49 ∷ []) refl (All-cons NoSlash 49 [] refl (All-nil NoSlash)))
+    (λ other. All-cons NoSlash b [] other (All-nil NoSlash)))
 
 pub no_slash_escape : (key : List ℕ) → All NoSlash (escape key)
 no_slash_escape [] = All-nil NoSlash
@@ -105,7 +104,7 @@ value_along_path d [] e fits h = h
 value_along_path d (part ∷ path) e fits h =
     let both = fits_first part path fits in
     option_and_then_some (λ x. value_at x path) (child_at d part) e h (λ x here more.
-        ap (option_and_then (λ y. value_along y (map part_text path))) (step_of_part d part x both.0 here) ∙ value_along_path x path e both.1 more)
+    ap (option_and_then (λ y. value_along y (map part_text path))) (step_of_part d part x both.0 here) ∙ value_along_path x path e both.1 more)
 
 -- the pointer text of a path that leads to a value means that value
 pub evaluate-pointer_text : (d : Data) (path : List Part) (e : Data) → HasFittingIndexes path → value_at d path ≡ Some e → evaluate d (pointer_text path) ≡ Some e

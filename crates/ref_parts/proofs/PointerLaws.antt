@@ -63,9 +63,9 @@ unescape_escaped_byte b rest =
     ⊎_elim
     (λ (e : b ≡ 126). subst (λ v. unescape (escaped_byte v ++ rest) ≡ v ∷ unescape rest) (sym e) (unescape_tilde rest))
     (λ not_tilde. ⊎_elim
-        (λ (e : b ≡ 47). subst (λ v. unescape (escaped_byte v ++ rest) ≡ v ∷ unescape rest) (sym e) (unescape_slash rest))
-        (λ not_slash. ap (λ x. unescape (x ++ rest)) (cond-false (eqb b 126) _ _ (ne_eqb b 126 not_tilde) ∙ cond-false (eqb b 47) _ _ (ne_eqb b 47 not_slash)) ∙ unescape_skip b rest not_tilde)
-        (cases_eq b 47))
+    (λ (e : b ≡ 47). subst (λ v. unescape (escaped_byte v ++ rest) ≡ v ∷ unescape rest) (sym e) (unescape_slash rest))
+    (λ not_slash. ap (λ x. unescape (x ++ rest)) (cond-false (eqb b 126) _ _ (ne_eqb b 126 not_tilde) ∙ cond-false (eqb b 47) _ _ (ne_eqb b 47 not_slash)) ∙ unescape_skip b rest not_tilde)
+    (cases_eq b 47))
     (cases_eq b 126)
 
 pub unescape-escape : (key : List ℕ) → unescape (escape key) ≡ key

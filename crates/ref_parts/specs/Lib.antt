@@ -1,3 +1,7 @@
+pub mod Encoded
+pub mod Items
+pub mod Link
 pub mod Path
 pub mod Pointer
+pub mod Rows
 pub mod Segment

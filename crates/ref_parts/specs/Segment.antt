@@ -2,8 +2,8 @@
 use Rattle.std.specs.Cow.{cow_str_bytes}
 use Rattle.ref_parts.specs.Path as path
 use Rattle.ref_parts.specs.Path.{Part}
-use Rattle.ref_parts.specs.declared.segments.JsonPointerSegment.{JsonPointerSegment}
-use Rattle.ref_parts.specs.declared.segments.JsonPointerSegment.TheVariants.{Key, Index}
+use Rattle.ref_parts.specs.declared.path.JsonPointerSegment.{JsonPointerSegment}
+use Rattle.ref_parts.specs.declared.path.JsonPointerSegment.TheVariants.{Key, Index}
 
 -- a key is seen as its bytes, whether it is borrowed or owned
 abbrev pub part_of : JsonPointerSegment → Part

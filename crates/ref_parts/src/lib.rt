@@ -3,4 +3,11 @@
 //! Read `specs/Path.antt` first: it says what a path is, and which value stands at it.
 #![tactic(auto)]
 
-pub mod segments;
+pub mod encoded;
+pub mod escape;
+pub mod evaluate;
+pub mod laws;
+pub mod list;
+pub mod path;
+#[cfg(test)]
+mod tests;

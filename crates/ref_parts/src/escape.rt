@@ -1,0 +1,135 @@
+//! Keys and indexes as the reference tokens of pointer text (RFC 6901, sections 3 and 4), and tokens as keys.
+ghost use Rattle.std.specs.Prelude.{◌≡◌, ◌≢◌, ◌+◌, ◌<◌, ◌≤◌, ◌∷◌, ◌++◌, length, decimal, string_bytes, string_len, string_capacity, All, OnOk, OnErr, IfOk, IsOkAnd, IsUtf8};
+ghost use Rattle.std.specs.Cow.{cow_str_bytes};
+ghost use Rattle.percent_encoding.specs.Cow.{IsBorrowedStr};
+ghost use Rattle.ref_parts.specs.Pointer.{escape, unescape, first_escape as escape_position, is_escaped, tilde};
+
+use std::alloc::{AllocError, Global};
+use std::borrow::CowStr;
+
+/// Where the first `~` or `/` stands, the bytes that a reference token writes escaped (RFC 6901, section 3).
+///
+/// Takes no memory, and is one pass up to that byte.
+pub fn first_escape(bytes: &[u8]) -> Option<usize>
+    ensures { result ≡ escape_position bytes.now }
+{
+    bytes.iter().position(|byte| *byte == b'~' || *byte == b'/')
+}
+
+/// Appends the decimal text of an index.
+///
+/// Refused where there is no memory for it, and then the buffer is as it was.
+pub fn write_index(buffer: &mut String, idx: usize) -> Result<(), AllocError>
+    ensures ok { OnOk result (string_bytes buffer.new ≡ string_bytes buffer.old ++ decimal idx) }
+    ensures err { OnErr result (string_bytes buffer.new ≡ string_bytes buffer.old) }
+    ensures full { OnErr result (string_capacity buffer.old < string_len buffer.old + length (decimal idx)) }
+{
+    let mut digits = itoa::Buffer::new();
+    buffer.push_str(digits.format(idx))
+}
+
+/// Appends a key as a reference token: `~` becomes `~0`, and `/` becomes `~1` (RFC 6901, section 3).
+///
+/// Refused where there is no memory for it, and then the buffer is as it was. The buffer grows at most once, and the
+/// runs between escapes are copied whole.
+pub fn write_escaped_str(buffer: &mut String, value: &str) -> Result<(), AllocError>
+    ensures ok { OnOk result (string_bytes buffer.new ≡ string_bytes buffer.old ++ escape value.now) }
+    ensures err { OnErr result (string_bytes buffer.new ≡ string_bytes buffer.old) }
+    ensures full { OnErr result (string_capacity buffer.old < string_len buffer.old + length (escape value.now)) }
+{
+    buffer.reserve(escaped_len(value.as_bytes()))?;
+    push_escaped(buffer, value);
+    Ok(())
+}
+
+// How long the bytes are once they are escaped.
+#[tactic(auto, using(crate::proofs::EscapeLaws::length_escape))]
+fn escaped_len(bytes: &[u8]) -> usize
+    ensures { result ≡ length (escape bytes.now) }
+{
+    bytes.len()
+        + bytes
+            .iter()
+            .filter(|byte| **byte == b'~' || **byte == b'/')
+            .count()
+}
+
+// Appends the escaped text, for which the buffer has room.
+fn push_escaped(buffer: &mut String, value: &str)
+    requires { string_len buffer.old + length (escape value.now) ≤ string_capacity buffer.old }
+    ensures { string_bytes buffer.new ≡ string_bytes buffer.old ++ escape value.now }
+{
+    let mut rest = value;
+    'runs: while let Some(index) = first_escape(rest.as_bytes()) {
+        let (run, escaped) = rest.split_at(index);
+        push_within(buffer, run);
+        let token = if rest.as_bytes()[index] == b'~' {
+            "~0"
+        } else {
+            "~1"
+        };
+        push_within(buffer, token);
+        rest = &rest[index + 1..];
+    }
+    push_within(buffer, rest);
+}
+
+// Appends a text for which the buffer has room.
+fn push_within(buffer: &mut String, text: &str)
+    requires { string_len buffer.old + length text.now ≤ string_capacity buffer.old }
+    ensures bytes { string_bytes buffer.new ≡ string_bytes buffer.old ++ text.now }
+    ensures len { string_len buffer.new ≡ string_len buffer.old + length text.now }
+    ensures capacity { string_capacity buffer.old ≤ string_capacity buffer.new }
+{
+    match buffer.push_str(text) {
+        Ok(()) => (),
+        Err(_) => unreachable!(),
+    }
+}
+
+/// A reference token as a key: first every `~1` becomes `/`, then every `~0` becomes `~` (RFC 6901, section 4).
+///
+/// A token without `~` is borrowed and takes no memory. Else the key takes memory once, and is refused where there is
+/// none. One pass.
+pub fn unescape_segment(alloc: Global, segment: &str) -> Result<CowStr<'_>, AllocError>
+    ensures value { IfOk result (λ key. cow_str_bytes key ≡ unescape segment.now) }
+    ensures borrows { All (λ b. b ≢ tilde) segment.now → IsOkAnd result IsBorrowedStr }
+{
+    let Some((front, escaped)) = segment.split_once('~') else {
+        return Ok(CowStr::Borrowed(segment));
+    };
+    let mut key = String::with_capacity(alloc, segment.len())?;
+    key.push_str(front)?;
+    push_unescaped(&mut key, escaped)?;
+    Ok(CowStr::Owned(key))
+}
+
+// Appends what a `~` and the text after it stand for.
+fn push_unescaped(key: &mut String, escaped: &str) -> Result<(), AllocError>
+    ensures { OnOk result (string_bytes key.new ≡ string_bytes key.old ++ unescape (tilde ∷ escaped.now)) }
+{
+    let mut rest = push_escape(key, escaped)?;
+    'runs: while let Some((run, after)) = rest.split_once('~') {
+        key.push_str(run)?;
+        rest = push_escape(key, after)?;
+    }
+    key.push_str(rest)
+}
+
+// Appends the one byte that a `~` before this text stands for, and answers what is left of the text.
+fn push_escape<'a>(key: &mut String, after: &'a str) -> Result<&'a str, AllocError>
+    ensures byte { IfOk result (λ rest. string_bytes key.new ++ unescape rest.now ≡ string_bytes key.old ++ unescape (tilde ∷ after.now)) }
+    ensures text { IfOk result (λ rest. IsUtf8 rest.now) }
+    ensures shorter { IfOk result (λ rest. length rest.now ≤ length after.now) }
+{
+    if let Some(rest) = after.strip_prefix('1') {
+        key.push('/')?;
+        Ok(rest)
+    } else if let Some(rest) = after.strip_prefix('0') {
+        key.push('~')?;
+        Ok(rest)
+    } else {
+        key.push('~')?;
+        Ok(after)
+    }
+}

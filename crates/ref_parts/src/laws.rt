@@ -1,0 +1,28 @@
+//! What holds of the definitions in `specs/`, for those who prove code above this crate. Each function does nothing:
+//! its clause is the law.
+ghost use Rattle.std.specs.Prelude.{◌≡◌, ◌↔◌, ◌<◌, ◌^◌, ℕ, List, Some, decimal};
+ghost use Rattle.serde_json.specs.Data.{Data};
+ghost use Rattle.ref_parts.specs.Path.{Part, value_at, HasFittingIndexes};
+ghost use Rattle.ref_parts.specs.Pointer.{escape, unescape, pointer_text, evaluate, parse_index};
+ghost use Rattle.ref_parts.specs.Rows.{PointerRows};
+
+/// Unescaping an escaped key gives the key back.
+pub fn unescape_undoes_escape()
+    ensures { (key : List ℕ) → unescape (escape key) ≡ key }
+{}
+
+/// A text is an index's exactly where it is that index's decimal text, for indexes that a `usize` holds.
+pub fn index_text_is_decimal()
+    ensures { (text : List ℕ) (i : ℕ) → (parse_index text ≡ Some i) ↔ ((text ≡ decimal i) × (i < 2 ^ 64)) }
+{}
+
+/// The pointer text of a path that leads to a value means that value.
+pub fn pointer_text_leads_where_its_path_does()
+    ensures { (document : Data) (path : List Part) (value : Data) → HasFittingIndexes path
+        → value_at document path ≡ Some value → evaluate document (pointer_text path) ≡ Some value }
+{}
+
+/// The worked rows of the definitions of pointer text.
+pub fn pointer_rows()
+    ensures { PointerRows }
+{}

@@ -1,0 +1,216 @@
+//! A list whose tails are shared.
+
+ghost use Rattle.std.specs.Prelude.{◌≡◌, ◌≤◌, [], ◌∷◌, ◌==◌, IfOk, OnErr, length};
+ghost use Rattle.ref_parts.specs.Items.{items_of};
+
+use std::alloc::{AllocError, Global};
+use std::fmt;
+use std::hash::{Hash, Hasher};
+use std::marker::Model;
+use std::rc::Rc;
+
+/// An immutable list, linked from its front. Lists share what stands behind an item that was put in front.
+#[cycle(list)]
+pub struct List<T: Drop> {
+    head: Option<Rc<Node<T>>>,
+}
+
+#[cycle(list)]
+#[derive(Drop)]
+struct Node<T: Drop> {
+    value: Rc<T>,
+    next: List<T>,
+}
+
+impl<T: Drop> Model for List<T> {
+    ghost use Rattle.std.specs.Prelude.{List, length};
+
+    ghost Value = { List T };
+
+    ghost use Rattle.ref_parts.specs.Items.{items_of};
+
+    ghost view = { λ l. items_of l.head };
+
+    ghost size = { length };
+
+    ghost use Rattle.std.proofs.Common.{arith};
+
+    ghost size_decreases = { λ a h. Prim.grind (arith) };
+}
+
+impl<T: Drop> Drop for List<T> {
+    fn drop(self) {
+        let List { head } = self;
+        let mut rest = head;
+        while let Some(node) = rest {
+            rest = rest_of(node);
+        }
+    }
+}
+
+// Lets a node go, and answers what stands behind it where no other list has it.
+fn rest_of<T: Drop>(node: Rc<Node<T>>) -> Option<Rc<Node<T>>>
+    ensures { length (items_of result) ≤ length node.value.next }
+{
+    match Rc::into_inner(node) {
+        Some(last) => {
+            let Node { value, next } = last;
+            drop(value);
+            next.into_head()
+        }
+        None => None,
+    }
+}
+
+impl<T: Drop> List<T> {
+    /// The empty list. Takes no memory.
+    pub fn new() -> Self
+        ensures { result ≡ [] }
+    {
+        List { head: None }
+    }
+
+    /// Whether the list has no items.
+    pub fn is_empty(&self) -> bool
+        ensures { result ≡ (length self.now == 0) }
+    {
+        self.head.is_none()
+    }
+
+    /// The list with this item in front. This list stays, and is shared.
+    ///
+    /// Takes memory for one link, whatever the length, and is refused where there is none.
+    pub fn push_front(&self, alloc: Global, value: Rc<T>) -> Result<Self, AllocError>
+        ensures { IfOk result (λ list. list ≡ value.value ∷ self.now) }
+    {
+        let next = self.clone()?;
+        let node = Rc::new(alloc, Node { value, next })?;
+        Ok(List { head: Some(node) })
+    }
+
+    /// The items from the front on. Takes no memory.
+    pub fn iter(&self) -> Iter<'_, T>
+        ensures { result ≡ self.now }
+    {
+        Iter { rest: self }
+    }
+
+    // The first node.
+    fn into_head(self) -> Option<Rc<Node<T>>>
+        ensures { items_of result ≡ self }
+    {
+        let List { head } = self;
+        head
+    }
+}
+
+impl<T: Drop> Clone for List<T> {
+    ghost is_clone = { λ list copy. copy ≡ list };
+
+    fn clone(&self) -> Result<Self, AllocError> {
+        let Some(node) = &self.head else {
+            return Ok(List::new());
+        };
+        Ok(List {
+            head: Some(node.clone()?),
+        })
+    }
+}
+
+/// The items of a list that are left, from the front on.
+#[derive(Drop)]
+pub struct Iter<'a, T: Drop> {
+    rest: &'a List<T>,
+}
+
+impl<'a, T: Drop> Model for Iter<'a, T> {
+    ghost use Rattle.std.specs.Prelude.{List};
+
+    ghost Value = { List T };
+
+    ghost view = { λ i. i.rest.now };
+}
+
+impl<'a, T: Drop> Iterator for Iter<'a, T> {
+    ghost use Rattle.std.specs.Iterator.{YieldsFirstRef, item_count};
+
+    type Item = &'a T;
+
+    ghost next_gives = { YieldsFirstRef (λ items. items) };
+
+    ghost remaining = { item_count (λ items. items) };
+
+    fn next(&mut self) -> Option<&'a T> {
+        let list = self.rest;
+        let node = list.head.as_ref()?;
+        self.rest = &node.next;
+        Some(&node.value)
+    }
+}
+
+impl<'a, T: Drop> IntoIterator for &'a List<T> {
+    type Item = &'a T;
+
+    type IntoIter = Iter<'a, T>;
+
+    ghost into_iter_gives = { λ list items. items ≡ list.now };
+
+    fn into_iter(self) -> Iter<'a, T> {
+        self.iter()
+    }
+}
+
+/// Lists are equal where their items are, in order.
+impl<T: PartialEq + Drop> PartialEq for List<T> {
+    ghost use Rattle.std.specs.Cmp.Lexicographic.{pointwise, lists_per};
+
+    ghost eq = { pointwise T.eq };
+
+    ghost laws = { lists_per T.laws };
+
+    fn eq(&self, other: &Self) -> bool {
+        let mut left = self.iter();
+        let mut right = other.iter();
+        while let Some(a) = left.next() {
+            match right.next() {
+                Some(b) if a == b => {}
+                _ => return false,
+            }
+        }
+        right.next().is_none()
+    }
+}
+
+impl<T: Eq + Drop> Eq for List<T> {
+    ghost use Rattle.std.specs.Cmp.Lexicographic.{lists_equiv};
+
+    ghost laws = { lists_equiv T.Eq.laws };
+}
+
+/// Feeds each item in order, so equal lists hash alike.
+impl<T: Hash + Drop> Hash for List<T> {
+    ghost use Rattle.std.specs.Prelude.{flat_map};
+    ghost use Rattle.ref_parts.specs.Items.{feeds_alike};
+
+    ghost hash_input = { flat_map T.hash_input };
+
+    ghost respects_eq = { feeds_alike T.respects_eq };
+
+    fn hash<H: Hasher>(&self, state: &mut H) {
+        for item in self {
+            item.hash(state);
+        }
+    }
+}
+
+impl<T: fmt::Debug + Drop> fmt::Debug for List<T> {
+    fn fmt<W: fmt::Write>(&self, f: &mut fmt::Formatter<W>) -> fmt::Result {
+        f.debug_list().entries(self.iter()).finish()
+    }
+}
+
+impl<T: fmt::Debug + Drop> fmt::Debug for Iter<'_, T> {
+    fn fmt<W: fmt::Write>(&self, f: &mut fmt::Formatter<W>) -> fmt::Result {
+        f.debug_struct("Iter").field("rest", self.rest).finish()
+    }
+}
