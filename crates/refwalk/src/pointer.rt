@@ -1,8 +1,5 @@
 //! The walk along the pointer of a URI's fragment (RFC 6901).
-ghost use Rattle.std.specs.Prelude.{◌≡◌, ◌==◌, length, IfOk, ok_or, option_map};
-ghost use Rattle.std.specs.List.{list_any};
-ghost use Rattle.std.specs.Cow.{cow_str_bytes};
-ghost use Rattle.ref_parts.specs.Pointer.{unescape};
+ghost use Rattle.std.specs.Prelude.{◌≡◌, ok_or, option_map};
 ghost use Rattle.serde_json.specs.View.{view};
 ghost use Rattle.refwalk.specs.Outcome.{Answers};
 ghost use Rattle.refwalk.specs.FaultView.{fault_view};
@@ -12,9 +9,9 @@ ghost use Rattle.refwalk.specs.Fault.{PointerToNowhere};
 use crate::fault::Fault;
 use crate::stop::Stop;
 use percent_encoding::{DecodeError, percent_decode};
+use ref_parts::escape::unescape_segment;
 use serde_json::Value;
-use std::alloc::{AllocError, Global};
-use std::borrow::CowStr;
+use std::alloc::Global;
 
 /// The value that a fragment means in a document without anchors: the empty one is the document, one that begins with `/`
 /// is a pointer, and another is the name of an anchor. It takes memory where a part holds an escape.
@@ -118,10 +115,4 @@ fn index_of(part: &str) -> Option<usize>
     ensures { result ≡ spec.index_of part.now }
 {
     part.parse::<usize>().ok()
-}
-
-fn unescape_segment(_alloc: Global, _segment: &str) -> Result<CowStr<'_, Global>, AllocError>
-    ensures value { IfOk result (λ key. cow_str_bytes key ≡ unescape _segment.now) }
-{
-    Err(AllocError)
 }

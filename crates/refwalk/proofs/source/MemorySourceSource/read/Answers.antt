@@ -24,4 +24,4 @@ returns-clause-bytes c =
     let given : new ≡ take n (drop p xs) = c.copy_from_slice.ensures.after ∙ ap (λ ys. take n ys) (take-rest p xs) in
     let long : length new ≡ n = grind (arith, common_steps) in
     let front : take n (new ++ drop n c.args.buffer.now) ≡ take n (drop p xs) = take-front n new (drop n c.args.buffer.now) long ∙ given in
-    take-add p n xs c.args.self.now.ok.0 ∙ ap (λ ys. take p xs ++ ys) (sym front)
+    take-add p n xs c.args.self.now.within ∙ ap (λ ys. take p xs ++ ys) (sym front)
