@@ -20,7 +20,6 @@ use Rattle.refwalk.specs.Report as report
 use Rattle.refwalk.specs.FaultView.{fault_view}
 pub use Rattle.refwalk.specs.RegistryView.{document_view}
 
-
 abbrev pub step_view : Step → request.Step
 step_view (Lookup reference) = request.Lookup reference.now
 step_view Recursive = request.Recursive

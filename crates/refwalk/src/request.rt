@@ -298,7 +298,11 @@ fn draft_of(value: &Value) -> Option<&str>
     ensures { option_map (λ s. s.now) result ≡ spec.draft_of (view value.now) }
 {
     let name = value.as_str()?;
-    if is_draft_name(name) { Some(name) } else { None }
+    if is_draft_name(name) {
+        Some(name)
+    } else {
+        None
+    }
 }
 
 fn is_draft_name(name: &str) -> bool

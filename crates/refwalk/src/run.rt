@@ -175,11 +175,7 @@ fn request_report(alloc: Global, request: &Request) -> Result<Report, AllocError
     }
 }
 
-fn followed_report(
-    alloc: Global,
-    world: &Registry,
-    request: &Request,
-) -> Result<Report, AllocError>
+fn followed_report(alloc: Global, world: &Registry, request: &Request) -> Result<Report, AllocError>
     requires { HasNoFloat (documents_view world.now.documents.entries) }
     ensures { IfOk result (λ r. report_view r ≡ report.followed_report
         (followed (documents_view world.now.documents.entries) request.now.base.now (map step_view request.now.steps.items))) }

@@ -38,7 +38,9 @@ fn has_served_fields(request: &Request) -> bool
 fn are_served_documents(documents: &[Document]) -> bool
     ensures { result ≡ list_all (λ d. spec.is_served_document (document_view d)) documents.now }
 {
-    documents.iter().all(|document| is_served_document(document))
+    documents
+        .iter()
+        .all(|document| is_served_document(document))
 }
 
 fn is_served_document(document: &Document) -> bool
