@@ -1,6 +1,5 @@
 -- A request without floats leads to values without floats.
 use Rattle.std.proofs.Common.{◌≡◌, ℕ, zero, suc, ◌+◌, Bool, true, false, ◌||◌, List, [], ◌∷◌, Option, Some, None, option_map, option_and_then, Result, Ok, Err, ok_or, IfSome, is_some, codes, cond, eqb, subst, bytes_eq, Ordering, Less, Equal, Greater, nat_cmp, refl, sym, ap, ◌∙◌}
-use Rattle.std.specs.List.{AllByRecursion}
 use Rattle.std.specs.Option.{option_or}
 use Rattle.std.specs.Ordering.{match_ordering}
 use Rattle.std.specs.Cmp.Lexicographic.{slice_cmp}
@@ -11,7 +10,6 @@ use Rattle.serde_json.specs.Find.{get, at, get_item, get_member, as_array, as_ob
 use Rattle.serde_json.specs.Written.{has_float, items_have_float, members_have_float}
 use Rattle.ref_parts.specs.Pointer.{unescape}
 use Rattle.ref_uri.specs.Reference.{is_uri_reference}
-use Rattle.refwalk.specs.declared.request.BadRequest.{BadRequest}
 use Rattle.refwalk.specs.declared.request.BadRequest.TheVariants as bad
 use Rattle.refwalk.specs.Fault.{Fault, Unretrievable, PointerToNowhere, InvalidPercentEncoding, InvalidArrayIndex, InvalidUri}
 use Rattle.refwalk.specs.Floats.{HasNoFloat}

@@ -1,5 +1,5 @@
 -- Plain URIs, cut at their slashes.
-use Rattle.std.proofs.Common.{◌≡◌, ℕ, ◌<◌, Bool, true, false, ◌&&◌, List, [], ◌∷◌, ◌++◌, length, take, drop, codes, bytes_eq, eqb, refl, sym, ap, ◌∙◌}
+use Rattle.std.proofs.Common.{◌≡◌, ℕ, ◌<◌, Bool, true, false, ◌&&◌, List, ◌++◌, length, take, drop, codes, bytes_eq, eqb, refl, sym, ap, ◌∙◌}
 use Rattle.std.specs.List.{slice_split, position_or_len, before_first, after_first, list_all}
 use Rattle.std.proofs.lemmas.List.Splits.{slice_split_first}
 use Rattle.refwalk.specs.Served.{is_plain, is_host, is_segment, is_host_and_segments}

@@ -1,5 +1,5 @@
 -- The documents of a request as the program keeps them.
-use Rattle.std.proofs.Common.{◌≡◌, ℕ, ◌+◌, ◌<◌, Bool, true, false, List, [], ◌∷◌, length, map, drop, get_or, Option, Some, None, option_map, Result, Err, cond, Bor, bytes_eq, refl, sym, ap, ◌∙◌, add-one, subst}
+use Rattle.std.proofs.Common.{◌≡◌, ℕ, ◌+◌, ◌<◌, Bool, true, false, List, [], ◌∷◌, length, map, drop, get_or, Option, Some, None, option_map, Err, cond, Bor, bytes_eq, refl, sym, ap, ◌∙◌, add-one, subst}
 use Rattle.std.specs.List.{IsDistinct, AllByRecursion}
 use Rattle.std.specs.Map.{lookup, keys_of}
 use Rattle.std.specs.Option.{option_or}
@@ -11,7 +11,6 @@ use Rattle.serde_json.specs.View.{view}
 use Rattle.serde_json.specs.declared.value.Value.{Value}
 use Rattle.ref_uri.specs.Reference.{is_uri_reference}
 use Rattle.refwalk.specs.declared.request.Document.{Document}
-use Rattle.refwalk.specs.Request as request
 use Rattle.refwalk.specs.Registry.{added, means, prepared_after}
 use Rattle.refwalk.specs.RegistryView.{document_view, entry_view, documents_view}
 use Rattle.refwalk.specs.Served.{trimmed}

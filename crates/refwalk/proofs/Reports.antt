@@ -1,5 +1,5 @@
 -- What the reports are, once each part of them is known.
-use Rattle.std.proofs.Common.{◌≡◌, ℕ, List, Option, Some, None, option_map, Ok, Err, IfSome, ok_or, Bor, refl, sym, ap, ◌∙◌, true, false, Result, IfOk, OnOk, string_bytes, subst}
+use Rattle.std.proofs.Common.{◌≡◌, ℕ, List, Option, Some, None, option_map, Ok, Err, IfSome, ok_or, Bor, sym, ap, ◌∙◌, true, false, Result, IfOk, OnOk, string_bytes, subst}
 use Rattle.serde_json.specs.Data.{Data}
 use Rattle.serde_json.specs.View.{view}
 use Rattle.serde_json.specs.Written.{has_float}

@@ -1,5 +1,5 @@
 -- The fault that a value of the program stands for.
-use Rattle.std.specs.Prelude.{ℕ, string_bytes}
+use Rattle.std.specs.Prelude.{string_bytes}
 use Rattle.refwalk.specs.declared.fault.Fault.{Fault}
 use Rattle.refwalk.specs.declared.fault.Fault.TheVariants.{Unretrievable, PointerToNowhere, InvalidPercentEncoding, InvalidArrayIndex, NoSuchAnchor, InvalidAnchor, InvalidUri}
 use Rattle.refwalk.specs.Fault as fault

@@ -1,8 +1,6 @@
 -- What the structs of the program stand for.
-use Rattle.std.specs.Prelude.{ℕ, List, map, Option, option_map, reverse, string_bytes}
-use Rattle.serde_json.specs.Data.{Data}
+use Rattle.std.specs.Prelude.{ℕ, map, option_map, reverse, string_bytes}
 use Rattle.serde_json.specs.View.{view}
-use Rattle.refwalk.specs.declared.request.Document.{Document}
 use Rattle.refwalk.specs.declared.request.Step.{Step}
 use Rattle.refwalk.specs.declared.request.Step.TheVariants.{Lookup, Recursive, Enter}
 use Rattle.refwalk.specs.declared.request.Request.{Request}

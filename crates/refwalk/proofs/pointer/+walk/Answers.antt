@@ -1,5 +1,4 @@
-use Rattle.std.proofs.Common.{◌<◌, length, drop, lit<, arith, sym, ap, ℕ}
-use Rattle.std.specs.List.{after_first}
+use Rattle.std.proofs.Common.{◌<◌, length, lit<, arith, sym, ap, ℕ}
 use Rattle.std.proofs.lemmas.List.{length-drop}
 use Rattle.std.proofs.lemmas.Str.Pattern.{split_once_first}
 use Rattle.serde_json.specs.View.{view}

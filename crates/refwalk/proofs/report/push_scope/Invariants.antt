@@ -1,4 +1,4 @@
-use Rattle.std.proofs.Common.{◌≡◌, ◌≤◌, ◌++◌, codes, map, flat_map, string_bytes, length, take}
+use Rattle.std.proofs.Common.{◌≡◌, ◌≤◌, ◌++◌, string_bytes, length, take}
 use Rattle.refwalk.proofs.Scopes.{uris}
 use Rattle.refwalk.proofs.report.push_scope.Given as goal
 

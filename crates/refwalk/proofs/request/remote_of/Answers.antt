@@ -1,4 +1,4 @@
-use Rattle.std.proofs.Common.{◌≡◌, map, sym, ◌∙◌}
+use Rattle.std.proofs.Common.{map, sym, ◌∙◌}
 use Rattle.refwalk.specs.View.{document_view}
 use Rattle.refwalk.proofs.Texts.{list_all_map}
 use Rattle.refwalk.proofs.Trees.{remote_of-passes, remote_of-fails}

@@ -1,4 +1,3 @@
-use Rattle.std.proofs.Common.{rules}
 use Rattle.refwalk.specs.Follow.{start}
 use Rattle.refwalk.specs.RegistryView.{documents_view}
 use Rattle.refwalk.specs.View.{followed_view}

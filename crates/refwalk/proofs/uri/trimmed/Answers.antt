@@ -1,6 +1,6 @@
 use Rattle.std.proofs.Common.{lit<, sym, ◌∙◌}
 use Rattle.std.proofs.lemmas.Str.Pattern.{strip_suffix_char}
-use Rattle.refwalk.proofs.Texts.{trimmed-hash, trimmed-same}
+use Rattle.refwalk.proofs.Texts.{trimmed-same}
 use Rattle.refwalk.proofs.uri.trimmed.Goals as goal
 
 pub returns : goal.returns
