@@ -1,4 +1,5 @@
 pub mod Encoded
+pub mod FiniteMap
 pub mod Items
 pub mod Link
 pub mod Path

@@ -9,5 +9,6 @@ pub mod evaluate;
 pub mod laws;
 pub mod list;
 pub mod path;
+pub mod small_map;
 #[cfg(test)]
 mod tests;

@@ -60,11 +60,11 @@ components_ascii c h =
     let q = framed (codes "?") c.query [] in
     let f = framed (codes "#") c.fragment [] in
     ascii-append (s ++ a ++ c.path ++ q) f (ascii-append (s ++ a ++ c.path) q (ascii-append (s ++ a) c.path (ascii-append s a
-      (framed_ascii [] c.scheme (codes ":") is_scheme refl refl scheme_ascii two.0)
-      (framed_ascii (codes "//") c.authority [] is_authority refl refl authority_ascii two.1))
-      (encoded_ascii is_path_character (λ d k. grind (arith, nat_tests)) c.path three.1))
-      (framed_ascii (codes "?") c.query [] is_query refl refl (encoded_ascii is_query_character (λ d k. grind (arith, nat_tests))) four.1))
-      (framed_ascii (codes "#") c.fragment [] is_query refl refl (encoded_ascii is_query_character (λ d k. grind (arith, nat_tests))) five.1)
+    (framed_ascii [] c.scheme (codes ":") is_scheme refl refl scheme_ascii two.0)
+    (framed_ascii (codes "//") c.authority [] is_authority refl refl authority_ascii two.1))
+    (encoded_ascii is_path_character (λ d k. grind (arith, nat_tests)) c.path three.1))
+    (framed_ascii (codes "?") c.query [] is_query refl refl (encoded_ascii is_query_character (λ d k. grind (arith, nat_tests))) four.1))
+    (framed_ascii (codes "#") c.fragment [] is_query refl refl (encoded_ascii is_query_character (λ d k. grind (arith, nat_tests))) five.1)
 
 pub IsAscii-from_all_ascii : (text : List ℕ) → all_ascii text ≡ true → IsAscii text
 IsAscii-from_all_ascii text h =

@@ -65,9 +65,9 @@ version_characters text h =
     let more : 0 < length (drop (dot + 1) text) = ltb-true 0 (length (drop (dot + 1) text)) second.1 in
     let within : dot < length text = omega (arith, more, length-drop (dot + 1) text) in
     from_around dot text within
-      (list_all-wider is_ascii_hexdigit is_authority_character (λ c k. grind (arith, nat_tests)) (take dot text) third.1)
-      (ap is_authority_character (eqb-true (get_or text dot 0) 46 (passes_at_first (λ c. eqb c 46) text within)))
-      (list_all-wider is_userinfo_character is_authority_character (λ c k. grind (arith, nat_tests)) (drop (dot + 1) text) last.1)
+    (list_all-wider is_ascii_hexdigit is_authority_character (λ c k. grind (arith, nat_tests)) (take dot text) third.1)
+    (ap is_authority_character (eqb-true (get_or text dot 0) 46 (passes_at_first (λ c. eqb c 46) text within)))
+    (list_all-wider is_userinfo_character is_authority_character (λ c k. grind (arith, nat_tests)) (drop (dot + 1) text) last.1)
 
 future_characters : (text : List ℕ) → is_future_address text ≡ true → all_authority text ≡ true
 future_characters [] h = refl
@@ -84,9 +84,9 @@ bracket_characters text h =
     let length_is : end + 1 ≡ length text = eqb-true (end + 1) (length text) both.0 in
     let within : end < length text = omega arith in
     from_around end text within
-      (elim (or_cases (is_address (take end text)) (is_future_address (take end text)) both.1) [ inl a ↦ address_characters (take end text) a | inr f ↦ future_characters (take end text) f ])
-      (ap is_authority_character (eqb-true (get_or text end 0) 93 (passes_at_first (λ c. eqb c 93) text within)))
-      (nothing_left (end + 1) text length_is)
+    (elim (or_cases (is_address (take end text)) (is_future_address (take end text)) both.1) [ inl a ↦ address_characters (take end text) a | inr f ↦ future_characters (take end text) f ])
+    (ap is_authority_character (eqb-true (get_or text end 0) 93 (passes_at_first (λ c. eqb c 93) text within)))
+    (nothing_left (end + 1) text length_is)
   where
     nothing_left : (n : ℕ) (text : List ℕ) → n ≡ length text → all_authority (drop n text) ≡ true
     nothing_left n text e = ap all_authority (drop_all n text (omega arith))
@@ -94,8 +94,8 @@ bracket_characters text h =
 host_characters : (text : List ℕ) → is_host text ≡ true → all_authority text ≡ true
 host_characters text h =
     elim (or_cases (is_bracketed text) (is_encoded is_name_character text) h) [
-      inl bracketed ↦ in_brackets text bracketed
-    | inr name ↦ encoded_characters is_name_character (λ c k. grind (arith, nat_tests)) text name
+      | inl bracketed ↦ in_brackets text bracketed
+      | inr name ↦ encoded_characters is_name_character (λ c k. grind (arith, nat_tests)) text name
     ]
   where
     in_brackets : (text : List ℕ) → is_bracketed text ≡ true → all_authority text ≡ true
@@ -127,9 +127,10 @@ authority_characters text h =
         let outer = and_parts (is_encoded is_userinfo_character (take at text) && is_host (take (host_len rest) rest)) (is_port_part (drop (host_len rest) rest)) all in
         let inner = and_parts (is_encoded is_userinfo_character (take at text)) (is_host (take (host_len rest) rest)) outer.0 in
         from_around at text lt
-          (encoded_characters is_userinfo_character (λ c k. grind (arith, nat_tests)) (take at text) inner.0)
-          (ap is_authority_character (eqb-true (get_or text at 0) 64 (passes_at_first (λ x. eqb x 64) text lt)))
-          (host_and_port_characters rest (and_from (is_host (take (host_len rest) rest)) (is_port_part (drop (host_len rest) rest)) inner.1 outer.1))
+        (encoded_characters is_userinfo_character (λ c k. grind (arith, nat_tests)) (take at text) inner.0)
+        (ap is_authority_character (eqb-true (get_or text at 0) 64 (passes_at_first (λ x. eqb x 64) text lt)))
+        (host_and_port_characters rest (and_from (is_host (take (host_len rest) rest)) (is_port_part (drop (host_len rest) rest)) inner.1 outer.1))
+
     without : length text ≤ position_or_len (λ x. eqb x 64) text → all_authority text ≡ true
     without le =
         let absent : list_any (λ x. eqb x 64) text ≡ false = any_is_found (λ x. eqb x 64) text ∙ le-ltb _ _ le in

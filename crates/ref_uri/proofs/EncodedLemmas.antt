@@ -45,11 +45,11 @@ whole-append [] q h k = k
 whole-append (c ∷ p) q h k =
     let parts = and_parts _ _ h in
     and_from _ _
-      (elim (eqb c 37) as (λ b. cond b (begins_with_hex_digits p) true ≡ true → cond b (begins_with_hex_digits (p ++ q)) true ≡ true) [
-        true ↦ λ t. hex_digits-append p q t
+    (elim (eqb c 37) as (λ b. cond b (begins_with_hex_digits p) true ≡ true → cond b (begins_with_hex_digits (p ++ q)) true ≡ true) [
+      | true ↦ λ t. hex_digits-append p q t
       | false ↦ λ _. refl
-      ] parts.0)
-      (whole-append p q parts.1 k)
+    ] parts.0)
+    (whole-append p q parts.1 k)
 
 -- what follows a `%` inside whole triples
 pub whole_at : (p : List ℕ) (q : List ℕ) → has_whole_triples (p ++ 37 ∷ q) ≡ true → begins_with_hex_digits q ≡ true
@@ -93,10 +93,10 @@ triple_front class (c ∷ a ∷ b ∷ t) h =
 -- a triple more of a text
 pub triple_more : (class : Class) (text : List ℕ) (i : ℕ) → i ≤ length text → is_encoded (allows class) (take i text) ≡ true → begins_with_triple (drop i text) ≡ true → (i + 3 ≤ length text) × (is_encoded (allows class) (take (i + 3) text) ≡ true)
 triple_more class text i le h k =
-    let front = triple_front class (drop i text) k in
-    (omega (arith, length-drop i text),
-     subst (λ (t : List ℕ). is_encoded (allows class) t ≡ true) (sym (take-add i 3 text)) (encoded-append (allows class) (take i text) (take 3 (drop i text)) h front.1))
-
+    let front = triple_front class (drop i text) k in (
+      omega (arith, length-drop i text),
+      subst (λ (t : List ℕ). is_encoded (allows class) t ≡ true) (sym (take-add i 3 text)) (encoded-append (allows class) (take i text) (take 3 (drop i text)) h front.1),
+    )
 
 -- what a part allows doesn't end it, nor does a triple
 pub apart : (class : Class) (c : ℕ) → (allows class c || eqb c 37) ≡ true → ends class c ≡ false
@@ -126,13 +126,13 @@ ends_later : (class : Class) (text : List ℕ) (n : ℕ) → n < length text →
 ends_later class text n lt h no_end =
     let first = position_or_len (ends class) text in
     elim (cases_lt n first) [
-      inl p ↦ p
-    | inr p ↦
-        let at_first : ends class (get_or text first 0) ≡ true = passes_at_first (ends class) text (omega arith) in
-        elim (cases_eq first n) [
-          inl e ↦ absurd (false≢true (sym no_end ∙ subst (λ (k : ℕ). ends class (get_or text k 0) ≡ true) e at_first))
-        | inr e ↦ absurd (false≢true (sym (apart class (get_or text first 0) (passes_in_front class text n first (omega arith) (omega arith) h)) ∙ at_first))
-        ]
+      | inl p ↦ p
+      | inr p ↦
+          let at_first : ends class (get_or text first 0) ≡ true = passes_at_first (ends class) text (omega arith) in
+          elim (cases_eq first n) [
+            | inl e ↦ absurd (false≢true (sym no_end ∙ subst (λ (k : ℕ). ends class (get_or text k 0) ≡ true) e at_first))
+            | inr e ↦ absurd (false≢true (sym (apart class (get_or text first 0) (passes_in_front class text n first (omega arith) (omega arith) h)) ∙ at_first))
+          ]
     ]
 
 -- a longer front, as the shorter one and what follows it
@@ -146,19 +146,20 @@ take_from text n k lt within =
 pub not_encoded_past : (class : Class) (text : List ℕ) (n k : ℕ) → n < k → k ≤ length text → begins_encoded (allows class) (drop n text) ≡ false → is_encoded (allows class) (take k text) ≡ false
 not_encoded_past class text n k past within no_more =
     false_from_ne_true _ (λ e.
-      elim (or_cases _ _ (passes_in_front class text k n past within e)) [
-        inl allowed ↦ false≢true (sym no_more ∙ ap (begins_encoded (allows class)) (drop-cons text n 0 (omega arith)) ∙ allowed_first allowed)
+    elim (or_cases _ _ (passes_in_front class text k n past within e)) [
+      | inl allowed ↦ false≢true (sym no_more ∙ ap (begins_encoded (allows class)) (drop-cons text n 0 (omega arith)) ∙ allowed_first allowed)
       | inr percent ↦ false≢true (sym no_more ∙ ap (begins_encoded (allows class)) (drop-cons text n 0 (omega arith)) ∙ begins_here e (eqb-true _ _ percent))
-      ])
+    ])
   where
     allowed_first : allows class (get_or text n 0) ≡ true → begins_encoded (allows class) (get_or text n 0 ∷ drop (suc n) text) ≡ true
     allowed_first allowed = rw allowed refl
+
     begins_here : is_encoded (allows class) (take k text) ≡ true → get_or text n 0 ≡ 37 → begins_encoded (allows class) (get_or text n 0 ∷ drop (suc n) text) ≡ true
     begins_here e is =
         let whole = (and_parts (list_all (λ c. allows class c || eqb c 37) (take k text)) (has_whole_triples (take k text)) e).1 in
         let shape = take_from text n k past (omega arith) in
         let digits = whole_at (take n text) (take (k - suc n) (drop (suc n) text))
-          (subst (λ c. has_whole_triples (take n text ++ c ∷ take (k - suc n) (drop (suc n) text)) ≡ true) is (subst (λ t. has_whole_triples t ≡ true) shape whole)) in
+        (subst (λ c. has_whole_triples (take n text ++ c ∷ take (k - suc n) (drop (suc n) text)) ≡ true) is (subst (λ t. has_whole_triples t ≡ true) shape whole)) in
         let more = hex_digits-append (take (k - suc n) (drop (suc n) text)) (drop (k - suc n) (drop (suc n) text)) digits in
         let all = subst (λ t. begins_with_hex_digits t ≡ true) (take-append-drop (k - suc n) (drop (suc n) text)) more in
         rw (is, all) (or_true (allows class 37))
@@ -172,10 +173,10 @@ part_is_not class text n lt h no_more no_end =
 pub encoded_is_whole : (class : Class) (text : List ℕ) (n : ℕ) → n ≤ length text → is_encoded (allows class) (take n text) ≡ true → begins_encoded (allows class) (drop n text) ≡ false → eqb n (length text) ≡ is_encoded (allows class) text
 encoded_is_whole class text n le h no_more =
     elim (cases_eq n (length text)) [
-      inl e ↦ eq-eqb n (length text) e ∙ sym (subst (λ (t : List ℕ). is_encoded (allows class) t ≡ true) (ap (λ k. take k text) e ∙ take-length text) h)
-    | inr e ↦
-        ne_eqb n (length text) e
-        ∙ sym (subst (λ (t : List ℕ). is_encoded (allows class) t ≡ false) (take-length text) (not_encoded_past class text n (length text) (omega arith) (omega arith) no_more))
+      | inl e ↦ eq-eqb n (length text) e ∙ sym (subst (λ (t : List ℕ). is_encoded (allows class) t ≡ true) (ap (λ k. take k text) e ∙ take-length text) h)
+      | inr e ↦
+          ne_eqb n (length text) e
+          ∙ sym (subst (λ (t : List ℕ). is_encoded (allows class) t ≡ false) (take-length text) (not_encoded_past class text n (length text) (omega arith) (omega arith) no_more))
     ]
 
 -- some element passes exactly where the first that passes stands before the end
@@ -183,11 +184,12 @@ pub any_is_found : (p : ℕ → Bool) (text : List ℕ) → list_any p text ≡ 
 any_is_found p [] = refl
 any_is_found p (c ∷ text) =
     elim (p c) as (λ b. (b || list_any p text) ≡ ltb (cond (not b) (1 + position_or_len p text) 0) (suc (length text))) [
-      true ↦ sym (below_suc 0 (length text) (omega arith))
-    | false ↦ any_is_found p text ∙ one_more (position_or_len p text) (length text)
+      | true ↦ sym (below_suc 0 (length text) (omega arith))
+      | false ↦ any_is_found p text ∙ one_more (position_or_len p text) (length text)
     ]
   where
     below_suc : (a b : ℕ) → a ≤ b → ltb a (suc b) ≡ true
     below_suc a b le = grind (arith, nat_tests)
+
     one_more : (a b : ℕ) → ltb a b ≡ ltb (1 + a) (suc b)
     one_more a b = grind (arith, nat_tests)

@@ -1,5 +1,4 @@
 pub mod OnLiterals
-pub mod Rows
 pub mod EncodedLemmas
 pub mod AuthorityLemmas
 pub mod PathLemmas
@@ -7,5 +6,7 @@ pub mod StructureLemmas
 pub mod AuthorityCharacters
 pub mod AsciiLemmas
 pub mod UniqueLemmas
+pub mod FragmentLemmas
+pub mod LawLemmas
 pub mod RestLemmas
 pub mod LengthsLemmas

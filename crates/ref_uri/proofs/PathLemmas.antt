@@ -17,8 +17,8 @@ or_true false = refl
 pub before_first-cons : (p : ℕ → Bool) (c : ℕ) (text : List ℕ) → before_first p (c ∷ text) ≡ cond (p c) [] (c ∷ before_first p text)
 before_first-cons p c text =
     elim (p c) as (λ b. take (cond (not b) (1 + position_or_len p text) 0) (c ∷ text) ≡ cond b [] (c ∷ before_first p text)) [
-      true ↦ refl
-    | false ↦ one_more (position_or_len p text)
+      | true ↦ refl
+      | false ↦ one_more (position_or_len p text)
     ]
   where
     one_more : (k : ℕ) → take (1 + k) (c ∷ text) ≡ c ∷ take k text
@@ -28,8 +28,8 @@ before_first-cons p c text =
 pub get_or_first-cons : (p : ℕ → Bool) (c : ℕ) (text : List ℕ) → get_or (c ∷ text) (position_or_len p (c ∷ text)) 0 ≡ cond (p c) c (get_or text (position_or_len p text) 0)
 get_or_first-cons p c text =
     elim (p c) as (λ b. get_or (c ∷ text) (cond (not b) (1 + position_or_len p text) 0) 0 ≡ cond b c (get_or text (position_or_len p text) 0)) [
-      true ↦ refl
-    | false ↦ one_more (position_or_len p text)
+      | true ↦ refl
+      | false ↦ one_more (position_or_len p text)
     ]
   where
     one_more : (k : ℕ) → get_or (c ∷ text) (1 + k) 0 ≡ get_or text k 0
@@ -68,9 +68,9 @@ colon_in_first_segment (c ∷ text) =
 pub slashes_in_front : (k : ℕ) (text : List ℕ) → begins_with_slashes text ≡ false → begins_with_slashes (take k text) ≡ false
 slashes_in_front k text h =
     false_from_ne_true _ (λ yes.
-      let both = and_parts (eqb (get_or (take k text) 0 0) 47) (eqb (get_or (take k text) 1 0) 47) yes in
-      let second : 1 < k = long k text (eqb-true _ _ both.1) in
-      false≢true (sym h ∙ subst (λ (a : ℕ). (eqb a 47 && eqb (get_or text 1 0) 47) ≡ true) (get_or-take k text 0 0 (omega arith)) (subst (λ (b : ℕ). (eqb (get_or (take k text) 0 0) 47 && eqb b 47) ≡ true) (get_or-take k text 1 0 second) yes)))
+    let both = and_parts (eqb (get_or (take k text) 0 0) 47) (eqb (get_or (take k text) 1 0) 47) yes in
+    let second : 1 < k = long k text (eqb-true _ _ both.1) in
+    false≢true (sym h ∙ subst (λ (a : ℕ). (eqb a 47 && eqb (get_or text 1 0) 47) ≡ true) (get_or-take k text 0 0 (omega arith)) (subst (λ (b : ℕ). (eqb (get_or (take k text) 0 0) 47 && eqb b 47) ≡ true) (get_or-take k text 1 0 second) yes)))
   where
     long : (k : ℕ) (text : List ℕ) → get_or (take k text) 1 0 ≡ 47 → 1 < k
     long zero text e = absurd (omega (arith, e))
@@ -83,8 +83,8 @@ pub path_behind_authority : (text : List ℕ) → ((eqb (length (before_first en
 path_behind_authority [] = refl
 path_behind_authority (c ∷ text) =
     elim (ends_authority c) as (λ b. (b ≡ ends_authority c) → (eqb (length (before_first ends_path (drop (cond (not b) (1 + position_or_len ends_authority text) 0) (c ∷ text)))) 0 || eqb (get_or (before_first ends_path (drop (cond (not b) (1 + position_or_len ends_authority text) 0) (c ∷ text))) 0 0) 47) ≡ true) [
-      true ↦ λ e. stops (sym e)
-    | false ↦ λ e. goes_on (position_or_len ends_authority text) (path_behind_authority text)
+      | true ↦ λ e. stops (sym e)
+      | false ↦ λ e. goes_on (position_or_len ends_authority text) (path_behind_authority text)
     ] refl
   where
     stops : ends_authority c ≡ true → (eqb (length (before_first ends_path (c ∷ text))) 0 || eqb (get_or (before_first ends_path (c ∷ text)) 0 0) 47) ≡ true
@@ -95,6 +95,7 @@ path_behind_authority (c ∷ text) =
         at_slash (inr no_end) =
             let slash : eqb c 47 ≡ true = grind (arith, nat_tests) in
             rw (no_end, slash) (or_true (eqb (length (c ∷ before_first ends_path text)) 0))
+
     goes_on : (k : ℕ) → (eqb (length (before_first ends_path (drop k text))) 0 || eqb (get_or (before_first ends_path (drop k text)) 0 0) 47) ≡ true → (eqb (length (before_first ends_path (drop (1 + k) (c ∷ text)))) 0 || eqb (get_or (before_first ends_path (drop (1 + k) (c ∷ text))) 0 0) 47) ≡ true
     goes_on k h = let e : 1 + k ≡ suc k = omega arith in rw e h
 
@@ -113,12 +114,15 @@ path_of_rest s rest = elim (cases_Bool (begins_with_slashes rest)) [ inl slashes
   where
     two_more : (k : ℕ) → drop (k + 2) rest ≡ drop k (drop 2 rest)
     two_more k = let e : k + 2 ≡ 2 + k = omega arith in rw e (sym (drop-drop k 2 rest))
+
     behind_two : (s : Option (List ℕ)) → is_path_after s (Some (before_first ends_authority (drop 2 rest))) (before_first ends_path (drop (length (before_first ends_authority (drop 2 rest)) + 2) rest)) ≡ true
     behind_two s =
         let same : drop (length (before_first ends_authority (drop 2 rest)) + 2) rest ≡ drop (position_or_len ends_authority (drop 2 rest)) (drop 2 rest) = rw length-prefix_len (two_more (position_or_len ends_authority (drop 2 rest))) in
         rw same (path_behind_authority (drop 2 rest))
+
     with_authority : (s : Option (List ℕ)) → begins_with_slashes rest ≡ true → is_path_after s (authority_in_front rest) (before_first ends_path (behind (option_map length (authority_in_front rest)) 2 rest)) ≡ (is_some s || (begins_with_slashes rest || not (list_any (λ c. eqb c 58) (before_first (λ c. eqb c 47) (before_first ends_path rest)))))
     with_authority s slashes = rw slashes (behind_two s ∙ sym (or_true (is_some s)))
+
     without : (s : Option (List ℕ)) → begins_with_slashes rest ≡ false → is_path_after s (authority_in_front rest) (before_first ends_path (behind (option_map length (authority_in_front rest)) 2 rest)) ≡ (is_some s || (begins_with_slashes rest || not (list_any (λ c. eqb c 58) (before_first (λ c. eqb c 47) (before_first ends_path rest)))))
     without None no_slashes = rw (no_slashes, slashes_in_front (position_or_len ends_path rest) rest no_slashes) refl
     without (Some name) no_slashes = rw (no_slashes, slashes_in_front (position_or_len ends_path rest) rest no_slashes) refl
@@ -132,8 +136,8 @@ path_test text = path_of_rest (scheme text) (after_scheme text) ∙ first_colon 
     first_colon (Some name) = refl
     first_colon None =
         elim (cases_Bool (begins_with_slashes text)) [
-          inl slashes ↦ rw (slashes, slashes_come_first text slashes) refl
-        | inr no_slashes ↦ rw no_slashes (ap not (colon_in_first_segment text))
+          | inl slashes ↦ rw (slashes, slashes_come_first text slashes) refl
+          | inr no_slashes ↦ rw no_slashes (ap not (colon_in_first_segment text))
         ]
 
 -- the last of six tests goes second

@@ -25,7 +25,6 @@ pub query_gone : (text before rest : List ℕ) (q : Option ℕ) → before ≡ a
 unfolding after_query query
 query_gone text before rest q same len is = is ∙ ap (λ n. behind n 1 before) len ∙ ap (λ t. behind (option_map length (query_in_front t)) 1 t) same
 
-
 -- a component with its marks is no longer than the text that it begins
 framed_fits : (before after : List ℕ) (component : Option (List ℕ)) (rest text : List ℕ) → framed before component after ++ rest ≡ text → ForSome (option_map length component) (λ n. n + (length before + length after) ≤ length text)
 framed_fits before after None rest text is = λ x e. cc
@@ -47,20 +46,20 @@ pub scheme_read : (text : List ℕ) → option_map (λ n. take n (drop 0 text)) 
 unfolding scheme
 scheme_read text =
     elim (cases_Bool (ltb 0 (length (before_first ends_scheme text)) && eqb (get_or text (length (before_first ends_scheme text)) 0) 58)) [
-      inl there ↦ rw there (ap (λ n. Some (take n text)) (length-prefix_len (λ c. not (ends_scheme c)) text))
-    | inr absent ↦ rw absent refl
+      | inl there ↦ rw there (ap (λ n. Some (take n text)) (length-prefix_len (λ c. not (ends_scheme c)) text))
+      | inr absent ↦ rw absent refl
     ]
 
 pub authority_read : (text : List ℕ) → option_map (λ n. take n (drop 2 text)) (option_map length (authority_in_front text)) ≡ authority_in_front text
 authority_read text =
     elim (cases_Bool (begins_with_slashes text)) [
-      inl there ↦ rw there (ap (λ n. Some (take n (drop 2 text))) (length-prefix_len (λ c. not (ends_authority c)) (drop 2 text)))
-    | inr absent ↦ rw absent refl
+      | inl there ↦ rw there (ap (λ n. Some (take n (drop 2 text))) (length-prefix_len (λ c. not (ends_authority c)) (drop 2 text)))
+      | inr absent ↦ rw absent refl
     ]
 
 pub query_read : (text : List ℕ) → option_map (λ n. take n (drop 1 text)) (option_map length (query_in_front text)) ≡ query_in_front text
 query_read text =
     elim (cases_Bool (eqb (get_or text 0 0) 63)) [
-      inl there ↦ rw there (ap (λ n. Some (take n (drop 1 text))) (length-prefix_len (λ c. not (ends_query c)) (drop 1 text)))
-    | inr absent ↦ rw absent refl
+      | inl there ↦ rw there (ap (λ n. Some (take n (drop 1 text))) (length-prefix_len (λ c. not (ends_query c)) (drop 1 text)))
+      | inr absent ↦ rw absent refl
     ]

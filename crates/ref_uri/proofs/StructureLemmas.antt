@@ -20,17 +20,17 @@ around : (text : List ℕ) (k c : ℕ) → get_or text k 0 ≡ suc c → take k 
 around text k c e =
     let one_more : k + 1 ≡ suc k = omega arith in
     rw one_more (append_assoc (take k text) (suc c ∷ []) (drop (suc k) text)
-      ∙ ap (λ (x : ℕ). take k text ++ (x ∷ drop (suc k) text)) (sym e)
-      ∙ ap (λ t. take k text ++ t) (sym (drop-cons text k 0 (reads_inside text k c e)))
-      ∙ take-append-drop k text)
+    ∙ ap (λ (x : ℕ). take k text ++ (x ∷ drop (suc k) text)) (sym e)
+    ∙ ap (λ t. take k text ++ t) (sym (drop-cons text k 0 (reads_inside text k c e)))
+    ∙ take-append-drop k text)
 
 -- a scheme and what follows it
 pub scheme_and_rest : (text : List ℕ) → framed [] (scheme text) (codes ":") ++ after_scheme text ≡ text
 unfolding scheme after_scheme
 scheme_and_rest text =
     elim (cases_Bool (ltb 0 (length (before_first ends_scheme text)) && eqb (get_or text (length (before_first ends_scheme text)) 0) 58)) [
-      inl there ↦ rw there (rw (length-prefix_len (λ c. not (ends_scheme c)) text) (around text (position_or_len ends_scheme text) 57 (at_colon there)))
-    | inr absent ↦ rw absent refl
+      | inl there ↦ rw there (rw (length-prefix_len (λ c. not (ends_scheme c)) text) (around text (position_or_len ends_scheme text) 57 (at_colon there)))
+      | inr absent ↦ rw absent refl
     ]
   where
     at_colon : (ltb 0 (length (before_first ends_scheme text)) && eqb (get_or text (length (before_first ends_scheme text)) 0) 58) ≡ true → get_or text (position_or_len ends_scheme text) 0 ≡ 58
@@ -42,6 +42,7 @@ authority_and_rest text =
   where
     two_more : (x y k : ℕ) (v : List ℕ) → drop (k + 2) (x ∷ y ∷ v) ≡ drop k v
     two_more x y k v = let e : k + 2 ≡ suc (suc k) = omega arith in rw e refl
+
     with_slashes : (text : List ℕ) → begins_with_slashes text ≡ true → (47 ∷ 47 ∷ (before_first ends_authority (drop 2 text) ++ [])) ++ drop (length (before_first ends_authority (drop 2 text)) + 2) text ≡ text
     with_slashes [] there = absurd (false≢true there)
     with_slashes (x ∷ []) there = absurd (false≢true (and_parts (eqb x 47) false there).1)
@@ -50,7 +51,7 @@ authority_and_rest text =
         let first : x ≡ 47 = eqb-true x 47 both.0 in
         let second : y ≡ 47 = eqb-true y 47 both.1 in
         rw (two_more x y (length (before_first ends_authority v)) v, length-prefix_len (λ c. not (ends_authority c)) v, append-nil (before_first ends_authority v), first, second)
-          (ap (λ t. 47 ∷ 47 ∷ t) (take-append-drop (position_or_len ends_authority v) v))
+        (ap (λ t. 47 ∷ 47 ∷ t) (take-append-drop (position_or_len ends_authority v) v))
 
 pub query_and_rest : (text : List ℕ) → framed (codes "?") (query_in_front text) [] ++ behind (option_map length (query_in_front text)) 1 text ≡ text
 query_and_rest text =
@@ -58,20 +59,21 @@ query_and_rest text =
   where
     one_more : (x k : ℕ) (v : List ℕ) → drop (k + 1) (x ∷ v) ≡ drop k v
     one_more x k v = let e : k + 1 ≡ suc k = omega arith in rw e refl
+
     with_mark : (text : List ℕ) → eqb (get_or text 0 0) 63 ≡ true → (63 ∷ (before_first ends_query (drop 1 text) ++ [])) ++ drop (length (before_first ends_query (drop 1 text)) + 1) text ≡ text
     with_mark [] there = absurd (false≢true there)
     with_mark (x ∷ v) there =
         let first : x ≡ 63 = eqb-true x 63 there in
         rw (one_more x (length (before_first ends_query v)) v, length-prefix_len (λ c. not (ends_query c)) v, append-nil (before_first ends_query v), first)
-          (ap (λ t. 63 ∷ t) (take-append-drop (position_or_len ends_query v) v))
+        (ap (λ t. 63 ∷ t) (take-append-drop (position_or_len ends_query v) v))
 
 -- behind the place where an element first passes, it stands in front
 first_in_front : (p : ℕ → Bool) (text : List ℕ) → (drop (position_or_len p text) text ≡ []) ⊎ (p (get_or (drop (position_or_len p text) text) 0 0) ≡ true)
 first_in_front p [] = inl refl
 first_in_front p (c ∷ text) =
     elim (p c) as (λ b. (p c ≡ b) → (drop (cond (not b) (1 + position_or_len p text) 0) (c ∷ text) ≡ []) ⊎ (p (get_or (drop (cond (not b) (1 + position_or_len p text) 0) (c ∷ text)) 0 0) ≡ true)) [
-      true ↦ λ e. inr e
-    | false ↦ λ e. one_more (position_or_len p text) (first_in_front p text)
+      | true ↦ λ e. inr e
+      | false ↦ λ e. one_more (position_or_len p text) (first_in_front p text)
     ] refl
   where
     one_more : (k : ℕ) → (drop k text ≡ []) ⊎ (p (get_or (drop k text) 0 0) ≡ true) → (drop (1 + k) (c ∷ text) ≡ []) ⊎ (p (get_or (drop (1 + k) (c ∷ text)) 0 0) ≡ true)
@@ -96,6 +98,7 @@ query_then_fragment (c ∷ text) (inr mark) =
       where
         one_more : (k : ℕ) → (drop k text ≡ []) ⊎ (ends_query (get_or (drop k text) 0 0) ≡ true) → (drop (k + 1) (c ∷ text) ≡ []) ⊎ (ends_query (get_or (drop (k + 1) (c ∷ text)) 0 0) ≡ true)
         one_more k h = let e : k + 1 ≡ suc k = omega arith in rw e h
+
     other : eqb c 63 ≡ false → eqb c 35 ≡ true
     other absent = grind (arith, nat_tests)
 

@@ -1,5 +1,5 @@
 -- How long the components of a text are.
-use Rattle.std.specs.Prelude.{◌≡◌, ℕ, true, List, length, Option, option_map}
+use Rattle.std.specs.Prelude.{◌≡◌, ℕ, true, List, length, Option, option_map, is_some}
 use Rattle.std.specs.Str.{IsAscii}
 use Rattle.ref_uri.specs.declared.lengths.Lengths.{Lengths}
 use Rattle.ref_uri.specs.Components.{scheme, authority, path, query}
@@ -17,3 +17,7 @@ pub record IsParsed (text : List ℕ) (lengths : Lengths) : Type 0 where
   pub ascii : IsAscii text
   pub reference : is_uri_reference text ≡ true
   pub lengths_are : lengths ≡ lengths_of text
+
+-- the text is a URI with a scheme, and its components are so long
+abbrev pub IsParsedUri : List ℕ → Lengths → Type 0
+IsParsedUri text lengths = IsParsed text lengths × (is_some (scheme text) ≡ true)

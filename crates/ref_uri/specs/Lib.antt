@@ -4,3 +4,8 @@ pub mod Components
 pub mod Authority
 pub mod Reference
 pub mod Lengths
+pub mod Errors
+pub mod DotSegments
+pub mod Normal
+pub mod Resolution
+pub mod Targets

@@ -19,7 +19,10 @@ pub fn is_unreserved(c: u8) -> bool
 pub fn is_sub_delim(c: u8) -> bool
     ensures { result ≡ is_sub_delim c }
 {
-    matches!(c, b'!' | b'$' | b'&' | b'\'' | b'(' | b')' | b'*' | b'+' | b',' | b';' | b'=')
+    matches!(
+        c,
+        b'!' | b'$' | b'&' | b'\'' | b'(' | b')' | b'*' | b'+' | b',' | b';' | b'='
+    )
 }
 
 /// What may follow the first letter of a scheme (RFC 3986, 3.1).

@@ -1,10 +1,72 @@
 //! Why a text is refused.
+ghost use Rattle.std.specs.Prelude.{codes};
+ghost use Rattle.ref_uri.specs.declared.error.UriParseFault.TheVariants.{Memory, Invalid};
+
+use std::alloc::AllocError;
+use std::fmt;
 
 /// Why a text is no URI reference, or no URI.
 #[derive(Clone, Copy, Debug, PartialEq, Eq, Hash)]
 pub enum ParseError {
     /// The text is no URI reference (RFC 3986, 4.1).
     Syntax,
-    /// The text is a reference without a scheme, where one is wanted.
+    /// The text is a reference without a scheme, where one is wanted (RFC 3986, 3).
     NoScheme,
+}
+
+impl fmt::Display for ParseError {
+    ghost use Rattle.std.specs.Prelude.{Some};
+    ghost use Rattle.ref_uri.specs.Errors.{parse_error_text};
+
+    ghost output = { λ e. Some (parse_error_text e) };
+
+    fn fmt<W: fmt::Write>(&self, f: &mut fmt::Formatter<W>) -> fmt::Result {
+        match self {
+            ParseError::Syntax => write!(f, "not a URI reference of RFC 3986"),
+            ParseError::NoScheme => write!(f, "no scheme"),
+        }
+    }
+}
+
+/// Why no [`Uri`](crate::Uri) came of a text.
+#[derive(Clone, Copy, Debug, PartialEq, Eq)]
+pub enum UriParseFault {
+    /// The text is no URI, or no fragment.
+    Invalid(ParseError),
+    /// Memory ran out.
+    Memory(AllocError),
+}
+
+impl fmt::Display for UriParseFault {
+    ghost use Rattle.std.specs.Prelude.{Some};
+    ghost use Rattle.ref_uri.specs.Errors.{uri_parse_fault_text};
+
+    ghost output = { λ e. Some (uri_parse_fault_text e) };
+
+    fn fmt<W: fmt::Write>(&self, f: &mut fmt::Formatter<W>) -> fmt::Result {
+        match self {
+            UriParseFault::Invalid(error) => write!(f, "{error}"),
+            UriParseFault::Memory(_) => write!(f, "Out of memory"),
+        }
+    }
+}
+
+impl From<ParseError> for UriParseFault {
+    ghost use Rattle.std.specs.Prelude.{◌≡◌};
+
+    ghost from_gives = { λ error fault. fault ≡ Invalid error };
+
+    fn from(error: ParseError) -> UriParseFault {
+        UriParseFault::Invalid(error)
+    }
+}
+
+impl From<AllocError> for UriParseFault {
+    ghost use Rattle.std.specs.Prelude.{◌≡◌};
+
+    ghost from_gives = { λ error fault. fault ≡ Memory error };
+
+    fn from(error: AllocError) -> UriParseFault {
+        UriParseFault::Memory(error)
+    }
 }

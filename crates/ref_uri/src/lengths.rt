@@ -13,7 +13,7 @@ pub struct Lengths {
 }
 
 /// The front of an ASCII text.
-fn head(text: &str, len: usize) -> &str
+pub fn head(text: &str, len: usize) -> &str
     requires ascii { IsAscii text.now }
     requires within { len ≤ length text.now }
     ensures { result.now ≡ take len text.now }

@@ -7,10 +7,17 @@
 mod authority;
 mod characters;
 mod error;
+pub mod examples;
+pub mod laws;
 mod lengths;
 mod parser;
 mod reference;
+mod traits;
+mod uri;
 
-
-pub use error::ParseError;
+pub use error::{ParseError, UriParseFault};
 pub use reference::UriRef;
+pub use uri::Uri;
+
+#[cfg(test)]
+mod tests;

@@ -1,10 +1,10 @@
 //! A URI reference that borrows its text.
-ghost use Rattle.std.specs.Prelude.{◌≡◌, List, ℕ, is_ok, is_some, IfOk, IfErr, option_copied};
+ghost use Rattle.std.specs.Prelude.{◌≡◌, List, ℕ, is_ok, is_some, None, IfOk, IfErr, option_copied};
 ghost use Rattle.ref_uri.specs.Components.{scheme, authority, path, query, fragment};
 ghost use Rattle.ref_uri.specs.Reference.{is_uri_reference, with_fragment};
 
 use crate::error::ParseError;
-use crate::lengths::{Lengths, Parts};
+use crate::lengths::{self, Lengths, Parts};
 use crate::parser;
 use std::marker::Model;
 
@@ -27,6 +27,8 @@ impl<'a> Model for UriRef<'a> {
 }
 
 impl<'a> UriRef<'a> {
+    ghost use Rattle.ref_uri.specs.Lengths.{IsParsed};
+
     /// The reference that the text is. `Syntax` exactly where the text is no URI reference (RFC 3986, 4.1 and
     /// appendix A). Linear in the text; takes no memory and copies nothing.
     pub fn parse(text: &'a str) -> Result<UriRef<'a>, ParseError>
@@ -36,6 +38,14 @@ impl<'a> UriRef<'a> {
     {
         let lengths = parser::parse(text.as_bytes())?;
         Ok(UriRef { text, lengths })
+    }
+
+    /// The reference that a text is whose lengths are known.
+    pub(crate) fn from_parsed(text: &'a str, lengths: Lengths) -> UriRef<'a>
+        requires { IsParsed text.now lengths }
+        ensures { result ≡ text.now }
+    {
+        UriRef { text, lengths }
     }
 
     fn parts(&self) -> Parts<'a>
@@ -102,5 +112,21 @@ impl<'a> UriRef<'a> {
         ensures { result ≡ is_some (fragment self.now) }
     {
         self.fragment().is_some()
+    }
+
+    /// The reference without its fragment (RFC 3986, 3.5): the same text where there is none. A look-up; takes no memory.
+    pub fn strip_fragment(&self) -> UriRef<'a>
+        ensures { result ≡ with_fragment self.now None }
+    {
+        match self.fragment() {
+            Some(fragment) => UriRef {
+                text: lengths::head(self.text, self.text.len() - fragment.len() - 1),
+                lengths: self.lengths,
+            },
+            None => UriRef {
+                text: self.text,
+                lengths: self.lengths,
+            },
+        }
     }
 }

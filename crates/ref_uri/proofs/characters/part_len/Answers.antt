@@ -16,10 +16,10 @@ ends_there : (c : goal.Joined-else-len-bytes) → position_or_len (ends c.args.c
 ends_there c =
     let run = c.encoded_len-len in
     part_is c.args.class c.args.bytes.now run.result run.ensures.within run.ensures.encoded
-      (elim c.else-len-bytes.branch [
-        else-len-bytes-via-then-len-bytes+else-not-ends w ↦ λ _. sym w.ends.ensures ∙ w.if-not-ends.false
+    (elim c.else-len-bytes.branch [
+      | else-len-bytes-via-then-len-bytes+else-not-ends w ↦ λ _. sym w.ends.ensures ∙ w.if-not-ends.false
       | else-len-bytes-via-else-len-bytes w ↦ λ more. absurd (omega arith)
-      ])
+    ])
 
 pub returns-clause-accepted : goal.returns-clause-accepted
 returns-clause-accepted c =

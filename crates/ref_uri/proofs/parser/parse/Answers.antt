@@ -72,10 +72,10 @@ returns-clause-accepted c =
     let three = path_gone c.args.text.now c.behind-rest-2.result.now c.split_at.result.1.now c.in_ok-path.path two c.in_ok-path.ensures.len c.split_at.ensures.back in
     let four = query_gone c.args.text.now c.split_at.result.1.now c.behind.result.now c.in_ok-query.query three c.in_ok-query.ensures.len c.behind.ensures in
     sym (all_there c.args.text.now (sym c.in_ok-scheme.ensures.accepted)
-      (authority_tested c.args.text.now c.behind-rest.result.now one ∙ sym c.in_ok-authority.ensures.accepted)
-      (path_tested c.args.text.now c.behind-rest-2.result.now two ∙ sym c.in_ok-path.ensures.accepted)
-      (query_tested c.args.text.now c.split_at.result.1.now three ∙ sym c.in_ok-query.ensures.accepted)
-      (fragment_tested c.args.text.now c.behind.result.now four ∙ sym c.is_fragment_left.ensures ∙ c.if-not-is_fragment_left.false))
+    (authority_tested c.args.text.now c.behind-rest.result.now one ∙ sym c.in_ok-authority.ensures.accepted)
+    (path_tested c.args.text.now c.behind-rest-2.result.now two ∙ sym c.in_ok-path.ensures.accepted)
+    (query_tested c.args.text.now c.split_at.result.1.now three ∙ sym c.in_ok-query.ensures.accepted)
+    (fragment_tested c.args.text.now c.behind.result.now four ∙ sym c.is_fragment_left.ensures ∙ c.if-not-is_fragment_left.false))
 
 pub returns-clause-lengths : goal.returns-clause-lengths
 returns-clause-lengths c =

@@ -1,0 +1,54 @@
+-- What `trim_end_matches` gives at the character `#` is the text without the `#` characters at its end.
+use Rattle.std.proofs.Common.{◌≡◌, ◌≢◌, ℕ, ◌≤◌, ◌+◌, ◌-◌, List, [], ◌∷◌, ◌++◌, length, take, Bool, true, false, Option, Some, None, IfSome, nat_eq, Bor, MatchOption, drop, option_map, refl, sym, ap, ◌∙◌, arith, rules}
+use Rattle.std.specs.Str.Pattern.{FindsCharSuffix, CutsSuffixes, IsTrimEndMatches}
+use Rattle.std.specs.Str.Pattern.{FindsCharPrefix}
+use Rattle.std.proofs.lemmas.Str.Pattern.{ends_char, strip_prefix_char}
+use Rattle.ref_draft.specs.Anchors.{after_hash}
+use Rattle.ref_draft.specs.Schema.{before, trimmed}
+
+trimmed-hash : (text : List ℕ) → trimmed (text ++ (35 ∷ [])) ≡ trimmed text
+trimmed-hash [] = refl
+trimmed-hash (c ∷ text) = ap (before c) (trimmed-hash text)
+
+-- cutting one `#` leaves the trimmed text as it was
+trimmed-cut : (m : List ℕ) (n : ℕ) → FindsCharSuffix 35 m (Some n) → trimmed (take (length m - n) m) ≡ trimmed m
+trimmed-cut m n finds =
+    let within : n ≤ length m = omega (arith, finds.0, finds.1.ends) in
+    let width : n ≡ 1 = finds.0 in
+    let ends = (ends_char 35 m true (n, finds, within, rw finds.0 finds.2) (omega arith)).0 refl in
+    rw width (sym (trimmed-hash (take (length m - 1) m)) ∙ sym (ap trimmed ends))
+
+trimmed-cuts : (s : List ℕ) (ns : List ℕ) (r : List ℕ) → CutsSuffixes (FindsCharSuffix 35) s ns r → trimmed r ≡ trimmed s
+trimmed-cuts s [] r cuts = ap trimmed cuts
+trimmed-cuts s (n ∷ ns) r cuts = ap trimmed cuts.3 ∙ trimmed-cut cuts.0 n cuts.2 ∙ trimmed-cuts s ns cuts.0 cuts.1
+
+kept : (c : ℕ) (b : Bool) → nat_eq c 35 ≡ b → ((front : List ℕ) → c ∷ [] ≢ front ++ (35 ∷ [])) → before c [] ≡ c ∷ []
+kept c true e ends = absurd (ends [] (ap (λ d. d ∷ []) (search (rules, e))))
+kept c false e ends = rw e
+
+-- a text that doesn't end in `#` stays
+trimmed-whole : (r : List ℕ) → ((front : List ℕ) → r ≢ front ++ (35 ∷ [])) → trimmed r ≡ r
+trimmed-whole [] ends = refl
+trimmed-whole (c ∷ []) ends = kept c (nat_eq c 35) refl ends
+trimmed-whole (c ∷ e ∷ rest) ends = ap (before c) (trimmed-whole (e ∷ rest) (λ front is. ends (c ∷ front) (ap (λ t. c ∷ t) is)))
+
+trimmed-full : (r : List ℕ) (o : Option ℕ) → FindsCharSuffix 35 r o → IfSome o (λ n. n ≡ 0) → trimmed r ≡ r
+unfolding lib.Utf8.encode
+trimmed-full r None finds empty = trimmed-whole r finds
+trimmed-full r (Some n) finds empty = absurd (omega (arith, finds.0, empty))
+
+pub trimmed_is : (s r : List ℕ) → IsTrimEndMatches (FindsCharSuffix 35) s r → r ≡ trimmed s
+trimmed_is s r h = sym (trimmed-full r h.1.0 h.1.1 h.1.2) ∙ trimmed-cuts s h.0.0 r h.0.1
+
+no_hash : (c : ℕ) (text : List ℕ) (b : Bool) → nat_eq c 35 ≡ b → ((rest : List ℕ) → c ∷ text ≢ 35 ∷ rest) → None ≡ after_hash (c ∷ text)
+no_hash c text true e begins = absurd (begins text (ap (λ d. d ∷ text) (search (rules, e))))
+no_hash c text false e begins = rw e
+
+after_hash_cases : (text : List ℕ) (r : Option (Bor (List ℕ))) → MatchOption r ((rest : List ℕ) → text ≢ 35 ∷ rest) (λ x. text ≡ 35 ∷ x.now) → option_map (λ x. x.now) r ≡ after_hash text
+after_hash_cases [] None h = refl
+after_hash_cases (c ∷ text) None h = no_hash c text (nat_eq c 35) refl h
+after_hash_cases text (Some x) h = sym (ap after_hash h)
+
+-- What `strip_prefix` gives at the character `#` is what follows it.
+pub after_hash_is : (text : List ℕ) (r : Option (Bor (List ℕ))) → MatchOption r (FindsCharPrefix 35 text None) (λ x. (n : ℕ) × FindsCharPrefix 35 text (Some n) × (x.now ≡ drop n text) × (length x.now + n ≡ length text)) → option_map (λ x. x.now) r ≡ after_hash text
+after_hash_is text r h = after_hash_cases text r (strip_prefix_char 35 text r h (omega arith))

@@ -1,0 +1,5 @@
+use Rattle.ref_draft.proofs.Depth.{shallower}
+use Rattle.ref_draft.proofs.laws.children_are_shallower.Goals as goal
+
+pub returns : goal.returns
+returns c = shallower

@@ -1,0 +1,10 @@
+use Rattle.std.proofs.Common.{◌≡◌, ◌++◌, map}
+use Rattle.serde_json.specs.View.{view, members_view}
+use Rattle.ref_draft.specs.Children.{with_draft, below, children}
+use Rattle.ref_draft.specs.Views.{walked_child}
+use Rattle.ref_draft.proofs.spec.walk.children.Given as goal
+
+abbrev pub invariant-loop-keyword : goal.invariant-loop-keyword
+invariant-loop-keyword l =
+    map walked_child l.children.items ++ map (with_draft l.draft) (below l.draft (members_view l.keyword-iterator))
+    ≡ map (with_draft l.draft) (children l.draft (view l.contents))

@@ -1,0 +1,88 @@
+-- The subschemas of a schema: what stands right below it under its draft's keywords (2020-12 Core, section 10;
+-- earlier drafts as `Keywords` lists).
+use Rattle.std.specs.Prelude.{ℕ, suc, List, [], ◌∷◌, ◌++◌, map, filter, Bool, not, is_some}
+use Rattle.std.specs.Option.{option_map_or}
+use Rattle.serde_json.specs.Data.{Data, Items, no_items, item, Members, no_members, member}
+use Rattle.serde_json.specs.Find.{as_array, as_object}
+use Rattle.ref_parts.specs.Path.{Part, Key, Index}
+use Rattle.ref_draft.specs.declared.draft.Draft.{Draft}
+use Rattle.ref_draft.specs.declared.spec.Holding.{Holding}
+use Rattle.ref_draft.specs.declared.spec.Holding.TheVariants.{Whole, WholeObject, Elements, Members as EachMember, ElementsOrWhole, ObjectMembers, Nothing}
+use Rattle.ref_draft.specs.Keywords.{holding, is_left_out}
+use Rattle.ref_draft.specs.Schema.{detect}
+
+-- a child: its path, and its value
+abbrev pub Child : Type 0
+Child = List Part × Data
+
+-- the value itself, under its keyword
+abbrev pub whole : List ℕ → Data → List Child
+whole keyword value = (Key keyword ∷ [], value) ∷ []
+
+-- each element, under the keyword and its index, counted from i on
+abbrev pub elements_from : List ℕ → ℕ → Items → List Child
+elements_from keyword i no_items = []
+elements_from keyword i (item d ds) = (Key keyword ∷ Index i ∷ [], d) ∷ elements_from keyword (suc i) ds
+
+-- each member, under the keyword and its key
+abbrev pub each_member : List ℕ → Members → List Child
+each_member keyword no_members = []
+each_member keyword (member key d ms) = (Key keyword ∷ Key key ∷ [], d) ∷ each_member keyword ms
+
+-- the elements where the value is an array, the members where it is an object
+abbrev pub elements : List ℕ → Data → List Child
+elements keyword value = option_map_or (elements_from keyword 0) (as_array value) []
+
+abbrev pub members : List ℕ → Data → List Child
+members keyword value = option_map_or (each_member keyword) (as_object value) []
+
+abbrev pub is_object : Data → Bool
+is_object value = is_some (as_object value)
+
+abbrev pub has_object : Child → Bool
+has_object child = is_object child.1
+
+-- the children under one keyword, by how it holds them
+abbrev pub held : Holding → List ℕ → Data → List Child
+held Whole keyword value = whole keyword value
+held WholeObject keyword value = filter has_object (whole keyword value)
+held Elements keyword value = elements keyword value
+held EachMember keyword value = members keyword value
+held ElementsOrWhole keyword value = option_map_or (elements_from keyword 0) (as_array value) (whole keyword value)
+held ObjectMembers keyword value = filter has_object (members keyword value)
+held Nothing keyword value = []
+
+-- the children under each of an object's keywords, in the order of the keys
+abbrev pub below : Draft → Members → List Child
+below d no_members = []
+below d (member keyword value ms) = held (holding d keyword) keyword value ++ below d ms
+
+-- The children of a value: none where it is no object
+abbrev pub children : Draft → Data → List Child
+children d value = option_map_or (below d) (as_object value) []
+
+-- a child with the draft that is detected on it
+pub record Walked : Type 0 where
+  pub path : List Part
+  pub value : Data
+  pub draft : Draft
+
+abbrev pub with_draft : Draft → Child → Walked
+with_draft d child = record { path = child.0; value = child.1; draft = detect d child.1 }
+
+-- The children with their drafts
+abbrev pub walked : Draft → Data → List Walked
+walked d value = map (with_draft d) (children d value)
+
+-- the keyword at the front of a path
+abbrev pub keyword_of : List Part → List ℕ
+keyword_of (Key keyword ∷ path) = keyword
+keyword_of path = []
+
+-- whether `subresources_of` gives a child
+abbrev pub is_given : Draft → Child → Bool
+is_given d child = not (is_left_out d (keyword_of child.0))
+
+-- The values that `subresources_of` gives: those of the children but for what it leaves out
+abbrev pub subresources : Draft → Data → List Data
+subresources d value = map (λ child. child.1) (filter (is_given d) (children d value))

@@ -1,0 +1,9 @@
+pub mod Keywords
+pub mod Schema
+pub mod Children
+pub mod Anchors
+pub mod Scan
+pub mod Views
+pub mod ScanSteps
+pub mod Rows
+pub mod Order

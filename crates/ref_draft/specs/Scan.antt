@@ -1,0 +1,77 @@
+-- Where an identifier may change the base along a pointer: the parts since the last change lead from schema to schema.
+-- This is the project's own rule; the keywords are the drafts'.
+use Rattle.std.specs.Prelude.{◌≡◌, ℕ, List, [], ◌∷◌, ◌++◌, map, codes, IsTrue, Bool, ◌||◌, ◌⊎◌, ⊤}
+use Rattle.std.specs.List.{AllByRecursion}
+use Rattle.std.specs.Str.{bytes_eq}
+use Rattle.serde_json.specs.Data.{Data}
+use Rattle.ref_parts.specs.Path.{Part, Key, Index}
+use Rattle.ref_draft.specs.declared.draft.Draft.{Draft}
+use Rattle.ref_draft.specs.declared.draft.Draft.TheVariants.{Draft4}
+use Rattle.ref_draft.specs.Keywords.{Row, row, is_one_of, is_before_2020}
+use Rattle.ref_draft.specs.Children.{is_object}
+
+-- the row of Draft 4 that the scan reads: fewer keywords than the walk's
+abbrev pub draft_4_row : Row
+draft_4_row = record {
+  values = map codes ("additionalItems" ∷ "additionalProperties" ∷ "not" ∷ []);
+  arrays = map codes ("allOf" ∷ "anyOf" ∷ "oneOf" ∷ []);
+  maps = map codes ("definitions" ∷ "patternProperties" ∷ "properties" ∷ []);
+}
+
+-- the row that the scan reads: the walk's but for Draft 4
+abbrev pub scan_row : Draft → Row
+scan_row Draft4 = draft_4_row
+scan_row d = row d
+
+-- whether a value keyword leads to a schema, and whether a keyword's elements or members are schemas
+abbrev pub is_value_keyword : Draft → List ℕ → Bool
+is_value_keyword d keyword = is_one_of keyword (scan_row d).values
+
+abbrev pub is_child_keyword : Draft → List ℕ → Bool
+is_child_keyword d keyword = is_one_of keyword (scan_row d).arrays || is_one_of keyword (scan_row d).maps
+
+-- a piece of a word: an index, a value keyword, or a child keyword with the part after it
+pub data Piece : Type 0 where
+  AnIndex : ℕ → Piece
+  AValue : List ℕ → Piece
+  AChild : List ℕ → Part → Piece
+
+-- the parts of a piece
+abbrev pub parts_of : Piece → List Part
+parts_of (AnIndex i) = Index i ∷ []
+parts_of (AValue keyword) = Key keyword ∷ []
+parts_of (AChild keyword part) = Key keyword ∷ part ∷ []
+
+-- the parts of pieces, one after another
+abbrev pub spelled : List Piece → List Part
+spelled [] = []
+spelled (piece ∷ pieces) = parts_of piece ++ spelled pieces
+
+-- a draft has the piece
+abbrev pub IsPieceOf : Draft → Piece → Type 0
+IsPieceOf d (AnIndex i) = ⊤
+IsPieceOf d (AValue keyword) = IsTrue (is_value_keyword d keyword)
+IsPieceOf d (AChild keyword part) = IsTrue (is_child_keyword d keyword)
+
+-- the pieces of a word of a draft
+abbrev pub IsWord : Draft → List Piece → Type 0
+IsWord d pieces = AllByRecursion (IsPieceOf d) pieces
+
+-- `items` or `dependencies`
+abbrev pub is_items_or_dependencies : List ℕ → Bool
+is_items_or_dependencies keyword = bytes_eq keyword (codes "items") || bytes_eq keyword (codes "dependencies")
+
+-- the parts are a word
+abbrev pub SpellsWord : Draft → List Part → Type 0
+SpellsWord d parts = (pieces : List Piece) × IsWord d pieces × (parts ≡ spelled pieces)
+
+-- before 2020-12: the parts are a word, then `items` or `dependencies`, then any parts, and the value is an object
+abbrev pub PassesItems : Draft → List Part → Data → Type 0
+PassesItems d parts value =
+    IsTrue (is_before_2020 d) × IsTrue (is_object value)
+    × (pieces : List Piece) × (keyword : List ℕ) × (rest : List Part)
+    × IsWord d pieces × IsTrue (is_items_or_dependencies keyword) × (parts ≡ spelled pieces ++ Key keyword ∷ rest)
+
+-- The parts are accepted at a value: an identifier there may change the base
+abbrev pub IsAccepted : Draft → List Part → Data → Type 0
+IsAccepted d parts value = SpellsWord d parts ⊎ PassesItems d parts value

@@ -1,0 +1,99 @@
+-- What contracts see of the crate's types.
+use Rattle.std.specs.Prelude.{◌≡◌, All, ℕ, List, [], ◌∷◌, ◌++◌, map, filter, Option, Some, None}
+use Rattle.std.specs.Option.{option_map_or}
+use Rattle.std.specs.Cow.{cow_str_bytes}
+use Rattle.std.specs.Slice.Iter.{iter_rest}
+use Rattle.serde_json.specs.Data.{Data, object}
+use Rattle.serde_json.specs.View.{view, members_view}
+use Rattle.serde_json.specs.declared.value.Value.{Value}
+use Rattle.ref_parts.specs.Path as path
+use Rattle.ref_parts.specs.Path.{Part}
+use Rattle.ref_parts.specs.Segment as pointer
+use Rattle.ref_parts.specs.declared.segments.JsonPointerSegment.{JsonPointerSegment}
+use Rattle.ref_draft.specs.declared.draft.Draft.{Draft}
+use Rattle.ref_draft.specs.declared.resource.Resource.{Resource}
+use Rattle.ref_draft.specs.declared.resource.ResourceRef.{ResourceRef}
+use Rattle.ref_draft.specs.declared.anchor.Anchor.{Anchor}
+use Rattle.ref_draft.specs.declared.anchor.Anchor.TheVariants as anchor
+use Rattle.ref_draft.specs.declared.anchor.AnchorIter.{AnchorIter}
+use Rattle.ref_draft.specs.declared.anchor.AnchorIter.TheVariants as names
+use Rattle.ref_draft.specs.declared.segments.Segment.{Segment}
+use Rattle.ref_draft.specs.declared.segments.Segment.TheVariants as segment
+use Rattle.ref_draft.specs.declared.spec.children.ChildIter.{ChildIter}
+use Rattle.ref_draft.specs.declared.spec.children.ChildIterInner.{ChildIterInner}
+use Rattle.ref_draft.specs.declared.spec.children.ChildIterInner.TheVariants as inner
+use Rattle.ref_draft.specs.declared.spec.walk.Child.{Child}
+use Rattle.ref_draft.specs.Anchors.{Kind, Plain, Dynamic}
+use Rattle.ref_draft.specs.Schema.{identifier}
+use Rattle.ref_draft.specs.Children.{Child as Pair, Walked, is_object, subresources, with_draft}
+
+-- a tree, and the draft that it is read by
+pub record Tagged : Type 0 where
+  pub contents : Data
+  pub draft : Draft
+
+abbrev pub tagged : Draft → Data → Tagged
+tagged d t = record { contents = t; draft = d }
+
+abbrev pub resource : Resource → Tagged
+resource r = tagged r.draft (view r.contents)
+
+abbrev pub resource_ref : ResourceRef → Tagged
+resource_ref r = tagged r.draft (view r.contents.now)
+
+-- its identifier
+abbrev pub id_of : Tagged → Option (List ℕ)
+id_of t = identifier t.draft t.contents
+
+-- an anchor's name and kind, and what it names
+abbrev pub anchor_name : Anchor → List ℕ × Kind
+anchor_name (anchor.Default name resource) = (name.now, Plain)
+anchor_name (anchor.Dynamic name resource) = (name.now, Dynamic)
+
+abbrev pub anchor_resource : Anchor → Tagged
+anchor_resource (anchor.Default name resource) = resource_ref resource
+anchor_resource (anchor.Dynamic name resource) = resource_ref resource
+
+-- each anchor names this
+abbrev pub AllName : Tagged → List Anchor → Type 0
+AllName t anchors = All (λ a. anchor_resource a ≡ t) anchors
+
+-- the anchors that an iterator has left
+abbrev pub anchors_left : AnchorIter → List Anchor
+anchors_left names.Empty = []
+anchors_left (names.One a) = a ∷ []
+anchors_left (names.Two a b) = a ∷ b ∷ []
+
+-- a segment as a part of a path
+abbrev pub part_of : Segment → Part
+part_of (segment.Key key) = path.Key (cow_str_bytes key)
+part_of (segment.Index i) = path.Index i
+
+-- the part of a child's segment, where it has one
+abbrev pub parts_of : Option JsonPointerSegment → List Part
+parts_of None = []
+parts_of (Some s) = pointer.part_of s ∷ []
+
+-- a child of the walk: its path, value and draft
+abbrev pub walked_child : Child → Walked
+walked_child child = record { path = path.Key child.keyword.now ∷ parts_of child.segment; value = view child.value.now; draft = child.draft }
+
+-- of some values, those that are objects
+abbrev pub objects_of : List Value → List Data
+objects_of values = filter is_object (map view values)
+
+-- the values that an iterator under one keyword has left
+abbrev pub inner_left : ChildIterInner → List Data
+inner_left (inner.Once value) = view value.now ∷ []
+inner_left (inner.Array it) = map view (iter_rest it)
+inner_left (inner.Object it) = map view it
+inner_left (inner.FilteredObject it) = objects_of it
+inner_left inner.Empty = []
+
+-- the values that an iterator has left: those under the keyword that it is at, then those under the keywords after it
+abbrev pub values_left : ChildIter → List Data
+values_left it = inner_left it.current ++ option_map_or (λ members. subresources it.draft (object (members_view members))) it.members []
+
+-- the children cs were added at the end, each with the draft that d detects on it
+abbrev pub Adds : Draft → List Pair → List Child → List Child → Type 0
+Adds d cs old new = map walked_child new ≡ map walked_child old ++ map (with_draft d) cs

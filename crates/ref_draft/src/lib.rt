@@ -1,0 +1,21 @@
+//! The drafts of JSON Schema, and what each reads from a schema: its identifier, anchors and subschemas, and where an
+//! identifier may change the base along a pointer.
+//!
+//! Read `specs/Keywords.antt` first: it has the tables that everything else here is proved to follow.
+#![tactic(auto)]
+
+pub mod anchor;
+pub mod draft;
+pub mod laws;
+pub mod resource;
+pub mod segments;
+mod spec;
+#[cfg(test)]
+mod tests;
+
+pub use anchor::{Anchor, AnchorIter};
+pub use draft::Draft;
+pub use resource::{Resource, ResourceRef};
+pub use segments::{Segment, Segments};
+pub use spec::children::{ChildIter, ChildIterInner};
+pub use spec::walk::Child;

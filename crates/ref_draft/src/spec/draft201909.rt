@@ -1,0 +1,31 @@
+//! The keywords of Draft 2019-09.
+ghost use Rattle.std.specs.Prelude.{◌≡◌};
+ghost use Rattle.ref_draft.specs.Keywords.{holding};
+
+use crate::draft::Draft;
+use crate::spec::Holding;
+
+// How a keyword holds its subschemas.
+pub(crate) fn holding(keyword: &str) -> Holding
+    ensures { result ≡ holding Draft.Draft201909 keyword.now }
+{
+    match keyword {
+        "additionalItems"
+        | "additionalProperties"
+        | "contains"
+        | "contentSchema"
+        | "else"
+        | "if"
+        | "not"
+        | "propertyNames"
+        | "then"
+        | "unevaluatedItems"
+        | "unevaluatedProperties" => Holding::Whole,
+        "allOf" | "anyOf" | "oneOf" => Holding::Elements,
+        "$defs" | "definitions" | "dependentSchemas" | "patternProperties" | "properties" =>
+            Holding::Members,
+        "items" => Holding::ElementsOrWhole,
+        "dependencies" => Holding::ObjectMembers,
+        _ => Holding::Nothing,
+    }
+}

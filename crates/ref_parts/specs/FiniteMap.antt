@@ -1,0 +1,51 @@
+-- A small map as the list of its entries, read at a key by the keys' `==`.
+use Rattle.std.specs.Prelude.{◌≡◌, ℕ, ◌+◌, ◌<◌, ◌≤◌, Bool, true, take, drop, ◌++◌, List, [], ◌∷◌, length, Option, Some, None, is_some, if◌then◌else◌, ⊤}
+use Rattle.std.specs.Map.{lookup}
+use Rattle.std.specs.HashMap.{HashMap}
+use Rattle.arrayvec.specs.ArrayVec.{ArrayVec}
+use Rattle.ref_parts.specs.declared.small_map.Form.{Form}
+use Rattle.ref_parts.specs.declared.small_map.Form.TheVariants.{Small, Large}
+
+-- new is the finite map old with this value at the key, and has one more key where old lacks it
+pub record Puts {K V : Type 0} (eq : K → K → Bool) (old new : List (K × V)) (key : K) (value : V) : Type 0 where
+  pub found : (q : K) → lookup (eq q) new ≡ (if eq key q then Some value else lookup (eq q) old)
+  pub count : length new ≡ length old + (if is_some (lookup (eq key) old) then 0 else 1)
+
+-- the pairs that inline slots hold
+abbrev pub pairs : {K V : Type 0} → List (Option (K × V)) → List (K × V)
+pairs [] = []
+pairs (None ∷ slots) = pairs slots
+pairs (Some pair ∷ slots) = pair ∷ pairs slots
+
+-- each slot holds a pair
+abbrev pub AllHold : {K V : Type 0} → List (Option (K × V)) → Type 0
+AllHold [] = ⊤
+AllHold (None ∷ slots) = ⊥
+AllHold (Some pair ∷ slots) = AllHold slots
+
+-- the entries of either form
+abbrev pub entries_of : {K V : Type 0} {n : ℕ} → Form K V n → List (K × V)
+entries_of (Small slots) = pairs slots.items
+entries_of (Large map) = map.entries
+
+-- no two keys are equal
+abbrev pub EachOnce : {K V : Type 0} (eq : K → K → Bool) → List (K × V) → Type 0
+EachOnce eq [] = ⊤
+EachOnce eq (e ∷ es) = (lookup (eq e.0) es ≡ None) × EachOnce eq es
+
+-- inline up to n keys, each once, and hashed from n + 1 on
+abbrev pub IsFormOf : {K V : Type 0} (eq : K → K → Bool) (n : ℕ) → Form K V n → Type 0
+IsFormOf eq n (Small slots) = AllHold slots.items × (length slots.items ≤ n) × EachOnce eq (pairs slots.items)
+IsFormOf eq n (Large map) = n < length map.entries
+
+-- the first slot whose key is equal
+pub record IsPlaceOf {K V : Type 0} (eq : K → K → Bool) (key : K) (slots : List (Option (K × V))) (i : ℕ) : Type 0 where
+  pub within : i < length slots
+  pub first : lookup (eq key) (pairs (take i slots)) ≡ None
+  pub here : (old : K × V) × (slots ≡ take i slots ++ (Some old ∷ drop (i + 1) slots)) × (eq key old.0 ≡ true)
+
+-- the hashed map has the pairs of the slots, and room for one more
+pub record IsHashed {K V : Type 0} (eq : K → K → Bool) (slots : List (Option (K × V))) (entries : List (K × V)) (spare : ℕ) : Type 0 where
+  pub found : (q : K) → lookup (eq q) entries ≡ lookup (eq q) (pairs slots)
+  pub count : length entries ≡ length (pairs slots)
+  pub room : 0 < spare

@@ -1,0 +1,296 @@
+//! A map that holds its first pairs inline.
+ghost use Rattle.std.specs.Prelude.{◌≡◌, Bool, ◌+◌, ◌<◌, ◌≤◌, ◌↔◌, Some, None, slice_set, IsTrue, IsOk, IfOk, OnOk, OnErr, MatchOption, [], length, option_copied};
+ghost use Rattle.std.specs.HashMap.{spare};
+ghost use Rattle.std.specs.Map.{lookup};
+ghost use Rattle.ref_parts.specs.FiniteMap.{pairs, Puts, EachOnce, IsPlaceOf, IsHashed, entries_of, IsFormOf};
+
+use arrayvec::ArrayVec;
+use std::alloc::{AllocError, Global};
+use std::collections::HashMap;
+use std::fmt;
+use std::hash::Hash;
+use std::marker::Model;
+
+/// What a map is looked up by: a reference to a key, or text where the keys are texts.
+///
+/// It stands where the Rust crate has `K: Borrow<Q>`: it is equal to the keys that it stands for, and hashes as they do.
+pub trait BorrowedKey<K: Eq + Hash>: Copy {
+    /// Whether it stands for a key.
+    ghost is_for: { Self → K → Bool };
+
+    /// Whether it stands for this key.
+    fn is_for(&self, key: &K) -> bool
+        ensures { result ≡ is_for self.now key.now };
+
+    /// The value in a hashed map at the key that it stands for: one look-up.
+    fn find_in<'m, V>(&self, map: &'m HashMap<K, V>) -> Option<&'m V>
+        ensures { option_copied result ≡ lookup (is_for self.now) map.now.entries };
+}
+
+impl<K: Eq + Hash> BorrowedKey<K> for &K {
+    ghost is_for = { λ q. K.eq q.now };
+
+    fn is_for(&self, key: &K) -> bool {
+        (*self).eq(key)
+    }
+
+    fn find_in<'m, V>(&self, map: &'m HashMap<K, V>) -> Option<&'m V> {
+        map.get(*self)
+    }
+}
+
+impl BorrowedKey<String> for &str {
+    ghost use Rattle.std.specs.Prelude.{bytes_eq, string_bytes};
+
+    ghost is_for = { λ q key. bytes_eq q.now (string_bytes key) };
+
+    fn is_for(&self, key: &String) -> bool {
+        *self == key.as_str()
+    }
+
+    fn find_in<'m, V>(&self, map: &'m HashMap<String, V>) -> Option<&'m V> {
+        map.get(*self)
+    }
+}
+
+#[derive(Drop)]
+enum Form<K: Eq + Hash, V, const N: usize> {
+    Small(ArrayVec<Option<(K, V)>, N>),
+    Large(HashMap<K, V>),
+}
+
+/// A map from keys to values that is inline up to `N` keys, and hashed from `N` + 1 on.
+///
+/// Contracts see the list of its entries, which is read at a key.
+#[derive(Drop)]
+pub struct SmallMap<K: Eq + Hash, V, const N: usize> {
+    form: Form<K, V, N>,
+}
+
+impl<K: Eq + Hash, V, const N: usize> Model for SmallMap<K, V, N> {
+    ghost use Rattle.std.specs.Prelude.{List};
+
+    ghost Value = { List (K × V) };
+
+    ghost use Rattle.ref_parts.specs.FiniteMap.{entries_of, IsFormOf};
+
+    ghost view = { λ m. entries_of m.form };
+
+    ghost invariant = { λ m. IsFormOf K.eq N m.form };
+}
+
+impl<K: Eq + Hash, V, const N: usize> SmallMap<K, V, N> {
+    /// An empty map. Takes no memory.
+    pub fn new() -> Self
+        ensures { result ≡ [] }
+    {
+        SmallMap {
+            form: Form::Small(ArrayVec::new()),
+        }
+    }
+
+    /// Whether the pairs are held inline, which they are exactly up to `N` keys.
+    pub fn is_small(&self) -> bool
+        ensures { IsTrue result ↔ (length self.now ≤ N) }
+    {
+        matches!(&self.form, Form::Small(_))
+    }
+
+    /// The value at a key.
+    ///
+    /// Takes no memory. At most `N` comparisons while it is small, and one look-up from then on.
+    pub fn get<Q: BorrowedKey<K>>(&self, key: Q) -> Option<&V>
+        ensures { option_copied result ≡ lookup (Q.is_for key) self.now }
+    {
+        match &self.form {
+            Form::Small(slots) => value_in(slots.as_slice(), key),
+            Form::Large(map) => key.find_in(map),
+        }
+    }
+}
+
+// The value in the first slot whose key it stands for.
+fn value_in<K: Eq + Hash, V, Q: BorrowedKey<K>>(slots: &[Option<(K, V)>], key: Q) -> Option<&V>
+    ensures { option_copied result ≡ lookup (Q.is_for key) (pairs slots.now) }
+{
+    for slot in slots {
+        if let Some((k, value)) = slot {
+            if key.is_for(k) {
+                return Some(value);
+            }
+        }
+    }
+    None
+}
+
+impl<K: Eq + Hash + Drop, V: Drop, const N: usize> SmallMap<K, V, N> {
+    /// Puts a value at a key, in the place of the one that is there.
+    ///
+    /// Takes memory when it grows past `N` keys and as the hashed map grows. Where there is none it is refused, the map is
+    /// as it was, and the pair is dropped. At most `N` comparisons while it is small, and one look-up from then on.
+    pub fn insert(&mut self, alloc: Global, key: K, value: V) -> Result<(), AllocError>
+        ensures ok { OnOk result (Puts K.eq self.old self.new key value) }
+        ensures err { OnErr result (self.new ≡ self.old) }
+    {
+        put(&mut self.form, alloc, key, value)
+    }
+}
+
+impl<K: Eq + Hash + Clone + Drop, V: Clone + Drop, const N: usize> SmallMap<K, V, N> {
+    /// A copy of the map, where the clones of its keys and values are equal to them.
+    ///
+    /// Takes what memory those clones and a hashed map take, and is refused where there is none.
+    pub fn clone(&self) -> Result<Self, AllocError>
+        requires keys { (x y : K) → K.is_clone x y → y ≡ x }
+        requires values { (x y : V) → V.is_clone x y → y ≡ x }
+        ensures { IfOk result (λ copy. copy ≡ self.now) }
+    {
+        Ok(SmallMap {
+            form: copied(&self.form)?,
+        })
+    }
+}
+
+
+impl<K: Eq + Hash, V, const N: usize> Default for SmallMap<K, V, N> {
+    ghost is_default = { λ map. map ≡ [] };
+
+    fn default() -> Self {
+        SmallMap::new()
+    }
+}
+
+impl<K: Eq + Hash + fmt::Debug, V: fmt::Debug, const N: usize> fmt::Debug for SmallMap<K, V, N> {
+    fn fmt<W: fmt::Write>(&self, f: &mut fmt::Formatter<W>) -> fmt::Result {
+        let mut pairs = f.debug_map();
+        match &self.form {
+            Form::Small(slots) => {
+                for slot in slots.as_slice() {
+                    if let Some((key, value)) = slot {
+                        pairs.entry(key, value);
+                    }
+                }
+            }
+            Form::Large(map) => {
+                for (key, value) in map {
+                    pairs.entry(key, value);
+                }
+            }
+        }
+        pairs.finish()
+    }
+}
+
+// A copy of either form.
+fn copied<K: Eq + Hash + Clone + Drop, V: Clone + Drop, const N: usize>(
+    form: &Form<K, V, N>,
+) -> Result<Form<K, V, N>, AllocError>
+    requires keys { (x y : K) → K.is_clone x y → y ≡ x }
+    requires values { (x y : V) → V.is_clone x y → y ≡ x }
+    ensures same { IfOk result (λ copy. entries_of copy ≡ entries_of form.now) }
+    ensures kept { IfOk result (λ copy. IsFormOf K.eq N form.now → IsFormOf K.eq N copy) }
+{
+    match form {
+        Form::Small(slots) => Ok(Form::Small(slots.clone()?)),
+        Form::Large(map) => Ok(Form::Large(map.clone()?)),
+    }
+}
+
+// Puts a value at a key of a hashed map.
+fn put_hashed<K: Eq + Hash + Drop, V: Drop>(
+    map: &mut HashMap<K, V>,
+    key: K,
+    value: V,
+) -> Result<(), AllocError>
+    ensures ok { OnOk result (Puts K.eq map.old.entries map.new.entries key value) }
+    ensures err { OnErr result (map.new.entries ≡ map.old.entries) }
+    ensures room { 0 < spare map.old → IsOk result }
+    ensures uses { spare map.old ≤ spare map.new + 1 }
+{
+    match map.insert(key, value) {
+        Ok(_) => Ok(()),
+        Err(_) => Err(AllocError),
+    }
+}
+
+// The hashed map of the pairs, with room for one more. The slots are empty afterwards, or as they were where it is
+// refused.
+fn hashed<K: Eq + Hash + Drop, V: Drop, const N: usize>(
+    alloc: Global,
+    slots: &mut ArrayVec<Option<(K, V)>, N>,
+) -> Result<HashMap<K, V>, AllocError>
+    requires { EachOnce K.eq (pairs slots.old.items) }
+    ensures ok { IfOk result (λ map. IsHashed K.eq slots.old.items map.entries (spare map)) }
+    ensures err { OnErr result (slots.new.items ≡ slots.old.items) }
+{
+    let room = slots.len().checked_add(1).ok_or(AllocError)?;
+    let mut map = HashMap::with_capacity(alloc, room)?;
+    while let Some(slot) = slots.pop() {
+        if let Some((key, value)) = slot {
+            match put_hashed(&mut map, key, value) {
+                Ok(()) => (),
+                Err(_) => unreachable!(),
+            }
+        }
+    }
+    Ok(map)
+}
+
+// Puts a value at a key of either form, which grows to the other where it has to.
+fn put<K: Eq + Hash + Drop, V: Drop, const N: usize>(
+    form: &mut Form<K, V, N>,
+    alloc: Global,
+    key: K,
+    value: V,
+) -> Result<(), AllocError>
+    requires { IsFormOf K.eq N form.old }
+    ensures kept { IsFormOf K.eq N form.new }
+    ensures ok { OnOk result (Puts K.eq (entries_of form.old) (entries_of form.new) key value) }
+    ensures err { OnErr result (entries_of form.new ≡ entries_of form.old) }
+{
+    let slots = match form {
+        Form::Small(slots) => slots,
+        Form::Large(map) => return put_hashed(map, key, value),
+    };
+    if let Some(place) = place_of(slots.as_slice(), &key) {
+        set_slot(slots, place, (key, value));
+        return Ok(());
+    }
+    if slots.len() < N {
+        slots.push(Some((key, value)));
+        return Ok(());
+    }
+    let mut map = hashed(alloc, slots)?;
+    match put_hashed(&mut map, key, value) {
+        Ok(()) => (),
+        Err(_) => unreachable!(),
+    }
+    *form = Form::Large(map);
+    Ok(())
+}
+
+// Puts a pair into a slot.
+fn set_slot<K: Drop, V: Drop, const N: usize>(
+    slots: &mut ArrayVec<Option<(K, V)>, N>,
+    place: usize,
+    pair: (K, V),
+)
+    requires { place < length slots.old.items }
+    ensures { slots.new.items ≡ slice_set slots.old.items place (Some pair) }
+{
+    slots.as_mut_slice()[place] = Some(pair);
+}
+
+// Where the first slot is whose key is equal.
+fn place_of<K: Eq + Hash, V>(slots: &[Option<(K, V)>], key: &K) -> Option<usize>
+    ensures { MatchOption result (lookup (K.eq key.now) (pairs slots.now) ≡ None) (IsPlaceOf K.eq key.now slots.now) }
+{
+    for (place, slot) in slots.iter().enumerate() {
+        if let Some((k, _)) = slot {
+            if key == k {
+                return Some(place);
+            }
+        }
+    }
+    None
+}

@@ -1,0 +1,5 @@
+use Rattle.ref_uri.proofs.UniqueLemmas.{components-text_of}
+use Rattle.ref_uri.proofs.laws.components_are_determined.Goals as goal
+
+pub returns : goal.returns
+returns c = components-text_of

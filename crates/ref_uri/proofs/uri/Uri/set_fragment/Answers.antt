@@ -1,0 +1,20 @@
+use Rattle.std.proofs.Common.{◌≡◌, ◌∙◌, List, ℕ, None, sym, ap, subst, length, take, string_bytes, refl}
+use Rattle.std.specs.Option.{option_copied}
+use Rattle.ref_uri.specs.Reference.{with_fragment}
+use Rattle.ref_uri.specs.Lengths.{IsParsedUri}
+use Rattle.ref_uri.proofs.FragmentLemmas.{with_fragment-dropped, parsed_uri-with_fragment}
+use Rattle.ref_uri.proofs.uri.Uri.set_fragment.Goals as goal
+
+-- the text up to the fragment
+cut_is : (c : goal.After-truncate) → string_bytes c.truncate.new.self ≡ with_fragment (string_bytes c.self.inside.text) None
+cut_is c =
+    let stripped = c.as_str-len.ensures ∙ c.strip_fragment.ensures ∙ ap (λ t. with_fragment t None) (sym c.self.view_is) in
+    c.truncate.ensures.bytes ∙ ap (λ t. take (length t) (string_bytes c.self.inside.text)) stripped ∙ with_fragment-dropped (string_bytes c.self.inside.text)
+
+pub invariant_of-self : goal.invariant_of-self
+invariant_of-self c =
+    subst (λ (t : List ℕ). IsParsedUri t c.self.inside.lengths) (sym (cut_is c)) (parsed_uri-with_fragment (string_bytes c.self.inside.text) c.self.inside.lengths None c.self.invariant refl)
+
+pub returns-in-None-clause-ok : goal.returns-in-None-clause-ok
+returns-in-None-clause-ok c =
+    cut_is c ∙ ap (λ t. with_fragment t None) c.self.view_is ∙ ap (λ o. with_fragment c.args.self.now (option_copied o)) (sym c.in-None.is)
