@@ -12,4 +12,5 @@ pub mod FaultView
 pub mod RegistryView
 pub mod View
 pub mod Floats
+pub mod Rows
 pub mod Run

@@ -6,6 +6,7 @@
 
 mod fault;
 mod follow;
+pub mod laws;
 mod pointer;
 mod registry;
 mod report;

@@ -17,7 +17,7 @@ use std::alloc::Global;
 /// The trees under their URIs, in order of first addition.
 #[derive(Drop)]
 pub struct Registry<'a> {
-    documents: IndexMap<&'a str, &'a Value>,
+    pub documents: IndexMap<&'a str, &'a Value>,
 }
 
 /// The documents, each under its URI without the `#` characters at its end, or the first of those texts that is no URI

@@ -31,7 +31,8 @@ pub struct MemorySink {
 impl MemorySink {
     /// No bytes, and no write has failed.
     pub fn new(alloc: Global) -> MemorySink
-        ensures { vec_len result.bytes ≡ 0 }
+        ensures bytes { vec_len result.bytes ≡ 0 }
+        ensures count { result.failures ≡ 0 }
     {
         MemorySink {
             bytes: Vec::new(alloc),
@@ -66,12 +67,14 @@ impl Sink for MemorySink {
 #[derive(Drop)]
 pub struct StandardOutput {
     stdout: Stdout,
-    failures: u64,
+    pub failures: u64,
 }
 
 impl StandardOutput {
     /// Standard output, of which no write has failed.
-    pub fn new(stdout: Stdout) -> StandardOutput {
+    pub fn new(stdout: Stdout) -> StandardOutput
+        ensures { result.failures ≡ 0 }
+    {
         StandardOutput {
             stdout,
             failures: 0,

@@ -1,5 +1,5 @@
 //! Where a request's bytes come from.
-ghost use Rattle.std.specs.Prelude.{◌≡◌, ◌+◌, ◌<◌, ◌≤◌, ℕ, List, Option, Some, None, Bool, IfOk, IsOk, IsTrue, length, take};
+ghost use Rattle.std.specs.Prelude.{◌≡◌, false, ◌+◌, ◌<◌, ◌≤◌, ℕ, List, Option, Some, None, Bool, IfOk, IsOk, IsTrue, length, take};
 ghost use Rattle.refwalk.specs.Bytes.{counted, Gives};
 
 use std::io;
@@ -77,13 +77,16 @@ impl Source for MemorySource<'_> {
 #[derive(Drop)]
 pub struct StandardInput {
     stdin: Stdin,
-    ended: bool,
-    failures: u64,
+    pub ended: bool,
+    pub failures: u64,
 }
 
 impl StandardInput {
     /// Standard input, of which no read has failed.
-    pub fn new(stdin: Stdin) -> StandardInput {
+    pub fn new(stdin: Stdin) -> StandardInput
+        ensures ended { result.ended ≡ false }
+        ensures count { result.failures ≡ 0 }
+    {
         StandardInput {
             stdin,
             ended: false,
