@@ -1,0 +1,9 @@
+mod Texts
+mod Trees
+mod Scopes
+mod Walks
+mod Registries
+mod Plain
+mod Steps
+mod Floats
+mod Reports

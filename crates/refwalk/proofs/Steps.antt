@@ -1,0 +1,58 @@
+-- Steps that are followed one by one.
+use Rattle.std.proofs.Common.{◌≡◌, ℕ, zero, suc, arith, ◌+◌, ◌<◌, ◌≤◌, Bool, true, false, List, [], ◌∷◌, length, map, drop, get_or, Ok, cond, eqb, refl, sym, ap, ◌∙◌, add-one}
+use Rattle.std.proofs.Math.Seq.{drop-cons}
+use Rattle.std.proofs.lemmas.Bool.Decides.{Decides-eqb}
+use Rattle.refwalk.specs.declared.request.Step.{Step}
+use Rattle.refwalk.specs.Request as request
+use Rattle.refwalk.specs.declared.fault.Fault.{Fault}
+use Rattle.refwalk.specs.declared.stop.Stop.{Stop}
+use Rattle.refwalk.specs.declared.stop.Stop.TheVariants.{Memory, Because}
+use Rattle.refwalk.specs.FaultView.{fault_view}
+use Rattle.refwalk.specs.Outcome.{◌>>=◌, Stops}
+use Rattle.refwalk.specs.Follow.{Followed, stepped, numbered, followed_from, looked_up}
+use Rattle.refwalk.specs.View.{step_view, step_fault_view, numbered_stop}
+
+other_by : (world : List request.Document) (f : Followed) (c : ℕ) (rest : List ℕ) (b : Bool) → eqb c 35 ≡ b → ((more : List ℕ) → (c ∷ rest) ≡ 35 ∷ more → ⊥)
+    → cond b (looked_up world f.resolver f.resolver.base rest) (Ok f) ≡ Ok f
+other_by world f c rest true e h = absurd (h rest (ap (λ x. x ∷ rest) ((Decides-eqb c 35).0 e)))
+other_by world f c rest false e h = refl
+
+-- a reference that doesn't begin with `#`
+pub stepped-other : (world : List request.Document) (f : Followed) (reference : List ℕ) → ((more : List ℕ) → reference ≡ 35 ∷ more → ⊥) → stepped world f (request.Lookup reference) ≡ Ok f
+unfolding stepped
+stepped-other world f [] h = refl
+stepped-other world f (c ∷ rest) h = other_by world f c rest (eqb c 35) refl h
+
+drop-read : (steps : List Step) (i : ℕ) (s : Step) → i < length steps → s ≡ get_or steps i s → drop i steps ≡ s ∷ drop (i + 1) steps
+drop-read steps i s h e =
+    let cut : drop i steps ≡ get_or steps i s ∷ drop (i + 1) steps = rw (add-one, drop-cons steps i s) in
+    cut ∙ ap (λ x. x ∷ drop (i + 1) steps) (sym e)
+
+one_step : (world : List request.Document) (n : ℕ) (f : Followed) (steps : List Step) (s : Step) → n < length steps → s ≡ get_or steps n s
+    → followed_from world n f (map step_view (drop n steps)) ≡ (numbered n (stepped world f (step_view s)) >>= λ g. followed_from world (n + 1) g (map step_view (drop (n + 1) steps)))
+unfolding followed_from
+one_step world n f steps s h e = ap (λ xs. followed_from world n f (map step_view xs)) (drop-read steps n s h e)
+
+-- a step that is followed
+pub followed-next : (world : List request.Document) (n : ℕ) (f g : Followed) (steps : List Step) (s : Step) → n < length steps → s ≡ get_or steps n s → stepped world f (step_view s) ≡ Ok g
+    → followed_from world (n + 1) g (map step_view (drop (n + 1) steps)) ≡ followed_from world n f (map step_view (drop n steps))
+followed-next world n f g steps s h e is =
+    sym (one_step world n f steps s h e ∙ ap (λ r. numbered n r >>= λ g. followed_from world (n + 1) g (map step_view (drop (n + 1) steps))) is)
+
+-- a step that stops
+pub followed-stop : (world : List request.Document) (n : ℕ) (f : Followed) (stop : Stop Fault) (steps : List Step) (s : Step) → n < length steps → s ≡ get_or steps n s
+    → Stops fault_view stop (stepped world f (step_view s)) → Stops step_fault_view (numbered_stop n stop) (followed_from world n f (map step_view (drop n steps)))
+followed-stop world n f Memory steps s h e is = tt
+followed-stop world n f (Because fault) steps s h e is =
+    one_step world n f steps s h e ∙ ap (λ r. numbered n r >>= λ g. followed_from world (n + 1) g (map step_view (drop (n + 1) steps))) is
+
+drop_end : (steps : List Step) (n : ℕ) → length steps ≤ n → drop n steps ≡ []
+drop_end [] zero h = refl
+drop_end [] (suc n) h = refl
+drop_end (s ∷ ss) zero h = absurd (omega arith)
+drop_end (s ∷ ss) (suc n) h = drop_end ss n (omega arith)
+
+-- no step is left
+pub followed-end : (world : List request.Document) (n : ℕ) (f : Followed) (steps : List Step) → length steps ≤ n → followed_from world n f (map step_view (drop n steps)) ≡ Ok f
+unfolding followed_from
+followed-end world n f steps h = ap (λ xs. followed_from world n f (map step_view xs)) (drop_end steps n h)

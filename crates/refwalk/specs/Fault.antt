@@ -1,0 +1,27 @@
+-- Why documents can't be prepared, or a step can't be followed, with the texts that a user reads.
+use Rattle.std.specs.Prelude.{ℕ, List, ◌++◌, codes}
+
+pub data Fault : Type 0 where
+  -- no document bears this URI
+  Unretrievable : List ℕ → Fault
+  PointerToNowhere : List ℕ → Fault
+  InvalidPercentEncoding : List ℕ → Fault
+  -- the pointer, and the part of it that is no index
+  InvalidArrayIndex : List ℕ → List ℕ → Fault
+  NoSuchAnchor : List ℕ → Fault
+  InvalidAnchor : List ℕ → Fault
+  -- the text is no URI reference
+  InvalidUri : List ℕ → Fault
+
+abbrev pub fault_text : Fault → List ℕ
+fault_text (Unretrievable uri) =
+    codes "Resource '" ++ (uri ++ codes "' is not present in a registry and retrieving it failed: Retrieving external resources is not supported once the registry is populated")
+fault_text (PointerToNowhere pointer) = codes "Pointer '" ++ (pointer ++ codes "' does not exist")
+fault_text (InvalidPercentEncoding pointer) =
+    codes "Invalid percent encoding in pointer '" ++ (pointer ++ codes "': the decoded bytes do not represent valid UTF-8")
+fault_text (InvalidArrayIndex pointer index) =
+    codes "Failed to parse array index '" ++ (index ++ (codes "' in pointer '" ++ (pointer ++ codes "'")))
+fault_text (NoSuchAnchor anchor) = codes "Anchor '" ++ (anchor ++ codes "' does not exist")
+fault_text (InvalidAnchor anchor) = codes "Anchor '" ++ (anchor ++ codes "' is invalid")
+fault_text (InvalidUri uri) =
+    codes "Invalid URI reference '" ++ (uri ++ codes "': not a URI reference of RFC 3986")

@@ -1,0 +1,16 @@
+pub mod Bytes
+pub mod Memory
+pub mod Outcome
+pub mod Request
+pub mod Served
+pub mod Registry
+pub mod Fault
+pub mod Pointer
+pub mod Follow
+pub mod Report
+pub mod FaultView
+pub mod RegistryView
+pub mod View
+pub mod Floats
+pub mod Rows
+pub mod Run

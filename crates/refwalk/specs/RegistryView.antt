@@ -1,0 +1,16 @@
+-- The documents of a request as the program keeps them.
+use Rattle.std.specs.Prelude.{ℕ, List, map}
+use Rattle.std.specs.Borrow.{Bor}
+use Rattle.serde_json.specs.View.{view}
+use Rattle.serde_json.specs.declared.value.Value.{Value}
+use Rattle.refwalk.specs.declared.request.Document.{Document}
+use Rattle.refwalk.specs.Request as request
+
+abbrev pub document_view : Document → request.Document
+document_view d = record { uri = d.uri.now; tree = view d.tree.now }
+
+abbrev pub entry_view : Bor (List ℕ) × Bor Value → request.Document
+entry_view e = record { uri = e.0.now; tree = view e.1.now }
+
+abbrev pub documents_view : List (Bor (List ℕ) × Bor Value) → List request.Document
+documents_view es = map entry_view es

@@ -1,0 +1,84 @@
+-- The report on a request.
+use Rattle.std.specs.Prelude.{ℕ, Bool, true, List, [], ◌∷◌, ◌++◌, codes, decimal, flat_map, Option, Some, None, Result, Ok, Err}
+use Rattle.serde_json.specs.Data.{Data}
+use Rattle.serde_json.specs.Written.{compact_text}
+use Rattle.refwalk.specs.declared.report.Status.{Status}
+use Rattle.refwalk.specs.declared.report.Status.TheVariants as status
+use Rattle.refwalk.specs.declared.request.BadRequest.{BadRequest}
+use Rattle.refwalk.specs.declared.request.BadRequest.TheVariants.{NotJson, NotAnObject, Float, UnknownField, Documents, Base, Steps, Remote, Meta, Draft, Limit}
+use Rattle.refwalk.specs.Request.{Document, Request, read_request}
+use Rattle.refwalk.specs.Served.{is_served}
+use Rattle.refwalk.specs.Registry.{prepared}
+use Rattle.refwalk.specs.Fault.{Fault, fault_text}
+use Rattle.refwalk.specs.Follow.{Followed, followed}
+
+pub record Report : Type 0 where
+  pub status : Status
+  pub text : List ℕ
+
+abbrev pub line : List ℕ → List ℕ
+line text = text ++ 10 ∷ []
+
+abbrev pub reason : BadRequest → List ℕ
+reason NotJson = codes "not JSON"
+reason NotAnObject = codes "not an object"
+reason Float = codes "float"
+reason UnknownField = codes "unknown field"
+reason Documents = codes "documents"
+reason Base = codes "base"
+reason Steps = codes "steps"
+reason Remote = codes "remote"
+reason Meta = codes "meta"
+reason Draft = codes "draft"
+reason Limit = codes "limit"
+
+abbrev pub bad_report : BadRequest → Report
+bad_report bad = record { status = status.BadRequest; text = line (codes "bad request " ++ reason bad) }
+
+abbrev pub prepare_report : Fault → Report
+prepare_report fault = record { status = status.Fault; text = line (codes "fault prepare " ++ fault_text fault) }
+
+abbrev pub step_report : ℕ → Fault → Report
+step_report n fault = record { status = status.Fault; text = line (codes "fault " ++ (decimal n ++ (codes " " ++ fault_text fault))) }
+
+-- each value has the draft 2020-12
+abbrev pub value_lines : Option Data → List ℕ
+value_lines None = line (codes "no value")
+value_lines (Some d) = line (codes "value " ++ compact_text d) ++ line (codes "draft 2020-12")
+
+abbrev pub scope_line : List (List ℕ) → List ℕ
+scope_line scope = line (codes "scope" ++ flat_map (λ uri. codes " " ++ uri) scope)
+
+abbrev pub done_report : Followed → Report
+done_report f = record {
+  status = status.Done;
+  text = value_lines f.last ++ (line (codes "base " ++ f.resolver.base) ++ scope_line f.resolver.scope);
+}
+
+abbrev pub followed_report : Result Followed (ℕ × Fault) → Report
+followed_report (Ok f) = done_report f
+followed_report (Err (n, fault)) = step_report n fault
+
+abbrev pub prepared_report : Request → Result (List Document) Fault → Report
+prepared_report r (Ok world) = followed_report (followed world r.base r.steps)
+prepared_report r (Err fault) = prepare_report fault
+
+-- the report on a request that is served
+unfoldable pub request_report : Request → Report
+request_report r = prepared_report r (prepared r.documents)
+
+abbrev pub read_report : Result Request BadRequest → Report
+read_report (Ok r) = request_report r
+read_report (Err bad) = bad_report bad
+
+-- the report on the bytes of a request
+unfoldable pub report : List ℕ → Report
+report bytes = read_report (read_request bytes)
+
+abbrev pub read_is_answered : Result Request BadRequest → Bool
+read_is_answered (Ok r) = is_served r
+read_is_answered (Err bad) = true
+
+-- the bytes are answered by a report: a bad request is, and so is one that is served
+unfoldable pub is_answered : List ℕ → Bool
+is_answered bytes = read_is_answered (read_request bytes)

@@ -1,0 +1,49 @@
+-- Rows of the definitions, each of which computes.
+use Rattle.std.specs.Prelude.{◌≡◌, true, false, List, [], ◌∷◌, codes, Some, None, Ok, Err}
+use Rattle.serde_json.specs.Data.{Data, boolean, array, object, no_items, item, no_members, member}
+use Rattle.refwalk.specs.Fault.{InvalidArrayIndex, PointerToNowhere}
+use Rattle.refwalk.specs.Follow.{moved}
+use Rattle.refwalk.specs.Pointer.{index_of, parts, step_into}
+use Rattle.refwalk.specs.Registry.{added, means}
+use Rattle.refwalk.specs.Served.{trimmed, is_plain, is_pointer_reference}
+
+-- a leading 0 and a `+` are taken, a minus and a space are not, and a number past 64 bits is no index
+abbrev pub IndexRows : Type 0
+IndexRows =
+    (index_of (codes "0") ≡ Some 0) × (index_of (codes "01") ≡ Some 1) × (index_of (codes "+1") ≡ Some 1) × (index_of (codes "-1") ≡ None)
+    × (index_of (codes " 1") ≡ None) × (index_of (codes "+") ≡ None) × (index_of [] ≡ None)
+    × (index_of (codes "18446744073709551615") ≡ Some 18446744073709551615) × (index_of (codes "18446744073709551616") ≡ None)
+
+-- a text has one part more than slashes
+abbrev pub PartsRows : Type 0
+PartsRows = (parts [] ≡ [] ∷ []) × (parts (codes "a/b") ≡ codes "a" ∷ codes "b" ∷ []) × (parts (codes "a//") ≡ codes "a" ∷ [] ∷ [] ∷ [])
+
+-- one step from an array, and from what has no parts
+abbrev pub StepRows : Type 0
+StepRows =
+    (step_into (codes "/1") (array (item (boolean true) (item (boolean false) no_items))) (codes "1") ≡ Ok (boolean false))
+    × (step_into (codes "/2") (array (item (boolean true) (item (boolean false) no_items))) (codes "2") ≡ Err (PointerToNowhere (codes "/2")))
+    × (step_into (codes "/one") (array no_items) (codes "one") ≡ Err (InvalidArrayIndex (codes "/one") (codes "one")))
+    × (step_into (codes "/a") (boolean true) (codes "a") ≡ Err (PointerToNowhere (codes "/a")))
+
+-- which URIs are served, and which references
+abbrev pub PlainRows : Type 0
+PlainRows =
+    (is_plain (codes "http://a/r") ≡ true) × (is_plain (codes "http://example.com") ≡ true) × (is_plain (codes "http://") ≡ false)
+    × (is_plain (codes "http://a/") ≡ false) × (is_plain (codes "HTTP://a") ≡ false) × (is_plain (codes "http://a:80") ≡ false)
+    × (trimmed (codes "http://a/d##") ≡ codes "http://a/d") × (is_pointer_reference (codes "#") ≡ true)
+    × (is_pointer_reference (codes "#/a") ≡ true) × (is_pointer_reference (codes "#a") ≡ false) × (is_pointer_reference (codes "a") ≡ false)
+
+-- a later document under a URI takes the place of an earlier one
+abbrev pub MeansRows : Type 0
+MeansRows =
+    (means (added (added (added [] (record { uri = codes "r"; tree = boolean true })) (record { uri = codes "s"; tree = boolean true })) (record { uri = codes "r"; tree = boolean false })) (codes "r")
+    ≡ Some (boolean false))
+    × (means [] (codes "r") ≡ None)
+
+-- the base goes in front of an empty scope, and else where it changes
+abbrev pub ScopeRows : Type 0
+ScopeRows =
+    ((moved (record { base = codes "r"; scope = [] }) (codes "r")).scope ≡ codes "r" ∷ [])
+    × ((moved (record { base = codes "r"; scope = codes "r" ∷ [] }) (codes "r")).scope ≡ codes "r" ∷ [])
+    × ((moved (record { base = codes "r"; scope = codes "r" ∷ [] }) (codes "s")).scope ≡ codes "r" ∷ codes "r" ∷ [])

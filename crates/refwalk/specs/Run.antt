@@ -1,0 +1,34 @@
+-- What a run answers.
+use Rattle.std.specs.Prelude.{◌≡◌, ℕ, true, false, List, Option, Result, Ok, Err}
+use Rattle.std.specs.Io.KnownBytes.{Appends}
+use Rattle.refwalk.specs.declared.report.Report.{Report}
+use Rattle.refwalk.specs.declared.report.Status.{Status}
+use Rattle.refwalk.specs.declared.request.BadRequest.{BadRequest}
+use Rattle.refwalk.specs.declared.run.RunError.{RunError}
+use Rattle.refwalk.specs.declared.run.RunError.TheVariants.{Read, Write, Memory, NotYet}
+use Rattle.refwalk.specs.Report as report
+use Rattle.refwalk.specs.Request.{Request, read_request}
+use Rattle.refwalk.specs.View.{report_view}
+
+-- The answer to a request, bad or not, is the report, where there is one; else it is "not yet". Memory can run out in place
+-- of either.
+abbrev pub AnswersRequest : Result Request BadRequest → Result Report RunError → Type 0
+AnswersRequest request (Ok r) = (report.read_is_answered request ≡ true) × (report_view r ≡ report.read_report request)
+AnswersRequest request (Err NotYet) = report.read_is_answered request ≡ false
+AnswersRequest request (Err Memory) = Unit {0}
+AnswersRequest request (Err Read) = ⊥
+AnswersRequest request (Err Write) = ⊥
+
+-- the same for the bytes of a request
+abbrev pub AnswersBytes : List ℕ → Result Report RunError → Type 0
+AnswersBytes bytes result = AnswersRequest (read_request bytes) result
+
+-- The source gave some bytes, a report answers them, the sink took that report's text, and the status is the report's.
+-- Where the source tells its bytes, they are the bytes that it gave between the two states.
+abbrev pub Reports : Option (List ℕ) → Option (List ℕ) → Option (List ℕ) → Option (List ℕ) → Status → Type 0
+Reports given given' taken taken' status =
+    (bytes : List ℕ) × Appends given given' bytes × (report.is_answered bytes ≡ true) × Appends taken taken' (report.report bytes).text × (status ≡ (report.report bytes).status)
+
+-- The source gave some bytes that no report answers yet.
+abbrev pub IsUnanswered : Option (List ℕ) → Option (List ℕ) → Type 0
+IsUnanswered given given' = (bytes : List ℕ) × Appends given given' bytes × (report.is_answered bytes ≡ false)

@@ -1,0 +1,122 @@
+//! Following the steps of a request.
+ghost use Rattle.std.specs.Prelude.{◌≡◌, IfOk, map};
+ghost use Rattle.refwalk.specs.Outcome.{Answers};
+ghost use Rattle.refwalk.specs.FaultView.{fault_view};
+ghost use Rattle.refwalk.specs.Follow as spec;
+ghost use Rattle.refwalk.specs.RegistryView.{documents_view};
+ghost use Rattle.refwalk.specs.View.{step_view, resolver_view, followed_view, step_fault_view, numbered_stop};
+
+use crate::fault::Fault;
+use crate::pointer::at_fragment;
+use crate::registry::Registry;
+use crate::request::Step;
+use crate::stop::Stop;
+use serde_json::Value;
+use std::alloc::{AllocError, Global};
+
+/// Where a lookup starts from: the base URI, and the URIs passed so far, the outermost first.
+#[derive(Drop)]
+pub struct Resolver<'a> {
+    pub base: &'a str,
+    pub scope: Vec<&'a str>,
+}
+
+/// The value found last, if a lookup was made, and where the next lookup starts from.
+#[derive(Drop)]
+pub struct Followed<'a> {
+    pub last: Option<&'a Value>,
+    pub resolver: Resolver<'a>,
+}
+
+/// The number of a step, from 0, and its fault.
+#[derive(Drop)]
+pub struct StepFault<'a> {
+    pub step: usize,
+    pub fault: Fault<'a>,
+}
+
+/// What the steps lead to from a base, or the first fault. It takes memory for the scope.
+pub fn follow<'a>(
+    alloc: Global,
+    world: &Registry<'a>,
+    base: &'a str,
+    steps: &[Step<'a>],
+) -> Result<Followed<'a>, Stop<StepFault<'a>>>
+    ensures { Answers followed_view step_fault_view result
+        (spec.followed (documents_view world.now.documents.entries) base.now (map step_view steps.now)) }
+{
+    let mut state = Followed {
+        last: None,
+        resolver: Resolver {
+            base,
+            scope: Vec::new(alloc),
+        },
+    };
+    for (number, step) in steps.iter().enumerate() {
+        state = match stepped(alloc, world, state, step) {
+            Ok(next) => next,
+            Err(stop) => return Err(numbered(number, stop)),
+        };
+    }
+    Ok(state)
+}
+
+fn numbered<'a>(step: usize, stop: Stop<Fault<'a>>) -> Stop<StepFault<'a>>
+    ensures { result ≡ numbered_stop step stop.entry }
+{
+    match stop {
+        Stop::Memory => Stop::Memory,
+        Stop::Because(fault) => Stop::Because(StepFault { step, fault }),
+    }
+}
+
+#[tactic(auto, unfolding(crate::specs::Follow::stepped))]
+fn stepped<'a>(
+    alloc: Global,
+    world: &Registry<'a>,
+    state: Followed<'a>,
+    step: &Step<'a>,
+) -> Result<Followed<'a>, Stop<Fault<'a>>>
+    ensures { Answers followed_view fault_view result
+        (spec.stepped (documents_view world.now.documents.entries) (followed_view state.entry) (step_view step.now)) }
+{
+    match step {
+        Step::Lookup(reference) => match reference.strip_prefix('#') {
+            Some(fragment) => looked_up(alloc, world, state.resolver, fragment),
+            None => Ok(state),
+        },
+        Step::Recursive | Step::Enter(_) => Ok(state),
+    }
+}
+
+#[tactic(auto, unfolding(crate::specs::Follow::looked_up))]
+fn looked_up<'a>(
+    alloc: Global,
+    world: &Registry<'a>,
+    resolver: Resolver<'a>,
+    fragment: &'a str,
+) -> Result<Followed<'a>, Stop<Fault<'a>>>
+    ensures { Answers followed_view fault_view result
+        (spec.looked_up (documents_view world.now.documents.entries) (resolver_view resolver.entry) resolver.entry.base.now fragment.now) }
+{
+    let uri = resolver.base;
+    let root = world
+        .tree(uri)
+        .ok_or(Stop::Because(Fault::Unretrievable { uri }))?;
+    let value = at_fragment(alloc, fragment, root)?;
+    Ok(Followed {
+        last: Some(value),
+        resolver: moved(resolver, uri)?,
+    })
+}
+
+fn moved<'a>(mut resolver: Resolver<'a>, uri: &'a str) -> Result<Resolver<'a>, AllocError>
+    ensures { IfOk result (λ r. resolver_view r ≡ spec.moved (resolver_view resolver.entry) uri.now) }
+{
+    let base = resolver.base;
+    if resolver.scope.is_empty() || uri != base {
+        resolver.scope.push(base)?;
+    }
+    resolver.base = uri;
+    Ok(resolver)
+}

@@ -1,0 +1,54 @@
+//! The documents of a request, and what a URI means among them.
+ghost use Rattle.std.specs.Prelude.{◌≡◌, map, option_map};
+ghost use Rattle.serde_json.specs.View.{view};
+ghost use Rattle.refwalk.specs.Outcome.{Answers};
+ghost use Rattle.refwalk.specs.FaultView.{fault_view};
+ghost use Rattle.refwalk.specs.Registry as spec;
+ghost use Rattle.refwalk.specs.RegistryView.{documents_view, document_view};
+
+use crate::fault::Fault;
+use crate::request::Document;
+use crate::stop::Stop;
+use crate::uri::{is_reference, trimmed};
+use indexmap::IndexMap;
+use serde_json::Value;
+use std::alloc::Global;
+
+/// The trees under their URIs, in order of first addition.
+#[derive(Drop)]
+pub struct Registry<'a> {
+    pub documents: IndexMap<&'a str, &'a Value>,
+}
+
+/// The documents, each under its URI without the `#` characters at its end, or the first of those texts that is no URI
+/// reference. A later document under a URI takes the place of an earlier one. It takes memory for an entry each.
+pub fn prepared<'a>(
+    alloc: Global,
+    documents: &[Document<'a>],
+) -> Result<Registry<'a>, Stop<Fault<'a>>>
+    ensures { Answers (λ r. documents_view r.documents.entries) fault_view result
+        (spec.prepared (map document_view documents.now)) }
+{
+    let mut registry = Registry {
+        documents: IndexMap::new(alloc),
+    };
+    for document in documents {
+        let uri = trimmed(document.uri);
+        if !is_reference(uri) {
+            return Err(Stop::Because(Fault::InvalidUri { uri }));
+        }
+        registry.documents.insert(uri, document.tree)?;
+    }
+    Ok(registry)
+}
+
+impl<'a> Registry<'a> {
+    /// The tree of the document that bears the URI: a look-up.
+    pub fn tree(&self, uri: &str) -> Option<&'a Value>
+        ensures { option_map (λ v. view v.now) result
+            ≡ spec.means (documents_view self.now.documents.entries) uri.now }
+    {
+        let _keys_differ = self.documents.len();
+        self.documents.get(uri).copied()
+    }
+}

@@ -1,0 +1,134 @@
+//! The report on a request.
+ghost use Rattle.std.specs.Prelude.{◌≡◌, ◌++◌, ◌∷◌, [], false, IfOk, OnOk, IfSome, codes, decimal, map, reverse, option_map, string_bytes};
+ghost use Rattle.serde_json.specs.View.{view};
+ghost use Rattle.serde_json.specs.Written.{has_float};
+ghost use Rattle.refwalk.specs.Report as spec;
+ghost use Rattle.refwalk.specs.FaultView.{fault_view};
+ghost use Rattle.refwalk.specs.View.{followed_view, report_view};
+
+use crate::fault::Fault;
+use crate::follow::Followed;
+use crate::request::BadRequest;
+use serde_json::Value;
+use std::alloc::{AllocError, Global};
+
+/// How a run ended. Its number is the program's exit status.
+#[derive(Clone, Copy, Debug, Drop, PartialEq, Eq)]
+pub enum Status {
+    Done = 0,
+    Fault = 1,
+    BadRequest = 2,
+}
+
+/// The lines that a run writes, and how it ended.
+#[derive(Drop)]
+pub struct Report {
+    pub status: Status,
+    pub text: String,
+}
+
+/// The report on a bad request.
+pub fn bad_report(alloc: Global, bad: BadRequest) -> Result<Report, AllocError>
+    ensures { IfOk result (λ r. report_view r ≡ spec.bad_report bad) }
+{
+    let reason = reason(bad);
+    Ok(Report {
+        status: Status::BadRequest,
+        text: format!(in alloc; "bad request {reason}\n")?,
+    })
+}
+
+fn reason(bad: BadRequest) -> &'static str
+    ensures { result.now ≡ spec.reason bad }
+{
+    match bad {
+        BadRequest::NotJson => "not JSON",
+        BadRequest::NotAnObject => "not an object",
+        BadRequest::Float => "float",
+        BadRequest::UnknownField => "unknown field",
+        BadRequest::Documents => "documents",
+        BadRequest::Base => "base",
+        BadRequest::Steps => "steps",
+        BadRequest::Remote => "remote",
+        BadRequest::Meta => "meta",
+        BadRequest::Draft => "draft",
+        BadRequest::Limit => "limit",
+    }
+}
+
+/// The report on documents that can't be prepared.
+pub fn prepare_report(alloc: Global, fault: &Fault) -> Result<Report, AllocError>
+    ensures { IfOk result (λ r. report_view r ≡ spec.prepare_report (fault_view fault.now)) }
+{
+    Ok(Report {
+        status: Status::Fault,
+        text: format!(in alloc; "fault prepare {fault}\n")?,
+    })
+}
+
+/// The report on a step that can't be followed.
+pub fn step_report(alloc: Global, step: usize, fault: &Fault) -> Result<Report, AllocError>
+    ensures { IfOk result (λ r. report_view r ≡ spec.step_report step (fault_view fault.now)) }
+{
+    Ok(Report {
+        status: Status::Fault,
+        text: format!(in alloc; "fault {step} {fault}\n")?,
+    })
+}
+
+/// The report on steps that were all followed.
+pub fn done_report(alloc: Global, followed: &Followed) -> Result<Report, AllocError>
+    requires { IfSome followed.now.last (λ v. has_float (view v.now) ≡ false) }
+    ensures { IfOk result (λ r. report_view r ≡ spec.done_report (followed_view followed.now)) }
+{
+    let mut text = String::new(alloc);
+    push_value(alloc, &mut text, followed.last)?;
+    push_line(&mut text, "base ", followed.resolver.base)?;
+    push_scope(&mut text, followed.resolver.scope.as_slice())?;
+    Ok(Report {
+        status: Status::Done,
+        text,
+    })
+}
+
+// The lines of the value and its draft.
+fn push_value(alloc: Global, text: &mut String, last: Option<&Value>) -> Result<(), AllocError>
+    requires { IfSome last (λ v. has_float (view v.now) ≡ false) }
+    ensures { OnOk result (string_bytes text.new
+        ≡ string_bytes text.old ++ spec.value_lines (option_map (λ v. view v.now) last.entry)) }
+{
+    let Some(value) = last else {
+        return push_line(text, "no value", "");
+    };
+    let json = value.to_string(alloc)?;
+    push_line(text, "value ", json.as_str())?;
+    push_line(text, "draft 2020-12", "")?;
+    Ok(())
+}
+
+// The label and the body, on a line.
+fn push_line(text: &mut String, label: &str, body: &str) -> Result<(), AllocError>
+    ensures { OnOk result (string_bytes text.new
+        ≡ string_bytes text.old ++ spec.line (label.now ++ body.now)) }
+{
+    text.push_str(label)?;
+    text.push_str(body)?;
+    text.push_str("\n")?;
+    Ok(())
+}
+
+// The line of the scope, of which the outermost URI comes first here and last there.
+fn push_scope(text: &mut String, scope: &[&str]) -> Result<(), AllocError>
+    ensures { OnOk result (string_bytes text.new
+        ≡ string_bytes text.old ++ spec.scope_line (reverse (map (λ uri. uri.now) scope.now))) }
+{
+    text.push_str("scope")?;
+    let mut left = scope.len();
+    while left > 0 {
+        left -= 1;
+        text.push_str(" ")?;
+        text.push_str(scope[left])?;
+    }
+    text.push_str("\n")?;
+    Ok(())
+}

@@ -1,0 +1,312 @@
+//! A request, read from one JSON object.
+ghost use Rattle.std.specs.Prelude.{◌≡◌, IfOk, IfErr, Ok, Some, Option, option_map, map, codes};
+ghost use Rattle.std.specs.List.{list_all};
+ghost use Rattle.serde_json.specs.View.{view, members_view};
+ghost use Rattle.serde_json.specs.Find.{get};
+ghost use Rattle.serde_json.specs.Written.{has_float};
+ghost use Rattle.ref_uri.specs.Reference.{is_uri_reference};
+ghost use Rattle.refwalk.specs.Outcome.{Answers};
+ghost use Rattle.refwalk.specs.Request as spec;
+ghost use Rattle.refwalk.specs.View.{document_view, step_view, request_view};
+ghost use Rattle.refwalk.specs.declared.request.BadRequest.TheVariants as bad;
+
+use crate::scan::has_float;
+use crate::stop::Stop;
+use crate::uri::is_reference;
+use serde_json::{Map, Value};
+use std::alloc::{AllocError, Global};
+
+/// A document, and the text of the URI under which it is added.
+#[derive(Clone, Copy)]
+pub struct Document<'a> {
+    pub uri: &'a str,
+    pub tree: &'a Value,
+}
+
+/// A step: a text is looked up, null is a recursive lookup, an object is entered.
+#[derive(Clone, Copy)]
+pub enum Step<'a> {
+    Lookup(&'a str),
+    Recursive,
+    Enter(&'a Value),
+}
+
+/// The fields of a request, each as the format wants it.
+#[derive(Drop)]
+pub struct Request<'a> {
+    pub documents: Vec<Document<'a>>,
+    pub base: &'a str,
+    pub steps: Vec<Step<'a>>,
+    pub remote: Option<Vec<Document<'a>>>,
+    pub meta: Option<Vec<Document<'a>>>,
+    pub draft: Option<&'a str>,
+    pub limit: Option<u64>,
+}
+
+/// What is wrong with a request, in the order in which it is tested.
+#[derive(Clone, Copy, Debug, Drop, PartialEq, Eq)]
+pub enum BadRequest {
+    NotJson,
+    NotAnObject,
+    Float,
+    UnknownField,
+    Documents,
+    Base,
+    Steps,
+    Remote,
+    Meta,
+    Draft,
+    Limit,
+}
+
+/// The request that a tree is, or the first thing that is wrong with it. It takes memory for the lists.
+#[tactic(auto, unfolding(crate::specs::Request::request_of))]
+pub fn request_of(alloc: Global, tree: &Value) -> Result<Request<'_>, Stop<BadRequest>>
+    ensures { Answers request_view (λ e. e) result (spec.request_of (view tree.now)) }
+{
+    let Some(members) = tree.as_object() else {
+        return Err(Stop::Because(BadRequest::NotAnObject));
+    };
+    if has_float(tree) {
+        return Err(Stop::Because(BadRequest::Float));
+    }
+    if !are_fields(members) {
+        return Err(Stop::Because(BadRequest::UnknownField));
+    }
+    fields_of(alloc, tree)
+}
+
+fn are_fields(members: &Map<String, Value>) -> bool
+    ensures { result ≡ spec.are_fields (members_view members.now.entries) }
+{
+    for (key, _member) in members.iter() {
+        if !is_field(key.as_str()) {
+            return false;
+        }
+    }
+    true
+}
+
+fn is_field(name: &str) -> bool
+    ensures { result ≡ spec.is_field name.now }
+{
+    name == "documents"
+        || name == "base"
+        || name == "steps"
+        || name == "remote"
+        || name == "meta"
+        || name == "draft"
+        || name == "limit"
+}
+
+#[tactic(auto, unfolding(crate::specs::Request::fields_of))]
+fn fields_of(alloc: Global, tree: &Value) -> Result<Request<'_>, Stop<BadRequest>>
+    ensures { Answers request_view (λ e. e) result (spec.fields_of (view tree.now)) }
+{
+    let documents = required_documents(alloc, tree.get("documents"))?;
+    let base = required_base(tree.get("base"))?;
+    let steps = required_steps(alloc, tree.get("steps"))?;
+    let remote = optional_remote(alloc, tree.get("remote"))?;
+    let meta = optional_meta(alloc, tree.get("meta"))?;
+    let draft = optional_draft(tree.get("draft"))?;
+    let limit = optional_limit(tree.get("limit"))?;
+    Ok(Request {
+        documents,
+        base,
+        steps,
+        remote,
+        meta,
+        draft,
+        limit,
+    })
+}
+
+fn required_documents(
+    alloc: Global,
+    found: Option<&Value>,
+) -> Result<Vec<Document<'_>>, Stop<BadRequest>>
+    ensures { Answers (λ v. map document_view v.items) (λ e. e) result
+        (spec.required bad.Documents spec.documents_of (option_map (λ v. view v.now) found.entry)) }
+{
+    let value = found.ok_or(Stop::Because(BadRequest::Documents))?;
+    documents_of(alloc, value)?.ok_or(Stop::Because(BadRequest::Documents))
+}
+
+fn required_base(found: Option<&Value>) -> Result<&str, Stop<BadRequest>>
+    ensures { Answers (λ s. s.now) (λ e. e) result
+        (spec.required bad.Base spec.base_of (option_map (λ v. view v.now) found.entry)) }
+{
+    let value = found.ok_or(Stop::Because(BadRequest::Base))?;
+    base_of(value).ok_or(Stop::Because(BadRequest::Base))
+}
+
+fn required_steps(alloc: Global, found: Option<&Value>) -> Result<Vec<Step<'_>>, Stop<BadRequest>>
+    ensures { Answers (λ v. map step_view v.items) (λ e. e) result
+        (spec.required bad.Steps spec.steps_of (option_map (λ v. view v.now) found.entry)) }
+{
+    let value = found.ok_or(Stop::Because(BadRequest::Steps))?;
+    steps_of(alloc, value)?.ok_or(Stop::Because(BadRequest::Steps))
+}
+
+fn optional_remote(
+    alloc: Global,
+    found: Option<&Value>,
+) -> Result<Option<Vec<Document<'_>>>, Stop<BadRequest>>
+    ensures { Answers (option_map (λ v. map document_view v.items)) (λ e. e) result
+        (spec.optional bad.Remote spec.remote_of (option_map (λ v. view v.now) found.entry)) }
+{
+    let Some(value) = found else {
+        return Ok(None);
+    };
+    match remote_of(alloc, value)? {
+        Some(documents) => Ok(Some(documents)),
+        None => Err(Stop::Because(BadRequest::Remote)),
+    }
+}
+
+fn optional_meta(
+    alloc: Global,
+    found: Option<&Value>,
+) -> Result<Option<Vec<Document<'_>>>, Stop<BadRequest>>
+    ensures { Answers (option_map (λ v. map document_view v.items)) (λ e. e) result
+        (spec.optional bad.Meta spec.documents_of (option_map (λ v. view v.now) found.entry)) }
+{
+    let Some(value) = found else {
+        return Ok(None);
+    };
+    match documents_of(alloc, value)? {
+        Some(documents) => Ok(Some(documents)),
+        None => Err(Stop::Because(BadRequest::Meta)),
+    }
+}
+
+fn optional_draft(found: Option<&Value>) -> Result<Option<&str>, Stop<BadRequest>>
+    ensures { Answers (option_map (λ s. s.now)) (λ e. e) result
+        (spec.optional bad.Draft spec.draft_of (option_map (λ v. view v.now) found.entry)) }
+{
+    let Some(value) = found else {
+        return Ok(None);
+    };
+    match draft_of(value) {
+        Some(draft) => Ok(Some(draft)),
+        None => Err(Stop::Because(BadRequest::Draft)),
+    }
+}
+
+fn optional_limit(found: Option<&Value>) -> Result<Option<u64>, Stop<BadRequest>>
+    ensures { Answers (λ n. n) (λ e. e) result
+        (spec.optional bad.Limit spec.limit_of (option_map (λ v. view v.now) found.entry)) }
+{
+    let Some(value) = found else {
+        return Ok(None);
+    };
+    match value.as_u64() {
+        Some(limit) => Ok(Some(limit)),
+        None => Err(Stop::Because(BadRequest::Limit)),
+    }
+}
+
+#[tactic(auto, unfolding(crate::specs::Request::documents_of), using(crate::proofs::Trees::in_front_push))]
+fn documents_of(alloc: Global, value: &Value) -> Result<Option<Vec<Document<'_>>>, AllocError>
+    ensures { IfOk result (λ o. option_map (λ v. map document_view v.items) o
+        ≡ spec.documents_of (view value.now)) }
+{
+    let Some(items) = value.as_array() else {
+        return Ok(None);
+    };
+    let mut documents = Vec::with_capacity(alloc, items.len())?;
+    for item in items {
+        let Some(document) = document_of(item) else {
+            return Ok(None);
+        };
+        documents.push(document)?;
+    }
+    Ok(Some(documents))
+}
+
+fn document_of(value: &Value) -> Option<Document<'_>>
+    ensures { option_map document_view result ≡ spec.document_of (view value.now) }
+{
+    if value.get(2usize).is_some() {
+        return None;
+    }
+    let uri = value.get(0usize)?.as_str()?;
+    let tree = value.get(1usize)?;
+    Some(Document { uri, tree })
+}
+
+#[tactic(auto, unfolding(crate::specs::Request::remote_of))]
+fn remote_of(alloc: Global, value: &Value) -> Result<Option<Vec<Document<'_>>>, AllocError>
+    ensures { IfOk result (λ o. option_map (λ v. map document_view v.items) o
+        ≡ spec.remote_of (view value.now)) }
+{
+    let Some(documents) = documents_of(alloc, value)? else {
+        return Ok(None);
+    };
+    if have_references(documents.as_slice()) {
+        Ok(Some(documents))
+    } else {
+        Ok(None)
+    }
+}
+
+fn have_references(documents: &[Document]) -> bool
+    ensures { result ≡ list_all (λ e. is_uri_reference e.uri.now) documents.now }
+{
+    documents.iter().all(|document| is_reference(document.uri))
+}
+
+#[tactic(auto, unfolding(crate::specs::Request::base_of))]
+fn base_of(value: &Value) -> Option<&str>
+    ensures { option_map (λ s. s.now) result ≡ spec.base_of (view value.now) }
+{
+    let base = value.as_str()?;
+    if is_reference(base) { Some(base) } else { None }
+}
+
+#[tactic(auto, unfolding(crate::specs::Request::steps_of), using(crate::proofs::Trees::in_front_push))]
+fn steps_of(alloc: Global, value: &Value) -> Result<Option<Vec<Step<'_>>>, AllocError>
+    ensures { IfOk result (λ o. option_map (λ v. map step_view v.items) o
+        ≡ spec.steps_of (view value.now)) }
+{
+    let Some(items) = value.as_array() else {
+        return Ok(None);
+    };
+    let mut steps = Vec::with_capacity(alloc, items.len())?;
+    for item in items {
+        let Some(step) = step_of(item) else {
+            return Ok(None);
+        };
+        steps.push(step)?;
+    }
+    Ok(Some(steps))
+}
+
+fn step_of(value: &Value) -> Option<Step<'_>>
+    ensures { option_map step_view result ≡ spec.step_of (view value.now) }
+{
+    match value {
+        Value::Null => Some(Step::Recursive),
+        Value::String(reference) => Some(Step::Lookup(reference.as_str())),
+        Value::Object(_) => Some(Step::Enter(value)),
+        _ => None,
+    }
+}
+
+#[tactic(auto, unfolding(crate::specs::Request::draft_of))]
+fn draft_of(value: &Value) -> Option<&str>
+    ensures { option_map (λ s. s.now) result ≡ spec.draft_of (view value.now) }
+{
+    let name = value.as_str()?;
+    if is_draft_name(name) {
+        Some(name)
+    } else {
+        None
+    }
+}
+
+fn is_draft_name(name: &str) -> bool
+    ensures { result ≡ spec.is_draft_name name.now }
+{
+    name == "4" || name == "6" || name == "7" || name == "2019-09" || name == "2020-12"
+}

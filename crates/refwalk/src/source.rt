@@ -1,0 +1,130 @@
+//! Where a request's bytes come from.
+ghost use Rattle.std.specs.Prelude.{◌≡◌, false, ◌+◌, ◌<◌, ◌≤◌, ℕ, List, Option, Some, None, Bool, IfOk, IsOk, IsTrue, length, take};
+ghost use Rattle.refwalk.specs.Bytes.{counted, Gives};
+
+use std::io;
+use std::io::{ErrorKind, Read, Stdin};
+
+/// A read or a write that failed.
+#[derive(Clone, Copy, Debug, Drop, PartialEq, Eq)]
+pub struct Failed;
+
+/// What bytes are read from.
+pub trait Source {
+    // The bytes given so far, where they are told.
+    ghost given: { Self → Option (List ℕ) };
+
+    // Whether the end was reached.
+    ghost ended: { Self → Bool };
+
+    // How many reads failed. It stays at the greatest `u64`.
+    ghost failures: { Self → ℕ };
+
+    /// Puts the next bytes at the front of the buffer, and answers how many. Into a buffer with room it answers 0 at
+    /// the end alone. A read that fails gives no bytes.
+    fn read(&mut self, buffer: &mut [u8]) -> Result<usize, Failed>
+        ensures within { IfOk result (λ n. n ≤ length buffer.new) }
+        ensures bytes { Gives (given self.old) (given self.new) result buffer.new }
+        ensures end { result ≡ Ok 0 → 0 < length buffer.new → IsTrue (ended self.new) }
+        ensures count { failures self.new ≡ counted result (failures self.old) };
+}
+
+/// Bytes in memory, of which no read fails.
+#[derive(Drop)]
+pub struct MemorySource<'a> {
+    pub bytes: &'a [u8],
+    pub position: usize,
+    pub ghost within: { position ≤ length bytes.now },
+}
+
+impl<'a> MemorySource<'a> {
+    /// The bytes from their beginning.
+    pub fn new(bytes: &'a [u8]) -> MemorySource<'a>
+        ensures start { result.position ≡ 0 }
+        ensures all { result.bytes.now ≡ bytes.now }
+    {
+        MemorySource { bytes, position: 0 }
+    }
+}
+
+impl Source for MemorySource<'_> {
+    ghost use Rattle.std.specs.Prelude.{◌≡◌, ◌<◌, ◌≤◌, ◌==◌, Some, IfOk, IsOk, IsTrue, length, take};
+    ghost use Rattle.refwalk.specs.Bytes.{counted, Gives};
+    ghost use Rattle.refwalk.specs.Memory.{told, is_at_end};
+
+    ghost given = { told };
+
+    ghost ended = { is_at_end };
+
+    ghost failures = { λ _. 0 };
+
+    fn read(&mut self, buffer: &mut [u8]) -> Result<usize, Failed>
+        ensures succeeds { IsOk result }
+        ensures within { IfOk result (λ n. n ≤ length buffer.new) }
+        ensures bytes { Gives (told self.old) (told self.new) result buffer.new }
+        ensures end { result ≡ Ok 0 → 0 < length buffer.new → IsTrue (is_at_end self.new) }
+        ensures count { 0 ≡ counted result 0 }
+    {
+        let left = &self.bytes[self.position..];
+        let n = left.len().min(buffer.len());
+        buffer[..n].copy_from_slice(&left[..n]);
+        self.position += n;
+        Ok(n)
+    }
+}
+
+/// Standard input.
+#[derive(Drop)]
+pub struct StandardInput {
+    stdin: Stdin,
+    pub ended: bool,
+    pub failures: u64,
+}
+
+impl StandardInput {
+    /// Standard input, of which no read has failed.
+    pub fn new(stdin: Stdin) -> StandardInput
+        ensures ended { result.ended ≡ false }
+        ensures count { result.failures ≡ 0 }
+    {
+        StandardInput {
+            stdin,
+            ended: false,
+            failures: 0,
+        }
+    }
+}
+
+impl Source for StandardInput {
+    ghost given = { λ _. None };
+
+    ghost ended = { λ s. s.ended };
+
+    ghost failures = { λ s. s.failures };
+
+    fn read(&mut self, buffer: &mut [u8]) -> Result<usize, Failed> {
+        match read_uninterrupted(&mut self.stdin, buffer) {
+            Ok(n) => {
+                self.ended = n == 0;
+                Ok(n)
+            }
+            Err(_) => {
+                self.failures = self.failures.saturating_add(1);
+                Err(Failed)
+            }
+        }
+    }
+}
+
+// A read that a signal interrupted is made again.
+fn read_uninterrupted(stdin: &mut Stdin, buffer: &mut [u8]) -> io::Result<usize>
+    ensures { IfOk result (λ n. n ≤ length buffer.new) }
+{
+    for _ in 0..u64::MAX {
+        match stdin.read(buffer) {
+            Err(e) if e.kind() == ErrorKind::Interrupted => {}
+            answer => return answer,
+        }
+    }
+    Err(io::Error::from(ErrorKind::Interrupted))
+}

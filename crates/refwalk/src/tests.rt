@@ -1,0 +1,335 @@
+//! Whole requests, with their reports and statuses, and sources and sinks that fail.
+ghost use Rattle.std.specs.Prelude.{None};
+ghost use Rattle.refwalk.specs.Memory.{is_at_end};
+
+use crate::report::Status;
+use crate::run::{RunError, run};
+use crate::sink::{MemorySink, Sink};
+use crate::source::{Failed, MemorySource, Source};
+use std::test::Fail;
+
+// A source that gives a byte at a time.
+#[derive(Drop)]
+struct Slow<'a> {
+    inner: MemorySource<'a>,
+}
+
+impl Source for Slow<'_> {
+    ghost given = { λ _. None };
+
+    ghost ended = { λ s. is_at_end s.inner };
+
+    ghost failures = { λ _. 0 };
+
+    fn read(&mut self, buffer: &mut [u8]) -> Result<usize, Failed> {
+        let room = buffer.len().min(1);
+        self.inner.read(&mut buffer[..room])
+    }
+}
+
+// A source that fails once it gave so many bytes.
+#[derive(Drop)]
+struct FailsAfter<'a> {
+    inner: MemorySource<'a>,
+    left: usize,
+    failures: u64,
+}
+
+impl Source for FailsAfter<'_> {
+    ghost given = { λ _. None };
+
+    ghost ended = { λ s. is_at_end s.inner };
+
+    ghost failures = { λ s. s.failures };
+
+    fn read(&mut self, buffer: &mut [u8]) -> Result<usize, Failed> {
+        if self.left == 0 {
+            self.failures = self.failures.saturating_add(1);
+            return Err(Failed);
+        }
+        let room = buffer.len().min(self.left);
+        let n = self.inner.read(&mut buffer[..room])?;
+        self.left -= n.min(self.left);
+        Ok(n)
+    }
+}
+
+// A sink of which each write fails.
+#[derive(Drop)]
+struct Broken {
+    failures: u64,
+}
+
+impl Sink for Broken {
+    ghost taken = { λ _. None };
+
+    ghost failures = { λ s. s.failures };
+
+    fn write_all(&mut self, _bytes: &[u8]) -> Result<(), Failed> {
+        self.failures = self.failures.saturating_add(1);
+        Err(Failed)
+    }
+}
+
+struct Row {
+    request: &'static str,
+    report: &'static str,
+    status: Status,
+}
+
+const ROWS: [Row; 22] = [
+    // What a user asks most often, a run without steps, and a pointer that leads nowhere.
+    Row {
+        request: r##"{"documents":[["http://a/r",{"properties":{"n":{"type":"string"}}}]],"base":"http://a/r","steps":["#/properties/n"]}"##,
+        report: "value {\"type\":\"string\"}\ndraft 2020-12\nbase http://a/r\nscope http://a/r\n",
+        status: Status::Done,
+    },
+    Row {
+        request: r#"{"documents":[["http://a/r",{"properties":{"n":{"type":"string"}}}]],"base":"http://a/r","steps":[]}"#,
+        report: "no value\nbase http://a/r\nscope\n",
+        status: Status::Done,
+    },
+    Row {
+        request: r##"{"documents":[["http://a/r",{"properties":{"n":{"type":"string"}}}]],"base":"http://a/r","steps":["#/nope"]}"##,
+        report: "fault 0 Pointer '/nope' does not exist\n",
+        status: Status::Fault,
+    },
+    // No document bears the base, or its URI is none.
+    Row {
+        request: r##"{"documents":[["http://a/r",{"properties":{"n":{"type":"string"}}}]],"base":"http://a/q","steps":["#/properties/n"]}"##,
+        report: "fault 0 Resource 'http://a/q' is not present in a registry and retrieving it failed: Retrieving external resources is not supported once the registry is populated\n",
+        status: Status::Fault,
+    },
+    Row {
+        request: r##"{"documents":[["a b",{"properties":{"n":{"type":"string"}}}]],"base":"http://a/r","steps":["#/properties/n"]}"##,
+        report: "fault prepare Invalid URI reference 'a b': not a URI reference of RFC 3986\n",
+        status: Status::Fault,
+    },
+    // A later document under a URI takes the place of an earlier one, trailing # characters aside.
+    Row {
+        request: r##"{"documents":[["http://a/r",1],["http://a/s",2],["http://a/r##",3]],"base":"http://a/r","steps":["#","#"]}"##,
+        report: "value 3\ndraft 2020-12\nbase http://a/r\nscope http://a/r\n",
+        status: Status::Done,
+    },
+    // Bad requests.
+    Row {
+        request: "",
+        report: "bad request not JSON\n",
+        status: Status::BadRequest,
+    },
+    Row {
+        request: r#"{"documents":["#,
+        report: "bad request not JSON\n",
+        status: Status::BadRequest,
+    },
+    Row {
+        request: "[]",
+        report: "bad request not an object\n",
+        status: Status::BadRequest,
+    },
+    Row {
+        request: r##"{"documents":[["http://a/r",{"properties":{"n":{"type":"string"}}}]],"base":"http://a/r","steps":["#/properties/n"],"limit":1.5}"##,
+        report: "bad request float\n",
+        status: Status::BadRequest,
+    },
+    Row {
+        request: r##"{"documents":[["http://a/r",{"properties":{"n":{"type":"string"}}}]],"base":"a b","steps":["#/properties/n"]}"##,
+        report: "bad request base\n",
+        status: Status::BadRequest,
+    },
+    Row {
+        request: r#"{"documents":[],"base":"http://a/r","steps":[],"lint":true}"#,
+        report: "bad request unknown field\n",
+        status: Status::BadRequest,
+    },
+    Row {
+        request: r#"{"documents":[["http://a/r"]],"base":1,"steps":[]}"#,
+        report: "bad request documents\n",
+        status: Status::BadRequest,
+    },
+    Row {
+        request: r#"{"documents":[["http://a/r",{},{}]],"base":"http://a/r","steps":[]}"#,
+        report: "bad request documents\n",
+        status: Status::BadRequest,
+    },
+    Row {
+        request: r#"{"documents":[],"base":"http://a/r","steps":[true]}"#,
+        report: "bad request steps\n",
+        status: Status::BadRequest,
+    },
+    Row {
+        request: r#"{"documents":[],"base":"http://a/r","steps":[],"remote":[["a b",{}]]}"#,
+        report: "bad request remote\n",
+        status: Status::BadRequest,
+    },
+    Row {
+        request: r#"{"documents":[],"base":"http://a/r","steps":[],"meta":{}}"#,
+        report: "bad request meta\n",
+        status: Status::BadRequest,
+    },
+    Row {
+        request: r#"{"documents":[],"base":"http://a/r","steps":[],"draft":"5"}"#,
+        report: "bad request draft\n",
+        status: Status::BadRequest,
+    },
+    Row {
+        request: r#"{"documents":[],"base":"http://a/r","steps":[],"limit":-1}"#,
+        report: "bad request limit\n",
+        status: Status::BadRequest,
+    },
+    // The faults of pointers.
+    Row {
+        request: r##"{"documents":[["http://example.com",{"type":"object","properties":{"foo":{"type":"string"},"bar":{"type":"array","items":[{"type":"number"},{"type":"boolean"}]}}}]],"base":"http://example.com","steps":["#/%FF"]}"##,
+        report: "fault 0 Invalid percent encoding in pointer '/%FF': the decoded bytes do not represent valid UTF-8\n",
+        status: Status::Fault,
+    },
+    Row {
+        request: r##"{"documents":[["http://example.com",{"type":"object","properties":{"foo":{"type":"string"},"bar":{"type":"array","items":[{"type":"number"},{"type":"boolean"}]}}}]],"base":"http://example.com","steps":["#/properties/bar/items/one"]}"##,
+        report: "fault 0 Failed to parse array index 'one' in pointer '/properties/bar/items/one'\n",
+        status: Status::Fault,
+    },
+    Row {
+        request: r##"{"documents":[["http://example.com",{"type":"object","properties":{"foo":{"type":"string"},"bar":{"type":"array","items":[{"type":"number"},{"type":"boolean"}]}}}]],"base":"http://example.com","steps":["#","#/properties/bar/items/2"]}"##,
+        report: "fault 1 Pointer '/properties/bar/items/2' does not exist\n",
+        status: Status::Fault,
+    },
+];
+
+#[test]
+fn requests_have_their_reports(rt: HostRuntime) -> Result<(), Fail> {
+    for row in &ROWS {
+        let mut reader = MemorySource::new(row.request.as_bytes());
+        let mut writer = MemorySink::new(rt.alloc());
+        assert_eq!(rt; run(rt.alloc(), &mut reader, &mut writer), Ok(row.status));
+        assert_eq!(rt; writer.bytes.as_slice(), row.report.as_bytes());
+    }
+    Ok(())
+}
+
+// Each pointer, and the first line of its report.
+const POINTERS: [(&str, &str); 13] = [
+    (
+        "#",
+        "value {\"\":4,\"a\":{\"b\":3},\"a%zz\":1,\"l\":[5,6],\"~/\":7,\"~2\":2}\n",
+    ),
+    ("#/a%zz", "value 1\n"),
+    ("#/~2", "value 2\n"),
+    ("#/a%2Fb", "value 3\n"),
+    ("#/", "value 4\n"),
+    ("#/~~1", "value 7\n"),
+    ("#/l/01", "value 6\n"),
+    ("#/l/+1", "value 6\n"),
+    ("#/%", "fault 0 Pointer '/%' does not exist\n"),
+    (
+        "#/l/+",
+        "fault 0 Failed to parse array index '+' in pointer '/l/+'\n",
+    ),
+    (
+        "#/l/-1",
+        "fault 0 Failed to parse array index '-1' in pointer '/l/-1'\n",
+    ),
+    (
+        "#/l/18446744073709551616",
+        "fault 0 Failed to parse array index '18446744073709551616' in pointer '/l/18446744073709551616'\n",
+    ),
+    (
+        "#/l/18446744073709551615",
+        "fault 0 Pointer '/l/18446744073709551615' does not exist\n",
+    ),
+];
+
+#[test]
+fn pointers_are_decoded_whole(rt: HostRuntime) -> Result<(), Fail> {
+    for (pointer, line) in &POINTERS {
+        let mut request = String::from_str(
+            rt.alloc(),
+            r##"{"documents":[["http://a/r",{"a%zz":1,"~2":2,"a":{"b":3},"":4,"~/":7,"l":[5,6]}]],"base":"http://a/r","steps":[""##,
+        )?;
+        request.push_str(pointer)?;
+        request.push_str("\"]}")?;
+        let mut reader = MemorySource::new(request.as_str().as_bytes());
+        let mut writer = MemorySink::new(rt.alloc());
+        let _status = run(rt.alloc(), &mut reader, &mut writer);
+        assert!(rt;
+            writer.bytes.as_slice().starts_with(line.as_bytes()),
+            "{pointer}"
+        );
+    }
+    Ok(())
+}
+
+// Requests that are well formed and aren't answered yet.
+const NOT_YET: [&str; 14] = [
+    r##"{"documents":[["http://a/r",{"$ref":"#"}]],"base":"http://a/r","steps":["#"]}"##,
+    r##"{"documents":[["http://a/r",[{"a":{"$id":1}}]]],"base":"http://a/r","steps":["#"]}"##,
+    r##"{"documents":[["http://a/r",{"not":{"id":1}}]],"base":"http://a/r","steps":["#"]}"##,
+    r##"{"documents":[["http://a/r",{"$anchor":"a"}]],"base":"http://a/r","steps":["#"]}"##,
+    r##"{"documents":[["http://a/r",{"$schema":"a"}]],"base":"http://a/r","steps":["#"]}"##,
+    r##"{"documents":[["HTTP://a/r",{}]],"base":"http://a/r","steps":["#"]}"##,
+    r##"{"documents":[["http://a/r",{}]],"base":"http://a/r/","steps":["#"]}"##,
+    r##"{"documents":[["http://a/r",{}]],"base":"http://a/r","steps":["r"]}"##,
+    r##"{"documents":[["http://a/r",{}]],"base":"http://a/r","steps":["#a"]}"##,
+    r##"{"documents":[["http://a/r",{}]],"base":"http://a/r","steps":[null]}"##,
+    r##"{"documents":[["http://a/r",{}]],"base":"http://a/r","steps":["#"],"draft":"7"}"##,
+    r##"{"documents":[["http://a/r",{}]],"base":"http://a/r","steps":["#"],"meta":[]}"##,
+    r##"{"documents":[["http://a/r",{}]],"base":"http://a/r","steps":["#"],"remote":[]}"##,
+    r##"{"documents":[["http://a/r",{}]],"base":"http://a/r","steps":["#"],"limit":0}"##,
+];
+
+#[test]
+fn some_requests_are_not_answered_yet(rt: HostRuntime) -> Result<(), Fail> {
+    for request in &NOT_YET {
+        let mut reader = MemorySource::new(request.as_bytes());
+        let mut writer = MemorySink::new(rt.alloc());
+        assert_eq!(rt;
+            run(rt.alloc(), &mut reader, &mut writer),
+            Err(RunError::NotYet)
+        );
+        assert_eq!(rt; writer.bytes.len(), 0);
+    }
+    Ok(())
+}
+
+#[test]
+fn reads_a_byte_at_a_time(rt: HostRuntime) -> Result<(), Fail> {
+    for row in &ROWS {
+        let mut reader = Slow {
+            inner: MemorySource::new(row.request.as_bytes()),
+        };
+        let mut writer = MemorySink::new(rt.alloc());
+        assert_eq!(rt; run(rt.alloc(), &mut reader, &mut writer), Ok(row.status));
+        assert_eq!(rt; writer.bytes.as_slice(), row.report.as_bytes());
+    }
+    Ok(())
+}
+
+#[test]
+fn a_failed_read_writes_nothing(rt: HostRuntime) -> Result<(), Fail> {
+    for left in [0usize, 1, 20] {
+        let mut reader = FailsAfter {
+            inner: MemorySource::new(ROWS[0].request.as_bytes()),
+            left,
+            failures: 0,
+        };
+        let mut writer = MemorySink::new(rt.alloc());
+        assert_eq!(rt;
+            run(rt.alloc(), &mut reader, &mut writer),
+            Err(RunError::Read)
+        );
+        assert_eq!(rt; reader.failures, 1);
+        assert_eq!(rt; writer.bytes.len(), 0);
+    }
+    Ok(())
+}
+
+#[test]
+fn a_failed_write_is_told(rt: HostRuntime) -> Result<(), Fail> {
+    let mut reader = MemorySource::new(ROWS[0].request.as_bytes());
+    let mut writer = Broken { failures: 0 };
+    assert_eq!(rt;
+        run(rt.alloc(), &mut reader, &mut writer),
+        Err(RunError::Write)
+    );
+    assert_eq!(rt; writer.failures, 1);
+    Ok(())
+}
