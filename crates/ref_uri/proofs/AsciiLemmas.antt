@@ -1,22 +1,17 @@
 -- A URI reference holds ASCII alone.
-use Rattle.std.proofs.Common.{◌≡◌, ℕ, zero, suc, ◌+◌, ◌<◌, ◌≤◌, Bool, true, false, cond, ◌&&◌, ◌||◌, not, List, [], ◌∷◌, ◌++◌, length, take, drop, get_or, eqb, ltb, refl, sym, ap, ◌∙◌, subst, arith, inl, inr, ◌⊎◌, Option, Some, None, option_map, codes}
-use Rattle.std.specs.Char.{is_ascii, is_ascii_hexdigit, is_ascii_digit, is_ascii_alphabetic}
+use Rattle.std.proofs.Common.{◌≡◌, ℕ, Bool, true, ◌||◌, List, [], ◌∷◌, ◌++◌, length, get_or, eqb, refl, ap, ◌∙◌, subst, arith, inl, inr, Option, Some, None, codes}
+use Rattle.std.specs.Char.{is_ascii, is_ascii_alphabetic}
 use Rattle.std.specs.Str.{IsAscii}
-use Rattle.std.specs.List.{list_any, list_all, position_or_len, before_first, after_first}
-use Rattle.std.specs.Option.{option_map_or}
-use Rattle.std.proofs.lemmas.Bool.{and_parts, and_from, or_cases, cases_Bool, false≢true, eqb-true, ltb-true, cases_lt, le-ltb}
+use Rattle.std.specs.List.{list_all}
+use Rattle.std.proofs.lemmas.Bool.{and_parts, and_from, or_cases, eqb-true, ltb-true}
 use Rattle.std.proofs.lemmas.Bool.Decides.{nat_tests}
-use Rattle.std.proofs.lemmas.List.{take-append-drop, length-drop, drop_all}
 use Rattle.std.proofs.lemmas.List.Folds.{list_all-append}
 use Rattle.std.proofs.lemmas.List.Sums.{AllPass-from_list_all}
 use Rattle.std.proofs.lemmas.Str.Ascii.{IsAscii-from_reads}
-use Rattle.std.proofs.Math.Seq.{drop-cons}
-use Rattle.ref_uri.specs.Characters.{is_encoded, is_scheme_character, is_name_character, is_userinfo_character, is_path_character, is_query_character}
-use Rattle.ref_uri.specs.Authority.{is_authority, is_host, is_port_part, is_bracketed, is_address_and_bracket, is_address, is_address_character, is_future_address, is_version_and_address, host_len, host, port_part, host_and_port, userinfo}
-use Rattle.ref_uri.specs.Components.{Components, components, text_of, framed, scheme, authority, path, query, fragment, is_scheme, is_path, is_query, if_there, are_components}
+use Rattle.ref_uri.specs.Characters.{is_encoded, is_scheme_character, is_path_character, is_query_character}
+use Rattle.ref_uri.specs.Authority.{is_authority}
+use Rattle.ref_uri.specs.Components.{Components, components, text_of, framed, is_scheme, is_query, if_there, are_components}
 use Rattle.ref_uri.specs.Reference.{is_uri_reference}
-use Rattle.ref_uri.proofs.EncodedLemmas.{passes_at_first, any_is_found}
-use Rattle.ref_uri.proofs.AuthorityLemmas.{is_authority-userinfo}
 use Rattle.ref_uri.proofs.AuthorityCharacters.{is_authority_character, authority_characters, list_all-wider}
 use Rattle.ref_uri.proofs.StructureLemmas.{text_of-components}
 

@@ -1,5 +1,5 @@
 -- Lemmas on the parts of an authority.
-use Rattle.std.proofs.Common.{◌≡◌, ℕ, ◌+◌, ◌<◌, Bool, true, ◌&&◌, List, length, take, drop, eqb, refl, ◌∙◌, lt-ltb, ap}
+use Rattle.std.proofs.Common.{◌≡◌, ℕ, ◌+◌, ◌<◌, true, ◌&&◌, List, length, take, drop, eqb, refl, ◌∙◌, lt-ltb}
 use Rattle.std.specs.List.{list_any, position_or_len}
 use Rattle.ref_uri.specs.Characters.{is_encoded, is_userinfo_character}
 use Rattle.ref_uri.specs.Authority.{is_authority, is_host, is_port_part, host_len}

@@ -1,14 +1,13 @@
 -- Lemmas on characters and triples.
-use Rattle.std.proofs.Common.{◌≡◌, ◌≢◌, ℕ, zero, suc, ◌+◌, ◌-◌, ◌<◌, ◌≤◌, Bool, true, false, ◌&&◌, ◌||◌, not, List, [], ◌∷◌, ◌++◌, length, take, drop, get_or, get_or-take, eqb, ltb, refl, sym, ap, ◌∙◌, subst, arith, rules, inl, inr, ◌⊎◌, cond}
+use Rattle.std.proofs.Common.{◌≡◌, ◌≢◌, ℕ, suc, ◌+◌, ◌-◌, ◌<◌, ◌≤◌, Bool, true, false, ◌&&◌, ◌||◌, not, List, [], ◌∷◌, ◌++◌, length, take, drop, get_or, get_or-take, eqb, ltb, refl, sym, ap, ◌∙◌, subst, arith, inl, inr, ◌⊎◌, cond}
 use Rattle.std.specs.List.{list_all, list_any, position_or_len, before_first}
 use Rattle.std.specs.Char.{is_ascii_hexdigit}
-use Rattle.std.proofs.lemmas.Bool.{and_parts, and_from, or_cases, cases_Bool, false≢true, eqb-true, eqb-false, cases_eq, ne_eqb, and_left, and_right, cases_lt, not-false, false_from_ne_true, eq-eqb}
+use Rattle.std.proofs.lemmas.Bool.{and_parts, and_from, or_cases, false≢true, eqb-true, cases_eq, ne_eqb, and_right, cases_lt, not-false, false_from_ne_true, eq-eqb}
 use Rattle.std.proofs.lemmas.Bool.Decides.{nat_tests}
-use Rattle.std.proofs.lemmas.Grind.{common_steps}
 use Rattle.std.proofs.lemmas.List.{take_more, take-append-drop, length-drop, length-take-le}
 use Rattle.std.proofs.Math.Seq.{take-add, drop-cons, take-length}
 use Rattle.std.proofs.lemmas.List.Folds.{list_all-append}
-use Rattle.std.proofs.lemmas.List.Sums.{position_or_len_is, fails_before_first, AllPass-from_list_all, prefix_len-le-length, prefix_len_stops}
+use Rattle.std.proofs.lemmas.List.Sums.{position_or_len_is, AllPass-from_list_all, prefix_len-le-length, prefix_len_stops}
 use Rattle.ref_uri.specs.Characters.{begins_with_hex_digits, has_whole_triples, is_encoded, begins_with_triple, begins_encoded}
 use Rattle.ref_uri.specs.Class.{allows, ends}
 use Rattle.ref_uri.specs.declared.characters.Class.{Class}

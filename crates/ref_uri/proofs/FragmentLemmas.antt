@@ -1,14 +1,14 @@
 -- A reference with another fragment.
-use Rattle.std.proofs.Common.{◌≡◌, ℕ, suc, ◌+◌, ◌-◌, ◌≤◌, Bool, true, ◌&&◌, List, [], ◌∷◌, ◌++◌, length, length-append, take, codes, Option, Some, None, option_map, refl, sym, ap, ◌∙◌, subst, arith, append-nil, append_assoc, is_some}
+use Rattle.std.proofs.Common.{◌≡◌, ℕ, suc, ◌+◌, ◌-◌, ◌≤◌, true, ◌&&◌, List, [], ◌∷◌, ◌++◌, length, length-append, take, codes, Option, Some, None, option_map, refl, sym, ap, ◌∙◌, arith, append-nil, append_assoc, is_some}
 use Rattle.std.proofs.lemmas.Bool.{and_from}
 use Rattle.std.proofs.lemmas.List.{take_at}
-use Rattle.ref_uri.specs.Components.{Components, components, text_of, framed, are_components, if_there, is_scheme, is_path, is_query, is_path_after, scheme, authority, path, query, fragment}
+use Rattle.ref_uri.specs.Components.{Components, components, framed, are_components, if_there, is_scheme, is_path, is_query, is_path_after, scheme, authority, path, query, fragment}
 use Rattle.ref_uri.specs.Authority.{is_authority}
 use Rattle.ref_uri.specs.Reference.{is_uri_reference, with_fragment}
 use Rattle.ref_uri.specs.declared.lengths.Lengths.{Lengths}
 use Rattle.ref_uri.specs.Lengths.{IsParsed, IsParsedUri, lengths_of, the_lengths}
 use Rattle.ref_uri.proofs.StructureLemmas.{text_of-components}
-use Rattle.ref_uri.proofs.UniqueLemmas.{components-text_of, tested, Tested}
+use Rattle.ref_uri.proofs.UniqueLemmas.{components-text_of, tested}
 use Rattle.ref_uri.proofs.AsciiLemmas.{reference_ascii}
 
 -- components with another fragment that is one hold what they may

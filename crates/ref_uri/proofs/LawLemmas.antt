@@ -1,11 +1,9 @@
 -- The laws that `src/laws.rt` states.
-use Rattle.std.proofs.Common.{◌≡◌, ◌↔◌, List, ℕ, true, Some, None, refl, sym, ap, ◌∙◌, ◌&&◌, Bool, subst}
-use Rattle.std.proofs.lemmas.Bool.{and_parts}
-use Rattle.ref_uri.specs.Components.{Components, components, text_of, are_components, if_there, is_query, fragment}
-use Rattle.ref_uri.specs.Reference.{is_uri_reference, IsTextOfComponents, with_fragment}
+use Rattle.std.proofs.Common.{◌≡◌, List, ℕ, true, sym, ap, ◌∙◌}
+use Rattle.ref_uri.specs.Components.{components, are_components}
+use Rattle.ref_uri.specs.Reference.{is_uri_reference, IsTextOfComponents}
 use Rattle.ref_uri.proofs.StructureLemmas.{text_of-components}
 use Rattle.ref_uri.proofs.UniqueLemmas.{components-text_of}
-use Rattle.ref_uri.proofs.FragmentLemmas.{components-with_fragment}
 
 pub to_components : (text : List ℕ) → is_uri_reference text ≡ true → IsTextOfComponents text
 unfolding is_uri_reference

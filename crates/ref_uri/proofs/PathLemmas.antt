@@ -1,5 +1,5 @@
 -- Which path may follow what: of the components of a text only the first segment needs a test.
-use Rattle.std.proofs.Common.{◌≡◌, ◌≢◌, ℕ, zero, suc, ◌+◌, ◌<◌, ◌≤◌, Bool, true, false, cond, ◌&&◌, ◌||◌, not, List, [], ◌∷◌, length, take, drop, drop-drop, get_or, get_or-take, eqb, ltb, ◌⊎◌, refl, sym, ap, ◌∙◌, subst, arith, inl, inr, Option, Some, None, is_some, option_map, Result, Ok, Err, is_ok}
+use Rattle.std.proofs.Common.{◌≡◌, ◌≢◌, ℕ, zero, suc, ◌+◌, ◌<◌, Bool, true, false, cond, ◌&&◌, ◌||◌, not, List, [], ◌∷◌, length, take, drop, drop-drop, get_or, get_or-take, eqb, ◌⊎◌, refl, sym, ap, ◌∙◌, subst, arith, inl, inr, Option, Some, None, is_some, option_map, Result, Ok, Err, is_ok}
 use Rattle.std.specs.Result.{IsErr}
 use Rattle.std.specs.List.{list_any, position_or_len, before_first}
 use Rattle.std.proofs.lemmas.Bool.{cases_Bool, cases_eq, eqb-true, ne_eqb, eq-eqb, and_parts, false≢true, false_from_ne_true, and_right}

@@ -1,11 +1,11 @@
 -- What is left of a text behind each component, and that the components fit.
-use Rattle.std.proofs.Common.{◌≡◌, ◌∙◌, ℕ, ◌+◌, ◌≤◌, Bool, List, [], ◌∷◌, ◌++◌, Option, Some, None, sym, ap, option_map, length, length-append, take, drop, codes, not, eqb, ltb, true, false, ◌&&◌, arith, inl, inr}
+use Rattle.std.proofs.Common.{◌≡◌, ◌∙◌, ℕ, ◌+◌, ◌≤◌, List, [], ◌++◌, Option, Some, None, ap, option_map, length, length-append, take, drop, codes, not, eqb, ltb, ◌&&◌, arith, inl, inr}
 use Rattle.std.specs.Option.{ForSome}
 use Rattle.std.specs.List.{position_or_len, before_first}
 use Rattle.std.proofs.lemmas.Bool.{cases_Bool}
 use Rattle.std.proofs.lemmas.List.Folds.{length-prefix_len}
 use Rattle.std.proofs.Common.{get_or, refl}
-use Rattle.ref_uri.specs.Components.{scheme, authority, path, query, behind, framed, after_scheme, after_authority, after_path, after_query, authority_in_front, query_in_front, begins_with_slashes, ends_scheme, ends_authority, ends_path, ends_query}
+use Rattle.ref_uri.specs.Components.{scheme, authority, query, behind, framed, after_scheme, after_authority, after_path, after_query, authority_in_front, query_in_front, begins_with_slashes, ends_scheme, ends_authority, ends_path, ends_query}
 use Rattle.ref_uri.proofs.StructureLemmas.{scheme_and_rest, authority_and_rest, query_and_rest}
 
 -- The rests are those of the definition.

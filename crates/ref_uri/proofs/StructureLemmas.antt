@@ -1,15 +1,12 @@
 -- The components of a text make the text again, and components that hold what they may are those of their text.
-use Rattle.std.proofs.Common.{◌≡◌, ◌≢◌, ℕ, zero, suc, ◌+◌, ◌<◌, ◌≤◌, Bool, true, false, cond, ◌&&◌, ◌||◌, not, List, [], ◌∷◌, ◌++◌, length, take, drop, drop-drop, get_or, eqb, ltb, refl, sym, ap, ◌∙◌, subst, arith, inl, inr, ◌⊎◌, Option, Some, None, is_some, option_map, codes, append_assoc, append-nil}
+use Rattle.std.proofs.Common.{◌≡◌, ℕ, suc, ◌+◌, ◌<◌, Bool, true, false, cond, ◌&&◌, not, List, [], ◌∷◌, ◌++◌, length, take, drop, get_or, eqb, ltb, refl, sym, ap, ◌∙◌, arith, inl, inr, ◌⊎◌, option_map, codes, append_assoc, append-nil}
 use Rattle.std.proofs.Math.Seq.{drop-cons}
-use Rattle.std.specs.List.{list_any, list_all, position_or_len, before_first, prefix_len}
-use Rattle.std.specs.Str.{IsAscii}
-use Rattle.std.proofs.lemmas.Bool.{cases_Bool, cases_eq, eqb-true, ne_eqb, eq-eqb, and_parts, and_from, or_cases, false≢true, false_from_ne_true, and_right, cases_lt}
+use Rattle.std.specs.List.{position_or_len, before_first}
+use Rattle.std.proofs.lemmas.Bool.{cases_Bool, eqb-true, and_parts, false≢true, cases_lt}
 use Rattle.std.proofs.lemmas.Bool.Decides.{nat_tests}
 use Rattle.std.proofs.lemmas.List.{take-append-drop, get_or_past}
 use Rattle.std.proofs.lemmas.List.Folds.{length-prefix_len}
-use Rattle.ref_uri.specs.Characters.{is_encoded}
-use Rattle.ref_uri.specs.Components.{Components, components, text_of, framed, scheme, authority, path, query, fragment, after_scheme, after_authority, after_path, after_query, authority_in_front, query_in_front, fragment_in_front, behind, begins_with_slashes, ends_scheme, ends_authority, ends_path, ends_query}
-use Rattle.ref_uri.proofs.PathLemmas.{before_first-cons, get_or_first-cons}
+use Rattle.ref_uri.specs.Components.{components, text_of, framed, scheme, authority, path, query, fragment, after_scheme, after_authority, after_path, after_query, authority_in_front, query_in_front, fragment_in_front, behind, begins_with_slashes, ends_scheme, ends_authority, ends_path, ends_query}
 
 -- a number that is read stands inside
 reads_inside : (text : List ℕ) (k c : ℕ) → get_or text k 0 ≡ suc c → k < length text

@@ -1,9 +1,9 @@
 -- The parts of an authority, `[userinfo "@"] host [":" port]` (RFC 3986, 3.2).
-use Rattle.std.specs.Prelude.{ℕ, ◌+◌, min, Bool, true, false, ◌||◌, ◌&&◌, not, List, [], ◌∷◌, length, take, drop, Option, Some, None, ◌==◌, nat_lt, if◌then◌else◌, slice_index}
+use Rattle.std.specs.Prelude.{ℕ, ◌+◌, min, Bool, true, false, ◌||◌, ◌&&◌, List, [], ◌∷◌, length, take, drop, Option, Some, None, ◌==◌, nat_lt, if◌then◌else◌, slice_index}
 use Rattle.std.specs.List.{list_any, list_all, position_or_len, before_first, after_first}
 use Rattle.std.specs.Option.{option_map_or}
 use Rattle.std.specs.Char.{is_ascii_digit, is_ascii_hexdigit}
-use Rattle.ref_uri.specs.Characters.{is_encoded, is_unreserved, is_sub_delim, is_name_character, is_userinfo_character}
+use Rattle.ref_uri.specs.Characters.{is_encoded, is_name_character, is_userinfo_character}
 
 -- what stands before the first such character, where there is one
 abbrev pub part_before : ℕ → List ℕ → Option (List ℕ)

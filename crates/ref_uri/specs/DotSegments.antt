@@ -1,5 +1,5 @@
 -- The removal of dot segments (RFC 3986, 5.2.4), told by the segments of a path.
-use Rattle.std.specs.Prelude.{ℕ, Bool, true, false, ◌||◌, ◌&&◌, List, [], ◌∷◌, ◌++◌, codes, reverse, drop, length, bytes_eq, ◌==◌, if◌then◌else◌}
+use Rattle.std.specs.Prelude.{ℕ, Bool, false, ◌||◌, ◌&&◌, List, [], ◌∷◌, ◌++◌, codes, reverse, drop, length, bytes_eq, ◌==◌, if◌then◌else◌}
 use Rattle.std.specs.List.{slice_split, prefix_len}
 
 -- what stands between the slashes: a path that begins with `/` has an empty first segment

@@ -3,7 +3,7 @@ use Rattle.std.specs.Prelude.{◌≡◌, ℕ, true, List, length, Option, option
 use Rattle.std.specs.Str.{IsAscii}
 use Rattle.ref_uri.specs.declared.lengths.Lengths.{Lengths}
 use Rattle.ref_uri.specs.Components.{scheme, authority, path, query}
-use Rattle.ref_uri.specs.Reference.{is_uri_reference, is_uri}
+use Rattle.ref_uri.specs.Reference.{is_uri_reference}
 
 abbrev pub the_lengths : Option ℕ → Option ℕ → ℕ → Option ℕ → Lengths
 the_lengths scheme authority path query = record { scheme = scheme; authority = authority; path = path; query = query }

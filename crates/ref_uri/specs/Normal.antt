@@ -1,5 +1,5 @@
 -- The normal form of a reference (RFC 3986, 6.2.2 and 3.2.3). Which of the standard's steps apply is this project's choice.
-use Rattle.std.specs.Prelude.{ℕ, ◌+◌, ◌*◌, ◌-◌, Bool, ◌&&◌, not, List, [], ◌∷◌, ◌++◌, map, length, codes, Option, Some, None, option_map, is_none, is_some, ◌==◌, nat_lt, if◌then◌else◌}
+use Rattle.std.specs.Prelude.{ℕ, ◌+◌, ◌*◌, ◌-◌, ◌&&◌, List, [], ◌∷◌, ◌++◌, map, length, codes, Option, Some, None, option_map, is_none, ◌==◌, nat_lt, if◌then◌else◌}
 use Rattle.std.specs.List.{flat_map}
 use Rattle.std.specs.Char.{to_ascii_lowercase, to_ascii_uppercase}
 use Rattle.ref_uri.specs.Characters.{is_unreserved}

@@ -1,6 +1,6 @@
 -- Which texts are URI references, and which are URIs with a scheme (RFC 3986, 4.1 and 3).
-use Rattle.std.specs.Prelude.{ℕ, Bool, ◌&&◌, List, [], ◌++◌, Option, Some, None, is_some, codes, ◌≡◌, true}
-use Rattle.ref_uri.specs.Components.{Components, components, are_components, text_of, scheme, fragment, framed}
+use Rattle.std.specs.Prelude.{ℕ, Bool, ◌&&◌, List, Option, is_some, ◌≡◌, true}
+use Rattle.ref_uri.specs.Components.{Components, components, are_components, text_of, scheme, fragment}
 
 -- the components of the text are as they must be
 unfoldable pub is_uri_reference : List ℕ → Bool

@@ -1,5 +1,5 @@
 -- Resolution of a reference against a base (RFC 3986, 5.2, strict).
-use Rattle.std.specs.Prelude.{ℕ, ◌-◌, Bool, true, false, not, ◌&&◌, List, [], ◌∷◌, ◌++◌, length, take, codes, Option, Some, None, is_some, ◌==◌, if◌then◌else◌, slice_index}
+use Rattle.std.specs.Prelude.{ℕ, ◌-◌, not, ◌&&◌, List, ◌∷◌, ◌++◌, length, take, Option, Some, None, is_some, ◌==◌, if◌then◌else◌, slice_index}
 use Rattle.std.specs.List.{suffix_len}
 use Rattle.ref_uri.specs.Components.{Components, components, text_of}
 use Rattle.ref_uri.specs.DotSegments.{remove_dot_segments}

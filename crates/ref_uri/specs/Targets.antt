@@ -1,7 +1,7 @@
 -- What a text means, alone or against a base, and the parts of a reference to a schema.
-use Rattle.std.specs.Prelude.{ℕ, Bool, true, false, ◌&&◌, not, List, [], ◌∷◌, ◌++◌, codes, Option, Some, None, is_some, Result, Ok, Err, nat_eq, ◌==◌, if◌then◌else◌, slice_index, drop}
+use Rattle.std.specs.Prelude.{ℕ, ◌&&◌, List, [], ◌++◌, codes, None, is_some, Result, Ok, Err, nat_eq, ◌==◌, if◌then◌else◌, slice_index, drop}
 use Rattle.std.specs.List.{ends_with, before_last, after_last, list_any}
-use Rattle.ref_uri.specs.Components.{components, scheme, text_of}
+use Rattle.ref_uri.specs.Components.{scheme}
 use Rattle.ref_uri.specs.Reference.{is_uri_reference, with_fragment}
 use Rattle.ref_uri.specs.Normal.{normal_form}
 use Rattle.ref_uri.specs.Resolution.{resolved}

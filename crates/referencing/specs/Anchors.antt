@@ -1,5 +1,5 @@
 -- Which names stand for which places under a URI (2020-12 Core, 8.2.2).
-use Rattle.std.specs.Prelude.{ℕ, Bool, ◌&&◌, ◌==◌, List, [], ◌∷◌, ◌++◌, flat_map, map, filter, bytes_eq, Option, Some, None, Result, Ok, Err, if◌then◌else◌}
+use Rattle.std.specs.Prelude.{ℕ, ◌&&◌, ◌==◌, List, [], ◌∷◌, ◌++◌, flat_map, map, filter, bytes_eq, Option, Some, None, Result, Ok, Err, if◌then◌else◌}
 use Rattle.std.specs.List.{list_any}
 use Rattle.std.specs.Option.{option_map_or}
 use Rattle.ref_draft.specs.Anchors.{Kind, anchors}
@@ -59,4 +59,4 @@ fallback world name (Some (Err refusal)) = Err (InvalidUri refusal)
 unfoldable pub anchor : World → List ℕ → List ℕ → Result Named Fault
 anchor world uri name =
     option_map_or (λ n. Ok n) (named world uri name)
-      (fallback world name (option_map_or fallback_uri (means world uri) None))
+    (fallback world name (option_map_or fallback_uri (means world uri) None))

@@ -28,4 +28,4 @@ identified along (Some id) = changed along (against along.base id)
 abbrev pub along_part : Draft → Along → Part → Data → Result Along Refusal
 along_part draft along part value =
     identified (record along { since = along.since ++ part ∷ [] })
-      (if scan draft (is_object value) (along.since ++ part ∷ []) then identifier draft value else None)
+    (if scan draft (is_object value) (along.since ++ part ∷ []) then identifier draft value else None)

@@ -1,6 +1,6 @@
 -- Which URIs stand for which places.
-use Rattle.std.specs.Prelude.{ℕ, Bool, List, [], ◌∷◌, ◌++◌, flat_map, filter, bytes_eq, Option, Some, None, Result, Ok, Err, is_some}
-use Rattle.std.specs.Option.{option_or, option_map_or}
+use Rattle.std.specs.Prelude.{ℕ, List, [], ◌∷◌, flat_map, filter, bytes_eq, Option, Some, None, Result, Ok, Err}
+use Rattle.std.specs.Option.{option_map_or}
 use Rattle.ref_uri.specs.Targets.{Refusal}
 use Rattle.referencing.specs.World.{Document, Layer, World}
 use Rattle.referencing.specs.Places.{Place, places, root, identifier_of}

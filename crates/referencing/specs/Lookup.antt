@@ -7,9 +7,9 @@ use Rattle.ref_draft.specs.Anchors.{Kind, Plain, Dynamic}
 use Rattle.ref_uri.specs.Targets.{Refusal, target, fragment_part, against}
 use Rattle.referencing.specs.World.{World}
 use Rattle.referencing.specs.Places.{Place}
-use Rattle.referencing.specs.Bearing.{means, last_of}
+use Rattle.referencing.specs.Bearing.{means}
 use Rattle.referencing.specs.Anchors.{Named, anchor}
-use Rattle.referencing.specs.Fault.{Fault, NoSuchAnchor, InvalidUri, not_retrieved}
+use Rattle.referencing.specs.Fault.{Fault, NoSuchAnchor, not_retrieved}
 use Rattle.referencing.specs.Bases.{Along}
 use Rattle.referencing.specs.Pointers.{◌>>=◌, as_invalid_uri, or_fault, pointed}
 
@@ -38,6 +38,7 @@ in_subresource r draft value = by_identifier (identifier draft value)
     at_base : Result (List ℕ) Refusal → Result Resolver Refusal
     at_base (Ok uri) = Ok (record r { base = uri })
     at_base (Err refusal) = Err refusal
+
     by_identifier : Option (List ℕ) → Result Resolver Refusal
     by_identifier None = Ok r
     by_identifier (Some id) = at_base (against r.base id)
@@ -85,6 +86,7 @@ at_fragment world r p (c ∷ text) = if c == 47 then by_pointer (pointed p.draft
     by_pointer : Result (Data × Along) Fault → Result Found Fault
     by_pointer (Ok found) = Ok (record { value = found.0; draft = p.draft; resolver = record r { base = found.1.base } })
     by_pointer (Err fault) = Err fault
+
     by_name : Result Named Fault → Result Found Fault
     by_name (Ok n) = named_found world r n n.kind
     by_name (Err fault) = Err fault

@@ -3,8 +3,8 @@ use Rattle.std.specs.Prelude.{◌≡◌, ℕ, suc, ◌<◌, ◌≤◌, List, [],
 use Rattle.serde_json.specs.Data.{Data}
 use Rattle.ref_draft.specs.declared.draft.Draft.{Draft}
 use Rattle.ref_uri.specs.Targets.{Refusal}
-use Rattle.referencing.specs.World.{Document, Layer, World, document}
-use Rattle.referencing.specs.Wants.{Want, Cause, Reference, MetaSchema, wants, faults, open_wants}
+use Rattle.referencing.specs.World.{Layer, World, document}
+use Rattle.referencing.specs.Wants.{Want, Cause, Reference, MetaSchema, faults, open_wants}
 use Rattle.referencing.specs.Fault.{Fault, Unretrievable, UnknownSpecification, InvalidUri, RetrievalLimit}
 
 -- what a retriever may answer for a URI, and with which text it may refuse

@@ -4,13 +4,11 @@ use Rattle.std.specs.Prelude.{ℕ, true, List, [], ◌∷◌, codes, Option, Som
 use Rattle.serde_json.specs.Data.{Data, boolean, string, array, object, no_items, item, no_members, member}
 use Rattle.ref_parts.specs.Path.{Part}
 use Rattle.ref_draft.specs.declared.draft.Draft.{Draft}
-use Rattle.ref_draft.specs.declared.draft.Draft.TheVariants.{Draft7, Draft201909, Draft202012}
 use Rattle.ref_uri.specs.Targets.{Refusal}
 use Rattle.referencing.specs.Fault.{Fault}
 use Rattle.referencing.specs.World.{Document, World, document, added}
 use Rattle.referencing.specs.Places.{Place}
-use Rattle.referencing.specs.Lookup.{Resolver, Found, lookup}
-use Rattle.referencing.specs.Follow.{Step, Lookup, Recursive, Followed, followed}
+use Rattle.referencing.specs.Follow.{Step, Lookup, Followed, followed}
 
 abbrev pub yes : Data
 yes = boolean true

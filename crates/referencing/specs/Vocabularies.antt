@@ -139,7 +139,7 @@ set_of_members (Some ms) = some_set (collected (of_names []) ms)
 unfoldable pub find_in : Data → Result (Option VocabularySet) Refusal
 find_in value =
     option_map_or (λ s. Ok s) (option_and_then known_set (text_under (codes "$id") value))
-      (set_of_members (option_and_then as_object (get (codes "$vocabulary") value)))
+    (set_of_members (option_and_then as_object (get (codes "$vocabulary") value)))
 
 -- the set of a custom meta-schema: that of the document that its URI means, or the default of 2020-12
 abbrev pub set_or_default : Result (Option VocabularySet) Refusal → VocabularySet

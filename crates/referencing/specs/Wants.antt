@@ -7,8 +7,8 @@ use Rattle.ref_draft.specs.declared.draft.Draft.TheVariants.{Draft4, Draft6, Dra
 use Rattle.ref_draft.specs.Schema.{text_under, from_schema_uri}
 use Rattle.ref_uri.specs.Reference.{with_fragment}
 use Rattle.ref_uri.specs.Targets.{Refusal, target, parsed}
-use Rattle.referencing.specs.World.{Layer, World, Document}
-use Rattle.referencing.specs.Places.{Place, places}
+use Rattle.referencing.specs.World.{Layer, World}
+use Rattle.referencing.specs.Places.{places}
 use Rattle.referencing.specs.Bearing.{means}
 
 -- why a URI is wanted: a schema refers to it, or names it as its meta-schema

@@ -15,24 +15,21 @@ ghost use Rattle.referencing.specs.Rows.{at, world, yes, empty, text, one, two, 
 /// Fault texts.
 pub fn fault_texts()
     ensures { fault_text (PointerToNowhere (codes "/nope")) ≡ codes "Pointer '/nope' does not exist" }
-{
-}
+{}
 
 /// The places of a document, by levels, with their bases.
 pub fn places_of_examples()
     ensures nested { paths_and_bases (places (at Draft201909 "http://a/r" (one "$defs" (one "a" (two "$id" (text "http://b/k/") "dependencies" (one "d" (one "$id" (text "m")))))))) ≡ ([], Ok (codes "http://a/r")) ∷ (Key (codes "$defs") ∷ Key (codes "a") ∷ [], Ok (codes "http://b/k/")) ∷ (Key (codes "$defs") ∷ Key (codes "a") ∷ Key (codes "dependencies") ∷ Key (codes "d") ∷ [], Ok (codes "http://b/k/m")) ∷ [] }
     ensures faulty { faults (at Draft202012 "http://a/r" (one "properties" (one "x" (two "$id" (text "a b") "$ref" (text "c d")))) ∷ []) ≡ unparsed (codes "a b") ∷ [] }
     ensures hidden { faults (at Draft7 "http://a/r" (one "properties" (one "x" (two "$id" (text "a b") "$ref" (text "c d")))) ∷ []) ≡ unparsed (codes "c d") ∷ [] }
-{
-}
+{}
 
 /// What documents want.
 pub fn wants_of_examples()
     ensures reference { open_wants (world (at Draft202012 "http://a/r" (one "$ref" (text "b")) ∷ [])) (at Draft202012 "http://a/r" (one "$ref" (text "b")) ∷ []) ≡ record { cause = Reference; uri = codes "http://a/b" } ∷ [] }
     ensures meta_schema { open_wants (world (at Draft202012 "http://a/r" (one "$schema" (text "invalid")) ∷ [])) (at Draft202012 "http://a/r" (one "$schema" (text "invalid")) ∷ []) ≡ record { cause = MetaSchema; uri = codes "json-schema:///invalid" } ∷ [] }
     ensures borne { open_wants (world (at Draft202012 "http://a/r" (two "$id" (text "#x") "$ref" (text "")) ∷ [])) (at Draft202012 "http://a/r" (two "$id" (text "#x") "$ref" (text "")) ∷ []) ≡ [] }
-{
-}
+{}
 
 /// Lookups by URI and pointer.
 pub fn lookups_by_pointer()
@@ -46,8 +43,7 @@ pub fn lookups_by_pointer()
     ensures const_is_no_schema { steps (world (at Draft202012 "http://a/r" (one "const" (one "$id" (text "z"))) ∷ [])) "http://a/r" (look "#/const" ∷ []) ≡ answer (Some (one "$id" (text "z"))) (codes "http://a/r") (codes "http://a/r" ∷ []) }
     ensures const_below_items { steps (world (at Draft7 "http://a/r" (one "items" (one "const" (one "$id" (text "z")))) ∷ [])) "http://a/r" (look "#/items/const" ∷ []) ≡ answer (Some (one "$id" (text "z"))) (codes "http://a/z") (codes "http://a/r" ∷ []) }
     ensures last_wins { steps (world (at Draft202012 "http://a/r" (one "$defs" (two "a" (two "$id" (text "http://a/k") "title" (text "1")) "b" (two "$id" (text "http://a/k") "title" (text "2")))) ∷ [])) "http://a/r" (look "http://a/k" ∷ []) ≡ answer (Some (two "$id" (text "http://a/k") "title" (text "2"))) (codes "http://a/k") (codes "http://a/r" ∷ []) }
-{
-}
+{}
 
 /// Lookups by anchor, dynamic anchors and recursive references.
 pub fn lookups_by_anchor()
@@ -58,16 +54,14 @@ pub fn lookups_by_anchor()
     ensures dynamic { steps (world (at Draft202012 "https://example.com/root.json" (two "$defs" (one "node" (one "$dynamicAnchor" (text "node"))) "$id" (text "https://example.com/root.json")) ∷ at Draft202012 "https://example.com/tree.json" (two "$dynamicAnchor" (text "node") "$id" (text "https://example.com/tree.json")) ∷ [])) "https://example.com/root.json" (look "tree.json" ∷ look "#node" ∷ []) ≡ answer (Some (one "$dynamicAnchor" (text "node"))) (codes "https://example.com/root.json") (codes "https://example.com/root.json" ∷ []) }
     ensures dynamic_invalid { steps (world (at Draft202012 "http://a/t" (one "$dynamicAnchor" (text "n/m")) ∷ at Draft202012 "http://a/r" yes ∷ [])) "http://a/r" (look "t#n/m" ∷ []) ≡ refusal 0 (InvalidAnchor (codes "n/m")) }
     ensures recursive { steps (world (at Draft201909 "http://a/x" (two "$recursiveAnchor" yes "title" (text "x")) ∷ at Draft201909 "http://a/y" (one "title" (text "y")) ∷ at Draft201909 "http://a/z" (two "$recursiveAnchor" yes "title" (text "z")) ∷ [])) "http://a/x" (look "" ∷ look "y" ∷ look "z" ∷ Recursive ∷ []) ≡ answer (Some (two "$recursiveAnchor" yes "title" (text "z"))) (codes "http://a/z") (codes "http://a/y" ∷ codes "http://a/x" ∷ codes "http://a/x" ∷ []) }
-{
-}
+{}
 
 /// A child's documents stand before its parent's.
 pub fn layers()
     ensures nearest { steps (added (at Draft202012 "http://a/m" (one "title" (text "child")) ∷ []) ∷ world (at Draft202012 "http://a/m" (two "$anchor" (text "p") "title" (text "parent")) ∷ [])) "http://a/m" (look "" ∷ []) ≡ answer (Some (one "title" (text "child"))) (codes "http://a/m") (codes "http://a/m" ∷ []) }
     ensures parent_anchor { steps (added (at Draft202012 "http://a/m" (one "title" (text "child")) ∷ []) ∷ world (at Draft202012 "http://a/m" (two "$anchor" (text "p") "title" (text "parent")) ∷ [])) "http://a/m" (look "#p" ∷ []) ≡ answer (Some (two "$anchor" (text "p") "title" (text "parent"))) (codes "http://a/m") (codes "http://a/m" ∷ []) }
     ensures same_uri { steps (world (at Draft202012 "http://a/m" yes ∷ at Draft202012 "http://a/m" empty ∷ [])) "http://a/m" (look "" ∷ []) ≡ answer (Some empty) (codes "http://a/m") (codes "http://a/m" ∷ []) }
-{
-}
+{}
 
 /// Vocabularies.
 pub fn vocabularies()
@@ -78,5 +72,4 @@ pub fn vocabularies()
     ensures custom { set_text (find_vocabularies (world (at Draft202012 "http://a/dialect" (one "$vocabulary" (three "https://example.com/v" yes "https://example.com/w" (boolean false) "https://json-schema.org/draft/2020-12/vocab/core" yes)) ∷ [])) Draft7 (one "$schema" (text "http://a/dialect"))) ≡ codes "[\"core\", \"https://example.com/v\"]" }
     ensures own_draft { set_text (find_vocabularies [] Draft7 (one "$schema" (text "https://json-schema.org/draft/2020-12/schema"))) ≡ codes "[]" }
     ensures no_document { find_vocabularies [] Draft202012 (one "$schema" (text "http://b/none")) ≡ default_set Unknown }
-{
-}
+{}

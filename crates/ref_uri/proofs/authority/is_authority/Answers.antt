@@ -1,4 +1,4 @@
-use Rattle.std.proofs.Common.{◌≡◌, ◌∙◌, ◌<◌, ◌+◌, ◌&&◌, sym, ap, take, drop, length, arith, refl, eqb}
+use Rattle.std.proofs.Common.{◌<◌, length, arith, eqb}
 use Rattle.std.specs.List.{position_or_len}
 use Rattle.std.proofs.lemmas.Grind.{common_steps}
 use Rattle.ref_uri.proofs.AuthorityLemmas.{is_authority-userinfo}

@@ -1,4 +1,4 @@
-use Rattle.std.proofs.Common.{◌≡◌, ◌∙◌, ℕ, sym, ap, subst, true, false, take, arith}
+use Rattle.std.proofs.Common.{◌≡◌, ◌∙◌, ℕ, sym, subst, true, take, arith}
 use Rattle.std.specs.List.{position_or_len}
 use Rattle.ref_uri.specs.Characters.{is_encoded}
 use Rattle.ref_uri.specs.Class.{allows, ends}

@@ -1,5 +1,4 @@
-use Rattle.std.proofs.Common.{◌≡◌, ◌∙◌, ◌+◌, ◌≤◌, sym, ap, length, take, drop, arith}
-use Rattle.std.specs.Option.{ForSome}
+use Rattle.std.proofs.Common.{◌∙◌, arith}
 use Rattle.ref_uri.proofs.LengthsLemmas.{after_scheme_is, after_authority_is, after_path_is, after_query_is, scheme_within, authority_within, path_within, query_within, scheme_is, authority_is, path_is, query_is, fragment_is}
 use Rattle.ref_uri.proofs.lengths.Lengths.parts.Goals as goal
 

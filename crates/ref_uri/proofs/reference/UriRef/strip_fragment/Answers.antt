@@ -1,4 +1,4 @@
-use Rattle.std.proofs.Common.{◌≡◌, ◌∙◌, ◌+◌, ◌≤◌, length, Option, Some, None, List, ℕ, sym, ap, subst, refl, arith}
+use Rattle.std.proofs.Common.{◌≡◌, ◌∙◌, Some, None, List, ℕ, sym, ap, subst, refl, arith}
 use Rattle.ref_uri.specs.Components.{fragment}
 use Rattle.ref_uri.specs.Reference.{with_fragment}
 use Rattle.ref_uri.specs.Lengths.{IsParsed}

@@ -1,4 +1,4 @@
-use Rattle.std.proofs.Common.{◌≡◌, ◌∙◌, List, ℕ, Bool, Some, None, sym, ap, subst, length, take, ◌++◌, ◌∷◌, [], string_bytes, true, cond, is_ok, arith, refl}
+use Rattle.std.proofs.Common.{◌≡◌, ◌∙◌, List, ℕ, Bool, Some, None, sym, ap, subst, length, take, ◌++◌, ◌∷◌, [], string_bytes, true, cond, is_ok, arith}
 use Rattle.ref_uri.specs.Components.{is_query}
 use Rattle.ref_uri.specs.Reference.{with_fragment}
 use Rattle.ref_uri.specs.Lengths.{IsParsedUri}
