@@ -8,9 +8,9 @@ use Rattle.ref_draft.specs.declared.draft.Draft.{Draft}
 use Rattle.ref_draft.specs.declared.draft.Draft.TheVariants.{Draft4, Draft6, Draft7, Draft201909, Draft202012, Unknown}
 use Rattle.ref_draft.specs.declared.spec.Holding.{Holding}
 use Rattle.ref_draft.specs.declared.spec.Holding.TheVariants.{Whole, WholeObject, Elements, Members as EachMember, ElementsOrWhole, ObjectMembers, Nothing}
-use Rattle.ref_draft.specs.Keywords.{Row, is_one_of, is_before_2020, holding, holding_by}
-use Rattle.ref_draft.specs.Children.{Child, whole, elements_from, each_member, elements, members, held, below, children, has_object, is_object}
-use Rattle.ref_draft.specs.Scan.{scan_row, is_value_keyword, is_child_keyword, is_items_or_dependencies, Piece, AnIndex, AValue, AChild, parts_of, spelled, IsPieceOf, IsWord, SpellsWord, PassesItems, IsAccepted, ReadsTheWalk, AcceptsChildren}
+use Rattle.ref_draft.specs.Keywords.{is_one_of, is_before_2020, holding, holding_by}
+use Rattle.ref_draft.specs.Children.{Child, elements_from, each_member, elements, members, held, below, children, has_object, is_object}
+use Rattle.ref_draft.specs.Scan.{scan_row, is_value_keyword, is_child_keyword, is_items_or_dependencies, Piece, AValue, AChild, parts_of, spelled, IsWord, SpellsWord, IsAccepted, ReadsTheWalk, AcceptsChildren}
 
 -- the path of a child goes on a word, or passes `items` or `dependencies`
 record Passes (d : Draft) (path : List Part) : Type 0 where
