@@ -1,12 +1,12 @@
 -- What escaped text keeps as it grows.
-use Rattle.std.proofs.Common.{◌≡◌, ℕ, ◌<◌, Bool, true, false, cond, not, List, [], ◌∷◌, ◌++◌, All, IsUtf8, OnOk, OnErr, Result, Ok, Err, sym, refl, ap, ◌∙◌, subst, arith}
+use Rattle.std.proofs.Common.{◌≡◌, ℕ, ◌<◌, Bool, true, false, cond, not, List, [], ◌∷◌, ◌++◌, All, IsUtf8, OnOk, OnErr, Result, Ok, Err, sym, refl, ap, ◌∙◌, subst}
 use Rattle.std.proofs.lemmas.Bool.{agree_below_at}
 use Rattle.std.proofs.lemmas.List.Concat.{flat_map-append}
 use Rattle.std.proofs.lemmas.List.Elements.{All-nil, All-head, All-tail, All-append}
 use Rattle.std.proofs.lemmas.Str.{IsUtf8-nil, IsUtf8-append}
 use Rattle.percent_encoding.specs.AsciiSet.{should_percent_encode}
 use Rattle.percent_encoding.specs.Percent.{percent_encode, percent_encode_byte, percent_decode}
-use Rattle.percent_encoding.proofs.PercentLemmas.{round_trip, percent_decode-nil}
+use Rattle.percent_encoding.proofs.PercentLemmas.{round_trip}
 use Rattle.ref_parts.specs.declared.encoded.TheConstants.{ESCAPED}
 use Rattle.ref_parts.specs.Encoded.{is_fragment_byte, encoded_byte, encoded, IsEncoded}
 

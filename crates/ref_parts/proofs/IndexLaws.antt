@@ -1,10 +1,10 @@
 -- The laws of an index's text.
-use Rattle.std.proofs.Common.{◌≡◌, ◌≢◌, ℕ, ◌<◌, ◌^◌, ◌↔◌, Bool, true, false, not, ◌&&◌, eqb, ltb, List, [], ◌∷◌, length, get_or, Option, Some, None, ◌⊎◌, inl, inr, ⊎_elim, sym, refl, ap, ◌∙◌, subst, arith}
+use Rattle.std.proofs.Common.{◌≡◌, ℕ, ◌<◌, ◌^◌, true, not, ◌&&◌, eqb, ltb, List, [], ◌∷◌, length, get_or, Some, None, ⊎_elim, sym, refl, ap, ◌∙◌, subst, arith}
 use Rattle.std.specs.Prelude.{decimal}
 use Rattle.std.specs.Fmt.{digits}
 use Rattle.std.specs.Str.{all_ascii_digits}
 use Rattle.std.specs.Str.Parse.{digits_value}
-use Rattle.std.proofs.lemmas.Bool.{cond-true, cases_eq, cases_Bool, eqb-true, ne_eqb, eq-eqb, ltb-true, lt-ltb, and_from, and_parts, not_from_false, not-true, both_ways, false≢true, true≢false, cond_both}
+use Rattle.std.proofs.lemmas.Bool.{cond-true, cases_eq, ne_eqb, eq-eqb, ltb-true, lt-ltb, and_from, and_parts, not_from_false, not-true, both_ways, false≢true, cond_both}
 use Rattle.std.proofs.lemmas.Str.Parse.{IsNumeralModel, numerals_by_value, tells_all_ascii_digits}
 use Rattle.std.proofs.lemmas.Fmt.{decimal_nonempty, first_decimal, digits_decimal, digits_value-decimal, decimal-digits_value}
 use Rattle.ref_parts.specs.Pointer.{is_index_text, parse_index}

@@ -1,5 +1,5 @@
 -- What the steps of `src/small_map.rt` keep.
-use Rattle.std.proofs.Common.{◌≡◌, ◌≢◌, ℕ, suc, ◌+◌, ◌<◌, ◌≤◌, Bool, true, false, cond, List, [], ◌∷◌, ◌++◌, length, get_or, take, drop, set, Option, Some, None, is_some, ◌⊎◌, ⊎_elim, sym, refl, ap, ◌∙◌, subst, arith, length-append, append_assoc, append-nil, add-zero, add-one, take-append-drop}
+use Rattle.std.proofs.Common.{◌≡◌, ℕ, suc, ◌+◌, ◌<◌, ◌≤◌, Bool, true, false, cond, List, [], ◌∷◌, ◌++◌, length, get_or, take, drop, set, Option, Some, None, is_some, ⊎_elim, sym, refl, ap, ◌∙◌, subst, arith, length-append, append_assoc, append-nil, add-zero, add-one, take-append-drop}
 use Rattle.std.specs.Prelude.{⊤}
 use Rattle.std.specs.List.{refill}
 use Rattle.std.specs.Map.{lookup}

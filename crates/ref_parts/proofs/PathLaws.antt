@@ -1,19 +1,19 @@
 -- The law that a path's pointer text leads where the path does.
-use Rattle.std.proofs.Common.{◌≡◌, ◌≢◌, ℕ, ◌<◌, ◌≤◌, ◌^◌, true, false, eqb, List, [], ◌∷◌, ◌++◌, length, get_or, map, All, Option, Some, None, option_and_then, ◌⊎◌, inl, inr, ⊎_elim, sym, refl, ap, ◌∙◌, subst, append-nil, append_assoc, arith}
+use Rattle.std.proofs.Common.{◌≡◌, ◌≢◌, ℕ, ◌<◌, ◌≤◌, ◌^◌, true, false, eqb, List, [], ◌∷◌, ◌++◌, map, All, Some, option_and_then, sym, refl, ap, ◌∙◌, append-nil, arith}
 use Rattle.std.specs.Prelude.{decimal}
 use Rattle.std.specs.Prelude.{⊤}
 use Rattle.std.specs.Char.{is_ascii_digit}
 use Rattle.std.specs.Str.{all_ascii_digits}
 use Rattle.std.proofs.lemmas.Bool.{and_parts, ne_eqb, cond_both}
 use Rattle.std.proofs.lemmas.Bool.Decides.{nat_tests}
-use Rattle.std.proofs.lemmas.List.Elements.{All-nil, All-cons, All-append, All-weaker}
+use Rattle.std.proofs.lemmas.List.Elements.{All-nil, All-cons, All-append}
 use Rattle.std.proofs.lemmas.List.Splits.{slice_split_none, slice_split_at}
 use Rattle.std.proofs.lemmas.Option.{option_and_then_some}
 use Rattle.std.proofs.lemmas.Fmt.{digits_decimal}
 use Rattle.serde_json.specs.Data.{Data, null, boolean, number, string, array, object}
-use Rattle.serde_json.specs.Find.{get_item, get_member}
+use Rattle.serde_json.specs.Find.{get_item}
 use Rattle.ref_parts.specs.Path.{Part, Key, Index, child_at, value_at, HasFittingIndexes}
-use Rattle.ref_parts.specs.Pointer.{escape, escaped_byte, unescape, tokens, part_text, pointer_text, parse_index, step, value_along, evaluate}
+use Rattle.ref_parts.specs.Pointer.{escape, escaped_byte, unescape, tokens, part_text, pointer_text, step, value_along, evaluate}
 use Rattle.ref_parts.proofs.PointerLaws.{unescape-escape, unescape_front}
 use Rattle.ref_parts.proofs.IndexLaws.{own, parse_index-decimal}
 

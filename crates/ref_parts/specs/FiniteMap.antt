@@ -1,8 +1,6 @@
 -- A small map as the list of its entries, read at a key by the keys' `==`.
 use Rattle.std.specs.Prelude.{◌≡◌, ℕ, ◌+◌, ◌<◌, ◌≤◌, Bool, true, take, drop, ◌++◌, List, [], ◌∷◌, length, Option, Some, None, is_some, if◌then◌else◌, ⊤}
 use Rattle.std.specs.Map.{lookup}
-use Rattle.std.specs.HashMap.{HashMap}
-use Rattle.arrayvec.specs.ArrayVec.{ArrayVec}
 use Rattle.ref_parts.specs.declared.small_map.Form.{Form}
 use Rattle.ref_parts.specs.declared.small_map.Form.TheVariants.{Small, Large}
 

@@ -1,6 +1,8 @@
-//! The parts of paths into JSON values.
+//! Paths into JSON values, pointer text (RFC 6901), and the two containers that a reference resolver shares: a list with
+//! shared tails and a small map.
 //!
-//! Read `specs/Path.antt` first: it says what a path is, and which value stands at it.
+//! Read `specs/Path.antt` first, which says what a path is and which value stands at it, then `specs/Pointer.antt`, which
+//! says what pointer text means. `laws` has what holds of both.
 #![tactic(auto)]
 
 pub mod encoded;

@@ -1,7 +1,7 @@
-use Rattle.std.proofs.Common.{◌≡◌, ◌+◌, ◌++◌, Some, None, length, get_or, take, drop, string_bytes, ap, sym, ◌∙◌, arith, rules, ⊎_elim}
+use Rattle.std.proofs.Common.{◌≡◌, ◌++◌, Some, None, length, get_or, take, string_bytes, ap, sym, ◌∙◌, arith, ⊎_elim}
 use Rattle.std.proofs.lemmas.Str.{IsCharBoundary-before_ascii, IsCharBoundary-after_ascii}
 use Rattle.ref_parts.specs.Pointer.{escape, escaped_byte, first_escape}
-use Rattle.ref_parts.proofs.EscapeLaws.{CutsAt, CutsAt-first_escape, escape_none, escape_turn, length_token, length_turn, below_ascii}
+use Rattle.ref_parts.proofs.EscapeLaws.{CutsAt-first_escape, escape_none, escape_turn, length_token, length_turn, below_ascii}
 use Rattle.ref_parts.proofs.escape.push_escaped.Goals as goal
 use Rattle.ref_parts.proofs.escape.push_escaped.Goals.{then-as_bytes-index-eq126, else-as_bytes-index-eq126}
 

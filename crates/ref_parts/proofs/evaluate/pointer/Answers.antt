@@ -1,4 +1,4 @@
-use Rattle.std.proofs.Common.{◌≡◌, sym, arith}
+use Rattle.std.proofs.Common.{sym, arith}
 use Rattle.std.proofs.lemmas.Str.Pattern.{strip_prefix_char}
 use Rattle.serde_json.specs.View.{view}
 use Rattle.ref_parts.proofs.EvaluateLaws.{evaluate_nothing}

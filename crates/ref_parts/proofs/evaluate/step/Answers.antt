@@ -1,5 +1,4 @@
 use Rattle.std.proofs.Common.{◌≡◌, None, option_and_then, true, sym, ap, ◌∙◌}
-use Rattle.std.proofs.lemmas.Bool.{not-false}
 use Rattle.serde_json.specs.Find.{at}
 use Rattle.serde_json.specs.View.{view}
 use Rattle.ref_parts.specs.Pointer.{unescape, parse_index}

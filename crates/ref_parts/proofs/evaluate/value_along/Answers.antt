@@ -1,9 +1,9 @@
-use Rattle.std.proofs.Common.{◌≡◌, ◌≢◌, ◌∷◌, ◌++◌, [], Some, None, option_and_then, All, ap, sym, subst, ◌∙◌, arith, rules}
+use Rattle.std.proofs.Common.{◌≢◌, ◌∷◌, option_and_then, All, ap, sym, subst, ◌∙◌, arith, rules}
 use Rattle.std.proofs.lemmas.List.Elements.{All-tail}
 use Rattle.std.proofs.lemmas.Str.Pattern.{split_parts}
 use Rattle.serde_json.specs.View.{view}
 use Rattle.ref_parts.specs.Pointer.{tokens, value_along}
-use Rattle.ref_parts.proofs.EvaluateLaws.{value_along_turn, value_along_last, All-front, All-back}
+use Rattle.ref_parts.proofs.EvaluateLaws.{value_along_turn, value_along_last, All-back}
 use Rattle.ref_parts.proofs.evaluate.value_along.Goals as goal
 
 pub returns-in-None-clause-value : goal.returns-in-None-clause-value

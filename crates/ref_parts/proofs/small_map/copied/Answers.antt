@@ -1,4 +1,4 @@
-use Rattle.std.proofs.Common.{◌≡◌, Option, Some, None, sym, refl, ap, ◌∙◌, subst, length, arith}
+use Rattle.std.proofs.Common.{◌≡◌, Some, None, sym, refl, ap, ◌∙◌, subst, length, arith}
 use Rattle.std.proofs.lemmas.List.Elements.{same_from_all_zip}
 use Rattle.ref_parts.specs.FiniteMap.{pairs, AllHold, EachOnce, entries_of}
 use Rattle.ref_parts.proofs.small_map.copied.Goals as goal

@@ -1,8 +1,8 @@
-use Rattle.std.proofs.Common.{◌≡◌, ◌+◌, [], ◌∷◌, ◌++◌, cond, length, Some, None, is_some, sym, refl, ap, ◌∙◌, subst, arith, append-nil, length-append}
+use Rattle.std.proofs.Common.{◌+◌, [], ◌∷◌, ◌++◌, cond, length, Some, None, is_some, sym, ap, ◌∙◌, subst, arith, append-nil, length-append}
 use Rattle.std.proofs.lemmas.Bool.{false≢true}
 use Rattle.std.specs.Map.{lookup}
 use Rattle.ref_parts.specs.FiniteMap.{pairs, EachOnce}
-use Rattle.ref_parts.proofs.MapLaws.{pairs-append, length-pairs-le, Lacks, Lacks-nil, Lacks-pop, Lacks-puts, EachOnce-pop, moved_turn, no_slots}
+use Rattle.ref_parts.proofs.MapLaws.{pairs-append, Lacks, Lacks-nil, Lacks-pop, Lacks-puts, EachOnce-pop, moved_turn, no_slots}
 use Rattle.ref_parts.proofs.small_map.hashed.Goals as goal
 
 pub loop-slot-init : goal.loop-slot-init

@@ -1,6 +1,6 @@
-use Rattle.std.proofs.Common.{◌≡◌, ◌+◌, ◌≤◌, [], ◌∷◌, ◌++◌, cond, length, take, drop, Some, None, is_some, sym, refl, ap, ◌∙◌, subst, arith, append-nil, length-append, length-set}
+use Rattle.std.proofs.Common.{◌+◌, [], ◌∷◌, ◌++◌, cond, length, take, drop, Some, is_some, sym, ap, ◌∙◌, subst, arith, length-set}
 use Rattle.std.specs.Map.{lookup}
-use Rattle.ref_parts.specs.FiniteMap.{Puts, pairs, AllHold, EachOnce, IsPlaceOf, IsFormOf, entries_of}
+use Rattle.ref_parts.specs.FiniteMap.{Puts, pairs, AllHold, EachOnce, IsPlaceOf, entries_of}
 use Rattle.ref_parts.proofs.MapLaws.{length-pairs, AllHold-append, AllHold-at, set_read, Puts-over, Puts-slot_push, Puts-slot_at, EachOnce-slot_push, EachOnce-slot_at}
 use Rattle.ref_parts.proofs.small_map.put.Goals as goal
 

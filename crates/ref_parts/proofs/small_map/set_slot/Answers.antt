@@ -1,4 +1,4 @@
-use Rattle.std.proofs.Common.{◌≡◌, Some, length, set, sym, ap, ◌∙◌, arith, length-set}
+use Rattle.std.proofs.Common.{Some, length, set, ap, ◌∙◌, length-set}
 use Rattle.ref_parts.proofs.MapLaws.{refill_same}
 use Rattle.ref_parts.proofs.small_map.set_slot.Goals as goal
 

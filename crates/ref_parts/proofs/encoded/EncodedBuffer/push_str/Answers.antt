@@ -1,4 +1,4 @@
-use Rattle.std.proofs.Common.{◌≡◌, ◌++◌, All, OnOk, string_bytes, sym, ap, ◌∙◌, subst, arith}
+use Rattle.std.proofs.Common.{◌≡◌, ◌++◌, OnOk, string_bytes, subst, arith}
 use Rattle.std.proofs.lemmas.List.Elements.{All-from_get_or}
 use Rattle.percent_encoding.specs.Percent.{percent_decode}
 use Rattle.ref_parts.proofs.EncodedLaws.{IsByte, IsEncoded-after, decoded-after}

@@ -1,4 +1,4 @@
-use Rattle.std.proofs.Common.{◌≡◌, [], ◌∷◌, ◌++◌, true, false, ◌&&◌, sym, ap, ◌∙◌}
+use Rattle.std.proofs.Common.{◌≡◌, [], ◌∷◌, ◌++◌, true, false, sym, ap, ◌∙◌}
 use Rattle.std.proofs.lemmas.Bool.{not-true, not-false}
 use Rattle.ref_parts.specs.Path.{part_eq, path_eq}
 use Rattle.ref_parts.specs.Segment.{part_of}
