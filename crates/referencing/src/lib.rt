@@ -4,3 +4,4 @@
 #![tactic(auto)]
 
 pub mod examples;
+pub mod laws;

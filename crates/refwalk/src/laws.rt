@@ -4,35 +4,29 @@ ghost use Rattle.refwalk.specs.Rows.{IndexRows, PartsRows, StepRows, PlainRows, 
 /// The parts of a pointer that are indexes of an array.
 pub fn index_rows()
     ensures { IndexRows }
-{
-}
+{}
 
 /// The parts of a pointer's text.
 pub fn parts_rows()
     ensures { PartsRows }
-{
-}
+{}
 
 /// Steps into values.
 pub fn step_rows()
     ensures { StepRows }
-{
-}
+{}
 
 /// Texts that are served.
 pub fn plain_rows()
     ensures { PlainRows }
-{
-}
+{}
 
 /// What a URI means among documents.
 pub fn means_rows()
     ensures { MeansRows }
-{
-}
+{}
 
 /// The scope after a lookup.
 pub fn scope_rows()
     ensures { ScopeRows }
-{
-}
+{}

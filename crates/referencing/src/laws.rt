@@ -1,0 +1,13 @@
+//! Laws of the definitions. Each function is empty: its contract states the law, and the check proves it.
+ghost use Rattle.std.specs.Prelude.{◌≡◌, ℕ, List, ◌∷◌, Some, None};
+ghost use Rattle.referencing.specs.World.{Layer, World};
+ghost use Rattle.referencing.specs.Places.{Place};
+ghost use Rattle.referencing.specs.Bearing.{bears, last_under, means};
+
+/// The nearest layer decides what a URI means: an entry there is the answer, and without one the parents' layers answer.
+pub fn nearest_layer_decides()
+    ensures near { (layer : Layer) (parents : World) (uri found : List ℕ) (place : Place)
+        → last_under uri (bears layer) ≡ Some (found, place) → means (layer ∷ parents) uri ≡ Some place }
+    ensures far { (layer : Layer) (parents : World) (uri : List ℕ)
+        → last_under uri (bears layer) ≡ None → means (layer ∷ parents) uri ≡ means parents uri }
+{}
