@@ -38,10 +38,11 @@ against base text =
     else (if is_uri_reference text then Ok (normal_form (resolved (with_fragment base None) text)) else Err (unparsed text)))
     else Err (unresolved text base)
 
--- a reference to a place in a schema: its URI part and its fragment, split at the last `#`, or at a `#` in front
+-- the URI part of a reference that doesn't begin with `#`: what stands before its last `#`
 abbrev pub uri_part : List ℕ → List ℕ
 uri_part reference = if list_any (λ c. c == 35) reference then before_last (λ c. c == 35) reference else reference
 
+-- the fragment: what follows a `#` in front, or else the last `#`
 abbrev pub fragment_part : List ℕ → List ℕ
 fragment_part reference =
     if slice_index reference 0 == 35 then drop 1 reference
