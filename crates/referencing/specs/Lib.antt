@@ -5,10 +5,12 @@ pub mod Bearing
 pub mod Anchors
 pub mod Wants
 pub mod Preparing
+pub mod Retrievers
 pub mod Bases
 pub mod Pointers
 pub mod Lookup
 pub mod Recursive
 pub mod Follow
 pub mod Vocabularies
+pub mod MetaSchemas
 pub mod Rows

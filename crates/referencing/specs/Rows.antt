@@ -4,9 +4,12 @@ use Rattle.std.specs.Prelude.{ℕ, true, List, [], ◌∷◌, codes, Option, Som
 use Rattle.serde_json.specs.Data.{Data, boolean, string, array, object, no_items, item, no_members, member}
 use Rattle.ref_parts.specs.Path.{Part}
 use Rattle.ref_draft.specs.declared.draft.Draft.{Draft}
+use Rattle.ref_draft.specs.declared.draft.Draft.TheVariants.{Draft202012}
 use Rattle.ref_uri.specs.Targets.{Refusal}
 use Rattle.referencing.specs.Fault.{Fault}
 use Rattle.referencing.specs.World.{Document, World, document, added}
+use Rattle.referencing.specs.Preparing.{Given}
+use Rattle.referencing.specs.Retrievers.{map_retriever}
 use Rattle.referencing.specs.Places.{Place}
 use Rattle.referencing.specs.Follow.{Step, Lookup, Followed, followed}
 
@@ -35,6 +38,16 @@ pair d e = array (item d (item e no_items))
 -- a document of a draft under a URI
 abbrev pub at : Draft → Literal → Data → Document
 at draft uri tree = document draft (codes uri) tree
+
+-- a document that refers to `b`, and a retriever that has `b`, which refers to `c`
+abbrev pub given_with : ℕ → Given
+given_with limit = record {
+  retriever = map_retriever ((codes "http://a/b", one "$ref" (text "c")) ∷ []);
+  limit = limit;
+  draft = Draft202012;
+  parents = [];
+  documents = at Draft202012 "http://a/r" (one "$ref" (text "b")) ∷ [];
+}
 
 -- a registry without a parent
 abbrev pub world : List Document → World

@@ -1,5 +1,5 @@
 -- Vocabularies of meta-schemas (2020-12 Core, 8.1.2; 2019-09 Core, 8.1.2).
-use Rattle.std.specs.Prelude.{ℕ, Bool, true, false, ◌&&◌, ◌||◌, List, [], ◌∷◌, ◌++◌, map, filter, codes, bytes_eq, Option, Some, None, Result, Ok, Err, if◌then◌else◌, option_and_then}
+use Rattle.std.specs.Prelude.{ℕ, Bool, true, false, ◌&&◌, ◌||◌, List, [], ◌∷◌, ◌++◌, map, filter, codes, bytes_eq, Option, Some, None, Result, Ok, Err, if◌then◌else◌, option_and_then, is_some}
 use Rattle.std.specs.List.{find, list_any}
 use Rattle.std.specs.Option.{option_map_or}
 use Rattle.std.specs.Ordering.{nat_cmp, match_ordering}
@@ -78,17 +78,18 @@ with_vocabulary s (Custom uri) = record s { customs = put uri s.customs }
 abbrev pub of_names : List (List ℕ) → VocabularySet
 of_names names = record { names = names; customs = [] }
 
+-- the vocabularies of the newest draft, without what asserts formats
+abbrev pub set_of_2020 : VocabularySet
+set_of_2020 = of_names (codes "core" ∷ codes "applicator" ∷ codes "unevaluated" ∷ codes "validation" ∷ codes "meta-data" ∷ codes "format-annotation" ∷ codes "content" ∷ [])
+
 -- the sets of the drafts: those before 2019-09 have no vocabularies
 abbrev pub default_set : Draft → VocabularySet
 default_set Draft4 = of_names []
 default_set Draft6 = of_names []
 default_set Draft7 = of_names []
 default_set Draft201909 = of_names (codes "core" ∷ codes "applicator" ∷ codes "validation" ∷ codes "meta-data" ∷ codes "content" ∷ [])
-default_set Draft202012 = of_names (codes "core" ∷ codes "applicator" ∷ codes "unevaluated" ∷ codes "validation" ∷ codes "meta-data" ∷ codes "format-annotation" ∷ codes "content" ∷ [])
-default_set Unknown = default_set_of_2020
-  where
-    default_set_of_2020 : VocabularySet
-    default_set_of_2020 = of_names (codes "core" ∷ codes "applicator" ∷ codes "unevaluated" ∷ codes "validation" ∷ codes "meta-data" ∷ codes "format-annotation" ∷ codes "content" ∷ [])
+default_set Draft202012 = set_of_2020
+default_set Unknown = set_of_2020
 
 -- how a set is displayed
 abbrev pub quoted : List ℕ → List ℕ
@@ -157,3 +158,12 @@ find_vocabularies world draft contents =
     if is_unknown (detect draft contents)
     then option_map_or (λ text. set_at world (parsed text)) (text_under (codes "$schema") contents) (default_set Unknown)
     else default_set draft
+
+-- the contents that a resolver asks for: an object with a key `$schema` itself, or else the value that the base means
+abbrev pub dialect_contents : World → List ℕ → Data → Data
+dialect_contents world base contents =
+    if is_some (get (codes "$schema") contents) then contents else option_map_or (λ p. p.value) (means world base) contents
+
+-- the vocabularies of a schema at a resolver's base
+abbrev pub find_vocabularies_at : World → List ℕ → Draft → Data → VocabularySet
+find_vocabularies_at world base draft contents = find_vocabularies world draft (dialect_contents world base contents)

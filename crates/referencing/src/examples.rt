@@ -8,7 +8,7 @@ ghost use Rattle.referencing.specs.Fault.{fault_text, PointerToNowhere, InvalidA
 ghost use Rattle.referencing.specs.World.{added};
 ghost use Rattle.referencing.specs.Places.{places};
 ghost use Rattle.referencing.specs.Wants.{Reference, MetaSchema, faults, open_wants};
-ghost use Rattle.referencing.specs.Follow.{Recursive};
+ghost use Rattle.referencing.specs.Follow.{Recursive, Enter};
 ghost use Rattle.referencing.specs.Vocabularies.{find_in, find_vocabularies, set_text, of_names, default_set};
 ghost use Rattle.referencing.specs.Rows.{at, world, yes, empty, text, one, two, three, pair, steps, look, answer, refusal, paths_and_bases};
 
@@ -20,6 +20,7 @@ pub fn fault_texts()
 /// The places of a document, by levels, with their bases.
 pub fn places_of_examples()
     ensures nested { paths_and_bases (places (at Draft201909 "http://a/r" (one "$defs" (one "a" (two "$id" (text "http://b/k/") "dependencies" (one "d" (one "$id" (text "m")))))))) ≡ ([], Ok (codes "http://a/r")) ∷ (Key (codes "$defs") ∷ Key (codes "a") ∷ [], Ok (codes "http://b/k/")) ∷ (Key (codes "$defs") ∷ Key (codes "a") ∷ Key (codes "dependencies") ∷ Key (codes "d") ∷ [], Ok (codes "http://b/k/m")) ∷ [] }
+    ensures deepest { paths_and_bases (places (at Draft202012 "http://a/r" (one "not" (one "not" yes)))) ≡ ([], Ok (codes "http://a/r")) ∷ (Key (codes "not") ∷ [], Ok (codes "http://a/r")) ∷ (Key (codes "not") ∷ Key (codes "not") ∷ [], Ok (codes "http://a/r")) ∷ [] }
     ensures faulty { faults (at Draft202012 "http://a/r" (one "properties" (one "x" (two "$id" (text "a b") "$ref" (text "c d")))) ∷ []) ≡ unparsed (codes "a b") ∷ [] }
     ensures hidden { faults (at Draft7 "http://a/r" (one "properties" (one "x" (two "$id" (text "a b") "$ref" (text "c d")))) ∷ []) ≡ unparsed (codes "c d") ∷ [] }
 {}
@@ -37,6 +38,9 @@ pub fn lookups_by_pointer()
     ensures nowhere { steps (world (at Draft202012 "http://a/r" empty ∷ [])) "http://a/r" (look "#/nope" ∷ []) ≡ refusal 0 (PointerToNowhere (codes "/nope")) }
     ensures not_borne { steps (world (at Draft202012 "http://a/r" empty ∷ [])) "http://a/q" (look "#" ∷ []) ≡ refusal 0 (not_retrieved (codes "http://a/q")) }
     ensures leading_zero { steps (world (at Draft202012 "http://a/r" (one "prefixItems" (pair yes empty)) ∷ [])) "http://a/r" (look "#/prefixItems/01" ∷ []) ≡ answer (Some empty) (codes "http://a/r") (codes "http://a/r" ∷ []) }
+    ensures plus_sign { steps (world (at Draft202012 "http://a/r" (one "prefixItems" (pair yes empty)) ∷ [])) "http://a/r" (look "#/prefixItems/+1" ∷ []) ≡ answer (Some empty) (codes "http://a/r") (codes "http://a/r" ∷ []) }
+    ensures no_resource_below_const { steps (world (at Draft7 "http://a/r" (one "items" (one "const" (one "$id" (text "z")))) ∷ [])) "http://a/r" (look "z" ∷ []) ≡ refusal 0 (not_retrieved (codes "http://a/z")) }
+    ensures entered { steps (world (at Draft202012 "http://a/k/x" yes ∷ [])) "http://a/r" (Enter Draft202012 (one "$id" (text "k/")) ∷ look "x" ∷ []) ≡ answer (Some yes) (codes "http://a/k/x") (codes "http://a/k/" ∷ []) }
     ensures no_index { steps (world (at Draft202012 "http://a/r" (one "prefixItems" (pair yes empty)) ∷ [])) "http://a/r" (look "#/prefixItems/one" ∷ []) ≡ refusal 0 (InvalidArrayIndex (codes "/prefixItems/one") (codes "one")) }
     ensures bad_escape { steps (world (at Draft202012 "http://a/r" empty ∷ [])) "http://a/r" (look "#/%FF" ∷ []) ≡ refusal 0 (InvalidPercentEncoding (codes "/%FF")) }
     ensures base_changes { steps (world (at Draft7 "http://a/r" (one "items" (one "properties" (one "x" (one "$id" (text "s/"))))) ∷ [])) "http://a/r" (look "#/items/properties/x" ∷ []) ≡ answer (Some (one "$id" (text "s/"))) (codes "http://a/s/") (codes "http://a/r" ∷ []) }

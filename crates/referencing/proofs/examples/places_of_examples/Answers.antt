@@ -4,4 +4,4 @@ use Rattle.referencing.proofs.examples.places_of_examples.Goals as goal
 
 pub returns : goal.returns
 unfolding referencing_on_literals
-returns c = record { nested = refl; faulty = refl; hidden = refl }
+returns c = record { deepest = refl; nested = refl; faulty = refl; hidden = refl }
