@@ -10,6 +10,7 @@ use crate::fault::Fault;
 use crate::follow::Followed;
 use crate::request::BadRequest;
 use ref_draft::Draft;
+use ref_parts::escape::write_index;
 use serde_json::Value;
 use std::alloc::{AllocError, Global};
 
@@ -71,9 +72,13 @@ pub fn prepare_report(alloc: Global, fault: &Fault) -> Result<Report, AllocError
 pub fn step_report(alloc: Global, step: usize, fault: &Fault) -> Result<Report, AllocError>
     ensures { IfOk result (λ r. report_view r ≡ spec.step_report step (fault_view fault.now)) }
 {
+    let mut text = String::new(alloc);
+    text.push_str("fault ")?;
+    write_index(&mut text, step)?;
+    write!(text, " {fault}\n")?;
     Ok(Report {
         status: Status::Fault,
-        text: format!(in alloc; "fault {step} {fault}\n")?,
+        text,
     })
 }
 
