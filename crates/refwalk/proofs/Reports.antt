@@ -17,10 +17,10 @@ use Rattle.refwalk.specs.declared.report.Status.{Status}
 use Rattle.refwalk.specs.Report as spec
 use Rattle.refwalk.specs.Run.{AnswersBytes, Reports}
 use Rattle.refwalk.specs.View.{report_view}
-use Rattle.refwalk.specs.Report.{request_report, prepared_report, prepare_report, followed_report, is_answered, report}
+use Rattle.refwalk.specs.Report.{request_report, prepared_report, prepare_report, followed_report, draft_of_documents, is_answered, report}
 use Rattle.refwalk.specs.Request.{Document, Request, tree_of, request_of, read_request}
 
-pub request_report-ok : (r : Request) (world : List Document) → prepared r.documents ≡ Ok world → request_report r ≡ followed_report (followed world r.base r.steps)
+pub request_report-ok : (r : Request) (world : List Document) → prepared r.documents ≡ Ok world → request_report r ≡ followed_report (draft_of_documents r) (followed world r.base r.steps)
 unfolding request_report
 request_report-ok r world is = ap (prepared_report r) is
 

@@ -14,3 +14,4 @@ pub mod View
 pub mod Floats
 pub mod Rows
 pub mod Run
+pub mod RunError

@@ -1,11 +1,13 @@
 -- The report on a request.
-use Rattle.std.specs.Prelude.{ℕ, Bool, true, List, [], ◌∷◌, ◌++◌, codes, decimal, flat_map, Option, Some, None, Result, Ok, Err}
+use Rattle.std.specs.Prelude.{ℕ, Bool, true, List, [], ◌∷◌, ◌++◌, codes, decimal, flat_map, Option, Some, None, unwrap_or, Result, Ok, Err}
 use Rattle.serde_json.specs.Data.{Data}
 use Rattle.serde_json.specs.Written.{compact_text}
+use Rattle.ref_draft.specs.declared.draft.Draft.{Draft}
+use Rattle.ref_draft.specs.declared.draft.Draft.TheVariants.{Draft4, Draft6, Draft7, Draft201909, Draft202012, Unknown}
 use Rattle.refwalk.specs.declared.report.Status.{Status}
 use Rattle.refwalk.specs.declared.report.Status.TheVariants as status
 use Rattle.refwalk.specs.declared.request.BadRequest.{BadRequest}
-use Rattle.refwalk.specs.declared.request.BadRequest.TheVariants.{NotJson, NotAnObject, Float, UnknownField, Documents, Base, Steps, Remote, Meta, Draft, Limit}
+use Rattle.refwalk.specs.declared.request.BadRequest.TheVariants.{NotJson, NotAnObject, Float, UnknownField, Documents, Base, Steps, Remote, Meta, Draft as DraftField, Limit}
 use Rattle.refwalk.specs.Request.{Document, Request, read_request}
 use Rattle.refwalk.specs.Served.{is_served}
 use Rattle.refwalk.specs.Registry.{prepared}
@@ -29,7 +31,7 @@ reason Base = codes "base"
 reason Steps = codes "steps"
 reason Remote = codes "remote"
 reason Meta = codes "meta"
-reason Draft = codes "draft"
+reason DraftField = codes "draft"
 reason Limit = codes "limit"
 
 abbrev pub bad_report : BadRequest → Report
@@ -41,26 +43,38 @@ prepare_report fault = record { status = status.Fault; text = line (codes "fault
 abbrev pub step_report : ℕ → Fault → Report
 step_report n fault = record { status = status.Fault; text = line (codes "fault " ++ (decimal n ++ (codes " " ++ fault_text fault))) }
 
--- each value has the draft 2020-12
-abbrev pub value_lines : Option Data → List ℕ
-value_lines None = line (codes "no value")
-value_lines (Some d) = line (codes "value " ++ compact_text d) ++ line (codes "draft 2020-12")
+abbrev pub draft_name : Draft → List ℕ
+draft_name Draft4 = codes "4"
+draft_name Draft6 = codes "6"
+draft_name Draft7 = codes "7"
+draft_name Draft201909 = codes "2019-09"
+draft_name Draft202012 = codes "2020-12"
+draft_name Unknown = codes "unknown"
+
+-- a value and its draft
+abbrev pub value_lines : Draft → Option Data → List ℕ
+value_lines draft None = line (codes "no value")
+value_lines draft (Some d) = line (codes "value " ++ compact_text d) ++ line (codes "draft " ++ draft_name draft)
 
 abbrev pub scope_line : List (List ℕ) → List ℕ
 scope_line scope = line (codes "scope" ++ flat_map (λ uri. codes " " ++ uri) scope)
 
-abbrev pub done_report : Followed → Report
-done_report f = record {
+abbrev pub done_report : Draft → Followed → Report
+done_report draft f = record {
   status = status.Done;
-  text = value_lines f.last ++ (line (codes "base " ++ f.resolver.base) ++ scope_line f.resolver.scope);
+  text = value_lines draft f.last ++ (line (codes "base " ++ f.resolver.base) ++ scope_line f.resolver.scope);
 }
 
-abbrev pub followed_report : Result Followed (ℕ × Fault) → Report
-followed_report (Ok f) = done_report f
-followed_report (Err (n, fault)) = step_report n fault
+abbrev pub followed_report : Draft → Result Followed (ℕ × Fault) → Report
+followed_report draft (Ok f) = done_report draft f
+followed_report draft (Err (n, fault)) = step_report n fault
+
+-- Every document has the draft of the request, or 2020-12 without one.
+abbrev pub draft_of_documents : Request → Draft
+draft_of_documents r = unwrap_or r.draft Draft202012
 
 abbrev pub prepared_report : Request → Result (List Document) Fault → Report
-prepared_report r (Ok world) = followed_report (followed world r.base r.steps)
+prepared_report r (Ok world) = followed_report (draft_of_documents r) (followed world r.base r.steps)
 prepared_report r (Err fault) = prepare_report fault
 
 -- the report on a request that is served

@@ -7,6 +7,8 @@ use Rattle.serde_json.specs.Find.{get, at, as_str, as_array, as_object, as_numbe
 use Rattle.serde_json.specs.Read.{read}
 use Rattle.serde_json.specs.Written.{has_float}
 use Rattle.ref_uri.specs.Reference.{is_uri_reference}
+use Rattle.ref_draft.specs.declared.draft.Draft.{Draft}
+use Rattle.ref_draft.specs.declared.draft.Draft.TheVariants as draft
 use Rattle.refwalk.specs.declared.request.BadRequest.{BadRequest}
 use Rattle.refwalk.specs.declared.request.BadRequest.TheVariants as bad
 use Rattle.refwalk.specs.Outcome.{◌>>=◌}
@@ -28,7 +30,7 @@ pub record Request : Type 0 where
   pub steps : List Step
   pub remote : Option (List Document)
   pub meta : Option (List Document)
-  pub draft : Option (List ℕ)
+  pub draft : Option Draft
   pub limit : Option ℕ
 
 -- ---- lists in JSON
@@ -77,13 +79,17 @@ step_of (object ms) = Some (Enter (object ms))
 unfoldable pub steps_of : Data → Option (List Step)
 steps_of d = list_of step_of d
 
--- the names of the five drafts
-abbrev pub is_draft_name : List ℕ → Bool
-is_draft_name s =
-    bytes_eq s (codes "4") || bytes_eq s (codes "6") || bytes_eq s (codes "7") || bytes_eq s (codes "2019-09") || bytes_eq s (codes "2020-12")
+-- the draft that a name stands for
+abbrev pub draft_named : List ℕ → Option Draft
+draft_named s =
+    if bytes_eq s (codes "4") then Some draft.Draft4
+    else (if bytes_eq s (codes "6") then Some draft.Draft6
+    else (if bytes_eq s (codes "7") then Some draft.Draft7
+    else (if bytes_eq s (codes "2019-09") then Some draft.Draft201909
+    else (if bytes_eq s (codes "2020-12") then Some draft.Draft202012 else None))))
 
-unfoldable pub draft_of : Data → Option (List ℕ)
-draft_of d = option_and_then (if_passes is_draft_name) (as_str d)
+unfoldable pub draft_of : Data → Option Draft
+draft_of d = option_and_then draft_named (as_str d)
 
 -- a whole number of 64 bits
 abbrev pub limit_of : Data → Option ℕ

@@ -1,10 +1,13 @@
 -- Rows of the definitions, each of which computes.
-use Rattle.std.specs.Prelude.{◌≡◌, true, false, List, [], ◌∷◌, codes, Some, None, Ok, Err}
-use Rattle.serde_json.specs.Data.{Data, boolean, array, object, no_items, item, no_members, member}
+use Rattle.std.specs.Prelude.{◌≡◌, true, false, [], ◌∷◌, codes, Some, None, Ok, Err}
+use Rattle.serde_json.specs.Data.{boolean, array, no_items, item}
+use Rattle.ref_draft.specs.declared.draft.Draft.TheVariants.{Draft4, Draft6, Draft7, Draft201909, Draft202012, Unknown}
 use Rattle.refwalk.specs.Fault.{InvalidArrayIndex, PointerToNowhere}
 use Rattle.refwalk.specs.Follow.{moved}
 use Rattle.refwalk.specs.Pointer.{index_of, parts, step_into}
 use Rattle.refwalk.specs.Registry.{added, means}
+use Rattle.refwalk.specs.Report.{draft_name}
+use Rattle.refwalk.specs.Request.{draft_named}
 use Rattle.refwalk.specs.Served.{trimmed, is_plain, is_pointer_reference}
 
 -- a leading 0 and a `+` are taken, a minus and a space are not, and a number past 64 bits is no index
@@ -47,3 +50,10 @@ ScopeRows =
     ((moved (record { base = codes "r"; scope = [] }) (codes "r")).scope ≡ codes "r" ∷ [])
     × ((moved (record { base = codes "r"; scope = codes "r" ∷ [] }) (codes "r")).scope ≡ codes "r" ∷ [])
     × ((moved (record { base = codes "r"; scope = codes "r" ∷ [] }) (codes "s")).scope ≡ codes "r" ∷ codes "r" ∷ [])
+
+-- each draft that a request may name is read back from its name in a report, and other texts name none
+abbrev pub DraftRows : Type 0
+DraftRows =
+    (draft_named (draft_name Draft4) ≡ Some Draft4) × (draft_named (draft_name Draft6) ≡ Some Draft6) × (draft_named (draft_name Draft7) ≡ Some Draft7)
+    × (draft_named (draft_name Draft201909) ≡ Some Draft201909) × (draft_named (draft_name Draft202012) ≡ Some Draft202012)
+    × (draft_named (draft_name Unknown) ≡ None) × (draft_named (codes "5") ≡ None) × (draft_named [] ≡ None)

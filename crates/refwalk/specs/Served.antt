@@ -76,7 +76,7 @@ is_served_step (Enter d) = false
 
 -- the fields that may be absent are
 abbrev pub has_served_fields : Request → Bool
-has_served_fields r = is_none r.remote && is_none r.meta && is_none r.draft && is_none r.limit
+has_served_fields r = is_none r.remote && is_none r.meta && is_none r.limit
 
 unfoldable pub is_served : Request → Bool
 is_served r = list_all is_served_document r.documents && (is_plain r.base && (list_all is_served_step r.steps && has_served_fields r))

@@ -30,7 +30,7 @@ request_view r = record {
   steps = map step_view r.steps.items;
   remote = option_map (λ v. map document_view v.items) r.remote;
   meta = option_map (λ v. map document_view v.items) r.meta;
-  draft = option_map (λ s. s.now) r.draft;
+  draft = r.draft;
   limit = r.limit;
 }
 

@@ -1,5 +1,5 @@
 //! Rows of the definitions, as contracts of functions that do nothing.
-ghost use Rattle.refwalk.specs.Rows.{IndexRows, PartsRows, StepRows, PlainRows, MeansRows, ScopeRows};
+ghost use Rattle.refwalk.specs.Rows.{IndexRows, PartsRows, StepRows, PlainRows, MeansRows, ScopeRows, DraftRows};
 
 /// The parts of a pointer that are indexes of an array.
 pub fn index_rows()
@@ -29,4 +29,9 @@ pub fn means_rows()
 /// The scope after a lookup.
 pub fn scope_rows()
     ensures { ScopeRows }
+{}
+
+/// The names of drafts.
+pub fn draft_rows()
+    ensures { DraftRows }
 {}

@@ -9,6 +9,8 @@ ghost use Rattle.refwalk.specs.View.{followed_view, report_view};
 use crate::fault::Fault;
 use crate::follow::Followed;
 use crate::request::BadRequest;
+use ref_draft::Draft;
+use ref_parts::escape::write_index;
 use serde_json::Value;
 use std::alloc::{AllocError, Global};
 
@@ -70,19 +72,23 @@ pub fn prepare_report(alloc: Global, fault: &Fault) -> Result<Report, AllocError
 pub fn step_report(alloc: Global, step: usize, fault: &Fault) -> Result<Report, AllocError>
     ensures { IfOk result (λ r. report_view r ≡ spec.step_report step (fault_view fault.now)) }
 {
+    let mut text = String::new(alloc);
+    text.push_str("fault ")?;
+    write_index(&mut text, step)?;
+    write!(text, " {fault}\n")?;
     Ok(Report {
         status: Status::Fault,
-        text: format!(in alloc; "fault {step} {fault}\n")?,
+        text,
     })
 }
 
 /// The report on steps that were all followed.
-pub fn done_report(alloc: Global, followed: &Followed) -> Result<Report, AllocError>
+pub fn done_report(alloc: Global, draft: Draft, followed: &Followed) -> Result<Report, AllocError>
     requires { IfSome followed.now.last (λ v. has_float (view v.now) ≡ false) }
-    ensures { IfOk result (λ r. report_view r ≡ spec.done_report (followed_view followed.now)) }
+    ensures { IfOk result (λ r. report_view r ≡ spec.done_report draft (followed_view followed.now)) }
 {
     let mut text = String::new(alloc);
-    push_value(alloc, &mut text, followed.last)?;
+    push_value(alloc, &mut text, draft, followed.last)?;
     push_line(&mut text, "base ", followed.resolver.base)?;
     push_scope(&mut text, followed.resolver.scope.as_slice())?;
     Ok(Report {
@@ -91,18 +97,36 @@ pub fn done_report(alloc: Global, followed: &Followed) -> Result<Report, AllocEr
     })
 }
 
+fn draft_name(draft: Draft) -> &'static str
+    ensures { result.now ≡ spec.draft_name draft }
+{
+    match draft {
+        Draft::Draft4 => "4",
+        Draft::Draft6 => "6",
+        Draft::Draft7 => "7",
+        Draft::Draft201909 => "2019-09",
+        Draft::Draft202012 => "2020-12",
+        Draft::Unknown => "unknown",
+    }
+}
+
 // The lines of the value and its draft.
-fn push_value(alloc: Global, text: &mut String, last: Option<&Value>) -> Result<(), AllocError>
+fn push_value(
+    alloc: Global,
+    text: &mut String,
+    draft: Draft,
+    last: Option<&Value>,
+) -> Result<(), AllocError>
     requires { IfSome last (λ v. has_float (view v.now) ≡ false) }
     ensures { OnOk result (string_bytes text.new
-        ≡ string_bytes text.old ++ spec.value_lines (option_map (λ v. view v.now) last.entry)) }
+        ≡ string_bytes text.old ++ spec.value_lines draft (option_map (λ v. view v.now) last.entry)) }
 {
     let Some(value) = last else {
         return push_line(text, "no value", "");
     };
     let json = value.to_string(alloc)?;
     push_line(text, "value ", json.as_str())?;
-    push_line(text, "draft 2020-12", "")?;
+    push_line(text, "draft ", draft_name(draft))?;
     Ok(())
 }
 

@@ -13,6 +13,7 @@ ghost use Rattle.refwalk.specs.declared.request.BadRequest.TheVariants as bad;
 use crate::scan::has_float;
 use crate::stop::Stop;
 use crate::uri::is_reference;
+use ref_draft::Draft;
 use serde_json::{Map, Value};
 use std::alloc::{AllocError, Global};
 
@@ -39,7 +40,7 @@ pub struct Request<'a> {
     pub steps: Vec<Step<'a>>,
     pub remote: Option<Vec<Document<'a>>>,
     pub meta: Option<Vec<Document<'a>>>,
-    pub draft: Option<&'a str>,
+    pub draft: Option<Draft>,
     pub limit: Option<u64>,
 }
 
@@ -180,8 +181,8 @@ fn optional_meta(
     }
 }
 
-fn optional_draft(found: Option<&Value>) -> Result<Option<&str>, Stop<BadRequest>>
-    ensures { Answers (option_map (λ s. s.now)) (λ e. e) result
+fn optional_draft(found: Option<&Value>) -> Result<Option<Draft>, Stop<BadRequest>>
+    ensures { Answers (λ d. d) (λ e. e) result
         (spec.optional bad.Draft spec.draft_of (option_map (λ v. view v.now) found.entry)) }
 {
     let Some(value) = found else {
@@ -294,19 +295,29 @@ fn step_of(value: &Value) -> Option<Step<'_>>
 }
 
 #[tactic(auto, unfolding(crate::specs::Request::draft_of))]
-fn draft_of(value: &Value) -> Option<&str>
-    ensures { option_map (λ s. s.now) result ≡ spec.draft_of (view value.now) }
+fn draft_of(value: &Value) -> Option<Draft>
+    ensures { result ≡ spec.draft_of (view value.now) }
 {
-    let name = value.as_str()?;
-    if is_draft_name(name) {
-        Some(name)
-    } else {
-        None
-    }
+    draft_named(value.as_str()?)
 }
 
-fn is_draft_name(name: &str) -> bool
-    ensures { result ≡ spec.is_draft_name name.now }
+fn draft_named(name: &str) -> Option<Draft>
+    ensures { result ≡ spec.draft_named name.now }
 {
-    name == "4" || name == "6" || name == "7" || name == "2019-09" || name == "2020-12"
+    if name == "4" {
+        return Some(Draft::Draft4);
+    }
+    if name == "6" {
+        return Some(Draft::Draft6);
+    }
+    if name == "7" {
+        return Some(Draft::Draft7);
+    }
+    if name == "2019-09" {
+        return Some(Draft::Draft201909);
+    }
+    if name == "2020-12" {
+        return Some(Draft::Draft202012);
+    }
+    None
 }

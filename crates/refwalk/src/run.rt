@@ -19,6 +19,7 @@ use crate::served::is_served;
 use crate::sink::Sink;
 use crate::source::Source;
 use crate::stop::Stop;
+use ref_draft::Draft;
 use serde_json::Value;
 use std::alloc::{AllocError, Global};
 use std::fmt;
@@ -46,6 +47,11 @@ impl From<AllocError> for RunError {
 }
 
 impl fmt::Display for RunError {
+    ghost use Rattle.std.specs.Prelude.{Some};
+    ghost use Rattle.refwalk.specs.RunError.{run_error_text};
+
+    ghost output = { λ e. Some (run_error_text e) };
+
     fn fmt<W: fmt::Write>(&self, f: &mut fmt::Formatter<W>) -> fmt::Result {
         match self {
             RunError::Read => write!(f, "cannot read"),
@@ -175,13 +181,20 @@ fn request_report(alloc: Global, request: &Request) -> Result<Report, AllocError
     }
 }
 
+// Every document has the draft of the request, or 2020-12 without one.
+fn draft_of_documents(request: &Request) -> Draft
+    ensures { result ≡ report.draft_of_documents (request_view request.now) }
+{
+    request.draft.unwrap_or(Draft::Draft202012)
+}
+
 fn followed_report(alloc: Global, world: &Registry, request: &Request) -> Result<Report, AllocError>
     requires { HasNoFloat (documents_view world.now.documents.entries) }
-    ensures { IfOk result (λ r. report_view r ≡ report.followed_report
+    ensures { IfOk result (λ r. report_view r ≡ report.followed_report (report.draft_of_documents (request_view request.now))
         (followed (documents_view world.now.documents.entries) request.now.base.now (map step_view request.now.steps.items))) }
 {
     match follow(alloc, world, request.base, request.steps.as_slice()) {
-        Ok(followed) => done_report(alloc, &followed),
+        Ok(followed) => done_report(alloc, draft_of_documents(request), &followed),
         Err(Stop::Memory) => Err(AllocError),
         Err(Stop::Because(stopped)) => step_report(alloc, stopped.step, &stopped.fault),
     }

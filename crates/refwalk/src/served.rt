@@ -29,10 +29,7 @@ pub fn is_served(request: &Request) -> bool
 fn has_served_fields(request: &Request) -> bool
     ensures { result ≡ spec.has_served_fields (request_view request.now) }
 {
-    request.remote.is_none()
-        && request.meta.is_none()
-        && request.draft.is_none()
-        && request.limit.is_none()
+    request.remote.is_none() && request.meta.is_none() && request.limit.is_none()
 }
 
 fn are_served_documents(documents: &[Document]) -> bool

@@ -77,7 +77,7 @@ struct Row {
     status: Status,
 }
 
-const ROWS: [Row; 22] = [
+const ROWS: [Row; 23] = [
     // What a user asks most often, a run without steps, and a pointer that leads nowhere.
     Row {
         request: r##"{"documents":[["http://a/r",{"properties":{"n":{"type":"string"}}}]],"base":"http://a/r","steps":["#/properties/n"]}"##,
@@ -109,6 +109,12 @@ const ROWS: [Row; 22] = [
     Row {
         request: r##"{"documents":[["http://a/r",1],["http://a/s",2],["http://a/r##",3]],"base":"http://a/r","steps":["#","#"]}"##,
         report: "value 3\ndraft 2020-12\nbase http://a/r\nscope http://a/r\n",
+        status: Status::Done,
+    },
+    // The draft of the request is that of every document.
+    Row {
+        request: r##"{"documents":[["http://a/r",{"properties":{"n":{"type":"string"}}}]],"base":"http://a/r","steps":["#/properties/n"],"draft":"7"}"##,
+        report: "value {\"type\":\"string\"}\ndraft 7\nbase http://a/r\nscope http://a/r\n",
         status: Status::Done,
     },
     // Bad requests.
@@ -259,7 +265,7 @@ fn pointers_are_decoded_whole(rt: HostRuntime) -> Result<(), Fail> {
 }
 
 // Requests that are well formed and aren't answered yet.
-const NOT_YET: [&str; 14] = [
+const NOT_YET: [&str; 13] = [
     r##"{"documents":[["http://a/r",{"$ref":"#"}]],"base":"http://a/r","steps":["#"]}"##,
     r##"{"documents":[["http://a/r",[{"a":{"$id":1}}]]],"base":"http://a/r","steps":["#"]}"##,
     r##"{"documents":[["http://a/r",{"not":{"id":1}}]],"base":"http://a/r","steps":["#"]}"##,
@@ -270,7 +276,6 @@ const NOT_YET: [&str; 14] = [
     r##"{"documents":[["http://a/r",{}]],"base":"http://a/r","steps":["r"]}"##,
     r##"{"documents":[["http://a/r",{}]],"base":"http://a/r","steps":["#a"]}"##,
     r##"{"documents":[["http://a/r",{}]],"base":"http://a/r","steps":[null]}"##,
-    r##"{"documents":[["http://a/r",{}]],"base":"http://a/r","steps":["#"],"draft":"7"}"##,
     r##"{"documents":[["http://a/r",{}]],"base":"http://a/r","steps":["#"],"meta":[]}"##,
     r##"{"documents":[["http://a/r",{}]],"base":"http://a/r","steps":["#"],"remote":[]}"##,
     r##"{"documents":[["http://a/r",{}]],"base":"http://a/r","steps":["#"],"limit":0}"##,
