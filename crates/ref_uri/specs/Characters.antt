@@ -3,38 +3,7 @@ use Rattle.std.specs.Prelude.{ℕ, Bool, true, false, ◌||◌, ◌&&◌, List, 
 use Rattle.std.specs.List.{list_all}
 use Rattle.std.specs.Char.{is_ascii_alphanumeric, is_ascii_hexdigit}
 
-abbrev pub hash_sign : ℕ
-hash_sign = 35
-
-abbrev pub percent_sign : ℕ
-percent_sign = 37
-
-abbrev pub plus_sign : ℕ
-plus_sign = 43
-
-abbrev pub hyphen : ℕ
-hyphen = 45
-
-abbrev pub full_stop : ℕ
-full_stop = 46
-
-abbrev pub slash : ℕ
-slash = 47
-
-abbrev pub colon : ℕ
-colon = 58
-
-abbrev pub question_mark : ℕ
-question_mark = 63
-
-abbrev pub at_sign : ℕ
-at_sign = 64
-
-abbrev pub left_bracket : ℕ
-left_bracket = 91
-
-abbrev pub right_bracket : ℕ
-right_bracket = 93
+-- In these definitions 35 is `#`, 37 `%`, 47 `/`, 58 `:`, 63 `?`, 64 `@`, 91 `[` and 93 `]`.
 
 -- unreserved: letters, digits and `-._~` (2.3)
 abbrev pub is_unreserved : ℕ → Bool

@@ -80,7 +80,8 @@ impl<'a> fmt::Display for UriRef<'a> {
     ghost output = { λ text. Some text };
 
     fn fmt<W: fmt::Write>(&self, f: &mut fmt::Formatter<W>) -> fmt::Result {
-        fmt::Display::fmt(&self.as_str(), f)
+        let text = self.as_str();
+        fmt::Display::fmt(&text, f)
     }
 }
 
@@ -133,8 +134,8 @@ impl<'a> Hash for UriRef<'a> {
 
     ghost respects_eq = { Prim.search (hashing, rules) };
 
-    fn hash<H: Hasher>(&self, state: &mut H) {
-        self.as_str().hash(state);
+    fn hash<H: Hasher>(&self, hasher: &mut H) {
+        self.as_str().hash(hasher);
     }
 }
 
