@@ -75,3 +75,7 @@ look reference = Lookup (codes reference)
 abbrev pub paths_and_bases : List Place → List (List Part × Result (List ℕ) Refusal)
 paths_and_bases [] = []
 paths_and_bases (p ∷ ps) = (p.path, p.base) ∷ paths_and_bases ps
+
+abbrev pub value_of_answer : Answer → Option Data
+value_of_answer (answer value base scope) = value
+value_of_answer (refusal n fault) = None

@@ -4,13 +4,13 @@ ghost use Rattle.serde_json.specs.Data.{boolean};
 ghost use Rattle.ref_parts.specs.Path.{Key};
 ghost use Rattle.ref_draft.specs.declared.draft.Draft.TheVariants.{Draft7, Draft201909, Draft202012, Unknown};
 ghost use Rattle.ref_uri.specs.Targets.{unparsed};
-ghost use Rattle.referencing.specs.Fault.{fault_text, PointerToNowhere, InvalidArrayIndex, InvalidPercentEncoding, NoSuchAnchor, InvalidAnchor, not_retrieved};
+ghost use Rattle.referencing.specs.Fault.{fault_text, PointerToNowhere, InvalidArrayIndex, InvalidPercentEncoding, NoSuchAnchor, InvalidAnchor, InvalidUri, not_retrieved};
 ghost use Rattle.referencing.specs.World.{added};
 ghost use Rattle.referencing.specs.Places.{places};
 ghost use Rattle.referencing.specs.Wants.{Reference, MetaSchema, faults, open_wants};
 ghost use Rattle.referencing.specs.Follow.{Recursive, Enter};
-ghost use Rattle.referencing.specs.Vocabularies.{find_in, find_vocabularies, set_text, of_names, default_set};
-ghost use Rattle.referencing.specs.Rows.{at, world, yes, empty, text, one, two, three, pair, steps, look, answer, refusal, paths_and_bases};
+ghost use Rattle.referencing.specs.Vocabularies.{from_text, Named, Custom, find_vocabularies_at, find_in, find_vocabularies, set_text, of_names, default_set};
+ghost use Rattle.referencing.specs.Rows.{value_of_answer, at, world, yes, empty, text, one, two, three, pair, steps, look, answer, refusal, paths_and_bases};
 
 /// Fault texts.
 pub fn fault_texts()
@@ -47,6 +47,13 @@ pub fn lookups_by_pointer()
     ensures const_is_no_schema { steps (world (at Draft202012 "http://a/r" (one "const" (one "$id" (text "z"))) ∷ [])) "http://a/r" (look "#/const" ∷ []) ≡ answer (Some (one "$id" (text "z"))) (codes "http://a/r") (codes "http://a/r" ∷ []) }
     ensures const_below_items { steps (world (at Draft7 "http://a/r" (one "items" (one "const" (one "$id" (text "z")))) ∷ [])) "http://a/r" (look "#/items/const" ∷ []) ≡ answer (Some (one "$id" (text "z"))) (codes "http://a/z") (codes "http://a/r" ∷ []) }
     ensures last_wins { steps (world (at Draft202012 "http://a/r" (one "$defs" (two "a" (two "$id" (text "http://a/k") "title" (text "1")) "b" (two "$id" (text "http://a/k") "title" (text "2")))) ∷ [])) "http://a/r" (look "http://a/k" ∷ []) ≡ answer (Some (two "$id" (text "http://a/k") "title" (text "2"))) (codes "http://a/k") (codes "http://a/r" ∷ []) }
+    ensures escaped_in_fragment { steps (world (at Draft202012 "http://a/r" (one "a" (one "b" yes)) ∷ [])) "http://a/r" (look "#/a%2Fb" ∷ []) ≡ answer (Some yes) (codes "http://a/r") (codes "http://a/r" ∷ []) }
+    ensures empty_key { steps (world (at Draft202012 "http://a/r" (one "" yes) ∷ [])) "http://a/r" (look "#/" ∷ []) ≡ answer (Some yes) (codes "http://a/r") (codes "http://a/r" ∷ []) }
+    ensures tilde_and_slash { steps (world (at Draft202012 "http://a/r" (one "~/" yes) ∷ [])) "http://a/r" (look "#/~~1" ∷ []) ≡ answer (Some yes) (codes "http://a/r") (codes "http://a/r" ∷ []) }
+    ensures bad_identifier_below_items { steps (world (at Draft7 "http://a/r" (one "items" (one "const" (one "$id" (text "a b")))) ∷ [])) "http://a/r" (look "#/items/const" ∷ []) ≡ refusal 0 (InvalidUri (unparsed (codes "a b"))) }
+    ensures parts_forgotten { steps (world (at Draft7 "http://a/r" (one "items" (two "$id" (text "z") "const" (one "$id" (text "w")))) ∷ [])) "http://a/r" (look "#/items/const" ∷ []) ≡ answer (Some (one "$id" (text "w"))) (codes "http://a/z") (codes "http://a/r" ∷ []) }
+    ensures borne_by_identifier { steps (world (at Draft202012 "http://a/r" (one "$id" (text "#x")) ∷ [])) "http://a/r#x" (look "#" ∷ []) ≡ answer (Some (one "$id" (text "#x"))) (codes "http://a/r#x") (codes "http://a/r#x" ∷ []) }
+    ensures second_step_faults { steps (world (at Draft202012 "http://a/r" empty ∷ [])) "http://a/r" (look "" ∷ look "#/q" ∷ []) ≡ refusal 1 (PointerToNowhere (codes "/q")) }
 {}
 
 /// Lookups by anchor, dynamic anchors and recursive references.
@@ -58,6 +65,10 @@ pub fn lookups_by_anchor()
     ensures dynamic { steps (world (at Draft202012 "https://example.com/root.json" (two "$defs" (one "node" (one "$dynamicAnchor" (text "node"))) "$id" (text "https://example.com/root.json")) ∷ at Draft202012 "https://example.com/tree.json" (two "$dynamicAnchor" (text "node") "$id" (text "https://example.com/tree.json")) ∷ [])) "https://example.com/root.json" (look "tree.json" ∷ look "#node" ∷ []) ≡ answer (Some (one "$dynamicAnchor" (text "node"))) (codes "https://example.com/root.json") (codes "https://example.com/root.json" ∷ []) }
     ensures dynamic_invalid { steps (world (at Draft202012 "http://a/t" (one "$dynamicAnchor" (text "n/m")) ∷ at Draft202012 "http://a/r" yes ∷ [])) "http://a/r" (look "t#n/m" ∷ []) ≡ refusal 0 (InvalidAnchor (codes "n/m")) }
     ensures recursive { steps (world (at Draft201909 "http://a/x" (two "$recursiveAnchor" yes "title" (text "x")) ∷ at Draft201909 "http://a/y" (one "title" (text "y")) ∷ at Draft201909 "http://a/z" (two "$recursiveAnchor" yes "title" (text "z")) ∷ [])) "http://a/x" (look "" ∷ look "y" ∷ look "z" ∷ Recursive ∷ []) ≡ answer (Some (two "$recursiveAnchor" yes "title" (text "z"))) (codes "http://a/z") (codes "http://a/y" ∷ codes "http://a/x" ∷ codes "http://a/x" ∷ []) }
+    ensures dynamic_nested { steps (world (at Draft202012 "http://example.com" (three "$defs" (one "foo" (three "$defs" (two "bar" yes "baz" (one "$dynamicAnchor" (text "fooAnchor"))) "$dynamicAnchor" (text "fooAnchor") "$id" (text "foo"))) "$dynamicAnchor" (text "fooAnchor") "$id" (text "http://example.com")) ∷ at Draft202012 "http://example.com/foo/" yes ∷ at Draft202012 "http://example.com/foo/bar" (three "$defs" (one "foo" (three "$defs" (two "bar" yes "baz" (one "$dynamicAnchor" (text "fooAnchor"))) "$dynamicAnchor" (text "fooAnchor") "$id" (text "foo"))) "$dynamicAnchor" (text "fooAnchor") "$id" (text "http://example.com")) ∷ [])) "http://example.com" (look "" ∷ look "foo/" ∷ look "bar" ∷ look "#fooAnchor" ∷ []) ≡ answer (Some (three "$defs" (one "foo" (three "$defs" (two "bar" yes "baz" (one "$dynamicAnchor" (text "fooAnchor"))) "$dynamicAnchor" (text "fooAnchor") "$id" (text "foo"))) "$dynamicAnchor" (text "fooAnchor") "$id" (text "http://example.com"))) (codes "http://example.com") (codes "http://example.com/foo/" ∷ codes "http://example.com" ∷ codes "http://example.com" ∷ []) }
+    ensures dynamic_alone { steps (world (at Draft202012 "http://example.com" (one "$dynamicAnchor" (text "foo")) ∷ [])) "http://example.com" (look "#foo" ∷ []) ≡ answer (Some (one "$dynamicAnchor" (text "foo"))) (codes "http://example.com") (codes "http://example.com" ∷ []) }
+    ensures recursive_nested { value_of_answer (steps (world (at Draft201909 "http://example.com" (one "$recursiveAnchor" (boolean false)) ∷ at Draft201909 "http://example.com/foo/" (three "$defs" (one "foo" (three "$defs" (two "bar" yes "baz" (two "$anchor" (text "fooAnchor") "$recursiveAnchor" yes)) "$id" (text "foo") "$recursiveAnchor" yes)) "$id" (text "http://example.com") "$recursiveAnchor" yes) ∷ at Draft201909 "http://example.com/foo/bar" (one "$recursiveAnchor" yes) ∷ [])) "http://example.com" (look "" ∷ look "foo/" ∷ look "bar" ∷ Recursive ∷ [])) ≡ Some (three "$defs" (one "foo" (three "$defs" (two "bar" yes "baz" (two "$anchor" (text "fooAnchor") "$recursiveAnchor" yes)) "$id" (text "foo") "$recursiveAnchor" yes)) "$id" (text "http://example.com") "$recursiveAnchor" yes) }
+    ensures recursive_alone { steps (world (at Draft201909 "http://example.com" yes ∷ [])) "http://example.com" (Recursive ∷ []) ≡ answer (Some yes) (codes "http://example.com") (codes "http://example.com" ∷ []) }
 {}
 
 /// A child's documents stand before its parent's.
@@ -76,4 +87,8 @@ pub fn vocabularies()
     ensures custom { set_text (find_vocabularies (world (at Draft202012 "http://a/dialect" (one "$vocabulary" (three "https://example.com/v" yes "https://example.com/w" (boolean false) "https://json-schema.org/draft/2020-12/vocab/core" yes)) ∷ [])) Draft7 (one "$schema" (text "http://a/dialect"))) ≡ codes "[\"core\", \"https://example.com/v\"]" }
     ensures own_draft { set_text (find_vocabularies [] Draft7 (one "$schema" (text "https://json-schema.org/draft/2020-12/schema"))) ≡ codes "[]" }
     ensures no_document { find_vocabularies [] Draft202012 (one "$schema" (text "http://b/none")) ≡ default_set Unknown }
+    ensures format_of_2019 { from_text (codes "https://json-schema.org/draft/2019-09/vocab/format") ≡ Ok (Named (codes "format")) }
+    ensures format_of_2020 { from_text (codes "https://json-schema.org/draft/2020-12/vocab/format") ≡ Ok (Named (codes "format")) }
+    ensures unevaluated_of_2020_alone { from_text (codes "https://json-schema.org/draft/2019-09/vocab/unevaluated") ≡ Ok (Custom (codes "https://json-schema.org/draft/2019-09/vocab/unevaluated")) }
+    ensures of_the_base { set_text (find_vocabularies_at (world (at Draft202012 "http://a/r" (one "$schema" (text "http://a/dialect")) ∷ at Draft202012 "http://a/dialect" (one "$vocabulary" (one "https://example.com/v" yes)) ∷ [])) (codes "http://a/r") Draft7 yes) ≡ codes "[\"https://example.com/v\"]" }
 {}

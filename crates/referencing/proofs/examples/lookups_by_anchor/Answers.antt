@@ -4,4 +4,4 @@ use Rattle.referencing.proofs.examples.lookups_by_anchor.Goals as goal
 
 pub returns : goal.returns
 unfolding referencing_on_literals
-returns c = record { unknown = refl; invalid = refl; fallback = refl; fallback_of_relative = refl; dynamic = refl; dynamic_invalid = refl; recursive = refl }
+returns c = record { dynamic_nested = refl; dynamic_alone = refl; recursive_nested = refl; recursive_alone = refl; unknown = refl; invalid = refl; fallback = refl; fallback_of_relative = refl; dynamic = refl; dynamic_invalid = refl; recursive = refl }
