@@ -1,11 +1,12 @@
 //! Rows of documents and references, computed from the definitions.
-ghost use Rattle.std.specs.Prelude.{◌≡◌, false, [], ◌∷◌, codes, Some, None, Ok, Err};
+ghost use Rattle.std.specs.Prelude.{◌≡◌, length, false, [], ◌∷◌, codes, Some, None, Ok, Err};
 ghost use Rattle.serde_json.specs.Data.{boolean};
 ghost use Rattle.ref_parts.specs.Path.{Key};
 ghost use Rattle.ref_draft.specs.declared.draft.Draft.TheVariants.{Draft7, Draft201909, Draft202012, Unknown};
 ghost use Rattle.ref_uri.specs.Targets.{unparsed};
-ghost use Rattle.referencing.specs.Fault.{fault_text, PointerToNowhere, InvalidArrayIndex, InvalidPercentEncoding, NoSuchAnchor, InvalidAnchor, InvalidUri, not_retrieved};
+ghost use Rattle.referencing.specs.Fault.{fault_text, PointerToNowhere, InvalidArrayIndex, InvalidPercentEncoding, NoSuchAnchor, InvalidAnchor, InvalidUri, UnknownSpecification, CircularMetaschema, RetrievalLimit, not_retrieved};
 ghost use Rattle.referencing.specs.World.{added};
+ghost use Rattle.referencing.specs.MetaSchemas.{uris, uris_for_draft};
 ghost use Rattle.referencing.specs.Places.{places};
 ghost use Rattle.referencing.specs.Wants.{Reference, MetaSchema, faults, open_wants};
 ghost use Rattle.referencing.specs.Follow.{Recursive, Enter};
@@ -14,7 +15,16 @@ ghost use Rattle.referencing.specs.Rows.{value_of_answer, at, world, yes, empty,
 
 /// Fault texts.
 pub fn fault_texts()
-    ensures { fault_text (PointerToNowhere (codes "/nope")) ≡ codes "Pointer '/nope' does not exist" }
+    ensures pointer { fault_text (PointerToNowhere (codes "/nope")) ≡ codes "Pointer '/nope' does not exist" }
+    ensures unretrievable { fault_text (not_retrieved (codes "http://a/z")) ≡ codes "Resource 'http://a/z' is not present in a registry and retrieving it failed: Retrieving external resources is not supported once the registry is populated" }
+    ensures percent { fault_text (InvalidPercentEncoding (codes "/%FF")) ≡ codes "Invalid percent encoding in pointer '/%FF': the decoded bytes do not represent valid UTF-8" }
+    ensures index { fault_text (InvalidArrayIndex (codes "/properties/bar/items/one") (codes "one")) ≡ codes "Failed to parse array index 'one' in pointer '/properties/bar/items/one'" }
+    ensures no_anchor { fault_text (NoSuchAnchor (codes "unknownAnchor")) ≡ codes "Anchor 'unknownAnchor' does not exist" }
+    ensures bad_anchor { fault_text (InvalidAnchor (codes "invalid/anchor")) ≡ codes "Anchor 'invalid/anchor' is invalid" }
+    ensures bad_uri { fault_text (InvalidUri (unparsed (codes "a b"))) ≡ codes "Invalid URI reference 'a b': not a URI reference of RFC 3986" }
+    ensures meta_schema { fault_text (UnknownSpecification (codes "json-schema:///invalid")) ≡ codes "Unknown meta-schema: 'json-schema:///invalid'. Custom meta-schemas must be registered in the registry before use" }
+    ensures limit { fault_text (RetrievalLimit (codes "http://a/c") 1) ≡ codes "Retrieval limit of 1 documents reached before 'http://a/c'" }
+    ensures circular { fault_text (CircularMetaschema (codes "a:b")) ≡ codes "Circular meta-schema reference detected at 'a:b'" }
 {}
 
 /// The places of a document, by levels, with their bases.
@@ -91,4 +101,12 @@ pub fn vocabularies()
     ensures format_of_2020 { from_text (codes "https://json-schema.org/draft/2020-12/vocab/format") ≡ Ok (Named (codes "format")) }
     ensures unevaluated_of_2020_alone { from_text (codes "https://json-schema.org/draft/2019-09/vocab/unevaluated") ≡ Ok (Custom (codes "https://json-schema.org/draft/2019-09/vocab/unevaluated")) }
     ensures of_the_base { set_text (find_vocabularies_at (world (at Draft202012 "http://a/r" (one "$schema" (text "http://a/dialect")) ∷ at Draft202012 "http://a/dialect" (one "$vocabulary" (one "https://example.com/v" yes)) ∷ [])) (codes "http://a/r") Draft7 yes) ≡ codes "[\"https://example.com/v\"]" }
+{}
+
+/// The URIs of meta-schemas.
+pub fn meta_schemas()
+    ensures of_draft_7 { uris_for_draft Draft7 ≡ codes "http://json-schema.org/draft-07/schema#" ∷ [] }
+    ensures of_2019 { length (uris_for_draft Draft201909) ≡ 7 }
+    ensures of_2020 { length (uris_for_draft Unknown) ≡ 9 }
+    ensures all { length uris ≡ 19 }
 {}
