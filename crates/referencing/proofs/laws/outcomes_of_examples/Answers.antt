@@ -30,4 +30,5 @@ returns c = record {
   limit_of_none = limited first want_of_b [] begun refl refl;
   limit_of_one = limited second want_of_c [] (after_one 1) refl refl;
   refused = refused 1 second want_of_c [] (codes "no document under this URI") (after_one 2) (omega arith) refl refl (refl, refl);
+  refused_meta_schema = refl;
 }
