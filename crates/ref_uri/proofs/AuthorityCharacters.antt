@@ -31,14 +31,15 @@ pub all_authority-append : (a b : List ℕ) → all_authority a ≡ true → all
 all_authority-append a b h k = list_all-append is_authority_character a b ∙ and_from (all_authority a) (all_authority b) h k
 
 -- a text of two parts
-from_parts : (n : ℕ) (text : List ℕ) → all_authority (take n text) ≡ true → all_authority (drop n text) ≡ true → all_authority text ≡ true
-from_parts n text h k = subst (λ (t : List ℕ). all_authority t ≡ true) (take-append-drop n text) (all_authority-append (take n text) (drop n text) h k)
+pub all_from_parts : (p : ℕ → Bool) (n : ℕ) (text : List ℕ) → list_all p (take n text) ≡ true → list_all p (drop n text) ≡ true → list_all p text ≡ true
+all_from_parts p n text h k =
+    subst (λ (t : List ℕ). list_all p t ≡ true) (take-append-drop n text) (list_all-append p (take n text) (drop n text) ∙ and_from (list_all p (take n text)) (list_all p (drop n text)) h k)
 
 -- a text of two parts with a character between
-from_around : (n : ℕ) (text : List ℕ) → n < length text → all_authority (take n text) ≡ true → is_authority_character (get_or text n 0) ≡ true → all_authority (drop (n + 1) text) ≡ true → all_authority text ≡ true
-from_around n text lt h c k =
+all_from_around : (p : ℕ → Bool) (n : ℕ) (text : List ℕ) → n < length text → list_all p (take n text) ≡ true → p (get_or text n 0) ≡ true → list_all p (drop (n + 1) text) ≡ true → list_all p text ≡ true
+all_from_around p n text lt h c k =
     let e : n + 1 ≡ suc n = omega arith in
-    from_parts n text h (rw (drop-cons text n 0 lt) (and_from (is_authority_character (get_or text n 0)) (all_authority (drop (suc n) text)) c (subst (λ (m : ℕ). all_authority (drop m text) ≡ true) e k)))
+    all_from_parts p n text h (rw (drop-cons text n 0 lt) (and_from (p (get_or text n 0)) (list_all p (drop (suc n) text)) c (subst (λ (m : ℕ). list_all p (drop m text) ≡ true) e k)))
 
 encoded_characters : (allowed : ℕ → Bool) → ((c : ℕ) → allowed c ≡ true → is_authority_character c ≡ true) → (text : List ℕ) → is_encoded allowed text ≡ true → all_authority text ≡ true
 encoded_characters allowed inside text h =
@@ -47,10 +48,17 @@ encoded_characters allowed inside text h =
     of_same : (c d : ℕ) → c ≡ d → is_authority_character d ≡ true → is_authority_character c ≡ true
     of_same c d e k = ap is_authority_character e ∙ k
 
-address_characters : (text : List ℕ) → is_address text ≡ true → all_authority text ≡ true
-address_characters text h = list_all-wider is_address_character is_authority_character (λ c k. grind (arith, nat_tests)) text (and_parts (ltb 0 (length text)) (list_all is_address_character text) h).1
+-- what stands in brackets, and the brackets
+abbrev pub is_literal_character : ℕ → Bool
+is_literal_character c = is_userinfo_character c || (eqb c 91 || eqb c 93)
 
-version_characters : (text : List ℕ) → is_version_and_address text ≡ true → all_authority text ≡ true
+abbrev all_literal : List ℕ → Bool
+all_literal text = list_all is_literal_character text
+
+address_characters : (text : List ℕ) → is_address text ≡ true → all_literal text ≡ true
+address_characters text h = list_all-wider is_address_character is_literal_character (λ c k. grind (arith, nat_tests)) text (and_parts (ltb 0 (length text)) (list_all is_address_character text) h).1
+
+version_characters : (text : List ℕ) → is_version_and_address text ≡ true → all_literal text ≡ true
 version_characters text h =
     let dot = position_or_len (λ c. eqb c 46) text in
     let last = and_parts (ltb 0 (length (take dot text)) && ltb 0 (length (drop (dot + 1) text)) && list_all is_ascii_hexdigit (take dot text)) (list_all is_userinfo_character (drop (dot + 1) text)) h in
@@ -58,45 +66,45 @@ version_characters text h =
     let second = and_parts (ltb 0 (length (take dot text))) (ltb 0 (length (drop (dot + 1) text))) third.0 in
     let more : 0 < length (drop (dot + 1) text) = ltb-true 0 (length (drop (dot + 1) text)) second.1 in
     let within : dot < length text = omega (arith, more, length-drop (dot + 1) text) in
-    from_around dot text within
-    (list_all-wider is_ascii_hexdigit is_authority_character (λ c k. grind (arith, nat_tests)) (take dot text) third.1)
-    (ap is_authority_character (eqb-true (get_or text dot 0) 46 (passes_at_first (λ c. eqb c 46) text within)))
-    (list_all-wider is_userinfo_character is_authority_character (λ c k. grind (arith, nat_tests)) (drop (dot + 1) text) last.1)
+    all_from_around is_literal_character dot text within
+    (list_all-wider is_ascii_hexdigit is_literal_character (λ c k. grind (arith, nat_tests)) (take dot text) third.1)
+    (ap is_literal_character (eqb-true (get_or text dot 0) 46 (passes_at_first (λ c. eqb c 46) text within)))
+    (list_all-wider is_userinfo_character is_literal_character (λ c k. grind (arith, nat_tests)) (drop (dot + 1) text) last.1)
 
-future_characters : (text : List ℕ) → is_future_address text ≡ true → all_authority text ≡ true
+future_characters : (text : List ℕ) → is_future_address text ≡ true → all_literal text ≡ true
 future_characters [] h = refl
 future_characters (v ∷ rest) h =
     let both = and_parts (eqb v 118 || eqb v 86) (is_version_and_address rest) h in
     let letter : (eqb v 118 || eqb v 86) ≡ true = both.0 in
-    let first : is_authority_character v ≡ true = grind (arith, nat_tests) in
-    and_from (is_authority_character v) (all_authority rest) first (version_characters rest both.1)
+    let first : is_literal_character v ≡ true = grind (arith, nat_tests) in
+    and_from (is_literal_character v) (all_literal rest) first (version_characters rest both.1)
 
-bracket_characters : (text : List ℕ) → is_address_and_bracket text ≡ true → all_authority text ≡ true
+bracket_characters : (text : List ℕ) → is_address_and_bracket text ≡ true → all_literal text ≡ true
 bracket_characters text h =
     let end = position_or_len (λ c. eqb c 93) text in
     let both = and_parts (eqb (end + 1) (length text)) (is_address (take end text) || is_future_address (take end text)) h in
     let length_is : end + 1 ≡ length text = eqb-true (end + 1) (length text) both.0 in
     let within : end < length text = omega arith in
-    from_around end text within
+    all_from_around is_literal_character end text within
     (elim (or_cases (is_address (take end text)) (is_future_address (take end text)) both.1) [ inl a ↦ address_characters (take end text) a | inr f ↦ future_characters (take end text) f ])
-    (ap is_authority_character (eqb-true (get_or text end 0) 93 (passes_at_first (λ c. eqb c 93) text within)))
+    (ap is_literal_character (eqb-true (get_or text end 0) 93 (passes_at_first (λ c. eqb c 93) text within)))
     (nothing_left (end + 1) text length_is)
   where
-    nothing_left : (n : ℕ) (text : List ℕ) → n ≡ length text → all_authority (drop n text) ≡ true
-    nothing_left n text e = ap all_authority (drop_all n text (omega arith))
+    nothing_left : (n : ℕ) (text : List ℕ) → n ≡ length text → all_literal (drop n text) ≡ true
+    nothing_left n text e = ap all_literal (drop_all n text (omega arith))
+
+pub literal_characters : (text : List ℕ) → is_bracketed text ≡ true → all_literal text ≡ true
+literal_characters [] k = refl
+literal_characters (c ∷ rest) k =
+    let both = and_parts (eqb c 91) (is_address_and_bracket rest) k in
+    and_from (is_literal_character c) (all_literal rest) (ap is_literal_character (eqb-true c 91 both.0)) (bracket_characters rest both.1)
 
 host_characters : (text : List ℕ) → is_host text ≡ true → all_authority text ≡ true
 host_characters text h =
     elim (or_cases (is_bracketed text) (is_encoded is_name_character text) h) [
-      | inl bracketed ↦ in_brackets text bracketed
+      | inl bracketed ↦ list_all-wider is_literal_character is_authority_character (λ c k. grind (arith, nat_tests)) text (literal_characters text bracketed)
       | inr name ↦ encoded_characters is_name_character (λ c k. grind (arith, nat_tests)) text name
     ]
-  where
-    in_brackets : (text : List ℕ) → is_bracketed text ≡ true → all_authority text ≡ true
-    in_brackets [] k = refl
-    in_brackets (c ∷ rest) k =
-        let both = and_parts (eqb c 91) (is_address_and_bracket rest) k in
-        and_from (is_authority_character c) (all_authority rest) (ap is_authority_character (eqb-true c 91 both.0)) (bracket_characters rest both.1)
 
 port_characters : (text : List ℕ) → is_port_part text ≡ true → all_authority text ≡ true
 port_characters [] h = refl
@@ -107,7 +115,7 @@ port_characters (c ∷ digits) h =
 host_and_port_characters : (text : List ℕ) → (is_host (take (host_len text) text) && is_port_part (drop (host_len text) text)) ≡ true → all_authority text ≡ true
 host_and_port_characters text h =
     let both = and_parts (is_host (take (host_len text) text)) (is_port_part (drop (host_len text) text)) h in
-    from_parts (host_len text) text (host_characters (take (host_len text) text) both.0) (port_characters (drop (host_len text) text) both.1)
+    all_from_parts is_authority_character (host_len text) text (host_characters (take (host_len text) text) both.0) (port_characters (drop (host_len text) text) both.1)
 
 pub authority_characters : (text : List ℕ) → is_authority text ≡ true → all_authority text ≡ true
 authority_characters text h =
@@ -120,7 +128,7 @@ authority_characters text h =
         let all = sym (is_authority-userinfo text lt) ∙ h in
         let outer = and_parts (is_encoded is_userinfo_character (take at text) && is_host (take (host_len rest) rest)) (is_port_part (drop (host_len rest) rest)) all in
         let inner = and_parts (is_encoded is_userinfo_character (take at text)) (is_host (take (host_len rest) rest)) outer.0 in
-        from_around at text lt
+        all_from_around is_authority_character at text lt
         (encoded_characters is_userinfo_character (λ c k. grind (arith, nat_tests)) (take at text) inner.0)
         (ap is_authority_character (eqb-true (get_or text at 0) 64 (passes_at_first (λ x. eqb x 64) text lt)))
         (host_and_port_characters rest (and_from (is_host (take (host_len rest) rest)) (is_port_part (drop (host_len rest) rest)) inner.1 outer.1))

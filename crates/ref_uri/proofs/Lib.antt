@@ -10,3 +10,5 @@ pub mod FragmentLemmas
 pub mod LawLemmas
 pub mod RestLemmas
 pub mod LengthsLemmas
+pub mod NormalLemmas
+pub mod AuthorityParts

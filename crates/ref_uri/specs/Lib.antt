@@ -9,3 +9,4 @@ pub mod DotSegments
 pub mod Normal
 pub mod Resolution
 pub mod Targets
+pub mod Written

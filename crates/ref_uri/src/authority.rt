@@ -111,7 +111,7 @@ fn is_host_and_port(text: &[u8]) -> bool
 }
 
 /// How long the host is: through `]` where it begins with `[`, else up to `:`.
-fn host_len(text: &[u8]) -> usize
+pub fn host_len(text: &[u8]) -> usize
     ensures value { result ≡ host_len text.now }
     ensures within { result ≤ length text.now }
 {

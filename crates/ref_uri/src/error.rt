@@ -70,3 +70,34 @@ impl From<AllocError> for UriParseFault {
         UriParseFault::Memory(error)
     }
 }
+
+/// Why a reference has no target.
+#[derive(Clone, Copy, Debug, PartialEq, Eq, Hash)]
+pub enum ResolveError {
+    /// The base has no scheme (RFC 3986, 5.1).
+    BaseWithoutScheme,
+}
+
+impl fmt::Display for ResolveError {
+    fn fmt<W: fmt::Write>(&self, f: &mut fmt::Formatter<W>) -> fmt::Result {
+        write!(f, "the base has no scheme")
+    }
+}
+
+/// Why no [`Uri`](crate::Uri) came of a reference and a base.
+#[derive(Clone, Copy, Debug, PartialEq, Eq)]
+pub enum ResolveFault {
+    /// The reference has no target.
+    Invalid(ResolveError),
+    /// Memory ran out.
+    Memory(AllocError),
+}
+
+impl fmt::Display for ResolveFault {
+    fn fmt<W: fmt::Write>(&self, f: &mut fmt::Formatter<W>) -> fmt::Result {
+        match self {
+            ResolveFault::Invalid(error) => write!(f, "{error}"),
+            ResolveFault::Memory(_) => write!(f, "Out of memory"),
+        }
+    }
+}

@@ -22,7 +22,7 @@ pub fn head(text: &str, len: usize) -> &str
 }
 
 /// What follows the front of an ASCII text.
-fn tail(text: &str, len: usize) -> &str
+pub fn tail(text: &str, len: usize) -> &str
     requires ascii { IsAscii text.now }
     requires within { len ≤ length text.now }
     ensures value { result.now ≡ drop len text.now }

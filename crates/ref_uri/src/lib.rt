@@ -6,14 +6,17 @@
 
 mod authority;
 mod characters;
+mod dots;
 mod error;
 pub mod examples;
 pub mod laws;
 mod lengths;
 mod parser;
 mod reference;
+mod target;
 mod traits;
 mod uri;
+mod written;
 
 pub use error::{ParseError, UriParseFault};
 pub use reference::UriRef;

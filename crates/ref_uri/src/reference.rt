@@ -5,7 +5,9 @@ ghost use Rattle.ref_uri.specs.Reference.{is_uri_reference, with_fragment};
 
 use crate::error::ParseError;
 use crate::lengths::{self, Lengths, Parts};
-use crate::parser;
+use crate::written::Form;
+use crate::{parser, target};
+use std::alloc::{AllocError, Global};
 use std::marker::Model;
 
 /// A URI reference, with or without a scheme (RFC 3986, 4.1), that borrows its text.
@@ -46,6 +48,18 @@ impl<'a> UriRef<'a> {
         ensures { result ≡ text.now }
     {
         UriRef { text, lengths }
+    }
+
+    /// The text in normal form.
+    pub fn normalize(&self, alloc: Global) -> Result<String, AllocError> {
+        let (text, _) = target::itself(self.parts()).write(alloc, Form::Normal)?;
+        Ok(text)
+    }
+
+    /// The target of the reference.
+    pub fn resolved_text(&self, alloc: Global, base: &UriRef<'_>) -> Result<String, AllocError> {
+        let (text, _) = target::resolved(base.parts(), self.parts()).write(alloc, Form::Given)?;
+        Ok(text)
     }
 
     fn parts(&self) -> Parts<'a>

@@ -92,3 +92,69 @@ fn prints_as_text(rt: HostRuntime) -> Result<(), Fail> {
     assert_eq!(rt; text.as_str(), "not a URI reference of RFC 3986, no scheme");
     Ok(())
 }
+
+#[test]
+fn resolves_as_the_standard(rt: HostRuntime) -> Result<(), Fail> {
+    for (reference, target) in [
+        ("g:h", "g:h"),
+        ("g", "http://a/b/c/g"),
+        ("./g", "http://a/b/c/g"),
+        ("g/", "http://a/b/c/g/"),
+        ("/g", "http://a/g"),
+        ("//g", "http://g"),
+        ("?y", "http://a/b/c/d;p?y"),
+        ("g?y", "http://a/b/c/g?y"),
+        ("#s", "http://a/b/c/d;p?q#s"),
+        ("g#s", "http://a/b/c/g#s"),
+        ("g?y#s", "http://a/b/c/g?y#s"),
+        (";x", "http://a/b/c/;x"),
+        ("g;x", "http://a/b/c/g;x"),
+        ("g;x?y#s", "http://a/b/c/g;x?y#s"),
+        ("", "http://a/b/c/d;p?q"),
+        (".", "http://a/b/c/"),
+        ("./", "http://a/b/c/"),
+        ("..", "http://a/b/"),
+        ("../", "http://a/b/"),
+        ("../g", "http://a/b/g"),
+        ("../..", "http://a/"),
+        ("../../", "http://a/"),
+        ("../../g", "http://a/g"),
+        ("../../../g", "http://a/g"),
+        ("../../../../g", "http://a/g"),
+        ("/./g", "http://a/g"),
+        ("/../g", "http://a/g"),
+        ("g.", "http://a/b/c/g."),
+        (".g", "http://a/b/c/.g"),
+        ("g..", "http://a/b/c/g.."),
+        ("..g", "http://a/b/c/..g"),
+        ("./../g", "http://a/b/g"),
+        ("./g/.", "http://a/b/c/g/"),
+        ("g/./h", "http://a/b/c/g/h"),
+        ("g/../h", "http://a/b/c/h"),
+        ("g;x=1/./y", "http://a/b/c/g;x=1/y"),
+        ("g;x=1/../y", "http://a/b/c/y"),
+        ("g?y/./x", "http://a/b/c/g?y/./x"),
+        ("g?y/../x", "http://a/b/c/g?y/../x"),
+        ("g#s/./x", "http://a/b/c/g#s/./x"),
+        ("g#s/../x", "http://a/b/c/g#s/../x"),
+        ("http:g", "http:g"),
+    ] {
+        let base = UriRef::parse("http://a/b/c/d;p?q")?;
+        let text = UriRef::parse(reference)?.resolved_text(rt.alloc(), &base)?;
+        assert_eq!(rt; text.as_str(), target, "{reference}");
+    }
+    for (text, normal) in [
+        (
+            "HTTP://Ex%41mple.com/%7efoo/./bar/../x%2f",
+            "http://example.com/~foo/x%2F",
+        ),
+        ("http://a:/", "http://a/"),
+        ("http://a:80", "http://a:80"),
+        ("a/../%7e", "a/../~"),
+        ("a:/.//c", "a:/.//c"),
+    ] {
+        let form = UriRef::parse(text)?.normalize(rt.alloc())?;
+        assert_eq!(rt; form.as_str(), normal, "{text}");
+    }
+    Ok(())
+}

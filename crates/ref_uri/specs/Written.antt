@@ -1,0 +1,26 @@
+-- The text that stands for a component: the component itself, or its normal form.
+use Rattle.std.specs.Prelude.{ℕ, List, map}
+use Rattle.std.specs.Char.{to_ascii_lowercase}
+use Rattle.ref_uri.specs.Normal.{normal_text, normal_authority}
+use Rattle.ref_uri.specs.declared.written.Case.{Case}
+use Rattle.ref_uri.specs.declared.written.Case.TheVariants.{AsItIs, Lower}
+use Rattle.ref_uri.specs.declared.written.Form.{Form}
+use Rattle.ref_uri.specs.declared.written.Form.TheVariants.{Given, Normal}
+
+-- what a character becomes
+abbrev pub in_case : Case → ℕ → ℕ
+in_case AsItIs = λ c. c
+in_case Lower = to_ascii_lowercase
+
+-- a path, a query or a fragment
+abbrev pub written : Form → List ℕ → List ℕ
+written Given = λ text. text
+written Normal = normal_text
+
+abbrev pub written_scheme : Form → List ℕ → List ℕ
+written_scheme Given = λ scheme. scheme
+written_scheme Normal = map to_ascii_lowercase
+
+abbrev pub written_authority : Form → List ℕ → List ℕ
+written_authority Given = λ authority. authority
+written_authority Normal = normal_authority

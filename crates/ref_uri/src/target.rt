@@ -1,0 +1,221 @@
+//! What a target's text is composed of (RFC 3986, 5.2.2 and 5.3).
+use crate::dots::push_without_dots;
+use crate::lengths::{Lengths, Parts};
+use crate::written::Form;
+use std::alloc::{AllocError, Global};
+
+/// Where a target's path comes from.
+#[derive(Clone, Copy)]
+pub enum PathOf<'a> {
+    /// A path that keeps its dot segments.
+    Kept(&'a str),
+    /// A path without its dot segments.
+    Removed(&'a str),
+    /// A path behind a directory and a slash, without their dot segments.
+    Merged(&'a str, &'a str),
+}
+
+/// The components of a target, which are parts of other texts.
+#[derive(Clone, Copy)]
+pub struct Target<'a> {
+    pub scheme: Option<&'a str>,
+    pub authority: Option<&'a str>,
+    pub path: PathOf<'a>,
+    pub query: Option<&'a str>,
+    pub fragment: Option<&'a str>,
+}
+
+/// What stands before the last slash of the base's path: with an authority, the root where the path is empty.
+fn directory(base: Parts<'_>) -> Option<&str> {
+    if base.authority.is_some() && base.path.is_empty() {
+        return Some("");
+    }
+    match base.path.rsplit_once('/') {
+        Some((directory, _)) => Some(directory),
+        None => None,
+    }
+}
+
+/// The path of the target of a reference that has one (RFC 3986, 5.2.2 and 5.2.3).
+fn path_behind<'a>(base: Parts<'a>, path: &'a str) -> PathOf<'a> {
+    if path.starts_with('/') {
+        return PathOf::Removed(path);
+    }
+    match directory(base) {
+        Some(directory) => PathOf::Merged(directory, path),
+        None => PathOf::Removed(path),
+    }
+}
+
+/// The target of a reference against a base, by the five cases (RFC 3986, 5.2.2).
+pub fn resolved<'a>(base: Parts<'a>, reference: Parts<'a>) -> Target<'a> {
+    let fragment = reference.fragment;
+    if reference.scheme.is_some() || reference.authority.is_some() {
+        return Target {
+            scheme: reference.scheme.or(base.scheme),
+            authority: reference.authority,
+            path: PathOf::Removed(reference.path),
+            query: reference.query,
+            fragment,
+        };
+    }
+    if reference.path.is_empty() {
+        return Target {
+            scheme: base.scheme,
+            authority: base.authority,
+            path: PathOf::Kept(base.path),
+            query: reference.query.or(base.query),
+            fragment,
+        };
+    }
+    Target {
+        scheme: base.scheme,
+        authority: base.authority,
+        path: path_behind(base, reference.path),
+        query: reference.query,
+        fragment,
+    }
+}
+
+/// The reference itself, with a scheme without dot segments.
+pub fn itself(reference: Parts<'_>) -> Target<'_> {
+    Target {
+        scheme: reference.scheme,
+        authority: reference.authority,
+        path: match reference.scheme {
+            Some(_) => PathOf::Removed(reference.path),
+            None => PathOf::Kept(reference.path),
+        },
+        query: reference.query,
+        fragment: reference.fragment,
+    }
+}
+
+/// The room that a component takes, with its marks.
+fn room(component: Option<&str>) -> usize {
+    match component {
+        Some(text) => text.len().saturating_add(2),
+        None => 0,
+    }
+}
+
+/// Appends a scheme and its `:`, and answers how long the scheme is.
+fn push_scheme(
+    buffer: &mut String,
+    scheme: Option<&str>,
+    form: Form,
+) -> Result<Option<usize>, AllocError> {
+    let Some(scheme) = scheme else {
+        return Ok(None);
+    };
+    let start = buffer.len();
+    form.push_scheme(buffer, scheme)?;
+    let len = buffer.len() - start;
+    buffer.push(':')?;
+    Ok(Some(len))
+}
+
+/// Appends an authority behind `//`, and answers how long it is.
+fn push_authority(
+    buffer: &mut String,
+    authority: Option<&str>,
+    form: Form,
+) -> Result<Option<usize>, AllocError> {
+    let Some(authority) = authority else {
+        return Ok(None);
+    };
+    buffer.push_str("//")?;
+    let start = buffer.len();
+    form.push_authority(buffer, authority)?;
+    Ok(Some(buffer.len() - start))
+}
+
+/// Appends a query or a fragment behind its mark, and answers how long it is.
+fn push_marked(
+    buffer: &mut String,
+    mark: char,
+    component: Option<&str>,
+    form: Form,
+) -> Result<Option<usize>, AllocError> {
+    let Some(component) = component else {
+        return Ok(None);
+    };
+    buffer.push(mark)?;
+    let start = buffer.len();
+    form.push(buffer, component)?;
+    Ok(Some(buffer.len() - start))
+}
+
+/// Puts `/.` before the path that begins at `start`, where it would be taken for an authority (RFC 3986, 3.3).
+fn guard(buffer: &mut String, start: usize, has_authority: bool) -> Result<(), AllocError> {
+    if !has_authority && buffer[start..].starts_with("//") {
+        buffer.insert_str(start, "/.")?;
+    }
+    Ok(())
+}
+
+impl<'a> PathOf<'a> {
+    /// The room that the path takes.
+    fn room(self) -> usize {
+        match self {
+            PathOf::Kept(path) | PathOf::Removed(path) => path.len(),
+            PathOf::Merged(directory, path) => directory
+                .len()
+                .saturating_add(path.len())
+                .saturating_add(1),
+        }
+    }
+
+    /// Appends the path.
+    fn push(self, buffer: &mut String, form: Form) -> Result<(), AllocError> {
+        match self {
+            PathOf::Kept(path) => form.push(buffer, path),
+            PathOf::Removed(path) => push_without_dots(buffer, None, path, form),
+            PathOf::Merged(directory, path) => push_without_dots(
+                buffer,
+                Some(directory),
+                path,
+                form,
+            ),
+        }
+    }
+}
+
+impl<'a> Target<'a> {
+    /// The room that the text takes at most.
+    fn room(self) -> usize {
+        room(self.scheme)
+            .saturating_add(room(self.authority))
+            .saturating_add(self.path.room())
+            .saturating_add(room(self.query))
+            .saturating_add(room(self.fragment))
+            .saturating_add(2)
+    }
+
+    /// Appends the path, guarded, and answers how long it is.
+    fn push_path(self, buffer: &mut String, form: Form) -> Result<usize, AllocError> {
+        let start = buffer.len();
+        self.path.push(buffer, form)?;
+        guard(buffer, start, self.authority.is_some())?;
+        Ok(buffer.len() - start)
+    }
+
+    /// The target's text, and how long its components are.
+    pub fn write(self, alloc: Global, form: Form) -> Result<(String, Lengths), AllocError> {
+        let mut text = String::with_capacity(alloc, self.room())?;
+        let scheme = push_scheme(&mut text, self.scheme, form)?;
+        let authority = push_authority(&mut text, self.authority, form)?;
+        let path = self.push_path(&mut text, form)?;
+        let query = push_marked(&mut text, '?', self.query, form)?;
+        push_marked(&mut text, '#', self.fragment, form)?;
+        Ok((
+            text,
+            Lengths {
+                scheme,
+                authority,
+                path,
+                query,
+            },
+        ))
+    }
+}

@@ -1,0 +1,188 @@
+//! The components of a reference, written as they are or in normal form (RFC 3986, 6.2.2 and 3.2.3).
+ghost use Rattle.std.specs.Prelude.{◌≡◌, ◌<◌, ◌∷◌, [], ◌++◌, true, map, take, drop, string_bytes, OnOk, IsAscii};
+ghost use Rattle.std.specs.Char.{is_ascii_hexdigit};
+ghost use Rattle.ref_uri.specs.Characters.{has_whole_triples};
+ghost use Rattle.ref_uri.specs.Authority.{is_authority, host_len};
+ghost use Rattle.ref_uri.specs.Normal.{hex_value, normal_triple, normal_encoded, normal_text, normal_host, normal_port_part, normal_authority};
+ghost use Rattle.ref_uri.specs.Written.{in_case, written, written_scheme, written_authority};
+
+use crate::authority::host_len;
+use crate::characters::is_unreserved;
+use crate::lengths::{head, tail};
+use std::alloc::AllocError;
+
+/// What becomes of the case of letters.
+#[derive(Clone, Copy)]
+pub enum Case {
+    AsItIs,
+    Lower,
+}
+
+/// How a component is written.
+#[derive(Clone, Copy)]
+pub enum Form {
+    /// As it was given.
+    Given,
+    /// In normal form.
+    Normal,
+}
+
+impl Case {
+    /// What the character becomes.
+    fn of(self, c: u8) -> u8
+        ensures { result ≡ in_case self c }
+    {
+        match self {
+            Case::AsItIs => c,
+            Case::Lower => c.to_ascii_lowercase(),
+        }
+    }
+
+    /// Appends characters of which none is `%`.
+    fn push_run(self, buffer: &mut String, run: &str) -> Result<(), AllocError>
+        requires { IsAscii run.now }
+        ensures { OnOk result (string_bytes buffer.new ≡ string_bytes buffer.old ++ map (in_case self) run.now) }
+    {
+        match self {
+            Case::AsItIs => buffer.push_str(run),
+            Case::Lower => push_lower(buffer, run),
+        }
+    }
+}
+
+/// Appends an ASCII character.
+fn push_ascii(buffer: &mut String, c: u8) -> Result<(), AllocError>
+    requires { c < 128 }
+    ensures { OnOk result (string_bytes buffer.new ≡ string_bytes buffer.old ++ c ∷ []) }
+{
+    buffer.push(char::from(c))
+}
+
+/// Appends a text in lower case.
+fn push_lower(buffer: &mut String, run: &str) -> Result<(), AllocError>
+    requires { IsAscii run.now }
+    ensures { OnOk result (string_bytes buffer.new ≡ string_bytes buffer.old ++ map (in_case Case.Lower) run.now) }
+{
+    for c in run.as_bytes() {
+        push_ascii(buffer, c.to_ascii_lowercase())?;
+    }
+    Ok(())
+}
+
+/// The value of a hex digit.
+fn hex_value(c: u8) -> u8
+    requires { is_ascii_hexdigit c ≡ true }
+    ensures value { result ≡ hex_value c }
+    ensures small { result < 16 }
+{
+    if c < b':' {
+        c - b'0'
+    } else {
+        c.to_ascii_lowercase() - 87
+    }
+}
+
+/// Appends a triple of these digits: as the character that it stands for, where that is unreserved, or else in upper case.
+fn push_triple(buffer: &mut String, high: u8, low: u8, case: Case) -> Result<(), AllocError>
+    requires high { is_ascii_hexdigit high ≡ true }
+    requires low { is_ascii_hexdigit low ≡ true }
+    ensures { OnOk result (string_bytes buffer.new ≡ string_bytes buffer.old ++ normal_triple (in_case case) high low) }
+{
+    let value = 16 * hex_value(high) + hex_value(low);
+    if is_unreserved(value) {
+        return push_ascii(buffer, case.of(value));
+    }
+    push_ascii(buffer, b'%')?;
+    push_ascii(buffer, high.to_ascii_uppercase())?;
+    push_ascii(buffer, low.to_ascii_uppercase())
+}
+
+/// Appends an encoded text in normal form: runs as they are but for their case, and between them triples.
+fn push_encoded(buffer: &mut String, text: &str, case: Case) -> Result<(), AllocError>
+    requires ascii { IsAscii text.now }
+    requires triples { has_whole_triples text.now ≡ true }
+    ensures { OnOk result (string_bytes buffer.new ≡ string_bytes buffer.old ++ normal_encoded (in_case case) text.now) }
+{
+    let mut rest = text;
+    'runs: while let Some((run, triple)) = rest.split_once('%') {
+        case.push_run(buffer, run)?;
+        let digits = triple.as_bytes();
+        push_triple(buffer, digits[0], digits[1], case)?;
+        rest = tail(triple, 2);
+    }
+    case.push_run(buffer, rest)
+}
+
+/// Appends what follows a host, unless it is the `:` of an empty port.
+fn push_port(buffer: &mut String, port: &str) -> Result<(), AllocError>
+    ensures { OnOk result (string_bytes buffer.new ≡ string_bytes buffer.old ++ normal_port_part port.now) }
+{
+    if port.len() == 1 {
+        return Ok(());
+    }
+    buffer.push_str(port)
+}
+
+/// Appends `host [":" port]` in normal form: the host in lower case, and no `:` before an empty port.
+fn push_host_and_port(buffer: &mut String, text: &str) -> Result<(), AllocError>
+    requires ascii { IsAscii text.now }
+    requires host { has_whole_triples (take (host_len text.now) text.now) ≡ true }
+    ensures { OnOk result (string_bytes buffer.new ≡ string_bytes buffer.old ++ (normal_host (take (host_len text.now) text.now) ++ normal_port_part (drop (host_len text.now) text.now))) }
+{
+    let len = host_len(text.as_bytes());
+    push_encoded(buffer, head(text, len), Case::Lower)?;
+    push_port(buffer, tail(text, len))
+}
+
+/// Appends an authority in normal form.
+fn push_normal_authority(buffer: &mut String, authority: &str) -> Result<(), AllocError>
+    requires ascii { IsAscii authority.now }
+    requires authority { is_authority authority.now ≡ true }
+    ensures { OnOk result (string_bytes buffer.new ≡ string_bytes buffer.old ++ normal_authority authority.now) }
+{
+    match authority.split_once('@') {
+        Some((userinfo, rest)) => {
+            push_encoded(buffer, userinfo, Case::AsItIs)?;
+            push_ascii(buffer, b'@')?;
+            push_host_and_port(buffer, rest)
+        }
+        None => push_host_and_port(buffer, authority),
+    }
+}
+
+impl Form {
+    /// Appends a path, a query or a fragment.
+    pub fn push(self, buffer: &mut String, text: &str) -> Result<(), AllocError>
+        requires ascii { IsAscii text.now }
+        requires triples { has_whole_triples text.now ≡ true }
+        ensures { OnOk result (string_bytes buffer.new ≡ string_bytes buffer.old ++ written self text.now) }
+    {
+        match self {
+            Form::Given => buffer.push_str(text),
+            Form::Normal => push_encoded(buffer, text, Case::AsItIs),
+        }
+    }
+
+    /// Appends a scheme.
+    pub fn push_scheme(self, buffer: &mut String, scheme: &str) -> Result<(), AllocError>
+        requires { IsAscii scheme.now }
+        ensures { OnOk result (string_bytes buffer.new ≡ string_bytes buffer.old ++ written_scheme self scheme.now) }
+    {
+        match self {
+            Form::Given => buffer.push_str(scheme),
+            Form::Normal => push_lower(buffer, scheme),
+        }
+    }
+
+    /// Appends an authority.
+    pub fn push_authority(self, buffer: &mut String, authority: &str) -> Result<(), AllocError>
+        requires ascii { IsAscii authority.now }
+        requires authority { is_authority authority.now ≡ true }
+        ensures { OnOk result (string_bytes buffer.new ≡ string_bytes buffer.old ++ written_authority self authority.now) }
+    {
+        match self {
+            Form::Given => buffer.push_str(authority),
+            Form::Normal => push_normal_authority(buffer, authority),
+        }
+    }
+}
