@@ -11,4 +11,10 @@ pub mod LawLemmas
 pub mod RestLemmas
 pub mod LengthsLemmas
 pub mod NormalLemmas
+pub mod Induction
 pub mod AuthorityParts
+pub mod RemovalLaws
+pub mod RemovalLemmas
+pub mod SegmentLemmas
+pub mod LastSlash
+pub mod WrittenLemmas

@@ -1,5 +1,5 @@
 -- The normal form of an encoded text, by its runs and triples.
-use Rattle.std.proofs.Common.{◌≡◌, ◌≢◌, ℕ, suc, ◌+◌, add-one, append_assoc, subst, ◌<◌, Bool, true, false, cond, ◌&&◌, List, [], ◌∷◌, ◌++◌, length, get_or, drop, map, ◌≤◌, eqb, refl, sym, ap, ◌∙◌, arith}
+use Rattle.std.proofs.Common.{◌≡◌, ◌≢◌, ℕ, suc, ◌+◌, add-one, append_assoc, append-nil, subst, ◌<◌, Bool, true, false, cond, ◌&&◌, List, [], ◌∷◌, ◌++◌, length, get_or, drop, map, ◌≤◌, eqb, refl, sym, ap, ◌∙◌, arith}
 use Rattle.std.specs.List.{flat_map}
 use Rattle.std.specs.Char.{is_ascii_hexdigit}
 use Rattle.std.proofs.lemmas.Bool.{and_parts, ne_eqb, false≢true, eqb-false}
@@ -19,21 +19,25 @@ before_units-plain c (u ∷ v ∷ us) ne = rw (ne_eqb c 37 ne) refl
 hex_is_no_percent : (c : ℕ) → is_ascii_hexdigit c ≡ true → c ≢ 37
 hex_is_no_percent c h = λ e. grind (arith, nat_tests)
 
+pub normal_none : (fold : ℕ → ℕ) → normal_encoded fold [] ≡ []
+unfolding normal_encoded
+normal_none fold = refl
+
+-- a character that is no `%` in front
+pub normal_character : (fold : ℕ → ℕ) (c : ℕ) (rest : List ℕ) → c ≢ 37 → normal_encoded fold (c ∷ rest) ≡ fold c ∷ normal_encoded fold rest
+unfolding normal_encoded
+normal_character fold c rest ne = ap (flat_map (normal_unit fold)) (before_units-plain c (units rest) ne)
+
 -- a run without `%` in front
 pub normal_run : (fold : ℕ → ℕ) (run rest : List ℕ) → ((i : ℕ) → i < length run → get_or run i 0 ≢ 37) → normal_encoded fold (run ++ rest) ≡ map fold run ++ normal_encoded fold rest
-unfolding normal_encoded
 normal_run fold [] rest none = refl
 normal_run fold (c ∷ run) rest none =
-    ap (flat_map (normal_unit fold)) (before_units-plain c (units (run ++ rest)) (none 0 (omega arith)))
+    normal_character fold c (run ++ rest) (none 0 (omega arith))
     ∙ ap (λ t. fold c ∷ t) (normal_run fold run rest (λ i lt. none (suc i) (omega arith)))
 
 -- a text without `%`
 pub normal_plain : (fold : ℕ → ℕ) (run : List ℕ) → ((i : ℕ) → i < length run → get_or run i 0 ≢ 37) → normal_encoded fold run ≡ map fold run
-unfolding normal_encoded
-normal_plain fold [] none = refl
-normal_plain fold (c ∷ run) none =
-    ap (flat_map (normal_unit fold)) (before_units-plain c (units run) (none 0 (omega arith)))
-    ∙ ap (λ t. fold c ∷ t) (normal_plain fold run (λ i lt. none (suc i) (omega arith)))
+normal_plain fold run none = ap (normal_encoded fold) (sym (append-nil run)) ∙ normal_run fold run [] none ∙ ap (λ t. map fold run ++ t) (normal_none fold) ∙ append-nil (map fold run)
 
 -- a triple in front
 pub normal_triple_front : (fold : ℕ → ℕ) (high low : ℕ) (rest : List ℕ) → is_ascii_hexdigit high ≡ true → is_ascii_hexdigit low ≡ true → normal_encoded fold (37 ∷ high ∷ low ∷ rest) ≡ normal_triple fold high low ++ normal_encoded fold rest

@@ -10,3 +10,4 @@ pub mod Normal
 pub mod Resolution
 pub mod Targets
 pub mod Written
+pub mod Removal

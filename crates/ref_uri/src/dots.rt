@@ -1,21 +1,28 @@
 //! The removal of dot segments while a path is written (RFC 3986, 5.2.4).
+ghost use Rattle.std.specs.Prelude.{◌≡◌, ◌≤◌, ◌++◌, List, [], ℕ, true, map, length, string_bytes, IfOk, OnOk, IsAscii, ◌==◌};
+ghost use Rattle.std.specs.List.{before_last};
+ghost use Rattle.ref_uri.specs.Characters.{has_whole_triples};
+ghost use Rattle.ref_uri.specs.DotSegments.{segments};
+ghost use Rattle.ref_uri.specs.Written.{written};
+ghost use Rattle.ref_uri.specs.Removal.{segment_of, first_written, first_progress, next_written, next_progress, path_then, progress_then, path_after, progress_after, end_of};
+
 use crate::written::Form;
 use std::alloc::AllocError;
 
 /// How far a path is written behind a buffer's text.
 #[derive(Clone, Copy)]
-enum Progress {
+pub enum Progress {
     /// Only dot segments came, and nothing is written.
     Front,
     /// The last segment was no dot segment.
-    Segment,
+    Within,
     /// The last segment was a dot segment, behind others: the path ends in a slash if no other comes.
     Dots,
 }
 
 /// What a segment asks of the path.
 #[derive(Clone, Copy)]
-enum Segment {
+pub enum Segment {
     /// To stand in it.
     Name,
     /// `.`: nothing.
@@ -24,7 +31,9 @@ enum Segment {
     DotDot,
 }
 
-fn segment_of(text: &str) -> Segment {
+fn segment_of(text: &str) -> Segment
+    ensures { result ≡ segment_of text.now }
+{
     match text {
         "." => Segment::Dot,
         ".." => Segment::DotDot,
@@ -33,7 +42,13 @@ fn segment_of(text: &str) -> Segment {
 }
 
 /// Takes away the last segment of the path that begins at `start`, with the slash before it.
-fn take_last(buffer: &mut String, start: usize) {
+fn take_last(buffer: &mut String, start: usize)
+    requires ascii { IsAscii (string_bytes buffer.old) }
+    requires within { start ≤ length (string_bytes buffer.old) }
+    ensures text { (before path : List ℕ) → string_bytes buffer.old ≡ before ++ path → length before ≡ start → string_bytes buffer.new ≡ before ++ before_last (λ c. c == 47) path }
+    ensures ascii { IsAscii (string_bytes buffer.new) }
+    ensures start { start ≤ length (string_bytes buffer.new) }
+{
     match buffer[start..].rfind('/') {
         Some(slash) => buffer.truncate(start + slash),
         None => buffer.truncate(start),
@@ -41,11 +56,19 @@ fn take_last(buffer: &mut String, start: usize) {
 }
 
 /// Appends a segment as a path's first one, unless it is a dot segment.
-fn push_first(buffer: &mut String, segment: &str, form: Form) -> Result<Progress, AllocError> {
+fn push_first(buffer: &mut String, segment: &str, form: Form) -> Result<Progress, AllocError>
+    requires buffer_ascii { IsAscii (string_bytes buffer.old) }
+    requires ascii { IsAscii segment.now }
+    requires triples { has_whole_triples segment.now ≡ true }
+    ensures text { (before path : List ℕ) → string_bytes buffer.old ≡ before ++ path → OnOk result (string_bytes buffer.new ≡ before ++ first_written (segment_of (written form segment.now)) path (written form segment.now)) }
+    ensures progress { IfOk result (λ p. p ≡ first_progress (segment_of (written form segment.now))) }
+    ensures ascii { OnOk result (IsAscii (string_bytes buffer.new)) }
+    ensures longer { OnOk result (length (string_bytes buffer.old) ≤ length (string_bytes buffer.new)) }
+{
     let end = buffer.len();
     form.push(buffer, segment)?;
     match segment_of(&buffer[end..]) {
-        Segment::Name => Ok(Progress::Segment),
+        Segment::Name => Ok(Progress::Within),
         Segment::Dot | Segment::DotDot => {
             buffer.truncate(end);
             Ok(Progress::Front)
@@ -60,12 +83,21 @@ fn push_next(
     start: usize,
     segment: &str,
     form: Form,
-) -> Result<Progress, AllocError> {
+) -> Result<Progress, AllocError>
+    requires buffer_ascii { IsAscii (string_bytes buffer.old) }
+    requires within { start ≤ length (string_bytes buffer.old) }
+    requires ascii { IsAscii segment.now }
+    requires triples { has_whole_triples segment.now ≡ true }
+    ensures text { (before path : List ℕ) → string_bytes buffer.old ≡ before ++ path → length before ≡ start → OnOk result (string_bytes buffer.new ≡ before ++ next_written (segment_of (written form segment.now)) path (written form segment.now)) }
+    ensures progress { IfOk result (λ p. p ≡ next_progress (segment_of (written form segment.now))) }
+    ensures ascii { OnOk result (IsAscii (string_bytes buffer.new)) }
+    ensures start { OnOk result (start ≤ length (string_bytes buffer.new)) }
+{
     let end = buffer.len();
     buffer.push('/')?;
     form.push(buffer, segment)?;
     match segment_of(&buffer[end + 1..]) {
-        Segment::Name => Ok(Progress::Segment),
+        Segment::Name => Ok(Progress::Within),
         Segment::Dot => {
             buffer.truncate(end);
             Ok(Progress::Dots)
@@ -78,6 +110,30 @@ fn push_next(
     }
 }
 
+/// Writes one more segment of the path that begins at `start`.
+fn push_segment(
+    buffer: &mut String,
+    start: usize,
+    progress: Progress,
+    segment: &str,
+    form: Form,
+) -> Result<Progress, AllocError>
+    requires buffer_ascii { IsAscii (string_bytes buffer.old) }
+    requires within { start ≤ length (string_bytes buffer.old) }
+    requires ascii { IsAscii segment.now }
+    requires triples { has_whole_triples segment.now ≡ true }
+    ensures text { (before path : List ℕ) → string_bytes buffer.old ≡ before ++ path → length before ≡ start → OnOk result (string_bytes buffer.new ≡ before ++ path_then progress path (written form segment.now)) }
+    ensures progress { IfOk result (λ p. p ≡ progress_then progress (written form segment.now)) }
+    ensures ascii { OnOk result (IsAscii (string_bytes buffer.new)) }
+    ensures start { OnOk result (start ≤ length (string_bytes buffer.new)) }
+{
+    match progress {
+        Progress::Front => push_first(buffer, segment, form),
+        Progress::Within => push_next(buffer, start, segment, form),
+        Progress::Dots => push_next(buffer, start, segment, form),
+    }
+}
+
 /// Writes more segments of the path that begins at `start`.
 fn push_segments(
     buffer: &mut String,
@@ -85,13 +141,19 @@ fn push_segments(
     progress: Progress,
     path: &str,
     form: Form,
-) -> Result<Progress, AllocError> {
+) -> Result<Progress, AllocError>
+    requires buffer_ascii { IsAscii (string_bytes buffer.old) }
+    requires within { start ≤ length (string_bytes buffer.old) }
+    requires ascii { IsAscii path.now }
+    requires triples { has_whole_triples path.now ≡ true }
+    ensures text { (before written_path : List ℕ) → string_bytes buffer.old ≡ before ++ written_path → length before ≡ start → OnOk result (string_bytes buffer.new ≡ before ++ path_after progress written_path (map (written form) (segments path.now))) }
+    ensures progress { IfOk result (λ p. p ≡ progress_after progress (map (written form) (segments path.now))) }
+    ensures ascii { OnOk result (IsAscii (string_bytes buffer.new)) }
+    ensures start { OnOk result (start ≤ length (string_bytes buffer.new)) }
+{
     let mut progress = progress;
     for segment in path.split('/') {
-        progress = match progress {
-            Progress::Front => push_first(buffer, segment, form)?,
-            Progress::Segment | Progress::Dots => push_next(buffer, start, segment, form)?,
-        };
+        progress = push_segment(buffer, start, progress, segment, form)?;
     }
     Ok(progress)
 }
@@ -110,6 +172,6 @@ pub fn push_without_dots(
     }
     match push_segments(buffer, start, progress, path, form)? {
         Progress::Dots => buffer.push('/'),
-        Progress::Front | Progress::Segment => Ok(()),
+        Progress::Front | Progress::Within => Ok(()),
     }
 }

@@ -155,7 +155,8 @@ impl Form {
     pub fn push(self, buffer: &mut String, text: &str) -> Result<(), AllocError>
         requires ascii { IsAscii text.now }
         requires triples { has_whole_triples text.now ≡ true }
-        ensures { OnOk result (string_bytes buffer.new ≡ string_bytes buffer.old ++ written self text.now) }
+        ensures text { OnOk result (string_bytes buffer.new ≡ string_bytes buffer.old ++ written self text.now) }
+        ensures ascii { OnOk result (IsAscii (string_bytes buffer.old) → IsAscii (string_bytes buffer.new)) }
     {
         match self {
             Form::Given => buffer.push_str(text),

@@ -1,0 +1,11 @@
+use Rattle.std.proofs.Common.{◌≡◌, ◌≤◌, ◌++◌, List, ℕ, map, length, string_bytes}
+use Rattle.std.specs.Str.{IsAscii}
+use Rattle.ref_uri.specs.Written.{written}
+use Rattle.ref_uri.specs.Removal.{path_after, progress_after}
+use Rattle.ref_uri.proofs.dots.push_segments.Given as goal
+
+abbrev pub invariant-loop-segment : goal.invariant-loop-segment
+invariant-loop-segment l =
+    ((before path : List ℕ) → string_bytes l.fn.buffer ≡ before ++ path → length before ≡ l.start → string_bytes l.buffer ≡ before ++ path_after l.fn.progress path (map (λ x. written l.form x.now) l.yielded))
+    × (l.progress ≡ progress_after l.fn.progress (map (λ x. written l.form x.now) l.yielded))
+    × IsAscii (string_bytes l.buffer) × (l.start ≤ length (string_bytes l.buffer))

@@ -1,0 +1,58 @@
+-- How a path is written without its dot segments, one segment behind another (RFC 3986, 5.2.4).
+use Rattle.std.specs.Prelude.{ℕ, List, [], ◌∷◌, ◌++◌, codes, ◌==◌, if◌then◌else◌}
+use Rattle.std.specs.List.{before_last}
+use Rattle.ref_uri.specs.DotSegments.{is_dot, is_dot_dot}
+use Rattle.ref_uri.specs.declared.dots.Progress.{Progress}
+use Rattle.ref_uri.specs.declared.dots.Progress.TheVariants.{Front, Within, Dots}
+use Rattle.ref_uri.specs.declared.dots.Segment.{Segment}
+use Rattle.ref_uri.specs.declared.dots.Segment.TheVariants.{Name, Dot, DotDot}
+
+abbrev pub segment_of : List ℕ → Segment
+segment_of text = if is_dot text then Dot else (if is_dot_dot text then DotDot else Name)
+
+-- a path after a segment that no other precedes
+abbrev pub first_written : Segment → List ℕ → List ℕ → List ℕ
+first_written Name path segment = path ++ segment
+first_written Dot path segment = path
+first_written DotDot path segment = path
+
+-- a path after one more segment
+abbrev pub next_written : Segment → List ℕ → List ℕ → List ℕ
+next_written Name path segment = path ++ 47 ∷ segment
+next_written Dot path segment = path
+next_written DotDot path segment = before_last (λ c. c == 47) path
+
+abbrev pub first_progress : Segment → Progress
+first_progress Name = Within
+first_progress Dot = Front
+first_progress DotDot = Front
+
+abbrev pub next_progress : Segment → Progress
+next_progress Name = Within
+next_progress Dot = Dots
+next_progress DotDot = Dots
+
+abbrev pub path_then : Progress → List ℕ → List ℕ → List ℕ
+path_then Front path segment = first_written (segment_of segment) path segment
+path_then Within path segment = next_written (segment_of segment) path segment
+path_then Dots path segment = next_written (segment_of segment) path segment
+
+abbrev pub progress_then : Progress → List ℕ → Progress
+progress_then Front segment = first_progress (segment_of segment)
+progress_then Within segment = next_progress (segment_of segment)
+progress_then Dots segment = next_progress (segment_of segment)
+
+-- a path after more segments
+abbrev pub path_after : Progress → List ℕ → List (List ℕ) → List ℕ
+path_after progress path [] = path
+path_after progress path (segment ∷ rest) = path_after (progress_then progress segment) (path_then progress path segment) rest
+
+abbrev pub progress_after : Progress → List (List ℕ) → Progress
+progress_after progress [] = progress
+progress_after progress (segment ∷ rest) = progress_after (progress_then progress segment) rest
+
+-- a path whose last segment is a dot segment ends in a slash
+abbrev pub end_of : Progress → List ℕ
+end_of Front = []
+end_of Within = []
+end_of Dots = codes "/"
