@@ -3,6 +3,7 @@ use Rattle.std.proofs.Common.{◌≡◌, ◌≢◌, ℕ, zero, suc, ◌+◌, ◌
 use Rattle.std.specs.List.{slice_split, onto_first, list_all, AllByRecursion}
 use Rattle.std.specs.Char.{is_ascii_hexdigit}
 use Rattle.std.specs.Str.{IsAscii}
+use Rattle.std.proofs.lemmas.List.Splits.{length-slice_split}
 use Rattle.std.proofs.lemmas.Bool.{cases_eq, ne_eqb, eq-eqb, and_from, and_parts}
 use Rattle.std.proofs.lemmas.Bool.Decides.{nat_tests}
 use Rattle.std.proofs.lemmas.Str.{IsAscii-drop}
@@ -95,3 +96,22 @@ pub each_at : {X : Type 0} (P : X → Type 0) (xs : List X) (i : ℕ) (x : X) �
 each_at P [] i x all lt e = absurd (omega arith)
 each_at P (y ∷ xs) zero x all lt e = subst P (sym e) all.0
 each_at P (y ∷ xs) (suc i) x all lt e = each_at P xs i x all.1 (omega arith) e
+
+-- the segments of two parts with a slash between
+pub segments-append : (front rest : List ℕ) → segments (front ++ 47 ∷ rest) ≡ segments front ++ segments rest
+segments-append [] rest = refl
+segments-append (c ∷ front) rest =
+    elim (cases_eq c 47) [
+      | inl e ↦ segments-slash c (front ++ 47 ∷ rest) e ∙ ap (λ t. [] ∷ t) (segments-append front rest) ∙ ap (λ t. t ++ segments rest) (sym (segments-slash c front e))
+      | inr other ↦
+          segments-other c (front ++ 47 ∷ rest) other ∙ ap (onto_first c) (segments-append front rest)
+          ∙ onto_front c (segments front) (segments rest) (segments-some front)
+          ∙ ap (λ t. t ++ segments rest) (sym (segments-other c front other))
+    ]
+  where
+    onto_front : (c : ℕ) (parts more : List (List ℕ)) → 0 < length parts → onto_first c (parts ++ more) ≡ onto_first c parts ++ more
+    onto_front c [] more some = absurd (omega arith)
+    onto_front c (part ∷ parts) more some = refl
+
+    segments-some : (path : List ℕ) → 0 < length (segments path)
+    segments-some path = omega (arith, length-slice_split (λ x. eqb x 47) path)

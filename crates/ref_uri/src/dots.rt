@@ -1,10 +1,10 @@
 //! The removal of dot segments while a path is written (RFC 3986, 5.2.4).
-ghost use Rattle.std.specs.Prelude.{◌≡◌, ◌≤◌, ◌++◌, List, [], ℕ, true, map, length, string_bytes, IfOk, OnOk, IsAscii, ◌==◌};
+ghost use Rattle.std.specs.Prelude.{◌≡◌, ◌≤◌, ◌++◌, List, [], ℕ, true, map, length, string_bytes, IfOk, OnOk, IsAscii, option_copied, ◌==◌};
 ghost use Rattle.std.specs.List.{before_last};
 ghost use Rattle.ref_uri.specs.Characters.{has_whole_triples};
-ghost use Rattle.ref_uri.specs.DotSegments.{segments};
+ghost use Rattle.ref_uri.specs.DotSegments.{segments, remove_dot_segments};
 ghost use Rattle.ref_uri.specs.Written.{written};
-ghost use Rattle.ref_uri.specs.Removal.{segment_of, first_written, first_progress, next_written, next_progress, path_then, progress_then, path_after, progress_after, end_of};
+ghost use Rattle.ref_uri.specs.Removal.{segment_of, first_written, first_progress, next_written, next_progress, path_then, progress_then, path_after, progress_after, end_of, behind_directory};
 
 use crate::written::Form;
 use std::alloc::AllocError;
@@ -158,20 +158,35 @@ fn push_segments(
     Ok(progress)
 }
 
+/// Appends the slash that a path ends in whose last segment was a dot segment.
+fn push_end(buffer: &mut String, progress: Progress) -> Result<(), AllocError>
+    ensures text { OnOk result (string_bytes buffer.new ≡ string_bytes buffer.old ++ end_of progress) }
+    ensures ascii { OnOk result (IsAscii (string_bytes buffer.old) → IsAscii (string_bytes buffer.new)) }
+{
+    match progress {
+        Progress::Dots => buffer.push_str("/"),
+        Progress::Front | Progress::Within => Ok(()),
+    }
+}
+
 /// Appends a path without its dot segments: a slash and the path stand behind the directory, where there is one.
 pub fn push_without_dots(
     buffer: &mut String,
     directory: Option<&str>,
     path: &str,
     form: Form,
-) -> Result<(), AllocError> {
+) -> Result<(), AllocError>
+    requires buffer_ascii { IsAscii (string_bytes buffer.old) }
+    requires ascii { IsAscii (behind_directory (option_copied directory) path.now) }
+    requires triples { has_whole_triples (behind_directory (option_copied directory) path.now) ≡ true }
+    ensures text { OnOk result (string_bytes buffer.new ≡ string_bytes buffer.old ++ remove_dot_segments (written form (behind_directory (option_copied directory.entry) path.now))) }
+    ensures ascii { OnOk result (IsAscii (string_bytes buffer.new)) }
+{
     let start = buffer.len();
-    let mut progress = Progress::Front;
-    if let Some(directory) = directory {
-        progress = push_segments(buffer, start, progress, directory, form)?;
-    }
-    match push_segments(buffer, start, progress, path, form)? {
-        Progress::Dots => buffer.push('/'),
-        Progress::Front | Progress::Within => Ok(()),
-    }
+    let progress = match directory {
+        Some(directory) => push_segments(buffer, start, Progress::Front, directory, form)?,
+        None => Progress::Front,
+    };
+    let progress = push_segments(buffer, start, progress, path, form)?;
+    push_end(buffer, progress)
 }
