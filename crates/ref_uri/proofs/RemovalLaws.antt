@@ -2,16 +2,22 @@
 use Rattle.std.proofs.Common.{◌≡◌, ◌≢◌, ℕ, suc, ◌+◌, ◌-◌, ◌<◌, ◌≤◌, Bool, true, false, cond, not, ◌&&◌, ◌||◌, List, [], ◌∷◌, ◌++◌, map, length, drop, get_or, reverse, eqb, refl, sym, ap, ◌∙◌, subst, arith, add-one, append_assoc, append-nil, bytes_eq, codes, inl, inr}
 use Rattle.std.specs.List.{list_all, AllByRecursion, before_last, prefix_len}
 use Rattle.std.proofs.lemmas.Bool.{cases_Bool, false≢true, ne_eqb, not-true, and_right}
-use Rattle.std.proofs.lemmas.List.{reverse-append, take_at, length-append, get_or_at, get_or-append-add}
+use Rattle.std.proofs.lemmas.List.{map-append, reverse-append, take_at, length-append, get_or_at, get_or-append-add}
 use Rattle.std.proofs.lemmas.Slice.Eq.{bytes_eq-Decides}
 use Rattle.std.proofs.lemmas.List.Sums.{AllPass-from_list_all}
 use Rattle.ref_uri.specs.DotSegments.{segments, behind_slashes, joined, is_dot, is_dot_dot, is_dot_segment, kept_after, first_after, remaining, ends_in_dots, without_dots, remove_dot_segments}
-use Rattle.ref_uri.specs.Removal.{segment_of, next_written, next_progress, path_then, progress_then, path_after, progress_after, end_of}
+use Rattle.ref_uri.specs.Removal.{segment_of, next_written, next_progress, path_then, progress_then, path_after, progress_after, end_of, ended}
+use Rattle.ref_uri.specs.Characters.{has_whole_triples}
+use Rattle.ref_uri.specs.Written.{written}
+use Rattle.ref_uri.specs.declared.written.Form.{Form}
+use Rattle.ref_uri.proofs.EncodedLemmas.{whole-append}
+use Rattle.ref_uri.proofs.RemovalLemmas.{path_after-append, progress_after-append}
+use Rattle.ref_uri.proofs.WrittenLemmas.{written_segments}
 use Rattle.ref_uri.specs.declared.dots.Progress.{Progress}
 use Rattle.ref_uri.specs.declared.dots.Progress.TheVariants.{Front, Within, Dots}
 use Rattle.ref_uri.specs.declared.dots.Segment.TheVariants.{Name, Dot, DotDot}
 use Rattle.ref_uri.proofs.LastSlash.{is_slash, before_last_at, before_last_none}
-use Rattle.ref_uri.proofs.SegmentLemmas.{segments_hold_no_slash}
+use Rattle.ref_uri.proofs.SegmentLemmas.{segments_hold_no_slash, segments-append}
 
 -- no slash stands in the text
 abbrev pub HasNoSlash : List ℕ → Type 0
@@ -140,3 +146,17 @@ from_front (s ∷ rest) all = elim (cases_Bool (is_dot s)) [ inl dot ↦ at_dot 
 pub written_is_removed : (path : List ℕ) → path_after Front [] (segments path) ++ end_of (progress_after Front (segments path)) ≡ remove_dot_segments path
 unfolding remove_dot_segments
 written_is_removed path = from_front (segments path) (segments_hold_no_slash path)
+
+-- a path that is written by its segments
+pub ended_is_removed : (form : Form) (path : List ℕ) → has_whole_triples path ≡ true → ended Front [] (map (written form) (segments path)) ≡ remove_dot_segments (written form path)
+ended_is_removed form path whole = ap (ended Front []) (sym (written_segments form path whole)) ∙ written_is_removed (written form path)
+
+-- a directory, and then a path
+pub merged_is_removed : (form : Form) (directory path : List ℕ) → has_whole_triples directory ≡ true → has_whole_triples path ≡ true → ended (progress_after Front (map (written form) (segments directory))) (path_after Front [] (map (written form) (segments directory))) (map (written form) (segments path)) ≡ remove_dot_segments (written form (directory ++ 47 ∷ path))
+merged_is_removed form directory path front whole =
+    let parts = map (written form) (segments directory) in
+    let rest = map (written form) (segments path) in
+    ap (λ t. t ++ end_of (progress_after (progress_after Front parts) rest)) (sym (path_after-append Front [] parts rest))
+    ∙ ap (λ p. path_after Front [] (parts ++ rest) ++ end_of p) (sym (progress_after-append Front parts rest))
+    ∙ ap (ended Front []) (sym (map-append (written form) (segments directory) (segments path)) ∙ ap (map (written form)) (sym (segments-append directory path)))
+    ∙ ended_is_removed form (directory ++ 47 ∷ path) (whole-append directory (47 ∷ path) front whole)

@@ -4,7 +4,7 @@ use Rattle.std.specs.List.{slice_split, onto_first, list_all, AllByRecursion}
 use Rattle.std.specs.Char.{is_ascii_hexdigit}
 use Rattle.std.specs.Str.{IsAscii}
 use Rattle.std.proofs.lemmas.List.Splits.{length-slice_split}
-use Rattle.std.proofs.lemmas.Bool.{cases_eq, ne_eqb, eq-eqb, and_from, and_parts}
+use Rattle.std.proofs.lemmas.Bool.{cases_eq, ne_eqb, eq-eqb, false≢true, and_from, and_parts}
 use Rattle.std.proofs.lemmas.Bool.Decides.{nat_tests}
 use Rattle.std.proofs.lemmas.Str.{IsAscii-drop}
 use Rattle.std.proofs.lemmas.Str.Ascii.{IsAscii-nil, IsAscii-cons}
@@ -115,3 +115,18 @@ segments-append (c ∷ front) rest =
 
     segments-some : (path : List ℕ) → 0 < length (segments path)
     segments-some path = omega (arith, length-slice_split (λ x. eqb x 47) path)
+
+-- there is a first segment
+pub segments-shape : (path : List ℕ) → (part : List ℕ) × (parts : List (List ℕ)) × (segments path ≡ part ∷ parts)
+segments-shape path = of_parts (segments path) (omega (arith, length-slice_split (λ x. eqb x 47) path))
+  where
+    of_parts : (parts : List (List ℕ)) → 0 < length parts → (first : List ℕ) × (rest : List (List ℕ)) × (parts ≡ first ∷ rest)
+    of_parts [] some = absurd (omega arith)
+    of_parts (first ∷ rest) some = (first, rest, refl)
+
+-- a run without slashes joins the first segment
+pub segments-run : (run path part : List ℕ) (parts : List (List ℕ)) → list_all (λ c. not (eqb c 47)) run ≡ true → segments path ≡ part ∷ parts → segments (run ++ path) ≡ (run ++ part) ∷ parts
+segments-run [] path part parts h shape = shape
+segments-run (c ∷ run) path part parts h shape =
+    let both = and_parts (not (eqb c 47)) (list_all (λ x. not (eqb x 47)) run) h in
+    segments-other c (run ++ path) (λ e. false≢true (ap not (sym (eq-eqb c 47 e)) ∙ both.0)) ∙ ap (onto_first c) (segments-run run path part parts both.1 shape)

@@ -1,5 +1,5 @@
 -- How a path is written without its dot segments, one segment behind another (RFC 3986, 5.2.4).
-use Rattle.std.specs.Prelude.{ℕ, List, [], ◌∷◌, ◌++◌, codes, Option, Some, None, ◌==◌, if◌then◌else◌}
+use Rattle.std.specs.Prelude.{ℕ, List, [], ◌∷◌, ◌++◌, codes, ◌==◌, if◌then◌else◌}
 use Rattle.std.specs.List.{before_last}
 use Rattle.ref_uri.specs.DotSegments.{is_dot, is_dot_dot}
 use Rattle.ref_uri.specs.declared.dots.Progress.{Progress}
@@ -57,7 +57,6 @@ end_of Front = []
 end_of Within = []
 end_of Dots = codes "/"
 
--- a path, or a directory, a slash and the path
-abbrev pub behind_directory : Option (List ℕ) → List ℕ → List ℕ
-behind_directory None path = path
-behind_directory (Some directory) path = directory ++ 47 ∷ path
+-- a path after its last segments
+abbrev pub ended : Progress → List ℕ → List (List ℕ) → List ℕ
+ended progress path segments = path_after progress path segments ++ end_of (progress_after progress segments)

@@ -1,10 +1,10 @@
 //! The removal of dot segments while a path is written (RFC 3986, 5.2.4).
-ghost use Rattle.std.specs.Prelude.{◌≡◌, ◌≤◌, ◌++◌, List, [], ℕ, true, map, length, string_bytes, IfOk, OnOk, IsAscii, option_copied, ◌==◌};
+ghost use Rattle.std.specs.Prelude.{◌≡◌, ◌≤◌, ◌++◌, List, [], ℕ, true, map, length, string_bytes, IfOk, OnOk, IsAscii, ◌∷◌, ◌==◌};
 ghost use Rattle.std.specs.List.{before_last};
 ghost use Rattle.ref_uri.specs.Characters.{has_whole_triples};
 ghost use Rattle.ref_uri.specs.DotSegments.{segments, remove_dot_segments};
 ghost use Rattle.ref_uri.specs.Written.{written};
-ghost use Rattle.ref_uri.specs.Removal.{segment_of, first_written, first_progress, next_written, next_progress, path_then, progress_then, path_after, progress_after, end_of, behind_directory};
+ghost use Rattle.ref_uri.specs.Removal.{segment_of, first_written, first_progress, next_written, next_progress, path_then, progress_then, path_after, progress_after, end_of, ended};
 
 use crate::written::Form;
 use std::alloc::AllocError;
@@ -169,24 +169,53 @@ fn push_end(buffer: &mut String, progress: Progress) -> Result<(), AllocError>
     }
 }
 
-/// Appends a path without its dot segments: a slash and the path stand behind the directory, where there is one.
-pub fn push_without_dots(
+/// Writes the last segments of the path that begins at `start`.
+fn push_rest(
     buffer: &mut String,
-    directory: Option<&str>,
+    start: usize,
+    progress: Progress,
     path: &str,
     form: Form,
 ) -> Result<(), AllocError>
     requires buffer_ascii { IsAscii (string_bytes buffer.old) }
-    requires ascii { IsAscii (behind_directory (option_copied directory) path.now) }
-    requires triples { has_whole_triples (behind_directory (option_copied directory) path.now) ≡ true }
-    ensures text { OnOk result (string_bytes buffer.new ≡ string_bytes buffer.old ++ remove_dot_segments (written form (behind_directory (option_copied directory.entry) path.now))) }
+    requires within { start ≤ length (string_bytes buffer.old) }
+    requires ascii { IsAscii path.now }
+    requires triples { has_whole_triples path.now ≡ true }
+    ensures text { (before written_path : List ℕ) → string_bytes buffer.old ≡ before ++ written_path → length before ≡ start → OnOk result (string_bytes buffer.new ≡ before ++ ended progress written_path (map (written form) (segments path.now))) }
+    ensures ascii { OnOk result (IsAscii (string_bytes buffer.new)) }
+{
+    let progress = push_segments(buffer, start, progress, path, form)?;
+    push_end(buffer, progress)
+}
+
+/// Appends a path without its dot segments.
+pub fn push_without_dots(buffer: &mut String, path: &str, form: Form) -> Result<(), AllocError>
+    requires buffer_ascii { IsAscii (string_bytes buffer.old) }
+    requires ascii { IsAscii path.now }
+    requires triples { has_whole_triples path.now ≡ true }
+    ensures text { OnOk result (string_bytes buffer.new ≡ string_bytes buffer.old ++ remove_dot_segments (written form path.now)) }
     ensures ascii { OnOk result (IsAscii (string_bytes buffer.new)) }
 {
     let start = buffer.len();
-    let progress = match directory {
-        Some(directory) => push_segments(buffer, start, Progress::Front, directory, form)?,
-        None => Progress::Front,
-    };
-    let progress = push_segments(buffer, start, progress, path, form)?;
-    push_end(buffer, progress)
+    push_rest(buffer, start, Progress::Front, path, form)
+}
+
+/// Appends a directory, a slash and a path, without their dot segments.
+pub fn push_merged_without_dots(
+    buffer: &mut String,
+    directory: &str,
+    path: &str,
+    form: Form,
+) -> Result<(), AllocError>
+    requires buffer_ascii { IsAscii (string_bytes buffer.old) }
+    requires directory_ascii { IsAscii directory.now }
+    requires directory_triples { has_whole_triples directory.now ≡ true }
+    requires ascii { IsAscii path.now }
+    requires triples { has_whole_triples path.now ≡ true }
+    ensures text { OnOk result (string_bytes buffer.new ≡ string_bytes buffer.old ++ remove_dot_segments (written form (directory.now ++ 47 ∷ path.now))) }
+    ensures ascii { OnOk result (IsAscii (string_bytes buffer.new)) }
+{
+    let start = buffer.len();
+    let progress = push_segments(buffer, start, Progress::Front, directory, form)?;
+    push_rest(buffer, start, progress, path, form)
 }

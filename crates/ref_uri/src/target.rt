@@ -1,5 +1,5 @@
 //! What a target's text is composed of (RFC 3986, 5.2.2 and 5.3).
-use crate::dots::push_without_dots;
+use crate::dots::{push_merged_without_dots, push_without_dots};
 use crate::lengths::{Lengths, Parts};
 use crate::written::Form;
 use std::alloc::{AllocError, Global};
@@ -170,13 +170,8 @@ impl<'a> PathOf<'a> {
     fn push(self, buffer: &mut String, form: Form) -> Result<(), AllocError> {
         match self {
             PathOf::Kept(path) => form.push(buffer, path),
-            PathOf::Removed(path) => push_without_dots(buffer, None, path, form),
-            PathOf::Merged(directory, path) => push_without_dots(
-                buffer,
-                Some(directory),
-                path,
-                form,
-            ),
+            PathOf::Removed(path) => push_without_dots(buffer, path, form),
+            PathOf::Merged(directory, path) => push_merged_without_dots(buffer, directory, path, form),
         }
     }
 }

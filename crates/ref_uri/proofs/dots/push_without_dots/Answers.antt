@@ -1,3 +1,12 @@
-use Rattle.std.proofs.Common.{◌≡◌, ◌++◌, List, ℕ, true, map, length, get_or, string_bytes, ap, sym, ◌∙◌, subst, arith, rules, lit<}
-use Rattle.ref_uri.proofs.RemovalLaws.{HasNoSlash}
+use Rattle.std.proofs.Common.{◌≡◌, ◌++◌, List, ℕ, [], map, string_bytes, refl, ap, sym, ◌∙◌, arith}
+use Rattle.std.proofs.lemmas.List.{append-nil}
+use Rattle.std.proofs.lemmas.Result.{on_ok_weaker}
+use Rattle.ref_uri.proofs.RemovalLaws.{ended_is_removed}
 use Rattle.ref_uri.proofs.dots.push_without_dots.Goals as goal
+
+pub returns-clause-text : goal.returns-clause-text
+returns-clause-text c =
+    let buffer = string_bytes c.args.buffer.now in
+    on_ok_weaker c.push_rest.result
+    (λ text. text ∙ ap (λ t. buffer ++ t) (ended_is_removed c.args.form c.args.path.now c.requires.triples))
+    (c.push_rest.ensures.text buffer [] (sym (append-nil buffer)) (omega (arith, c.args.buffer.now.bytes.ok.0)))
