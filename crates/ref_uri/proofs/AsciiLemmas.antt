@@ -22,14 +22,14 @@ all_ascii text = list_all is_ascii text
 pub ascii-append : (a b : List ℕ) → all_ascii a ≡ true → all_ascii b ≡ true → all_ascii (a ++ b) ≡ true
 ascii-append a b h k = list_all-append is_ascii a b ∙ and_from (all_ascii a) (all_ascii b) h k
 
-encoded_ascii : (allowed : ℕ → Bool) → ((c : ℕ) → allowed c ≡ true → is_ascii c ≡ true) → (text : List ℕ) → is_encoded allowed text ≡ true → all_ascii text ≡ true
+pub encoded_ascii : (allowed : ℕ → Bool) → ((c : ℕ) → allowed c ≡ true → is_ascii c ≡ true) → (text : List ℕ) → is_encoded allowed text ≡ true → all_ascii text ≡ true
 encoded_ascii allowed inside text h =
     list_all-wider (λ c. allowed c || eqb c 37) is_ascii (λ c k. elim (or_cases (allowed c) (eqb c 37) k) [ inl a ↦ inside c a | inr percent ↦ ap is_ascii (eqb-true c 37 percent) ]) text (and_parts _ _ h).0
 
-authority_ascii : (text : List ℕ) → is_authority text ≡ true → all_ascii text ≡ true
+pub authority_ascii : (text : List ℕ) → is_authority text ≡ true → all_ascii text ≡ true
 authority_ascii text h = list_all-wider is_authority_character is_ascii (λ c k. grind (arith, nat_tests)) text (authority_characters text h)
 
-scheme_ascii : (text : List ℕ) → is_scheme text ≡ true → all_ascii text ≡ true
+pub scheme_ascii : (text : List ℕ) → is_scheme text ≡ true → all_ascii text ≡ true
 scheme_ascii [] h = refl
 scheme_ascii (c ∷ rest) h =
     let both = and_parts (is_ascii_alphabetic c) (list_all is_scheme_character rest) h in

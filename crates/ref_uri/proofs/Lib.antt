@@ -13,6 +13,8 @@ pub mod LengthsLemmas
 pub mod NormalLemmas
 pub mod Induction
 pub mod AuthorityParts
+pub mod NormalValid
+pub mod AuthorityText
 pub mod RemovalLaws
 pub mod RemovalLemmas
 pub mod SegmentLemmas

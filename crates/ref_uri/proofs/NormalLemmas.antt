@@ -65,6 +65,14 @@ digits_in_front (a ∷ b ∷ rest) h =
     let both = and_parts (is_ascii_hexdigit a) (is_ascii_hexdigit b) h in
     record { enough = omega arith; high = both.0; low = both.1; shape = refl }
 
+-- what follows the element behind a front
+pub drop_past : (front : List ℕ) (c : ℕ) (rest : List ℕ) → drop (length front + 1) (front ++ c ∷ rest) ≡ rest
+drop_past front c rest = ap (λ n. drop n (front ++ c ∷ rest)) (add-one (length front)) ∙ at_seam front
+  where
+    at_seam : (a : List ℕ) → drop (suc (length a)) (a ++ c ∷ rest) ≡ rest
+    at_seam [] = refl
+    at_seam (x ∷ a) = at_seam a
+
 -- The text behind the first `%` of a text of whole triples.
 pub record Behind (text : List ℕ) : Type 0 where
   pub digits : Digits text
@@ -76,20 +84,13 @@ behind_percent text run rest cut ascii whole =
     let here : has_whole_triples (run ++ 37 ∷ rest) ≡ true = subst (λ (t : List ℕ). has_whole_triples t ≡ true) cut whole in
     let digits = digits_in_front rest (whole_at run rest here) in
     let inside : has_whole_triples rest ≡ true = whole_behind (run ++ 37 ∷ []) rest (subst (λ (t : List ℕ). has_whole_triples t ≡ true) (sym (append_assoc run (37 ∷ []) rest)) here) in
-    let past : drop (length run + 1) (run ++ 37 ∷ rest) ≡ rest = past_seam run rest in
+    let past : drop (length run + 1) (run ++ 37 ∷ rest) ≡ rest = drop_past run 37 rest in
     record {
       digits = digits;
       ascii = subst IsAscii past (IsAscii-drop (run ++ 37 ∷ rest) (length run + 1) (subst IsAscii cut ascii));
       whole = behind_two rest inside;
     }
   where
-    at_seam : (a b : List ℕ) → drop (suc (length a)) (a ++ 37 ∷ b) ≡ b
-    at_seam [] b = refl
-    at_seam (x ∷ a) b = at_seam a b
-
-    past_seam : (a b : List ℕ) → drop (length a + 1) (a ++ 37 ∷ b) ≡ b
-    past_seam a b = ap (λ n. drop n (a ++ 37 ∷ b)) (add-one (length a)) ∙ at_seam a b
-
     behind_two : (t : List ℕ) → has_whole_triples t ≡ true → has_whole_triples (drop 2 t) ≡ true
     behind_two [] h = refl
     behind_two (a ∷ []) h = refl

@@ -47,7 +47,7 @@ fragment_found : (f : Option (List ℕ)) → fragment_in_front (framed (codes "#
 fragment_found None = refl
 fragment_found (Some f) = ap (λ t. Some t) (append-nil f)
 
-encoded_apart : (allowed p : ℕ → Bool) → ((c : ℕ) → (allowed c || eqb c 37) ≡ true → not (p c) ≡ true) → (text : List ℕ) → is_encoded allowed text ≡ true → list_all (λ c. not (p c)) text ≡ true
+pub encoded_apart : (allowed p : ℕ → Bool) → ((c : ℕ) → (allowed c || eqb c 37) ≡ true → not (p c) ≡ true) → (text : List ℕ) → is_encoded allowed text ≡ true → list_all (λ c. not (p c)) text ≡ true
 encoded_apart allowed p apart text h = list_all-wider (λ c. allowed c || eqb c 37) (λ c. not (p c)) apart text (and_parts _ _ h).0
 
 -- the query, and what is left behind it

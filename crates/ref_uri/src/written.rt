@@ -167,7 +167,8 @@ impl Form {
     /// Appends a scheme.
     pub fn push_scheme(self, buffer: &mut String, scheme: &str) -> Result<(), AllocError>
         requires { IsAscii scheme.now }
-        ensures { OnOk result (string_bytes buffer.new ≡ string_bytes buffer.old ++ written_scheme self scheme.now) }
+        ensures text { OnOk result (string_bytes buffer.new ≡ string_bytes buffer.old ++ written_scheme self scheme.now) }
+        ensures ascii { OnOk result (IsAscii (string_bytes buffer.old) → IsAscii (string_bytes buffer.new)) }
     {
         match self {
             Form::Given => buffer.push_str(scheme),
@@ -179,7 +180,8 @@ impl Form {
     pub fn push_authority(self, buffer: &mut String, authority: &str) -> Result<(), AllocError>
         requires ascii { IsAscii authority.now }
         requires authority { is_authority authority.now ≡ true }
-        ensures { OnOk result (string_bytes buffer.new ≡ string_bytes buffer.old ++ written_authority self authority.now) }
+        ensures text { OnOk result (string_bytes buffer.new ≡ string_bytes buffer.old ++ written_authority self authority.now) }
+        ensures ascii { OnOk result (IsAscii (string_bytes buffer.old) → IsAscii (string_bytes buffer.new)) }
     {
         match self {
             Form::Given => buffer.push_str(authority),
