@@ -11,3 +11,4 @@ pub mod Resolution
 pub mod Targets
 pub mod Written
 pub mod Removal
+pub mod Target

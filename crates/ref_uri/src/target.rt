@@ -1,4 +1,11 @@
 //! What a target's text is composed of (RFC 3986, 5.2.2 and 5.3).
+ghost use Rattle.std.specs.Prelude.{◌≡◌, ◌≤◌, ◌++◌, ℕ, true, List, [], length, codes, Some, is_some, is_none, option_map, option_copied, string_bytes, IfOk, OnOk, IsAscii, ◌∷◌};
+ghost use Rattle.ref_uri.specs.Authority.{is_authority};
+ghost use Rattle.ref_uri.specs.Components.{Components, text_of, framed, if_there, is_scheme, is_path, is_query, begins_with_slashes};
+ghost use Rattle.ref_uri.specs.Normal.{guarded};
+ghost use Rattle.ref_uri.specs.Written.{written, written_scheme, written_authority};
+ghost use Rattle.ref_uri.specs.Target.{written_path, written_components, lengths_of_components, AreParts, IsTarget};
+
 use crate::dots::{push_merged_without_dots, push_without_dots};
 use crate::lengths::{Lengths, Parts};
 use crate::written::Form;
@@ -91,7 +98,7 @@ pub fn itself(reference: Parts<'_>) -> Target<'_> {
     }
 }
 
-/// The room that a component takes, with its marks.
+/// The room that a component and its marks take.
 fn room(component: Option<&str>) -> usize {
     match component {
         Some(text) => text.len().saturating_add(2),
@@ -104,14 +111,20 @@ fn push_scheme(
     buffer: &mut String,
     scheme: Option<&str>,
     form: Form,
-) -> Result<Option<usize>, AllocError> {
+) -> Result<Option<usize>, AllocError>
+    requires buffer_ascii { IsAscii (string_bytes buffer.old) }
+    requires scheme { if_there is_scheme (option_copied scheme) ≡ true }
+    ensures text { OnOk result (string_bytes buffer.new ≡ string_bytes buffer.old ++ framed [] (option_map (written_scheme form) (option_copied scheme.entry)) (codes ":")) }
+    ensures len { IfOk result (λ n. n ≡ option_map length (option_map (written_scheme form) (option_copied scheme.entry))) }
+    ensures ascii { OnOk result (IsAscii (string_bytes buffer.new)) }
+{
     let Some(scheme) = scheme else {
         return Ok(None);
     };
     let start = buffer.len();
     form.push_scheme(buffer, scheme)?;
     let len = buffer.len() - start;
-    buffer.push(':')?;
+    buffer.push_str(":")?;
     Ok(Some(len))
 }
 
@@ -120,7 +133,13 @@ fn push_authority(
     buffer: &mut String,
     authority: Option<&str>,
     form: Form,
-) -> Result<Option<usize>, AllocError> {
+) -> Result<Option<usize>, AllocError>
+    requires buffer_ascii { IsAscii (string_bytes buffer.old) }
+    requires authority { if_there is_authority (option_copied authority) ≡ true }
+    ensures text { OnOk result (string_bytes buffer.new ≡ string_bytes buffer.old ++ framed (codes "//") (option_map (written_authority form) (option_copied authority.entry)) []) }
+    ensures len { IfOk result (λ n. n ≡ option_map length (option_map (written_authority form) (option_copied authority.entry))) }
+    ensures ascii { OnOk result (IsAscii (string_bytes buffer.new)) }
+{
     let Some(authority) = authority else {
         return Ok(None);
     };
@@ -133,47 +152,86 @@ fn push_authority(
 /// Appends a query or a fragment behind its mark, and answers how long it is.
 fn push_marked(
     buffer: &mut String,
-    mark: char,
+    mark: &str,
     component: Option<&str>,
     form: Form,
-) -> Result<Option<usize>, AllocError> {
+) -> Result<Option<usize>, AllocError>
+    requires component { if_there is_query (option_copied component) ≡ true }
+    ensures text { OnOk result (string_bytes buffer.new ≡ string_bytes buffer.old ++ framed mark.now (option_map (written form) (option_copied component.entry)) []) }
+    ensures len { IfOk result (λ n. n ≡ option_map length (option_map (written form) (option_copied component.entry))) }
+{
     let Some(component) = component else {
         return Ok(None);
     };
-    buffer.push(mark)?;
+    buffer.push_str(mark)?;
     let start = buffer.len();
     form.push(buffer, component)?;
     Ok(Some(buffer.len() - start))
 }
 
+fn begins_with_slashes(path: &str) -> bool
+    ensures { result ≡ begins_with_slashes path.now }
+{
+    matches!(path.as_bytes(), [b'/', b'/', ..])
+}
+
 /// Puts `/.` before the path that begins at `start`, where it would be taken for an authority (RFC 3986, 3.3).
-fn guard(buffer: &mut String, start: usize, has_authority: bool) -> Result<(), AllocError> {
-    if !has_authority && buffer[start..].starts_with("//") {
-        buffer.insert_str(start, "/.")?;
+fn guard(buffer: &mut String, start: usize, authority: Option<&str>) -> Result<(), AllocError>
+    requires ascii { IsAscii (string_bytes buffer.old) }
+    requires within { start ≤ length (string_bytes buffer.old) }
+    ensures { (before path : List ℕ) → string_bytes buffer.old ≡ before ++ path → length before ≡ start → OnOk result (string_bytes buffer.new ≡ before ++ guarded (option_copied authority.entry) path) }
+{
+    if authority.is_some() || !begins_with_slashes(&buffer[start..]) {
+        return Ok(());
     }
-    Ok(())
+    buffer.insert_str(start, "/.")
 }
 
 impl<'a> PathOf<'a> {
     /// The room that the path takes.
     fn room(self) -> usize {
         match self {
-            PathOf::Kept(path) | PathOf::Removed(path) => path.len(),
-            PathOf::Merged(directory, path) => directory
-                .len()
-                .saturating_add(path.len())
-                .saturating_add(1),
+            PathOf::Kept(path) => path.len(),
+            PathOf::Removed(path) => path.len(),
+            PathOf::Merged(directory, path) => {
+                directory.len().saturating_add(path.len()).saturating_add(1)
+            }
         }
     }
 
     /// Appends the path.
-    fn push(self, buffer: &mut String, form: Form) -> Result<(), AllocError> {
+    fn push(self, buffer: &mut String, form: Form) -> Result<(), AllocError>
+        requires buffer_ascii { IsAscii (string_bytes buffer.old) }
+        requires parts { AreParts self }
+        ensures text { OnOk result (string_bytes buffer.new ≡ string_bytes buffer.old ++ written_path form self.entry) }
+        ensures ascii { OnOk result (IsAscii (string_bytes buffer.new)) }
+    {
         match self {
             PathOf::Kept(path) => form.push(buffer, path),
             PathOf::Removed(path) => push_without_dots(buffer, path, form),
-            PathOf::Merged(directory, path) => push_merged_without_dots(buffer, directory, path, form),
+            PathOf::Merged(directory, path) => {
+                push_merged_without_dots(buffer, directory, path, form)
+            }
         }
     }
+}
+
+/// Appends a path, guarded, and answers how long it is.
+fn push_path(
+    buffer: &mut String,
+    path: PathOf<'_>,
+    authority: Option<&str>,
+    form: Form,
+) -> Result<usize, AllocError>
+    requires buffer_ascii { IsAscii (string_bytes buffer.old) }
+    requires parts { AreParts path }
+    ensures text { OnOk result (string_bytes buffer.new ≡ string_bytes buffer.old ++ guarded (option_copied authority.entry) (written_path form path.entry)) }
+    ensures len { IfOk result (λ n. n ≡ length (guarded (option_copied authority.entry) (written_path form path.entry))) }
+{
+    let start = buffer.len();
+    path.push(buffer, form)?;
+    guard(buffer, start, authority)?;
+    Ok(buffer.len() - start)
 }
 
 impl<'a> Target<'a> {
@@ -187,30 +245,24 @@ impl<'a> Target<'a> {
             .saturating_add(2)
     }
 
-    /// Appends the path, guarded, and answers how long it is.
-    fn push_path(self, buffer: &mut String, form: Form) -> Result<usize, AllocError> {
-        let start = buffer.len();
-        self.path.push(buffer, form)?;
-        guard(buffer, start, self.authority.is_some())?;
-        Ok(buffer.len() - start)
-    }
-
-    /// The target's text, and how long its components are.
-    pub fn write(self, alloc: Global, form: Form) -> Result<(String, Lengths), AllocError> {
+    /// The target's text, and how long its components are. Takes memory once.
+    pub fn write(self, alloc: Global, form: Form) -> Result<(String, Lengths), AllocError>
+        requires { IsTarget self }
+        ensures text { IfOk result (λ t. string_bytes t.0 ≡ text_of (written_components form self.entry)) }
+        ensures lengths { IfOk result (λ t. t.1 ≡ lengths_of_components (written_components form self.entry)) }
+    {
         let mut text = String::with_capacity(alloc, self.room())?;
         let scheme = push_scheme(&mut text, self.scheme, form)?;
         let authority = push_authority(&mut text, self.authority, form)?;
-        let path = self.push_path(&mut text, form)?;
-        let query = push_marked(&mut text, '?', self.query, form)?;
-        push_marked(&mut text, '#', self.fragment, form)?;
-        Ok((
-            text,
-            Lengths {
-                scheme,
-                authority,
-                path,
-                query,
-            },
-        ))
+        let path = push_path(&mut text, self.path, self.authority, form)?;
+        let query = push_marked(&mut text, "?", self.query, form)?;
+        push_marked(&mut text, "#", self.fragment, form)?;
+        let lengths = Lengths {
+            scheme,
+            authority,
+            path,
+            query,
+        };
+        Ok((text, lengths))
     }
 }

@@ -1,0 +1,45 @@
+-- The components of what is written, which are parts of other texts.
+use Rattle.std.specs.Prelude.{◌≡◌, ℕ, true, List, ◌∷◌, ◌++◌, length, Option, Some, None, option_map, option_copied, is_none}
+use Rattle.ref_uri.specs.declared.lengths.Lengths.{Lengths}
+use Rattle.ref_uri.specs.declared.target.PathOf.{PathOf}
+use Rattle.ref_uri.specs.declared.target.PathOf.TheVariants.{Kept, Removed, Merged}
+use Rattle.ref_uri.specs.declared.target.Target.{Target}
+use Rattle.ref_uri.specs.declared.written.Form.{Form}
+use Rattle.ref_uri.specs.Authority.{is_authority}
+use Rattle.ref_uri.specs.Components.{Components, if_there, is_scheme, is_path, is_query}
+use Rattle.ref_uri.specs.DotSegments.{remove_dot_segments}
+use Rattle.ref_uri.specs.Lengths.{the_lengths}
+use Rattle.ref_uri.specs.Normal.{guarded}
+use Rattle.ref_uri.specs.Written.{written, written_scheme, written_authority}
+
+abbrev pub written_path : Form → PathOf → List ℕ
+written_path form (Kept path) = written form path.now
+written_path form (Removed path) = remove_dot_segments (written form path.now)
+written_path form (Merged directory path) = remove_dot_segments (written form (directory.now ++ 47 ∷ path.now))
+
+abbrev pub written_components : Form → Target → Components
+written_components form target =
+    record {
+      scheme = option_map (written_scheme form) (option_copied target.scheme);
+      authority = option_map (written_authority form) (option_copied target.authority);
+      path = guarded (option_copied target.authority) (written_path form target.path);
+      query = option_map (written form) (option_copied target.query);
+      fragment = option_map (written form) (option_copied target.fragment);
+    }
+
+abbrev pub lengths_of_components : Components → Lengths
+lengths_of_components c = the_lengths (option_map length c.scheme) (option_map length c.authority) (length c.path) (option_map length c.query)
+
+-- the path's parts are paths
+abbrev pub AreParts : PathOf → Type 0
+AreParts (Kept path) = is_path path.now ≡ true
+AreParts (Removed path) = is_path path.now ≡ true
+AreParts (Merged directory path) = (is_path directory.now ≡ true) × (is_path path.now ≡ true)
+
+-- each part holds what it may
+pub record IsTarget (target : Target) : Type 0 where
+  pub scheme_test : if_there is_scheme (option_copied target.scheme) ≡ true
+  pub authority_test : if_there is_authority (option_copied target.authority) ≡ true
+  pub path_test : AreParts target.path
+  pub query_test : if_there is_query (option_copied target.query) ≡ true
+  pub fragment_test : if_there is_query (option_copied target.fragment) ≡ true
