@@ -1,6 +1,7 @@
 -- The components of what is written, which are parts of other texts.
 use Rattle.std.specs.Prelude.{◌≡◌, ℕ, true, List, ◌∷◌, ◌++◌, length, Option, Some, None, option_map, option_copied, is_none}
 use Rattle.ref_uri.specs.declared.lengths.Lengths.{Lengths}
+use Rattle.ref_uri.specs.declared.lengths.Parts.{Parts}
 use Rattle.ref_uri.specs.declared.target.PathOf.{PathOf}
 use Rattle.ref_uri.specs.declared.target.PathOf.TheVariants.{Kept, Removed, Merged}
 use Rattle.ref_uri.specs.declared.target.Target.{Target}
@@ -43,3 +44,19 @@ pub record IsTarget (target : Target) : Type 0 where
   pub path_test : AreParts target.path
   pub query_test : if_there is_query (option_copied target.query) ≡ true
   pub fragment_test : if_there is_query (option_copied target.fragment) ≡ true
+
+-- the components that stand in a text
+abbrev pub components_of : Parts → Components
+components_of parts =
+    record {
+      scheme = option_copied parts.scheme;
+      authority = option_copied parts.authority;
+      path = parts.path.now;
+      query = option_copied parts.query;
+      fragment = option_copied parts.fragment;
+    }
+
+-- a path, or a directory, a slash and the path
+abbrev pub behind_directory : Option (List ℕ) → List ℕ → List ℕ
+behind_directory None path = path
+behind_directory (Some directory) path = directory ++ 47 ∷ path

@@ -1,13 +1,14 @@
 //! What a target's text is composed of (RFC 3986, 5.2.2 and 5.3).
 ghost use Rattle.std.specs.Prelude.{◌≡◌, ◌≤◌, ◌++◌, ℕ, true, List, [], length, codes, Some, is_some, is_none, option_map, option_copied, string_bytes, IfOk, OnOk, IsAscii, ◌∷◌};
 ghost use Rattle.ref_uri.specs.Authority.{is_authority};
-ghost use Rattle.ref_uri.specs.Components.{Components, text_of, framed, if_there, is_scheme, is_path, is_query, begins_with_slashes};
-ghost use Rattle.ref_uri.specs.Normal.{guarded};
+ghost use Rattle.ref_uri.specs.Components.{Components, are_components, text_of, framed, if_there, is_scheme, is_path, is_query, begins_with_slashes};
+ghost use Rattle.ref_uri.specs.Normal.{guarded, normal};
+ghost use Rattle.ref_uri.specs.Resolution.{through_last_slash, merged, target_path, resolved_components};
 ghost use Rattle.ref_uri.specs.Written.{written, written_scheme, written_authority};
-ghost use Rattle.ref_uri.specs.Target.{written_path, written_components, lengths_of_components, AreParts, IsTarget};
+ghost use Rattle.ref_uri.specs.Target.{written_path, written_components, lengths_of_components, AreParts, IsTarget, components_of, behind_directory};
 
 use crate::dots::{push_merged_without_dots, push_without_dots};
-use crate::lengths::{Lengths, Parts};
+use crate::lengths::{Lengths, Parts, head};
 use crate::written::Form;
 use std::alloc::{AllocError, Global};
 
@@ -32,20 +33,37 @@ pub struct Target<'a> {
     pub fragment: Option<&'a str>,
 }
 
-/// What stands before the last slash of the base's path: with an authority, the root where the path is empty.
-fn directory(base: Parts<'_>) -> Option<&str> {
-    if base.authority.is_some() && base.path.is_empty() {
-        return Some("");
-    }
-    match base.path.rsplit_once('/') {
-        Some((directory, _)) => Some(directory),
+/// What stands before the last slash of a path.
+fn before_last_slash(path: &str) -> Option<&str>
+    requires { IsAscii path.now }
+    ensures value { (more : List ℕ) → through_last_slash path.now ++ more ≡ behind_directory (option_copied result) more }
+    ensures path { is_path path.now ≡ true → if_there is_path (option_copied result) ≡ true }
+{
+    match path.rfind('/') {
+        Some(slash) => Some(head(path, slash)),
         None => None,
     }
 }
 
-/// The path of the target of a reference that has one (RFC 3986, 5.2.2 and 5.2.3).
-fn path_behind<'a>(base: Parts<'a>, path: &'a str) -> PathOf<'a> {
-    if path.starts_with('/') {
+/// The directory that a relative path stands in: with an authority and an empty path it is the root (RFC 3986, 5.2.3).
+fn directory(base: Parts<'_>) -> Option<&str>
+    requires { IsAscii base.path.now }
+    ensures value { (path : List ℕ) → merged (components_of base.entry) path ≡ behind_directory (option_copied result) path }
+    ensures path { is_path base.entry.path.now ≡ true → if_there is_path (option_copied result) ≡ true }
+{
+    if base.authority.is_some() && base.path.is_empty() {
+        return Some("");
+    }
+    before_last_slash(base.path)
+}
+
+/// The path of the target of a reference that has one (RFC 3986, 5.2.2).
+fn path_behind<'a>(base: Parts<'a>, path: &'a str) -> PathOf<'a>
+    requires { IsAscii base.path.now }
+    ensures value { written_path Form.Given result ≡ target_path (components_of base.entry) path.now }
+    ensures parts { is_path base.entry.path.now ≡ true → is_path path.now ≡ true → AreParts result }
+{
+    if path.as_bytes().first() == Some(&b'/') {
         return PathOf::Removed(path);
     }
     match directory(base) {
@@ -55,15 +73,28 @@ fn path_behind<'a>(base: Parts<'a>, path: &'a str) -> PathOf<'a> {
 }
 
 /// The target of a reference against a base, by the five cases (RFC 3986, 5.2.2).
-pub fn resolved<'a>(base: Parts<'a>, reference: Parts<'a>) -> Target<'a> {
-    let fragment = reference.fragment;
-    if reference.scheme.is_some() || reference.authority.is_some() {
+pub fn resolved<'a>(base: Parts<'a>, reference: Parts<'a>) -> Target<'a>
+    requires base { are_components (components_of base) ≡ true }
+    requires reference { are_components (components_of reference) ≡ true }
+    ensures value { written_components Form.Given result ≡ resolved_components (components_of base.entry) (components_of reference.entry) }
+    ensures target { IsTarget result }
+{
+    if reference.scheme.is_some() {
         return Target {
-            scheme: reference.scheme.or(base.scheme),
+            scheme: reference.scheme,
             authority: reference.authority,
             path: PathOf::Removed(reference.path),
             query: reference.query,
-            fragment,
+            fragment: reference.fragment,
+        };
+    }
+    if reference.authority.is_some() {
+        return Target {
+            scheme: base.scheme,
+            authority: reference.authority,
+            path: PathOf::Removed(reference.path),
+            query: reference.query,
+            fragment: reference.fragment,
         };
     }
     if reference.path.is_empty() {
@@ -72,7 +103,7 @@ pub fn resolved<'a>(base: Parts<'a>, reference: Parts<'a>) -> Target<'a> {
             authority: base.authority,
             path: PathOf::Kept(base.path),
             query: reference.query.or(base.query),
-            fragment,
+            fragment: reference.fragment,
         };
     }
     Target {
@@ -80,19 +111,24 @@ pub fn resolved<'a>(base: Parts<'a>, reference: Parts<'a>) -> Target<'a> {
         authority: base.authority,
         path: path_behind(base, reference.path),
         query: reference.query,
-        fragment,
+        fragment: reference.fragment,
     }
 }
 
-/// The reference itself, with a scheme without dot segments.
-pub fn itself(reference: Parts<'_>) -> Target<'_> {
+/// A reference itself, without dot segments where it has a scheme.
+pub fn itself(reference: Parts<'_>) -> Target<'_>
+    requires { are_components (components_of reference) ≡ true }
+    ensures value { written_components Form.Normal result ≡ normal (components_of reference.entry) }
+    ensures target { IsTarget result }
+{
+    let path = match reference.scheme {
+        Some(_) => PathOf::Removed(reference.path),
+        None => PathOf::Kept(reference.path),
+    };
     Target {
         scheme: reference.scheme,
         authority: reference.authority,
-        path: match reference.scheme {
-            Some(_) => PathOf::Removed(reference.path),
-            None => PathOf::Kept(reference.path),
-        },
+        path,
         query: reference.query,
         fragment: reference.fragment,
     }
