@@ -13,6 +13,7 @@ pub mod LengthsLemmas
 pub mod NormalLemmas
 pub mod Induction
 pub mod AuthorityParts
+pub mod TargetLemmas
 pub mod NormalValid
 pub mod AuthorityText
 pub mod RemovalLaws

@@ -1,8 +1,9 @@
 //! What a target's text is composed of (RFC 3986, 5.2.2 and 5.3).
-ghost use Rattle.std.specs.Prelude.{◌≡◌, ◌≤◌, ◌++◌, ℕ, true, List, [], length, codes, Some, is_some, is_none, option_map, option_copied, string_bytes, IfOk, OnOk, IsAscii, ◌∷◌};
+ghost use Rattle.std.specs.Prelude.{◌≡◌, ◌≤◌, ◌++◌, ℕ, true, List, [], length, codes, Some, None, is_some, is_none, option_map, option_copied, string_bytes, IfOk, OnOk, IsAscii, ◌∷◌};
 ghost use Rattle.ref_uri.specs.Authority.{is_authority};
 ghost use Rattle.ref_uri.specs.Components.{Components, are_components, text_of, framed, if_there, is_scheme, is_path, is_query, begins_with_slashes};
-ghost use Rattle.ref_uri.specs.Normal.{guarded, normal};
+ghost use Rattle.ref_uri.specs.DotSegments.{remove_dot_segments};
+ghost use Rattle.ref_uri.specs.Normal.{guarded, normal, normal_text};
 ghost use Rattle.ref_uri.specs.Resolution.{through_last_slash, merged, target_path, resolved_components};
 ghost use Rattle.ref_uri.specs.Written.{written, written_scheme, written_authority};
 ghost use Rattle.ref_uri.specs.Target.{written_path, written_components, lengths_of_components, AreParts, IsTarget, components_of, behind_directory};
@@ -115,20 +116,28 @@ pub fn resolved<'a>(base: Parts<'a>, reference: Parts<'a>) -> Target<'a>
     }
 }
 
+/// The path of a reference itself: with a scheme it loses its dot segments.
+fn own_path<'a>(scheme: Option<&str>, path: &'a str) -> PathOf<'a>
+    ensures with_scheme { is_some (option_copied scheme.entry) ≡ true → written_path Form.Normal result ≡ remove_dot_segments (normal_text path.now) }
+    ensures without_scheme { option_copied scheme.entry ≡ None → written_path Form.Normal result ≡ normal_text path.now }
+    ensures parts { is_path path.now ≡ true → AreParts result }
+{
+    match scheme {
+        Some(_) => PathOf::Removed(path),
+        None => PathOf::Kept(path),
+    }
+}
+
 /// A reference itself, without dot segments where it has a scheme.
 pub fn itself(reference: Parts<'_>) -> Target<'_>
     requires { are_components (components_of reference) ≡ true }
     ensures value { written_components Form.Normal result ≡ normal (components_of reference.entry) }
     ensures target { IsTarget result }
 {
-    let path = match reference.scheme {
-        Some(_) => PathOf::Removed(reference.path),
-        None => PathOf::Kept(reference.path),
-    };
     Target {
         scheme: reference.scheme,
         authority: reference.authority,
-        path,
+        path: own_path(reference.scheme, reference.path),
         query: reference.query,
         fragment: reference.fragment,
     }

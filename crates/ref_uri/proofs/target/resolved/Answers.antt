@@ -1,0 +1,62 @@
+use Rattle.std.proofs.Common.{◌≡◌, ℕ, List, true, false, length, eqb, option_copied, Option, Bor, subst, is_some, ap, ◌∙◌, sym, arith, rules}
+use Rattle.std.specs.Str.{IsAscii}
+use Rattle.std.proofs.lemmas.Bool.Decides.{nat_tests}
+use Rattle.ref_uri.specs.Characters.{is_path_character}
+use Rattle.ref_uri.specs.Components.{Components, is_query, if_there}
+use Rattle.ref_uri.specs.Normal.{guarded}
+use Rattle.ref_uri.specs.Target.{components_of, written_path}
+use Rattle.ref_uri.specs.declared.written.Form.TheVariants.{Given}
+use Rattle.ref_uri.proofs.AsciiLemmas.{encoded_ascii, IsAscii-from_all_ascii}
+use Rattle.ref_uri.proofs.UniqueLemmas.{tested}
+use Rattle.ref_uri.proofs.TargetLemmas.{resolved_path, none_there, or_there, as_given, the_components}
+use Rattle.ref_uri.proofs.target.resolved.Goals as goal
+
+pub returns-then-is_some-clause-target : goal.returns-then-is_some-clause-target
+returns-then-is_some-clause-target c =
+    let t = tested (components_of c.args.reference) c.requires.reference in
+    record { scheme_test = t.scheme_test; authority_test = t.authority_test; path_test = t.path_test; query_test = t.query_test; fragment_test = t.fragment_test }
+
+pub returns-then-is_some-2-clause-target : goal.returns-then-is_some-2-clause-target
+returns-then-is_some-2-clause-target c =
+    let b = tested (components_of c.args.base) c.requires.base in
+    let t = tested (components_of c.args.reference) c.requires.reference in
+    record { scheme_test = b.scheme_test; authority_test = t.authority_test; path_test = t.path_test; query_test = t.query_test; fragment_test = t.fragment_test }
+
+pub returns-then-is_empty-clause-target : goal.returns-then-is_empty-clause-target
+returns-then-is_empty-clause-target c =
+    let b = tested (components_of c.args.base) c.requires.base in
+    let t = tested (components_of c.args.reference) c.requires.reference in
+    record {
+      scheme_test = b.scheme_test;
+      authority_test = b.authority_test;
+      path_test = b.path_test;
+      query_test = subst (λ (o : Option (Bor (List ℕ))). if_there is_query (option_copied o) ≡ true) (sym c.or.ensures) (or_there is_query c.args.reference.query c.args.base.query t.query_test b.query_test);
+      fragment_test = t.fragment_test;
+    }
+
+pub path_behind-requires : goal.path_behind-requires
+path_behind-requires c =
+    let b = tested (components_of c.args.base) c.requires.base in
+    IsAscii-from_all_ascii c.args.base.path.now (encoded_ascii is_path_character (λ d k. grind (arith, nat_tests)) c.args.base.path.now b.path_test)
+
+pub returns-clause-target : goal.returns-clause-target
+returns-clause-target c =
+    let b = tested (components_of c.args.base) c.requires.base in
+    let t = tested (components_of c.args.reference) c.requires.reference in
+    record {
+      scheme_test = b.scheme_test;
+      authority_test = b.authority_test;
+      path_test = c.path_behind.ensures.parts b.path_test t.path_test;
+      query_test = t.query_test;
+      fragment_test = t.fragment_test;
+    }
+
+pub returns-clause-value : goal.returns-clause-value
+returns-clause-value c =
+    let base = components_of c.args.base in
+    let reference = components_of c.args.reference in
+    let scheme = none_there c.args.reference.scheme (sym c.is_some.ensures ∙ c.if-is_some.false) in
+    let authority = none_there c.args.reference.authority (sym c.is_some-2.ensures ∙ c.if-is_some-2.false) in
+    as_given base.scheme base.authority (guarded base.authority (written_path Given c.path_behind.result)) reference.query reference.fragment
+    ∙ ap (λ path. the_components base.scheme base.authority (guarded base.authority path) reference.query reference.fragment) c.path_behind.ensures.value
+    ∙ sym (resolved_path base reference scheme authority (sym c.is_empty.ensures ∙ c.if-is_empty.false))
