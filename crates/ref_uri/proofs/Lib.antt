@@ -13,6 +13,8 @@ pub mod LengthsLemmas
 pub mod NormalLemmas
 pub mod Induction
 pub mod AuthorityParts
+pub mod ValidTargets
+pub mod PathValid
 pub mod TargetLemmas
 pub mod NormalValid
 pub mod AuthorityText

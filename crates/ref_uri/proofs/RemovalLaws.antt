@@ -23,7 +23,7 @@ use Rattle.ref_uri.proofs.SegmentLemmas.{segments_hold_no_slash, segments-append
 abbrev pub HasNoSlash : List ℕ → Type 0
 HasNoSlash text = list_all (λ c. not (eqb c 47)) text ≡ true
 
-no_slash_at : (text : List ℕ) → HasNoSlash text → (i : ℕ) → i < length text → get_or text i 0 ≢ 47
+pub no_slash_at : (text : List ℕ) → HasNoSlash text → (i : ℕ) → i < length text → get_or text i 0 ≢ 47
 no_slash_at text h i lt e =
     let passes : not (eqb (get_or text i 0) 47) ≡ true = AllPass-from_list_all (λ c. not (eqb c 47)) text h i 0 lt in
     false≢true (ap (λ c. not (eqb c 47)) (sym e) ∙ passes)
@@ -39,17 +39,18 @@ joined-push first xs s = ap (λ t. first ++ t) (behind_slashes-push xs s) ∙ sy
 joined-kept : (first : List ℕ) (kept : List (List ℕ)) (s : List ℕ) → joined (first ∷ reverse (s ∷ kept)) ≡ joined (first ∷ reverse kept) ++ 47 ∷ s
 joined-kept first kept s = ap (λ xs. joined (first ∷ xs)) (reverse-append (s ∷ []) kept) ∙ joined-push first (reverse kept) s
 
--- what stands before the slash in front of a text without one
+-- the slash in front of a text without one is the last
+pub slash_is_last : (path text : List ℕ) → HasNoSlash text → (i : ℕ) → length path < i → i < length (path ++ 47 ∷ text) → get_or (path ++ 47 ∷ text) i 0 ≢ 47
+slash_is_last path text h i past within e =
+    let j : i ≡ length path + suc (i - length path - 1) = omega arith in
+    let lt : i - length path - 1 < length text = omega (arith, length-append path (47 ∷ text)) in
+    no_slash_at text h (i - length path - 1) lt (sym (get_or-append-add path (47 ∷ text) (suc (i - length path - 1)) 0) ∙ ap (λ k. get_or (path ++ 47 ∷ text) k 0) (sym j) ∙ e)
+
+-- what stands before it
 before_last-behind : (path text : List ℕ) → HasNoSlash text → before_last is_slash (path ++ 47 ∷ text) ≡ path
 before_last-behind path text h =
-    before_last_at (path ++ 47 ∷ text) (length path) (omega (arith, length-append path (47 ∷ text))) (get_or_at path 47 text 0 (length path) refl) (λ i past within. later i past within)
+    before_last_at (path ++ 47 ∷ text) (length path) (omega (arith, length-append path (47 ∷ text))) (get_or_at path 47 text 0 (length path) refl) (slash_is_last path text h)
     ∙ take_at path (47 ∷ text) (length path) refl
-  where
-    later : (i : ℕ) → length path < i → i < length (path ++ 47 ∷ text) → get_or (path ++ 47 ∷ text) i 0 ≢ 47
-    later i past within e =
-        let j : i ≡ length path + suc (i - length path - 1) = omega arith in
-        let lt : i - length path - 1 < length text = omega (arith, length-append path (47 ∷ text)) in
-        no_slash_at text h (i - length path - 1) lt (sym (get_or-append-add path (47 ∷ text) (suc (i - length path - 1)) 0) ∙ ap (λ k. get_or (path ++ 47 ∷ text) k 0) (sym j) ∙ e)
 
 before_last-alone : (text : List ℕ) → HasNoSlash text → before_last is_slash text ≡ []
 before_last-alone text h = before_last_none text (no_slash_at text h)
@@ -72,19 +73,23 @@ step first kept s plain = elim (cases_Bool (is_dot s)) [ inl dot ↦ at_dot dot 
     at_dots (last ∷ kept) plain other dots =
         rw (other, dots, ne_eqb (suc (length kept)) 0 (λ e. absurd (omega arith))) (ap (before_last is_slash) (joined-kept first kept last) ∙ before_last-behind (joined (first ∷ reverse kept)) last plain.1.0)
 
--- the kept segments hold no slash either
-still_plain : (first : List ℕ) (kept : List (List ℕ)) (s : List ℕ) → AllByRecursion HasNoSlash (first ∷ kept) → HasNoSlash s → AllByRecursion HasNoSlash (first_after first kept s ∷ kept_after kept s)
-still_plain first kept s plain h = (
-      elim (is_dot_dot s && eqb (length kept) 0) as (λ b. HasNoSlash (cond b [] first)) [ true ↦ refl | false ↦ plain.0 ],
-      elim (is_dot s) as (λ b. AllByRecursion HasNoSlash (cond b kept (cond (is_dot_dot s) (drop 1 kept) (s ∷ kept)))) [
-        | true ↦ plain.1
-        | false ↦ elim (is_dot_dot s) as (λ b. AllByRecursion HasNoSlash (cond b (drop 1 kept) (s ∷ kept))) [ true ↦ all_but_first kept plain.1 | false ↦ (h, plain.1) ]
+-- what holds of the empty segment and of each segment so far holds of the kept ones
+pub each_kept : (P : List ℕ → Type 0) → P [] → (first : List ℕ) (kept : List (List ℕ)) (s : List ℕ) → AllByRecursion P (first ∷ kept) → P s → AllByRecursion P (first_after first kept s ∷ kept_after kept s)
+each_kept P root first kept s all h = (
+      elim (is_dot_dot s && eqb (length kept) 0) as (λ b. P (cond b [] first)) [ true ↦ root | false ↦ all.0 ],
+      elim (is_dot s) as (λ b. AllByRecursion P (cond b kept (cond (is_dot_dot s) (drop 1 kept) (s ∷ kept)))) [
+        | true ↦ all.1
+        | false ↦ elim (is_dot_dot s) as (λ b. AllByRecursion P (cond b (drop 1 kept) (s ∷ kept))) [ true ↦ all_but_first kept all.1 | false ↦ (h, all.1) ]
       ],
     )
   where
-    all_but_first : (xs : List (List ℕ)) → AllByRecursion HasNoSlash xs → AllByRecursion HasNoSlash (drop 1 xs)
-    all_but_first [] all = tt
-    all_but_first (x ∷ xs) all = all.1
+    all_but_first : (xs : List (List ℕ)) → AllByRecursion P xs → AllByRecursion P (drop 1 xs)
+    all_but_first [] each = tt
+    all_but_first (x ∷ xs) each = each.1
+
+-- the kept segments hold no slash either
+still_plain : (first : List ℕ) (kept : List (List ℕ)) (s : List ℕ) → AllByRecursion HasNoSlash (first ∷ kept) → HasNoSlash s → AllByRecursion HasNoSlash (first_after first kept s ∷ kept_after kept s)
+still_plain first kept s plain h = each_kept HasNoSlash refl first kept s plain h
 
 -- where the path stands once a segment that is no dot segment came
 abbrev behind : Bool → Progress

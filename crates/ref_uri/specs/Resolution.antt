@@ -17,6 +17,11 @@ merged base path = if is_some base.authority && (length base.path == 0) then 47 
 abbrev pub target_path : Components → List ℕ → List ℕ
 target_path base path = if slice_index path 0 == 47 then remove_dot_segments path else remove_dot_segments (merged base path)
 
+-- the reference's query, or the base's where it has none
+abbrev pub query_or : Option (List ℕ) → Option (List ℕ) → Option (List ℕ)
+query_or other None = other
+query_or other (Some query) = Some query
+
 -- The target of a reference with neither scheme nor authority: with no path it is the base's path, and the base's query
 -- where the reference has none (5.2.2).
 abbrev pub target_of_path : Components → Components → Components
@@ -25,10 +30,6 @@ target_of_path base reference =
     record { scheme = base.scheme; authority = base.authority; path = base.path; query = query_or base.query reference.query; fragment = reference.fragment }
     else
     record { scheme = base.scheme; authority = base.authority; path = target_path base reference.path; query = reference.query; fragment = reference.fragment }
-  where
-    query_or : Option (List ℕ) → Option (List ℕ) → Option (List ℕ)
-    query_or other None = other
-    query_or other (Some query) = Some query
 
 -- the target of a reference without scheme
 abbrev pub target_of_authority : Components → Components → Option (List ℕ) → Components

@@ -9,6 +9,7 @@ use Rattle.ref_uri.specs.declared.written.Form.TheVariants.{Given}
 use Rattle.ref_uri.proofs.AsciiLemmas.{encoded_ascii, IsAscii-from_all_ascii}
 use Rattle.ref_uri.proofs.UniqueLemmas.{tested}
 use Rattle.ref_uri.proofs.TargetLemmas.{resolved_path, none_there, or_there, as_given, the_components}
+use Rattle.ref_uri.proofs.ValidTargets.{from_tests}
 use Rattle.ref_uri.proofs.target.resolved.Goals as goal
 
 pub returns-then-is_some-clause-target : goal.returns-then-is_some-clause-target
