@@ -76,12 +76,12 @@ step first kept s plain = elim (cases_Bool (is_dot s)) [ inl dot ↦ at_dot dot 
 -- what holds of the empty segment and of each segment so far holds of the kept ones
 pub each_kept : (P : List ℕ → Type 0) → P [] → (first : List ℕ) (kept : List (List ℕ)) (s : List ℕ) → AllByRecursion P (first ∷ kept) → P s → AllByRecursion P (first_after first kept s ∷ kept_after kept s)
 each_kept P root first kept s all h = (
-      elim (is_dot_dot s && eqb (length kept) 0) as (λ b. P (cond b [] first)) [ true ↦ root | false ↦ all.0 ],
-      elim (is_dot s) as (λ b. AllByRecursion P (cond b kept (cond (is_dot_dot s) (drop 1 kept) (s ∷ kept)))) [
-        | true ↦ all.1
-        | false ↦ elim (is_dot_dot s) as (λ b. AllByRecursion P (cond b (drop 1 kept) (s ∷ kept))) [ true ↦ all_but_first kept all.1 | false ↦ (h, all.1) ]
-      ],
-    )
+  elim (is_dot_dot s && eqb (length kept) 0) as (λ b. P (cond b [] first)) [ true ↦ root | false ↦ all.0 ],
+  elim (is_dot s) as (λ b. AllByRecursion P (cond b kept (cond (is_dot_dot s) (drop 1 kept) (s ∷ kept)))) [
+    | true ↦ all.1
+    | false ↦ elim (is_dot_dot s) as (λ b. AllByRecursion P (cond b (drop 1 kept) (s ∷ kept))) [ true ↦ all_but_first kept all.1 | false ↦ (h, all.1) ]
+  ],
+)
   where
     all_but_first : (xs : List (List ℕ)) → AllByRecursion P xs → AllByRecursion P (drop 1 xs)
     all_but_first [] each = tt

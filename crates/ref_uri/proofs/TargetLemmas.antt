@@ -90,3 +90,10 @@ as_given s a p q f =
     ap (λ x. the_components x (option_map (λ text. text) a) p (option_map (λ text. text) q) (option_map (λ text. text) f)) (map_given s)
     ∙ ap (λ x. the_components s x p (option_map (λ text. text) q) (option_map (λ text. text) f)) (map_given a)
     ∙ ap (λ x. the_components s a p x (option_map (λ text. text) f)) (map_given q) ∙ ap (λ x. the_components s a p q x) (map_given f)
+
+-- components that are the same one by one
+pub each_same : (c d : Components) → c.scheme ≡ d.scheme → c.authority ≡ d.authority → c.path ≡ d.path → c.query ≡ d.query → c.fragment ≡ d.fragment → c ≡ d
+each_same c d s a p q f =
+    ap (λ x. the_components x c.authority c.path c.query c.fragment) s ∙ ap (λ x. the_components d.scheme x c.path c.query c.fragment) a
+    ∙ ap (λ x. the_components d.scheme d.authority x c.query c.fragment) p ∙ ap (λ x. the_components d.scheme d.authority d.path x c.fragment) q
+    ∙ ap (λ x. the_components d.scheme d.authority d.path d.query x) f

@@ -79,8 +79,15 @@ pub enum ResolveError {
 }
 
 impl fmt::Display for ResolveError {
+    ghost use Rattle.std.specs.Prelude.{Some};
+    ghost use Rattle.ref_uri.specs.Errors.{resolve_error_text};
+
+    ghost output = { λ e. Some (resolve_error_text e) };
+
     fn fmt<W: fmt::Write>(&self, f: &mut fmt::Formatter<W>) -> fmt::Result {
-        write!(f, "the base has no scheme")
+        match self {
+            ResolveError::BaseWithoutScheme => write!(f, "the base has no scheme"),
+        }
     }
 }
 
@@ -94,10 +101,37 @@ pub enum ResolveFault {
 }
 
 impl fmt::Display for ResolveFault {
+    ghost use Rattle.std.specs.Prelude.{Some};
+    ghost use Rattle.ref_uri.specs.Errors.{resolve_fault_text};
+
+    ghost output = { λ e. Some (resolve_fault_text e) };
+
     fn fmt<W: fmt::Write>(&self, f: &mut fmt::Formatter<W>) -> fmt::Result {
         match self {
             ResolveFault::Invalid(error) => write!(f, "{error}"),
             ResolveFault::Memory(_) => write!(f, "Out of memory"),
         }
+    }
+}
+
+impl From<ResolveError> for ResolveFault {
+    ghost use Rattle.std.specs.Prelude.{◌≡◌};
+    ghost use Rattle.ref_uri.specs.declared.error.ResolveFault.TheVariants as resolve_fault;
+
+    ghost from_gives = { λ error fault. fault ≡ resolve_fault.Invalid error };
+
+    fn from(error: ResolveError) -> ResolveFault {
+        ResolveFault::Invalid(error)
+    }
+}
+
+impl From<AllocError> for ResolveFault {
+    ghost use Rattle.std.specs.Prelude.{◌≡◌};
+    ghost use Rattle.ref_uri.specs.declared.error.ResolveFault.TheVariants as resolve_fault;
+
+    ghost from_gives = { λ error fault. fault ≡ resolve_fault.Memory error };
+
+    fn from(error: AllocError) -> ResolveFault {
+        ResolveFault::Memory(error)
     }
 }

@@ -18,7 +18,7 @@ mod traits;
 mod uri;
 mod written;
 
-pub use error::{ParseError, UriParseFault};
+pub use error::{ParseError, ResolveError, ResolveFault, UriParseFault};
 pub use reference::UriRef;
 pub use uri::Uri;
 

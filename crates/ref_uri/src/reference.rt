@@ -1,10 +1,14 @@
 //! A URI reference that borrows its text.
-ghost use Rattle.std.specs.Prelude.{◌≡◌, List, ℕ, is_ok, is_some, None, IfOk, IfErr, option_copied};
-ghost use Rattle.ref_uri.specs.Components.{scheme, authority, path, query, fragment};
+ghost use Rattle.std.specs.Prelude.{◌≡◌, ◌↔◌, List, ℕ, true, is_ok, is_some, None, IfOk, IfErr, IsErrOf, option_copied, string_bytes};
+ghost use Rattle.ref_uri.specs.Components.{components, are_components, scheme, authority, path, query, fragment};
+ghost use Rattle.ref_uri.specs.Normal.{normal, normal_form};
 ghost use Rattle.ref_uri.specs.Reference.{is_uri_reference, with_fragment};
+ghost use Rattle.ref_uri.specs.Resolution.{resolved};
+ghost use Rattle.ref_uri.specs.Target.{components_of, lengths_of_components};
 
-use crate::error::ParseError;
+use crate::error::{ParseError, ResolveError, ResolveFault};
 use crate::lengths::{self, Lengths, Parts};
+use crate::uri::Uri;
 use crate::written::Form;
 use crate::{parser, target};
 use std::alloc::{AllocError, Global};
@@ -50,26 +54,49 @@ impl<'a> UriRef<'a> {
         UriRef { text, lengths }
     }
 
-    /// The text in normal form.
-    pub fn normalize(&self, alloc: Global) -> Result<String, AllocError> {
-        let (text, _) = target::itself(self.parts()).write(alloc, Form::Normal)?;
-        Ok(text)
-    }
-
-    /// The target of the reference.
-    pub fn resolved_text(&self, alloc: Global, base: &UriRef<'_>) -> Result<String, AllocError> {
-        let (text, _) = target::resolved(base.parts(), self.parts()).write(alloc, Form::Given)?;
-        Ok(text)
-    }
-
     fn parts(&self) -> Parts<'a>
         ensures scheme { option_copied result.scheme ≡ scheme self.now }
         ensures authority { option_copied result.authority ≡ authority self.now }
         ensures path { result.path.now ≡ path self.now }
         ensures query { option_copied result.query ≡ query self.now }
         ensures fragment { option_copied result.fragment ≡ fragment self.now }
+        ensures all { components_of result ≡ components self.now }
+        ensures hold { are_components (components_of result) ≡ true }
     {
         self.lengths.parts(self.text)
+    }
+
+    /// The text in normal form, and how long its components are.
+    pub(crate) fn normalized(&self, alloc: Global) -> Result<(String, Lengths), AllocError>
+        ensures text { IfOk result (λ t. string_bytes t.0 ≡ normal_form self.now) }
+        ensures lengths { IfOk result (λ t. t.1 ≡ lengths_of_components (normal (components self.now))) }
+    {
+        target::itself(self.parts()).write(alloc, Form::Normal)
+    }
+
+    /// The normal form of the reference's text (RFC 3986, 6.2.2 and 3.2.3): scheme and host in lower case, triples of
+    /// unreserved characters decoded and the digits of others in upper case, an empty port without its `:`, and with a
+    /// scheme no dot segments. Takes memory once, and is refused where there is none. Linear in the text.
+    pub fn normalize(&self, alloc: Global) -> Result<String, AllocError>
+        ensures { IfOk result (λ text. string_bytes text ≡ normal_form self.now) }
+    {
+        let (text, _) = self.normalized(alloc)?;
+        Ok(text)
+    }
+
+    /// The target of the reference against a base (RFC 3986, 5.2.2, strict), not normalised. `BaseWithoutScheme` exactly
+    /// where the base has no scheme, `Memory` where there is none for the target. The base's fragment takes no part. Takes
+    /// memory once. Linear in the two texts.
+    pub fn resolve_against(self, alloc: Global, base: UriRef<'_>) -> Result<Uri, ResolveFault>
+        ensures value { IfOk result (λ uri. uri ≡ resolved base.entry self.entry) }
+        ensures no_scheme { IsErrOf result (ResolveFault.Invalid ResolveError.BaseWithoutScheme) ↔ (scheme base.entry ≡ None) }
+    {
+        if !base.has_scheme() {
+            return Err(ResolveFault::Invalid(ResolveError::BaseWithoutScheme));
+        }
+        let target = target::resolved(base.parts(), self.parts());
+        let (text, lengths) = target.write(alloc, Form::Given)?;
+        Ok(Uri::from_written(text, lengths))
     }
 
     /// The text.

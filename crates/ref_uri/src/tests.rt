@@ -140,8 +140,8 @@ fn resolves_as_the_standard(rt: HostRuntime) -> Result<(), Fail> {
         ("http:g", "http:g"),
     ] {
         let base = UriRef::parse("http://a/b/c/d;p?q")?;
-        let text = UriRef::parse(reference)?.resolved_text(rt.alloc(), &base)?;
-        assert_eq!(rt; text.as_str(), target, "{reference}");
+        let uri = UriRef::parse(reference)?.resolve_against(rt.alloc(), base)?;
+        assert_eq!(rt; uri.as_str(), target, "{reference}");
     }
     for (text, normal) in [
         (

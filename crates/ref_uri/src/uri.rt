@@ -1,6 +1,8 @@
 //! A URI with a scheme that owns its text.
-ghost use Rattle.std.specs.Prelude.{◌≡◌, ◌↔◌, Some, None, List, ℕ, false, true, is_ok, is_some, IsOk, IfOk, IfErr, OnOk, OnErr, IsErrOf, option_copied};
+ghost use Rattle.std.specs.Prelude.{◌≡◌, ◌↔◌, Some, None, List, ℕ, false, true, string_bytes, is_ok, is_some, IsOk, IfOk, IfErr, OnOk, OnErr, IsErrOf, option_copied};
 ghost use Rattle.ref_uri.specs.Components.{scheme, authority, path, query, fragment, if_there, is_query};
+ghost use Rattle.ref_uri.specs.Lengths.{IsParsedUri};
+ghost use Rattle.ref_uri.specs.Normal.{normal_form};
 ghost use Rattle.ref_uri.specs.Reference.{is_uri_reference, is_uri, with_fragment};
 
 use crate::characters::{self, Class};
@@ -52,6 +54,23 @@ impl Uri {
         ensures { result ≡ self.now }
     {
         UriRef::from_parsed(self.text.as_str(), self.lengths)
+    }
+
+    /// The URI that a text is whose components are so long.
+    pub(crate) fn from_written(text: String, lengths: Lengths) -> Uri
+        requires { IsParsedUri (string_bytes text) lengths }
+        ensures { result ≡ string_bytes text }
+    {
+        Uri { text, lengths }
+    }
+
+    /// The normal form of the URI (RFC 3986, 6.2.2 and 3.2.3), as [`UriRef::normalize`] has it. Takes memory once, and is
+    /// refused where there is none. Linear in the text.
+    pub fn normalize(&self, alloc: Global) -> Result<Uri, AllocError>
+        ensures { IfOk result (λ uri. uri ≡ normal_form self.now) }
+    {
+        let (text, lengths) = self.borrow().normalized(alloc)?;
+        Ok(Uri::from_written(text, lengths))
     }
 
     pub(crate) fn copy_of(uri: &Uri) -> Result<Uri, AllocError>

@@ -33,9 +33,9 @@ loop-segment-preserved c =
     let more : map form (c.loop-segment.yielded ++ c.in-Some.segment ∷ []) ≡ so_far ++ segment ∷ [] = map_push form c.loop-segment.yielded c.in-Some.segment in
     let inv = c.loop-segment.invariant in (
       λ before path e n.
-      c.in_ok-progress.ensures.text before (path_after c.args.progress path so_far) (inv.0 before path e n) n
-      ∙ ap (λ p. before ++ path_then p (path_after c.args.progress path so_far) segment) inv.1
-      ∙ ap (λ t. before ++ t) (sym (path_after-push c.args.progress path so_far segment) ∙ ap (path_after c.args.progress path) (sym more)),
+          c.in_ok-progress.ensures.text before (path_after c.args.progress path so_far) (inv.0 before path e n) n
+          ∙ ap (λ p. before ++ path_then p (path_after c.args.progress path so_far) segment) inv.1
+          ∙ ap (λ t. before ++ t) (sym (path_after-push c.args.progress path so_far segment) ∙ ap (path_after c.args.progress path) (sym more)),
       c.in_ok-progress.ensures.progress ∙ ap (λ p. progress_then p segment) inv.1 ∙ sym (progress_after-push c.args.progress so_far segment) ∙ ap (progress_after c.args.progress) (sym more),
       c.in_ok-progress.ensures.ascii,
       c.in_ok-progress.ensures.start,

@@ -1,0 +1,76 @@
+-- A text that is written from components with a scheme is a URI whose components are so long.
+use Rattle.std.proofs.Common.{◌≡◌, ℕ, Bool, true, false, cond, List, length, map, eqb, Option, Some, None, is_some, option_map, refl, ap, sym, ◌∙◌, subst}
+use Rattle.ref_uri.specs.declared.lengths.Lengths.{Lengths}
+use Rattle.ref_uri.specs.Components.{Components, components, are_components, text_of, scheme}
+use Rattle.ref_uri.specs.Lengths.{IsParsedUri}
+use Rattle.ref_uri.specs.Reference.{is_uri_reference}
+use Rattle.ref_uri.specs.Normal.{normal, normal_form}
+use Rattle.ref_uri.specs.Resolution.{resolved, resolved_components, with_guard, query_or, target_path, target_of_authority, target_of_scheme}
+use Rattle.ref_uri.specs.Target.{lengths_of_components}
+use Rattle.std.specs.Char.{to_ascii_lowercase}
+use Rattle.std.proofs.lemmas.Bool.{false≢true}
+use Rattle.ref_uri.proofs.ValidTargets.{resolved_is_valid, normal_is_valid}
+use Rattle.ref_uri.proofs.AsciiLemmas.{reference_ascii}
+use Rattle.ref_uri.proofs.UniqueLemmas.{components-text_of}
+
+written_reference : (c : Components) → are_components c ≡ true → is_uri_reference (text_of c) ≡ true
+unfolding is_uri_reference
+written_reference c h = ap are_components (components-text_of c h) ∙ h
+
+pub written_uri : (c : Components) (text : List ℕ) (lengths : Lengths) → are_components c ≡ true → is_some c.scheme ≡ true → text ≡ text_of c → lengths ≡ lengths_of_components c → IsParsedUri text lengths
+written_uri c text lengths h there is long =
+    let reference : is_uri_reference text ≡ true = ap is_uri_reference is ∙ written_reference c h in
+    let found : components text ≡ c = ap components is ∙ components-text_of c h in (
+      record { ascii = reference_ascii text reference; reference = reference; lengths_are = long ∙ ap lengths_of_components (sym found) },
+      ap (λ (d : Components). is_some d.scheme) found ∙ there,
+    )
+
+-- a reference's components hold what they may
+pub components_hold : (text : List ℕ) → is_uri_reference text ≡ true → are_components (components text) ≡ true
+unfolding is_uri_reference
+components_hold text h = h
+
+-- the text of the normal form
+pub normal_text_of : (c : Components) (text : List ℕ) → c ≡ components text → text_of (normal c) ≡ normal_form text
+unfolding normal_form
+normal_text_of c text is = ap (λ d. text_of (normal d)) is
+
+-- the text of the target
+pub resolved_text_of : (b r : Components) (base reference : List ℕ) → b ≡ components base → r ≡ components reference → text_of (resolved_components b r) ≡ resolved base reference
+unfolding resolved
+resolved_text_of b r base reference is are = ap (λ d. text_of (resolved_components d r)) is ∙ ap (λ d. text_of (resolved_components (components base) d)) are
+
+some_there : (o : Option (List ℕ)) → is_some o ≡ true → (x : List ℕ) × (o ≡ Some x)
+some_there None h = absurd (false≢true h)
+some_there (Some x) h = (x, refl)
+
+-- a target has a scheme
+target_has_scheme : (base reference : Components) → is_some base.scheme ≡ true → is_some (resolved_components base reference).scheme ≡ true
+target_has_scheme base reference h = by_scheme reference.scheme
+  where
+    by_path : (empty : Bool) (kept behind : Components) → is_some kept.scheme ≡ true → is_some behind.scheme ≡ true → is_some (with_guard (cond empty kept behind)).scheme ≡ true
+    by_path true kept behind k b = k
+    by_path false kept behind k b = b
+
+    by_authority : (a : Option (List ℕ)) → is_some (with_guard (target_of_authority base reference a)).scheme ≡ true
+    by_authority (Some x) = h
+    by_authority None =
+        by_path (eqb (length reference.path) 0) (record { scheme = base.scheme; authority = base.authority; path = base.path; query = query_or base.query reference.query; fragment = reference.fragment }) (record { scheme = base.scheme; authority = base.authority; path = target_path base reference.path; query = reference.query; fragment = reference.fragment }) h h
+
+    by_scheme : (s : Option (List ℕ)) → is_some (with_guard (target_of_scheme base reference s)).scheme ≡ true
+    by_scheme (Some x) = refl
+    by_scheme None = by_authority reference.authority
+
+-- the target of a reference, written, is a URI
+pub resolved_uri : (base reference : Components) (text : List ℕ) (lengths : Lengths) → is_some base.scheme ≡ true → are_components base ≡ true → are_components reference ≡ true → text ≡ text_of (resolved_components base reference) → lengths ≡ lengths_of_components (resolved_components base reference) → IsParsedUri text lengths
+resolved_uri base reference text lengths scheme h k is long =
+    let there = some_there base.scheme scheme in
+    written_uri (resolved_components base reference) text lengths (resolved_is_valid base reference there.0 there.1 h k) (target_has_scheme base reference scheme) is long
+
+-- the normal form of a URI, written, is a URI
+pub normal_uri : (c : Components) (text : List ℕ) (lengths : Lengths) → is_some c.scheme ≡ true → are_components c ≡ true → text ≡ text_of (normal c) → lengths ≡ lengths_of_components (normal c) → IsParsedUri text lengths
+normal_uri c text lengths scheme h is long = written_uri (normal c) text lengths (normal_is_valid c h) (mapped c.scheme scheme) is long
+  where
+    mapped : (o : Option (List ℕ)) → is_some o ≡ true → is_some (option_map (map to_ascii_lowercase) o) ≡ true
+    mapped None k = k
+    mapped (Some x) k = refl
