@@ -13,6 +13,7 @@ pub mod LengthsLemmas
 pub mod NormalLemmas
 pub mod Induction
 pub mod AuthorityParts
+pub mod Meanings
 pub mod WrittenUri
 pub mod ValidTargets
 pub mod PathValid

@@ -1,12 +1,13 @@
 -- A text that is written from components with a scheme is a URI whose components are so long.
-use Rattle.std.proofs.Common.{◌≡◌, ℕ, Bool, true, false, cond, List, length, map, eqb, Option, Some, None, is_some, option_map, refl, ap, sym, ◌∙◌, subst}
+use Rattle.std.proofs.Common.{◌≡◌, ℕ, Bool, true, false, cond, List, length, map, eqb, Option, Some, None, is_some, option_map, Result, Ok, Err, refl, ap, sym, ◌∙◌, subst}
 use Rattle.ref_uri.specs.declared.lengths.Lengths.{Lengths}
 use Rattle.ref_uri.specs.Components.{Components, components, are_components, text_of, scheme}
-use Rattle.ref_uri.specs.Lengths.{IsParsedUri}
+use Rattle.ref_uri.specs.Lengths.{IsParsed, IsParsedUri}
 use Rattle.ref_uri.specs.Reference.{is_uri_reference}
 use Rattle.ref_uri.specs.Normal.{normal, normal_form}
 use Rattle.ref_uri.specs.Resolution.{resolved, resolved_components, with_guard, query_or, target_path, target_of_authority, target_of_scheme}
 use Rattle.ref_uri.specs.Target.{lengths_of_components}
+use Rattle.std.specs.Result.{IfOk}
 use Rattle.std.specs.Char.{to_ascii_lowercase}
 use Rattle.std.proofs.lemmas.Bool.{false≢true}
 use Rattle.ref_uri.proofs.ValidTargets.{resolved_is_valid, normal_is_valid}
@@ -17,13 +18,19 @@ written_reference : (c : Components) → are_components c ≡ true → is_uri_re
 unfolding is_uri_reference
 written_reference c h = ap are_components (components-text_of c h) ∙ h
 
-pub written_uri : (c : Components) (text : List ℕ) (lengths : Lengths) → are_components c ≡ true → is_some c.scheme ≡ true → text ≡ text_of c → lengths ≡ lengths_of_components c → IsParsedUri text lengths
-written_uri c text lengths h there is long =
+-- a text that is written from components that hold what they may
+pub written_parsed : (c : Components) (text : List ℕ) (lengths : Lengths) → are_components c ≡ true → text ≡ text_of c → lengths ≡ lengths_of_components c → IsParsed text lengths
+written_parsed c text lengths h is long =
     let reference : is_uri_reference text ≡ true = ap is_uri_reference is ∙ written_reference c h in
-    let found : components text ≡ c = ap components is ∙ components-text_of c h in (
-      record { ascii = reference_ascii text reference; reference = reference; lengths_are = long ∙ ap lengths_of_components (sym found) },
-      ap (λ (d : Components). is_some d.scheme) found ∙ there,
-    )
+    let found : components text ≡ c = ap components is ∙ components-text_of c h in
+    record { ascii = reference_ascii text reference; reference = reference; lengths_are = long ∙ ap lengths_of_components (sym found) }
+
+-- the scheme of a text that is written
+pub written_scheme_is : (c : Components) (text : List ℕ) → are_components c ≡ true → text ≡ text_of c → scheme text ≡ c.scheme
+written_scheme_is c text h is = ap (λ (d : Components). d.scheme) (ap components is ∙ components-text_of c h)
+
+pub written_uri : (c : Components) (text : List ℕ) (lengths : Lengths) → are_components c ≡ true → is_some c.scheme ≡ true → text ≡ text_of c → lengths ≡ lengths_of_components c → IsParsedUri text lengths
+written_uri c text lengths h there is long = (written_parsed c text lengths h is long, ap is_some (written_scheme_is c text h is) ∙ there)
 
 -- a reference's components hold what they may
 pub components_hold : (text : List ℕ) → is_uri_reference text ≡ true → are_components (components text) ≡ true
@@ -67,10 +74,19 @@ resolved_uri base reference text lengths scheme h k is long =
     let there = some_there base.scheme scheme in
     written_uri (resolved_components base reference) text lengths (resolved_is_valid base reference there.0 there.1 h k) (target_has_scheme base reference scheme) is long
 
--- the normal form of a URI, written, is a URI
-pub normal_uri : (c : Components) (text : List ℕ) (lengths : Lengths) → is_some c.scheme ≡ true → are_components c ≡ true → text ≡ text_of (normal c) → lengths ≡ lengths_of_components (normal c) → IsParsedUri text lengths
-normal_uri c text lengths scheme h is long = written_uri (normal c) text lengths (normal_is_valid c h) (mapped c.scheme scheme) is long
+-- a normal form, written
+pub normal_parsed : (c : Components) (text : List ℕ) (lengths : Lengths) → are_components c ≡ true → text ≡ text_of (normal c) → lengths ≡ lengths_of_components (normal c) → IsParsed text lengths
+normal_parsed c text lengths h is long = written_parsed (normal c) text lengths (normal_is_valid c h) is long
+
+-- a normal form has a scheme where what it is of has one
+pub normal_scheme : (c : Components) (text : List ℕ) → are_components c ≡ true → text ≡ text_of (normal c) → is_some (scheme text) ≡ is_some c.scheme
+normal_scheme c text h is = ap is_some (written_scheme_is (normal c) text (normal_is_valid c h) is) ∙ mapped c.scheme
   where
-    mapped : (o : Option (List ℕ)) → is_some o ≡ true → is_some (option_map (map to_ascii_lowercase) o) ≡ true
-    mapped None k = k
-    mapped (Some x) k = refl
+    mapped : (o : Option (List ℕ)) → is_some (option_map (map to_ascii_lowercase) o) ≡ is_some o
+    mapped None = refl
+    mapped (Some x) = refl
+
+-- two facts on what a call answers
+pub both_if_ok : {X E : Type 0} (r : Result X E) (P Q : X → Type 0) → IfOk r P → IfOk r Q → IfOk r (λ x. P x × Q x)
+both_if_ok (Ok x) P Q h k = (h, k)
+both_if_ok (Err e) P Q h k = tt

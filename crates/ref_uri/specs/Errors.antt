@@ -1,5 +1,10 @@
 -- The texts of what is refused.
-use Rattle.std.specs.Prelude.{ℕ, List, codes}
+use Rattle.std.specs.Prelude.{◌≡◌, ℕ, List, ◌++◌, true, ⊤, codes, string_bytes, Result, Ok, Err, if◌then◌else◌}
+use Rattle.ref_uri.specs.Targets.{Refusal, unparsed, unresolved}
+use Rattle.ref_uri.specs.declared.error.UriError.{UriError}
+use Rattle.ref_uri.specs.declared.error.UriError.TheVariants.{Parse, Resolve}
+use Rattle.ref_uri.specs.declared.error.UriFault.{UriFault}
+use Rattle.ref_uri.specs.declared.error.UriFault.TheVariants as uri_fault
 use Rattle.ref_uri.specs.declared.error.ParseError.{ParseError}
 use Rattle.ref_uri.specs.declared.error.ParseError.TheVariants.{Syntax, NoScheme}
 use Rattle.ref_uri.specs.declared.error.ResolveError.{ResolveError}
@@ -23,3 +28,30 @@ resolve_error_text BaseWithoutScheme = codes "the base has no scheme"
 abbrev pub resolve_fault_text : ResolveFault → List ℕ
 resolve_fault_text (resolve_fault.Invalid error) = resolve_error_text error
 resolve_fault_text (resolve_fault.Memory error) = codes "Out of memory"
+
+abbrev pub uri_error_text : UriError → List ℕ
+uri_error_text (Parse uri is_reference error) =
+    codes "Invalid URI " ++ (if is_reference then codes "reference '" else codes "'") ++ string_bytes uri ++ codes "': " ++ parse_error_text error
+uri_error_text (Resolve uri base error) =
+    codes "Failed to resolve '" ++ string_bytes uri ++ codes "' against '" ++ string_bytes base ++ codes "': " ++ resolve_error_text error
+
+abbrev pub uri_fault_text : UriFault → List ℕ
+uri_fault_text (uri_fault.Invalid error) = uri_error_text error
+uri_fault_text (uri_fault.Memory error) = codes "Out of memory"
+
+-- the error says what the definition refuses
+abbrev pub SaysRefusal : UriError → Refusal → Type 0
+SaysRefusal (Parse uri is_reference error) (unparsed text) = (string_bytes uri ≡ text) × (is_reference ≡ true) × (error ≡ Syntax)
+SaysRefusal (Parse uri is_reference error) (unresolved text against) = ⊥
+SaysRefusal (Resolve uri base error) (unparsed text) = ⊥
+SaysRefusal (Resolve uri base error) (unresolved text against) = (string_bytes uri ≡ text) × (string_bytes base ≡ against) × (error ≡ BaseWithoutScheme)
+
+-- the fault is that of the definition, or want of memory
+abbrev pub IsFaultOf : Result (List ℕ) Refusal → UriFault → Type 0
+IsFaultOf meaning (uri_fault.Invalid error) = (refusal : Refusal) × (meaning ≡ Err refusal) × SaysRefusal error refusal
+IsFaultOf meaning (uri_fault.Memory error) = ⊤
+
+-- P, unless memory ran out
+abbrev pub IfInvalid : UriFault → Type 0 → Type 0
+IfInvalid (uri_fault.Invalid error) P = P
+IfInvalid (uri_fault.Memory error) P = ⊤

@@ -135,3 +135,86 @@ impl From<AllocError> for ResolveFault {
         ResolveFault::Memory(error)
     }
 }
+
+/// Why a text means no URI.
+#[derive(Debug, PartialEq, Eq, Drop)]
+pub enum UriError {
+    /// The text is no URI reference, or, where `is_reference` is false, no URI. No call here answers the latter.
+    Parse {
+        uri: String,
+        is_reference: bool,
+        error: ParseError,
+    },
+    /// The text has no target against the base.
+    Resolve {
+        uri: String,
+        base: String,
+        error: ResolveError,
+    },
+}
+
+impl fmt::Display for UriError {
+    ghost use Rattle.std.specs.Prelude.{Some};
+    ghost use Rattle.ref_uri.specs.Errors.{uri_error_text};
+
+    ghost output = { λ e. Some (uri_error_text e) };
+
+    fn fmt<W: fmt::Write>(&self, f: &mut fmt::Formatter<W>) -> fmt::Result {
+        match self {
+            UriError::Parse {
+                uri,
+                is_reference: true,
+                error,
+            } => write!(f, "Invalid URI reference '{uri}': {error}"),
+            UriError::Parse { uri, error, .. } => write!(f, "Invalid URI '{uri}': {error}"),
+            UriError::Resolve { uri, base, error } => {
+                write!(f, "Failed to resolve '{uri}' against '{base}': {error}")
+            }
+        }
+    }
+}
+
+/// Why no [`Uri`](crate::Uri) came of a text, alone or against a base.
+#[derive(Debug, PartialEq, Eq, Drop)]
+pub enum UriFault {
+    /// The text means no URI.
+    Invalid(UriError),
+    /// Memory ran out.
+    Memory(AllocError),
+}
+
+impl fmt::Display for UriFault {
+    ghost use Rattle.std.specs.Prelude.{Some};
+    ghost use Rattle.ref_uri.specs.Errors.{uri_fault_text};
+
+    ghost output = { λ e. Some (uri_fault_text e) };
+
+    fn fmt<W: fmt::Write>(&self, f: &mut fmt::Formatter<W>) -> fmt::Result {
+        match self {
+            UriFault::Invalid(error) => write!(f, "{error}"),
+            UriFault::Memory(_) => write!(f, "Out of memory"),
+        }
+    }
+}
+
+impl From<UriError> for UriFault {
+    ghost use Rattle.std.specs.Prelude.{◌≡◌};
+    ghost use Rattle.ref_uri.specs.declared.error.UriFault.TheVariants as uri_fault;
+
+    ghost from_gives = { λ error fault. fault ≡ uri_fault.Invalid error };
+
+    fn from(error: UriError) -> UriFault {
+        UriFault::Invalid(error)
+    }
+}
+
+impl From<AllocError> for UriFault {
+    ghost use Rattle.std.specs.Prelude.{◌≡◌};
+    ghost use Rattle.ref_uri.specs.declared.error.UriFault.TheVariants as uri_fault;
+
+    ghost from_gives = { λ error fault. fault ≡ uri_fault.Memory error };
+
+    fn from(error: AllocError) -> UriFault {
+        UriFault::Memory(error)
+    }
+}

@@ -15,10 +15,10 @@ mod parser;
 mod reference;
 mod target;
 mod traits;
-mod uri;
+pub mod uri;
 mod written;
 
-pub use error::{ParseError, ResolveError, ResolveFault, UriParseFault};
+pub use error::{ParseError, ResolveError, ResolveFault, UriError, UriFault, UriParseFault};
 pub use reference::UriRef;
 pub use uri::Uri;
 

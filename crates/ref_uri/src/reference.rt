@@ -69,7 +69,8 @@ impl<'a> UriRef<'a> {
     /// The text in normal form, and how long its components are.
     pub(crate) fn normalized(&self, alloc: Global) -> Result<(String, Lengths), AllocError>
         ensures text { IfOk result (λ t. string_bytes t.0 ≡ normal_form self.now) }
-        ensures lengths { IfOk result (λ t. t.1 ≡ lengths_of_components (normal (components self.now))) }
+        ensures parsed { IfOk result (λ t. IsParsed (string_bytes t.0) t.1) }
+        ensures scheme { IfOk result (λ t. is_some (scheme (string_bytes t.0)) ≡ is_some (scheme self.now)) }
     {
         target::itself(self.parts()).write(alloc, Form::Normal)
     }
@@ -82,6 +83,15 @@ impl<'a> UriRef<'a> {
     {
         let (text, _) = self.normalized(alloc)?;
         Ok(text)
+    }
+
+    /// The reference, copied, where it has a scheme.
+    pub(crate) fn to_uri(&self, alloc: Global) -> Result<Uri, AllocError>
+        requires { is_some (scheme self.now) ≡ true }
+        ensures { IfOk result (λ uri. uri ≡ self.now) }
+    {
+        let text = String::from_str(alloc, self.text)?;
+        Ok(Uri::from_written(text, self.lengths))
     }
 
     /// The target of the reference against a base (RFC 3986, 5.2.2, strict), not normalised. `BaseWithoutScheme` exactly
@@ -157,7 +167,8 @@ impl<'a> UriRef<'a> {
 
     /// The reference without its fragment (RFC 3986, 3.5): the same text where there is none. A look-up; takes no memory.
     pub fn strip_fragment(&self) -> UriRef<'a>
-        ensures { result ≡ with_fragment self.now None }
+        ensures value { result ≡ with_fragment self.now None }
+        ensures scheme { scheme result ≡ scheme self.now }
     {
         match self.fragment() {
             Some(fragment) => UriRef {

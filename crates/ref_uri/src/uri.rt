@@ -1,12 +1,16 @@
 //! A URI with a scheme that owns its text.
-ghost use Rattle.std.specs.Prelude.{◌≡◌, ◌↔◌, Some, None, List, ℕ, false, true, string_bytes, is_ok, is_some, IsOk, IfOk, IfErr, OnOk, OnErr, IsErrOf, option_copied};
+ghost use Rattle.std.specs.Prelude.{◌≡◌, ◌↔◌, ◌==◌, ◌&&◌, nat_eq, slice_index, Some, None, Ok, Err, List, ℕ, false, true, string_bytes, is_ok, is_some, IsOk, IfOk, IfErr, OnOk, OnErr, IsErrOf, option_copied};
+ghost use Rattle.std.specs.List.{ends_with};
 ghost use Rattle.ref_uri.specs.Components.{scheme, authority, path, query, fragment, if_there, is_query};
+ghost use Rattle.ref_uri.specs.Errors.{IsFaultOf, IfInvalid};
 ghost use Rattle.ref_uri.specs.Lengths.{IsParsedUri};
+ghost use Rattle.ref_uri.specs.Resolution.{resolved};
+ghost use Rattle.ref_uri.specs.Targets.{default_base, parsed, against, unparsed};
 ghost use Rattle.ref_uri.specs.Normal.{normal_form};
 ghost use Rattle.ref_uri.specs.Reference.{is_uri_reference, is_uri, with_fragment};
 
 use crate::characters::{self, Class};
-use crate::error::{ParseError, UriParseFault};
+use crate::error::{ParseError, ResolveError, ResolveFault, UriError, UriFault, UriParseFault};
 use crate::lengths::Lengths;
 use crate::parser;
 use crate::reference::UriRef;
@@ -25,7 +29,10 @@ impl Model for Uri {
 
     ghost Value = { List ℕ };
 
+    ghost use Rattle.ref_uri.specs.Errors.{IsFaultOf, IfInvalid};
     ghost use Rattle.ref_uri.specs.Lengths.{IsParsedUri};
+    ghost use Rattle.ref_uri.specs.Resolution.{resolved};
+    ghost use Rattle.ref_uri.specs.Targets.{default_base, parsed, against, unparsed};
 
     ghost view = { λ u. string_bytes u.text };
 
@@ -69,7 +76,9 @@ impl Uri {
     pub fn normalize(&self, alloc: Global) -> Result<Uri, AllocError>
         ensures { IfOk result (λ uri. uri ≡ normal_form self.now) }
     {
-        let (text, lengths) = self.borrow().normalized(alloc)?;
+        let (text, lengths) = UriRef::from_parsed(self.text.as_str(), self.lengths).normalized(
+            alloc,
+        )?;
         Ok(Uri::from_written(text, lengths))
     }
 
@@ -183,4 +192,108 @@ impl Uri {
         self.text.push_str(fragment).unwrap();
         Ok(())
     }
+}
+
+/// The reference that a text is.
+fn parse_reference(alloc: Global, text: &str) -> Result<UriRef<'_>, UriFault>
+    ensures reference { IfOk result (λ reference. reference ≡ text.now) }
+    ensures accepted { IsOk result → is_uri_reference text.now ≡ true }
+    ensures refused { IfErr result (λ fault. IsFaultOf (Err (unparsed text.now)) fault) }
+    ensures invalid { IfErr result (λ fault. IfInvalid fault (is_uri_reference text.now ≡ false)) }
+{
+    match UriRef::parse(text) {
+        Ok(reference) => Ok(reference),
+        Err(error) => {
+            let uri = String::from_str(alloc, text)?;
+            Err(UriFault::Invalid(UriError::Parse {
+                uri,
+                is_reference: true,
+                error,
+            }))
+        }
+    }
+}
+
+/// The target of a reference against a base that has a scheme.
+fn target(alloc: Global, reference: UriRef<'_>, base: UriRef<'_>) -> Result<Uri, AllocError>
+    requires { is_some (scheme base) ≡ true }
+    ensures { IfOk result (λ uri. uri ≡ resolved base.entry reference.entry) }
+{
+    match reference.resolve_against(alloc, base) {
+        Ok(uri) => Ok(uri),
+        Err(ResolveFault::Memory(error)) => Err(error),
+        Err(ResolveFault::Invalid(_)) => unreachable!(),
+    }
+}
+
+/// The base of texts without a scheme, `json-schema:///`.
+fn default_base() -> UriRef<'static>
+    ensures { result ≡ default_base }
+{
+    match UriRef::parse("json-schema:///") {
+        Ok(base) => base,
+        Err(_) => unreachable!(),
+    }
+}
+
+/// The URI that a text means: its normal form, resolved against `json-schema:///` where it has no scheme.
+///
+/// `Invalid` with [`UriError::Parse`] exactly where the text is no URI reference (RFC 3986, 4.1), `Memory` where there is
+/// none. Linear in the text.
+pub fn from_str(alloc: Global, uri: &str) -> Result<Uri, UriFault>
+    ensures ok { IfOk result (λ answer. parsed uri.now ≡ Ok answer) }
+    ensures fault { IfErr result (IsFaultOf (parsed uri.now)) }
+{
+    let reference = match parse_reference(alloc, uri) {
+        Ok(reference) => reference,
+        Err(fault) => return Err(fault),
+    };
+    let (text, lengths) = reference.normalized(alloc)?;
+    if reference.has_scheme() {
+        return Ok(Uri::from_written(text, lengths));
+    }
+    let normal = UriRef::from_parsed(text.as_str(), lengths);
+    Ok(target(alloc, normal, default_base())?)
+}
+
+fn begins_with_hash(text: &str) -> bool
+    ensures { result ≡ (slice_index text.now 0 == 35) }
+{
+    matches!(text.as_bytes(), [b'#', ..])
+}
+
+/// Whether a text begins with `#`, and another ends in it.
+fn is_fragment_at_end(base: &str, text: &str) -> bool
+    ensures { result ≡ ((slice_index text.now 0 == 35) && ends_with nat_eq base.now text.now) }
+{
+    if !begins_with_hash(text) {
+        return false;
+    }
+    base.ends_with(text)
+}
+
+/// The URI that a text means against a base: where the text is the fragment in which the base's text ends, the base; else
+/// the target in normal form (RFC 3986, 5.2 and 6.2.2), for which the base's fragment takes no part.
+///
+/// `Invalid` with [`UriError::Resolve`] exactly where the base has no scheme, and with [`UriError::Parse`] exactly where
+/// it has one and the text is no URI reference and not that fragment; `Memory` where there is none. Linear in the two texts.
+pub fn resolve_against(alloc: Global, base: UriRef<'_>, uri: &str) -> Result<Uri, UriFault>
+    ensures ok { IfOk result (λ answer. against base.entry uri.now ≡ Ok answer) }
+    ensures fault { IfErr result (IsFaultOf (against base.entry uri.now)) }
+{
+    if !base.has_scheme() {
+        let uri = String::from_str(alloc, uri)?;
+        let base = String::from_str(alloc, base.as_str())?;
+        let error = ResolveError::BaseWithoutScheme;
+        return Err(UriFault::Invalid(UriError::Resolve { uri, base, error }));
+    }
+    if is_fragment_at_end(base.as_str(), uri) {
+        return Ok(base.to_uri(alloc)?);
+    }
+    let reference = match parse_reference(alloc, uri) {
+        Ok(reference) => reference,
+        Err(fault) => return Err(fault),
+    };
+    let target = target(alloc, reference, base.strip_fragment())?;
+    Ok(target.normalize(alloc)?)
 }

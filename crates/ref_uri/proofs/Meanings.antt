@@ -1,0 +1,53 @@
+-- What a text means, case by case.
+use Rattle.std.proofs.Common.{◌≡◌, ℕ, Bool, true, false, cond, ◌&&◌, List, Option, None, Result, Ok, Err, is_some, get_or, eqb, refl, sym, ap, ◌∙◌, codes}
+use Rattle.std.specs.List.{ends_with}
+use Rattle.ref_uri.specs.Components.{scheme}
+use Rattle.ref_uri.specs.Errors.{IsFaultOf, IfInvalid, SaysRefusal}
+use Rattle.ref_uri.specs.Normal.{normal_form}
+use Rattle.ref_uri.specs.Reference.{is_uri_reference, with_fragment}
+use Rattle.ref_uri.specs.Resolution.{resolved}
+use Rattle.ref_uri.specs.Targets.{Refusal, unparsed, unresolved, default_base, parsed, against}
+use Rattle.ref_uri.specs.declared.error.UriFault.{UriFault}
+use Rattle.ref_uri.specs.declared.error.UriFault.TheVariants as uri_fault
+use Rattle.ref_uri.proofs.OnLiterals.{ref_uri_on_literals}
+
+pub parsed_with_scheme : (text : List ℕ) → is_uri_reference text ≡ true → is_some (scheme text) ≡ true → parsed text ≡ Ok (normal_form text)
+unfolding parsed
+parsed_with_scheme text h s = rw (h, s) refl
+
+pub parsed_without_scheme : (text : List ℕ) → is_uri_reference text ≡ true → is_some (scheme text) ≡ false → parsed text ≡ Ok (resolved default_base (normal_form text))
+unfolding parsed
+parsed_without_scheme text h s = rw (h, s) refl
+
+pub parsed_refused : (text : List ℕ) → is_uri_reference text ≡ false → parsed text ≡ Err (unparsed text)
+unfolding parsed
+parsed_refused text h = rw h refl
+
+pub against_without_scheme : (base text : List ℕ) → is_some (scheme base) ≡ false → against base text ≡ Err (unresolved text base)
+unfolding against
+against_without_scheme base text s = rw s refl
+
+pub against_same : (base text : List ℕ) → is_some (scheme base) ≡ true → (eqb (get_or text 0 0) 35 && ends_with eqb base text) ≡ true → against base text ≡ Ok base
+unfolding against
+against_same base text s e = rw (s, e) refl
+
+pub against_target : (base text : List ℕ) → is_some (scheme base) ≡ true → (eqb (get_or text 0 0) 35 && ends_with eqb base text) ≡ false → is_uri_reference text ≡ true → against base text ≡ Ok (normal_form (resolved (with_fragment base None) text))
+unfolding against
+against_target base text s e h = rw (s, e, h) refl
+
+pub against_refused : (base text : List ℕ) → is_some (scheme base) ≡ true → (eqb (get_or text 0 0) 35 && ends_with eqb base text) ≡ false → is_uri_reference text ≡ false → against base text ≡ Err (unparsed text)
+unfolding against
+against_refused base text s e h = rw (s, e, h) refl
+
+-- a fault for one meaning is one for the same meaning under a condition
+pub fault_moved : (meaning : Result (List ℕ) Refusal) (refusal : Refusal) (fault : UriFault) (P : Type 0) → IsFaultOf (Err refusal) fault → IfInvalid fault P → (P → meaning ≡ Err refusal) → IsFaultOf meaning fault
+fault_moved meaning refusal (uri_fault.Invalid error) P is p moved = (is.0, moved p ∙ is.1, is.2)
+fault_moved meaning refusal (uri_fault.Memory error) P is p moved = tt
+
+pub default_is_reference : is_uri_reference default_base ≡ true
+unfolding ref_uri_on_literals
+default_is_reference = refl
+
+pub default_has_scheme : is_some (scheme default_base) ≡ true
+unfolding ref_uri_on_literals
+default_has_scheme = refl

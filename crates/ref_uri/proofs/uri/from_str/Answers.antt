@@ -1,0 +1,39 @@
+use Rattle.std.proofs.Common.{◌≡◌, Ok, Err, true, false, is_some, refl, ap, sym, subst, ◌∙◌, string_bytes}
+use Rattle.ref_uri.specs.Components.{scheme}
+use Rattle.ref_uri.specs.Errors.{IsFaultOf}
+use Rattle.ref_uri.specs.Lengths.{IsParsed}
+use Rattle.ref_uri.specs.Normal.{normal_form}
+use Rattle.ref_uri.specs.Reference.{is_uri_reference}
+use Rattle.ref_uri.specs.Resolution.{resolved}
+use Rattle.ref_uri.specs.Targets.{unparsed, parsed, default_base}
+use Rattle.ref_uri.proofs.Meanings.{parsed_with_scheme, parsed_without_scheme, parsed_refused, fault_moved, default_has_scheme}
+use Rattle.ref_uri.proofs.uri.from_str.Goals as goal
+
+pub returns-in-Err-clause-fault : goal.returns-in-Err-clause-fault
+returns-in-Err-clause-fault c =
+    let text = c.args.uri.now in
+    fault_moved (parsed text) (unparsed text) c.in-Err.fault (is_uri_reference text ≡ false) c.in-Err.ensures.refused c.in-Err.ensures.invalid (parsed_refused text)
+
+pub from_written-requires : goal.from_written-requires
+from_written-requires c = (c.in_ok-text.ensures.parsed, c.in_ok-text.ensures.scheme ∙ sym c.has_scheme.ensures ∙ c.if-has_scheme.true)
+
+pub returns-then-has_scheme-clause-ok : goal.returns-then-has_scheme-clause-ok
+returns-then-has_scheme-clause-ok c =
+    let text = c.args.uri.now in
+    let there : is_some (scheme text) ≡ true = ap (λ t. is_some (scheme t)) (sym c.in-Ok.ensures.reference) ∙ sym c.has_scheme.ensures ∙ c.if-has_scheme.true in
+    parsed_with_scheme text (c.in-Ok.ensures.accepted refl) there
+    ∙ ap (λ t. Ok t) (ap normal_form (sym c.in-Ok.ensures.reference) ∙ sym c.in_ok-text.ensures.text ∙ sym c.from_written.ensures)
+
+pub from_parsed-normal-requires : goal.from_parsed-normal-requires
+from_parsed-normal-requires c = rw c.as_str.ensures.value c.in_ok-text.ensures.parsed
+
+pub target-requires : goal.target-requires
+target-requires c = ap is_some (ap scheme c.default_base.ensures) ∙ default_has_scheme
+
+pub returns-clause-ok : goal.returns-clause-ok
+returns-clause-ok c =
+    let text = c.args.uri.now in
+    let none : is_some (scheme text) ≡ false = ap (λ t. is_some (scheme t)) (sym c.in-Ok.ensures.reference) ∙ sym c.has_scheme.ensures ∙ c.if-has_scheme.false in
+    let normal = c.from_parsed-normal.ensures ∙ c.as_str.ensures.value ∙ c.in_ok-text.ensures.text ∙ ap normal_form c.in-Ok.ensures.reference in
+    parsed_without_scheme text (c.in-Ok.ensures.accepted refl) none
+    ∙ ap (λ t. Ok t) (sym (c.in_ok-target.ensures ∙ ap (λ b. resolved b c.from_parsed-normal.result) c.default_base.ensures ∙ ap (resolved default_base) normal))

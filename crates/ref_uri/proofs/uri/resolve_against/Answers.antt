@@ -1,0 +1,46 @@
+use Rattle.std.proofs.Common.{◌≡◌, ◌&&◌, eqb, get_or, Ok, Err, None, true, false, is_some, refl, ap, sym, ◌∙◌, string_bytes}
+use Rattle.std.specs.List.{ends_with}
+use Rattle.ref_uri.specs.Components.{scheme}
+use Rattle.ref_uri.specs.Errors.{IsFaultOf}
+use Rattle.ref_uri.specs.Normal.{normal_form}
+use Rattle.ref_uri.specs.Reference.{is_uri_reference, with_fragment}
+use Rattle.ref_uri.specs.Resolution.{resolved}
+use Rattle.ref_uri.specs.Targets.{unparsed, unresolved, against}
+use Rattle.ref_uri.proofs.Meanings.{against_without_scheme, against_same, against_target, against_refused, fault_moved}
+use Rattle.ref_uri.proofs.uri.resolve_against.Goals as goal
+
+pub returns-then-not-has_scheme-clause-fault : goal.returns-then-not-has_scheme-clause-fault
+returns-then-not-has_scheme-clause-fault c =
+    let base = c.args.base in
+    let text = c.args.uri.now in (
+      unresolved text base,
+      against_without_scheme base text (sym c.has_scheme.ensures ∙ c.if-not-has_scheme.true),
+      (c.in_ok-uri.ensures.ok, c.in_ok-base.ensures.ok ∙ c.as_str.ensures, refl),
+    )
+
+pub returns-in-Err-clause-fault : goal.returns-in-Err-clause-fault
+returns-in-Err-clause-fault c =
+    let base = c.args.base in
+    let text = c.args.uri.now in
+    let other : (eqb (get_or text 0 0) 35 && ends_with eqb base text) ≡ false = ap (λ b. eqb (get_or text 0 0) 35 && ends_with eqb b text) (sym c.as_str-2.ensures) ∙ sym c.is_fragment_at_end.ensures ∙ c.if-is_fragment_at_end.false in
+    fault_moved (against base text) (unparsed text) c.in-Err.fault (is_uri_reference text ≡ false) c.in-Err.ensures.refused c.in-Err.ensures.invalid
+    (against_refused base text (sym c.has_scheme.ensures ∙ c.if-not-has_scheme.false) other)
+
+pub target-requires : goal.target-requires
+target-requires c = ap is_some c.strip_fragment.ensures.scheme ∙ sym c.has_scheme.ensures ∙ c.if-not-has_scheme.false
+
+pub returns-then-is_fragment_at_end-clause-ok : goal.returns-then-is_fragment_at_end-clause-ok
+returns-then-is_fragment_at_end-clause-ok c =
+    let base = c.args.base in
+    let text = c.args.uri.now in
+    let same : (eqb (get_or text 0 0) 35 && ends_with eqb base text) ≡ true = ap (λ b. eqb (get_or text 0 0) 35 && ends_with eqb b text) (sym c.as_str-2.ensures) ∙ sym c.is_fragment_at_end.ensures ∙ c.if-is_fragment_at_end.true in
+    against_same base text (sym c.has_scheme.ensures ∙ c.if-not-has_scheme.false) same ∙ ap (λ t. Ok t) (sym c.in_ok-to_uri.ensures)
+
+pub returns-clause-ok : goal.returns-clause-ok
+returns-clause-ok c =
+    let base = c.args.base in
+    let text = c.args.uri.now in
+    let other : (eqb (get_or text 0 0) 35 && ends_with eqb base text) ≡ false = ap (λ b. eqb (get_or text 0 0) 35 && ends_with eqb b text) (sym c.as_str-2.ensures) ∙ sym c.is_fragment_at_end.ensures ∙ c.if-is_fragment_at_end.false in
+    let target = c.in_ok-target.ensures ∙ ap (λ b. resolved b c.in-Ok.reference) c.strip_fragment.ensures.value ∙ ap (resolved (with_fragment base None)) c.in-Ok.ensures.reference in
+    against_target base text (sym c.has_scheme.ensures ∙ c.if-not-has_scheme.false) other (c.in-Ok.ensures.accepted refl)
+    ∙ ap (λ t. Ok t) (sym (c.in_ok-normalize.ensures ∙ ap normal_form target))
