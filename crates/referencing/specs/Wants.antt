@@ -28,13 +28,14 @@ is_unknown Draft201909 = false
 is_unknown Draft202012 = false
 is_unknown Unknown = true
 
+-- a URI without its fragment
+abbrev pub without_fragment : Result (List ℕ) Refusal → Result (List ℕ) Refusal
+without_fragment (Ok uri) = Ok (with_fragment uri None)
+without_fragment (Err refusal) = Err refusal
+
 -- the URI of a text that names a meta-schema of no known draft: its fragment takes no part
 abbrev pub schema_uri : List ℕ → Option (Result (List ℕ) Refusal)
 schema_uri text = if is_unknown (from_schema_uri text) then Some (without_fragment (parsed text)) else None
-  where
-    without_fragment : Result (List ℕ) Refusal → Result (List ℕ) Refusal
-    without_fragment (Ok uri) = Ok (with_fragment uri None)
-    without_fragment (Err refusal) = Err refusal
 
 -- what a place's text under `$ref` refers to, and what its `$schema` names, where its base is known
 abbrev pub reference_at : List ℕ → Data → Option (Result (List ℕ) Refusal)
