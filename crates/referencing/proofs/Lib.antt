@@ -1,2 +1,3 @@
 pub mod OnLiterals
 pub mod Retrieval
+pub mod Appending

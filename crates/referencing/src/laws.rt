@@ -3,6 +3,7 @@ ghost use Rattle.std.specs.Prelude.{◌≡◌, ℕ, List, ◌∷◌, Some, None}
 ghost use Rattle.referencing.specs.World.{Layer, World};
 ghost use Rattle.referencing.specs.Places.{Place};
 ghost use Rattle.referencing.specs.Bearing.{bears, last_under, means};
+ghost use Rattle.referencing.specs.Appending.{MeaningsStay, MeaningsStayBelow, MetWantsStay, OpenWantsAfter};
 
 /// The nearest layer decides what a URI means: an entry there is the answer, and without one the parents' layers answer.
 pub fn nearest_layer_decides()
@@ -10,4 +11,14 @@ pub fn nearest_layer_decides()
         → last_under uri (bears layer) ≡ Some (found, place) → means (layer ∷ parents) uri ≡ Some place }
     ensures far { (layer : Layer) (parents : World) (uri : List ℕ)
         → last_under uri (bears layer) ≡ None → means (layer ∷ parents) uri ≡ means parents uri }
+{}
+
+/// Documents that are appended to a layer leave each want met that was met, and so does a parent: a URI that means a place
+/// still means one, perhaps another. So the wants that are open afterwards are some of those that were open before, in their
+/// order, and behind them those of the documents that were appended.
+pub fn appended_documents_leave_wants_met()
+    ensures meanings { MeaningsStay }
+    ensures below { MeaningsStayBelow }
+    ensures wants { MetWantsStay }
+    ensures open_wants { OpenWantsAfter }
 {}
