@@ -26,6 +26,8 @@ pub fn steps_in_turn()
     ensures first_fault { steps (world (at Draft202012 "http://a/r" empty ∷ [])) "http://a/r" (look "" ∷ look "#/q" ∷ look "#/p" ∷ []) ≡ refusal 1 (PointerToNowhere (codes "/q")) }
     ensures entered_last { steps (world (at Draft202012 "http://a/r" yes ∷ [])) "http://a/r" (look "" ∷ Enter Draft202012 (one "$id" (text "k/")) ∷ []) ≡ answer (Some yes) (codes "http://a/k/") (codes "http://a/r" ∷ []) }
     ensures counted_on { followed_from [] 7 (followed_to None (resolver "http://a/r" [])) (look "" ∷ []) ≡ Err (7, not_retrieved (codes "http://a/r")) }
+    ensures after_no_more_steps { followed_from [] 7 (followed_to (Some (yes, Draft7)) (resolver "a:b" [])) [] ≡ Ok (followed_to (Some (yes, Draft7)) (resolver "a:b" [])) }
+    ensures from_a_base { followed (world (at Draft7 "http://a/r" yes ∷ [])) (codes "http://a/r") (look "" ∷ []) ≡ Ok (followed_to (Some (yes, Draft7)) (resolver "http://a/r" (codes "http://a/r" ∷ []))) }
     ensures numbered_fault { numbered 3 (Err (PointerToNowhere (codes "/q"))) ≡ Err (3, PointerToNowhere (codes "/q")) }
     ensures numbered_answer { numbered 3 (Ok (followed_to None (resolver "a:b" []))) ≡ Ok (followed_to None (resolver "a:b" [])) }
 {}

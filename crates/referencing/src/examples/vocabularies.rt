@@ -1,13 +1,15 @@
 //! Vocabularies of meta-schemas (2020-12 Core, 8.1.2).
-ghost use Rattle.std.specs.Prelude.{◌≡◌, true, false, [], ◌∷◌, codes, Some, None, Ok, Err};
+ghost use Rattle.std.specs.Prelude.{◌≡◌, true, false, [], ◌∷◌, map, length, codes, Some, None, Ok, Err};
 ghost use Rattle.serde_json.specs.Data.{boolean, no_members, member};
 ghost use Rattle.ref_draft.specs.declared.draft.Draft.TheVariants.{Draft4, Draft7, Draft201909, Draft202012, Unknown};
 ghost use Rattle.ref_uri.specs.Targets.{unparsed};
-ghost use Rattle.referencing.specs.Vocabularies.{Named, Custom, is_uri_of, custom, from_text, has_name, contains, put, with_vocabulary, of_names, set_of_2020, default_set, quoted, listed, set_text, is_format_assertion, is_true, with_member, collected, known_set, some_set, set_of_members, find_in, set_or_default, set_at, find_vocabularies, dialect_contents, find_vocabularies_at};
+ghost use Rattle.referencing.specs.Vocabularies.{Named, Custom, known, is_uri_of, custom, from_text, has_name, contains, put, with_vocabulary, of_names, set_of_2020, default_set, quoted, listed, set_text, is_format_assertion, is_true, with_member, collected, known_set, some_set, set_of_members, find_in, set_or_default, set_at, find_vocabularies, dialect_contents, find_vocabularies_at};
 ghost use Rattle.referencing.specs.Rows.{world, at, yes, empty, text, one, two, three};
 
 /// The vocabulary that a text names.
 pub fn vocabularies_of_texts()
+    ensures nine_known { length known ≡ 9 }
+    ensures names_of_known { map (λ k. k.name) known ≡ codes "core" ∷ codes "applicator" ∷ codes "unevaluated" ∷ codes "validation" ∷ codes "meta-data" ∷ codes "format" ∷ codes "format-annotation" ∷ codes "content" ∷ codes "format-assertion" ∷ [] }
     ensures format_of_2019 { from_text (codes "https://json-schema.org/draft/2019-09/vocab/format") ≡ Ok (Named (codes "format")) }
     ensures format_of_2020 { from_text (codes "https://json-schema.org/draft/2020-12/vocab/format") ≡ Ok (Named (codes "format")) }
     ensures format_annotation { from_text (codes "https://json-schema.org/draft/2020-12/vocab/format-annotation") ≡ Ok (Named (codes "format-annotation")) }
