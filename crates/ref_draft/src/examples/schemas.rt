@@ -50,6 +50,7 @@ pub fn identifiers_of_values()
     ensures an_anchor { identifier Draft7 (one "$id" (text "#f")) ≡ None }
     ensures a_fragment { identifier Unknown (one "$id" (text "#f")) ≡ Some (codes "#f") }
     ensures no_text { identifier Draft202012 (one "$id" yes) ≡ None }
+    ensures a_hash_alone { identifier Draft202012 (one "$id" (text "#")) ≡ Some [] }
     ensures hidden_by_a_reference { is_hidden Draft4 (one "$ref" yes) (codes "k") ≡ true }
     ensures hidden_by_a_hash { is_hidden Draft6 empty (codes "#k") ≡ true }
     ensures not_hidden { is_hidden Draft7 empty (codes "k#") ≡ false }

@@ -17,6 +17,7 @@ pub fn indexes()
     ensures greatest { index_of (codes "18446744073709551615") ≡ Some 18446744073709551615 }
     ensures past_the_greatest { index_of (codes "18446744073709551616") ≡ None }
     ensures plus_alone { index_of (codes "+") ≡ None }
+    ensures plus_twice { index_of (codes "++1") ≡ None }
     ensures empty_text { index_of [] ≡ None }
     ensures minus_sign { index_of (codes "-1") ≡ None }
     ensures letters { index_of (codes "one") ≡ None }
@@ -43,6 +44,7 @@ pub fn walks_along_pointers()
     ensures first_fault { walked_along Draft202012 (codes "/x/y") (along "http://a/r" []) empty (codes "x" ∷ codes "y" ∷ []) ≡ Err (PointerToNowhere (codes "/x/y")) }
     ensures decoded_before_the_split { pointed Draft202012 (codes "/a%2Fb") (codes "http://a/r") (one "a" (one "b" yes)) (codes "a%2Fb") ≡ Ok (yes, along "http://a/r" (Key (codes "a") ∷ Key (codes "b") ∷ [])) }
     ensures malformed_triple { pointed Draft202012 (codes "/a%zz") (codes "http://a/r") (one "a%zz" yes) (codes "a%zz") ≡ Ok (yes, along "http://a/r" (Key (codes "a%zz") ∷ [])) }
+    ensures percent_alone { pointed Draft202012 (codes "/%") (codes "http://a/r") empty (codes "%") ≡ Err (PointerToNowhere (codes "/%")) }
     ensures no_text { pointed Draft202012 (codes "/%FF") (codes "http://a/r") empty (codes "%FF") ≡ Err (InvalidPercentEncoding (codes "/%FF")) }
     ensures undecoded_in_the_fault { pointed Draft202012 (codes "/%61") (codes "http://a/r") empty (codes "%61") ≡ Err (PointerToNowhere (codes "/%61")) }
     ensures empty_key { pointed Draft202012 (codes "/") (codes "http://a/r") (one "" yes) [] ≡ Ok (yes, along "http://a/r" (Key [] ∷ [])) }
