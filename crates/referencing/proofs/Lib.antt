@@ -1,3 +1,4 @@
 pub mod OnLiterals
 pub mod Retrieval
 pub mod Appending
+pub mod Closure

@@ -5,6 +5,7 @@ pub mod Bearing
 pub mod Anchors
 pub mod Wants
 pub mod Appending
+pub mod Closure
 pub mod Preparing
 pub mod Retrievers
 pub mod Bases

@@ -3,6 +3,7 @@ ghost use Rattle.std.specs.Prelude.{◌≡◌, ℕ, List, ◌∷◌, Some, None}
 ghost use Rattle.referencing.specs.World.{Layer, World};
 ghost use Rattle.referencing.specs.Places.{Place};
 ghost use Rattle.referencing.specs.Bearing.{bears, last_under, means};
+ghost use Rattle.referencing.specs.Closure.{OutcomesOfRetrieval};
 ghost use Rattle.referencing.specs.Appending.{MeaningsStay, MeaningsStayBelow, MetWantsStay, OpenWantsAfter};
 
 /// The nearest layer decides what a URI means: an entry there is the answer, and without one the parents' layers answer.
@@ -21,4 +22,12 @@ pub fn appended_documents_leave_wants_met()
     ensures below { MeaningsStayBelow }
     ensures wants { MetWantsStay }
     ensures open_wants { OpenWantsAfter }
+{}
+
+/// What comes of documents and a retriever, whatever it answers: each retrieved document was wanted by one before it, under a
+/// URI that meant no place, so that their URIs differ; there are no more than the limit, and just as many where the limit is
+/// the answer; a layer that is ready has no fault and no open want. Documents without a fault and an open want are the one
+/// outcome, and so is the first fault of documents that have one.
+pub fn outcomes_of_retrieval()
+    ensures { OutcomesOfRetrieval }
 {}
