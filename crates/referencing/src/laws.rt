@@ -3,15 +3,21 @@ ghost use Rattle.std.specs.Prelude.{◌≡◌, ℕ, List, ◌∷◌, Some, None}
 ghost use Rattle.referencing.specs.World.{Layer, World};
 ghost use Rattle.referencing.specs.Places.{Place};
 ghost use Rattle.referencing.specs.Bearing.{bears, last_under, means};
+ghost use Rattle.referencing.specs.Anchors.{Named, last_named, named, names};
 ghost use Rattle.referencing.specs.Closure.{OutcomesOfRetrieval};
 ghost use Rattle.referencing.specs.Appending.{MeaningsStay, MeaningsStayBelow, MetWantsStay, OpenWantsAfter};
 
-/// The nearest layer decides what a URI means: an entry there is the answer, and without one the parents' layers answer.
+/// The nearest layer decides what a URI means, and what a name under it does: an entry there is the answer, and without one
+/// the parents' layers answer.
 pub fn nearest_layer_decides()
     ensures near { (layer : Layer) (parents : World) (uri found : List ℕ) (place : Place)
         → last_under uri (bears layer) ≡ Some (found, place) → means (layer ∷ parents) uri ≡ Some place }
     ensures far { (layer : Layer) (parents : World) (uri : List ℕ)
         → last_under uri (bears layer) ≡ None → means (layer ∷ parents) uri ≡ means parents uri }
+    ensures near_name { (layer : Layer) (parents : World) (uri name : List ℕ) (entry : Named)
+        → last_named uri name (names layer) ≡ Some entry → named (layer ∷ parents) uri name ≡ Some entry }
+    ensures far_name { (layer : Layer) (parents : World) (uri name : List ℕ)
+        → last_named uri name (names layer) ≡ None → named (layer ∷ parents) uri name ≡ named parents uri name }
 {}
 
 /// Documents that are appended to a layer leave each want met that was met, and so does a parent: a URI that means a place
