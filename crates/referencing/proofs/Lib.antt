@@ -2,3 +2,4 @@ pub mod OnLiterals
 pub mod Retrieval
 pub mod Appending
 pub mod Closure
+pub mod References

@@ -6,6 +6,7 @@ pub mod Anchors
 pub mod Wants
 pub mod Appending
 pub mod Closure
+pub mod References
 pub mod Preparing
 pub mod Retrievers
 pub mod Bases

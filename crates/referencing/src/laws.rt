@@ -5,6 +5,7 @@ ghost use Rattle.referencing.specs.Places.{Place};
 ghost use Rattle.referencing.specs.Bearing.{bears, last_under, means};
 ghost use Rattle.referencing.specs.Anchors.{Named, last_named, named, names};
 ghost use Rattle.referencing.specs.Closure.{OutcomesOfRetrieval};
+ghost use Rattle.referencing.specs.References.{ReferencesAreRetrieved};
 ghost use Rattle.referencing.specs.Appending.{MeaningsStay, MeaningsStayBelow, MetWantsStay, OpenWantsAfter};
 
 /// The nearest layer decides what a URI means, and what a name under it does: an entry there is the answer, and without one
@@ -36,4 +37,9 @@ pub fn appended_documents_leave_wants_met()
 /// outcome, and so is the first fault of documents that have one.
 pub fn outcomes_of_retrieval()
     ensures { OutcomesOfRetrieval }
+{}
+
+/// Where no want is open, a reference at a place of the layer never leads to a URI that is not present.
+pub fn references_are_retrieved()
+    ensures { ReferencesAreRetrieved }
 {}
