@@ -54,15 +54,15 @@ refused None = []
 refused (Some (Ok uri)) = []
 refused (Some (Err refusal)) = refusal ∷ []
 
--- a place wants what it refers to, then its meta-schema
+-- a place wants what it refers to, which needs a base, then its meta-schema
 abbrev pub wants_at : Result (List ℕ) Refusal → Data → List Want
 wants_at (Ok base) value = wanted Reference (reference_at base value) ++ wanted MetaSchema (schema_at value)
-wants_at (Err refusal) value = []
+wants_at (Err refusal) value = wanted MetaSchema (schema_at value)
 
--- a place's faults: its identifier, its reference, its meta-schema
+-- a place's faults: its identifier, or its reference where it has a base, then its meta-schema
 abbrev pub faults_at : Result (List ℕ) Refusal → Data → List Refusal
 faults_at (Ok base) value = refused (reference_at base value) ++ refused (schema_at value)
-faults_at (Err refusal) value = refusal ∷ []
+faults_at (Err refusal) value = refusal ∷ refused (schema_at value)
 
 -- by documents and places
 abbrev pub wants : Layer → List Want

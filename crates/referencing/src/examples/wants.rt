@@ -57,7 +57,9 @@ pub fn wants_and_faults_of_places()
     ensures a_fault { refused (Some (Err (unparsed (codes "a b")))) ≡ unparsed (codes "a b") ∷ [] }
     ensures no_fault { refused (Some (Ok (codes "a:b"))) ≡ [] }
     ensures both_wants { wants_at (Ok (codes "http://a/r")) (two "$ref" (text "b") "$schema" (text "http://a/meta#")) ≡ record { cause = Reference; uri = codes "http://a/b" } ∷ record { cause = MetaSchema; uri = codes "http://a/meta" } ∷ [] }
-    ensures no_wants_without_a_base { wants_at (Err (unparsed (codes "a b"))) (one "$ref" (text "b")) ≡ [] }
+    ensures no_reference_without_a_base { wants_at (Err (unparsed (codes "a b"))) (one "$ref" (text "b")) ≡ [] }
+    ensures meta_schema_without_a_base { wants_at (Err (unparsed (codes "a b"))) (two "$ref" (text "b") "$schema" (text "http://a/meta#")) ≡ record { cause = MetaSchema; uri = codes "http://a/meta" } ∷ [] }
     ensures both_faults { faults_at (Ok (codes "http://a/r")) (two "$ref" (text "c d") "$schema" (text "e f")) ≡ unparsed (codes "c d") ∷ unparsed (codes "e f") ∷ [] }
     ensures identifier_alone { faults_at (Err (unparsed (codes "a b"))) (one "$ref" (text "c d")) ≡ unparsed (codes "a b") ∷ [] }
+    ensures identifier_and_meta_schema { faults_at (Err (unparsed (codes "a b"))) (two "$ref" (text "c d") "$schema" (text "e f")) ≡ unparsed (codes "a b") ∷ unparsed (codes "e f") ∷ [] }
 {}
