@@ -1,12 +1,14 @@
 //! What preparing a registry may answer.
-ghost use Rattle.std.specs.Prelude.{◌≡◌, [], ◌∷◌, codes, Ok, Err};
+ghost use Rattle.std.specs.Prelude.{◌≡◌, true, false, [], ◌∷◌, codes, Ok, Err};
 ghost use Rattle.ref_draft.specs.declared.draft.Draft.TheVariants.{Draft7, Draft202012};
 ghost use Rattle.ref_uri.specs.Targets.{unparsed};
 ghost use Rattle.referencing.specs.Fault.{InvalidUri, RetrievalLimit, Unretrievable, UnknownSpecification};
 ghost use Rattle.referencing.specs.Wants.{Reference, MetaSchema};
 ghost use Rattle.referencing.specs.Preparing.{IsOutcome, IsRun, refusal_fault};
 ghost use Rattle.referencing.specs.Retrievers.{default_retriever, map_retriever};
-ghost use Rattle.referencing.specs.Rows.{at, yes, empty, text, one, two, refers_to_b, b_refers_to_c, c_is_true, given, given_with, given_alone, has_b, has_b_and_c};
+ghost use Rattle.referencing.specs.Closure.{given_by, AreRetrieved, IsClosure};
+ghost use Rattle.referencing.specs.Appending.{HasMeaning};
+ghost use Rattle.referencing.specs.Rows.{world, at, yes, empty, text, one, two, refers_to_b, b_refers_to_c, c_is_true, given, given_with, given_alone, has_b, has_b_and_c};
 
 /// What the library's retrievers may answer and refuse.
 pub fn retrievers()
@@ -53,4 +55,16 @@ pub fn faulty_runs()
     ensures identifier { IsOutcome (given_alone (at Draft202012 "http://a/r" (one "properties" (one "x" (two "$id" (text "a b") "$ref" (text "c d")))) ∷ [])) (Err (InvalidUri (unparsed (codes "a b")))) }
     ensures hidden_identifier { IsOutcome (given_alone (at Draft7 "http://a/r" (one "properties" (one "x" (two "$id" (text "a b") "$ref" (text "c d")))) ∷ [])) (Err (InvalidUri (unparsed (codes "c d")))) }
     ensures of_a_retrieved_document { IsOutcome (given (map_retriever ((codes "http://a/b", one "$ref" (text "c d")) ∷ [])) 1 (refers_to_b ∷ [])) (Err (InvalidUri (unparsed (codes "c d")))) }
+{}
+
+/// What runs add, and which URIs have a meaning.
+pub fn closures()
+    ensures nothing_retrieved { IsClosure (given_with 2) 0 (refers_to_b ∷ []) }
+    ensures one_retrieved { IsClosure (given_with 2) 1 (refers_to_b ∷ b_refers_to_c ∷ []) }
+    ensures two_retrieved { IsClosure (given has_b_and_c 2 (refers_to_b ∷ [])) 2 (refers_to_b ∷ b_refers_to_c ∷ c_is_true ∷ []) }
+    ensures none_behind { AreRetrieved (given_with 2) (refers_to_b ∷ []) [] }
+    ensures no_refusal_without_a_test { ¬ ((given_by (λ uri tree. true) (λ uri text. false) 3 Draft7 [] []).retriever.may_refuse (codes "a:b") (codes "no")) }
+    ensures answer_by_a_test { (given_by (λ uri tree. true) (λ uri text. false) 3 Draft7 [] []).retriever.may_answer (codes "a:b") yes }
+    ensures own_meaning { HasMeaning (world (refers_to_b ∷ [])) (codes "http://a/r") }
+    ensures no_meaning { ¬ (HasMeaning (world (refers_to_b ∷ [])) (codes "http://a/b")) }
 {}
