@@ -1,7 +1,7 @@
 //! The versions of JSON Schema.
 ghost use Rattle.std.specs.Prelude.{◌≡◌, ◌↔◌, map, IfOk, IsTrue};
 ghost use Rattle.serde_json.specs.View.{view};
-ghost use Rattle.ref_draft.specs.Keywords.{holding, id_keyword, is_known, is_before_2019, is_before_2020};
+ghost use Rattle.ref_draft.specs.Keywords.{holding, id_keyword, is_known, is_before_2019};
 ghost use Rattle.ref_draft.specs.Schema.{from_schema_uri, draft_of_uri, detect, text_under};
 ghost use Rattle.ref_draft.specs.Children.{AllStand, subresources, walked};
 ghost use Rattle.ref_draft.specs.Anchors.{anchors};
@@ -164,13 +164,6 @@ impl Draft {
         ensures { result ≡ is_before_2019 self }
     {
         matches!(self, Draft::Draft4 | Draft::Draft6 | Draft::Draft7)
-    }
-
-    // Drafts 4 to 2019-09.
-    pub(crate) fn is_before_2020(self) -> bool
-        ensures { result ≡ is_before_2020 self }
-    {
-        !matches!(self, Draft::Draft202012 | Draft::Unknown)
     }
 }
 

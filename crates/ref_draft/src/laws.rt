@@ -1,5 +1,4 @@
-//! What is proved of the definitions alone: the rows that compute, and laws. No function here does anything: its
-//! contract is the statement.
+//! Laws of the definitions. No function here does anything: its contract is the law.
 ghost use Rattle.std.specs.Prelude.{◌≡◌, ◌<◌, ◌∷◌, ◌++◌, [], ℕ, IsTrue, List};
 ghost use Rattle.std.specs.List.{AllByRecursion};
 ghost use Rattle.std.specs.Ordering.{nat_cmp};
@@ -9,7 +8,6 @@ ghost use Rattle.ref_draft.specs.Children.{children};
 ghost use Rattle.ref_draft.specs.Order.{rank};
 ghost use Rattle.ref_draft.specs.Scan.{AcceptsChildren, IsAccepted, ReadsTheWalk, SpellsWord, is_child_keyword};
 ghost use Rattle.ref_parts.specs.Path.{Key, Part};
-ghost use Rattle.ref_draft.specs.Rows.{AnchorRows, ChildrenRows, DetectRows, IdentifierRows, KnownRows, ScanRows, SubresourceRows};
 
 use crate::draft::Draft;
 
@@ -39,39 +37,4 @@ pub fn scan_goes_on_to_children()
 pub fn scan_stops_at_a_child_keyword()
     ensures { (d : Version) (value : Data) (parts : List Part) (keyword : List ℕ) → SpellsWord d parts
         → IsTrue (is_child_keyword d keyword) → ¬ (IsAccepted d (parts ++ Key keyword ∷ []) value) }
-{}
-
-/// The draft of a schema by its `$schema`.
-pub fn detect_rows()
-    ensures { DetectRows }
-{}
-
-/// The identifier of a value in each draft.
-pub fn identifier_rows()
-    ensures { IdentifierRows }
-{}
-
-/// The children of one schema in each draft.
-pub fn children_rows()
-    ensures { ChildrenRows }
-{}
-
-/// What `subresources_of` gives beside the children.
-pub fn subresource_rows()
-    ensures { SubresourceRows }
-{}
-
-/// The anchors of a value in each draft.
-pub fn anchor_rows()
-    ensures { AnchorRows }
-{}
-
-/// The keywords that the drafts know.
-pub fn known_rows()
-    ensures { KnownRows }
-{}
-
-/// Where an identifier may change the base.
-pub fn scan_rows()
-    ensures { ScanRows }
 {}

@@ -6,6 +6,7 @@
 
 pub mod anchor;
 pub mod draft;
+pub mod examples;
 pub mod laws;
 pub mod resource;
 pub mod segments;

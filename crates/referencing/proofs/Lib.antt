@@ -1,1 +1,5 @@
 pub mod OnLiterals
+pub mod Retrieval
+pub mod Appending
+pub mod Closure
+pub mod References

@@ -31,11 +31,14 @@ names_in d = named_under d.uri (root d) ++ flat_map (λ p. named_by p p.base) (p
 abbrev pub names : Layer → List Named
 names layer = flat_map names_in layer
 
+-- the last entry under a URI and a name
+abbrev pub last_named : List ℕ → List ℕ → List Named → Option Named
+last_named uri name entries = last_of (filter (λ e. bytes_eq e.uri uri && bytes_eq e.name name) entries)
+
 -- the last entry under a URI and a name in the nearest layer that has one
 abbrev pub named : World → List ℕ → List ℕ → Option Named
 named [] uri name = None
-named (layer ∷ world) uri name =
-    option_map_or (λ e. Some e) (last_of (filter (λ e. bytes_eq e.uri uri && bytes_eq e.name name) (names layer))) (named world uri name)
+named (layer ∷ world) uri name = option_map_or (λ e. Some e) (last_named uri name (names layer)) (named world uri name)
 
 -- the fault of a name that nothing has: a name with `/` in it is none
 abbrev pub not_named : List ℕ → Fault

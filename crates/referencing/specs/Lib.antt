@@ -4,6 +4,9 @@ pub mod Places
 pub mod Bearing
 pub mod Anchors
 pub mod Wants
+pub mod Appending
+pub mod Closure
+pub mod References
 pub mod Preparing
 pub mod Retrievers
 pub mod Bases

@@ -31,17 +31,18 @@ moved r uri = record {
   scope = (if (length r.scope == 0) || not (bytes_eq uri r.base) then r.base ∷ r.scope else r.scope);
 }
 
--- a value's identifier changes the base and nothing else
-abbrev pub in_subresource : Resolver → Draft → Data → Result Resolver Refusal
-in_subresource r draft value = by_identifier (identifier draft value)
-  where
-    at_base : Result (List ℕ) Refusal → Result Resolver Refusal
-    at_base (Ok uri) = Ok (record r { base = uri })
-    at_base (Err refusal) = Err refusal
+-- an identifier changes the base and nothing else
+abbrev pub at_base : Resolver → Result (List ℕ) Refusal → Result Resolver Refusal
+at_base r (Ok uri) = Ok (record r { base = uri })
+at_base r (Err refusal) = Err refusal
 
-    by_identifier : Option (List ℕ) → Result Resolver Refusal
-    by_identifier None = Ok r
-    by_identifier (Some id) = at_base (against r.base id)
+abbrev pub by_identifier : Resolver → Option (List ℕ) → Result Resolver Refusal
+by_identifier r None = Ok r
+by_identifier r (Some id) = at_base r (against r.base id)
+
+-- the resolver in a value: its identifier is applied
+abbrev pub in_subresource : Resolver → Draft → Data → Result Resolver Refusal
+in_subresource r draft value = by_identifier r (identifier draft value)
 
 -- the anchors of a name in the scope, each under its URI: one that isn't there is passed over, another fault ends it
 abbrev pub with_entry : List ℕ → Result Named Fault → Result (List (List ℕ × Named)) Fault → Result (List (List ℕ × Named)) Fault
@@ -63,33 +64,37 @@ abbrev pub outermost : List ℕ × Named → List (List ℕ × Named) → List �
 outermost first [] = first
 outermost first (e ∷ entries) = outermost (if is_dynamic e.1.kind then e else first) entries
 
--- a dynamic anchor: the outermost of the scope, whose identifier is resolved where it was found
+-- an entry's place, whose identifier is resolved against the URI that it was found under
+abbrev pub entry_found : Resolver → List ℕ × Named → Result Found Fault
+entry_found r (uri, n) =
+    as_invalid_uri (in_subresource (record r { base = uri }) n.place.draft n.place.value)
+    >>= λ moved. Ok (record { value = n.place.value; draft = n.place.draft; resolver = moved })
+
+-- a dynamic anchor: the outermost of the scope
 abbrev pub dynamically : World → Resolver → Named → Result Found Fault
-dynamically world r first =
-    in_scope world first.name r.scope >>= λ entries. at (outermost (r.base, first) entries)
-  where
-    at : List ℕ × Named → Result Found Fault
-    at (uri, n) =
-        as_invalid_uri (in_subresource (record r { base = uri }) n.place.draft n.place.value)
-        >>= λ moved. Ok (record { value = n.place.value; draft = n.place.draft; resolver = moved })
+dynamically world r first = in_scope world first.name r.scope >>= λ entries. entry_found r (outermost (r.base, first) entries)
 
 -- a plain anchor answers its place
 abbrev pub named_found : World → Resolver → Named → Kind → Result Found Fault
 named_found world r n Plain = Ok (record { value = n.place.value; draft = n.place.draft; resolver = r })
 named_found world r n Dynamic = dynamically world r n
 
+-- what a pointer leads to in a resource of a draft, with the base there
+abbrev pub by_pointer : Resolver → Draft → Result (Data × Along) Fault → Result Found Fault
+by_pointer r draft (Ok found) = Ok (record { value = found.0; draft = draft; resolver = record r { base = found.1.base } })
+by_pointer r draft (Err fault) = Err fault
+
+-- what an anchor names
+abbrev pub by_name : World → Resolver → Result Named Fault → Result Found Fault
+by_name world r (Ok n) = named_found world r n n.kind
+by_name world r (Err fault) = Err fault
+
 -- what a fragment means in the resource at a place: the resource, what a pointer leads to, or what an anchor names
 abbrev pub at_fragment : World → Resolver → Place → List ℕ → Result Found Fault
 at_fragment world r p [] = Ok (record { value = p.value; draft = p.draft; resolver = r })
-at_fragment world r p (c ∷ text) = if c == 47 then by_pointer (pointed p.draft (c ∷ text) r.base p.value text) else by_name (anchor world r.base (c ∷ text))
-  where
-    by_pointer : Result (Data × Along) Fault → Result Found Fault
-    by_pointer (Ok found) = Ok (record { value = found.0; draft = p.draft; resolver = record r { base = found.1.base } })
-    by_pointer (Err fault) = Err fault
-
-    by_name : Result Named Fault → Result Found Fault
-    by_name (Ok n) = named_found world r n n.kind
-    by_name (Err fault) = Err fault
+at_fragment world r p (c ∷ text) =
+    if c == 47 then by_pointer r p.draft (pointed p.draft (c ∷ text) r.base p.value text)
+    else by_name world r (anchor world r.base (c ∷ text))
 
 -- where a reference leads from a resolver
 unfoldable pub lookup : World → Resolver → List ℕ → Result Found Fault

@@ -1,16 +1,20 @@
 -- Literal documents for rows that compute.
 use Prim.Native.String.{String as Literal}
-use Rattle.std.specs.Prelude.{ℕ, true, List, [], ◌∷◌, codes, Option, Some, None, Result, Ok, Err}
+use Rattle.std.specs.Prelude.{ℕ, true, List, [], ◌∷◌, map, codes, Option, Some, None, option_map, Result, Ok, Err}
 use Rattle.serde_json.specs.Data.{Data, boolean, string, array, object, no_items, item, no_members, member}
 use Rattle.ref_parts.specs.Path.{Part}
 use Rattle.ref_draft.specs.declared.draft.Draft.{Draft}
 use Rattle.ref_draft.specs.declared.draft.Draft.TheVariants.{Draft202012}
+use Rattle.ref_draft.specs.Anchors.{Kind}
 use Rattle.ref_uri.specs.Targets.{Refusal}
 use Rattle.referencing.specs.Fault.{Fault}
-use Rattle.referencing.specs.World.{Document, World, document, added}
-use Rattle.referencing.specs.Preparing.{Given}
-use Rattle.referencing.specs.Retrievers.{map_retriever}
-use Rattle.referencing.specs.Places.{Place}
+use Rattle.referencing.specs.World.{Document, Layer, World, document, added}
+use Rattle.referencing.specs.Places.{Place, root}
+use Rattle.referencing.specs.Anchors.{Named}
+use Rattle.referencing.specs.Preparing.{Retriever, Given}
+use Rattle.referencing.specs.Retrievers.{default_retriever, map_retriever}
+use Rattle.referencing.specs.Bases.{Along}
+use Rattle.referencing.specs.Lookup.{Resolver, Found}
 use Rattle.referencing.specs.Follow.{Step, Lookup, Followed, followed}
 
 abbrev pub yes : Data
@@ -39,15 +43,34 @@ pair d e = array (item d (item e no_items))
 abbrev pub at : Draft → Literal → Data → Document
 at draft uri tree = document draft (codes uri) tree
 
+-- a document that refers to `b`, one that `b` may be, and one without references
+abbrev pub refers_to_b : Document
+refers_to_b = at Draft202012 "http://a/r" (one "$ref" (text "b"))
+
+abbrev pub b_refers_to_c : Document
+b_refers_to_c = at Draft202012 "http://a/b" (one "$ref" (text "c"))
+
+abbrev pub c_is_true : Document
+c_is_true = at Draft202012 "http://a/c" yes
+
+-- documents of 2020-12 with a retriever and a limit, and without a parent
+abbrev pub given : Retriever → ℕ → Layer → Given
+given retriever limit documents = record { retriever = retriever; limit = limit; draft = Draft202012; parents = []; documents = documents }
+
 -- a document that refers to `b`, and a retriever that has `b`, which refers to `c`
+abbrev pub has_b : Retriever
+has_b = map_retriever ((codes "http://a/b", one "$ref" (text "c")) ∷ [])
+
 abbrev pub given_with : ℕ → Given
-given_with limit = record {
-  retriever = map_retriever ((codes "http://a/b", one "$ref" (text "c")) ∷ []);
-  limit = limit;
-  draft = Draft202012;
-  parents = [];
-  documents = at Draft202012 "http://a/r" (one "$ref" (text "b")) ∷ [];
-}
+given_with limit = given has_b limit (refers_to_b ∷ [])
+
+-- the same, where the retriever has `c` too
+abbrev pub has_b_and_c : Retriever
+has_b_and_c = map_retriever ((codes "http://a/b", one "$ref" (text "c")) ∷ (codes "http://a/c", yes) ∷ [])
+
+-- documents alone: nothing is retrieved
+abbrev pub given_alone : Layer → Given
+given_alone documents = given default_retriever 10000 documents
 
 -- a registry without a parent
 abbrev pub world : List Document → World
@@ -57,6 +80,10 @@ world documents = added documents ∷ []
 pub data Answer : Type 0 where
   answer : Option Data → List ℕ → List (List ℕ) → Answer
   refusal : ℕ → Fault → Answer
+
+-- the value found last, and where the next step starts from
+abbrev pub followed_to : Option (Data × Draft) → Resolver → Followed
+followed_to last r = record { last = last; resolver = r }
 
 abbrev value_of : Option (Data × Draft) → Option Data
 value_of None = None
@@ -72,9 +99,33 @@ steps w base list = answer_of (followed w (codes base) list)
 abbrev pub look : Literal → Step
 look reference = Lookup (codes reference)
 
+-- a base along a path, with the parts since it last changed
+abbrev pub along : Literal → List Part → Along
+along base since = record { base = codes base; since = since }
+
+-- a resolver at a base with a scope, and what is found from one
+abbrev pub resolver : Literal → List (List ℕ) → Resolver
+resolver base scope = record { base = codes base; scope = scope }
+
+abbrev pub found : Data → Draft → Resolver → Found
+found value draft r = record { value = value; draft = draft; resolver = r }
+
+-- a name of the root of a document
+abbrev pub name_at : Literal → Literal → Kind → Draft → Data → Named
+name_at uri name kind draft tree = record { uri = codes uri; name = codes name; kind = kind; place = root (at draft uri tree) }
+
+-- what is shown of places, and of what stands under URIs and names
 abbrev pub paths_and_bases : List Place → List (List Part × Result (List ℕ) Refusal)
-paths_and_bases [] = []
-paths_and_bases (p ∷ ps) = (p.path, p.base) ∷ paths_and_bases ps
+paths_and_bases ps = map (λ p. (p.path, p.base)) ps
+
+abbrev pub uris_and_paths : List (List ℕ × Place) → List (List ℕ × List Part)
+uris_and_paths entries = map (λ e. (e.0, e.1.path)) entries
+
+abbrev pub shown : Named → List ℕ × List ℕ × Kind × List Part
+shown n = (n.uri, n.name, n.kind, n.place.path)
+
+abbrev pub path_of : Option Place → Option (List Part)
+path_of p = option_map (λ p. p.path) p
 
 abbrev pub value_of_answer : Answer → Option Data
 value_of_answer (answer value base scope) = value

@@ -128,13 +128,14 @@ known_set id =
     else (if bytes_eq id (codes "https://json-schema.org/draft-07/schema") || bytes_eq id (codes "https://json-schema.org/draft-06/schema") || bytes_eq id (codes "https://json-schema.org/draft-04/schema") then Some None
     else None))
 
+abbrev pub some_set : Result VocabularySet Refusal → Result (Option VocabularySet) Refusal
+some_set (Ok s) = Ok (Some s)
+some_set (Err refusal) = Err refusal
+
+-- what the members of `$vocabulary` declare: none without such an object
 abbrev pub set_of_members : Option Members → Result (Option VocabularySet) Refusal
 set_of_members None = Ok None
 set_of_members (Some ms) = some_set (collected (of_names []) ms)
-  where
-    some_set : Result VocabularySet Refusal → Result (Option VocabularySet) Refusal
-    some_set (Ok s) = Ok (Some s)
-    some_set (Err refusal) = Err refusal
 
 -- the vocabularies that a meta-schema declares
 unfoldable pub find_in : Data → Result (Option VocabularySet) Refusal

@@ -28,13 +28,14 @@ is_unknown Draft201909 = false
 is_unknown Draft202012 = false
 is_unknown Unknown = true
 
+-- a URI without its fragment
+abbrev pub without_fragment : Result (List ℕ) Refusal → Result (List ℕ) Refusal
+without_fragment (Ok uri) = Ok (with_fragment uri None)
+without_fragment (Err refusal) = Err refusal
+
 -- the URI of a text that names a meta-schema of no known draft: its fragment takes no part
 abbrev pub schema_uri : List ℕ → Option (Result (List ℕ) Refusal)
 schema_uri text = if is_unknown (from_schema_uri text) then Some (without_fragment (parsed text)) else None
-  where
-    without_fragment : Result (List ℕ) Refusal → Result (List ℕ) Refusal
-    without_fragment (Ok uri) = Ok (with_fragment uri None)
-    without_fragment (Err refusal) = Err refusal
 
 -- what a place's text under `$ref` refers to, and what its `$schema` names, where its base is known
 abbrev pub reference_at : List ℕ → Data → Option (Result (List ℕ) Refusal)
@@ -53,15 +54,15 @@ refused None = []
 refused (Some (Ok uri)) = []
 refused (Some (Err refusal)) = refusal ∷ []
 
--- a place wants what it refers to, then its meta-schema
+-- a place wants what it refers to, which needs a base, then its meta-schema
 abbrev pub wants_at : Result (List ℕ) Refusal → Data → List Want
 wants_at (Ok base) value = wanted Reference (reference_at base value) ++ wanted MetaSchema (schema_at value)
-wants_at (Err refusal) value = []
+wants_at (Err refusal) value = wanted MetaSchema (schema_at value)
 
--- a place's faults: its identifier, its reference, its meta-schema
+-- a place's faults: its identifier, or its reference where it has a base, then its meta-schema
 abbrev pub faults_at : Result (List ℕ) Refusal → Data → List Refusal
 faults_at (Ok base) value = refused (reference_at base value) ++ refused (schema_at value)
-faults_at (Err refusal) value = refusal ∷ []
+faults_at (Err refusal) value = refusal ∷ refused (schema_at value)
 
 -- by documents and places
 abbrev pub wants : Layer → List Want

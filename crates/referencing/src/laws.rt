@@ -1,25 +1,45 @@
 //! Laws of the definitions. Each function is empty: its contract states the law, and the check proves it.
-ghost use Rattle.std.specs.Prelude.{◌≡◌, ℕ, List, ◌∷◌, Some, None, Err, codes};
-ghost use Rattle.referencing.specs.Fault.{RetrievalLimit, Unretrievable, UnknownSpecification};
-ghost use Rattle.referencing.specs.Preparing.{IsOutcome, refusal_fault};
-ghost use Rattle.referencing.specs.Rows.{given_with};
-ghost use Rattle.referencing.specs.Wants.{MetaSchema};
+ghost use Rattle.std.specs.Prelude.{◌≡◌, ℕ, List, ◌∷◌, Some, None};
 ghost use Rattle.referencing.specs.World.{Layer, World};
 ghost use Rattle.referencing.specs.Places.{Place};
 ghost use Rattle.referencing.specs.Bearing.{bears, last_under, means};
+ghost use Rattle.referencing.specs.Anchors.{Named, last_named, named, names};
+ghost use Rattle.referencing.specs.Closure.{OutcomesOfRetrieval};
+ghost use Rattle.referencing.specs.References.{ReferencesAreRetrieved};
+ghost use Rattle.referencing.specs.Appending.{MeaningsStay, MeaningsStayBelow, MetWantsStay, OpenWantsAfter};
 
-/// The nearest layer decides what a URI means: an entry there is the answer, and without one the parents' layers answer.
+/// The nearest layer decides what a URI means, and what a name under it does: an entry there is the answer, and without one
+/// the parents' layers answer.
 pub fn nearest_layer_decides()
     ensures near { (layer : Layer) (parents : World) (uri found : List ℕ) (place : Place)
         → last_under uri (bears layer) ≡ Some (found, place) → means (layer ∷ parents) uri ≡ Some place }
     ensures far { (layer : Layer) (parents : World) (uri : List ℕ)
         → last_under uri (bears layer) ≡ None → means (layer ∷ parents) uri ≡ means parents uri }
+    ensures near_name { (layer : Layer) (parents : World) (uri name : List ℕ) (entry : Named)
+        → last_named uri name (names layer) ≡ Some entry → named (layer ∷ parents) uri name ≡ Some entry }
+    ensures far_name { (layer : Layer) (parents : World) (uri name : List ℕ)
+        → last_named uri name (names layer) ≡ None → named (layer ∷ parents) uri name ≡ named parents uri name }
 {}
 
-/// What is retrieved, and what is not: a document that refers to `b`, which refers to `c`, with a retriever that has `b`.
-pub fn outcomes_of_examples()
-    ensures limit_of_none { IsOutcome (given_with 0) (Err (RetrievalLimit (codes "http://a/b") 0)) }
-    ensures limit_of_one { IsOutcome (given_with 1) (Err (RetrievalLimit (codes "http://a/c") 1)) }
-    ensures refused { IsOutcome (given_with 2) (Err (Unretrievable (codes "http://a/c") (codes "no document under this URI"))) }
-    ensures refused_meta_schema { refusal_fault MetaSchema (codes "a:b") (codes "no document under this URI") ≡ UnknownSpecification (codes "a:b") }
+/// Documents that are appended to a layer leave each want met that was met, and so does a parent: a URI that means a place
+/// still means one, perhaps another. So the wants that are open afterwards are some of those that were open before, in their
+/// order, and behind them those of the documents that were appended.
+pub fn appended_documents_leave_wants_met()
+    ensures meanings { MeaningsStay }
+    ensures below { MeaningsStayBelow }
+    ensures wants { MetWantsStay }
+    ensures open_wants { OpenWantsAfter }
+{}
+
+/// What comes of documents and a retriever, whatever it answers: each retrieved document was wanted by one before it, under a
+/// URI that meant no place, so that their URIs differ; there are no more than the limit, and just as many where the limit is
+/// the answer; a layer that is ready has no fault and no open want. Documents without a fault and an open want are the one
+/// outcome, and so is the first fault of documents that have one.
+pub fn outcomes_of_retrieval()
+    ensures { OutcomesOfRetrieval }
+{}
+
+/// Where no want is open, a reference at a place of the layer never leads to a URI that is not present.
+pub fn references_are_retrieved()
+    ensures { ReferencesAreRetrieved }
 {}

@@ -1,0 +1,90 @@
+//! Where an identifier may change the base along a pointer.
+ghost use Rattle.std.specs.Prelude.{◌≡◌, true, false, [], ◌∷◌, codes, length};
+ghost use Rattle.ref_parts.specs.Path.{Index};
+ghost use Rattle.ref_draft.specs.declared.draft.Draft.TheVariants.{Draft4, Draft6, Draft7, Draft201909, Draft202012, Unknown};
+ghost use Rattle.ref_draft.specs.declared.spec.Holding.TheVariants.{Whole, WholeObject, Elements, Members, ElementsOrWhole, ObjectMembers, Nothing};
+ghost use Rattle.ref_draft.specs.Keywords.{row};
+ghost use Rattle.ref_draft.specs.Scan.{draft_4_row, scan_row, is_value_keyword, is_child_keyword, AnIndex, AValue, AChild, parts_of, spelled, IsPieceOf, IsWord, is_items_or_dependencies, SpellsWord, PassesItems, IsAccepted, ReadsTheWalk, AcceptsChildren};
+ghost use Rattle.ref_draft.specs.ScanSteps.{scan_holding, go_on, scan, scan_past};
+ghost use Rattle.ref_draft.specs.Rows.{empty, yes, one, key};
+
+/// Which parts are accepted at a value.
+pub fn accepted_parts()
+    ensures child_keyword_alone { ¬ (IsAccepted Draft202012 (key "properties" ∷ []) empty) }
+    ensures child_keyword { IsAccepted Draft202012 (key "properties" ∷ key "x" ∷ []) empty }
+    ensures element { IsAccepted Draft202012 (key "allOf" ∷ Index 0 ∷ []) yes }
+    ensures index_first { IsAccepted Draft202012 (Index 3 ∷ key "not" ∷ []) empty }
+    ensures no_keyword { ¬ (IsAccepted Draft202012 (key "const" ∷ []) empty) }
+    ensures below_items { IsAccepted Draft7 (key "items" ∷ key "const" ∷ []) empty }
+    ensures below_items_at_no_object { ¬ (IsAccepted Draft7 (key "items" ∷ key "const" ∷ []) yes) }
+    ensures value_keyword { IsAccepted Draft6 (key "properties" ∷ key "items" ∷ key "not" ∷ []) yes }
+    ensures dependencies { IsAccepted Draft201909 (key "$defs" ∷ key "a" ∷ key "dependencies" ∷ []) empty }
+    ensures defs_in_4 { ¬ (IsAccepted Draft4 (key "$defs" ∷ key "a" ∷ []) empty) }
+{}
+
+/// The two ways in which parts are accepted.
+pub fn words_and_items()
+    ensures no_parts { SpellsWord Draft202012 [] }
+    ensures a_word { SpellsWord Draft202012 (key "$defs" ∷ key "const" ∷ key "not" ∷ Index 0 ∷ []) }
+    ensures no_word { ¬ (SpellsWord Draft7 (key "items" ∷ [])) }
+    ensures behind_items { PassesItems Draft7 (key "items" ∷ Index 0 ∷ []) empty }
+    ensures behind_a_word { PassesItems Draft201909 (key "not" ∷ key "dependencies" ∷ key "const" ∷ []) empty }
+    ensures not_since_2020 { ¬ (PassesItems Draft202012 (key "items" ∷ []) empty) }
+    ensures no_object { ¬ (PassesItems Draft7 (key "items" ∷ []) yes) }
+    ensures accepted_children { AcceptsChildren Draft202012 [] (((key "not" ∷ []), empty) ∷ ((key "$defs" ∷ key "a" ∷ []), yes) ∷ []) }
+    ensures no_children { AcceptsChildren Draft202012 (key "const" ∷ []) [] }
+    ensures walk_of_7 { ReadsTheWalk Draft7 }
+    ensures not_of_4 { ¬ (ReadsTheWalk Draft4) }
+{}
+
+/// The keywords that the scan reads.
+pub fn keywords_of_the_scan()
+    ensures values_of_4 { draft_4_row.values ≡ codes "additionalItems" ∷ codes "additionalProperties" ∷ codes "not" ∷ [] }
+    ensures maps_of_4 { draft_4_row.maps ≡ codes "definitions" ∷ codes "patternProperties" ∷ codes "properties" ∷ [] }
+    ensures row_of_4 { scan_row Draft4 ≡ draft_4_row }
+    ensures row_of_7 { scan_row Draft7 ≡ row Draft7 }
+    ensures value_keyword { is_value_keyword Draft202012 (codes "items") ≡ true }
+    ensures contains_in_4 { is_value_keyword Draft4 (codes "contains") ≡ false }
+    ensures elements_keyword { is_child_keyword Draft7 (codes "oneOf") ≡ true }
+    ensures members_keyword { is_child_keyword Draft4 (codes "definitions") ≡ true }
+    ensures no_child_keyword { is_child_keyword Draft7 (codes "$defs") ≡ false }
+    ensures items { is_items_or_dependencies (codes "items") ≡ true }
+    ensures dependencies { is_items_or_dependencies (codes "dependencies") ≡ true }
+    ensures another { is_items_or_dependencies (codes "dependentSchemas") ≡ false }
+{}
+
+/// The pieces of words.
+pub fn pieces_of_words()
+    ensures of_an_index { parts_of (AnIndex 3) ≡ Index 3 ∷ [] }
+    ensures of_a_value { parts_of (AValue (codes "not")) ≡ key "not" ∷ [] }
+    ensures of_a_child { parts_of (AChild (codes "allOf") (Index 0)) ≡ key "allOf" ∷ Index 0 ∷ [] }
+    ensures no_pieces { spelled [] ≡ [] }
+    ensures two_pieces { spelled (AChild (codes "$defs") (key "a") ∷ AValue (codes "not") ∷ []) ≡ key "$defs" ∷ key "a" ∷ key "not" ∷ [] }
+    ensures an_index { IsPieceOf Draft4 (AnIndex 3) }
+    ensures a_value { IsPieceOf Draft7 (AValue (codes "if")) }
+    ensures no_value { ¬ (IsPieceOf Draft6 (AValue (codes "if"))) }
+    ensures a_child { IsPieceOf Draft201909 (AChild (codes "dependentSchemas") (Index 7)) }
+    ensures no_child { ¬ (IsPieceOf Draft7 (AChild (codes "dependentSchemas") (Index 7))) }
+    ensures a_word { IsWord Draft6 (AChild (codes "allOf") (Index 0) ∷ AValue (codes "not") ∷ []) }
+    ensures no_word { ¬ (IsWord Draft6 (AChild (codes "allOf") (Index 0) ∷ AValue (codes "if") ∷ [])) }
+{}
+
+/// The scan, part by part.
+pub fn steps_of_the_scan()
+    ensures value_of_4 { scan_holding Draft4 (codes "additionalItems") ≡ Whole }
+    ensures defs_of_4 { scan_holding Draft4 (codes "$defs") ≡ Nothing }
+    ensures items_of_7 { scan_holding Draft7 (codes "items") ≡ ElementsOrWhole }
+    ensures on_at_a_value { go_on Whole false true false ≡ true }
+    ensures past_at_elements { go_on Elements true false true ≡ true }
+    ensures past_at_members { go_on Members true true false ≡ false }
+    ensures object_at_items { go_on ElementsOrWhole true false false ≡ true }
+    ensures object_at_dependencies { go_on ObjectMembers false true true ≡ false }
+    ensures ends_at_no_keyword { go_on Nothing true true true ≡ false }
+    ensures on_at_a_value_or_boolean { go_on WholeObject false true false ≡ true }
+    ensures no_parts { scan Draft4 false [] ≡ true }
+    ensures accepted { scan Draft202012 false (key "properties" ∷ key "const" ∷ key "not" ∷ []) ≡ true }
+    ensures refused { scan Draft202012 true (key "not" ∷ key "const" ∷ []) ≡ false }
+    ensures past_nothing { scan_past Draft202012 true [] ≡ false }
+    ensures past_a_part { scan_past Draft202012 true (key "const" ∷ key "not" ∷ []) ≡ true }
+    ensures unknown_as_2020 { scan Unknown true (key "prefixItems" ∷ Index 0 ∷ []) ≡ true }
+{}

@@ -1,0 +1,7 @@
+use Rattle.std.proofs.Common.{refl}
+use Rattle.referencing.proofs.OnLiterals.{referencing_on_literals}
+use Rattle.referencing.proofs.examples.fragments.resolvers_after_lookups.Goals as goal
+
+pub returns : goal.returns
+unfolding referencing_on_literals
+returns c = record { empty_scope = refl; another_base = refl; same_base = refl }

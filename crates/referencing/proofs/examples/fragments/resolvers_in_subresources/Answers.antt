@@ -1,0 +1,7 @@
+use Rattle.std.proofs.Common.{refl}
+use Rattle.referencing.proofs.OnLiterals.{referencing_on_literals}
+use Rattle.referencing.proofs.examples.fragments.resolvers_in_subresources.Goals as goal
+
+pub returns : goal.returns
+unfolding referencing_on_literals
+returns c = record { identifier = refl; no_identifier = refl; refused_identifier = refl; base_without_scheme = refl; at_another_base = refl; at_no_base = refl; entered = refl; beside_a_reference = refl }

@@ -1,0 +1,7 @@
+use Rattle.std.proofs.Common.{refl}
+use Rattle.referencing.proofs.OnLiterals.{referencing_on_literals}
+use Rattle.referencing.proofs.examples.lookups.layers.Goals as goal
+
+pub returns : goal.returns
+unfolding referencing_on_literals
+returns c = record { nearest = refl; parent_anchor = refl; same_uri = refl }

@@ -1,0 +1,7 @@
+use Rattle.std.proofs.Common.{refl}
+use Rattle.referencing.proofs.OnLiterals.{referencing_on_literals}
+use Rattle.referencing.proofs.examples.lookups.lookups_of_references.Goals as goal
+
+pub returns : goal.returns
+unfolding referencing_on_literals
+returns c = record { whole_resource = refl; scope_stays = refl; draft_of_the_place = refl; no_reference = refl; no_place = refl }

@@ -1,7 +1,0 @@
-use Rattle.std.proofs.Common.{refl}
-use Rattle.referencing.proofs.OnLiterals.{referencing_on_literals}
-use Rattle.referencing.proofs.examples.lookups_by_anchor.Goals as goal
-
-pub returns : goal.returns
-unfolding referencing_on_literals
-returns c = record { dynamic_nested = refl; dynamic_alone = refl; recursive_nested = refl; recursive_alone = refl; unknown = refl; invalid = refl; fallback = refl; fallback_of_relative = refl; dynamic = refl; dynamic_invalid = refl; recursive = refl }

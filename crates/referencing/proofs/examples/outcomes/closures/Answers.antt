@@ -1,0 +1,20 @@
+use Rattle.std.proofs.Common.{refl, sym, true≢false, [], ◌∷◌}
+use Rattle.referencing.specs.Preparing.{begun}
+use Rattle.referencing.specs.Rows.{given, given_with, has_b_and_c, refers_to_b, b_refers_to_c, c_is_true}
+use Rattle.referencing.proofs.OnLiterals.{referencing_on_literals}
+use Rattle.referencing.proofs.Closure.{closure}
+use Rattle.referencing.proofs.Retrieval.{first_retrieved, second_retrieved}
+use Rattle.referencing.proofs.examples.outcomes.closures.Goals as goal
+
+pub returns : goal.returns
+unfolding referencing_on_literals
+returns c = record {
+  nothing_retrieved = closure (given_with 2) 0 (refers_to_b ∷ []) begun;
+  one_retrieved = closure (given_with 2) 1 (refers_to_b ∷ b_refers_to_c ∷ []) (first_retrieved 2);
+  two_retrieved = closure (given has_b_and_c 2 (refers_to_b ∷ [])) 2 (refers_to_b ∷ b_refers_to_c ∷ c_is_true ∷ []) second_retrieved;
+  none_behind = tt;
+  no_refusal_without_a_test = λ may. true≢false (sym may);
+  answer_by_a_test = refl;
+  own_meaning = refl;
+  no_meaning = λ has. true≢false (sym has);
+}

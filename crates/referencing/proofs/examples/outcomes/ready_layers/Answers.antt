@@ -1,0 +1,25 @@
+use Rattle.std.proofs.Common.{refl, [], ◌∷◌, codes}
+use Rattle.std.proofs.Common.{arith}
+use Rattle.ref_draft.specs.declared.draft.Draft.TheVariants.{Draft202012}
+use Rattle.referencing.proofs.OnLiterals.{referencing_on_literals}
+use Rattle.referencing.specs.World.{Layer}
+use Rattle.referencing.specs.Wants.{Want, MetaSchema}
+use Rattle.referencing.specs.Preparing.{begun, retrieved, ready}
+use Rattle.referencing.specs.Rows.{at, one, two, text, yes, empty, refers_to_b, b_refers_to_c, c_is_true}
+use Rattle.referencing.proofs.Retrieval.{second_retrieved}
+use Rattle.referencing.proofs.examples.outcomes.ready_layers.Goals as goal
+
+abbrev want_of_meta : Want
+want_of_meta = record { cause = MetaSchema; uri = codes "http://a/meta" }
+
+abbrev names_meta : Layer
+names_meta = at Draft202012 "http://a/r" (one "$schema" (text "http://a/meta#")) ∷ []
+
+pub returns : goal.returns
+unfolding referencing_on_literals
+returns c = record {
+  nothing_wanted = ready 0 (at Draft202012 "http://a/r" empty ∷ []) begun (omega arith) refl refl;
+  own_reference = ready 0 (at Draft202012 "http://a/r" (two "$id" (text "#x") "$ref" (text "")) ∷ []) begun (omega arith) refl refl;
+  both_retrieved = ready 2 (refers_to_b ∷ b_refers_to_c ∷ c_is_true ∷ []) second_retrieved (omega arith) refl refl;
+  meta_schema_retrieved = ready 1 (at Draft202012 "http://a/r" (one "$schema" (text "http://a/meta#")) ∷ at Draft202012 "http://a/meta" yes ∷ []) (retrieved 0 names_meta want_of_meta [] yes begun refl refl refl) (omega arith) refl refl;
+}

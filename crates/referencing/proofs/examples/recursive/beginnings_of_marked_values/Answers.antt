@@ -1,0 +1,7 @@
+use Rattle.std.proofs.Common.{refl}
+use Rattle.referencing.proofs.OnLiterals.{referencing_on_literals}
+use Rattle.referencing.proofs.examples.recursive.beginnings_of_marked_values.Goals as goal
+
+pub returns : goal.returns
+unfolding referencing_on_literals
+returns c = record { none = refl; last_marked = refl; fault_behind = refl; fault_past_the_end = refl; inner_to_outer = refl; no_scope = refl }

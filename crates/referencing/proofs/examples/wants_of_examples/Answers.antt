@@ -1,7 +1,0 @@
-use Rattle.std.proofs.Common.{refl}
-use Rattle.referencing.proofs.OnLiterals.{referencing_on_literals}
-use Rattle.referencing.proofs.examples.wants_of_examples.Goals as goal
-
-pub returns : goal.returns
-unfolding referencing_on_literals
-returns c = record { reference = refl; meta_schema = refl; borne = refl }

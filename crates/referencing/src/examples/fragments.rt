@@ -1,0 +1,62 @@
+//! What a fragment means in a resource, and where the next lookup starts from.
+ghost use Rattle.std.specs.Prelude.{◌≡◌, true, false, [], ◌∷◌, codes, Some, None, Ok, Err};
+ghost use Rattle.ref_parts.specs.Path.{Key};
+ghost use Rattle.ref_draft.specs.declared.draft.Draft.TheVariants.{Draft7, Draft201909, Draft202012};
+ghost use Rattle.ref_draft.specs.Anchors.{Plain, Dynamic};
+ghost use Rattle.ref_uri.specs.Targets.{unparsed, unresolved};
+ghost use Rattle.referencing.specs.Fault.{InvalidAnchor, InvalidUri, NoSuchAnchor, PointerToNowhere};
+ghost use Rattle.referencing.specs.Places.{root};
+ghost use Rattle.referencing.specs.Lookup.{moved, at_base, by_identifier, in_subresource, with_entry, in_scope, is_dynamic, outermost, entry_found, dynamically, named_found, by_pointer, by_name, at_fragment};
+ghost use Rattle.referencing.specs.Rows.{at, world, yes, empty, text, one, two, along, resolver, found, name_at};
+
+/// The base and the scope after a lookup.
+pub fn resolvers_after_lookups()
+    ensures empty_scope { moved (resolver "http://a/r" []) (codes "http://a/r") ≡ resolver "http://a/r" (codes "http://a/r" ∷ []) }
+    ensures another_base { moved (resolver "http://a/r" (codes "http://a/q" ∷ [])) (codes "http://a/s") ≡ resolver "http://a/s" (codes "http://a/r" ∷ codes "http://a/q" ∷ []) }
+    ensures same_base { moved (resolver "http://a/r" (codes "http://a/q" ∷ [])) (codes "http://a/r") ≡ resolver "http://a/r" (codes "http://a/q" ∷ []) }
+{}
+
+/// An identifier of a value, applied (2020-12 Core, 8.2.1).
+pub fn resolvers_in_subresources()
+    ensures identifier { by_identifier (resolver "http://a/r" (codes "http://a/q" ∷ [])) (Some (codes "k/")) ≡ Ok (resolver "http://a/k/" (codes "http://a/q" ∷ [])) }
+    ensures no_identifier { by_identifier (resolver "http://a/r" (codes "http://a/q" ∷ [])) None ≡ Ok (resolver "http://a/r" (codes "http://a/q" ∷ [])) }
+    ensures refused_identifier { by_identifier (resolver "http://a/r" []) (Some (codes "a b")) ≡ Err (unparsed (codes "a b")) }
+    ensures base_without_scheme { by_identifier (resolver "/a" []) (Some (codes "b")) ≡ Err (unresolved (codes "b") (codes "/a")) }
+    ensures at_another_base { at_base (resolver "http://a/r" []) (Ok (codes "a:b")) ≡ Ok (resolver "a:b" []) }
+    ensures at_no_base { at_base (resolver "http://a/r" []) (Err (unparsed (codes "a b"))) ≡ Err (unparsed (codes "a b")) }
+    ensures entered { in_subresource (resolver "http://a/r" []) Draft202012 (one "$id" (text "k/")) ≡ Ok (resolver "http://a/k/" []) }
+    ensures beside_a_reference { in_subresource (resolver "http://a/r" []) Draft7 (two "$id" (text "k/") "$ref" (text "b")) ≡ Ok (resolver "http://a/r" []) }
+{}
+
+/// What a fragment leads to.
+pub fn fragments_of_resources()
+    ensures none { at_fragment [] (resolver "http://a/r" []) (root (at Draft7 "http://a/r" yes)) [] ≡ Ok (found yes Draft7 (resolver "http://a/r" [])) }
+    ensures pointer { at_fragment [] (resolver "http://a/r" []) (root (at Draft202012 "http://a/r" (one "not" (one "$id" (text "s/"))))) (codes "/not") ≡ Ok (found (one "$id" (text "s/")) Draft202012 (resolver "http://a/s/" [])) }
+    ensures pointer_to_nowhere { at_fragment [] (resolver "http://a/r" []) (root (at Draft202012 "http://a/r" empty)) (codes "/nope") ≡ Err (PointerToNowhere (codes "/nope")) }
+    ensures anchor { at_fragment (world (at Draft202012 "http://a/r" (one "$anchor" (text "n")) ∷ [])) (resolver "http://a/r" []) (root (at Draft202012 "http://a/r" (one "$anchor" (text "n")))) (codes "n") ≡ Ok (found (one "$anchor" (text "n")) Draft202012 (resolver "http://a/r" [])) }
+    ensures undecoded_anchor { at_fragment (world (at Draft202012 "http://a/r" (one "$anchor" (text "n")) ∷ [])) (resolver "http://a/r" []) (root (at Draft202012 "http://a/r" (one "$anchor" (text "n")))) (codes "%6E") ≡ Err (NoSuchAnchor (codes "%6E")) }
+    ensures by_a_pointer { by_pointer (resolver "http://a/r" (codes "http://a/q" ∷ [])) Draft7 (Ok (yes, along "http://a/s/" [])) ≡ Ok (found yes Draft7 (resolver "http://a/s/" (codes "http://a/q" ∷ []))) }
+    ensures by_a_faulty_pointer { by_pointer (resolver "http://a/r" []) Draft7 (Err (PointerToNowhere (codes "/x"))) ≡ Err (PointerToNowhere (codes "/x")) }
+    ensures by_a_plain_name { by_name [] (resolver "http://a/r" []) (Ok (name_at "http://a/x" "n" Plain Draft201909 (one "$id" (text "y")))) ≡ Ok (found (one "$id" (text "y")) Draft201909 (resolver "http://a/r" [])) }
+    ensures by_no_name { by_name [] (resolver "http://a/r" []) (Err (NoSuchAnchor (codes "n"))) ≡ Err (NoSuchAnchor (codes "n")) }
+    ensures plain_name { named_found [] (resolver "http://a/r" (codes "http://a/q" ∷ [])) (name_at "http://a/x" "n" Plain Draft7 yes) Plain ≡ Ok (found yes Draft7 (resolver "http://a/r" (codes "http://a/q" ∷ []))) }
+    ensures dynamic_name { named_found [] (resolver "http://a/r" []) (name_at "http://a/x" "n" Dynamic Draft202012 (one "$id" (text "y"))) Dynamic ≡ Ok (found (one "$id" (text "y")) Draft202012 (resolver "http://a/y" [])) }
+{}
+
+/// Dynamic anchors (2020-12 Core, 8.2.3.2).
+pub fn dynamic_anchors()
+    ensures dynamic_kind { is_dynamic Dynamic ≡ true }
+    ensures plain_kind { is_dynamic Plain ≡ false }
+    ensures last_dynamic { outermost (codes "a:1", name_at "a:1" "n" Plain Draft202012 yes) ((codes "a:2", name_at "a:2" "n" Dynamic Draft202012 yes) ∷ (codes "a:3", name_at "a:3" "n" Dynamic Draft202012 empty) ∷ (codes "a:4", name_at "a:4" "n" Plain Draft202012 yes) ∷ []) ≡ (codes "a:3", name_at "a:3" "n" Dynamic Draft202012 empty) }
+    ensures no_dynamic { outermost (codes "a:1", name_at "a:1" "n" Dynamic Draft202012 yes) ((codes "a:2", name_at "a:2" "n" Plain Draft202012 empty) ∷ []) ≡ (codes "a:1", name_at "a:1" "n" Dynamic Draft202012 yes) }
+    ensures passed_over { with_entry (codes "a:1") (Err (NoSuchAnchor (codes "n"))) (Ok []) ≡ Ok [] }
+    ensures another_fault_ends { with_entry (codes "a:1") (Err (InvalidAnchor (codes "n/m"))) (Ok []) ≡ Err (InvalidAnchor (codes "n/m")) }
+    ensures fault_further_out { with_entry (codes "a:1") (Ok (name_at "a:1" "n" Plain Draft202012 yes)) (Err (InvalidUri (unparsed (codes "a b")))) ≡ Err (InvalidUri (unparsed (codes "a b"))) }
+    ensures entry_in_front { with_entry (codes "a:1") (Ok (name_at "a:1" "n" Plain Draft202012 yes)) (Ok []) ≡ Ok ((codes "a:1", name_at "a:1" "n" Plain Draft202012 yes) ∷ []) }
+    ensures in_the_scope { in_scope (world (at Draft202012 "http://a/r" (one "$dynamicAnchor" (text "n")) ∷ [])) (codes "n") (codes "http://a/q" ∷ codes "http://a/r" ∷ []) ≡ Ok ((codes "http://a/r", name_at "http://a/r" "n" Dynamic Draft202012 (one "$dynamicAnchor" (text "n"))) ∷ []) }
+    ensures fault_in_the_scope { in_scope (world (at Draft202012 "http://a/t" (one "$dynamicAnchor" (text "n/m")) ∷ [])) (codes "n/m") (codes "http://a/t" ∷ codes "http://a/r" ∷ []) ≡ Err (InvalidAnchor (codes "n/m")) }
+    ensures identifier_where_it_was_found { entry_found (resolver "http://a/r" (codes "http://a/q" ∷ [])) (codes "http://b/x", name_at "http://b/x" "n" Dynamic Draft202012 (one "$id" (text "y"))) ≡ Ok (found (one "$id" (text "y")) Draft202012 (resolver "http://b/y" (codes "http://a/q" ∷ []))) }
+    ensures refused_where_it_was_found { entry_found (resolver "http://a/r" []) (codes "http://b/x", name_at "http://b/x" "n" Dynamic Draft202012 (one "$id" (text "a b"))) ≡ Err (InvalidUri (unparsed (codes "a b"))) }
+    ensures outermost_of_the_scope { dynamically (world (at Draft202012 "http://a/r" (one "$dynamicAnchor" (text "n")) ∷ at Draft202012 "http://a/t" (two "$dynamicAnchor" (text "n") "title" (text "t")) ∷ [])) (resolver "http://a/t" (codes "http://a/t" ∷ codes "http://a/r" ∷ [])) (name_at "http://a/t" "n" Dynamic Draft202012 (two "$dynamicAnchor" (text "n") "title" (text "t"))) ≡ Ok (found (one "$dynamicAnchor" (text "n")) Draft202012 (resolver "http://a/r" (codes "http://a/t" ∷ codes "http://a/r" ∷ []))) }
+    ensures found_first { dynamically (world (at Draft202012 "http://a/r" (one "$anchor" (text "n")) ∷ [])) (resolver "http://a/t" (codes "http://a/r" ∷ [])) (name_at "http://a/t" "n" Dynamic Draft202012 yes) ≡ Ok (found yes Draft202012 (resolver "http://a/t" (codes "http://a/r" ∷ []))) }
+{}

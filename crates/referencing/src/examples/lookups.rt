@@ -1,0 +1,71 @@
+//! Lookups by URI, pointer and anchor, step after step.
+ghost use Rattle.std.specs.Prelude.{◌≡◌, [], ◌∷◌, codes, Some, None, Ok, Err};
+ghost use Rattle.ref_draft.specs.declared.draft.Draft.TheVariants.{Draft7, Draft202012};
+ghost use Rattle.ref_uri.specs.Targets.{unparsed};
+ghost use Rattle.referencing.specs.Fault.{PointerToNowhere, InvalidArrayIndex, InvalidPercentEncoding, NoSuchAnchor, InvalidAnchor, InvalidUri, not_retrieved};
+ghost use Rattle.referencing.specs.World.{added};
+ghost use Rattle.referencing.specs.Lookup.{lookup};
+ghost use Rattle.referencing.specs.Follow.{Enter};
+ghost use Rattle.referencing.specs.Rows.{at, world, yes, empty, text, one, two, three, pair, resolver, found, steps, look, answer, refusal};
+
+/// Lookups by URI and pointer.
+pub fn lookups_by_pointer()
+    ensures document { steps (world (at Draft202012 "http://a/r" (one "properties" (one "n" (one "type" (text "string")))) ∷ [])) "http://a/r" (look "#/properties/n" ∷ []) ≡ answer (Some (one "type" (text "string"))) (codes "http://a/r") (codes "http://a/r" ∷ []) }
+    ensures nowhere { steps (world (at Draft202012 "http://a/r" empty ∷ [])) "http://a/r" (look "#/nope" ∷ []) ≡ refusal 0 (PointerToNowhere (codes "/nope")) }
+    ensures not_borne { steps (world (at Draft202012 "http://a/r" empty ∷ [])) "http://a/q" (look "#" ∷ []) ≡ refusal 0 (not_retrieved (codes "http://a/q")) }
+    ensures leading_zero { steps (world (at Draft202012 "http://a/r" (one "prefixItems" (pair yes empty)) ∷ [])) "http://a/r" (look "#/prefixItems/01" ∷ []) ≡ answer (Some empty) (codes "http://a/r") (codes "http://a/r" ∷ []) }
+    ensures plus_sign { steps (world (at Draft202012 "http://a/r" (one "prefixItems" (pair yes empty)) ∷ [])) "http://a/r" (look "#/prefixItems/+1" ∷ []) ≡ answer (Some empty) (codes "http://a/r") (codes "http://a/r" ∷ []) }
+    ensures no_resource_below_const { steps (world (at Draft7 "http://a/r" (one "items" (one "const" (one "$id" (text "z")))) ∷ [])) "http://a/r" (look "z" ∷ []) ≡ refusal 0 (not_retrieved (codes "http://a/z")) }
+    ensures entered { steps (world (at Draft202012 "http://a/k/x" yes ∷ [])) "http://a/r" (Enter Draft202012 (one "$id" (text "k/")) ∷ look "x" ∷ []) ≡ answer (Some yes) (codes "http://a/k/x") (codes "http://a/k/" ∷ []) }
+    ensures no_index { steps (world (at Draft202012 "http://a/r" (one "prefixItems" (pair yes empty)) ∷ [])) "http://a/r" (look "#/prefixItems/one" ∷ []) ≡ refusal 0 (InvalidArrayIndex (codes "/prefixItems/one") (codes "one")) }
+    ensures bad_escape { steps (world (at Draft202012 "http://a/r" empty ∷ [])) "http://a/r" (look "#/%FF" ∷ []) ≡ refusal 0 (InvalidPercentEncoding (codes "/%FF")) }
+    ensures base_changes { steps (world (at Draft7 "http://a/r" (one "items" (one "properties" (one "x" (one "$id" (text "s/"))))) ∷ [])) "http://a/r" (look "#/items/properties/x" ∷ []) ≡ answer (Some (one "$id" (text "s/"))) (codes "http://a/s/") (codes "http://a/r" ∷ []) }
+    ensures const_is_no_schema { steps (world (at Draft202012 "http://a/r" (one "const" (one "$id" (text "z"))) ∷ [])) "http://a/r" (look "#/const" ∷ []) ≡ answer (Some (one "$id" (text "z"))) (codes "http://a/r") (codes "http://a/r" ∷ []) }
+    ensures const_below_items { steps (world (at Draft7 "http://a/r" (one "items" (one "const" (one "$id" (text "z")))) ∷ [])) "http://a/r" (look "#/items/const" ∷ []) ≡ answer (Some (one "$id" (text "z"))) (codes "http://a/z") (codes "http://a/r" ∷ []) }
+    ensures last_wins { steps (world (at Draft202012 "http://a/r" (one "$defs" (two "a" (two "$id" (text "http://a/k") "title" (text "1")) "b" (two "$id" (text "http://a/k") "title" (text "2")))) ∷ [])) "http://a/r" (look "http://a/k" ∷ []) ≡ answer (Some (two "$id" (text "http://a/k") "title" (text "2"))) (codes "http://a/k") (codes "http://a/r" ∷ []) }
+    ensures escaped_in_fragment { steps (world (at Draft202012 "http://a/r" (one "a" (one "b" yes)) ∷ [])) "http://a/r" (look "#/a%2Fb" ∷ []) ≡ answer (Some yes) (codes "http://a/r") (codes "http://a/r" ∷ []) }
+    ensures empty_key { steps (world (at Draft202012 "http://a/r" (one "" yes) ∷ [])) "http://a/r" (look "#/" ∷ []) ≡ answer (Some yes) (codes "http://a/r") (codes "http://a/r" ∷ []) }
+    ensures tilde_and_slash { steps (world (at Draft202012 "http://a/r" (one "~/" yes) ∷ [])) "http://a/r" (look "#/~~1" ∷ []) ≡ answer (Some yes) (codes "http://a/r") (codes "http://a/r" ∷ []) }
+    ensures bad_identifier_below_items { steps (world (at Draft7 "http://a/r" (one "items" (one "const" (one "$id" (text "a b")))) ∷ [])) "http://a/r" (look "#/items/const" ∷ []) ≡ refusal 0 (InvalidUri (unparsed (codes "a b"))) }
+    ensures parts_forgotten { steps (world (at Draft7 "http://a/r" (one "items" (two "$id" (text "z") "const" (one "$id" (text "w")))) ∷ [])) "http://a/r" (look "#/items/const" ∷ []) ≡ answer (Some (one "$id" (text "w"))) (codes "http://a/z") (codes "http://a/r" ∷ []) }
+    ensures borne_by_identifier { steps (world (at Draft202012 "http://a/r" (one "$id" (text "#x")) ∷ [])) "http://a/r#x" (look "#" ∷ []) ≡ answer (Some (one "$id" (text "#x"))) (codes "http://a/r#x") (codes "http://a/r#x" ∷ []) }
+    ensures second_step_faults { steps (world (at Draft202012 "http://a/r" empty ∷ [])) "http://a/r" (look "" ∷ look "#/q" ∷ []) ≡ refusal 1 (PointerToNowhere (codes "/q")) }
+{}
+
+/// One lookup from a resolver.
+pub fn lookups_of_references()
+    ensures whole_resource { lookup (world (at Draft202012 "http://a/r" empty ∷ [])) (resolver "http://a/r" []) (codes "#") ≡ Ok (found empty Draft202012 (resolver "http://a/r" (codes "http://a/r" ∷ []))) }
+    ensures scope_stays { lookup (world (at Draft202012 "http://a/r" empty ∷ [])) (resolver "http://a/r" (codes "http://a/s" ∷ [])) (codes "#") ≡ Ok (found empty Draft202012 (resolver "http://a/r" (codes "http://a/s" ∷ []))) }
+    ensures draft_of_the_place { lookup (world (at Draft7 "http://a/r" empty ∷ [])) (resolver "http://a/q" []) (codes "r") ≡ Ok (found empty Draft7 (resolver "http://a/r" (codes "http://a/q" ∷ []))) }
+    ensures no_reference { lookup (world (at Draft202012 "http://a/r" empty ∷ [])) (resolver "http://a/r" []) (codes "c d#/x") ≡ Err (InvalidUri (unparsed (codes "c d"))) }
+    ensures no_place { lookup [] (resolver "http://a/r" []) (codes "b#/x") ≡ Err (not_retrieved (codes "http://a/b")) }
+{}
+
+/// A document with faults of each kind.
+pub fn faults_of_lookups()
+    ensures percent_encoding { steps (world (at Draft202012 "http://example.com" (two "properties" (two "bar" (two "items" (pair (one "type" (text "number")) (one "type" (text "boolean"))) "type" (text "array")) "foo" (one "type" (text "string"))) "type" (text "object")) ∷ [])) "http://example.com" (look "#/%FF" ∷ []) ≡ refusal 0 (InvalidPercentEncoding (codes "/%FF")) }
+    ensures index { steps (world (at Draft202012 "http://example.com" (two "properties" (two "bar" (two "items" (pair (one "type" (text "number")) (one "type" (text "boolean"))) "type" (text "array")) "foo" (one "type" (text "string"))) "type" (text "object")) ∷ [])) "http://example.com" (look "#/properties/bar/items/one" ∷ []) ≡ refusal 0 (InvalidArrayIndex (codes "/properties/bar/items/one") (codes "one")) }
+    ensures past_the_end { steps (world (at Draft202012 "http://example.com" (two "properties" (two "bar" (two "items" (pair (one "type" (text "number")) (one "type" (text "boolean"))) "type" (text "array")) "foo" (one "type" (text "string"))) "type" (text "object")) ∷ [])) "http://example.com" (look "#/properties/bar/items/2" ∷ []) ≡ refusal 0 (PointerToNowhere (codes "/properties/bar/items/2")) }
+    ensures no_member { steps (world (at Draft202012 "http://example.com" (two "properties" (two "bar" (two "items" (pair (one "type" (text "number")) (one "type" (text "boolean"))) "type" (text "array")) "foo" (one "type" (text "string"))) "type" (text "object")) ∷ [])) "http://example.com" (look "#/properties/baz" ∷ []) ≡ refusal 0 (PointerToNowhere (codes "/properties/baz")) }
+    ensures no_anchor { steps (world (at Draft202012 "http://example.com" (two "properties" (two "bar" (two "items" (pair (one "type" (text "number")) (one "type" (text "boolean"))) "type" (text "array")) "foo" (one "type" (text "string"))) "type" (text "object")) ∷ [])) "http://example.com" (look "#unknownAnchor" ∷ []) ≡ refusal 0 (NoSuchAnchor (codes "unknownAnchor")) }
+    ensures no_anchor_name { steps (world (at Draft202012 "http://example.com" (two "properties" (two "bar" (two "items" (pair (one "type" (text "number")) (one "type" (text "boolean"))) "type" (text "array")) "foo" (one "type" (text "string"))) "type" (text "object")) ∷ [])) "http://example.com" (look "#invalid/anchor" ∷ []) ≡ refusal 0 (InvalidAnchor (codes "invalid/anchor")) }
+{}
+
+/// Lookups by anchor (2020-12 Core, 8.2.2 and 8.2.3.2).
+pub fn lookups_by_anchor()
+    ensures unknown { steps (world (at Draft202012 "http://a/r" empty ∷ [])) "http://a/r" (look "#unknownAnchor" ∷ []) ≡ refusal 0 (NoSuchAnchor (codes "unknownAnchor")) }
+    ensures invalid { steps (world (at Draft202012 "http://a/r" empty ∷ [])) "http://a/r" (look "#invalid/anchor" ∷ []) ≡ refusal 0 (InvalidAnchor (codes "invalid/anchor")) }
+    ensures fallback { steps (world (at Draft202012 "http://a/x" (two "$defs" (one "p" (one "$anchor" (text "foo"))) "$id" (text "http://b/y")) ∷ [])) "http://a/x" (look "http://a/x#foo" ∷ []) ≡ answer (Some (one "$anchor" (text "foo"))) (codes "http://a/x") (codes "http://a/x" ∷ []) }
+    ensures fallback_of_relative { steps (world (at Draft202012 "http://a/x" (two "$defs" (one "p" (one "$anchor" (text "foo"))) "$id" (text "y")) ∷ [])) "http://a/x" (look "http://a/x#foo" ∷ []) ≡ refusal 0 (NoSuchAnchor (codes "foo")) }
+    ensures dynamic { steps (world (at Draft202012 "https://example.com/root.json" (two "$defs" (one "node" (one "$dynamicAnchor" (text "node"))) "$id" (text "https://example.com/root.json")) ∷ at Draft202012 "https://example.com/tree.json" (two "$dynamicAnchor" (text "node") "$id" (text "https://example.com/tree.json")) ∷ [])) "https://example.com/root.json" (look "tree.json" ∷ look "#node" ∷ []) ≡ answer (Some (one "$dynamicAnchor" (text "node"))) (codes "https://example.com/root.json") (codes "https://example.com/root.json" ∷ []) }
+    ensures dynamic_invalid { steps (world (at Draft202012 "http://a/t" (one "$dynamicAnchor" (text "n/m")) ∷ at Draft202012 "http://a/r" yes ∷ [])) "http://a/r" (look "t#n/m" ∷ []) ≡ refusal 0 (InvalidAnchor (codes "n/m")) }
+    ensures dynamic_nested { steps (world (at Draft202012 "http://example.com" (three "$defs" (one "foo" (three "$defs" (two "bar" yes "baz" (one "$dynamicAnchor" (text "fooAnchor"))) "$dynamicAnchor" (text "fooAnchor") "$id" (text "foo"))) "$dynamicAnchor" (text "fooAnchor") "$id" (text "http://example.com")) ∷ at Draft202012 "http://example.com/foo/" yes ∷ at Draft202012 "http://example.com/foo/bar" (three "$defs" (one "foo" (three "$defs" (two "bar" yes "baz" (one "$dynamicAnchor" (text "fooAnchor"))) "$dynamicAnchor" (text "fooAnchor") "$id" (text "foo"))) "$dynamicAnchor" (text "fooAnchor") "$id" (text "http://example.com")) ∷ [])) "http://example.com" (look "" ∷ look "foo/" ∷ look "bar" ∷ look "#fooAnchor" ∷ []) ≡ answer (Some (three "$defs" (one "foo" (three "$defs" (two "bar" yes "baz" (one "$dynamicAnchor" (text "fooAnchor"))) "$dynamicAnchor" (text "fooAnchor") "$id" (text "foo"))) "$dynamicAnchor" (text "fooAnchor") "$id" (text "http://example.com"))) (codes "http://example.com") (codes "http://example.com/foo/" ∷ codes "http://example.com" ∷ codes "http://example.com" ∷ []) }
+    ensures dynamic_alone { steps (world (at Draft202012 "http://example.com" (one "$dynamicAnchor" (text "foo")) ∷ [])) "http://example.com" (look "#foo" ∷ []) ≡ answer (Some (one "$dynamicAnchor" (text "foo"))) (codes "http://example.com") (codes "http://example.com" ∷ []) }
+{}
+
+/// A child's documents stand before its parent's.
+pub fn layers()
+    ensures nearest { steps (added (at Draft202012 "http://a/m" (one "title" (text "child")) ∷ []) ∷ world (at Draft202012 "http://a/m" (two "$anchor" (text "p") "title" (text "parent")) ∷ [])) "http://a/m" (look "" ∷ []) ≡ answer (Some (one "title" (text "child"))) (codes "http://a/m") (codes "http://a/m" ∷ []) }
+    ensures parent_anchor { steps (added (at Draft202012 "http://a/m" (one "title" (text "child")) ∷ []) ∷ world (at Draft202012 "http://a/m" (two "$anchor" (text "p") "title" (text "parent")) ∷ [])) "http://a/m" (look "#p" ∷ []) ≡ answer (Some (two "$anchor" (text "p") "title" (text "parent"))) (codes "http://a/m") (codes "http://a/m" ∷ []) }
+    ensures same_uri { steps (world (at Draft202012 "http://a/m" yes ∷ at Draft202012 "http://a/m" empty ∷ [])) "http://a/m" (look "" ∷ []) ≡ answer (Some empty) (codes "http://a/m") (codes "http://a/m" ∷ []) }
+{}

@@ -1,0 +1,103 @@
+//! Vocabularies of meta-schemas (2020-12 Core, 8.1.2).
+ghost use Rattle.std.specs.Prelude.{◌≡◌, true, false, [], ◌∷◌, map, length, codes, Some, None, Ok, Err};
+ghost use Rattle.serde_json.specs.Data.{boolean, no_members, member};
+ghost use Rattle.ref_draft.specs.declared.draft.Draft.TheVariants.{Draft4, Draft7, Draft201909, Draft202012, Unknown};
+ghost use Rattle.ref_uri.specs.Targets.{unparsed};
+ghost use Rattle.referencing.specs.Vocabularies.{Named, Custom, known, is_uri_of, custom, from_text, has_name, contains, put, with_vocabulary, of_names, set_of_2020, default_set, quoted, listed, set_text, is_format_assertion, is_true, with_member, collected, known_set, some_set, set_of_members, find_in, set_or_default, set_at, find_vocabularies, dialect_contents, find_vocabularies_at};
+ghost use Rattle.referencing.specs.Rows.{world, at, yes, empty, text, one, two, three};
+
+/// The vocabulary that a text names.
+pub fn vocabularies_of_texts()
+    ensures nine_known { length known ≡ 9 }
+    ensures names_of_known { map (λ k. k.name) known ≡ codes "core" ∷ codes "applicator" ∷ codes "unevaluated" ∷ codes "validation" ∷ codes "meta-data" ∷ codes "format" ∷ codes "format-annotation" ∷ codes "content" ∷ codes "format-assertion" ∷ [] }
+    ensures format_of_2019 { from_text (codes "https://json-schema.org/draft/2019-09/vocab/format") ≡ Ok (Named (codes "format")) }
+    ensures format_of_2020 { from_text (codes "https://json-schema.org/draft/2020-12/vocab/format") ≡ Ok (Named (codes "format")) }
+    ensures format_annotation { from_text (codes "https://json-schema.org/draft/2020-12/vocab/format-annotation") ≡ Ok (Named (codes "format-annotation")) }
+    ensures unevaluated_of_2020_alone { from_text (codes "https://json-schema.org/draft/2019-09/vocab/unevaluated") ≡ Ok (Custom (codes "https://json-schema.org/draft/2019-09/vocab/unevaluated")) }
+    ensures custom_text { from_text (codes "https://example.com/custom-vocab") ≡ Ok (Custom (codes "https://example.com/custom-vocab")) }
+    ensures refused_text { from_text (codes "a b") ≡ Err (unparsed (codes "a b")) }
+    ensures custom_uri { custom (Ok (codes "a:b")) ≡ Ok (Custom (codes "a:b")) }
+    ensures custom_refusal { custom (Err (unparsed (codes "a b"))) ≡ Err (unparsed (codes "a b")) }
+    ensures uri_of_2020 { is_uri_of (codes "https://json-schema.org/draft/2020-12/vocab/unevaluated") (record { name = codes "unevaluated"; in_2019 = false }) ≡ true }
+    ensures no_uri_of_2019 { is_uri_of (codes "https://json-schema.org/draft/2019-09/vocab/unevaluated") (record { name = codes "unevaluated"; in_2019 = false }) ≡ false }
+    ensures uri_of_2019 { is_uri_of (codes "https://json-schema.org/draft/2019-09/vocab/core") (record { name = codes "core"; in_2019 = true }) ≡ true }
+{}
+
+/// Sets of vocabularies.
+pub fn sets_of_vocabularies()
+    ensures a_name { has_name (codes "core" ∷ codes "content" ∷ []) (codes "content") ≡ true }
+    ensures no_name { has_name (codes "core" ∷ []) (codes "cor") ≡ false }
+    ensures contains_known { contains (of_names (codes "core" ∷ [])) (Named (codes "core")) ≡ true }
+    ensures contains_no_known { contains (of_names (codes "core" ∷ [])) (Named (codes "unevaluated")) ≡ false }
+    ensures contains_custom { contains (record { names = []; customs = codes "https://example.com/custom-vocab" ∷ [] }) (Custom (codes "https://example.com/custom-vocab")) ≡ true }
+    ensures contains_no_custom { contains (record { names = []; customs = codes "https://example.com/custom-vocab" ∷ [] }) (Custom (codes "https://example.com/other-vocab")) ≡ false }
+    ensures put_in_order { put (codes "b:x") (codes "a:x" ∷ codes "c:x" ∷ []) ≡ codes "a:x" ∷ codes "b:x" ∷ codes "c:x" ∷ [] }
+    ensures put_once { put (codes "a:x") (codes "a:x" ∷ []) ≡ codes "a:x" ∷ [] }
+    ensures with_known { with_vocabulary (of_names (codes "core" ∷ codes "content" ∷ [])) (Named (codes "unevaluated")) ≡ of_names (codes "core" ∷ codes "unevaluated" ∷ codes "content" ∷ []) }
+    ensures with_known_once { with_vocabulary (of_names (codes "core" ∷ [])) (Named (codes "core")) ≡ of_names (codes "core" ∷ []) }
+    ensures with_custom { with_vocabulary (of_names (codes "core" ∷ [])) (Custom (codes "a:b")) ≡ record { names = codes "core" ∷ []; customs = codes "a:b" ∷ [] } }
+    ensures newest { set_of_2020 ≡ of_names (codes "core" ∷ codes "applicator" ∷ codes "unevaluated" ∷ codes "validation" ∷ codes "meta-data" ∷ codes "format-annotation" ∷ codes "content" ∷ []) }
+    ensures default_of_4 { default_set Draft4 ≡ of_names [] }
+    ensures default_of_2019 { default_set Draft201909 ≡ of_names (codes "core" ∷ codes "applicator" ∷ codes "validation" ∷ codes "meta-data" ∷ codes "content" ∷ []) }
+    ensures default_of_unknown { default_set Unknown ≡ default_set Draft202012 }
+{}
+
+/// How sets are displayed.
+pub fn texts_of_sets()
+    ensures known_and_custom { set_text (record { names = codes "core" ∷ codes "applicator" ∷ codes "unevaluated" ∷ codes "validation" ∷ codes "meta-data" ∷ []; customs = codes "https://example.com/custom-vocab" ∷ [] }) ≡ codes "[\"core\", \"applicator\", \"unevaluated\", \"validation\", \"meta-data\", \"https://example.com/custom-vocab\"]" }
+    ensures none { set_text (of_names []) ≡ codes "[]" }
+    ensures one_name { listed (codes "core" ∷ []) ≡ codes "\"core\"" }
+    ensures two_names { listed (codes "core" ∷ codes "content" ∷ []) ≡ codes "\"core\", \"content\"" }
+    ensures in_quotes { quoted (codes "core") ≡ codes "\"core\"" }
+    ensures nothing_in_quotes { quoted [] ≡ codes "\"\"" }
+{}
+
+/// What the members of `$vocabulary` add.
+pub fn declared_members()
+    ensures format_assertion { is_format_assertion (Named (codes "format-assertion")) ≡ true }
+    ensures another { is_format_assertion (Named (codes "format")) ≡ false }
+    ensures true_value { is_true yes ≡ true }
+    ensures text_value { is_true (text "true") ≡ false }
+    ensures true_member { with_member (of_names []) yes (Ok (Custom (codes "a:b"))) ≡ Ok (record { names = []; customs = codes "a:b" ∷ [] }) }
+    ensures false_member { with_member (of_names []) (boolean false) (Ok (Custom (codes "a:b"))) ≡ Ok (of_names []) }
+    ensures false_format_assertion { with_member (of_names []) (boolean false) (Ok (Named (codes "format-assertion"))) ≡ Ok (of_names (codes "format-assertion" ∷ [])) }
+    ensures refused_member { with_member (of_names []) (boolean false) (Err (unparsed (codes "a b"))) ≡ Err (unparsed (codes "a b")) }
+    ensures refused_where_false { collected (of_names []) (member (codes "a b") (boolean false) no_members) ≡ Err (unparsed (codes "a b")) }
+    ensures two_members { collected (of_names []) (member (codes "https://example.com/custom-vocab1") yes (member (codes "https://example.com/custom-vocab2") yes (member (codes "https://example.com/custom-vocab3") (boolean false) no_members))) ≡ Ok (record { names = []; customs = codes "https://example.com/custom-vocab1" ∷ codes "https://example.com/custom-vocab2" ∷ [] }) }
+    ensures no_object { set_of_members None ≡ Ok None }
+    ensures no_members { set_of_members (Some no_members) ≡ Ok (Some (of_names [])) }
+    ensures a_set { some_set (Ok (of_names [])) ≡ Ok (Some (of_names [])) }
+    ensures a_refusal { some_set (Err (unparsed (codes "a b"))) ≡ Err (unparsed (codes "a b")) }
+{}
+
+/// The vocabularies that a meta-schema declares.
+pub fn declared_vocabularies()
+    ensures declared { find_in (one "$vocabulary" (two "https://json-schema.org/draft/2020-12/vocab/core" yes "https://json-schema.org/draft/2020-12/vocab/format-assertion" (boolean false))) ≡ Ok (Some (of_names (codes "core" ∷ codes "format-assertion" ∷ []))) }
+    ensures declared_beside_an_identifier { find_in (two "$id" (text "https://example.com/meta") "$vocabulary" (two "https://json-schema.org/draft/2020-12/vocab/core" yes "https://json-schema.org/draft/2020-12/vocab/format-assertion" yes)) ≡ Ok (Some (of_names (codes "core" ∷ codes "format-assertion" ∷ []))) }
+    ensures known_2019 { find_in (one "$id" (text "https://json-schema.org/draft/2019-09/schema")) ≡ Ok (Some (default_set Draft201909)) }
+    ensures known_2020 { find_in (one "$id" (text "https://json-schema.org/draft/2020-12/schema")) ≡ Ok (Some set_of_2020) }
+    ensures before_2019 { find_in (one "$id" (text "https://json-schema.org/draft-07/schema")) ≡ Ok None }
+    ensures none { find_in empty ≡ Ok None }
+    ensures refused { find_in (one "$vocabulary" (one "a b" (boolean false))) ≡ Err (unparsed (codes "a b")) }
+    ensures exact_identifier { known_set (codes "https://json-schema.org/draft/2020-12/schema#") ≡ None }
+    ensures identifier_without_version { known_set (codes "https://json-schema.org/schema") ≡ Some (Some set_of_2020) }
+    ensures identifier_of_7 { known_set (codes "https://json-schema.org/draft-07/schema") ≡ Some None }
+    ensures set { set_or_default (Ok (Some (of_names []))) ≡ of_names [] }
+    ensures no_set { set_or_default (Ok None) ≡ set_of_2020 }
+    ensures faulty_set { set_or_default (Err (unparsed (codes "a b"))) ≡ set_of_2020 }
+{}
+
+/// The vocabularies of a schema.
+pub fn vocabularies_of_schemas()
+    ensures custom_dialect { set_text (find_vocabularies (world (at Draft202012 "http://a/dialect" (one "$vocabulary" (three "https://example.com/v" yes "https://example.com/w" (boolean false) "https://json-schema.org/draft/2020-12/vocab/core" yes)) ∷ [])) Draft7 (one "$schema" (text "http://a/dialect"))) ≡ codes "[\"core\", \"https://example.com/v\"]" }
+    ensures no_schema { set_text (find_vocabularies [] Draft7 empty) ≡ codes "[]" }
+    ensures own_draft { set_text (find_vocabularies [] Draft7 (one "$schema" (text "https://json-schema.org/draft/2020-12/schema"))) ≡ codes "[]" }
+    ensures no_document { set_text (find_vocabularies [] Draft202012 (one "$schema" (text "http://b/none"))) ≡ codes "[\"core\", \"applicator\", \"unevaluated\", \"validation\", \"meta-data\", \"format-annotation\", \"content\"]" }
+    ensures without_fragment { set_at (world (at Draft202012 "a:b" (one "$vocabulary" (one "a:v" yes)) ∷ [])) (Ok (codes "a:b#x")) ≡ record { names = []; customs = codes "a:v" ∷ [] } }
+    ensures refused_dialect { set_at [] (Err (unparsed (codes "a b"))) ≡ set_of_2020 }
+    ensures own_contents { dialect_contents (world (at Draft202012 "a:b" yes ∷ [])) (codes "a:b") (one "$schema" yes) ≡ one "$schema" yes }
+    ensures contents_of_the_base { dialect_contents (world (at Draft202012 "a:b" yes ∷ [])) (codes "a:b") empty ≡ yes }
+    ensures contents_without_a_base { dialect_contents [] (codes "a:b") empty ≡ empty }
+    ensures of_the_base { set_text (find_vocabularies_at (world (at Draft202012 "http://a/r" (one "$schema" (text "http://a/dialect")) ∷ at Draft202012 "http://a/dialect" (one "$vocabulary" (one "https://example.com/v" yes)) ∷ [])) (codes "http://a/r") Draft7 yes) ≡ codes "[\"https://example.com/v\"]" }
+    ensures of_the_contents { set_text (find_vocabularies_at (world (at Draft202012 "http://a/r" (one "$schema" (text "http://a/dialect")) ∷ [])) (codes "http://a/r") Draft7 (one "$schema" (text "http://json-schema.org/draft-04/schema#"))) ≡ codes "[]" }
+{}
