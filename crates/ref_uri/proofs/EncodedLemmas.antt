@@ -11,10 +11,11 @@ use Rattle.std.proofs.lemmas.List.Sums.{position_or_len_is, AllPass-from_list_al
 use Rattle.ref_uri.specs.Characters.{begins_with_hex_digits, has_whole_triples, is_encoded, begins_with_triple, begins_encoded}
 use Rattle.ref_uri.specs.Class.{allows, ends}
 use Rattle.ref_uri.specs.declared.characters.Class.{Class}
-use Rattle.ref_uri.specs.declared.characters.Class.TheVariants.{Userinfo, Name, Path, Query}
+use Rattle.ref_uri.specs.declared.characters.Class.TheVariants.{FirstSegment, Userinfo, Name, Path, Query}
 
 -- every class allows the hex digits
 pub allows_hex : (class : Class) (c : ℕ) → is_ascii_hexdigit c ≡ true → allows class c ≡ true
+allows_hex FirstSegment c h = grind (arith, nat_tests)
 allows_hex Userinfo c h = grind (arith, nat_tests)
 allows_hex Name c h = grind (arith, nat_tests)
 allows_hex Path c h = grind (arith, nat_tests)
@@ -22,6 +23,7 @@ allows_hex Query c h = grind (arith, nat_tests)
 
 -- no class allows `%` by itself
 pub disallows_percent : (class : Class) → allows class 37 ≡ false
+disallows_percent FirstSegment = refl
 disallows_percent Userinfo = refl
 disallows_percent Name = refl
 disallows_percent Path = refl
@@ -99,13 +101,14 @@ triple_more class text i le h k =
 
 -- what a part allows doesn't end it, nor does a triple
 pub apart : (class : Class) (c : ℕ) → (allows class c || eqb c 37) ≡ true → ends class c ≡ false
+apart FirstSegment c h = grind (arith, nat_tests)
 apart Userinfo c h = grind (arith, nat_tests)
 apart Name c h = grind (arith, nat_tests)
 apart Path c h = grind (arith, nat_tests)
 apart Query c h = grind (arith, nat_tests)
 
 -- each character in front is one that the part may hold, or a `%`
-passes_in_front : (class : Class) (text : List ℕ) (n k : ℕ) → k < n → n ≤ length text → is_encoded (allows class) (take n text) ≡ true → (allows class (get_or text k 0) || eqb (get_or text k 0) 37) ≡ true
+pub passes_in_front : (class : Class) (text : List ℕ) (n k : ℕ) → k < n → n ≤ length text → is_encoded (allows class) (take n text) ≡ true → (allows class (get_or text k 0) || eqb (get_or text k 0) 37) ≡ true
 passes_in_front class text n k lt le h =
     let all = (and_parts (list_all (λ c. allows class c || eqb c 37) (take n text)) (has_whole_triples (take n text)) h).0 in
     let within : k < length (take n text) = omega (arith, length-take-le n text le) in
@@ -121,7 +124,7 @@ pub passes_at_first : (p : ℕ → Bool) (text : List ℕ) → position_or_len p
 passes_at_first p text lt = not-false _ (prefix_len_stops (λ x. not (p x)) text 0 lt)
 
 -- the end of the part lies behind the place
-ends_later : (class : Class) (text : List ℕ) (n : ℕ) → n < length text → is_encoded (allows class) (take n text) ≡ true → ends class (get_or text n 0) ≡ false → n < position_or_len (ends class) text
+pub ends_later : (class : Class) (text : List ℕ) (n : ℕ) → n < length text → is_encoded (allows class) (take n text) ≡ true → ends class (get_or text n 0) ≡ false → n < position_or_len (ends class) text
 ends_later class text n lt h no_end =
     let first = position_or_len (ends class) text in
     elim (cases_lt n first) [

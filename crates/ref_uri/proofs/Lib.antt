@@ -1,5 +1,10 @@
 pub mod OnLiterals
 pub mod EncodedLemmas
+pub mod ScanLemmas
+pub mod BracketLemmas
+pub mod HostLemmas
+pub mod UserinfoLemmas
+pub mod FrontLemmas
 pub mod AuthorityLemmas
 pub mod PathLemmas
 pub mod StructureLemmas

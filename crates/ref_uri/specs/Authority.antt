@@ -75,6 +75,10 @@ abbrev pub is_port_part : List ℕ → Bool
 is_port_part [] = true
 is_port_part (c ∷ digits) = (c == 58) && list_all is_ascii_digit digits
 
+-- a host and a port
+abbrev pub is_host_and_port : List ℕ → Bool
+is_host_and_port text = is_host (take (host_len text) text) && is_port_part (drop (host_len text) text)
+
 -- the parts hold what they may
 abbrev pub is_authority : List ℕ → Bool
 is_authority text =

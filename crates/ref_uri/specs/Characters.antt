@@ -31,6 +31,10 @@ is_userinfo_character c = is_name_character c || (c == 58)
 abbrev pub is_segment_character : ℕ → Bool
 is_segment_character c = is_name_character c || (c == 58) || (c == 64)
 
+-- the characters of a first segment with no colon, triples aside (segment-nz-nc, 3.3)
+abbrev pub is_first_segment_character : ℕ → Bool
+is_first_segment_character c = is_name_character c || (c == 64)
+
 -- the characters of a path (3.3)
 abbrev pub is_path_character : ℕ → Bool
 is_path_character c = is_segment_character c || (c == 47)

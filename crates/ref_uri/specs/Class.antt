@@ -1,11 +1,12 @@
 -- The characters that the parts of a reference may hold beside triples.
 use Rattle.std.specs.Prelude.{ℕ, Bool, ◌==◌}
 use Rattle.ref_uri.specs.declared.characters.Class.{Class}
-use Rattle.ref_uri.specs.declared.characters.Class.TheVariants.{Userinfo, Name, Path, Query}
-use Rattle.ref_uri.specs.Characters.{is_userinfo_character, is_name_character, is_path_character, is_query_character}
-use Rattle.ref_uri.specs.Components.{ends_path, ends_query}
+use Rattle.ref_uri.specs.declared.characters.Class.TheVariants.{FirstSegment, Userinfo, Name, Path, Query}
+use Rattle.ref_uri.specs.Characters.{is_first_segment_character, is_userinfo_character, is_name_character, is_path_character, is_query_character}
+use Rattle.ref_uri.specs.Components.{ends_scheme, ends_path, ends_query}
 
 abbrev pub allows : Class → ℕ → Bool
+allows FirstSegment = is_first_segment_character
 allows Userinfo = is_userinfo_character
 allows Name = is_name_character
 allows Path = is_path_character
@@ -13,6 +14,7 @@ allows Query = is_query_character
 
 -- what ends the part
 abbrev pub ends : Class → ℕ → Bool
+ends FirstSegment c = ends_scheme c
 ends Userinfo c = c == 64
 ends Name c = c == 58
 ends Path c = ends_path c

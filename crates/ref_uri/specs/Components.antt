@@ -33,6 +33,10 @@ ends_scheme c = (c == 58) || (c == 47) || (c == 63) || (c == 35)
 abbrev pub ends_authority : ℕ → Bool
 ends_authority c = (c == 47) || (c == 63) || (c == 35)
 
+-- the text ends at this place, or what ends an authority stands there
+abbrev pub ends_authority_at : List ℕ → ℕ → Bool
+ends_authority_at text at = (at == length text) || ends_authority (slice_index text at)
+
 -- `?` or `#`, which end a path
 abbrev pub ends_path : ℕ → Bool
 ends_path c = (c == 63) || (c == 35)

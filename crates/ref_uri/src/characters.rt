@@ -36,6 +36,8 @@ pub fn is_scheme_character(c: u8) -> bool
 /// The parts of a reference that hold characters and triples.
 #[derive(Clone, Copy)]
 pub enum Class {
+    /// The first segment of a reference without a scheme, where no `:` may stand.
+    FirstSegment,
     Userinfo,
     Name,
     Path,
@@ -50,6 +52,7 @@ impl Class {
     {
         let is_name_character = is_unreserved(c) || is_sub_delim(c);
         match self {
+            Class::FirstSegment => is_name_character || c == b'@',
             Class::Userinfo => is_name_character || c == b':',
             Class::Name => is_name_character,
             Class::Path => is_name_character || matches!(c, b':' | b'@' | b'/'),
@@ -63,6 +66,7 @@ impl Class {
         ensures { result ≡ ends self c }
     {
         match self {
+            Class::FirstSegment => matches!(c, b':' | b'/' | b'?' | b'#'),
             Class::Userinfo => c == b'@',
             Class::Name => c == b':',
             Class::Path => c == b'?' || c == b'#',
@@ -82,14 +86,17 @@ pub fn begins_with_triple(bytes: &[u8]) -> bool
     }
 }
 
-/// How many bytes at the front are characters of the class or parts of triples: as many as can be.
+/// How many bytes at the front are characters of the class or parts of triples: as many as can be. The first `read` of
+/// them are known to be, and aren't looked at again.
 #[inline]
-pub fn encoded_len(bytes: &[u8], class: Class) -> usize
+pub fn encoded_len(bytes: &[u8], read: usize, class: Class) -> usize
+    requires read_within { read ≤ length bytes.now }
+    requires read_encoded { is_encoded (allows class) (take read bytes.now) ≡ true }
     ensures within { result ≤ length bytes.now }
     ensures encoded { is_encoded (allows class) (take result bytes.now) ≡ true }
     ensures longest { begins_encoded (allows class) (drop result bytes.now) ≡ false }
 {
-    let mut at = 0;
+    let mut at = read;
     while at < bytes.len() {
         if class.allows(bytes[at]) {
             at += 1;
@@ -102,16 +109,19 @@ pub fn encoded_len(bytes: &[u8], class: Class) -> usize
     at
 }
 
-/// How long the part at the front is, which goes up to the next character that ends it. `Syntax` exactly where the part
-/// holds a character that it may not hold, or a `%` that begins no triple.
+/// How long the part at the front is, which goes up to the next character that ends it. The first `read` bytes are known to
+/// be of the class, and aren't looked at again. `Syntax` exactly where the part holds a character that it may not hold, or
+/// a `%` that begins no triple.
 #[inline]
-pub fn part_len(bytes: &[u8], class: Class) -> Result<usize, ParseError>
+pub fn part_len(bytes: &[u8], read: usize, class: Class) -> Result<usize, ParseError>
+    requires read_within { read ≤ length bytes.now }
+    requires read_encoded { is_encoded (allows class) (take read bytes.now) ≡ true }
     ensures accepted { is_ok result ≡ is_encoded (allows class) (before_first (ends class) bytes.now) }
     ensures len { IfOk result (λ n. n ≡ position_or_len (ends class) bytes.now) }
     ensures within { IfOk result (λ n. n ≤ length bytes.now) }
     ensures error { IfErr result (λ e. e ≡ ParseError.Syntax) }
 {
-    let len = encoded_len(bytes, class);
+    let len = encoded_len(bytes, read, class);
     if len < bytes.len() && !class.ends(bytes[len]) {
         return Err(ParseError::Syntax);
     }
@@ -123,14 +133,5 @@ pub fn part_len(bytes: &[u8], class: Class) -> Result<usize, ParseError>
 pub fn is_encoded(text: &[u8], class: Class) -> bool
     ensures { result ≡ is_encoded (allows class) text.now }
 {
-    encoded_len(text, class) == text.len()
-}
-
-/// Where the character first stands, or the length.
-#[inline]
-pub fn index_of(text: &[u8], c: u8) -> usize
-    ensures value { result ≡ position_or_len (λ x. x == c) text.now }
-    ensures within { result ≤ length text.now }
-{
-    text.iter().take_while(|x| **x != c).count()
+    encoded_len(text, 0, class) == text.len()
 }

@@ -1,5 +1,9 @@
 //! Outside values: the examples of RFC 3986, and what no clause says.
+ghost use Rattle.std.specs.Prelude.{◌<◌, length};
+
 use crate::{ParseError, Uri, UriParseFault, UriRef};
+use std::alloc::Global;
+use std::process::Abort;
 use std::test::Fail;
 
 #[test]
@@ -156,5 +160,211 @@ fn resolves_as_the_standard(rt: HostRuntime) -> Result<(), Fail> {
         let form = UriRef::parse(text)?.normalize(rt.alloc())?;
         assert_eq!(rt; form.as_str(), normal, "{text}");
     }
+    Ok(())
+}
+
+#[test]
+fn reads_authorities_and_triples(rt: HostRuntime) -> Result<(), Fail> {
+    let text = "a+1://u%2F:p@h%20:8/%41/b?%3F/?#%23/?";
+    let reference = UriRef::parse(text)?;
+    assert_eq!(rt; reference.scheme(), Some("a+1"));
+    assert_eq!(rt; reference.authority(), Some("u%2F:p@h%20:8"));
+    assert_eq!(rt; reference.path(), "/%41/b");
+    assert_eq!(rt; reference.query(), Some("%3F/?"));
+    assert_eq!(rt; reference.fragment(), Some("%23/?"));
+    for authority in [
+        "",
+        ":",
+        "a:",
+        "a:80",
+        "u@",
+        "u@:",
+        ":@",
+        "u:1@a:1",
+        "1:2:3@",
+        "a%41:@b",
+        "[::1]",
+        "[::1]:",
+        "u@[1.2:f]:80",
+        "[v1.x]",
+        "[V1f.a:b]:8",
+        "u:@[vF.:]",
+    ] {
+        let text = format!(in rt.alloc(); "//{authority}/p")?;
+        let reference = UriRef::parse(text.as_str())?;
+        assert_eq!(rt; reference.authority(), Some(authority));
+        assert_eq!(rt; reference.path(), "/p");
+    }
+    for authority in [
+        "a:b", "1:2:3", "u@a@b", "[", "]", "[]", "[::1", "[::1]a", "[::1]:a", "[::1]@a", "a[::1]",
+        "[v.x]", "[v1]", "[v1.]", "[v1x]", "[vg.x]", "[v1.%41]", "[::g]", "%4", "u%4@", "a:%41",
+        "u@a:b", "u@[",
+    ] {
+        let text = format!(in rt.alloc(); "//{authority}/p")?;
+        assert_eq!(rt;
+            UriRef::parse(text.as_str()),
+            Err(ParseError::Syntax),
+            "{text}"
+        );
+    }
+    Ok(())
+}
+
+/// The grammar of RFC 3986, written from the end of a text to its front, and each component by itself.
+mod grammar {
+    /// Letters, digits, these characters, and triples.
+    fn holds(part: &str, others: &str) -> bool {
+        let mut digits_to_come = 0;
+        for c in part.chars() {
+            if digits_to_come > 0 {
+                if !c.is_ascii_hexdigit() {
+                    return false;
+                }
+                digits_to_come -= 1;
+            } else if c == '%' {
+                digits_to_come = 2;
+            } else if !c.is_ascii_alphanumeric()
+                && !"-._~!$&'()*+,;=".contains(c)
+                && !others.contains(c)
+            {
+                return false;
+            }
+        }
+        digits_to_come == 0
+    }
+
+    fn is_scheme(scheme: &str) -> bool {
+        scheme.starts_with(|c: char| c.is_ascii_alphabetic())
+            && scheme
+                .chars()
+                .all(|c| c.is_ascii_alphanumeric() || "+-.".contains(c))
+    }
+
+    fn is_address(address: &str) -> bool {
+        let plain = !address.is_empty()
+            && address
+                .chars()
+                .all(|c| c.is_ascii_hexdigit() || c == ':' || c == '.');
+        let later = match address.split_once('.') {
+            Some((version, rest)) => {
+                let digits = version
+                    .strip_prefix('v')
+                    .or(version.strip_prefix('V'))
+                    .unwrap_or("");
+                !digits.is_empty()
+                    && digits.chars().all(|c| c.is_ascii_hexdigit())
+                    && !rest.is_empty()
+                    && !rest.contains('%')
+                    && holds(rest, ":")
+            }
+            None => false,
+        };
+        plain || later
+    }
+
+    fn is_port(port: &str) -> bool {
+        port.chars().all(|c| c.is_ascii_digit())
+    }
+
+    fn is_authority(authority: &str) -> bool {
+        let (userinfo, rest) = authority.split_once('@').unwrap_or(("", authority));
+        if !holds(userinfo, ":") {
+            return false;
+        }
+        match rest.strip_prefix('[') {
+            Some(brackets) => match brackets.split_once(']') {
+                Some((address, "")) => is_address(address),
+                Some((address, port)) => is_address(address)
+                    && port.starts_with(':')
+                    && is_port(port.strip_prefix(':').unwrap_or("")),
+                None => false,
+            },
+            None => {
+                let (name, port) = rest.split_once(':').unwrap_or((rest, ""));
+                holds(name, "") && is_port(port)
+            }
+        }
+    }
+
+    /// Whether the text is a URI reference.
+    pub fn accepts(text: &str) -> bool {
+        let (rest, fragment) = text.split_once('#').unwrap_or((text, ""));
+        let (rest, query) = rest.split_once('?').unwrap_or((rest, ""));
+        if !holds(query, ":@/?") || !holds(fragment, ":@/?") {
+            return false;
+        }
+        let (scheme, rest) = match rest.split_once(':') {
+            Some((scheme, behind)) if !scheme.is_empty() && !scheme.contains('/') => (
+                Some(scheme),
+                behind,
+            ),
+            _ => (None, rest),
+        };
+        if let Some(scheme) = scheme {
+            if !is_scheme(scheme) {
+                return false;
+            }
+        }
+        match rest.strip_prefix("//") {
+            Some(rest) => {
+                let (authority, path) = rest.split_once('/').unwrap_or((rest, ""));
+                is_authority(authority) && holds(path, ":@/")
+            }
+            None => {
+                let (first_segment, _) = rest.split_once('/').unwrap_or((rest, ""));
+                holds(rest, ":@/") && (scheme.is_some() || !first_segment.contains(':'))
+            }
+        }
+    }
+}
+
+/// Of the texts that begin so, up to `longest` characters of the alphabet behind it: how many there are, and how many are
+/// references. Each is compared with the grammar.
+fn compare_with_the_grammar(
+    rt: &impl Abort,
+    alloc: Global,
+    front: &str,
+    alphabet: &[char],
+    longest: u32,
+) -> Result<(usize, usize), Fail>
+    requires { 0 < length alphabet.now }
+{
+    let mut texts = 0_usize;
+    let mut references = 0_usize;
+    let mut text = String::new(alloc);
+    for len in 0..=longest {
+        for n in 0..alphabet.len().saturating_pow(len) {
+            text.clear();
+            text.push_str(front)?;
+            let mut rest = n;
+            for _ in 0..len {
+                text.push(alphabet[rest % alphabet.len()])?;
+                rest /= alphabet.len();
+            }
+            let is_ok = UriRef::parse(text.as_str()).is_ok();
+            assert_eq!(rt; is_ok, grammar::accepts(text.as_str()), "{text}");
+            texts = texts.wrapping_add(1);
+            if is_ok {
+                references = references.wrapping_add(1);
+            }
+        }
+    }
+    Ok((texts, references))
+}
+
+/// The counts of references are those of a regular expression.
+#[test]
+fn agrees_with_the_grammar_on_short_texts(rt: HostRuntime) -> Result<(), Fail> {
+    let alphabet = ['a', ':', '/', '?', '#', '@', '[', ']', '%', '1'];
+    let counts = compare_with_the_grammar(&rt, rt.alloc(), "", &alphabet, 5)?;
+    assert_eq!(rt; counts, (111_111, 13_326));
+    Ok(())
+}
+
+#[test]
+fn agrees_with_the_grammar_on_short_authorities(rt: HostRuntime) -> Result<(), Fail> {
+    let alphabet = ['[', ']', 'v', '1', '.', ':', '@'];
+    let counts = compare_with_the_grammar(&rt, rt.alloc(), "//", &alphabet, 6)?;
+    assert_eq!(rt; counts, (137_257, 7_619));
     Ok(())
 }

@@ -1,12 +1,12 @@
 //! The components of a reference, written as they are or in normal form (RFC 3986, 6.2.2 and 3.2.3).
-ghost use Rattle.std.specs.Prelude.{◌≡◌, ◌<◌, ◌∷◌, [], ◌++◌, true, map, take, drop, string_bytes, OnOk, IsAscii};
+ghost use Rattle.std.specs.Prelude.{◌≡◌, ◌<◌, ◌∷◌, [], ◌++◌, true, map, take, drop, length, ◌≤◌, ◌==◌, string_bytes, OnOk, IsAscii};
+ghost use Rattle.std.specs.List.{position_or_len};
 ghost use Rattle.std.specs.Char.{is_ascii_hexdigit};
 ghost use Rattle.ref_uri.specs.Characters.{has_whole_triples};
 ghost use Rattle.ref_uri.specs.Authority.{is_authority, host_len};
 ghost use Rattle.ref_uri.specs.Normal.{hex_value, normal_triple, normal_encoded, normal_text, normal_host, normal_port_part, normal_authority};
 ghost use Rattle.ref_uri.specs.Written.{in_case, written, written_scheme, written_authority};
 
-use crate::authority::host_len;
 use crate::characters::is_unreserved;
 use crate::lengths::{head, tail};
 use std::alloc::AllocError;
@@ -111,6 +111,26 @@ fn push_encoded(buffer: &mut String, text: &str, case: Case) -> Result<(), Alloc
         rest = tail(triple, 2);
     }
     case.push_run(buffer, rest)
+}
+
+/// Where the character first stands, or the length.
+fn index_of(text: &[u8], c: u8) -> usize
+    ensures value { result ≡ position_or_len (λ x. x == c) text.now }
+    ensures within { result ≤ length text.now }
+{
+    text.iter().take_while(|x| **x != c).count()
+}
+
+/// How long the host is: through `]` where it begins with `[`, else up to `:`.
+fn host_len(text: &[u8]) -> usize
+    ensures value { result ≡ host_len text.now }
+    ensures within { result ≤ length text.now }
+{
+    if text.first() == Some(&b'[') {
+        text.len().min(index_of(text, b']') + 1)
+    } else {
+        index_of(text, b':')
+    }
 }
 
 /// Appends what follows a host, unless it is the `:` of an empty port.

@@ -1,10 +1,11 @@
-use Rattle.std.proofs.Common.{◌≡◌, ◌∙◌, ℕ, List, Option, not, sym, ap, option_map, length}
+use Rattle.std.proofs.Common.{◌≡◌, ◌≤◌, ◌∙◌, ℕ, true, take, subst, List, Option, not, sym, ap, option_map, length}
 use Rattle.std.specs.List.{position_or_len, before_first}
 use Rattle.std.proofs.lemmas.List.Folds.{length-prefix_len}
 use Rattle.ref_uri.specs.Components.{scheme, authority, path, query, fragment, after_scheme, after_authority, after_path, after_query, authority_in_front, query_in_front, fragment_in_front, ends_path, is_path, is_query, if_there}
+use Rattle.ref_uri.specs.Characters.{is_encoded, is_path_character}
 use Rattle.ref_uri.specs.Authority.{is_authority}
 use Rattle.ref_uri.specs.Lengths.{the_lengths, lengths_of}
-use Rattle.ref_uri.proofs.PathLemmas.{no_scheme, no_authority, no_path, no_query, no_fragment, all_there, refusal}
+use Rattle.ref_uri.proofs.PathLemmas.{no_authority, no_path, no_query, no_fragment, all_there, refusal}
 use Rattle.ref_uri.proofs.RestLemmas.{scheme_gone, authority_gone, path_gone, query_gone}
 use Rattle.ref_uri.proofs.parser.parse.Goals as goal
 
@@ -35,31 +36,44 @@ lengths_are text one two three s a q p rest_one rest_two rest_three s_is a_is p_
     ∙ ap (λ x. the_lengths (option_map length (scheme text)) (option_map length (authority text)) x q) path_is
     ∙ ap (λ x. the_lengths (option_map length (scheme text)) (option_map length (authority text)) (length (path text)) x) query_is
 
-pub returns-in_err-scheme-clause-accepted : goal.returns-in_err-scheme-clause-accepted
-returns-in_err-scheme-clause-accepted c =
-    refusal _ _ c.from_residual.ensures.0 (no_scheme c.args.text.now (sym c.in_err-scheme.ensures.accepted))
+pub returns-in_err-front-clause-accepted : goal.returns-in_err-front-clause-accepted
+returns-in_err-front-clause-accepted c =
+    refusal _ _ c.from_residual.ensures.0 c.in_err-front.ensures.refused
+
+-- the first bytes of the path that were read
+pub part_len-requires-clause-read_within : goal.part_len-requires-clause-read_within
+part_len-requires-clause-read_within c =
+    let one = scheme_gone c.args.text.now c.behind-rest.result.now c.in_ok-front.front.scheme c.in_ok-front.ensures.scheme c.behind-rest.ensures in
+    let two = authority_gone c.args.text.now c.behind-rest.result.now c.behind-rest-2.result.now c.in_ok-authority.authority one c.in_ok-authority.ensures.len c.behind-rest-2.ensures in
+    subst (λ (t : List ℕ). c.in_ok-front.front.segment ≤ length t) (sym two) c.in_ok-front.ensures.within
+
+pub part_len-requires-clause-read_encoded : goal.part_len-requires-clause-read_encoded
+part_len-requires-clause-read_encoded c =
+    let one = scheme_gone c.args.text.now c.behind-rest.result.now c.in_ok-front.front.scheme c.in_ok-front.ensures.scheme c.behind-rest.ensures in
+    let two = authority_gone c.args.text.now c.behind-rest.result.now c.behind-rest-2.result.now c.in_ok-authority.authority one c.in_ok-authority.ensures.len c.behind-rest-2.ensures in
+    subst (λ (t : List ℕ). is_encoded is_path_character (take c.in_ok-front.front.segment t) ≡ true) (sym two) c.in_ok-front.ensures.encoded
 
 pub returns-in_err-authority-clause-accepted : goal.returns-in_err-authority-clause-accepted
 returns-in_err-authority-clause-accepted c =
-    let one = scheme_gone c.args.text.now c.behind-rest.result.now c.in_ok-scheme.scheme c.in_ok-scheme.ensures.len c.behind-rest.ensures in
+    let one = scheme_gone c.args.text.now c.behind-rest.result.now c.in_ok-front.front.scheme c.in_ok-front.ensures.scheme c.behind-rest.ensures in
     refusal _ _ c.from_residual-in_err-authority.ensures.0 (no_authority c.args.text.now (authority_tested c.args.text.now c.behind-rest.result.now one ∙ sym c.in_err-authority.ensures.accepted))
 
 pub returns-in_err-path-clause-accepted : goal.returns-in_err-path-clause-accepted
 returns-in_err-path-clause-accepted c =
-    let one = scheme_gone c.args.text.now c.behind-rest.result.now c.in_ok-scheme.scheme c.in_ok-scheme.ensures.len c.behind-rest.ensures in
+    let one = scheme_gone c.args.text.now c.behind-rest.result.now c.in_ok-front.front.scheme c.in_ok-front.ensures.scheme c.behind-rest.ensures in
     let two = authority_gone c.args.text.now c.behind-rest.result.now c.behind-rest-2.result.now c.in_ok-authority.authority one c.in_ok-authority.ensures.len c.behind-rest-2.ensures in
     refusal _ _ c.from_residual-in_err-path.ensures.0 (no_path c.args.text.now (path_tested c.args.text.now c.behind-rest-2.result.now two ∙ sym c.in_err-path.ensures.accepted))
 
 pub returns-in_err-query-clause-accepted : goal.returns-in_err-query-clause-accepted
 returns-in_err-query-clause-accepted c =
-    let one = scheme_gone c.args.text.now c.behind-rest.result.now c.in_ok-scheme.scheme c.in_ok-scheme.ensures.len c.behind-rest.ensures in
+    let one = scheme_gone c.args.text.now c.behind-rest.result.now c.in_ok-front.front.scheme c.in_ok-front.ensures.scheme c.behind-rest.ensures in
     let two = authority_gone c.args.text.now c.behind-rest.result.now c.behind-rest-2.result.now c.in_ok-authority.authority one c.in_ok-authority.ensures.len c.behind-rest-2.ensures in
     let three = path_gone c.args.text.now c.behind-rest-2.result.now c.split_at.result.1.now c.in_ok-path.path two c.in_ok-path.ensures.len c.split_at.ensures.back in
     refusal _ _ c.from_residual-in_err-query.ensures.0 (no_query c.args.text.now (query_tested c.args.text.now c.split_at.result.1.now three ∙ sym c.in_err-query.ensures.accepted))
 
 pub returns-then-not-is_fragment_left-clause-accepted : goal.returns-then-not-is_fragment_left-clause-accepted
 returns-then-not-is_fragment_left-clause-accepted c =
-    let one = scheme_gone c.args.text.now c.behind-rest.result.now c.in_ok-scheme.scheme c.in_ok-scheme.ensures.len c.behind-rest.ensures in
+    let one = scheme_gone c.args.text.now c.behind-rest.result.now c.in_ok-front.front.scheme c.in_ok-front.ensures.scheme c.behind-rest.ensures in
     let two = authority_gone c.args.text.now c.behind-rest.result.now c.behind-rest-2.result.now c.in_ok-authority.authority one c.in_ok-authority.ensures.len c.behind-rest-2.ensures in
     let three = path_gone c.args.text.now c.behind-rest-2.result.now c.split_at.result.1.now c.in_ok-path.path two c.in_ok-path.ensures.len c.split_at.ensures.back in
     let four = query_gone c.args.text.now c.split_at.result.1.now c.behind.result.now c.in_ok-query.query three c.in_ok-query.ensures.len c.behind.ensures in
@@ -67,11 +81,11 @@ returns-then-not-is_fragment_left-clause-accepted c =
 
 pub returns-clause-accepted : goal.returns-clause-accepted
 returns-clause-accepted c =
-    let one = scheme_gone c.args.text.now c.behind-rest.result.now c.in_ok-scheme.scheme c.in_ok-scheme.ensures.len c.behind-rest.ensures in
+    let one = scheme_gone c.args.text.now c.behind-rest.result.now c.in_ok-front.front.scheme c.in_ok-front.ensures.scheme c.behind-rest.ensures in
     let two = authority_gone c.args.text.now c.behind-rest.result.now c.behind-rest-2.result.now c.in_ok-authority.authority one c.in_ok-authority.ensures.len c.behind-rest-2.ensures in
     let three = path_gone c.args.text.now c.behind-rest-2.result.now c.split_at.result.1.now c.in_ok-path.path two c.in_ok-path.ensures.len c.split_at.ensures.back in
     let four = query_gone c.args.text.now c.split_at.result.1.now c.behind.result.now c.in_ok-query.query three c.in_ok-query.ensures.len c.behind.ensures in
-    sym (all_there c.args.text.now (sym c.in_ok-scheme.ensures.accepted)
+    sym (all_there c.args.text.now c.in_ok-front.ensures.tested
     (authority_tested c.args.text.now c.behind-rest.result.now one ∙ sym c.in_ok-authority.ensures.accepted)
     (path_tested c.args.text.now c.behind-rest-2.result.now two ∙ sym c.in_ok-path.ensures.accepted)
     (query_tested c.args.text.now c.split_at.result.1.now three ∙ sym c.in_ok-query.ensures.accepted)
@@ -79,7 +93,7 @@ returns-clause-accepted c =
 
 pub returns-clause-lengths : goal.returns-clause-lengths
 returns-clause-lengths c =
-    let one = scheme_gone c.args.text.now c.behind-rest.result.now c.in_ok-scheme.scheme c.in_ok-scheme.ensures.len c.behind-rest.ensures in
+    let one = scheme_gone c.args.text.now c.behind-rest.result.now c.in_ok-front.front.scheme c.in_ok-front.ensures.scheme c.behind-rest.ensures in
     let two = authority_gone c.args.text.now c.behind-rest.result.now c.behind-rest-2.result.now c.in_ok-authority.authority one c.in_ok-authority.ensures.len c.behind-rest-2.ensures in
     let three = path_gone c.args.text.now c.behind-rest-2.result.now c.split_at.result.1.now c.in_ok-path.path two c.in_ok-path.ensures.len c.split_at.ensures.back in
-    lengths_are c.args.text.now c.behind-rest.result.now c.behind-rest-2.result.now c.split_at.result.1.now c.in_ok-scheme.scheme c.in_ok-authority.authority c.in_ok-query.query c.in_ok-path.path one two three c.in_ok-scheme.ensures.len c.in_ok-authority.ensures.len c.in_ok-path.ensures.len c.in_ok-query.ensures.len
+    lengths_are c.args.text.now c.behind-rest.result.now c.behind-rest-2.result.now c.split_at.result.1.now c.in_ok-front.front.scheme c.in_ok-authority.authority c.in_ok-query.query c.in_ok-path.path one two three c.in_ok-front.ensures.scheme c.in_ok-authority.ensures.len c.in_ok-path.ensures.len c.in_ok-query.ensures.len
