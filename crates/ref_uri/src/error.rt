@@ -168,7 +168,8 @@ impl fmt::Display for UriError {
             } => write!(f, "Invalid URI reference '{uri}': {error}"),
             UriError::Parse { uri, error, .. } => write!(f, "Invalid URI '{uri}': {error}"),
             UriError::Resolve { uri, base, error } => {
-                write!(f, "Failed to resolve '{uri}' against '{base}': {error}")
+                write!(f, "Failed to resolve '{uri}' against ")?;
+                write!(f, "'{base}': {error}")
             }
         }
     }

@@ -1,9 +1,10 @@
 //! The standard's tables of references, computed from the definitions.
-ghost use Rattle.std.specs.Prelude.{◌≡◌, [], codes, Ok, Err};
+ghost use Rattle.std.specs.Prelude.{◌≡◌, [], codes, Some, None, Ok, Err};
+ghost use Rattle.ref_uri.specs.Components.{components, scheme, path};
 ghost use Rattle.ref_uri.specs.DotSegments.{remove_dot_segments};
-ghost use Rattle.ref_uri.specs.Normal.{normal_form};
-ghost use Rattle.ref_uri.specs.Resolution.{resolved};
-ghost use Rattle.ref_uri.specs.Targets.{parsed, against, unparsed, unresolved, refusal_text, target, fragment_part};
+ghost use Rattle.ref_uri.specs.Normal.{normal_form, guarded};
+ghost use Rattle.ref_uri.specs.Resolution.{resolved, query_or, through_last_slash, merged};
+ghost use Rattle.ref_uri.specs.Targets.{default_base, parsed, against, unparsed, unresolved, refusal_text, target, fragment_part};
 
 /// The normal examples of resolution (RFC 3986, 5.4.1).
 pub fn normal_examples()
@@ -91,4 +92,18 @@ pub fn targets()
     ensures other_base { target (codes "http://a/r") (codes "s#/k") ≡ Ok (codes "http://a/s") }
     ensures fragment { fragment_part (codes "s#/k") ≡ codes "/k" }
     ensures fragment_in_front { fragment_part (codes "#/k#l") ≡ codes "/k#l" }
+{}
+
+/// What resolution is made of (RFC 3986, 5.2.2 and 5.2.3).
+pub fn parts_of_resolution()
+    ensures query_of_the_base { query_or (Some (codes "q")) None ≡ Some (codes "q") }
+    ensures query_of_the_reference { query_or (Some (codes "q")) (Some []) ≡ Some [] }
+    ensures directory { through_last_slash (codes "/b/c/d;p") ≡ codes "/b/c/" }
+    ensures no_directory { through_last_slash (codes "mid") ≡ [] }
+    ensures merged_with_the_root { merged (components (codes "http://a")) (codes "g") ≡ codes "/g" }
+    ensures merged_with_a_directory { merged (components (codes "a:b/c")) (codes "../d") ≡ codes "b/../d" }
+    ensures guarded_path { guarded None (codes "//c") ≡ codes "/.//c" }
+    ensures unguarded_path { guarded (Some []) (codes "//c") ≡ codes "//c" }
+    ensures scheme_of_the_default_base { scheme default_base ≡ Some (codes "json-schema") }
+    ensures path_of_the_default_base { path default_base ≡ codes "/" }
 {}

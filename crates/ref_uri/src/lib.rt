@@ -1,4 +1,4 @@
-//! URI references of RFC 3986, parsed and read. What resolution and normal form are is defined; their calls come next.
+//! URI references of RFC 3986, parsed, read, resolved and normalised.
 //!
 //! A [`UriRef`] borrows its text, a [`Uri`] owns it and has a scheme. Contracts see both as their text, of which the
 //! components are functions: read `specs/Components.antt` and `specs/Reference.antt` first.

@@ -36,7 +36,7 @@ impl<'a> UriRef<'a> {
     ghost use Rattle.ref_uri.specs.Lengths.{IsParsed};
 
     /// The reference that the text is. `Syntax` exactly where the text is no URI reference (RFC 3986, 4.1 and
-    /// appendix A). Linear in the text; takes no memory and copies nothing.
+    /// appendix A). One pass over the text; takes no memory and copies nothing.
     pub fn parse(text: &'a str) -> Result<UriRef<'a>, ParseError>
         ensures accepted { is_ok result ≡ is_uri_reference text.now }
         ensures value { IfOk result (λ r. r ≡ text.now) }

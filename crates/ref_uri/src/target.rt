@@ -80,13 +80,14 @@ pub fn resolved<'a>(base: Parts<'a>, reference: Parts<'a>) -> Target<'a>
     ensures value { written_components Form.Given result ≡ resolved_components (components_of base.entry) (components_of reference.entry) }
     ensures target { IsTarget result }
 {
+    let fragment = reference.fragment;
     if reference.scheme.is_some() {
         return Target {
             scheme: reference.scheme,
             authority: reference.authority,
             path: PathOf::Removed(reference.path),
             query: reference.query,
-            fragment: reference.fragment,
+            fragment,
         };
     }
     if reference.authority.is_some() {
@@ -95,7 +96,7 @@ pub fn resolved<'a>(base: Parts<'a>, reference: Parts<'a>) -> Target<'a>
             authority: reference.authority,
             path: PathOf::Removed(reference.path),
             query: reference.query,
-            fragment: reference.fragment,
+            fragment,
         };
     }
     if reference.path.is_empty() {
@@ -104,15 +105,16 @@ pub fn resolved<'a>(base: Parts<'a>, reference: Parts<'a>) -> Target<'a>
             authority: base.authority,
             path: PathOf::Kept(base.path),
             query: reference.query.or(base.query),
-            fragment: reference.fragment,
+            fragment,
         };
     }
+    let query = reference.query;
     Target {
         scheme: base.scheme,
         authority: base.authority,
         path: path_behind(base, reference.path),
-        query: reference.query,
-        fragment: reference.fragment,
+        query,
+        fragment,
     }
 }
 

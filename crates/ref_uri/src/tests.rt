@@ -1,7 +1,7 @@
 //! Outside values: the examples of RFC 3986, and what no clause says.
 ghost use Rattle.std.specs.Prelude.{◌<◌, length};
 
-use crate::{ParseError, Uri, UriParseFault, UriRef};
+use crate::{ParseError, ResolveError, ResolveFault, Uri, UriError, UriParseFault, UriRef, uri};
 use std::alloc::Global;
 use std::process::Abort;
 use std::test::Fail;
@@ -366,5 +366,113 @@ fn agrees_with_the_grammar_on_short_authorities(rt: HostRuntime) -> Result<(), F
     let alphabet = ['[', ']', 'v', '1', '.', ':', '@'];
     let counts = compare_with_the_grammar(&rt, rt.alloc(), "//", &alphabet, 6)?;
     assert_eq!(rt; counts, (137_257, 7_619));
+    Ok(())
+}
+
+/// The texts that texts mean, alone and against a base, and why some mean none.
+#[test]
+fn answers_what_texts_mean(rt: HostRuntime) -> Result<(), Fail> {
+    let alloc = rt.alloc();
+    for (text, meaning) in [
+        ("", "json-schema:///"),
+        ("a/../b#c", "json-schema:///b#c"),
+        ("//A/%7e", "json-schema://a/~"),
+        ("?q", "json-schema:///?q"),
+        (
+            "HTTP://Ex%41mple.com/%7efoo/./bar/../x%2f",
+            "http://example.com/~foo/x%2F",
+        ),
+        ("http://a:/", "http://a/"),
+        ("http://a:80", "http://a:80"),
+        ("a:/.//c", "a:/.//c"),
+    ] {
+        let uri = uri::from_str(alloc, text)?;
+        assert_eq!(rt; uri.as_str(), meaning, "{text}");
+        assert_eq!(rt; uri.normalize(alloc)?, uri, "{text}");
+    }
+    for (base, text, meaning) in [
+        ("http://a/b/c/d;p?q", "../g", "http://a/b/g"),
+        ("http://a/b/c/d;p?q", "../../../g", "http://a/g"),
+        ("http://a/b/c/d;p?q", "", "http://a/b/c/d;p?q"),
+        ("http://a/b/c/d;p?q", "?y", "http://a/b/c/d;p?y"),
+        ("http://a/b/c/d;p?q", "#s", "http://a/b/c/d;p?q#s"),
+        ("http://a/b/c/d;p?q", "//g", "http://g"),
+        ("http://a/b/c/d;p?q", "http:g", "http:g"),
+        ("http://a/p/r", "../s", "http://a/s"),
+        ("http://A/b#x", "#x", "http://A/b#x"),
+        ("http://A/b#x", "#y", "http://a/b#y"),
+        ("http://a/b#x", "c", "http://a/c"),
+        ("a:/b", "/.//c", "a:/.//c"),
+        ("a:b/c", "../d", "a:/d"),
+        ("a:/b", "%2e%2E/c", "a:/c"),
+    ] {
+        let base = UriRef::parse(base)?;
+        let uri = uri::resolve_against(alloc, base, text)?;
+        assert_eq!(rt; uri.as_str(), meaning, "{text}");
+    }
+    Ok(())
+}
+
+#[test]
+fn says_why_texts_mean_no_uri(rt: HostRuntime) -> Result<(), Fail> {
+    let alloc = rt.alloc();
+    for text in ["a b", "1a:b", "%4"] {
+        let Err(fault) = uri::from_str(alloc, text) else {
+            panic!(rt; "{text} means a URI");
+        };
+        let expected = format!(in alloc;
+            "Invalid URI reference '{text}': not a URI reference of RFC 3986"
+        )?;
+        assert_eq!(rt; format!(in alloc; "{fault}")?, expected);
+    }
+    let Err(fault) = uri::resolve_against(alloc, UriRef::parse("/a")?, "b") else {
+        panic!(rt; "the base has no scheme");
+    };
+    assert_eq!(rt;
+        format!(in alloc; "{fault}")?.as_str(),
+        "Failed to resolve 'b' against '/a': the base has no scheme"
+    );
+    let Err(fault) = uri::resolve_against(alloc, UriRef::parse("http://a")?, "%") else {
+        panic!(rt; "a percent sign alone");
+    };
+    assert_eq!(rt;
+        format!(in alloc; "{fault}")?.as_str(),
+        "Invalid URI reference '%': not a URI reference of RFC 3986"
+    );
+    let error = UriError::Parse {
+        uri: String::from_str(alloc, "/a")?,
+        is_reference: false,
+        error: ParseError::NoScheme,
+    };
+    assert_eq!(rt;
+        format!(in alloc; "{error}")?.as_str(),
+        "Invalid URI '/a': no scheme"
+    );
+    let refused = UriRef::parse("b")?.resolve_against(alloc, UriRef::parse("/a")?);
+    let Err(fault) = refused else {
+        panic!(rt; "the base has no scheme");
+    };
+    assert_eq!(rt;
+        fault,
+        ResolveFault::Invalid(ResolveError::BaseWithoutScheme)
+    );
+    assert_eq!(rt;
+        format!(in alloc; "{fault}")?.as_str(),
+        "the base has no scheme"
+    );
+    Ok(())
+}
+
+/// A path of `..` and `a` in turn ends at the root, and one of `a` and `..` at its directory.
+#[test]
+fn removes_many_dot_segments(rt: HostRuntime) -> Result<(), Fail> {
+    let alloc = rt.alloc();
+    let mut path = String::new(alloc);
+    for _ in 0..1500 {
+        path.push_str("/../a")?;
+    }
+    let base = UriRef::parse("http://h/b")?;
+    let uri = UriRef::parse(path.as_str())?.resolve_against(alloc, base)?;
+    assert_eq!(rt; uri.as_str(), "http://h/a");
     Ok(())
 }

@@ -76,9 +76,8 @@ impl Uri {
     pub fn normalize(&self, alloc: Global) -> Result<Uri, AllocError>
         ensures { IfOk result (λ uri. uri ≡ normal_form self.now) }
     {
-        let (text, lengths) = UriRef::from_parsed(self.text.as_str(), self.lengths).normalized(
-            alloc,
-        )?;
+        let uri = UriRef::from_parsed(self.text.as_str(), self.lengths);
+        let (text, lengths) = uri.normalized(alloc)?;
         Ok(Uri::from_written(text, lengths))
     }
 
