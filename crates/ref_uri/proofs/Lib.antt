@@ -18,6 +18,7 @@ pub mod LengthsLemmas
 pub mod NormalLemmas
 pub mod Induction
 pub mod AuthorityParts
+pub mod NormalTwice
 pub mod Meanings
 pub mod WrittenUri
 pub mod ValidTargets

@@ -1,6 +1,8 @@
 //! Laws and rows of the definitions. Each function is empty: its contract states the law, and the check proves it.
-ghost use Rattle.std.specs.Prelude.{◌≡◌, ◌↔◌, List, [], ℕ, Some, None, true, false, codes};
+ghost use Rattle.std.specs.Prelude.{◌≡◌, ◌↔◌, Ok, List, [], ℕ, Some, None, true, false, codes};
 ghost use Rattle.ref_uri.specs.Components.{Components, components, text_of, are_components, scheme, authority, path, query, fragment};
+ghost use Rattle.ref_uri.specs.Normal.{normal_form};
+ghost use Rattle.ref_uri.specs.Targets.{parsed};
 ghost use Rattle.ref_uri.specs.Reference.{is_uri_reference, is_uri, IsTextOfComponents, with_fragment};
 
 /// Every text is that of its components (RFC 3986, 5.3 and appendix B).
@@ -48,4 +50,14 @@ pub fn references_of_examples()
     ensures two_ats { is_uri_reference (codes "//a@b@c") ≡ false }
     ensures port_of_letters { is_uri_reference (codes "//a:b") ≡ false }
     ensures open_bracket { is_uri_reference (codes "//[::1") ≡ false }
+{}
+
+/// The normal form of a reference's normal form is itself (RFC 3986, 6.2.2).
+pub fn normal_form_is_its_own()
+    ensures { (text : List ℕ) → is_uri_reference text ≡ true → normal_form (normal_form text) ≡ normal_form text }
+{}
+
+/// What a text means by itself is its own normal form.
+pub fn meanings_are_normal()
+    ensures { (text uri : List ℕ) → parsed text ≡ Ok uri → normal_form uri ≡ uri }
 {}
