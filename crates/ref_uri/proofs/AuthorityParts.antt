@@ -1,5 +1,5 @@
 -- The parts of an authority: what each holds, and that they are determined by their text.
-use Rattle.std.proofs.Common.{◌≡◌, ℕ, Bool, true, false, ◌||◌, not, List, [], ◌∷◌, eqb, refl, sym, ap, ◌∙◌, ◌<◌, ◌≤◌, ◌+◌, ◌++◌, ◌&&◌, length, take, drop, arith, inl, inr, lt-ltb}
+use Rattle.std.proofs.Common.{◌≡◌, ℕ, true, false, not, List, [], ◌∷◌, eqb, refl, sym, ◌∙◌, ◌<◌, ◌≤◌, ◌+◌, ◌++◌, ◌&&◌, length, take, drop, arith, inl, inr, lt-ltb}
 use Rattle.std.specs.List.{list_all, list_any, position_or_len}
 use Rattle.std.proofs.lemmas.Bool.{and_parts, and_from, or_cases, not-true, le-ltb}
 use Rattle.std.proofs.lemmas.List.{append_assoc}

@@ -1,8 +1,7 @@
 -- Induction over the characters and the triples of a text.
-use Rattle.std.proofs.Common.{◌≡◌, ◌≢◌, ℕ, ◌<◌, true, false, cond, ◌&&◌, List, [], ◌∷◌, ◌++◌, map, eqb, refl, sym, ap, ◌∙◌, subst, arith, inl, inr, ◌⊎◌}
+use Rattle.std.proofs.Common.{◌≡◌, ◌≢◌, ℕ, true, false, cond, List, [], ◌∷◌, eqb, refl, sym, ◌∙◌, subst, inl, inr}
 use Rattle.std.specs.Char.{is_ascii_hexdigit}
-use Rattle.std.specs.Str.{IsAscii}
-use Rattle.std.proofs.lemmas.Bool.{and_parts, and_right, false≢true, cases_eq, eq-eqb}
+use Rattle.std.proofs.lemmas.Bool.{and_parts, false≢true, cases_eq}
 use Rattle.ref_uri.specs.Characters.{begins_with_hex_digits, has_whole_triples}
 
 -- what holds of no text, and of one character or one triple more, holds of every text of whole triples

@@ -1,7 +1,6 @@
 -- What stands before the last slash of a text.
-use Rattle.std.proofs.Common.{◌≡◌, ◌≢◌, ℕ, suc, ◌+◌, ◌-◌, ◌<◌, ◌≤◌, Bool, true, false, not, List, [], ◌∷◌, ◌++◌, length, take, drop, get_or, eqb, refl, sym, ap, ◌∙◌, subst, arith, Option, Some, None, cond, ◌&&◌, ◌||◌}
+use Rattle.std.proofs.Common.{◌≡◌, ◌≢◌, ℕ, suc, ◌+◌, ◌-◌, ◌<◌, ◌≤◌, Bool, true, false, not, List, [], ◌∷◌, ◌++◌, length, take, drop, get_or, eqb, refl, sym, ap, ◌∙◌, subst, arith, cond, ◌||◌}
 use Rattle.std.specs.List.{before_last, suffix_len}
-use Rattle.std.specs.Option.{MatchOption}
 use Rattle.std.specs.Char.{is_ascii_hexdigit}
 use Rattle.std.proofs.lemmas.Bool.{ne_eqb, eq-eqb, and_parts, and_from, and_right, false≢true}
 use Rattle.std.proofs.lemmas.List.Folds.{list_all-append}
@@ -9,7 +8,7 @@ use Rattle.std.proofs.Math.Seq.{drop-cons}
 use Rattle.ref_uri.specs.Characters.{has_whole_triples, begins_with_hex_digits, is_path_character}
 use Rattle.ref_uri.specs.Components.{is_path}
 use Rattle.ref_uri.specs.Resolution.{through_last_slash}
-use Rattle.std.proofs.lemmas.List.{take_at, take_more, take-append-drop, length-append, get_or_at, get_or-append-add}
+use Rattle.std.proofs.lemmas.List.{take_more, take-append-drop}
 use Rattle.std.proofs.lemmas.List.Sums.{suffix_len_is}
 
 abbrev pub is_slash : ℕ → Bool

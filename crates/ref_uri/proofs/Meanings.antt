@@ -1,8 +1,8 @@
 -- What a text means, case by case.
-use Rattle.std.proofs.Common.{◌≡◌, ℕ, Bool, true, false, cond, ◌&&◌, List, Option, None, Result, Ok, Err, is_some, get_or, eqb, refl, sym, ap, ◌∙◌, codes}
+use Rattle.std.proofs.Common.{◌≡◌, ℕ, true, false, ◌&&◌, List, None, Result, Ok, Err, is_some, get_or, eqb, refl, ◌∙◌}
 use Rattle.std.specs.List.{ends_with}
 use Rattle.ref_uri.specs.Components.{scheme}
-use Rattle.ref_uri.specs.Errors.{IsFaultOf, IfInvalid, SaysRefusal}
+use Rattle.ref_uri.specs.Errors.{IsFaultOf, IfInvalid}
 use Rattle.ref_uri.specs.Normal.{normal_form}
 use Rattle.ref_uri.specs.Reference.{is_uri_reference, with_fragment}
 use Rattle.ref_uri.specs.Resolution.{resolved}

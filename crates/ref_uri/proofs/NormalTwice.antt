@@ -1,14 +1,14 @@
 -- The normal form of a normal form is itself.
-use Rattle.std.proofs.Common.{◌≡◌, ◌≢◌, ℕ, zero, suc, ◌+◌, ◌*◌, ◌<◌, Bool, true, false, cond, not, ◌&&◌, ◌||◌, List, [], ◌∷◌, ◌++◌, length, drop, get_or, map, reverse, eqb, refl, sym, ap, ◌∙◌, subst, arith, inl, inr, Option, Some, None, is_some, is_none, option_map, Result, Ok, Err, codes, append_assoc, append-nil}
-use Rattle.std.specs.List.{list_all, AllByRecursion, slice_split, onto_first, prefix_len}
+use Rattle.std.proofs.Common.{◌≡◌, ◌≢◌, ℕ, suc, ◌+◌, ◌*◌, Bool, true, false, cond, ◌&&◌, ◌||◌, List, [], ◌∷◌, ◌++◌, length, drop, get_or, map, reverse, eqb, refl, sym, ap, ◌∙◌, subst, arith, inl, inr, Option, Some, None, is_some, is_none, option_map, Result, Ok, Err, codes, append_assoc, append-nil}
+use Rattle.std.specs.List.{list_all, AllByRecursion, prefix_len}
 use Rattle.std.specs.Char.{is_ascii_hexdigit, to_ascii_lowercase, to_ascii_uppercase}
-use Rattle.std.proofs.lemmas.Bool.{cases_Bool, eqb-true, and_parts, and_from, ne_eqb, false≢true, not-true}
+use Rattle.std.proofs.lemmas.Bool.{cases_Bool, eqb-true, and_parts, false≢true}
 use Rattle.std.proofs.lemmas.Bool.Decides.{nat_tests}
 use Rattle.std.proofs.lemmas.List.{reverse-append}
 use Rattle.std.proofs.lemmas.Str.Ascii.{lowercase-lowercase, uppercase-uppercase}
 use Rattle.ref_uri.specs.Characters.{has_whole_triples, is_unreserved, is_encoded, is_userinfo_character, is_path_character, is_query_character}
-use Rattle.ref_uri.specs.Authority.{is_authority, userinfo, host, port_part, is_host}
-use Rattle.ref_uri.specs.Components.{Components, components, are_components, scheme, text_of, if_there, is_path, is_query, begins_with_slashes}
+use Rattle.ref_uri.specs.Authority.{is_authority, userinfo, host, port_part}
+use Rattle.ref_uri.specs.Components.{Components, components, are_components, scheme, text_of, if_there, is_query, begins_with_slashes}
 use Rattle.ref_uri.specs.DotSegments.{segments, behind_slashes, joined, is_dot, is_dot_dot, is_dot_segment, first_after, kept_after, remaining, ends_in_dots, without_dots, remove_dot_segments}
 use Rattle.ref_uri.specs.Normal.{hex_value, normal_triple, normal_encoded, normal_text, normal_host, normal_port_part, normal_authority, guarded, normal, normal_path, normal_form}
 use Rattle.ref_uri.specs.Reference.{is_uri_reference}
@@ -18,12 +18,12 @@ use Rattle.ref_uri.proofs.OnLiterals.{ref_uri_on_literals}
 use Rattle.ref_uri.specs.declared.written.Form.TheVariants.{Normal}
 use Rattle.ref_uri.proofs.EncodedLemmas.{whole-append}
 use Rattle.ref_uri.proofs.Induction.{by_units}
-use Rattle.ref_uri.proofs.NormalLemmas.{normal_none, normal_character, normal_triple_front, normal_run}
+use Rattle.ref_uri.proofs.NormalLemmas.{normal_none, normal_character, normal_triple_front}
 use Rattle.ref_uri.proofs.WrittenLemmas.{Keeps, keeps_as_is, keeps_lower, normal_is_whole, written_segments}
-use Rattle.ref_uri.proofs.SegmentLemmas.{segments-slash, segments-run, segments-shape, segments_are_whole, segments_hold_no_slash, segments-append}
-use Rattle.ref_uri.proofs.RemovalLaws.{HasNoSlash, each_kept}
+use Rattle.ref_uri.proofs.SegmentLemmas.{segments-run, segments-shape, segments_are_whole, segments_hold_no_slash, segments-append}
+use Rattle.ref_uri.proofs.RemovalLaws.{HasNoSlash}
 use Rattle.ref_uri.proofs.AuthorityParts.{host_is_whole}
-use Rattle.ref_uri.proofs.AuthorityText.{AreParts, Found, text_of_parts, parts_found, parts_of_authority}
+use Rattle.ref_uri.proofs.AuthorityText.{text_of_parts, parts_found, parts_of_authority}
 use Rattle.ref_uri.proofs.NormalValid.{normal_parts, normal_authority-parts}
 use Rattle.ref_uri.proofs.PathValid.{each_append, each_reverse, each_without_dots, each_drop}
 use Rattle.ref_uri.proofs.UniqueLemmas.{Tested, tested, components-text_of}

@@ -1,19 +1,19 @@
 -- Components in normal form hold what they may.
-use Rattle.std.proofs.Common.{◌≡◌, ◌≢◌, ℕ, suc, ◌+◌, ◌<◌, ◌≤◌, Bool, true, false, cond, not, ◌&&◌, ◌||◌, List, [], ◌∷◌, ◌++◌, length, take, drop, get_or, map, eqb, ltb, refl, sym, ap, ◌∙◌, subst, arith, inl, inr, Option, Some, None, option_map, codes}
-use Rattle.std.specs.List.{list_any, list_all, position_or_len, before_first, after_first}
-use Rattle.std.specs.Char.{is_ascii_digit, is_ascii_hexdigit, is_ascii_alphabetic, to_ascii_lowercase}
-use Rattle.std.proofs.lemmas.Bool.{and_parts, and_from, or_cases, eqb-true, false≢true, cases_Bool}
+use Rattle.std.proofs.Common.{◌≡◌, ℕ, ◌+◌, Bool, true, false, cond, ◌&&◌, ◌||◌, List, [], ◌∷◌, length, take, drop, map, eqb, ltb, refl, sym, ap, ◌∙◌, arith, inl, inr, Option, Some, None, option_map}
+use Rattle.std.specs.List.{list_all, position_or_len, before_first, after_first}
+use Rattle.std.specs.Char.{is_ascii_hexdigit, is_ascii_alphabetic, to_ascii_lowercase}
+use Rattle.std.proofs.lemmas.Bool.{and_parts, and_from, or_cases, false≢true}
 use Rattle.std.proofs.lemmas.Bool.Decides.{nat_tests}
 use Rattle.std.proofs.lemmas.List.{take-map, drop-map, length-map}
 use Rattle.std.proofs.lemmas.List.Sums.{AllPass-from_list_all}
 use Rattle.ref_uri.specs.Characters.{is_encoded, is_unreserved, is_scheme_character, is_name_character, is_userinfo_character, is_path_character, is_query_character}
 use Rattle.ref_uri.specs.Authority.{is_authority, userinfo, host, port_part, is_host, is_bracketed, is_address_and_bracket, is_address, is_address_character, is_future_address, is_version_and_address, is_port_part}
 use Rattle.ref_uri.specs.Components.{is_scheme, is_path, is_query, if_there}
-use Rattle.ref_uri.specs.Normal.{normal_encoded, normal_text, normal_host, normal_port_part, normal_authority}
+use Rattle.ref_uri.specs.Normal.{normal_text, normal_host, normal_port_part, normal_authority}
 use Rattle.ref_uri.proofs.NormalLemmas.{normal_plain}
 use Rattle.ref_uri.proofs.WrittenLemmas.{keeps_as_is, keeps_lower, normal_is_encoded}
-use Rattle.ref_uri.proofs.AuthorityCharacters.{is_literal_character, literal_characters, list_all-wider}
-use Rattle.ref_uri.proofs.AuthorityText.{AreParts, Found, text_of_parts, parts_found, authority_of_parts, parts_of_authority}
+use Rattle.ref_uri.proofs.AuthorityCharacters.{is_literal_character, literal_characters}
+use Rattle.ref_uri.proofs.AuthorityText.{AreParts, text_of_parts, authority_of_parts, parts_of_authority}
 
 abbrev lower : List ℕ → List ℕ
 lower text = map to_ascii_lowercase text

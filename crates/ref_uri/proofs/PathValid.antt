@@ -1,9 +1,8 @@
 -- A path without its dot segments is a path, and begins as it did.
-use Rattle.std.proofs.Common.{◌≡◌, ◌≢◌, ℕ, zero, suc, ◌⊎◌, ◌+◌, ◌-◌, ◌<◌, ◌≤◌, Bool, true, false, cond, not, ◌&&◌, ◌||◌, List, [], ◌∷◌, ◌++◌, map, length, take, drop, get_or, get_or-take, reverse, eqb, refl, sym, ap, ◌∙◌, subst, arith, inl, inr, Option, Some, None, is_none, codes}
-use Rattle.std.specs.List.{list_all, AllByRecursion, prefix_len, suffix_len}
-use Rattle.std.proofs.lemmas.Bool.{and_parts, and_from, or_cases, eqb-true, eq-eqb, cases_eq, cases_Bool, cases_lt, not-true, not-false, false≢true, ne_eqb}
+use Rattle.std.proofs.Common.{◌≡◌, ℕ, zero, suc, ◌⊎◌, Bool, true, false, cond, not, ◌&&◌, ◌||◌, List, [], ◌∷◌, ◌++◌, length, drop, get_or, reverse, eqb, refl, sym, ap, ◌∙◌, subst, arith, inl, inr, Option, None, is_none, codes}
+use Rattle.std.specs.List.{list_all, AllByRecursion, prefix_len}
+use Rattle.std.proofs.lemmas.Bool.{and_parts, and_from, or_cases, eqb-true, cases_eq, cases_Bool, false≢true, ne_eqb}
 use Rattle.std.proofs.lemmas.List.{reverse-append, length-append, get_or_at, take_at}
-use Rattle.std.proofs.lemmas.List.Sums.{suffix_len-le-length}
 use Rattle.std.proofs.lemmas.List.Folds.{list_all-append}
 use Rattle.ref_uri.specs.Characters.{has_whole_triples, is_path_character}
 use Rattle.ref_uri.specs.Components.{is_path, begins_with_slashes}

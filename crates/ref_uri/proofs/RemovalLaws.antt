@@ -1,7 +1,7 @@
 -- Writing a path segment by segment gives the path without its dot segments.
-use Rattle.std.proofs.Common.{◌≡◌, ◌≢◌, ℕ, suc, ◌+◌, ◌-◌, ◌<◌, ◌≤◌, Bool, true, false, cond, not, ◌&&◌, ◌||◌, List, [], ◌∷◌, ◌++◌, map, length, drop, get_or, reverse, eqb, refl, sym, ap, ◌∙◌, subst, arith, add-one, append_assoc, append-nil, bytes_eq, codes, inl, inr}
+use Rattle.std.proofs.Common.{◌≡◌, ◌≢◌, ℕ, suc, ◌+◌, ◌-◌, ◌<◌, Bool, true, false, cond, not, ◌&&◌, List, [], ◌∷◌, ◌++◌, map, length, drop, get_or, reverse, eqb, refl, sym, ap, ◌∙◌, arith, append_assoc, append-nil, codes, inl, inr}
 use Rattle.std.specs.List.{list_all, AllByRecursion, before_last, prefix_len}
-use Rattle.std.proofs.lemmas.Bool.{cases_Bool, false≢true, ne_eqb, not-true, and_right}
+use Rattle.std.proofs.lemmas.Bool.{cases_Bool, false≢true, ne_eqb}
 use Rattle.std.proofs.lemmas.List.{map-append, reverse-append, take_at, length-append, get_or_at, get_or-append-add}
 use Rattle.std.proofs.lemmas.Slice.Eq.{bytes_eq-Decides}
 use Rattle.std.proofs.lemmas.List.Sums.{AllPass-from_list_all}
@@ -15,7 +15,6 @@ use Rattle.ref_uri.proofs.RemovalLemmas.{path_after-append, progress_after-appen
 use Rattle.ref_uri.proofs.WrittenLemmas.{written_segments}
 use Rattle.ref_uri.specs.declared.dots.Progress.{Progress}
 use Rattle.ref_uri.specs.declared.dots.Progress.TheVariants.{Front, Within, Dots}
-use Rattle.ref_uri.specs.declared.dots.Segment.TheVariants.{Name, Dot, DotDot}
 use Rattle.ref_uri.proofs.LastSlash.{is_slash, before_last_at, before_last_none}
 use Rattle.ref_uri.proofs.SegmentLemmas.{segments_hold_no_slash, segments-append}
 

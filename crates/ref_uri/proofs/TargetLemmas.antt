@@ -1,15 +1,15 @@
 -- The components of a target.
-use Rattle.std.proofs.Common.{◌≡◌, ◌≢◌, ℕ, Bool, true, false, cond, not, ◌&&◌, ◌||◌, ◌+◌, ◌*◌, List, [], ◌∷◌, ◌++◌, length, get_or, eqb, refl, sym, ap, ◌∙◌, subst, arith, inl, inr, Option, Some, None, is_some, is_none, codes, Bor, option_copied, option_map}
+use Rattle.std.proofs.Common.{◌≡◌, ◌≢◌, ℕ, Bool, true, false, not, ◌&&◌, ◌+◌, ◌*◌, List, ◌∷◌, ◌++◌, length, get_or, eqb, refl, sym, ap, ◌∙◌, arith, inl, inr, Option, Some, None, is_some, Bor, option_copied, option_map}
 use Rattle.std.specs.List.{list_any, before_first}
 use Rattle.std.specs.Option.{option_or}
 use Rattle.std.specs.Char.{is_ascii_hexdigit}
-use Rattle.std.proofs.lemmas.Bool.{and_parts, and_right, not-true, cases_Bool, ne_eqb, false≢true}
+use Rattle.std.proofs.lemmas.Bool.{and_parts, not-true, cases_Bool, ne_eqb, false≢true}
 use Rattle.std.proofs.lemmas.Bool.Decides.{nat_tests}
-use Rattle.ref_uri.specs.Characters.{has_whole_triples, is_unreserved, is_path_character}
-use Rattle.ref_uri.specs.Components.{Components, are_components, is_path, is_path_after, begins_with_slashes, if_there}
+use Rattle.ref_uri.specs.Characters.{has_whole_triples, is_unreserved}
+use Rattle.ref_uri.specs.Components.{Components, are_components, is_path_after, begins_with_slashes, if_there}
 use Rattle.ref_uri.specs.Resolution.{resolved_components, target_path}
 use Rattle.ref_uri.specs.DotSegments.{remove_dot_segments}
-use Rattle.ref_uri.specs.Normal.{guarded, normal, normal_path, normal_text, normal_triple, hex_value}
+use Rattle.ref_uri.specs.Normal.{guarded, normal_path, normal_text, normal_triple, hex_value}
 use Rattle.ref_uri.proofs.UniqueLemmas.{Tested, tested}
 use Rattle.ref_uri.proofs.Induction.{by_units}
 use Rattle.ref_uri.proofs.NormalLemmas.{normal_none, normal_character, normal_triple_front}

@@ -1,8 +1,8 @@
 -- The target of a reference, and a normal form, hold what they may.
-use Rattle.std.proofs.Common.{◌≡◌, ◌≢◌, ℕ, ◌+◌, ◌*◌, Bool, true, false, cond, not, ◌&&◌, ◌||◌, List, [], ◌∷◌, ◌++◌, length, get_or, map, eqb, refl, sym, ap, ◌∙◌, subst, arith, inl, inr, Option, Some, None, is_some, is_none, option_map, codes}
+use Rattle.std.proofs.Common.{◌≡◌, ℕ, Bool, true, false, cond, not, ◌&&◌, ◌||◌, List, [], ◌∷◌, ◌++◌, length, get_or, map, eqb, refl, sym, ap, ◌∙◌, subst, arith, inl, inr, Option, Some, None, is_some, option_map}
 use Rattle.std.specs.List.{list_any, list_all, before_first}
 use Rattle.std.specs.Char.{is_ascii_hexdigit, to_ascii_lowercase}
-use Rattle.std.proofs.lemmas.Bool.{and_parts, and_from, or_cases, eqb-true, cases_Bool, cases_eq, not-true, false≢true, ne_eqb}
+use Rattle.std.proofs.lemmas.Bool.{and_parts, and_from, or_cases, eqb-true, cases_Bool, not-true}
 use Rattle.std.proofs.lemmas.Bool.Decides.{nat_tests}
 use Rattle.ref_uri.specs.Characters.{has_whole_triples, is_unreserved, is_path_character}
 use Rattle.ref_uri.specs.Authority.{is_authority}

@@ -1,5 +1,5 @@
 -- The texts of what is refused.
-use Rattle.std.specs.Prelude.{◌≡◌, ℕ, List, ◌++◌, true, ⊤, codes, string_bytes, Result, Ok, Err, if◌then◌else◌}
+use Rattle.std.specs.Prelude.{◌≡◌, ℕ, List, ◌++◌, true, ⊤, codes, string_bytes, Result, Err, if◌then◌else◌}
 use Rattle.ref_uri.specs.Targets.{Refusal, unparsed, unresolved}
 use Rattle.ref_uri.specs.declared.error.UriError.{UriError}
 use Rattle.ref_uri.specs.declared.error.UriError.TheVariants.{Parse, Resolve}

@@ -1,5 +1,5 @@
 -- The components of what is written, which are parts of other texts.
-use Rattle.std.specs.Prelude.{◌≡◌, ℕ, true, List, ◌∷◌, ◌++◌, length, Option, Some, None, option_map, option_copied, is_none}
+use Rattle.std.specs.Prelude.{◌≡◌, ℕ, true, List, ◌∷◌, ◌++◌, length, Option, Some, None, option_map, option_copied}
 use Rattle.ref_uri.specs.declared.lengths.Lengths.{Lengths}
 use Rattle.ref_uri.specs.declared.lengths.Parts.{Parts}
 use Rattle.ref_uri.specs.declared.target.PathOf.{PathOf}

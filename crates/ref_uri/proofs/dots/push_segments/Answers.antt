@@ -1,4 +1,4 @@
-use Rattle.std.proofs.Common.{◌≡◌, Bor, [], ◌∷◌, ◌++◌, List, ℕ, true, map, length, get_or, string_bytes, refl, ap, sym, ◌∙◌, subst, arith, rules, lit<}
+use Rattle.std.proofs.Common.{◌≡◌, Bor, [], ◌∷◌, ◌++◌, List, ℕ, true, map, length, refl, ap, sym, ◌∙◌, lit<}
 use Rattle.std.specs.Str.{IsAscii}
 use Rattle.std.proofs.lemmas.List.{map_push}
 use Rattle.std.proofs.lemmas.Iterator.Splits.{YieldsList-from_str_split}

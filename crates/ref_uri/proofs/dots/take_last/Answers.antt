@@ -1,8 +1,8 @@
-use Rattle.std.proofs.Common.{◌≡◌, ◌<◌, ◌++◌, List, ℕ, take, drop, length, get_or, ◌+◌, string_bytes, ap, sym, ◌∙◌, subst, arith, rules, lit<}
+use Rattle.std.proofs.Common.{◌≡◌, ◌++◌, take, drop, ◌+◌, ap, sym, ◌∙◌, lit<}
 use Rattle.std.proofs.lemmas.List.{drop_at, take_at, append-nil}
 use Rattle.std.proofs.lemmas.Str.Pattern.{rfind_char}
 use Rattle.std.proofs.Math.Seq.{take-add}
-use Rattle.ref_uri.proofs.LastSlash.{is_slash, before_last_at, before_last_none}
+use Rattle.ref_uri.proofs.LastSlash.{before_last_at, before_last_none}
 use Rattle.ref_uri.proofs.dots.take_last.Goals as goal
 
 pub returns-in-Some-clause-text : goal.returns-in-Some-clause-text

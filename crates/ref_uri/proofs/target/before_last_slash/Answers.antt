@@ -1,4 +1,4 @@
-use Rattle.std.proofs.Common.{◌≡◌, ◌++◌, [], ◌∷◌, take, ap, sym, subst, ◌∙◌, append_assoc, true, lit<}
+use Rattle.std.proofs.Common.{◌++◌, [], ◌∷◌, take, ap, sym, ◌∙◌, append_assoc, lit<}
 use Rattle.std.proofs.lemmas.Str.Pattern.{rfind_char}
 use Rattle.ref_uri.specs.Components.{is_path}
 use Rattle.ref_uri.proofs.LastSlash.{through_last_slash_at, through_last_slash_none, front_is_path}

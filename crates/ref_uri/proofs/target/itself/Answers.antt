@@ -1,4 +1,4 @@
-use Rattle.std.proofs.Common.{◌≡◌, ℕ, List, true, option_copied, is_some, ap, rules}
+use Rattle.std.proofs.Common.{ℕ, List, ap}
 use Rattle.ref_uri.specs.Normal.{normal}
 use Rattle.ref_uri.specs.Target.{components_of, written_path}
 use Rattle.ref_uri.specs.declared.written.Form.TheVariants.{Normal}

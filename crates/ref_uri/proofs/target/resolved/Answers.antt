@@ -1,15 +1,13 @@
-use Rattle.std.proofs.Common.{◌≡◌, ℕ, List, true, false, length, eqb, option_copied, Option, Bor, subst, is_some, ap, ◌∙◌, sym, arith, rules}
-use Rattle.std.specs.Str.{IsAscii}
+use Rattle.std.proofs.Common.{◌≡◌, ℕ, List, true, option_copied, Option, Bor, subst, ap, ◌∙◌, sym, arith}
 use Rattle.std.proofs.lemmas.Bool.Decides.{nat_tests}
 use Rattle.ref_uri.specs.Characters.{is_path_character}
-use Rattle.ref_uri.specs.Components.{Components, is_query, if_there}
+use Rattle.ref_uri.specs.Components.{is_query, if_there}
 use Rattle.ref_uri.specs.Normal.{guarded}
 use Rattle.ref_uri.specs.Target.{components_of, written_path}
 use Rattle.ref_uri.specs.declared.written.Form.TheVariants.{Given}
 use Rattle.ref_uri.proofs.AsciiLemmas.{encoded_ascii, IsAscii-from_all_ascii}
 use Rattle.ref_uri.proofs.UniqueLemmas.{tested}
 use Rattle.ref_uri.proofs.TargetLemmas.{resolved_path, none_there, or_there, as_given, the_components}
-use Rattle.ref_uri.proofs.ValidTargets.{from_tests}
 use Rattle.ref_uri.proofs.target.resolved.Goals as goal
 
 pub returns-then-is_some-clause-target : goal.returns-then-is_some-clause-target

@@ -1,4 +1,4 @@
-use Rattle.std.proofs.Common.{◌≡◌, sym, ◌∙◌}
+use Rattle.std.proofs.Common.{◌∙◌}
 use Rattle.std.proofs.lemmas.Bool.{false≢true}
 use Rattle.ref_uri.proofs.Meanings.{default_is_reference}
 use Rattle.ref_uri.proofs.uri.default_base.Goals as goal

@@ -1,7 +1,5 @@
-use Rattle.std.proofs.Common.{◌≡◌, Ok, Err, true, false, is_some, refl, ap, sym, subst, ◌∙◌, string_bytes}
+use Rattle.std.proofs.Common.{◌≡◌, Ok, true, false, is_some, refl, ap, sym, ◌∙◌}
 use Rattle.ref_uri.specs.Components.{scheme}
-use Rattle.ref_uri.specs.Errors.{IsFaultOf}
-use Rattle.ref_uri.specs.Lengths.{IsParsed}
 use Rattle.ref_uri.specs.Normal.{normal_form}
 use Rattle.ref_uri.specs.Reference.{is_uri_reference}
 use Rattle.ref_uri.specs.Resolution.{resolved}

@@ -1,4 +1,4 @@
-use Rattle.std.proofs.Common.{◌≡◌, ap, sym, ◌∙◌, ◌&&◌, eqb}
+use Rattle.std.proofs.Common.{ap, sym, ◌∙◌, ◌&&◌, eqb}
 use Rattle.std.specs.List.{ends_with}
 use Rattle.std.proofs.lemmas.Str.Pattern.{ends_text}
 use Rattle.ref_uri.proofs.uri.is_fragment_at_end.Goals as goal

@@ -1,7 +1,5 @@
-use Rattle.std.proofs.Common.{◌≡◌, ◌&&◌, eqb, get_or, Ok, Err, None, true, false, is_some, refl, ap, sym, ◌∙◌, string_bytes}
+use Rattle.std.proofs.Common.{◌≡◌, ◌&&◌, eqb, get_or, Ok, None, true, false, is_some, refl, ap, sym, ◌∙◌}
 use Rattle.std.specs.List.{ends_with}
-use Rattle.ref_uri.specs.Components.{scheme}
-use Rattle.ref_uri.specs.Errors.{IsFaultOf}
 use Rattle.ref_uri.specs.Normal.{normal_form}
 use Rattle.ref_uri.specs.Reference.{is_uri_reference, with_fragment}
 use Rattle.ref_uri.specs.Resolution.{resolved}

@@ -1,7 +1,5 @@
-use Rattle.std.proofs.Common.{◌≡◌, ◌<◌, ◌≤◌, ◌++◌, map, drop, get_or, length, string_bytes, OnOk, ap, sym, ◌∙◌, subst, arith, rules}
-use Rattle.std.proofs.lemmas.Str.{IsAscii-drop}
+use Rattle.std.proofs.Common.{◌++◌, drop, get_or, length, string_bytes, ap, sym, ◌∙◌, arith, rules}
 use Rattle.std.proofs.lemmas.Str.Pattern.{split_parts}
-use Rattle.ref_uri.specs.Characters.{has_whole_triples}
 use Rattle.ref_uri.specs.Normal.{normal_encoded, normal_triple}
 use Rattle.ref_uri.specs.Written.{in_case}
 use Rattle.ref_uri.proofs.NormalLemmas.{behind_percent, normal_turn, normal_plain}

@@ -1,5 +1,5 @@
-use Rattle.std.proofs.Common.{◌≡◌, ℕ, List, [], ◌∷◌, append_assoc, ◌≤◌, ◌+◌, ◌++◌, eqb, length, take, drop, string_bytes, ap, sym, ◌∙◌, arith, rules, lit<}
-use Rattle.std.specs.List.{position_or_len, before_first, after_first}
+use Rattle.std.proofs.Common.{◌≡◌, ℕ, List, [], ◌∷◌, append_assoc, ◌++◌, eqb, take, drop, string_bytes, ap, sym, ◌∙◌, arith, lit<}
+use Rattle.std.specs.List.{before_first, after_first}
 use Rattle.std.proofs.lemmas.Str.Pattern.{split_once_first}
 use Rattle.ref_uri.specs.Authority.{host_len}
 use Rattle.ref_uri.specs.Normal.{normal_text, normal_host, normal_port_part}

@@ -1,5 +1,5 @@
-use Rattle.std.proofs.Common.{◌≡◌, ℕ, List, true, ap, ◌∙◌, subst, sym}
-use Rattle.ref_uri.specs.Components.{Components, components, are_components}
+use Rattle.std.proofs.Common.{◌≡◌, ap, ◌∙◌}
+use Rattle.ref_uri.specs.Components.{components, are_components}
 use Rattle.ref_uri.specs.Target.{components_of}
 use Rattle.ref_uri.proofs.TargetLemmas.{each_same}
 use Rattle.ref_uri.proofs.WrittenUri.{components_hold}

@@ -1,4 +1,4 @@
-use Rattle.std.proofs.Common.{◌++◌, string_bytes, sym, subst}
+use Rattle.std.proofs.Common.{string_bytes, sym, subst}
 use Rattle.std.specs.Str.{IsAscii}
 use Rattle.std.proofs.lemmas.Str.{IsAscii-append}
 use Rattle.std.proofs.lemmas.Result.{on_ok_weaker}
