@@ -145,14 +145,15 @@ impl<K: Eq + Hash + Drop, V: Drop, const N: usize> SmallMap<K, V, N> {
     /// The value at a key, to be written, which is a default where the key was missing.
     ///
     /// What is written through the answer is the key's value afterwards, and the other keys keep theirs. Takes memory as
-    /// `insert` does where the key is missing. Where there is none it is refused, the map is as it was, and the key is
-    /// dropped. At most `N` comparisons for each of a look-up and an insertion while it is small, and one look-up for each
-    /// from then on.
+    /// `insert` does where the key is missing, and else none. Where there is none it is refused, the map is as it was, and
+    /// the key is dropped. While it is small, at most `N` comparisons where the key is there and `2 * N` where it is
+    /// missing; from then on one look-up, and two.
     pub fn get_or_insert_default(&mut self, alloc: Global, key: K) -> Result<&mut V, AllocError>
     where
         V: Default,
         ensures* writes_back { sem 𝓛 (lends_value K.row V.row N.row K.Hash self.entry key result) }
         ensures value { IfOk result (λ value. UnwrapsOrElse (lookup (K.eq key) self.old) V.is_default value.now) }
+        ensures there { IsSome (lookup (K.eq key) self.old) → IsOk result }
     {
         let place = place_or_default(&mut self.form, alloc, key)?;
         Ok(value_at(&mut self.form, place))
@@ -170,6 +171,7 @@ fn place_or_default<K: Eq + Hash + Drop, V: Default + Drop, const N: usize>(
     ensures place { IfOk result (IsAt K.eq key (entries_of form.new)) }
     ensures ok { OnOk result ((value : V) × UnwrapsOrElse (lookup (K.eq key) (entries_of form.old)) V.is_default value × Puts K.eq (entries_of form.old) (entries_of form.new) key value) }
     ensures err { OnErr result (entries_of form.new ≡ entries_of form.old) }
+    ensures there { IsSome (lookup (K.eq key) (entries_of form.old)) → IsOk result }
 {
     match find(form, &key) {
         Some(place) => Ok(place),

@@ -217,14 +217,36 @@ fn a_default_past_the_bound_keeps_the_pairs(rt: HostRuntime) -> Result<(), Fail>
     Ok(())
 }
 
+// Writes at two keys through what the outer map lends.
+fn write_below(
+    map: &mut SmallMap<u32, SmallMap<String, u32, 2>, 2>,
+    alloc: Global,
+    outer: u32,
+    inner: &str,
+    value: u32,
+) -> Result<(), AllocError> {
+    let key = String::from_str(alloc, inner)?;
+    write_text(map.get_or_insert_default(alloc, outer)?, alloc, key, value)
+}
+
+// Writes at a text.
+fn write_text(
+    map: &mut SmallMap<String, u32, 2>,
+    alloc: Global,
+    key: String,
+    value: u32,
+) -> Result<(), AllocError> {
+    *map.get_or_insert_default(alloc, key)? = value;
+    Ok(())
+}
+
 #[test]
 fn a_map_of_maps_grows_by_defaults(rt: HostRuntime) -> Result<(), Fail> {
     let alloc = rt.alloc();
     let mut map: SmallMap<u32, SmallMap<String, u32, 2>, 2> = SmallMap::new();
-    for (outer, inner, value) in [(1, "a", 10u32), (1, "b", 20), (2, "c", 30)] {
-        let under = map.get_or_insert_default(alloc, outer)?;
-        *under.get_or_insert_default(alloc, String::from_str(alloc, inner)?)? = value;
-    }
+    write_below(&mut map, alloc, 1, "a", 10)?;
+    write_below(&mut map, alloc, 1, "b", 20)?;
+    write_below(&mut map, alloc, 2, "c", 30)?;
     let one = map.get(&1).ok_or("no first map")?;
     assert_eq!(rt; value_at(one, "a"), Some(10));
     assert_eq!(rt; value_at(one, "b"), Some(20));

@@ -35,6 +35,7 @@ returns g c =
       ),
       record {
         writes_back = tt;
+        there = λ _. refl;
         value = subst (UnwrapsOrElse (lookup (eq key) c.args.self.now) g.V.Default.is_default) same (subst (λ old. UnwrapsOrElse (lookup (eq key) old) g.V.Default.is_default ok.0) c.self.view_is ok.1);
       },
     )
