@@ -1,10 +1,10 @@
 -- What the loops of `src/escape.rt` keep.
-use Rattle.std.proofs.Common.{◌≡◌, ◌≢◌, ℕ, ◌+◌, ◌<◌, false, cond, eqb, ltb, List, [], ◌∷◌, ◌++◌, length, get_or, take, drop, All, Some, None, ◌⊎◌, inl, inr, ⊎_elim, sym, refl, ap, ◌∙◌, subst, append_assoc, append-nil, arith, length-append}
-use Rattle.std.specs.Prelude.{count_by}
+use Rattle.std.proofs.Common.{◌≡◌, ◌≢◌, ℕ, ◌+◌, ◌<◌, ◌≤◌, Result, Ok, Err, OnOk, OnErr, false, cond, eqb, ltb, List, [], ◌∷◌, ◌++◌, length, get_or, take, drop, All, Option, Some, None, ◌⊎◌, inl, inr, ⊎_elim, sym, refl, ap, ◌∙◌, subst, append_assoc, append-nil, arith, length-append}
+use Rattle.std.specs.Prelude.{is_ok, is_err, true}
 use Rattle.std.specs.List.{position_or_len, before_first, after_first}
-use Rattle.std.proofs.lemmas.Bool.{cond-false, cond_both, ltb-true, ltb-false, or_parts, or_cases, eqb-true}
+use Rattle.std.proofs.lemmas.Bool.{false≢true, cond-false, cond_both, ltb-true, ltb-false, or_parts, or_cases, eqb-true}
 use Rattle.std.proofs.lemmas.Bool.Decides.{nat_tests}
-use Rattle.std.proofs.lemmas.List.Sums.{sum_by-cons, split_at_first, passes_at_first, fails_before_first}
+use Rattle.std.proofs.lemmas.List.Sums.{split_at_first, passes_at_first, fails_before_first}
 use Rattle.std.proofs.lemmas.List.Elements.{All-head, All-tail, All-from_get_or}
 use Rattle.std.proofs.lemmas.List.{length-take, take_all, get_or-take}
 use Rattle.ref_parts.specs.Pointer.{is_escaped, escaped_byte, escape, first_escape, unescape}
@@ -15,11 +15,11 @@ use Rattle.ref_parts.proofs.PointerLaws.{unescape_other, unescape_front}
 length_escaped_byte : (b : ℕ) → length (escaped_byte b) ≡ cond (is_escaped b) 1 0 + 1
 length_escaped_byte b = grind (arith, nat_tests)
 
--- each escaped byte takes one byte more
-pub length_escape : (bs : List ℕ) → length bs + count_by is_escaped bs ≡ length (escape bs)
-length_escape [] = refl
-length_escape (b ∷ bs) =
-    omega (arith, length_escape bs, length_escaped_byte b, length-append (escaped_byte b) (escape bs), sum_by-cons (λ x. cond (is_escaped x) 1 0) b bs)
+-- no byte becomes shorter
+pub length-le-escape : (bs : List ℕ) → length bs ≤ length (escape bs)
+length-le-escape [] = omega arith
+length-le-escape (b ∷ bs) =
+    omega (arith, length-le-escape bs, length_escaped_byte b, length-append (escaped_byte b) (escape bs))
 
 escaped_byte_plain : (b : ℕ) → is_escaped b ≡ false → escaped_byte b ≡ b ∷ []
 escaped_byte_plain b plain =
@@ -65,10 +65,14 @@ cuts_at_first bs within =
     }
 
 -- where `first_escape` finds a byte
-pub CutsAt-first_escape : (bs : List ℕ) (i : ℕ) → first_escape bs ≡ Some i → CutsAt bs i
+CutsAt-first_escape : (bs : List ℕ) (i : ℕ) → first_escape bs ≡ Some i → CutsAt bs i
 CutsAt-first_escape bs i found =
     let parts = first_from_some bs i found in
     subst (CutsAt bs) parts.1 (cuts_at_first bs parts.0)
+
+-- the same, from the call of the function of that name on a text's bytes
+pub CutsAt-found : (rest bytes : List ℕ) (found : Option ℕ) (i : ℕ) → bytes ≡ rest → found ≡ first_escape bytes → found ≡ Some i → CutsAt rest i
+CutsAt-found rest bytes found i same is some = CutsAt-first_escape rest i (ap first_escape (sym same) ∙ sym is ∙ some)
 
 -- where it finds none, nothing is escaped
 pub escape_none : (bs : List ℕ) → first_escape bs ≡ None → escape bs ≡ bs
@@ -80,6 +84,19 @@ escape_none bs =
     let whole = take_all n bs (ltb-false n (length bs) no) in
     let plain = subst (All (λ b. is_escaped b ≡ false)) whole (front_plain bs) in
     ap escape (sym (append-nil bs)) ∙ escape_front bs [] plain ∙ append-nil bs)
+
+-- what a refused push says, and one that is not refused
+pub on_err : {T E P : Type 0} (r : Result T E) → P → OnErr r P
+on_err (Ok x) p = tt
+on_err (Err e) p = p
+
+pub at_err : {T E P : Type 0} (r : Result T E) → is_err r ≡ true → OnErr r P → P
+at_err (Ok x) is p = absurd (false≢true is)
+at_err (Err e) is p = p
+
+pub on_ok_pushed : {T E X : Type 0} (r : Result T E) (new pushed old wanted : X) → new ≡ cond (is_ok r) pushed old → pushed ≡ wanted → OnOk r (new ≡ wanted)
+on_ok_pushed (Ok x) new pushed old wanted is same = is ∙ same
+on_ok_pushed (Err e) new pushed old wanted is same = tt
 
 -- ---- unescaping
 

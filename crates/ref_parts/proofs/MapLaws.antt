@@ -30,7 +30,7 @@ AllHold-append [] more hold and = and
 AllHold-append (None ∷ slots) more hold and = absurd hold
 AllHold-append (Some pair ∷ slots) more hold and = AllHold-append slots more hold and
 
-AllHold-front : {K V : Type 0} (slots more : List (Option (K × V))) → AllHold (slots ++ more) → AllHold slots
+pub AllHold-front : {K V : Type 0} (slots more : List (Option (K × V))) → AllHold (slots ++ more) → AllHold slots
 AllHold-front [] more hold = tt
 AllHold-front (None ∷ slots) more hold = absurd hold
 AllHold-front (Some pair ∷ slots) more hold = AllHold-front slots more hold
@@ -94,7 +94,7 @@ place_turn test slots i slot within is before here =
     ∙ lookup-append_none test (pairs (take i slots)) (pairs (slot ∷ [])) before ∙ here
 
 module _ {K V : Type 0} {eq : K → K → Bool} (laws : IsEquivalence eq) where
-  alike : (key q : K) → eq key q ≡ true → (xs : List (K × V)) → lookup (eq q) xs ≡ lookup (eq key) xs
+  pub alike : (key q : K) → eq key q ≡ true → (xs : List (K × V)) → lookup (eq q) xs ≡ lookup (eq key) xs
   alike key q e xs = lookup_alike (eq q) (eq key) xs (λ x. sym (laws.congr key q x e))
 
   -- a pair at the front is found at its own key

@@ -42,6 +42,16 @@ pub record IsPlaceOf {K V : Type 0} (eq : K → K → Bool) (key : K) (slots : L
   pub first : lookup (eq key) (pairs (take i slots)) ≡ None
   pub here : (old : K × V) × (slots ≡ take i slots ++ (Some old ∷ drop (i + 1) slots)) × (eq key old.0 ≡ true)
 
+-- the first entry whose key is equal stands at this place
+pub record IsAt {K V : Type 0} (eq : K → K → Bool) (key : K) (entries : List (K × V)) (place : ℕ) : Type 0 where
+  pub front : List (K × V)
+  pub pair : K × V
+  pub back : List (K × V)
+  pub cut : entries ≡ front ++ pair ∷ back
+  pub after : length front ≡ place
+  pub first : lookup (eq key) front ≡ None
+  pub here : eq key pair.0 ≡ true
+
 -- the hashed map has the pairs of the slots, and room for one more
 pub record IsHashed {K V : Type 0} (eq : K → K → Bool) (slots : List (Option (K × V))) (entries : List (K × V)) (spare : ℕ) : Type 0 where
   pub found : (q : K) → lookup (eq q) entries ≡ lookup (eq q) (pairs slots)

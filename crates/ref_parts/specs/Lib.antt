@@ -1,6 +1,7 @@
 pub mod Encoded
 pub mod FiniteMap
 pub mod Items
+pub mod Lent
 pub mod Link
 pub mod Path
 pub mod Pointer

@@ -1,5 +1,5 @@
 //! Keys and indexes as the reference tokens of pointer text (RFC 6901, sections 3 and 4), and tokens as keys.
-ghost use Rattle.std.specs.Prelude.{◌≡◌, ◌≢◌, ◌+◌, ◌<◌, ◌≤◌, ◌∷◌, ◌++◌, length, decimal, string_bytes, string_len, string_capacity, All, OnOk, OnErr, IfOk, IsOkAnd, IsUtf8};
+ghost use Rattle.std.specs.Prelude.{◌≡◌, ◌≢◌, ◌+◌, ◌<◌, ◌≤◌, ◌∷◌, ◌++◌, length, take, decimal, string_bytes, string_len, string_capacity, All, OnOk, OnErr, IfOk, IsOkAnd, IsUtf8};
 ghost use Rattle.std.specs.Cow.{cow_str_bytes};
 ghost use Rattle.percent_encoding.specs.Cow.{IsBorrowedStr};
 ghost use Rattle.ref_parts.specs.Pointer.{escape, unescape, first_escape as escape_position, is_escaped, tilde};
@@ -30,61 +30,42 @@ pub fn write_index(buffer: &mut String, idx: usize) -> Result<(), AllocError>
 
 /// Appends a key as a reference token: `~` becomes `~0`, and `/` becomes `~1` (RFC 6901, section 3).
 ///
-/// Refused where there is no memory for it, and then the buffer is as it was. The buffer grows at most once, and the
-/// runs between escapes are copied whole.
+/// Refused where there is no memory for it, and then the buffer's text is as it was. One pass: the runs between escapes
+/// are copied whole. Room for the key is reserved once, and the buffer grows a second time at most, where the escapes
+/// don't fit.
 pub fn write_escaped_str(buffer: &mut String, value: &str) -> Result<(), AllocError>
     ensures ok { OnOk result (string_bytes buffer.new ≡ string_bytes buffer.old ++ escape value.now) }
     ensures err { OnErr result (string_bytes buffer.new ≡ string_bytes buffer.old) }
     ensures full { OnErr result (string_capacity buffer.old < string_len buffer.old + length (escape value.now)) }
 {
-    buffer.reserve(escaped_len(value.as_bytes()))?;
-    push_escaped(buffer, value);
-    Ok(())
+    let len = buffer.len();
+    let pushed = push_escaped(buffer, value);
+    if pushed.is_err() {
+        buffer.truncate(len);
+    }
+    pushed
 }
 
-// How long the bytes are once they are escaped.
-#[tactic(auto, using(crate::proofs::EscapeLaws::length_escape))]
-fn escaped_len(bytes: &[u8]) -> usize
-    ensures { result ≡ length (escape bytes.now) }
+// Appends the escaped text, or a front of it where there is no memory for the whole.
+fn push_escaped(buffer: &mut String, value: &str) -> Result<(), AllocError>
+    ensures ok { OnOk result (string_bytes buffer.new ≡ string_bytes buffer.old ++ escape value.now) }
+    ensures err { OnErr result (take (string_len buffer.old) (string_bytes buffer.new) ≡ string_bytes buffer.old) }
+    ensures full { OnErr result (string_capacity buffer.old < string_len buffer.old + length (escape value.now)) }
 {
-    bytes.len()
-        + bytes
-            .iter()
-            .filter(|byte| **byte == b'~' || **byte == b'/')
-            .count()
-}
-
-// Appends the escaped text, for which the buffer has room.
-fn push_escaped(buffer: &mut String, value: &str)
-    requires { string_len buffer.old + length (escape value.now) ≤ string_capacity buffer.old }
-    ensures { string_bytes buffer.new ≡ string_bytes buffer.old ++ escape value.now }
-{
+    buffer.reserve(value.len())?;
     let mut rest = value;
     'runs: while let Some(index) = first_escape(rest.as_bytes()) {
-        let (run, escaped) = rest.split_at(index);
-        push_within(buffer, run);
+        let (run, _) = rest.split_at(index);
+        buffer.push_str(run)?;
         let token = if rest.as_bytes()[index] == b'~' {
             "~0"
         } else {
             "~1"
         };
-        push_within(buffer, token);
+        buffer.push_str(token)?;
         rest = &rest[index + 1..];
     }
-    push_within(buffer, rest);
-}
-
-// Appends a text for which the buffer has room.
-fn push_within(buffer: &mut String, text: &str)
-    requires { string_len buffer.old + length text.now ≤ string_capacity buffer.old }
-    ensures bytes { string_bytes buffer.new ≡ string_bytes buffer.old ++ text.now }
-    ensures len { string_len buffer.new ≡ string_len buffer.old + length text.now }
-    ensures capacity { string_capacity buffer.old ≤ string_capacity buffer.new }
-{
-    match buffer.push_str(text) {
-        Ok(()) => (),
-        Err(_) => unreachable!(),
-    }
+    buffer.push_str(rest)
 }
 
 /// A reference token as a key: first every `~1` becomes `/`, then every `~0` becomes `~` (RFC 6901, section 4).

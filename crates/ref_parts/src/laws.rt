@@ -5,7 +5,9 @@ ghost use Rattle.ref_parts.specs.Encoded.{encoded};
 ghost use Rattle.serde_json.specs.Data.{Data};
 ghost use Rattle.ref_parts.specs.Path.{Part, value_at, HasFittingIndexes};
 ghost use Rattle.ref_parts.specs.Pointer.{escape, unescape, pointer_text, evaluate, parse_index};
-ghost use Rattle.ref_parts.specs.Rows.{PointerRows};
+ghost use Rattle.ref_parts.specs.Rows.{PointerRows, TokenRows, ExampleRows, FragmentRows};
+ghost use Rattle.ref_parts.specs.Rows.Maps.{MapRows};
+ghost use Rattle.ref_parts.specs.Rows.Paths.{PathRows, LinkRows};
 
 /// Unescaping an escaped key gives the key back.
 pub fn unescape_undoes_escape()
@@ -33,4 +35,30 @@ pub fn encoded_rows()
     ensures letters_of_two_bytes { encoded (195 ∷ 169 ∷ 37 ∷ []) ≡ codes "%C3%A9%25" }
     ensures space { encoded (codes "~ ?") ≡ codes "~%20?" }
     ensures slash { encoded (codes "/a~1b%") ≡ codes "/a~1b%25" }
+{}
+
+/// The worked rows of the bytes, tokens and texts that pointer text is made of (RFC 6901, sections 3 and 4).
+pub fn token_rows()
+    ensures { TokenRows }
+{}
+
+/// The pointers of RFC 6901's example (section 5), and steps that lead nowhere.
+pub fn example_rows()
+    ensures { ExampleRows }
+{}
+
+/// That example's pointers as a fragment holds them (RFC 6901, section 6), and the bytes of a fragment (RFC 3986, 3.5).
+pub fn fragment_rows()
+    ensures { FragmentRows }
+{}
+
+/// The worked rows of paths.
+pub fn path_rows()
+    ensures paths { PathRows }
+    ensures links { LinkRows }
+{}
+
+/// The worked rows of small maps.
+pub fn map_rows()
+    ensures { MapRows }
 {}

@@ -1,14 +1,18 @@
 //! A map that holds its first pairs inline.
-ghost use Rattle.std.specs.Prelude.{◌≡◌, Bool, ◌+◌, ◌<◌, ◌≤◌, ◌↔◌, Some, None, slice_set, IsTrue, IsOk, IfOk, OnOk, OnErr, MatchOption, [], length, option_copied};
+ghost use Rattle.std.specs.Prelude.{◌≡◌, Bool, ◌+◌, ◌<◌, ◌≤◌, ◌↔◌, Some, None, slice_set, IsTrue, IsOk, IfOk, OnOk, OnErr, MatchOption, [], length, option_copied, option_map, slice_get, slice_index_or, IsSome};
+ghost use Rattle.std.specs.Borrow.{sem};
 ghost use Rattle.std.specs.HashMap.{spare};
 ghost use Rattle.std.specs.Map.{lookup};
-ghost use Rattle.ref_parts.specs.FiniteMap.{pairs, Puts, EachOnce, IsPlaceOf, IsHashed, entries_of, IsFormOf};
+ghost use Rattle.indexmap.specs.Lends.{lends_index};
+ghost use Rattle.ref_parts.specs.Lent.{lends_pair, lends_slot, lends_place};
+ghost use Rattle.std.specs.Option.{UnwrapsOrElse};
+ghost use Rattle.ref_parts.specs.FiniteMap.{pairs, Puts, EachOnce, IsPlaceOf, IsAt, IsHashed, entries_of, IsFormOf};
 
 use arrayvec::ArrayVec;
-use std::alloc::{AllocError, Global};
-use std::collections::HashMap;
+use indexmap::IndexMap;
+use std::alloc::{AllocError, Allocator, Global};
 use std::fmt;
-use std::hash::Hash;
+use std::hash::{BuildHasher, Hash};
 use std::marker::Model;
 
 /// What a map is looked up by: a reference to a key, or text where the keys are texts.
@@ -23,7 +27,7 @@ pub trait BorrowedKey<K: Eq + Hash>: Copy {
         ensures { result ≡ is_for self.now key.now };
 
     /// The value in a hashed map at the key that it stands for: one look-up.
-    fn find_in<'m, V>(&self, map: &'m HashMap<K, V>) -> Option<&'m V>
+    fn find_in<'m, V>(&self, map: &'m IndexMap<K, V>) -> Option<&'m V>
         ensures { option_copied result ≡ lookup (is_for self.now) map.now.entries };
 }
 
@@ -34,7 +38,7 @@ impl<K: Eq + Hash> BorrowedKey<K> for &K {
         (*self).eq(key)
     }
 
-    fn find_in<'m, V>(&self, map: &'m HashMap<K, V>) -> Option<&'m V> {
+    fn find_in<'m, V>(&self, map: &'m IndexMap<K, V>) -> Option<&'m V> {
         map.get(*self)
     }
 }
@@ -48,7 +52,7 @@ impl BorrowedKey<String> for &str {
         *self == key.as_str()
     }
 
-    fn find_in<'m, V>(&self, map: &'m HashMap<String, V>) -> Option<&'m V> {
+    fn find_in<'m, V>(&self, map: &'m IndexMap<String, V>) -> Option<&'m V> {
         map.get(*self)
     }
 }
@@ -56,7 +60,7 @@ impl BorrowedKey<String> for &str {
 #[derive(Drop)]
 enum Form<K: Eq + Hash, V, const N: usize> {
     Small(ArrayVec<Option<(K, V)>, N>),
-    Large(HashMap<K, V>),
+    Large(IndexMap<K, V>),
 }
 
 /// A map from keys to values that is inline up to `N` keys, and hashed from `N` + 1 on.
@@ -124,6 +128,8 @@ fn value_in<K: Eq + Hash, V, Q: BorrowedKey<K>>(slots: &[Option<(K, V)>], key: Q
 }
 
 impl<K: Eq + Hash + Drop, V: Drop, const N: usize> SmallMap<K, V, N> {
+    ghost use Rattle.ref_parts.specs.Lent.{lends_value};
+
     /// Puts a value at a key, in the place of the one that is there.
     ///
     /// Takes memory when it grows past `N` keys and as the hashed map grows. Where there is none it is refused, the map is
@@ -132,7 +138,55 @@ impl<K: Eq + Hash + Drop, V: Drop, const N: usize> SmallMap<K, V, N> {
         ensures ok { OnOk result (Puts K.eq self.old self.new key value) }
         ensures err { OnErr result (self.new ≡ self.old) }
     {
-        put(&mut self.form, alloc, key, value)
+        put(&mut self.form, alloc, key, value)?;
+        Ok(())
+    }
+
+    /// The value at a key, to be written, which is a default where the key was missing.
+    ///
+    /// What is written through the answer is the key's value afterwards, and the other keys keep theirs. Takes memory as
+    /// `insert` does where the key is missing, and else none. Where there is none it is refused, the map is as it was, and
+    /// the key is dropped. While it is small, at most `N` comparisons where the key is there and `2 * N` where it is
+    /// missing; from then on one look-up, and two.
+    pub fn get_or_insert_default(&mut self, alloc: Global, key: K) -> Result<&mut V, AllocError>
+    where
+        V: Default,
+        ensures* writes_back { sem 𝓛 (lends_value K.row V.row N.row K.Hash self.entry key result) }
+        ensures value { IfOk result (λ value. UnwrapsOrElse (lookup (K.eq key) self.old) V.is_default value.now) }
+        ensures there { IsSome (lookup (K.eq key) self.old) → IsOk result }
+    {
+        let place = place_or_default(&mut self.form, alloc, key)?;
+        Ok(value_at(&mut self.form, place))
+    }
+}
+
+// The place of a key's pair, which is put there with a default where it was missing.
+fn place_or_default<K: Eq + Hash + Drop, V: Default + Drop, const N: usize>(
+    form: &mut Form<K, V, N>,
+    alloc: Global,
+    key: K,
+) -> Result<usize, AllocError>
+    requires { IsFormOf K.eq N form.old }
+    ensures kept { IsFormOf K.eq N form.new }
+    ensures place { IfOk result (IsAt K.eq key (entries_of form.new)) }
+    ensures ok { OnOk result ((value : V) × UnwrapsOrElse (lookup (K.eq key) (entries_of form.old)) V.is_default value × Puts K.eq (entries_of form.old) (entries_of form.new) key value) }
+    ensures err { OnErr result (entries_of form.new ≡ entries_of form.old) }
+    ensures there { IsSome (lookup (K.eq key) (entries_of form.old)) → IsOk result }
+{
+    match find(form, &key) {
+        Some(place) => Ok(place),
+        None => put(form, alloc, key, V::default()),
+    }
+}
+
+// The place of the pair whose key is equal.
+fn find<K: Eq + Hash, V, const N: usize>(form: &Form<K, V, N>, key: &K) -> Option<usize>
+    requires { IsFormOf K.eq N form.now }
+    ensures { MatchOption result (lookup (K.eq key.now) (entries_of form.now) ≡ None) (IsAt K.eq key.now (entries_of form.now)) }
+{
+    match form {
+        Form::Small(slots) => place_of(slots.as_slice(), key),
+        Form::Large(map) => map.get_index_of(key),
     }
 }
 
@@ -195,19 +249,20 @@ fn copied<K: Eq + Hash + Clone + Drop, V: Clone + Drop, const N: usize>(
     }
 }
 
-// Puts a value at a key of a hashed map.
+// Puts a value at a key of a hashed map, and answers its place.
 fn put_hashed<K: Eq + Hash + Drop, V: Drop>(
-    map: &mut HashMap<K, V>,
+    map: &mut IndexMap<K, V>,
     key: K,
     value: V,
-) -> Result<(), AllocError>
+) -> Result<usize, AllocError>
+    ensures place { IfOk result (IsAt K.eq key map.new.entries) }
     ensures ok { OnOk result (Puts K.eq map.old.entries map.new.entries key value) }
     ensures err { OnErr result (map.new.entries ≡ map.old.entries) }
     ensures room { 0 < spare map.old → IsOk result }
     ensures uses { spare map.old ≤ spare map.new + 1 }
 {
-    match map.insert(key, value) {
-        Ok(_) => Ok(()),
+    match map.insert_full(key, value) {
+        Ok((place, _)) => Ok(place),
         Err(_) => Err(AllocError),
     }
 }
@@ -217,17 +272,17 @@ fn put_hashed<K: Eq + Hash + Drop, V: Drop>(
 fn hashed<K: Eq + Hash + Drop, V: Drop, const N: usize>(
     alloc: Global,
     slots: &mut ArrayVec<Option<(K, V)>, N>,
-) -> Result<HashMap<K, V>, AllocError>
+) -> Result<IndexMap<K, V>, AllocError>
     requires { EachOnce K.eq (pairs slots.old.items) }
     ensures ok { IfOk result (λ map. IsHashed K.eq slots.old.items map.entries (spare map)) }
     ensures err { OnErr result (slots.new.items ≡ slots.old.items) }
 {
     let room = slots.len().checked_add(1).ok_or(AllocError)?;
-    let mut map = HashMap::with_capacity(alloc, room)?;
+    let mut map = IndexMap::with_capacity(alloc, room)?;
     while let Some(slot) = slots.pop() {
         if let Some((key, value)) = slot {
             match put_hashed(&mut map, key, value) {
-                Ok(()) => (),
+                Ok(_) => (),
                 Err(_) => unreachable!(),
             }
         }
@@ -235,15 +290,16 @@ fn hashed<K: Eq + Hash + Drop, V: Drop, const N: usize>(
     Ok(map)
 }
 
-// Puts a value at a key of either form, which grows to the other where it has to.
+// Puts a value at a key of either form, which grows to the other where it has to, and answers its place.
 fn put<K: Eq + Hash + Drop, V: Drop, const N: usize>(
     form: &mut Form<K, V, N>,
     alloc: Global,
     key: K,
     value: V,
-) -> Result<(), AllocError>
+) -> Result<usize, AllocError>
     requires { IsFormOf K.eq N form.old }
     ensures kept { IsFormOf K.eq N form.new }
+    ensures place { IfOk result (IsAt K.eq key (entries_of form.new)) }
     ensures ok { OnOk result (Puts K.eq (entries_of form.old) (entries_of form.new) key value) }
     ensures err { OnErr result (entries_of form.new ≡ entries_of form.old) }
 {
@@ -253,19 +309,20 @@ fn put<K: Eq + Hash + Drop, V: Drop, const N: usize>(
     };
     if let Some(place) = place_of(slots.as_slice(), &key) {
         set_slot(slots, place, (key, value));
-        return Ok(());
+        return Ok(place);
     }
     if slots.len() < N {
+        let place = slots.len();
         slots.push(Some((key, value)));
-        return Ok(());
+        return Ok(place);
     }
     let mut map = hashed(alloc, slots)?;
-    match put_hashed(&mut map, key, value) {
-        Ok(()) => (),
+    let place = match put_hashed(&mut map, key, value) {
+        Ok(place) => place,
         Err(_) => unreachable!(),
-    }
+    };
     *form = Form::Large(map);
-    Ok(())
+    Ok(place)
 }
 
 // Puts a pair into a slot.
@@ -292,4 +349,57 @@ fn place_of<K: Eq + Hash, V>(slots: &[Option<(K, V)>], key: &K) -> Option<usize>
         }
     }
     None
+}
+
+// The value of the pair at a place of either form.
+fn value_at<K: Eq + Hash, V, const N: usize>(form: &mut Form<K, V, N>, place: usize) -> &mut V
+    requires form { IsFormOf K.eq N form.old }
+    requires within { place < length (entries_of form.old) }
+    ensures* writes_back { sem 𝓛 (lends_place K.row V.row N.row K.Hash form.entry place result) }
+    ensures value { option_map (λ e. e.1) (slice_get (entries_of form.old) place) ≡ Some result.now }
+{
+    match form {
+        Form::Small(slots) => slot_value(slots, place),
+        Form::Large(map) => hashed_value(map, place),
+    }
+}
+
+// The value of the pair in a slot.
+fn slot_value<K, V, const N: usize>(slots: &mut ArrayVec<Option<(K, V)>, N>, place: usize) -> &mut V
+    requires within { place < length slots.old.items }
+    requires holds { IsSome (slice_index_or slots.old.items place None) }
+    ensures* writes_back { sem 𝓛 (lends_slot K.row V.row N.row slots.entry place result) }
+    ensures value { option_map (λ pair. pair.1) (slice_index_or slots.old.items place None) ≡ Some result.now }
+{
+    match slots.get_mut(place) {
+        Some(slot) => pair_value(slot),
+        None => unreachable!(),
+    }
+}
+
+// The value of a pair that is there.
+fn pair_value<K, V>(slot: &mut Option<(K, V)>) -> &mut V
+    requires { IsSome slot.old }
+    ensures* writes_back { sem 𝓛 (lends_pair K.row V.row slot.entry result) }
+    ensures value { option_map (λ pair. pair.1) slot.old ≡ Some result.now }
+{
+    match slot {
+        Some(pair) => &mut pair.1,
+        None => unreachable!(),
+    }
+}
+
+// The value at a place of a hashed map.
+fn hashed_value<K: Eq + Hash, V, S: BuildHasher, A: Allocator>(
+    map: &mut IndexMap<K, V, S, A>,
+    place: usize,
+) -> &mut V
+    requires { place < length map.old.entries }
+    ensures* writes_back { sem 𝓛 (lends_index K.row V.row S.row A.row S.Hasher.row K.Hash S.BuildHasher S.Hasher.Hasher A.Allocator map.entry place result) }
+    ensures value { option_map (λ e. e.1) (slice_get map.old.entries place) ≡ Some result.now }
+{
+    match map.get_index_mut(place) {
+        Some(value) => value,
+        None => unreachable!(),
+    }
 }

@@ -1,4 +1,6 @@
 //! The shared list and the small map.
+ghost use Rattle.std.specs.Prelude.{◌≡◌, ℕ, false, Some, OnOk, OnErr, nat_eq};
+ghost use Rattle.std.specs.Map.{lookup};
 
 use crate::list::List;
 use crate::small_map::{BorrowedKey, SmallMap};
@@ -154,6 +156,97 @@ fn a_map_holds_maps(rt: HostRuntime) -> Result<(), Fail> {
     let mut map: SmallMap<u32, SmallMap<String, u32, 2>, 2> = SmallMap::new();
     map.insert(alloc, 1, one)?;
     map.insert(alloc, 2, two)?;
+    let one = map.get(&1).ok_or("no first map")?;
+    assert_eq!(rt; value_at(one, "a"), Some(10));
+    assert_eq!(rt; value_at(one, "b"), Some(20));
+    let two = map.get(&2).ok_or("no second map")?;
+    assert_eq!(rt; value_at(two, "c"), Some(30));
+    Ok(())
+}
+
+// Writes at a key through what `get_or_insert_default` lends.
+fn write_at(
+    map: &mut SmallMap<u32, u32, 2>,
+    alloc: Global,
+    key: u32,
+    value: u32,
+) -> Result<(), AllocError>
+    ensures written { OnOk result (lookup (nat_eq key) map.new ≡ Some value) }
+    ensures kept { OnOk result ((other : ℕ) → nat_eq key other ≡ false → lookup (nat_eq other) map.new ≡ lookup (nat_eq other) map.old) }
+    ensures err { OnErr result (map.new ≡ map.old) }
+{
+    *map.get_or_insert_default(alloc, key)? = value;
+    Ok(())
+}
+
+#[test]
+fn a_key_that_is_there_keeps_its_value(rt: HostRuntime) -> Result<(), Fail> {
+    let alloc = rt.alloc();
+    let mut map: SmallMap<String, u32, 2> = SmallMap::new();
+    map.insert(alloc, String::from_str(alloc, "key")?, 42)?;
+    let value = map.get_or_insert_default(alloc, String::from_str(alloc, "key")?)?;
+    assert_eq!(rt; *value, 42);
+    let value = map.get_or_insert_default(alloc, String::from_str(alloc, "missing")?)?;
+    assert_eq!(rt; *value, 0);
+    *value = 7;
+    assert_eq!(rt; value_at(&map, "missing"), Some(7));
+    assert_eq!(rt; value_at(&map, "key"), Some(42));
+    Ok(())
+}
+
+#[test]
+fn a_default_past_the_bound_keeps_the_pairs(rt: HostRuntime) -> Result<(), Fail> {
+    let alloc = rt.alloc();
+    let mut map: SmallMap<u32, u32, 2> = SmallMap::new();
+    write_at(&mut map, alloc, 1, 10)?;
+    write_at(&mut map, alloc, 2, 20)?;
+    assert!(rt; map.is_small());
+    assert_eq!(rt; *map.get_or_insert_default(alloc, 3)?, 0);
+    assert!(rt; !map.is_small());
+    write_at(&mut map, alloc, 4, 40)?;
+    write_at(&mut map, alloc, 2, 21)?;
+    for (key, value) in [
+        (1, Some(10)),
+        (2, Some(21)),
+        (3, Some(0)),
+        (4, Some(40)),
+        (5, None),
+    ] {
+        assert_eq!(rt; map.get(&key).copied(), value, "at {key}");
+    }
+    Ok(())
+}
+
+// Writes at two keys through what the outer map lends.
+fn write_below(
+    map: &mut SmallMap<u32, SmallMap<String, u32, 2>, 2>,
+    alloc: Global,
+    outer: u32,
+    inner: &str,
+    value: u32,
+) -> Result<(), AllocError> {
+    let key = String::from_str(alloc, inner)?;
+    write_text(map.get_or_insert_default(alloc, outer)?, alloc, key, value)
+}
+
+// Writes at a text.
+fn write_text(
+    map: &mut SmallMap<String, u32, 2>,
+    alloc: Global,
+    key: String,
+    value: u32,
+) -> Result<(), AllocError> {
+    *map.get_or_insert_default(alloc, key)? = value;
+    Ok(())
+}
+
+#[test]
+fn a_map_of_maps_grows_by_defaults(rt: HostRuntime) -> Result<(), Fail> {
+    let alloc = rt.alloc();
+    let mut map: SmallMap<u32, SmallMap<String, u32, 2>, 2> = SmallMap::new();
+    write_below(&mut map, alloc, 1, "a", 10)?;
+    write_below(&mut map, alloc, 1, "b", 20)?;
+    write_below(&mut map, alloc, 2, "c", 30)?;
     let one = map.get(&1).ok_or("no first map")?;
     assert_eq!(rt; value_at(one, "a"), Some(10));
     assert_eq!(rt; value_at(one, "b"), Some(20));

@@ -1,7 +1,8 @@
 use Rattle.std.proofs.Common.{◌+◌, [], ◌∷◌, ◌++◌, cond, length, take, drop, Some, is_some, sym, ap, ◌∙◌, subst, arith, length-set}
 use Rattle.std.specs.Map.{lookup}
 use Rattle.ref_parts.specs.FiniteMap.{Puts, pairs, AllHold, EachOnce, IsPlaceOf, entries_of}
-use Rattle.ref_parts.proofs.MapLaws.{length-pairs, AllHold-append, AllHold-at, set_read, Puts-over, Puts-slot_push, Puts-slot_at, EachOnce-slot_push, EachOnce-slot_at}
+use Rattle.ref_parts.proofs.MapLaws.{pairs-append, length-pairs, AllHold-append, AllHold-at, set_read, Puts-over, Puts-slot_push, Puts-slot_at, EachOnce-slot_push, EachOnce-slot_at}
+use Rattle.ref_parts.proofs.LentLaws.{IsAt_set, IsAt_moved, IsAt_last}
 use Rattle.ref_parts.proofs.small_map.put.Goals as goal
 
 pub returns-in-Some-clause-kept : goal.returns-in-Some-clause-kept
@@ -66,3 +67,20 @@ returns-clause-ok g c =
     let moved = c.in_ok-map.ensures.ok in
     subst (λ was. Puts eq was c.put_hashed-2.new.map.entries c.args.key c.args.value) (sym (ap entries_of c.in-Small.is))
     (Puts-over g.met.K.Eq.laws (pairs c.in-Small.slots.items) c.in_ok-map.map.entries c.put_hashed-2.new.map.entries c.args.key c.args.value moved.found moved.count c.in-Ok.ensures.ok)
+
+pub returns-in-Some-clause-place : goal.returns-in-Some-clause-place
+returns-in-Some-clause-place g c =
+    let eq = g.K.PartialEq.eq in
+    let slots = c.in-Small.slots.items in
+    let form = rw c.in-Small.is at c.requires in
+    let place = subst (λ s. IsPlaceOf eq c.args.key s c.in-Some.place) c.as_slice.ensures.value c.in-Some.ensures in
+    IsAt_set eq c.args.key c.args.value slots c.set_slot.new.slots.items c.in-Some.place (g.met.K.Eq.laws.refl c.args.key) form.0 place c.set_slot.ensures
+
+pub returns-then-len-clause-place : goal.returns-then-len-clause-place
+returns-then-len-clause-place g c =
+    let eq = g.K.PartialEq.eq in
+    let slots = c.in-Small.slots.items in
+    let form = rw c.in-Small.is at c.requires in
+    let none = ap (λ s. lookup (eq c.args.key) (pairs s)) (sym c.as_slice.ensures.value) ∙ c.in_default.ensures in
+    IsAt_moved eq c.args.key _ _ _ _ (ap pairs c.push.ensures.items ∙ pairs-append slots (Some (c.args.key, c.args.value) ∷ [])) (c.len-place.ensures.value ∙ sym (length-pairs slots form.0))
+    (IsAt_last eq c.args.key c.args.value (pairs slots) (g.met.K.Eq.laws.refl c.args.key) none)

@@ -1,0 +1,50 @@
+-- Worked rows of paths: what the definitions answer at literals.
+use Rattle.std.specs.Prelude.{◌≡◌, ℕ, true, false, [], ◌∷◌, ◌++◌, codes, Some, None}
+use Rattle.std.specs.declared.rc.Rc.{Rc}
+use Rattle.serde_json.specs.Data.{string}
+use Rattle.ref_parts.specs.Path.{Key, Index, child_at, value_at, HasFittingIndexes, last_of, last_part, all_but_last, parent_path, part_eq, path_eq}
+use Rattle.ref_parts.specs.Items.{items_of}
+use Rattle.ref_parts.specs.Link.{path_of}
+use Rattle.ref_parts.specs.Segment.{part_of}
+use Rattle.ref_parts.specs.Rows.{example, foo}
+use Rattle.ref_parts.specs.declared.list.Node.{Node}
+use Rattle.ref_parts.specs.declared.path.Link.{Link}
+use Rattle.ref_parts.specs.declared.path.JsonPointerSegment.TheVariants as segment
+
+pub record PathRows : Type 0 where
+  pub child_by_key : child_at example (Key (codes "foo")) ≡ Some foo
+  pub child_by_index : child_at foo (Index 1) ≡ Some (string (codes "baz"))
+  pub no_child_by_digits : child_at foo (Key (codes "1")) ≡ None
+  pub no_child_by_index : child_at example (Index 0) ≡ None
+  pub at_root : value_at example [] ≡ Some example
+  pub at_item : value_at example (Key (codes "foo") ∷ Index 0 ∷ []) ≡ Some (string (codes "bar"))
+  pub past_the_end : value_at example (Key (codes "foo") ∷ Index 2 ∷ []) ≡ None
+  pub greatest_fits : HasFittingIndexes (Key [] ∷ Index 18446744073709551615 ∷ [])
+  pub next_does_not : HasFittingIndexes (Key [] ∷ Index 18446744073709551616 ∷ []) → ⊥
+  pub last_alone : last_of (Key (codes "a")) [] ≡ Key (codes "a")
+  pub last_behind : last_of (Key (codes "a")) (Key (codes "b") ∷ Index 2 ∷ []) ≡ Index 2
+  pub last_of_root : last_part [] ≡ Index 0
+  pub last_of_two : last_part (Index 2 ∷ Key (codes "a") ∷ []) ≡ Key (codes "a")
+  pub none_before : all_but_last (Key (codes "a")) [] ≡ []
+  pub two_before : all_but_last (Key (codes "a")) (Key (codes "b") ∷ Index 2 ∷ []) ≡ Key (codes "a") ∷ Key (codes "b") ∷ []
+  pub parent_of_root : parent_path [] ≡ None
+  pub parent_of_one : parent_path (Key (codes "a") ∷ []) ≡ Some []
+  pub parent_of_two : parent_path (Key (codes "a") ∷ Index 2 ∷ []) ≡ Some (Key (codes "a") ∷ [])
+  pub equal_keys : part_eq (Key (codes "a")) (Key (codes "a")) ≡ true
+  pub other_keys : part_eq (Key (codes "a")) (Key (codes "ab")) ≡ false
+  pub equal_indexes : part_eq (Index 1) (Index 1) ≡ true
+  pub other_indexes : part_eq (Index 1) (Index 2) ≡ false
+  pub key_of_digits : part_eq (Key (codes "0")) (Index 0) ≡ false
+  pub index_and_key : part_eq (Index 0) (Key (codes "0")) ≡ false
+  pub equal_paths : path_eq (Key (codes "a") ∷ Index 1 ∷ []) (Key (codes "a") ∷ Index 1 ∷ []) ≡ true
+  pub shorter_path : path_eq (Key (codes "a") ∷ Index 1 ∷ []) (Key (codes "a") ∷ []) ≡ false
+  pub other_path : path_eq (Index 1 ∷ Index 2 ∷ []) (Index 2 ∷ Index 1 ∷ []) ≡ false
+  pub first_segment : part_of (segment.Index 0) ≡ Index 0
+  pub index_segment : part_of (segment.Index 3) ≡ Index 3
+
+-- what a chain of links is seen as, from its last link on, and a shared list from its first node on
+pub record LinkRows : Type 0 where
+  pub no_link : path_of {A = ℕ} None ≡ []
+  pub last_link : (link : Rc Link ℕ) → path_of (Some link) ≡ link.value.parent ++ part_of link.value.segment ∷ []
+  pub no_item : items_of {T = ℕ} {A = ℕ} None ≡ []
+  pub first_item : (node : Rc (Node ℕ) ℕ) → items_of (Some node) ≡ node.value.value.value ∷ node.value.next
