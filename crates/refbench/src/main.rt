@@ -1,0 +1,72 @@
+//! Workloads by which the cost of this project's calls is measured: reads lines `CALL TEXT SIZE TIMES`, and prints for each
+//! how long the texts are that the calls answered, together. It prints the same on every run; `docs/DEVELOPING.md` says how
+//! it is run under `valgrind --tool=callgrind`, and what it showed.
+#![tactic(auto)]
+
+use anyhow::Context;
+use ref_uri::{UriRef, uri};
+use std::alloc::{AllocError, Global};
+
+/// A text of at least this many bytes, of pieces of its kind.
+fn text_of(alloc: Global, kind: &str, size: usize) -> Result<String, AllocError> {
+    let piece = match kind {
+        "names" => "/definitions",
+        "dots" => "/../a",
+        "triples" => "/%7euser%2F",
+        "root" => "/",
+        _ => "../g;x=1?y#s",
+    };
+    let mut text = String::new(alloc);
+    for _ in 0..size {
+        if text.len() >= size {
+            break;
+        }
+        text.push_str(piece)?;
+    }
+    Ok(text)
+}
+
+/// How long the text is that a call answers; nothing where it answers none.
+fn length_of(alloc: Global, call: &str, base: &str, text: &str) -> Option<usize> {
+    let base = UriRef::parse(base).ok()?;
+    match call {
+        "parse" => Some(UriRef::parse(text).ok()?.as_str().len()),
+        "normalize" => Some(UriRef::parse(text).ok()?.normalize(alloc).ok()?.len()),
+        "resolve" => {
+            let uri = UriRef::parse(text).ok()?.resolve_against(alloc, base).ok()?;
+            Some(uri.as_str().len())
+        }
+        "from_str" => Some(uri::from_str(alloc, text).ok()?.as_str().len()),
+        _ => Some(uri::resolve_against(alloc, base, text).ok()?.as_str().len()),
+    }
+}
+
+/// How long the answers are together, where a call is made so many times.
+fn measured(alloc: Global, call: &str, text: &str, times: u32) -> u64 {
+    let mut sum: u64 = 0;
+    for _ in 0..times {
+        let length = length_of(alloc, call, "http://a/b/c/d;p?q", text);
+        sum = sum.saturating_add(length.unwrap_or(0) as u64);
+    }
+    sum
+}
+
+/// What a line's workload answers.
+fn answer(alloc: Global, line: &str) -> anyhow::Result<u64> {
+    let mut words = line.split_whitespace();
+    let call = words.next().context("a call")?;
+    let kind = words.next().context("a kind of text")?;
+    let size: usize = words.next().context("a size")?.parse()?;
+    let times: u32 = words.next().context("how many times")?.parse()?;
+    let text = text_of(alloc, kind, size)?;
+    Ok(measured(alloc, call, text.as_str(), times))
+}
+
+fn main(rt: HostRuntime) -> anyhow::Result<()> {
+    for line in rt.lines(rt.alloc()) {
+        let line = line?;
+        let sum = answer(rt.alloc(), line.as_str())?;
+        println!(rt; "{line}: {sum}")?;
+    }
+    Ok(())
+}
