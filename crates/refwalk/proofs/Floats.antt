@@ -1,12 +1,12 @@
 -- A request without floats leads to values without floats.
-use Rattle.std.proofs.Common.{◌≡◌, ℕ, zero, suc, ◌+◌, Bool, true, false, ◌||◌, List, [], ◌∷◌, Option, Some, None, option_map, option_and_then, Result, Ok, Err, ok_or, IfSome, is_some, codes, cond, eqb, subst, bytes_eq, Ordering, Less, Equal, Greater, nat_cmp, refl, sym, ap, ◌∙◌}
+use Rattle.std.proofs.Common.{◌≡◌, ℕ, zero, suc, ◌+◌, Bool, true, false, ◌||◌, List, [], ◌∷◌, Option, Some, None, option_map, Result, Ok, Err, ok_or, IfSome, is_some, codes, cond, eqb, subst, bytes_eq, Ordering, Less, Equal, Greater, nat_cmp, refl, sym, ap, ◌∙◌}
 use Rattle.std.specs.Option.{option_or}
 use Rattle.std.specs.Ordering.{match_ordering}
 use Rattle.std.specs.Cmp.Lexicographic.{slice_cmp}
 use Rattle.std.specs.Str.{is_utf8}
 use Rattle.percent_encoding.specs.Percent.{percent_decode}
 use Rattle.serde_json.specs.Data.{Data, null, boolean, number, string, array, object, Items, no_items, item, Members, no_members, member}
-use Rattle.serde_json.specs.Find.{get, at, get_item, get_member, as_array, as_object, as_str}
+use Rattle.serde_json.specs.Find.{get, at, get_item, get_member, as_array, as_str}
 use Rattle.serde_json.specs.Written.{has_float, items_have_float, members_have_float}
 use Rattle.ref_parts.specs.Pointer.{unescape}
 use Rattle.ref_uri.specs.Reference.{is_uri_reference}
@@ -14,31 +14,11 @@ use Rattle.refwalk.specs.declared.request.BadRequest.TheVariants as bad
 use Rattle.refwalk.specs.Fault.{Fault, Unretrievable, PointerToNowhere, InvalidPercentEncoding, InvalidArrayIndex, InvalidUri}
 use Rattle.refwalk.specs.Floats.{HasNoFloat}
 use Rattle.refwalk.specs.Follow.{Resolver, Followed, moved, looked_up, stepped, numbered, followed_from}
-use Rattle.refwalk.specs.Outcome.{◌>>=◌}
 use Rattle.refwalk.specs.Pointer.{index_of, step_into, walk, parts, pointed, at_fragment, no_anchor}
 use Rattle.refwalk.specs.Registry.{added, means, prepared_after}
-use Rattle.refwalk.specs.Request.{Document, Step, Lookup, Recursive, Enter, Request, document_of, documents_of, every, base_of, steps_of, remote_of, draft_of, limit_of, required, optional, are_fields, fields_of, request_of}
+use Rattle.refwalk.specs.Request.{Document, Step, Lookup, Recursive, Enter, Request, document_of, documents_of, every, fields_of, request_of}
 use Rattle.refwalk.specs.Served.{trimmed}
-
--- ---- steps that gave something
-
-pub bind_is_ok : {A B E : Type 0} (r : Result A E) (f : A → Result B E) (y : B) → (r >>= f) ≡ Ok y → (x : A) × (r ≡ Ok x) × (f x ≡ Ok y)
-bind_is_ok (Ok x) f y h = (x, refl, h)
-bind_is_ok (Err e) f y h = cc
-
-pub ok_or_is_ok : {A E : Type 0} (o : Option A) (e : E) (y : A) → ok_or o e ≡ Ok y → o ≡ Some y
-ok_or_is_ok None e y h = cc
-ok_or_is_ok (Some x) e y h = cc
-
-pub and_then_is_some : {A B : Type 0} (o : Option A) (f : A → Option B) (y : B) → option_and_then f o ≡ Some y → (x : A) × (o ≡ Some x) × (f x ≡ Some y)
-and_then_is_some None f y h = cc
-and_then_is_some (Some x) f y h = (x, refl, h)
-
-some_is : {A : Type 0} (x y : A) → Some x ≡ Some y → x ≡ y
-some_is x y h = cc
-
-ok_is : {A E : Type 0} (x y : A) → ◌≡◌ {A = Result A E} (Ok x) (Ok y) → x ≡ y
-ok_is x y h = cc
+use Rattle.refwalk.proofs.Requests.{bind_is_ok, ok_or_is_ok, and_then_is_some, some_is, ok_is, fields-read, request-read}
 
 last_is : {E : Type 0} (f g : Followed) → ◌≡◌ {A = Result Followed E} (Ok f) (Ok g) → f.last ≡ g.last
 last_is f g h = ap (λ (x : Followed). x.last) (ok_is f g h)
@@ -214,26 +194,11 @@ documents-no_float d es h is =
     every-no_float items.0 es (array_of d items.0 h items.1) items.2
 
 fields-no_float : (d : Data) (r : Request) → has_float d ≡ false → fields_of d ≡ Ok r → HasNoFloat r.documents
-unfolding fields_of
 fields-no_float d r h is =
-    let documents = bind_is_ok (required bad.Documents documents_of (get (codes "documents") d)) _ r is in
-    let base = bind_is_ok (required bad.Base base_of (get (codes "base") d)) _ r documents.2 in
-    let steps = bind_is_ok (required bad.Steps steps_of (get (codes "steps") d)) _ r base.2 in
-    let remote = bind_is_ok (optional bad.Remote remote_of (get (codes "remote") d)) _ r steps.2 in
-    let meta = bind_is_ok (optional bad.Meta documents_of (get (codes "meta") d)) _ r remote.2 in
-    let draft = bind_is_ok (optional bad.Draft draft_of (get (codes "draft") d)) _ r meta.2 in
-    let limit = bind_is_ok (optional bad.Limit limit_of (get (codes "limit") d)) _ r draft.2 in
-    let field = and_then_is_some (get (codes "documents") d) documents_of documents.0 (ok_or_is_ok _ bad.Documents documents.0 documents.1) in
-    let plain : HasNoFloat documents.0 = documents-no_float field.0 documents.0 (member_of (codes "documents") d field.0 h field.1) field.2 in
-    subst HasNoFloat (ap (λ (x : Request). x.documents) (ok_is _ r limit.2)) plain
-
-no_float_by : (b c : Bool) (d : Data) (r : Request) → has_float d ≡ b → cond b (Err bad.Float) (cond c (fields_of d) (Err bad.UnknownField)) ≡ Ok r → HasNoFloat r.documents
-no_float_by true c d r h is = cc
-no_float_by false true d r h is = fields-no_float d r h is
-no_float_by false false d r h is = cc
+    let field = and_then_is_some (get (codes "documents") d) documents_of r.documents (ok_or_is_ok _ bad.Documents r.documents (fields-read d r is).0) in
+    documents-no_float field.0 r.documents (member_of (codes "documents") d field.0 h field.1) field.2
 
 pub request-no_float : (d : Data) (r : Request) → request_of d ≡ Ok r → HasNoFloat r.documents
-unfolding request_of
 request-no_float d r is =
-    let members = bind_is_ok (ok_or (as_object d) bad.NotAnObject) _ r is in
-    no_float_by (has_float d) (are_fields members.0) d r refl members.2
+    let read = request-read d r is in
+    fields-no_float d r read.0 read.1

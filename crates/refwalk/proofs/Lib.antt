@@ -4,6 +4,7 @@ mod Scopes
 mod Walks
 mod Registries
 mod Plain
+mod Requests
 mod Steps
 mod Floats
 mod Reports

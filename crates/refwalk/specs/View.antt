@@ -1,5 +1,5 @@
 -- What the structs of the program stand for.
-use Rattle.std.specs.Prelude.{ℕ, map, option_map, reverse, string_bytes}
+use Rattle.std.specs.Prelude.{ℕ, map, option_map, string_bytes}
 use Rattle.serde_json.specs.View.{view}
 use Rattle.refwalk.specs.declared.request.Step.{Step}
 use Rattle.refwalk.specs.declared.request.Step.TheVariants.{Lookup, Recursive, Enter}
@@ -35,7 +35,7 @@ request_view r = record {
 }
 
 abbrev pub resolver_view : Resolver → follow.Resolver
-resolver_view r = record { base = r.base.now; scope = reverse (map (λ uri. uri.now) r.scope.items) }
+resolver_view r = record { base = r.base.now.value; scope = r.scope }
 
 abbrev pub followed_view : Followed → follow.Followed
 followed_view f = record { last = option_map (λ v. view v.now) f.last; resolver = resolver_view f.resolver }

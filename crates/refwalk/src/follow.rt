@@ -11,14 +11,17 @@ use crate::pointer::at_fragment;
 use crate::registry::Registry;
 use crate::request::Step;
 use crate::stop::Stop;
+use ref_parts::list::List;
+use ref_uri::Uri;
 use serde_json::Value;
 use std::alloc::{AllocError, Global};
+use std::rc::Rc;
 
-/// Where a lookup starts from: the base URI, and the URIs passed so far, the outermost first.
+/// Where a lookup starts from: the base URI, and the URIs passed so far, inner to outer.
 #[derive(Drop)]
 pub struct Resolver<'a> {
-    pub base: &'a str,
-    pub scope: Vec<&'a str>,
+    pub base: &'a Rc<Uri>,
+    pub scope: List<Uri>,
 }
 
 /// The value found last, if a lookup was made, and where the next lookup starts from.
@@ -35,21 +38,22 @@ pub struct StepFault<'a> {
     pub fault: Fault<'a>,
 }
 
-/// What the steps lead to from a base, or the first fault. It takes memory for the scope.
+/// What the steps lead to from a base, or the first fault. It takes memory for pointers and, where a base goes in front of
+/// the scope, for one link: the URI is shared.
 pub fn follow<'a>(
     alloc: Global,
     world: &Registry<'a>,
-    base: &'a str,
+    base: &'a Rc<Uri>,
     steps: &[Step<'a>],
 ) -> Result<Followed<'a>, Stop<StepFault<'a>>>
     ensures { Answers followed_view step_fault_view result
-        (spec.followed (documents_view world.now.documents.entries) base.now (map step_view steps.now)) }
+        (spec.followed (documents_view world.now.documents.entries) base.now.value (map step_view steps.now)) }
 {
     let mut state = Followed {
         last: None,
         resolver: Resolver {
             base,
-            scope: Vec::new(alloc),
+            scope: List::new(),
         },
     };
     for (number, step) in steps.iter().enumerate() {
@@ -97,25 +101,30 @@ fn looked_up<'a>(
     fragment: &'a str,
 ) -> Result<Followed<'a>, Stop<Fault<'a>>>
     ensures { Answers followed_view fault_view result
-        (spec.looked_up (documents_view world.now.documents.entries) (resolver_view resolver.entry) resolver.entry.base.now fragment.now) }
+        (spec.looked_up (documents_view world.now.documents.entries) (resolver_view resolver.entry) resolver.entry.base.now.value fragment.now) }
 {
     let uri = resolver.base;
     let root = world
-        .tree(uri)
-        .ok_or(Stop::Because(Fault::Unretrievable { uri }))?;
+        .tree(uri.as_str())
+        .ok_or(Stop::Because(Fault::Unretrievable { uri: uri.as_str() }))?;
     let value = at_fragment(alloc, fragment, root)?;
     Ok(Followed {
         last: Some(value),
-        resolver: moved(resolver, uri)?,
+        resolver: moved(alloc, resolver, uri)?,
     })
 }
 
-fn moved<'a>(mut resolver: Resolver<'a>, uri: &'a str) -> Result<Resolver<'a>, AllocError>
-    ensures { IfOk result (λ r. resolver_view r ≡ spec.moved (resolver_view resolver.entry) uri.now) }
+// The old base goes in front of the scope, if the scope is empty or the base changes.
+fn moved<'a>(
+    alloc: Global,
+    mut resolver: Resolver<'a>,
+    uri: &'a Rc<Uri>,
+) -> Result<Resolver<'a>, AllocError>
+    ensures { IfOk result (λ r. resolver_view r ≡ spec.moved (resolver_view resolver.entry) uri.now.value) }
 {
     let base = resolver.base;
-    if resolver.scope.is_empty() || uri != base {
-        resolver.scope.push(base)?;
+    if resolver.scope.is_empty() || uri.as_str() != base.as_str() {
+        resolver.scope = resolver.scope.push_front(alloc, base.clone()?)?;
     }
     resolver.base = uri;
     Ok(resolver)

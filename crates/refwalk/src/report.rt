@@ -1,5 +1,5 @@
 //! The report on a request.
-ghost use Rattle.std.specs.Prelude.{◌≡◌, ◌++◌, ◌∷◌, [], false, IfOk, OnOk, IfSome, codes, decimal, map, reverse, option_map, string_bytes};
+ghost use Rattle.std.specs.Prelude.{◌≡◌, ◌++◌, ◌∷◌, [], false, IfOk, OnOk, IfSome, codes, decimal, option_map, string_bytes};
 ghost use Rattle.serde_json.specs.View.{view};
 ghost use Rattle.serde_json.specs.Written.{has_float};
 ghost use Rattle.refwalk.specs.Report as spec;
@@ -11,6 +11,8 @@ use crate::follow::Followed;
 use crate::request::BadRequest;
 use ref_draft::Draft;
 use ref_parts::escape::write_index;
+use ref_parts::list::List;
+use ref_uri::Uri;
 use serde_json::Value;
 use std::alloc::{AllocError, Global};
 
@@ -89,8 +91,8 @@ pub fn done_report(alloc: Global, draft: Draft, followed: &Followed) -> Result<R
 {
     let mut text = String::new(alloc);
     push_value(alloc, &mut text, draft, followed.last)?;
-    push_line(&mut text, "base ", followed.resolver.base)?;
-    push_scope(&mut text, followed.resolver.scope.as_slice())?;
+    push_line(&mut text, "base ", followed.resolver.base.as_str())?;
+    push_scope(&mut text, &followed.resolver.scope)?;
     Ok(Report {
         status: Status::Done,
         text,
@@ -141,17 +143,15 @@ fn push_line(text: &mut String, label: &str, body: &str) -> Result<(), AllocErro
     Ok(())
 }
 
-// The line of the scope, of which the outermost URI comes first here and last there.
-fn push_scope(text: &mut String, scope: &[&str]) -> Result<(), AllocError>
+// The line of the scope, inner to outer.
+fn push_scope(text: &mut String, scope: &List<Uri>) -> Result<(), AllocError>
     ensures { OnOk result (string_bytes text.new
-        ≡ string_bytes text.old ++ spec.scope_line (reverse (map (λ uri. uri.now) scope.now))) }
+        ≡ string_bytes text.old ++ spec.scope_line scope.now) }
 {
     text.push_str("scope")?;
-    let mut left = scope.len();
-    while left > 0 {
-        left -= 1;
+    for uri in scope {
         text.push_str(" ")?;
-        text.push_str(scope[left])?;
+        text.push_str(uri.as_str())?;
     }
     text.push_str("\n")?;
     Ok(())

@@ -2,6 +2,7 @@
 ghost use Rattle.std.specs.Prelude.{◌≡◌, ◌++◌, ◌<◌, Some, Ok, Err, IfOk, IfSome, OnOk, IfErr, option_map, ◌⊎◌, ◌≢◌, map, IsTrue, true, false, string_bytes};
 ghost use Rattle.std.specs.Io.KnownBytes.{Appends, Keeps};
 ghost use Rattle.serde_json.specs.View.{view};
+ghost use Rattle.ref_uri.specs.Reference.{is_uri_reference, is_uri};
 ghost use Rattle.refwalk.specs.Bytes.{HasFailed, counted};
 ghost use Rattle.refwalk.specs.Run.{AnswersBytes, AnswersRequest, Reports, IsUnanswered};
 ghost use Rattle.refwalk.specs.Floats.{HasNoFloat};
@@ -19,10 +20,12 @@ use crate::served::is_served;
 use crate::sink::Sink;
 use crate::source::Source;
 use crate::stop::Stop;
+use crate::uri::uri_of;
 use ref_draft::Draft;
 use serde_json::Value;
 use std::alloc::{AllocError, Global};
 use std::fmt;
+use std::rc::Rc;
 
 const CHUNK: usize = 4096;
 
@@ -100,8 +103,8 @@ fn tree_of(alloc: Global, bytes: &[u8]) -> Result<Option<Value>, AllocError>
 
 /// Reads one request to the end, makes its whole report, and writes it.
 ///
-/// Takes memory for the bytes, the tree, the request and the report. Reading ends over every source: each read before the
-/// end lengthens a vector.
+/// Takes memory for the bytes, the tree, the request, its documents, base, pointers and scope, and the report. Reading ends
+/// over every source: each read before the end lengthens a vector.
 pub fn run<R: Source, W: Sink>(
     alloc: Global,
     reader: &mut R,
@@ -161,7 +164,8 @@ fn answer_tree(alloc: Global, tree: &Value) -> Result<Report, RunError>
 }
 
 fn answer_request(alloc: Global, request: &Request) -> Result<Report, RunError>
-    requires { HasNoFloat (request_view request.now).documents }
+    requires documents { HasNoFloat (request_view request.now).documents }
+    requires base { is_uri_reference request.now.base.now ≡ true }
     ensures { AnswersRequest (Ok (request_view request.now)) result }
 {
     if !is_served(request) {
@@ -171,7 +175,8 @@ fn answer_request(alloc: Global, request: &Request) -> Result<Report, RunError>
 }
 
 fn request_report(alloc: Global, request: &Request) -> Result<Report, AllocError>
-    requires { HasNoFloat (request_view request.now).documents }
+    requires documents { HasNoFloat (request_view request.now).documents }
+    requires base { is_uri request.now.base.now ≡ true }
     ensures { IfOk result (λ r. report_view r ≡ report.request_report (request_view request.now)) }
 {
     match prepared(alloc, request.documents.as_slice()) {
@@ -188,12 +193,15 @@ fn draft_of_documents(request: &Request) -> Draft
     request.draft.unwrap_or(Draft::Draft202012)
 }
 
+// The base is parsed once, and the scope shares it.
 fn followed_report(alloc: Global, world: &Registry, request: &Request) -> Result<Report, AllocError>
-    requires { HasNoFloat (documents_view world.now.documents.entries) }
+    requires documents { HasNoFloat (documents_view world.now.documents.entries) }
+    requires base { is_uri request.now.base.now ≡ true }
     ensures { IfOk result (λ r. report_view r ≡ report.followed_report (report.draft_of_documents (request_view request.now))
         (followed (documents_view world.now.documents.entries) request.now.base.now (map step_view request.now.steps.items))) }
 {
-    match follow(alloc, world, request.base, request.steps.as_slice()) {
+    let base = Rc::new(alloc, uri_of(alloc, request.base)?)?;
+    match follow(alloc, world, &base, request.steps.as_slice()) {
         Ok(followed) => done_report(alloc, draft_of_documents(request), &followed),
         Err(Stop::Memory) => Err(AllocError),
         Err(Stop::Because(stopped)) => step_report(alloc, stopped.step, &stopped.fault),

@@ -1,16 +1,29 @@
 //! The texts of URIs.
-ghost use Rattle.std.specs.Prelude.{◌≡◌, ◌||◌, ◌==◌};
+ghost use Rattle.std.specs.Prelude.{◌≡◌, ◌||◌, ◌==◌, IfOk, true};
 ghost use Rattle.std.specs.List.{list_all, slice_split};
-ghost use Rattle.ref_uri.specs.Reference.{is_uri_reference};
+ghost use Rattle.ref_uri.specs.Reference.{is_uri_reference, is_uri};
 ghost use Rattle.refwalk.specs.Served as spec;
 
-use ref_uri::UriRef;
+use ref_uri::{Uri, UriParseFault, UriRef};
+use std::alloc::{AllocError, Global};
 
 /// Whether the text is a URI reference (RFC 3986, section 4.1).
 pub fn is_reference(text: &str) -> bool
     ensures { result ≡ is_uri_reference text.now }
 {
     UriRef::parse(text).is_ok()
+}
+
+/// The URI that the text is, copied. It takes memory for the text.
+pub fn uri_of(alloc: Global, text: &str) -> Result<Uri, AllocError>
+    requires { is_uri text.now ≡ true }
+    ensures { IfOk result (λ u. u ≡ text.now) }
+{
+    match Uri::parse(alloc, text) {
+        Ok(uri) => Ok(uri),
+        Err(UriParseFault::Memory(refused)) => Err(refused),
+        Err(UriParseFault::Invalid(_)) => unreachable!(),
+    }
 }
 
 /// The text without the `#` characters at its end.

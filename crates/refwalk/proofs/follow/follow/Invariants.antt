@@ -7,4 +7,4 @@ use Rattle.refwalk.proofs.follow.follow.Given as goal
 abbrev pub invariant-loop-number : goal.invariant-loop-number
 invariant-loop-number l =
     followed_from (documents_view l.world.documents.entries) l.number (followed_view l.state) (map step_view (drop l.number l.steps))
-    ≡ followed (documents_view l.world.documents.entries) l.base (map step_view l.steps)
+    ≡ followed (documents_view l.world.documents.entries) l.base.value (map step_view l.steps)

@@ -1,12 +1,6 @@
-use Rattle.std.proofs.Common.{◌≡◌, ◌≤◌, ◌++◌, string_bytes, length, take}
+use Rattle.std.proofs.Common.{◌≡◌, ◌++◌, string_bytes}
 use Rattle.refwalk.proofs.Scopes.{uris}
 use Rattle.refwalk.proofs.report.push_scope.Given as goal
 
-abbrev pub invariant-loop-left : goal.invariant-loop-left
-invariant-loop-left l = record {
-  within : l.left ≤ length l.scope;
-  written : string_bytes l.text ++ uris (take l.left l.scope) ≡ string_bytes l.initial.text ++ uris l.scope;
-}
-
-abbrev pub decreases-loop-left : goal.decreases-loop-left
-decreases-loop-left l = l.left
+abbrev pub invariant-loop-uri : goal.invariant-loop-uri
+invariant-loop-uri l = string_bytes l.text ++ uris l.uri-iterator ≡ string_bytes l.initial.text ++ uris l.scope
