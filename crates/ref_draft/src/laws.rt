@@ -1,12 +1,13 @@
 //! Laws of the definitions. No function here does anything: its contract is the law.
-ghost use Rattle.std.specs.Prelude.{◌≡◌, ◌<◌, ◌∷◌, ◌++◌, [], ℕ, IsTrue, List};
+ghost use Rattle.std.specs.Prelude.{◌≡◌, ◌↔◌, true, ◌<◌, ◌∷◌, ◌++◌, [], ℕ, IsTrue, List};
 ghost use Rattle.std.specs.List.{AllByRecursion};
 ghost use Rattle.std.specs.Ordering.{nat_cmp};
 ghost use Rattle.serde_json.specs.Data.{Data, depth};
 ghost use Rattle.ref_draft.specs.declared.draft.Draft.{Draft as Version};
-ghost use Rattle.ref_draft.specs.Children.{children};
+ghost use Rattle.ref_draft.specs.Children.{children, is_object};
 ghost use Rattle.ref_draft.specs.Order.{rank};
 ghost use Rattle.ref_draft.specs.Scan.{AcceptsChildren, IsAccepted, ReadsTheWalk, SpellsWord, is_child_keyword};
+ghost use Rattle.ref_draft.specs.ScanSteps.{scan};
 ghost use Rattle.ref_parts.specs.Path.{Key, Part};
 
 use crate::draft::Draft;
@@ -31,6 +32,11 @@ pub fn children_are_shallower()
 pub fn scan_goes_on_to_children()
     ensures { (d : Version) (parts : List Part) (value : Data)
         → ReadsTheWalk d → IsAccepted d parts value → AcceptsChildren d parts (children d value) }
+{}
+
+/// The scan, which reads the parts from the left, accepts exactly the ways that are accepted.
+pub fn scan_is_accepted()
+    ensures { (d : Version) (value : Data) (parts : List Part) → (scan d (is_object value) parts ≡ true) ↔ IsAccepted d parts value }
 {}
 
 /// A word followed by a child keyword alone isn't accepted: the way ends at an array or object of schemas.

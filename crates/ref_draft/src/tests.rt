@@ -90,6 +90,10 @@ fn identifiers(rt: HostRuntime) -> Result<(), Fail> {
             [None, None, None, Some("#k"), Some("#k"), Some("#k")],
         ),
         ("{\"id\":\"#k\"}", [None; 6]),
+        (
+            "{\"$id\":\"#f\",\"$ref\":\"x\"}",
+            [None, None, None, Some("#f"), Some("#f"), Some("#f")],
+        ),
         ("{\"$id\":7,\"id\":7}", [None; 6]),
         ("[\"$id\"]", [None; 6]),
     ] {
@@ -376,6 +380,10 @@ fn resources(rt: HostRuntime) -> Result<(), Fail> {
     let copy = owned.clone()?;
     assert!(rt; copy == owned);
     assert!(rt; Draft::Draft7.create_resource(value) != owned);
+    assert!(rt;
+        Draft::Draft7.create_resource(Value::Null)
+            != Draft::Draft7.create_resource(Value::Bool(true))
+    );
     assert!(rt;
         Resource::from_contents(Value::Null) == Draft::Draft202012.create_resource(Value::Null)
     );
