@@ -24,6 +24,9 @@ fn segments_come_from_keys_and_indexes(rt: HostRuntime) -> Result<(), Fail> {
 fn a_node_has_its_parts_and_its_parent(rt: HostRuntime) -> Result<(), Fail> {
     let root = JsonPointerNode::new();
     let a = root.push(rt.alloc(), "a")?;
+    let key = String::from_str(rt.alloc(), "a")?;
+    assert!(rt; root.push(rt.alloc(), &key)? == a);
+    assert!(rt; root.push(rt.alloc(), CowStr::Borrowed("a"))? == a);
     let node = a.push(rt.alloc(), 3usize)?;
     assert!(rt; *node.segment() == JsonPointerSegment::Index(3));
     let parent = node.parent().ok_or("no parent")?;
