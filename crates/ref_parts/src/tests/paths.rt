@@ -22,9 +22,9 @@ fn segments_come_from_keys_and_indexes(rt: HostRuntime) -> Result<(), Fail> {
 
 #[test]
 fn a_node_has_its_parts_and_its_parent(rt: HostRuntime) -> Result<(), Fail> {
+    let key = String::from_str(rt.alloc(), "a")?;
     let root = JsonPointerNode::new();
     let a = root.push(rt.alloc(), "a")?;
-    let key = String::from_str(rt.alloc(), "a")?;
     assert!(rt; root.push(rt.alloc(), &key)? == a);
     assert!(rt; root.push(rt.alloc(), CowStr::Borrowed("a"))? == a);
     let node = a.push(rt.alloc(), 3usize)?;
