@@ -19,4 +19,5 @@ pub use draft::Draft;
 pub use resource::{Resource, ResourceRef};
 pub use segments::{Segment, Segments};
 pub use spec::children::{ChildIter, ChildIterInner};
+pub use spec::ids::trim_hashes;
 pub use spec::walk::Child;

@@ -1,5 +1,5 @@
 -- A request without floats leads to values without floats.
-use Rattle.std.proofs.Common.{◌≡◌, ℕ, zero, suc, ◌+◌, Bool, true, false, ◌||◌, List, [], ◌∷◌, Option, Some, None, option_map, Result, Ok, Err, ok_or, IfSome, is_some, codes, cond, eqb, subst, bytes_eq, Ordering, Less, Equal, Greater, nat_cmp, refl, sym, ap, ◌∙◌}
+use Rattle.std.proofs.Common.{◌≡◌, ℕ, zero, suc, ◌+◌, Bool, true, false, ◌||◌, List, [], ◌∷◌, Option, Some, None, option_map, Result, Ok, Err, ok_or, IfSome, is_some, codes, cond, subst, bytes_eq, Ordering, Less, Equal, Greater, nat_cmp, refl, sym, ap, ◌∙◌}
 use Rattle.std.specs.Option.{option_or}
 use Rattle.std.specs.Ordering.{match_ordering}
 use Rattle.std.specs.Cmp.Lexicographic.{slice_cmp}
@@ -9,15 +9,15 @@ use Rattle.serde_json.specs.Data.{Data, null, boolean, number, string, array, ob
 use Rattle.serde_json.specs.Find.{get, at, get_item, get_member, as_array, as_str}
 use Rattle.serde_json.specs.Written.{has_float, items_have_float, members_have_float}
 use Rattle.ref_parts.specs.Pointer.{unescape}
-use Rattle.ref_uri.specs.Reference.{is_uri_reference}
+use Rattle.ref_draft.specs.Schema.{trimmed}
+use Rattle.ref_uri.specs.Targets.{parsed, target, fragment_part}
 use Rattle.refwalk.specs.declared.request.BadRequest.TheVariants as bad
-use Rattle.refwalk.specs.Fault.{Fault, Unretrievable, PointerToNowhere, InvalidPercentEncoding, InvalidArrayIndex, InvalidUri}
+use Rattle.refwalk.specs.Fault.{Fault, Unretrievable, PointerToNowhere, InvalidPercentEncoding, InvalidArrayIndex, uri_or_fault}
 use Rattle.refwalk.specs.Floats.{HasNoFloat}
 use Rattle.refwalk.specs.Follow.{Resolver, Followed, moved, looked_up, stepped, numbered, followed_from}
 use Rattle.refwalk.specs.Pointer.{index_of, step_into, walk, parts, pointed, at_fragment, no_anchor}
 use Rattle.refwalk.specs.Registry.{added, means, prepared_after}
 use Rattle.refwalk.specs.Request.{Document, Step, Lookup, Recursive, Enter, Request, document_of, documents_of, every, fields_of, request_of}
-use Rattle.refwalk.specs.Served.{trimmed}
 use Rattle.refwalk.proofs.Requests.{bind_is_ok, ok_or_is_ok, and_then_is_some, some_is, ok_is, fields-read, request-read}
 
 last_is : {E : Type 0} (f g : Followed) → ◌≡◌ {A = Result Followed E} (Ok f) (Ok g) → f.last ≡ g.last
@@ -89,8 +89,9 @@ added-no_float (e ∷ es) d h hd = added_by (bytes_eq d.uri e.uri) e d es (added
 pub prepared-no_float : (world ds : List Document) (w : List Document) → HasNoFloat world → HasNoFloat ds → prepared_after world ds ≡ Ok w → HasNoFloat w
 prepared-no_float world [] w h hs is = let same : world ≡ w = cc in rw (← same) h
 prepared-no_float world (d ∷ ds) w h hs is =
-    prepared-no_float (added world (record { uri = trimmed d.uri; tree = d.tree })) ds w (added-no_float world (record { uri = trimmed d.uri; tree = d.tree }) h hs.0) hs.1
-    (chosen_ok (is_uri_reference (trimmed d.uri)) _ (InvalidUri (trimmed d.uri)) w is)
+    let meant = bind_is_ok (uri_or_fault (parsed (trimmed d.uri))) _ w is in
+    let more : Document = record { uri = meant.0; tree = d.tree } in
+    prepared-no_float (added world more) ds w (added-no_float world more h hs.0) hs.1 meant.2
 
 last_of : (b : Bool) (e t : Data) (found : Option Data) → has_float e ≡ false → (found ≡ Some t → has_float t ≡ false) → option_or found (cond b (Some e) None) ≡ Some t → has_float t ≡ false
 last_of true e t None h more is = let same : e ≡ t = cc in ap has_float (sym same) ∙ h
@@ -115,15 +116,11 @@ looked_up-no_float world r uri fragment g h is =
     let last : Some value.0 ≡ g.last = last_is (record { last = Some value.0; resolver = moved r uri }) g value.2 in
     subst LastHasNoFloat last (at_fragment-no_float fragment root.0 value.0 plain value.1)
 
-chosen_step : (b : Bool) (r : Result Followed Fault) (f g : Followed) → (r ≡ Ok g → LastHasNoFloat g.last) → LastHasNoFloat f.last → cond b r (Ok f) ≡ Ok g → LastHasNoFloat g.last
-chosen_step true r f g more h is = more is
-chosen_step false r f g more h is = subst LastHasNoFloat (last_is f g is) h
-
 stepped-no_float : (world : List Document) (f g : Followed) (s : Step) → HasNoFloat world → LastHasNoFloat f.last → stepped world f s ≡ Ok g → LastHasNoFloat g.last
 unfolding stepped
-stepped-no_float world f g (Lookup []) h last is = subst LastHasNoFloat (last_is f g is) last
-stepped-no_float world f g (Lookup (c ∷ fragment)) h last is =
-    chosen_step (eqb c 35) (looked_up world f.resolver f.resolver.base fragment) f g (looked_up-no_float world f.resolver f.resolver.base fragment g h) last is
+stepped-no_float world f g (Lookup reference) h last is =
+    let meant = bind_is_ok (uri_or_fault (target f.resolver.base reference)) _ g is in
+    looked_up-no_float world f.resolver meant.0 (fragment_part reference) g h meant.2
 stepped-no_float world f g Recursive h last is = subst LastHasNoFloat (last_is f g is) last
 stepped-no_float world f g (Enter d) h last is = subst LastHasNoFloat (last_is f g is) last
 
@@ -195,7 +192,7 @@ documents-no_float d es h is =
 
 fields-no_float : (d : Data) (r : Request) → has_float d ≡ false → fields_of d ≡ Ok r → HasNoFloat r.documents
 fields-no_float d r h is =
-    let field = and_then_is_some (get (codes "documents") d) documents_of r.documents (ok_or_is_ok _ bad.Documents r.documents (fields-read d r is).0) in
+    let field = and_then_is_some (get (codes "documents") d) documents_of r.documents (ok_or_is_ok _ bad.Documents r.documents (fields-read d r is)) in
     documents-no_float field.0 r.documents (member_of (codes "documents") d field.0 h field.1) field.2
 
 pub request-no_float : (d : Data) (r : Request) → request_of d ≡ Ok r → HasNoFloat r.documents

@@ -2,8 +2,9 @@ mod Texts
 mod Trees
 mod Scopes
 mod Walks
+mod Uris
+mod Hashes
 mod Registries
-mod Plain
 mod Requests
 mod Steps
 mod Floats

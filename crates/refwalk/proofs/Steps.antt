@@ -1,7 +1,6 @@
 -- Steps that are followed one by one.
-use Rattle.std.proofs.Common.{◌≡◌, ℕ, zero, suc, arith, ◌+◌, ◌<◌, ◌≤◌, Bool, true, false, List, [], ◌∷◌, length, map, drop, get_or, Ok, cond, eqb, refl, sym, ap, ◌∙◌, add-one}
+use Rattle.std.proofs.Common.{◌≡◌, ℕ, zero, suc, arith, ◌+◌, ◌<◌, ◌≤◌, List, [], ◌∷◌, length, map, drop, get_or, Ok, refl, sym, ap, ◌∙◌, add-one}
 use Rattle.std.proofs.Math.Seq.{drop-cons}
-use Rattle.std.proofs.lemmas.Bool.Decides.{Decides-eqb}
 use Rattle.refwalk.specs.declared.request.Step.{Step}
 use Rattle.refwalk.specs.Request as request
 use Rattle.refwalk.specs.declared.fault.Fault.{Fault}
@@ -9,19 +8,8 @@ use Rattle.refwalk.specs.declared.stop.Stop.{Stop}
 use Rattle.refwalk.specs.declared.stop.Stop.TheVariants.{Memory, Because}
 use Rattle.refwalk.specs.FaultView.{fault_view}
 use Rattle.refwalk.specs.Outcome.{◌>>=◌, Stops}
-use Rattle.refwalk.specs.Follow.{Followed, stepped, numbered, followed_from, looked_up}
+use Rattle.refwalk.specs.Follow.{Followed, stepped, numbered, followed_from}
 use Rattle.refwalk.specs.View.{step_view, step_fault_view, numbered_stop}
-
-other_by : (world : List request.Document) (f : Followed) (c : ℕ) (rest : List ℕ) (b : Bool) → eqb c 35 ≡ b → ((more : List ℕ) → (c ∷ rest) ≡ 35 ∷ more → ⊥)
-    → cond b (looked_up world f.resolver f.resolver.base rest) (Ok f) ≡ Ok f
-other_by world f c rest true e h = absurd (h rest (ap (λ x. x ∷ rest) ((Decides-eqb c 35).0 e)))
-other_by world f c rest false e h = refl
-
--- a reference that doesn't begin with `#`
-pub stepped-other : (world : List request.Document) (f : Followed) (reference : List ℕ) → ((more : List ℕ) → reference ≡ 35 ∷ more → ⊥) → stepped world f (request.Lookup reference) ≡ Ok f
-unfolding stepped
-stepped-other world f [] h = refl
-stepped-other world f (c ∷ rest) h = other_by world f c rest (eqb c 35) refl h
 
 drop-read : (steps : List Step) (i : ℕ) (s : Step) → i < length steps → s ≡ get_or steps i s → drop i steps ≡ s ∷ drop (i + 1) steps
 drop-read steps i s h e =

@@ -1,42 +1,20 @@
--- Texts: trimming, numbers, and where a text is cut.
-use Rattle.std.proofs.Common.{◌≡◌, ◌≢◌, ℕ, ◌<◌, ◌^◌, Bool, true, false, ◌&&◌, List, [], ◌∷◌, ◌++◌, length, reverse, map, Some, None, Result, Ok, Err, cond, eqb, ltb, Decides, refl, sym, ap, ◌∙◌, IsUtf8}
+-- Texts: numbers, and what is JSON.
+use Rattle.std.proofs.Common.{◌≡◌, ℕ, ◌<◌, ◌^◌, Bool, true, false, ◌&&◌, List, [], ◌∷◌, length, map, Some, None, Result, Ok, Err, cond, ltb, Decides, refl, sym, ap, ◌∙◌, IsUtf8}
 use Rattle.std.proofs.lemmas.Str.{IsUtf8-from_is_utf8, is_utf8-from_IsUtf8}
-use Rattle.std.proofs.lemmas.List.{reverse-append, reverse-reverse}
 use Rattle.std.proofs.lemmas.List.Folds.{list_all-map}
 use Rattle.std.specs.List.{list_all}
 use Rattle.std.specs.Char.{digit_value}
 use Rattle.std.specs.Result.{OkIff, result_ok}
 use Rattle.std.specs.Str.{is_utf8}
 use Rattle.std.specs.Str.Parse.{IsNumeral, AllDigits, ParsesUnsigned, digits_value, without_leading_plus}
-use Rattle.std.proofs.lemmas.Bool.Decides.{Decides-ltb, Decides-eqb, Decides-and}
-use Rattle.std.proofs.lemmas.Grind.{reverse_onto}
+use Rattle.std.proofs.lemmas.Bool.Decides.{Decides-ltb, Decides-and}
 use Rattle.serde_json.specs.Data.{Data}
 use Rattle.serde_json.specs.Read.{read}
-use Rattle.refwalk.specs.Served.{trimmed, skip_hashes}
 use Rattle.refwalk.specs.Pointer.{is_numeral, index_of}
 use Rattle.refwalk.specs.Request.{tree_of}
 
 pub list_all_map : {X Y : Type 0} (p : X → Bool) (h : Y → X) (ys : List Y) → list_all p (map h ys) ≡ list_all (λ y. p (h y)) ys
 list_all_map p h ys = list_all-map p h ys
-
--- a trailing `#` is dropped
-pub trimmed-hash : (x : List ℕ) → trimmed (x ++ 35 ∷ []) ≡ trimmed x
-trimmed-hash x = ap (λ r. reverse (skip_hashes r)) (reverse-append x (35 ∷ []))
-
-skip_hashes-other : (c : ℕ) (r : List ℕ) (b : Bool) → eqb c 35 ≡ b → (c ≢ 35) → skip_hashes (c ∷ r) ≡ c ∷ r
-skip_hashes-other c r true e h = absurd (h ((Decides-eqb c 35).0 e))
-skip_hashes-other c r false e h = ap (λ b. cond b (skip_hashes r) (c ∷ r)) e
-
-ends_with-hash : (bs : List ℕ) (c : ℕ) (r : List ℕ) → reverse bs ≡ c ∷ r → c ≡ 35 → bs ≡ reverse r ++ (35 ∷ [])
-ends_with-hash bs c r e is = sym (reverse-reverse bs) ∙ ap reverse (e ∙ ap (λ x. x ∷ r) is) ∙ reverse_onto r 35 []
-
-skip_hashes-same : (bs r : List ℕ) → reverse bs ≡ r → ((front : List ℕ) → bs ≢ front ++ (35 ∷ [])) → skip_hashes r ≡ r
-skip_hashes-same bs [] e h = refl
-skip_hashes-same bs (c ∷ r) e h = skip_hashes-other c r (eqb c 35) refl (λ is. h (reverse r) (ends_with-hash bs c r e is))
-
--- and nothing else is
-pub trimmed-same : (bs : List ℕ) → ((front : List ℕ) → bs ≢ front ++ (35 ∷ [])) → trimmed bs ≡ bs
-trimmed-same bs h = ap reverse (skip_hashes-same bs (reverse bs) refl h) ∙ reverse-reverse bs
 
 pub tree_of-text : (bs : List ℕ) (d : Data) → IsUtf8 bs → read bs ≡ Some d → Some d ≡ tree_of bs
 tree_of-text bs d t e = sym (ap (λ b. cond b (read bs) None) (is_utf8-from_IsUtf8 bs t) ∙ e)

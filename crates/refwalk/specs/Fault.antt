@@ -1,5 +1,6 @@
 -- Why documents can't be prepared, or a step can't be followed, with the texts that a user reads.
-use Rattle.std.specs.Prelude.{ℕ, List, ◌++◌, codes}
+use Rattle.std.specs.Prelude.{ℕ, List, ◌++◌, codes, Result, Ok, Err}
+use Rattle.ref_uri.specs.Targets.{Refusal, refusal_text}
 
 pub data Fault : Type 0 where
   -- no document bears this URI
@@ -10,7 +11,7 @@ pub data Fault : Type 0 where
   InvalidArrayIndex : List ℕ → List ℕ → Fault
   NoSuchAnchor : List ℕ → Fault
   InvalidAnchor : List ℕ → Fault
-  -- the text is no URI reference
+  -- a text means no URI: what is said of it
   InvalidUri : List ℕ → Fault
 
 abbrev pub fault_text : Fault → List ℕ
@@ -23,5 +24,9 @@ fault_text (InvalidArrayIndex pointer index) =
     codes "Failed to parse array index '" ++ (index ++ (codes "' in pointer '" ++ (pointer ++ codes "'")))
 fault_text (NoSuchAnchor anchor) = codes "Anchor '" ++ (anchor ++ codes "' does not exist")
 fault_text (InvalidAnchor anchor) = codes "Anchor '" ++ (anchor ++ codes "' is invalid")
-fault_text (InvalidUri uri) =
-    codes "Invalid URI reference '" ++ (uri ++ codes "': not a URI reference of RFC 3986")
+fault_text (InvalidUri said) = said
+
+-- the URI that a text means, or the fault that it means none
+abbrev pub uri_or_fault : Result (List ℕ) Refusal → Result (List ℕ) Fault
+uri_or_fault (Ok uri) = Ok uri
+uri_or_fault (Err refusal) = Err (InvalidUri (refusal_text refusal))

@@ -1,10 +1,11 @@
 -- Following the steps of a request.
 use Rattle.std.specs.Prelude.{ℕ, ◌+◌, not, ◌||◌, ◌==◌, List, [], ◌∷◌, length, Option, Some, None, Result, Ok, Err, ok_or, bytes_eq, if◌then◌else◌}
 use Rattle.serde_json.specs.Data.{Data}
+use Rattle.ref_uri.specs.Targets.{target, fragment_part}
 use Rattle.refwalk.specs.Request.{Document, Step, Lookup, Recursive, Enter}
 use Rattle.refwalk.specs.Registry.{means}
 use Rattle.refwalk.specs.Pointer.{at_fragment}
-use Rattle.refwalk.specs.Fault.{Fault, Unretrievable}
+use Rattle.refwalk.specs.Fault.{Fault, Unretrievable, uri_or_fault}
 use Rattle.refwalk.specs.Outcome.{◌>>=◌}
 
 -- where a lookup starts from: the base URI, and the URIs passed so far, inner to outer
@@ -31,10 +32,10 @@ looked_up world r uri fragment = do
   value ← at_fragment fragment root
   Ok (record { last = Some value; resolver = moved r uri })
 
--- One step. So far only references that begin with `#` are served, and those mean the base; other steps change nothing.
+-- One step: a reference leads where its target and its fragment lead. The other steps aren't served so far, and change
+-- nothing.
 unfoldable pub stepped : List Document → Followed → Step → Result Followed Fault
-stepped world f (Lookup []) = Ok f
-stepped world f (Lookup (c ∷ fragment)) = if c == 35 then looked_up world f.resolver f.resolver.base fragment else Ok f
+stepped world f (Lookup reference) = uri_or_fault (target f.resolver.base reference) >>= λ uri. looked_up world f.resolver uri (fragment_part reference)
 stepped world f Recursive = Ok f
 stepped world f (Enter d) = Ok f
 

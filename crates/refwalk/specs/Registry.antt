@@ -1,11 +1,12 @@
 -- The documents of a request, and what a URI means among them.
-use Rattle.std.specs.Prelude.{ℕ, List, [], ◌∷◌, Option, Some, None, Result, Ok, Err, bytes_eq, if◌then◌else◌}
+use Rattle.std.specs.Prelude.{ℕ, List, [], ◌∷◌, Option, Some, None, Result, Ok, bytes_eq, if◌then◌else◌}
 use Rattle.std.specs.Option.{option_or}
 use Rattle.serde_json.specs.Data.{Data}
-use Rattle.ref_uri.specs.Reference.{is_uri_reference}
+use Rattle.ref_uri.specs.Targets.{parsed}
+use Rattle.ref_draft.specs.Schema.{trimmed}
 use Rattle.refwalk.specs.Request.{Document}
-use Rattle.refwalk.specs.Served.{trimmed}
-use Rattle.refwalk.specs.Fault.{Fault, InvalidUri}
+use Rattle.refwalk.specs.Fault.{Fault, uri_or_fault}
+use Rattle.refwalk.specs.Outcome.{◌>>=◌}
 
 -- the documents with one more, whose tree takes the place of an earlier one under its URI
 abbrev pub added : List Document → Document → List Document
@@ -17,14 +18,11 @@ abbrev pub means : List Document → List ℕ → Option Data
 means [] uri = None
 means (d ∷ ds) uri = option_or (means ds uri) (if bytes_eq uri d.uri then Some d.tree else None)
 
--- The documents in order of first addition, each under its URI without the `#` characters at its end, or the first of
--- those texts that is no URI reference.
+-- The documents in order of first addition, each under the URI that its text means without the `#` characters at its end,
+-- or the fault of the first text that means none.
 abbrev pub prepared_after : List Document → List Document → Result (List Document) Fault
 prepared_after world [] = Ok world
-prepared_after world (d ∷ ds) =
-    if is_uri_reference (trimmed d.uri)
-    then prepared_after (added world (record { uri = trimmed d.uri; tree = d.tree })) ds
-    else Err (InvalidUri (trimmed d.uri))
+prepared_after world (d ∷ ds) = uri_or_fault (parsed (trimmed d.uri)) >>= λ uri. prepared_after (added world (record { uri = uri; tree = d.tree })) ds
 
 abbrev pub prepared : List Document → Result (List Document) Fault
 prepared documents = prepared_after [] documents

@@ -9,8 +9,8 @@ use Rattle.refwalk.specs.Request as request
 abbrev pub document_view : Document → request.Document
 document_view d = record { uri = d.uri.now; tree = view d.tree.now }
 
-abbrev pub entry_view : Bor (List ℕ) × Bor Value → request.Document
-entry_view e = record { uri = e.0.now; tree = view e.1.now }
+abbrev pub entry_view : List ℕ × Bor Value → request.Document
+entry_view e = record { uri = e.0; tree = view e.1.now }
 
-abbrev pub documents_view : List (Bor (List ℕ) × Bor Value) → List request.Document
+abbrev pub documents_view : List (List ℕ × Bor Value) → List request.Document
 documents_view es = map entry_view es

@@ -1,12 +1,14 @@
 -- A request: the fields of one JSON object.
 use Rattle.std.specs.Prelude.{ℕ, Bool, true, ◌&&◌, ◌||◌, List, [], ◌∷◌, codes, Option, Some, None, option_map, option_and_then, Result, Ok, Err, ok_or, is_some, bytes_eq, if◌then◌else◌}
 use Rattle.std.specs.List.{list_all}
+use Rattle.std.specs.Result.{result_ok}
 use Rattle.std.specs.Str.{is_utf8}
 use Rattle.serde_json.specs.Data.{Data, null, boolean, number, string, array, object, Items, no_items, item, Members, no_members, member}
 use Rattle.serde_json.specs.Find.{get, at, as_str, as_array, as_object, as_number, as_u64}
 use Rattle.serde_json.specs.Read.{read}
 use Rattle.serde_json.specs.Written.{has_float}
 use Rattle.ref_uri.specs.Reference.{is_uri_reference}
+use Rattle.ref_uri.specs.Targets.{parsed}
 use Rattle.ref_draft.specs.declared.draft.Draft.{Draft}
 use Rattle.ref_draft.specs.declared.draft.Draft.TheVariants as draft
 use Rattle.refwalk.specs.declared.request.BadRequest.{BadRequest}
@@ -64,9 +66,9 @@ documents_of d = list_of document_of d
 unfoldable pub remote_of : Data → Option (List Document)
 remote_of d = option_and_then (if_passes (list_all (λ e. is_uri_reference e.uri))) (documents_of d)
 
--- a text that is a URI reference
+-- the URI that a text means
 unfoldable pub base_of : Data → Option (List ℕ)
-base_of d = option_and_then (if_passes is_uri_reference) (as_str d)
+base_of d = option_and_then (λ text. result_ok (parsed text)) (as_str d)
 
 abbrev pub step_of : Data → Option Step
 step_of null = Some Recursive

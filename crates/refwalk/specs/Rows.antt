@@ -1,14 +1,15 @@
 -- Rows of the definitions, each of which computes.
 use Rattle.std.specs.Prelude.{◌≡◌, true, false, [], ◌∷◌, codes, Some, None, Ok, Err}
-use Rattle.serde_json.specs.Data.{boolean, array, no_items, item}
+use Rattle.serde_json.specs.Data.{null, boolean, array, no_items, item}
 use Rattle.ref_draft.specs.declared.draft.Draft.TheVariants.{Draft4, Draft6, Draft7, Draft201909, Draft202012, Unknown}
-use Rattle.refwalk.specs.Fault.{InvalidArrayIndex, PointerToNowhere}
+use Rattle.ref_uri.specs.Targets.{unparsed}
+use Rattle.refwalk.specs.Fault.{InvalidArrayIndex, PointerToNowhere, InvalidUri, uri_or_fault}
 use Rattle.refwalk.specs.Follow.{moved}
 use Rattle.refwalk.specs.Pointer.{index_of, parts, step_into}
 use Rattle.refwalk.specs.Registry.{added, means}
 use Rattle.refwalk.specs.Report.{draft_name}
-use Rattle.refwalk.specs.Request.{draft_named}
-use Rattle.refwalk.specs.Served.{trimmed, is_plain, is_pointer_reference}
+use Rattle.refwalk.specs.Request.{draft_named, Lookup, Recursive, Enter}
+use Rattle.refwalk.specs.Served.{is_served_step}
 
 -- a leading 0 and a `+` are taken, a minus and a space are not, and a number past 64 bits is no index
 abbrev pub IndexRows : Type 0
@@ -29,13 +30,18 @@ StepRows =
     × (step_into (codes "/one") (array no_items) (codes "one") ≡ Err (InvalidArrayIndex (codes "/one") (codes "one")))
     × (step_into (codes "/a") (boolean true) (codes "a") ≡ Err (PointerToNowhere (codes "/a")))
 
--- which URIs are served, and which references
-abbrev pub PlainRows : Type 0
-PlainRows =
-    (is_plain (codes "http://a/r") ≡ true) × (is_plain (codes "http://example.com") ≡ true) × (is_plain (codes "http://") ≡ false)
-    × (is_plain (codes "http://a/") ≡ false) × (is_plain (codes "HTTP://a") ≡ false) × (is_plain (codes "http://a:80") ≡ false)
-    × (trimmed (codes "http://a/d##") ≡ codes "http://a/d") × (is_pointer_reference (codes "#") ≡ true)
-    × (is_pointer_reference (codes "#/a") ≡ true) × (is_pointer_reference (codes "#a") ≡ false) × (is_pointer_reference (codes "a") ≡ false)
+-- which steps are served
+abbrev pub ServedRows : Type 0
+ServedRows =
+    (is_served_step (Lookup []) ≡ true) × (is_served_step (Lookup (codes "#")) ≡ true) × (is_served_step (Lookup (codes "../s#/k")) ≡ true)
+    × (is_served_step (Lookup (codes "#/a#/b")) ≡ true) × (is_served_step (Lookup (codes "#a")) ≡ false) × (is_served_step (Lookup (codes "s#a")) ≡ false)
+    × (is_served_step Recursive ≡ false) × (is_served_step (Enter null) ≡ false)
+
+-- a text that means no URI is a fault, and so says what the text is
+abbrev pub FaultRows : Type 0
+FaultRows =
+    (uri_or_fault (Ok (codes "http://a")) ≡ Ok (codes "http://a"))
+    × (uri_or_fault (Err (unparsed (codes "a b"))) ≡ Err (InvalidUri (codes "Invalid URI reference 'a b': not a URI reference of RFC 3986")))
 
 -- a later document under a URI takes the place of an earlier one
 abbrev pub MeansRows : Type 0

@@ -26,7 +26,7 @@ step_view (Enter value) = request.Enter (view value.now)
 abbrev pub request_view : Request → request.Request
 request_view r = record {
   documents = map document_view r.documents.items;
-  base = r.base.now;
+  base = r.base.value;
   steps = map step_view r.steps.items;
   remote = option_map (λ v. map document_view v.items) r.remote;
   meta = option_map (λ v. map document_view v.items) r.meta;
@@ -35,7 +35,7 @@ request_view r = record {
 }
 
 abbrev pub resolver_view : Resolver → follow.Resolver
-resolver_view r = record { base = r.base.now.value; scope = r.scope }
+resolver_view r = record { base = r.base.value; scope = r.scope }
 
 abbrev pub followed_view : Followed → follow.Followed
 followed_view f = record { last = option_map (λ v. view v.now) f.last; resolver = resolver_view f.resolver }

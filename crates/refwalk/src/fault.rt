@@ -1,21 +1,23 @@
 //! Why documents can't be prepared, or a step can't be followed.
 ghost use Rattle.std.specs.Prelude.{Some};
 
+use ref_uri::{Uri, UriError};
 use std::fmt;
+use std::rc::Rc;
 
 /// A fault, with what its text names.
 #[derive(Drop)]
 pub enum Fault<'a> {
     /// No document bears the URI.
-    Unretrievable { uri: &'a str },
+    Unretrievable { uri: Rc<Uri> },
     PointerToNowhere { pointer: &'a str },
     InvalidPercentEncoding { pointer: &'a str },
     /// The part of the pointer is no index of an array.
     InvalidArrayIndex { pointer: &'a str, index: String },
     NoSuchAnchor { anchor: &'a str },
     InvalidAnchor { anchor: &'a str },
-    /// The text is no URI reference.
-    InvalidUri { uri: &'a str },
+    /// A text means no URI.
+    InvalidUri(UriError),
 }
 
 impl fmt::Display for Fault<'_> {
@@ -28,7 +30,8 @@ impl fmt::Display for Fault<'_> {
         match self {
             Fault::Unretrievable { uri } => write!(
                 f,
-                "Resource '{uri}' is not present in a registry and retrieving it failed: Retrieving external resources is not supported once the registry is populated"
+                "Resource '{}' is not present in a registry and retrieving it failed: Retrieving external resources is not supported once the registry is populated",
+                uri.as_str()
             ),
             Fault::PointerToNowhere { pointer } => write!(f, "Pointer '{pointer}' does not exist"),
             Fault::InvalidPercentEncoding { pointer } => write!(
@@ -41,10 +44,7 @@ impl fmt::Display for Fault<'_> {
             ),
             Fault::NoSuchAnchor { anchor } => write!(f, "Anchor '{anchor}' does not exist"),
             Fault::InvalidAnchor { anchor } => write!(f, "Anchor '{anchor}' is invalid"),
-            Fault::InvalidUri { uri } => write!(
-                f,
-                "Invalid URI reference '{uri}': not a URI reference of RFC 3986"
-            ),
+            Fault::InvalidUri(error) => write!(f, "{error}"),
         }
     }
 }

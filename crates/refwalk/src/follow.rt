@@ -11,6 +11,7 @@ use crate::pointer::at_fragment;
 use crate::registry::Registry;
 use crate::request::Step;
 use crate::stop::Stop;
+use crate::uri::{fragment_part, target};
 use ref_parts::list::List;
 use ref_uri::Uri;
 use serde_json::Value;
@@ -19,8 +20,8 @@ use std::rc::Rc;
 
 /// Where a lookup starts from: the base URI, and the URIs passed so far, inner to outer.
 #[derive(Drop)]
-pub struct Resolver<'a> {
-    pub base: &'a Rc<Uri>,
+pub struct Resolver {
+    pub base: Rc<Uri>,
     pub scope: List<Uri>,
 }
 
@@ -28,7 +29,7 @@ pub struct Resolver<'a> {
 #[derive(Drop)]
 pub struct Followed<'a> {
     pub last: Option<&'a Value>,
-    pub resolver: Resolver<'a>,
+    pub resolver: Resolver,
 }
 
 /// The number of a step, from 0, and its fault.
@@ -38,12 +39,12 @@ pub struct StepFault<'a> {
     pub fault: Fault<'a>,
 }
 
-/// What the steps lead to from a base, or the first fault. It takes memory for pointers and, where a base goes in front of
-/// the scope, for one link: the URI is shared.
+/// What the steps lead to from a base, or the first fault. It takes memory for targets and pointers and, where a base goes in
+/// front of the scope, for one link: the URI is shared.
 pub fn follow<'a>(
     alloc: Global,
     world: &Registry<'a>,
-    base: &'a Rc<Uri>,
+    base: &Rc<Uri>,
     steps: &[Step<'a>],
 ) -> Result<Followed<'a>, Stop<StepFault<'a>>>
     ensures { Answers followed_view step_fault_view result
@@ -52,7 +53,7 @@ pub fn follow<'a>(
     let mut state = Followed {
         last: None,
         resolver: Resolver {
-            base,
+            base: base.clone()?,
             scope: List::new(),
         },
     };
@@ -85,10 +86,10 @@ fn stepped<'a>(
         (spec.stepped (documents_view world.now.documents.entries) (followed_view state.entry) (step_view step.now)) }
 {
     match step {
-        Step::Lookup(reference) => match reference.strip_prefix('#') {
-            Some(fragment) => looked_up(alloc, world, state.resolver, fragment),
-            None => Ok(state),
-        },
+        Step::Lookup(reference) => {
+            let uri = target(alloc, &state.resolver.base, reference)?;
+            looked_up(alloc, world, state.resolver, uri, fragment_part(reference))
+        }
         Step::Recursive | Step::Enter(_) => Ok(state),
     }
 }
@@ -97,16 +98,16 @@ fn stepped<'a>(
 fn looked_up<'a>(
     alloc: Global,
     world: &Registry<'a>,
-    resolver: Resolver<'a>,
+    resolver: Resolver,
+    uri: Rc<Uri>,
     fragment: &'a str,
 ) -> Result<Followed<'a>, Stop<Fault<'a>>>
     ensures { Answers followed_view fault_view result
-        (spec.looked_up (documents_view world.now.documents.entries) (resolver_view resolver.entry) resolver.entry.base.now.value fragment.now) }
+        (spec.looked_up (documents_view world.now.documents.entries) (resolver_view resolver) uri.value fragment.now) }
 {
-    let uri = resolver.base;
-    let root = world
-        .tree(uri.as_str())
-        .ok_or(Stop::Because(Fault::Unretrievable { uri: uri.as_str() }))?;
+    let Some(root) = world.tree(&uri) else {
+        return Err(Stop::Because(Fault::Unretrievable { uri }));
+    };
     let value = at_fragment(alloc, fragment, root)?;
     Ok(Followed {
         last: Some(value),
@@ -115,16 +116,11 @@ fn looked_up<'a>(
 }
 
 // The old base goes in front of the scope, if the scope is empty or the base changes.
-fn moved<'a>(
-    alloc: Global,
-    mut resolver: Resolver<'a>,
-    uri: &'a Rc<Uri>,
-) -> Result<Resolver<'a>, AllocError>
-    ensures { IfOk result (λ r. resolver_view r ≡ spec.moved (resolver_view resolver.entry) uri.now.value) }
+fn moved(alloc: Global, mut resolver: Resolver, uri: Rc<Uri>) -> Result<Resolver, AllocError>
+    ensures { IfOk result (λ r. resolver_view r ≡ spec.moved (resolver_view resolver) uri.value) }
 {
-    let base = resolver.base;
-    if resolver.scope.is_empty() || uri.as_str() != base.as_str() {
-        resolver.scope = resolver.scope.push_front(alloc, base.clone()?)?;
+    if resolver.scope.is_empty() || uri.as_str() != resolver.base.as_str() {
+        resolver.scope = resolver.scope.push_front(alloc, resolver.base.clone()?)?;
     }
     resolver.base = uri;
     Ok(resolver)

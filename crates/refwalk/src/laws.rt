@@ -1,5 +1,5 @@
 //! Rows of the definitions, as contracts of functions that do nothing.
-ghost use Rattle.refwalk.specs.Rows.{IndexRows, PartsRows, StepRows, PlainRows, MeansRows, ScopeRows, DraftRows};
+ghost use Rattle.refwalk.specs.Rows.{IndexRows, PartsRows, StepRows, ServedRows, FaultRows, MeansRows, ScopeRows, DraftRows};
 
 /// The parts of a pointer that are indexes of an array.
 pub fn index_rows()
@@ -16,9 +16,14 @@ pub fn step_rows()
     ensures { StepRows }
 {}
 
-/// Texts that are served.
-pub fn plain_rows()
-    ensures { PlainRows }
+/// Steps that are served.
+pub fn served_rows()
+    ensures { ServedRows }
+{}
+
+/// Texts that mean no URI.
+pub fn fault_rows()
+    ensures { FaultRows }
 {}
 
 /// What a URI means among documents.

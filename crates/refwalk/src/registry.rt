@@ -9,19 +9,22 @@ ghost use Rattle.refwalk.specs.RegistryView.{documents_view, document_view};
 use crate::fault::Fault;
 use crate::request::Document;
 use crate::stop::Stop;
-use crate::uri::{is_reference, trimmed};
 use indexmap::IndexMap;
+use ref_draft::trim_hashes;
+use ref_uri::Uri;
+use ref_uri::uri::from_str;
 use serde_json::Value;
 use std::alloc::Global;
 
 /// The trees under their URIs, in order of first addition.
 #[derive(Drop)]
 pub struct Registry<'a> {
-    pub documents: IndexMap<&'a str, &'a Value>,
+    pub documents: IndexMap<Uri, &'a Value>,
 }
 
-/// The documents, each under its URI without the `#` characters at its end, or the first of those texts that is no URI
-/// reference. A later document under a URI takes the place of an earlier one. It takes memory for an entry each.
+/// The documents, each under the URI that its text means without the `#` characters at its end, or the fault of the first
+/// text that means none. A later document under a URI takes the place of an earlier one. It takes memory for a URI and an
+/// entry each.
 pub fn prepared<'a>(
     alloc: Global,
     documents: &[Document<'a>],
@@ -33,10 +36,7 @@ pub fn prepared<'a>(
         documents: IndexMap::new(alloc),
     };
     for document in documents {
-        let uri = trimmed(document.uri);
-        if !is_reference(uri) {
-            return Err(Stop::Because(Fault::InvalidUri { uri }));
-        }
+        let uri = from_str(alloc, trim_hashes(document.uri))?;
         registry.documents.insert(uri, document.tree)?;
     }
     Ok(registry)
@@ -44,7 +44,7 @@ pub fn prepared<'a>(
 
 impl<'a> Registry<'a> {
     /// The tree of the document that bears the URI: a look-up.
-    pub fn tree(&self, uri: &str) -> Option<&'a Value>
+    pub fn tree(&self, uri: &Uri) -> Option<&'a Value>
         ensures { option_map (λ v. view v.now) result
             ≡ spec.means (documents_view self.now.documents.entries) uri.now }
     {

@@ -14,8 +14,11 @@ use crate::scan::has_float;
 use crate::stop::Stop;
 use crate::uri::is_reference;
 use ref_draft::Draft;
+use ref_uri::uri::from_str;
+use ref_uri::{Uri, UriFault};
 use serde_json::{Map, Value};
 use std::alloc::{AllocError, Global};
+use std::rc::Rc;
 
 /// A document, and the text of the URI under which it is added.
 #[derive(Clone, Copy)]
@@ -36,7 +39,7 @@ pub enum Step<'a> {
 #[derive(Drop)]
 pub struct Request<'a> {
     pub documents: Vec<Document<'a>>,
-    pub base: &'a str,
+    pub base: Rc<Uri>,
     pub steps: Vec<Step<'a>>,
     pub remote: Option<Vec<Document<'a>>>,
     pub meta: Option<Vec<Document<'a>>>,
@@ -105,7 +108,7 @@ fn fields_of(alloc: Global, tree: &Value) -> Result<Request<'_>, Stop<BadRequest
     ensures { Answers request_view (λ e. e) result (spec.fields_of (view tree.now)) }
 {
     let documents = required_documents(alloc, tree.get("documents"))?;
-    let base = required_base(tree.get("base"))?;
+    let base = required_base(alloc, tree.get("base"))?;
     let steps = required_steps(alloc, tree.get("steps"))?;
     let remote = optional_remote(alloc, tree.get("remote"))?;
     let meta = optional_meta(alloc, tree.get("meta"))?;
@@ -133,12 +136,12 @@ fn required_documents(
     documents_of(alloc, value)?.ok_or(Stop::Because(BadRequest::Documents))
 }
 
-fn required_base(found: Option<&Value>) -> Result<&str, Stop<BadRequest>>
-    ensures { Answers (λ s. s.now) (λ e. e) result
+fn required_base(alloc: Global, found: Option<&Value>) -> Result<Rc<Uri>, Stop<BadRequest>>
+    ensures { Answers (λ u. u.value) (λ e. e) result
         (spec.required bad.Base spec.base_of (option_map (λ v. view v.now) found.entry)) }
 {
     let value = found.ok_or(Stop::Because(BadRequest::Base))?;
-    base_of(value).ok_or(Stop::Because(BadRequest::Base))
+    base_of(alloc, value)?.ok_or(Stop::Because(BadRequest::Base))
 }
 
 fn required_steps(alloc: Global, found: Option<&Value>) -> Result<Vec<Step<'_>>, Stop<BadRequest>>
@@ -258,11 +261,17 @@ fn have_references(documents: &[Document]) -> bool
 }
 
 #[tactic(auto, unfolding(crate::specs::Request::base_of))]
-fn base_of(value: &Value) -> Option<&str>
-    ensures { option_map (λ s. s.now) result ≡ spec.base_of (view value.now) }
+fn base_of(alloc: Global, value: &Value) -> Result<Option<Rc<Uri>>, AllocError>
+    ensures { IfOk result (λ o. option_map (λ u. u.value) o ≡ spec.base_of (view value.now)) }
 {
-    let base = value.as_str()?;
-    if is_reference(base) { Some(base) } else { None }
+    let Some(text) = value.as_str() else {
+        return Ok(None);
+    };
+    match from_str(alloc, text) {
+        Ok(uri) => Ok(Some(Rc::new(alloc, uri)?)),
+        Err(UriFault::Memory(refused)) => Err(refused),
+        Err(UriFault::Invalid(_)) => Ok(None),
+    }
 }
 
 #[tactic(auto, unfolding(crate::specs::Request::steps_of), using(crate::proofs::Trees::in_front_push))]

@@ -2,7 +2,6 @@
 ghost use Rattle.std.specs.Prelude.{◌≡◌, ◌++◌, ◌<◌, Some, Ok, Err, IfOk, IfSome, OnOk, IfErr, option_map, ◌⊎◌, ◌≢◌, map, IsTrue, true, false, string_bytes};
 ghost use Rattle.std.specs.Io.KnownBytes.{Appends, Keeps};
 ghost use Rattle.serde_json.specs.View.{view};
-ghost use Rattle.ref_uri.specs.Reference.{is_uri_reference, is_uri};
 ghost use Rattle.refwalk.specs.Bytes.{HasFailed, counted};
 ghost use Rattle.refwalk.specs.Run.{AnswersBytes, AnswersRequest, Reports, IsUnanswered};
 ghost use Rattle.refwalk.specs.Floats.{HasNoFloat};
@@ -20,12 +19,10 @@ use crate::served::is_served;
 use crate::sink::Sink;
 use crate::source::Source;
 use crate::stop::Stop;
-use crate::uri::uri_of;
 use ref_draft::Draft;
 use serde_json::Value;
 use std::alloc::{AllocError, Global};
 use std::fmt;
-use std::rc::Rc;
 
 const CHUNK: usize = 4096;
 
@@ -164,8 +161,7 @@ fn answer_tree(alloc: Global, tree: &Value) -> Result<Report, RunError>
 }
 
 fn answer_request(alloc: Global, request: &Request) -> Result<Report, RunError>
-    requires documents { HasNoFloat (request_view request.now).documents }
-    requires base { is_uri_reference request.now.base.now ≡ true }
+    requires { HasNoFloat (request_view request.now).documents }
     ensures { AnswersRequest (Ok (request_view request.now)) result }
 {
     if !is_served(request) {
@@ -175,8 +171,7 @@ fn answer_request(alloc: Global, request: &Request) -> Result<Report, RunError>
 }
 
 fn request_report(alloc: Global, request: &Request) -> Result<Report, AllocError>
-    requires documents { HasNoFloat (request_view request.now).documents }
-    requires base { is_uri request.now.base.now ≡ true }
+    requires { HasNoFloat (request_view request.now).documents }
     ensures { IfOk result (λ r. report_view r ≡ report.request_report (request_view request.now)) }
 {
     match prepared(alloc, request.documents.as_slice()) {
@@ -193,15 +188,12 @@ fn draft_of_documents(request: &Request) -> Draft
     request.draft.unwrap_or(Draft::Draft202012)
 }
 
-// The base is parsed once, and the scope shares it.
 fn followed_report(alloc: Global, world: &Registry, request: &Request) -> Result<Report, AllocError>
-    requires documents { HasNoFloat (documents_view world.now.documents.entries) }
-    requires base { is_uri request.now.base.now ≡ true }
+    requires { HasNoFloat (documents_view world.now.documents.entries) }
     ensures { IfOk result (λ r. report_view r ≡ report.followed_report (report.draft_of_documents (request_view request.now))
-        (followed (documents_view world.now.documents.entries) request.now.base.now (map step_view request.now.steps.items))) }
+        (followed (documents_view world.now.documents.entries) request.now.base.value (map step_view request.now.steps.items))) }
 {
-    let base = Rc::new(alloc, uri_of(alloc, request.base)?)?;
-    match follow(alloc, world, &base, request.steps.as_slice()) {
+    match follow(alloc, world, &request.base, request.steps.as_slice()) {
         Ok(followed) => done_report(alloc, draft_of_documents(request), &followed),
         Err(Stop::Memory) => Err(AllocError),
         Err(Stop::Because(stopped)) => step_report(alloc, stopped.step, &stopped.fault),

@@ -6,7 +6,7 @@ ghost use Rattle.refwalk.specs.View.{document_view, step_view, request_view};
 
 use crate::request::{Document, Request, Step};
 use crate::scan::has_keyword;
-use crate::uri::{is_plain, is_reference, trimmed};
+use crate::uri::fragment_part;
 
 /// Whether the request is answered by a report.
 #[tactic(auto, unfolding(crate::specs::Served::is_served), using(crate::proofs::Texts::list_all_map))]
@@ -14,9 +14,6 @@ pub fn is_served(request: &Request) -> bool
     ensures { result ≡ spec.is_served (request_view request.now) }
 {
     if !are_served_documents(request.documents.as_slice()) {
-        return false;
-    }
-    if !is_plain(request.base) {
         return false;
     }
     if !are_served_steps(request.steps.as_slice()) {
@@ -43,8 +40,7 @@ fn are_served_documents(documents: &[Document]) -> bool
 fn is_served_document(document: &Document) -> bool
     ensures { result ≡ spec.is_served_document (document_view document.now) }
 {
-    let uri = trimmed(document.uri);
-    (is_plain(uri) || !is_reference(uri)) && !has_keyword(document.tree)
+    !has_keyword(document.tree)
 }
 
 fn are_served_steps(steps: &[Step]) -> bool
@@ -57,17 +53,16 @@ fn is_served_step(step: &Step) -> bool
     ensures { result ≡ spec.is_served_step (step_view step.now) }
 {
     match step {
-        Step::Lookup(reference) => is_pointer_reference(reference.as_bytes()),
+        Step::Lookup(reference) => is_pointer_fragment(fragment_part(reference)),
         Step::Recursive | Step::Enter(_) => false,
     }
 }
 
-fn is_pointer_reference(reference: &[u8]) -> bool
-    ensures { result ≡ spec.is_pointer_reference reference.now }
+fn is_pointer_fragment(fragment: &str) -> bool
+    ensures { result ≡ spec.is_pointer_fragment fragment.now }
 {
-    match reference {
-        [] => false,
-        [first] => *first == b'#',
-        [first, second, ..] => *first == b'#' && *second == b'/',
+    match fragment.as_bytes() {
+        [] => true,
+        [first, ..] => *first == b'/',
     }
 }

@@ -14,8 +14,10 @@ pub(crate) fn text_under<'a>(contents: &'a Value, key: &str) -> Option<&'a str>
     contents.get(key).and_then(Value::as_str)
 }
 
-// The text without the `#` characters at its end.
-pub(crate) fn trim_hashes(text: &str) -> &str
+/// The text without the `#` characters at its end, which make no difference to the URI of a document or a meta-schema.
+///
+/// Takes no memory. Linear in their number.
+pub fn trim_hashes(text: &str) -> &str
     ensures { result.now ≡ trimmed text.now }
 {
     text.trim_end_matches('#')

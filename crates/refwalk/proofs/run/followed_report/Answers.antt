@@ -8,4 +8,4 @@ use Rattle.refwalk.proofs.run.followed_report.Goals as goal
 pub done_report-requires : goal.done_report-requires
 done_report-requires c =
     last-no_float c.in-Ok.followed.last
-    (followed-no_float (documents_view c.args.world.now.documents.entries) 0 (start c.in_ok-base.base.value) (followed_view c.in-Ok.followed) _ c.requires.documents tt c.in-Ok.ensures)
+    (followed-no_float (documents_view c.args.world.now.documents.entries) 0 (start c.args.request.now.base.value) (followed_view c.in-Ok.followed) _ c.requires tt c.in-Ok.ensures)

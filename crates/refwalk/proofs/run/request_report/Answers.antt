@@ -6,9 +6,9 @@ use Rattle.refwalk.proofs.Floats.{prepared-no_float}
 use Rattle.refwalk.proofs.Reports.{request_report-ok, request_report-err}
 use Rattle.refwalk.proofs.run.request_report.Goals as goal
 
-pub followed_report-requires-clause-documents : goal.followed_report-requires-clause-documents
-followed_report-requires-clause-documents c =
-    prepared-no_float [] (map document_view c.args.request.now.documents.items) (documents_view c.in-Ok.world.documents.entries) tt c.requires.documents (rw c.as_slice.ensures.value at c.in-Ok.ensures)
+pub followed_report-requires : goal.followed_report-requires
+followed_report-requires c =
+    prepared-no_float [] (map document_view c.args.request.now.documents.items) (documents_view c.in-Ok.world.documents.entries) tt c.requires (rw c.as_slice.ensures.value at c.in-Ok.ensures)
 
 pub returns-in-Ok : goal.returns-in-Ok
 returns-in-Ok c =
