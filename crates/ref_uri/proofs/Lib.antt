@@ -31,3 +31,5 @@ pub mod RemovalLemmas
 pub mod SegmentLemmas
 pub mod LastSlash
 pub mod WrittenLemmas
+pub mod NormalTargets
+pub mod DefaultTarget

@@ -356,21 +356,21 @@ normal_twice text h =
     ap (λ d. text_of (normal d)) (components-text_of (normal c) (normal_is_valid c valid)) ∙ ap text_of (components_twice c valid)
 
 -- The target of a normal form against the base of texts without a scheme.
-abbrev default_components : Components
+abbrev pub default_components : Components
 default_components = the_components (Some (codes "json-schema")) (Some []) (codes "/") None None
 
-default_is : components default_base ≡ default_components
+pub default_is : components default_base ≡ default_components
 unfolding ref_uri_on_literals
 default_is = refl
 
 scheme_settled : map to_ascii_lowercase (codes "json-schema") ≡ codes "json-schema"
 scheme_settled = refl
 
-authority_settled : normal_authority [] ≡ []
+pub authority_settled : normal_authority [] ≡ []
 unfolding ref_uri_on_literals
 authority_settled = refl
 
-root_is : remove_dot_segments (normal_text (codes "/")) ≡ codes "/"
+pub root_is : remove_dot_segments (normal_text (codes "/")) ≡ codes "/"
 unfolding ref_uri_on_literals
 root_is = refl
 
@@ -407,7 +407,7 @@ resolved_settles None path q f whole authority query fragment =
 default_hold : are_components default_components ≡ true
 default_hold = ap are_components (sym default_is) ∙ components_hold default_base default_is_reference
 
-components_of_normal : (text : List ℕ) → is_uri_reference text ≡ true → components (normal_form text) ≡ normal (components text)
+pub components_of_normal : (text : List ℕ) → is_uri_reference text ≡ true → components (normal_form text) ≡ normal (components text)
 unfolding normal_form
 components_of_normal text h = components-text_of (normal (components text)) (normal_is_valid (components text) (components_hold text h))
 

@@ -47,7 +47,7 @@ pub resolved_text_of : (b r : Components) (base reference : List ℕ) → b ≡ 
 unfolding resolved
 resolved_text_of b r base reference is are = ap (λ d. text_of (resolved_components d r)) is ∙ ap (λ d. text_of (resolved_components (components base) d)) are
 
-some_there : (o : Option (List ℕ)) → is_some o ≡ true → (x : List ℕ) × (o ≡ Some x)
+pub some_there : (o : Option (List ℕ)) → is_some o ≡ true → (x : List ℕ) × (o ≡ Some x)
 some_there None h = absurd (false≢true h)
 some_there (Some x) h = (x, refl)
 

@@ -1,10 +1,10 @@
 //! A URI reference that borrows its text.
 ghost use Rattle.std.specs.Prelude.{◌≡◌, ◌↔◌, List, ℕ, true, is_ok, is_some, None, IfOk, IfErr, IsErrOf, option_copied, string_bytes};
-ghost use Rattle.ref_uri.specs.Components.{components, are_components, scheme, authority, path, query, fragment};
+ghost use Rattle.ref_uri.specs.Components.{components, are_components, text_of, scheme, authority, path, query, fragment};
 ghost use Rattle.ref_uri.specs.Normal.{normal, normal_form};
 ghost use Rattle.ref_uri.specs.Reference.{is_uri_reference, with_fragment};
 ghost use Rattle.ref_uri.specs.Resolution.{resolved};
-ghost use Rattle.ref_uri.specs.Target.{components_of, lengths_of_components};
+ghost use Rattle.ref_uri.specs.Target.{components_of, lengths_of_components, target_with_dots};
 
 use crate::error::{ParseError, ResolveError, ResolveFault};
 use crate::lengths::{self, Lengths, Parts};
@@ -107,6 +107,21 @@ impl<'a> UriRef<'a> {
         let target = target::resolved(base.parts(), self.parts());
         let (text, lengths) = target.write(alloc, Form::Given)?;
         Ok(Uri::from_written(text, lengths))
+    }
+
+    /// The text of the target in normal form, and how long its components are. Its path is in normal form before its dot
+    /// segments go.
+    pub(crate) fn normal_target(
+        &self,
+        alloc: Global,
+        base: &UriRef<'_>,
+    ) -> Result<(String, Lengths), AllocError>
+        requires { is_some (scheme base.now) ≡ true }
+        ensures text { IfOk result (λ t. string_bytes t.0 ≡ text_of (normal (target_with_dots (components base.now) (components self.now)))) }
+        ensures lengths { IfOk result (λ t. t.1 ≡ lengths_of_components (normal (target_with_dots (components base.now) (components self.now)))) }
+    {
+        let target = target::resolved(base.parts(), self.parts());
+        target.write(alloc, Form::Normal)
     }
 
     /// The text.

@@ -247,12 +247,12 @@ pub fn from_str(alloc: Global, uri: &str) -> Result<Uri, UriFault>
         Ok(reference) => reference,
         Err(fault) => return Err(fault),
     };
-    let (text, lengths) = reference.normalized(alloc)?;
     if reference.has_scheme() {
+        let (text, lengths) = reference.normalized(alloc)?;
         return Ok(Uri::from_written(text, lengths));
     }
-    let normal = UriRef::from_parsed(text.as_str(), lengths);
-    Ok(target(alloc, normal, default_base())?)
+    let (text, lengths) = reference.normal_target(alloc, &default_base())?;
+    Ok(Uri::from_written(text, lengths))
 }
 
 fn begins_with_hash(text: &str) -> bool
