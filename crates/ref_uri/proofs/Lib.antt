@@ -33,3 +33,5 @@ pub mod LastSlash
 pub mod WrittenLemmas
 pub mod NormalTargets
 pub mod DefaultTarget
+pub mod PlainDots
+pub mod WrittenAtOnce

@@ -107,7 +107,7 @@ pub or_is_query_or : (o other : Option (Bor (List ℕ))) → option_copied (opti
 or_is_query_or None other = refl
 or_is_query_or (Some x) other = refl
 
-map_given : (o : Option (List ℕ)) → option_map (λ text. text) o ≡ o
+pub map_given : (o : Option (List ℕ)) → option_map (λ text. text) o ≡ o
 map_given None = refl
 map_given (Some text) = refl
 

@@ -1,5 +1,5 @@
 -- The components of what is written, which are parts of other texts.
-use Rattle.std.specs.Prelude.{◌≡◌, ℕ, true, ◌||◌, List, ◌∷◌, ◌++◌, length, Option, Some, None, is_some, option_map, option_copied, ◌==◌, if◌then◌else◌, slice_index}
+use Rattle.std.specs.Prelude.{◌≡◌, ◌≢◌, ℕ, true, ⊤, ◌||◌, List, ◌∷◌, ◌++◌, length, codes, Option, Some, None, is_some, option_map, option_copied, ◌==◌, if◌then◌else◌, slice_index}
 use Rattle.ref_uri.specs.declared.lengths.Lengths.{Lengths}
 use Rattle.ref_uri.specs.declared.lengths.Parts.{Parts}
 use Rattle.ref_uri.specs.declared.target.PathOf.{PathOf}
@@ -41,6 +41,17 @@ AreParts (Kept path) = is_path path.now ≡ true
 AreParts (OfBase path) = is_path path.now ≡ true
 AreParts (Removed path) = is_path path.now ≡ true
 AreParts (Merged directory path) = (is_path directory.now ≡ true) × (is_path path.now ≡ true)
+
+-- no triple of `.` stands in the text (2.1)
+abbrev pub LacksEncodedDot : List ℕ → Type 0
+LacksEncodedDot text = (before after : List ℕ) → (text ≢ before ++ (codes "%2e" ++ after)) × (text ≢ before ++ (codes "%2E" ++ after))
+
+-- the dot segments that the path loses as it is given are those that it loses in normal form
+abbrev pub LosesSameDots : PathOf → Type 0
+LosesSameDots (Kept path) = ⊥
+LosesSameDots (OfBase path) = ⊤
+LosesSameDots (Removed path) = LacksEncodedDot path.now
+LosesSameDots (Merged directory path) = LacksEncodedDot directory.now × LacksEncodedDot path.now
 
 -- each part holds what it may
 pub record IsTarget (target : Target) : Type 0 where

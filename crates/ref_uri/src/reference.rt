@@ -33,7 +33,7 @@ impl<'a> Model for UriRef<'a> {
 }
 
 impl<'a> UriRef<'a> {
-    ghost use Rattle.ref_uri.specs.Lengths.{IsParsed};
+    ghost use Rattle.ref_uri.specs.Lengths.{IsParsed, IsParsedUri};
 
     /// The reference that the text is. `Syntax` exactly where the text is no URI reference (RFC 3986, 4.1 and
     /// appendix A). One pass over the text; takes no memory and copies nothing.
@@ -109,9 +109,9 @@ impl<'a> UriRef<'a> {
         Ok(Uri::from_written(text, lengths))
     }
 
-    /// The text of the target in normal form, and how long its components are. Its path is in normal form before its dot
-    /// segments go.
-    pub(crate) fn normal_target(
+    /// The text of the target in normal form, where that is taken before its dot segments go, and how long its components
+    /// are.
+    pub(crate) fn normalized_then_resolved(
         &self,
         alloc: Global,
         base: &UriRef<'_>,
@@ -122,6 +122,25 @@ impl<'a> UriRef<'a> {
     {
         let target = target::resolved(base.parts(), self.parts());
         target.write(alloc, Form::Normal)
+    }
+
+    /// The normal form of the target's text, and how long its components are. It is written at once, unless a path holds
+    /// `%2e`: then the target is written first.
+    pub(crate) fn resolved_then_normalized(
+        &self,
+        alloc: Global,
+        base: &UriRef<'_>,
+    ) -> Result<(String, Lengths), AllocError>
+        requires { is_some (scheme base.now) ≡ true }
+        ensures text { IfOk result (λ t. string_bytes t.0 ≡ normal_form (resolved base.now self.now)) }
+        ensures parsed { IfOk result (λ t. IsParsedUri (string_bytes t.0) t.1) }
+    {
+        let target = target::resolved(base.parts(), self.parts());
+        if target.path.loses_same_dots() {
+            return target.write(alloc, Form::Normal);
+        }
+        let (given, lengths) = target.write(alloc, Form::Given)?;
+        UriRef::from_parsed(given.as_str(), lengths).normalized(alloc)
     }
 
     /// The text.

@@ -1,12 +1,12 @@
 //! What a target's text is composed of (RFC 3986, 5.2.2 and 5.3).
-ghost use Rattle.std.specs.Prelude.{◌≡◌, ◌≤◌, ◌++◌, ℕ, true, List, [], length, codes, Some, None, is_some, is_none, option_map, option_copied, string_bytes, IfOk, OnOk, IsAscii, ◌∷◌};
+ghost use Rattle.std.specs.Prelude.{◌≡◌, ◌↔◌, ◌≤◌, ◌++◌, ℕ, true, false, List, [], length, codes, Some, None, is_some, is_none, option_map, option_copied, string_bytes, IfOk, OnOk, IsAscii, ◌∷◌};
 ghost use Rattle.ref_uri.specs.Authority.{is_authority};
 ghost use Rattle.ref_uri.specs.Components.{Components, are_components, text_of, framed, if_there, is_scheme, is_path, is_query, begins_with_slashes};
 ghost use Rattle.ref_uri.specs.DotSegments.{remove_dot_segments};
 ghost use Rattle.ref_uri.specs.Normal.{guarded, normal, normal_text};
 ghost use Rattle.ref_uri.specs.Resolution.{through_last_slash, merged, target_path, resolved_components};
 ghost use Rattle.ref_uri.specs.Written.{written, written_scheme, written_authority};
-ghost use Rattle.ref_uri.specs.Target.{written_path, written_components, lengths_of_components, AreParts, IsTarget, components_of, behind_directory, path_behind, target_with_dots};
+ghost use Rattle.ref_uri.specs.Target.{written_path, written_components, lengths_of_components, AreParts, LacksEncodedDot, LosesSameDots, IsTarget, components_of, behind_directory, path_behind, target_with_dots};
 
 use crate::dots::{push_merged_without_dots, push_without_dots};
 use crate::lengths::{Lengths, Parts, head};
@@ -238,7 +238,29 @@ fn guard(buffer: &mut String, start: usize, authority: Option<&str>) -> Result<(
     buffer.insert_str(start, "/.")
 }
 
+/// Whether a triple of `.` stands in a text.
+fn holds_encoded_dot(text: &str) -> bool
+    ensures { (result ≡ false) ↔ LacksEncodedDot text.now }
+{
+    text.contains("%2e") || text.contains("%2E")
+}
+
 impl<'a> PathOf<'a> {
+    /// Whether the dot segments that the path loses as it is given are those that it loses in normal form: a segment such
+    /// as `%2e` is one there alone. The base's own path loses none as it is given, and all in normal form.
+    pub fn loses_same_dots(self) -> bool
+        ensures { (result ≡ true) ↔ LosesSameDots self.entry }
+    {
+        match self {
+            PathOf::Kept(_) => false,
+            PathOf::OfBase(_) => true,
+            PathOf::Removed(path) => !holds_encoded_dot(path),
+            PathOf::Merged(directory, path) => {
+                !holds_encoded_dot(directory) && !holds_encoded_dot(path)
+            }
+        }
+    }
+
     /// The room that the path takes.
     fn room(self) -> usize {
         match self {

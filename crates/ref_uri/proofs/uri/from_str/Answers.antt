@@ -22,8 +22,8 @@ returns-then-has_scheme-clause-ok c =
     parsed_with_scheme text (c.in-Ok.ensures.accepted refl) there
     ∙ ap (λ t. Ok t) (ap normal_form (sym c.in-Ok.ensures.reference) ∙ sym c.in_ok-text.ensures.text ∙ sym c.from_written.ensures)
 
-pub normal_target-requires : goal.normal_target-requires
-normal_target-requires c = ap is_some (ap scheme c.default_base.ensures) ∙ default_has_scheme
+pub normalized_then_resolved-requires : goal.normalized_then_resolved-requires
+normalized_then_resolved-requires c = ap is_some (ap scheme c.default_base.ensures) ∙ default_has_scheme
 
 pub from_written-requires-2 : goal.from_written-requires-2
 from_written-requires-2 c =
