@@ -109,8 +109,8 @@ impl<'a> UriRef<'a> {
         Ok(Uri::from_written(text, lengths))
     }
 
-    /// The text of the target in normal form, where that is taken before its dot segments go, and how long its components
-    /// are.
+    /// The target's text in normal form, and how long its components are. Each component is in normal form before dot
+    /// segments go.
     pub(crate) fn normalized_then_resolved(
         &self,
         alloc: Global,
