@@ -31,3 +31,7 @@ pub mod RemovalLemmas
 pub mod SegmentLemmas
 pub mod LastSlash
 pub mod WrittenLemmas
+pub mod NormalTargets
+pub mod DefaultTarget
+pub mod PlainDots
+pub mod WrittenAtOnce

@@ -85,7 +85,7 @@ encoded_twice fold s =
     ∙ ap (λ r. normal_triple fold high low ++ r) rest ∙ sym (normal_triple_front fold high low t h l))
 
 -- a text of two parts
-normal-append : (p q : List ℕ) → has_whole_triples p ≡ true → normal_text (p ++ q) ≡ normal_text p ++ normal_text q
+pub normal-append : (p q : List ℕ) → has_whole_triples p ≡ true → normal_text (p ++ q) ≡ normal_text p ++ normal_text q
 normal-append p q whole =
     by_units (λ t. normal_text (t ++ q) ≡ normal_text t ++ normal_text q)
     (ap (λ t. t ++ normal_text q) (sym (normal_none (λ c. c))))
@@ -219,24 +219,7 @@ stay_removed (first ∷ rest) plain dotless =
     ∙ ap (λ b. joined (without_dots (drop (cond b (1 + prefix_len is_dot_segment rest) 0) (first ∷ rest)))) dotless.0
     ∙ ap joined (all_stay first rest dotless.1)
 
--- the same behind the guard
-stay_guarded : (parts : List (List ℕ)) (text : List ℕ) → AllByRecursion HasNoSlash parts → AllByRecursion NoDots parts → joined parts ≡ 47 ∷ text → remove_dot_segments (47 ∷ 46 ∷ joined parts) ≡ joined parts
-unfolding remove_dot_segments
-stay_guarded [] text plain dotless is = absurd (nil_is_no_cons is)
-  where
-    nil_is_no_cons : [] ≡ 47 ∷ text → ⊥
-    nil_is_no_cons e = cc
-stay_guarded (first ∷ rest) text plain dotless is =
-    let shape = segments-shape text in
-    let whole : first ∷ rest ≡ [] ∷ segments text = sym (segments_joined first rest plain) ∙ ap segments is in
-    let behind : AllByRecursion NoDots (segments text) = (subst (AllByRecursion NoDots) whole dotless).1 in
-    let some : AllByRecursion NoDots (shape.0 ∷ shape.1) = subst (AllByRecursion NoDots) shape.2 behind in
-    ap (λ t. joined (without_dots (drop (prefix_len is_dot_segment (segments (47 ∷ 46 ∷ t))) (segments (47 ∷ 46 ∷ t))))) is
-    ∙ ap (λ xs. joined (remaining [] [] xs ++ cond (ends_in_dots ((46 ∷ []) ∷ xs)) ([] ∷ []) [])) shape.2
-    ∙ ap (λ b. joined (remaining [] [] (shape.0 ∷ shape.1) ++ cond b ([] ∷ []) [])) (no_end (shape.0 ∷ shape.1) some)
-    ∙ ap joined (append-nil (remaining [] [] (shape.0 ∷ shape.1)) ∙ keep_all [] [] (shape.0 ∷ shape.1) some ∙ ap (λ xs. [] ∷ xs) (sym shape.2) ∙ sym whole)
-
--- a path without its dot segments, and the same behind the guard
+-- a path without its dot segments
 parts_of : List ℕ → List (List ℕ)
 parts_of path = without_dots (drop (prefix_len is_dot_segment (segments path)) (segments path))
 
@@ -253,37 +236,41 @@ parts_dotless : (path : List ℕ) → AllByRecursion NoDots (parts_of path)
 unfolding parts_of
 parts_dotless path = dropped_dotless (segments path)
 
-removed_twice : (path : List ℕ) → remove_dot_segments (remove_dot_segments path) ≡ remove_dot_segments path
+pub removed_twice : (path : List ℕ) → remove_dot_segments (remove_dot_segments path) ≡ remove_dot_segments path
 removed_twice path = ap remove_dot_segments (removed_is path) ∙ stay_removed (parts_of path) (parts_plain path) (parts_dotless path) ∙ sym (removed_is path)
 
-removed_behind_guard : (path : List ℕ) → begins_with_slashes (remove_dot_segments path) ≡ true → remove_dot_segments (47 ∷ 46 ∷ remove_dot_segments path) ≡ remove_dot_segments path
-removed_behind_guard path slashes =
-    let first = first_slash (remove_dot_segments path) slashes in
-    ap (λ t. remove_dot_segments (47 ∷ 46 ∷ t)) (removed_is path) ∙ stay_guarded (parts_of path) first.0 (parts_plain path) (parts_dotless path) (sym (removed_is path) ∙ first.1) ∙ sym (removed_is path)
+-- the guard goes with the dot segments
+guard_goes : (text : List ℕ) → remove_dot_segments (47 ∷ 46 ∷ 47 ∷ text) ≡ remove_dot_segments (47 ∷ text)
+unfolding remove_dot_segments
+guard_goes text =
+    let shape = segments-shape text in
+    ap (λ xs. joined (remaining [] [] xs ++ cond (ends_in_dots ((46 ∷ []) ∷ xs)) ([] ∷ []) [])) shape.2
+    ∙ ap (λ xs. joined (remaining [] [] xs ++ cond (ends_in_dots xs) ([] ∷ []) [])) (sym shape.2)
+
+pub guarded_removed : (a : Option (List ℕ)) (path : List ℕ) → remove_dot_segments (normal_text (guarded a path)) ≡ remove_dot_segments (normal_text path)
+guarded_removed a path = by_guard (is_none a && begins_with_slashes path) refl
   where
-    first_slash : (text : List ℕ) → begins_with_slashes text ≡ true → (rest : List ℕ) × (text ≡ 47 ∷ rest)
-    first_slash [] h = absurd (false≢true h)
-    first_slash (c ∷ rest) h = (rest, ap (λ x. x ∷ rest) (eqb-true c 47 (and_parts (eqb c 47) (eqb (get_or rest 0 0) 47) h).0))
+    behind : (path : List ℕ) → begins_with_slashes path ≡ true → remove_dot_segments (normal_text (47 ∷ 46 ∷ path)) ≡ remove_dot_segments (normal_text path)
+    behind [] h = absurd (false≢true h)
+    behind (c ∷ rest) h =
+        let slash : c ≡ 47 = eqb-true c 47 (and_parts (eqb c 47) (eqb (get_or rest 0 0) 47) h).0 in
+        let front : normal_text (c ∷ rest) ≡ 47 ∷ normal_text rest = ap (λ x. normal_text (x ∷ rest)) slash ∙ normal_character (λ d. d) 47 rest (λ e. absurd (omega (arith, e))) in
+        ap remove_dot_segments
+        (normal_character (λ d. d) 47 (46 ∷ c ∷ rest) (λ e. absurd (omega (arith, e))) ∙ ap (λ t. 47 ∷ t) (normal_character (λ d. d) 46 (c ∷ rest) (λ e. absurd (omega (arith, e)))) ∙ ap (λ t. 47 ∷ 46 ∷ t) front)
+        ∙ guard_goes (normal_text rest) ∙ ap remove_dot_segments (sym front)
+
+    by_guard : (b : Bool) → (is_none a && begins_with_slashes path) ≡ b → remove_dot_segments (normal_text (guarded a path)) ≡ remove_dot_segments (normal_text path)
+    by_guard true e =
+        let put : guarded a path ≡ 47 ∷ 46 ∷ path = rw e refl in
+        ap (λ p. remove_dot_segments (normal_text p)) put ∙ behind path (and_parts (is_none a) (begins_with_slashes path) e).1
+    by_guard false e =
+        let left : guarded a path ≡ path = rw e refl in
+        ap (λ p. remove_dot_segments (normal_text p)) left
 
 -- a guarded path in normal form stays as it is
 path_again : (a : Option (List ℕ)) (path : List ℕ) → has_whole_triples path ≡ true → guarded a (remove_dot_segments (normal_text (guarded a (remove_dot_segments (normal_text path))))) ≡ guarded a (remove_dot_segments (normal_text path))
-path_again a path whole = by_guard (is_none a && begins_with_slashes (remove_dot_segments (normal_text path))) refl
-  where
-    as_it_is : guarded a (remove_dot_segments (normal_text path)) ≡ remove_dot_segments (normal_text path) → guarded a (remove_dot_segments (normal_text (guarded a (remove_dot_segments (normal_text path))))) ≡ guarded a (remove_dot_segments (normal_text path))
-    as_it_is e =
-        ap (λ p. guarded a (remove_dot_segments (normal_text p))) e ∙ ap (λ p. guarded a (remove_dot_segments p)) (removed_settled path whole)
-        ∙ ap (guarded a) (removed_twice (normal_text path))
-
-    behind : guarded a (remove_dot_segments (normal_text path)) ≡ 47 ∷ 46 ∷ remove_dot_segments (normal_text path) → begins_with_slashes (remove_dot_segments (normal_text path)) ≡ true → guarded a (remove_dot_segments (normal_text (guarded a (remove_dot_segments (normal_text path))))) ≡ guarded a (remove_dot_segments (normal_text path))
-    behind e slashes =
-        ap (λ p. guarded a (remove_dot_segments (normal_text p))) e
-        ∙ ap (λ p. guarded a (remove_dot_segments p))
-        (normal_character (λ c. c) 47 (46 ∷ remove_dot_segments (normal_text path)) (λ f. absurd (omega arith)) ∙ ap (λ t. 47 ∷ t) (normal_character (λ c. c) 46 (remove_dot_segments (normal_text path)) (λ f. absurd (omega arith)) ∙ ap (λ t. 46 ∷ t) (removed_settled path whole)))
-        ∙ ap (guarded a) (removed_behind_guard (normal_text path) slashes)
-
-    by_guard : (b : Bool) → (is_none a && begins_with_slashes (remove_dot_segments (normal_text path))) ≡ b → guarded a (remove_dot_segments (normal_text (guarded a (remove_dot_segments (normal_text path))))) ≡ guarded a (remove_dot_segments (normal_text path))
-    by_guard true e = behind (rw e refl) (and_parts (is_none a) (begins_with_slashes (remove_dot_segments (normal_text path))) e).1
-    by_guard false e = as_it_is (rw e refl)
+path_again a path whole =
+    ap (guarded a) (guarded_removed a (remove_dot_segments (normal_text path)) ∙ ap remove_dot_segments (removed_settled path whole) ∙ removed_twice (normal_text path))
 
 path_twice : (a : Option (List ℕ)) (path : List ℕ) → has_whole_triples path ≡ true → guarded (option_map normal_authority a) (remove_dot_segments (normal_text (guarded a (remove_dot_segments (normal_text path))))) ≡ guarded a (remove_dot_segments (normal_text path))
 path_twice a path whole = same_guard a (remove_dot_segments (normal_text (guarded a (remove_dot_segments (normal_text path))))) ∙ path_again a path whole
@@ -356,21 +343,21 @@ normal_twice text h =
     ap (λ d. text_of (normal d)) (components-text_of (normal c) (normal_is_valid c valid)) ∙ ap text_of (components_twice c valid)
 
 -- The target of a normal form against the base of texts without a scheme.
-abbrev default_components : Components
+abbrev pub default_components : Components
 default_components = the_components (Some (codes "json-schema")) (Some []) (codes "/") None None
 
-default_is : components default_base ≡ default_components
+pub default_is : components default_base ≡ default_components
 unfolding ref_uri_on_literals
 default_is = refl
 
 scheme_settled : map to_ascii_lowercase (codes "json-schema") ≡ codes "json-schema"
 scheme_settled = refl
 
-authority_settled : normal_authority [] ≡ []
+pub authority_settled : normal_authority [] ≡ []
 unfolding ref_uri_on_literals
 authority_settled = refl
 
-root_is : remove_dot_segments (normal_text (codes "/")) ≡ codes "/"
+pub root_is : remove_dot_segments (normal_text (codes "/")) ≡ codes "/"
 unfolding ref_uri_on_literals
 root_is = refl
 
@@ -407,7 +394,7 @@ resolved_settles None path q f whole authority query fragment =
 default_hold : are_components default_components ≡ true
 default_hold = ap are_components (sym default_is) ∙ components_hold default_base default_is_reference
 
-components_of_normal : (text : List ℕ) → is_uri_reference text ≡ true → components (normal_form text) ≡ normal (components text)
+pub components_of_normal : (text : List ℕ) → is_uri_reference text ≡ true → components (normal_form text) ≡ normal (components text)
 unfolding normal_form
 components_of_normal text h = components-text_of (normal (components text)) (normal_is_valid (components text) (components_hold text h))
 

@@ -28,12 +28,12 @@ segments-triple high low path h l =
     ap (onto_first 37) (segments-other high (low ∷ path) (hex_is_no_slash high h) ∙ ap (onto_first high) (segments-other low path (hex_is_no_slash low l)))
 
 -- what holds of each part, where a character joins the first
-each_onto : (P : List ℕ → Type 0) (c : ℕ) (parts : List (List ℕ)) → P (c ∷ []) → ((s : List ℕ) → P s → P (c ∷ s)) → AllByRecursion P parts → AllByRecursion P (onto_first c parts)
+pub each_onto : (P : List ℕ → Type 0) (c : ℕ) (parts : List (List ℕ)) → P (c ∷ []) → ((s : List ℕ) → P s → P (c ∷ s)) → AllByRecursion P parts → AllByRecursion P (onto_first c parts)
 each_onto P c [] alone more h = (alone, tt)
 each_onto P c (part ∷ parts) alone more h = (more part h.0, h.1)
 
 -- the same where a triple does
-each_onto_triple : (P : List ℕ → Type 0) (high low : ℕ) (parts : List (List ℕ)) → P (37 ∷ high ∷ low ∷ []) → ((s : List ℕ) → P s → P (37 ∷ high ∷ low ∷ s)) → AllByRecursion P parts → AllByRecursion P (onto_first 37 (onto_first high (onto_first low parts)))
+pub each_onto_triple : (P : List ℕ → Type 0) (high low : ℕ) (parts : List (List ℕ)) → P (37 ∷ high ∷ low ∷ []) → ((s : List ℕ) → P s → P (37 ∷ high ∷ low ∷ s)) → AllByRecursion P parts → AllByRecursion P (onto_first 37 (onto_first high (onto_first low parts)))
 each_onto_triple P high low [] alone more h = (alone, tt)
 each_onto_triple P high low (part ∷ parts) alone more h = (more part h.0, h.1)
 

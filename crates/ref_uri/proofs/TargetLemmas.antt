@@ -2,12 +2,12 @@
 use Rattle.std.proofs.Common.{◌≡◌, ◌≢◌, ℕ, Bool, true, false, not, ◌&&◌, ◌+◌, ◌*◌, List, ◌∷◌, ◌++◌, length, get_or, eqb, refl, sym, ap, ◌∙◌, arith, inl, inr, Option, Some, None, is_some, Bor, option_copied, option_map}
 use Rattle.std.specs.List.{list_any, before_first}
 use Rattle.std.specs.Option.{option_or}
-use Rattle.std.specs.Char.{is_ascii_hexdigit}
+use Rattle.std.specs.Char.{is_ascii_hexdigit, to_ascii_uppercase}
 use Rattle.std.proofs.lemmas.Bool.{and_parts, not-true, cases_Bool, ne_eqb, false≢true}
 use Rattle.std.proofs.lemmas.Bool.Decides.{nat_tests}
 use Rattle.ref_uri.specs.Characters.{has_whole_triples, is_unreserved}
 use Rattle.ref_uri.specs.Components.{Components, are_components, is_path_after, begins_with_slashes, if_there}
-use Rattle.ref_uri.specs.Resolution.{resolved_components, target_path}
+use Rattle.ref_uri.specs.Resolution.{resolved_components, target_path, query_or}
 use Rattle.ref_uri.specs.DotSegments.{remove_dot_segments}
 use Rattle.ref_uri.specs.Normal.{guarded, normal_path, normal_text, normal_triple, hex_value}
 use Rattle.ref_uri.proofs.UniqueLemmas.{Tested, tested}
@@ -27,6 +27,24 @@ slash_in_front =
 
     no_slash : (high low : ℕ) (rest : List ℕ) → eqb (get_or (normal_triple (λ c. c) high low ++ rest) 0 0) 47 ≡ false
     no_slash high low rest = elim (cases_Bool (is_unreserved (16 * hex_value high + hex_value low))) [ inl e ↦ rw e (unreserved_no_slash (16 * hex_value high + hex_value low) e) | inr e ↦ rw e refl ]
+
+-- no text comes from no text
+pub none_in_front : (text : List ℕ) → has_whole_triples text ≡ true → eqb (length (normal_text text)) 0 ≡ eqb (length text) 0
+none_in_front =
+    by_units (λ t. eqb (length (normal_text t)) 0 ≡ eqb (length t) 0)
+    (rw (normal_none (λ c. c)) refl)
+    (λ c t ne whole rest. rw (normal_character (λ c. c) c t ne) (some c (normal_text t) ∙ sym (some c t)))
+    (λ high low t h l whole rest. rw (normal_triple_front (λ c. c) high low t h l) (of_triple high low (normal_text t) ∙ sym (some 37 (high ∷ low ∷ t))))
+  where
+    some : (c : ℕ) (t : List ℕ) → eqb (length (c ∷ t)) 0 ≡ false
+    some c t = ne_eqb (length (c ∷ t)) 0 (λ e. absurd (omega arith))
+
+    of_triple : (high low : ℕ) (rest : List ℕ) → eqb (length (normal_triple (λ c. c) high low ++ rest)) 0 ≡ false
+    of_triple high low rest =
+        elim (cases_Bool (is_unreserved (16 * hex_value high + hex_value low))) [
+          | inl e ↦ rw e (some (16 * hex_value high + hex_value low) rest)
+          | inr e ↦ rw e (some 37 (to_ascii_uppercase high ∷ to_ascii_uppercase low ∷ rest))
+        ]
 
 -- two slashes in front come from two
 pub slashes_in_front : (text : List ℕ) → has_whole_triples text ≡ true → begins_with_slashes (normal_text text) ≡ begins_with_slashes text
@@ -64,6 +82,10 @@ own_path c h path some none = by_scheme c.scheme refl
     by_scheme (Some x) is = ap (guarded c.authority) (some (ap is_some is))
     by_scheme None is = ap (guarded c.authority) (none is) ∙ unguarded c.authority is refl
 
+-- the target of a reference that has no path
+pub resolved_of_base : (base reference : Components) → reference.scheme ≡ None → reference.authority ≡ None → eqb (length reference.path) 0 ≡ true → resolved_components base reference ≡ record { scheme = base.scheme; authority = base.authority; path = guarded base.authority base.path; query = query_or base.query reference.query; fragment = reference.fragment }
+resolved_of_base base reference s a empty = rw (s, a, empty) refl
+
 -- the target of a reference that has a path alone
 pub resolved_path : (base reference : Components) → reference.scheme ≡ None → reference.authority ≡ None → eqb (length reference.path) 0 ≡ false → resolved_components base reference ≡ record { scheme = base.scheme; authority = base.authority; path = guarded base.authority (target_path base reference.path); query = reference.query; fragment = reference.fragment }
 resolved_path base reference s a some = rw (s, a, some) refl
@@ -72,12 +94,20 @@ pub none_there : {X : Type 0} (o : Option (Bor X)) → is_some o ≡ false → o
 none_there None h = refl
 none_there (Some x) h = absurd (false≢true (sym h))
 
+pub still_there : {X : Type 0} (o : Option (Bor X)) → is_some o ≡ true → is_some (option_copied o) ≡ true
+still_there None h = h
+still_there (Some x) h = refl
+
 -- an absent component gives way to another
 pub or_there : (test : List ℕ → Bool) (o other : Option (Bor (List ℕ))) → if_there test (option_copied o) ≡ true → if_there test (option_copied other) ≡ true → if_there test (option_copied (option_or o other)) ≡ true
 or_there test None other h k = k
 or_there test (Some x) other h k = h
 
-map_given : (o : Option (List ℕ)) → option_map (λ text. text) o ≡ o
+pub or_is_query_or : (o other : Option (Bor (List ℕ))) → option_copied (option_or o other) ≡ query_or (option_copied other) (option_copied o)
+or_is_query_or None other = refl
+or_is_query_or (Some x) other = refl
+
+pub map_given : (o : Option (List ℕ)) → option_map (λ text. text) o ≡ o
 map_given None = refl
 map_given (Some text) = refl
 

@@ -47,12 +47,12 @@ pub resolved_text_of : (b r : Components) (base reference : List ℕ) → b ≡ 
 unfolding resolved
 resolved_text_of b r base reference is are = ap (λ d. text_of (resolved_components d r)) is ∙ ap (λ d. text_of (resolved_components (components base) d)) are
 
-some_there : (o : Option (List ℕ)) → is_some o ≡ true → (x : List ℕ) × (o ≡ Some x)
+pub some_there : (o : Option (List ℕ)) → is_some o ≡ true → (x : List ℕ) × (o ≡ Some x)
 some_there None h = absurd (false≢true h)
 some_there (Some x) h = (x, refl)
 
 -- a target has a scheme
-target_has_scheme : (base reference : Components) → is_some base.scheme ≡ true → is_some (resolved_components base reference).scheme ≡ true
+pub target_has_scheme : (base reference : Components) → is_some base.scheme ≡ true → is_some (resolved_components base reference).scheme ≡ true
 target_has_scheme base reference h = by_scheme reference.scheme
   where
     by_path : (empty : Bool) (kept behind : Components) → is_some kept.scheme ≡ true → is_some behind.scheme ≡ true → is_some (with_guard (cond empty kept behind)).scheme ≡ true

@@ -1,20 +1,24 @@
 -- The components of what is written, which are parts of other texts.
-use Rattle.std.specs.Prelude.{◌≡◌, ℕ, true, List, ◌∷◌, ◌++◌, length, Option, Some, None, option_map, option_copied}
+use Rattle.std.specs.Prelude.{◌≡◌, ◌≢◌, ℕ, true, ⊤, ◌||◌, List, ◌∷◌, ◌++◌, length, codes, Option, Some, None, is_some, option_map, option_copied, ◌==◌, if◌then◌else◌, slice_index}
 use Rattle.ref_uri.specs.declared.lengths.Lengths.{Lengths}
 use Rattle.ref_uri.specs.declared.lengths.Parts.{Parts}
 use Rattle.ref_uri.specs.declared.target.PathOf.{PathOf}
-use Rattle.ref_uri.specs.declared.target.PathOf.TheVariants.{Kept, Removed, Merged}
+use Rattle.ref_uri.specs.declared.target.PathOf.TheVariants.{Kept, OfBase, Removed, Merged}
 use Rattle.ref_uri.specs.declared.target.Target.{Target}
 use Rattle.ref_uri.specs.declared.written.Form.{Form}
+use Rattle.ref_uri.specs.declared.written.Form.TheVariants.{Given, Normal}
 use Rattle.ref_uri.specs.Authority.{is_authority}
 use Rattle.ref_uri.specs.Components.{Components, if_there, is_scheme, is_path, is_query}
 use Rattle.ref_uri.specs.DotSegments.{remove_dot_segments}
 use Rattle.ref_uri.specs.Lengths.{the_lengths}
-use Rattle.ref_uri.specs.Normal.{guarded}
+use Rattle.ref_uri.specs.Normal.{guarded, normal_text}
+use Rattle.ref_uri.specs.Resolution.{merged, target_of_scheme}
 use Rattle.ref_uri.specs.Written.{written, written_scheme, written_authority}
 
 abbrev pub written_path : Form → PathOf → List ℕ
 written_path form (Kept path) = written form path.now
+written_path Given (OfBase path) = path.now
+written_path Normal (OfBase path) = remove_dot_segments (normal_text path.now)
 written_path form (Removed path) = remove_dot_segments (written form path.now)
 written_path form (Merged directory path) = remove_dot_segments (written form (directory.now ++ 47 ∷ path.now))
 
@@ -34,8 +38,20 @@ lengths_of_components c = the_lengths (option_map length c.scheme) (option_map l
 -- the path's parts are paths
 abbrev pub AreParts : PathOf → Type 0
 AreParts (Kept path) = is_path path.now ≡ true
+AreParts (OfBase path) = is_path path.now ≡ true
 AreParts (Removed path) = is_path path.now ≡ true
 AreParts (Merged directory path) = (is_path directory.now ≡ true) × (is_path path.now ≡ true)
+
+-- no triple of `.` stands in the text (2.1)
+abbrev pub LacksEncodedDot : List ℕ → Type 0
+LacksEncodedDot text = (before after : List ℕ) → (text ≢ before ++ (codes "%2e" ++ after)) × (text ≢ before ++ (codes "%2E" ++ after))
+
+-- the dot segments that the path loses as it is given are those that it loses in normal form
+abbrev pub LosesSameDots : PathOf → Type 0
+LosesSameDots (Kept path) = ⊥
+LosesSameDots (OfBase path) = ⊤
+LosesSameDots (Removed path) = LacksEncodedDot path.now
+LosesSameDots (Merged directory path) = LacksEncodedDot directory.now × LacksEncodedDot path.now
 
 -- each part holds what it may
 pub record IsTarget (target : Target) : Type 0 where
@@ -60,3 +76,17 @@ components_of parts =
 abbrev pub behind_directory : Option (List ℕ) → List ℕ → List ℕ
 behind_directory None path = path
 behind_directory (Some directory) path = directory ++ 47 ∷ path
+
+-- a path behind the base's, unless it begins with `/` (5.2.2)
+abbrev pub path_behind : Components → List ℕ → List ℕ
+path_behind base path = if slice_index path 0 == 47 then path else merged base path
+
+-- a target's path with its dot segments: the reference's, the base's where there is none, or the one behind the other (5.2.2)
+abbrev pub path_with_dots : Components → Components → List ℕ
+path_with_dots base reference =
+    if is_some reference.scheme || is_some reference.authority then reference.path
+    else (if length reference.path == 0 then base.path else path_behind base reference.path)
+
+-- the target before the removal of its path's dot segments
+unfoldable pub target_with_dots : Components → Components → Components
+target_with_dots base reference = record (target_of_scheme base reference reference.scheme) { path = path_with_dots base reference }

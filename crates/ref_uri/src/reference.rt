@@ -1,10 +1,10 @@
 //! A URI reference that borrows its text.
 ghost use Rattle.std.specs.Prelude.{◌≡◌, ◌↔◌, List, ℕ, true, is_ok, is_some, None, IfOk, IfErr, IsErrOf, option_copied, string_bytes};
-ghost use Rattle.ref_uri.specs.Components.{components, are_components, scheme, authority, path, query, fragment};
+ghost use Rattle.ref_uri.specs.Components.{components, are_components, text_of, scheme, authority, path, query, fragment};
 ghost use Rattle.ref_uri.specs.Normal.{normal, normal_form};
 ghost use Rattle.ref_uri.specs.Reference.{is_uri_reference, with_fragment};
 ghost use Rattle.ref_uri.specs.Resolution.{resolved};
-ghost use Rattle.ref_uri.specs.Target.{components_of, lengths_of_components};
+ghost use Rattle.ref_uri.specs.Target.{components_of, lengths_of_components, target_with_dots};
 
 use crate::error::{ParseError, ResolveError, ResolveFault};
 use crate::lengths::{self, Lengths, Parts};
@@ -33,7 +33,7 @@ impl<'a> Model for UriRef<'a> {
 }
 
 impl<'a> UriRef<'a> {
-    ghost use Rattle.ref_uri.specs.Lengths.{IsParsed};
+    ghost use Rattle.ref_uri.specs.Lengths.{IsParsed, IsParsedUri};
 
     /// The reference that the text is. `Syntax` exactly where the text is no URI reference (RFC 3986, 4.1 and
     /// appendix A). One pass over the text; takes no memory and copies nothing.
@@ -107,6 +107,40 @@ impl<'a> UriRef<'a> {
         let target = target::resolved(base.parts(), self.parts());
         let (text, lengths) = target.write(alloc, Form::Given)?;
         Ok(Uri::from_written(text, lengths))
+    }
+
+    /// The target's text in normal form, and how long its components are. Each component is in normal form before dot
+    /// segments go.
+    pub(crate) fn normalized_then_resolved(
+        &self,
+        alloc: Global,
+        base: &UriRef<'_>,
+    ) -> Result<(String, Lengths), AllocError>
+        requires { is_some (scheme base.now) ≡ true }
+        ensures text { IfOk result (λ t. string_bytes t.0 ≡ text_of (normal (target_with_dots (components base.now) (components self.now)))) }
+        ensures lengths { IfOk result (λ t. t.1 ≡ lengths_of_components (normal (target_with_dots (components base.now) (components self.now)))) }
+    {
+        let target = target::resolved(base.parts(), self.parts());
+        target.write(alloc, Form::Normal)
+    }
+
+    /// The normal form of the target's text, and how long its components are. It is written at once, unless a path holds
+    /// `%2e`: then the target is written first.
+    pub(crate) fn resolved_then_normalized(
+        &self,
+        alloc: Global,
+        base: &UriRef<'_>,
+    ) -> Result<(String, Lengths), AllocError>
+        requires { is_some (scheme base.now) ≡ true }
+        ensures text { IfOk result (λ t. string_bytes t.0 ≡ normal_form (resolved base.now self.now)) }
+        ensures parsed { IfOk result (λ t. IsParsedUri (string_bytes t.0) t.1) }
+    {
+        let target = target::resolved(base.parts(), self.parts());
+        if target.path.loses_same_dots() {
+            return target.write(alloc, Form::Normal);
+        }
+        let (given, lengths) = target.write(alloc, Form::Given)?;
+        UriRef::from_parsed(given.as_str(), lengths).normalized(alloc)
     }
 
     /// The text.

@@ -1,12 +1,12 @@
 //! What a target's text is composed of (RFC 3986, 5.2.2 and 5.3).
-ghost use Rattle.std.specs.Prelude.{◌≡◌, ◌≤◌, ◌++◌, ℕ, true, List, [], length, codes, Some, None, is_some, is_none, option_map, option_copied, string_bytes, IfOk, OnOk, IsAscii, ◌∷◌};
+ghost use Rattle.std.specs.Prelude.{◌≡◌, ◌↔◌, ◌≤◌, ◌++◌, ℕ, true, false, List, [], length, codes, Some, None, is_some, is_none, option_map, option_copied, string_bytes, IfOk, OnOk, IsAscii, ◌∷◌};
 ghost use Rattle.ref_uri.specs.Authority.{is_authority};
 ghost use Rattle.ref_uri.specs.Components.{Components, are_components, text_of, framed, if_there, is_scheme, is_path, is_query, begins_with_slashes};
 ghost use Rattle.ref_uri.specs.DotSegments.{remove_dot_segments};
 ghost use Rattle.ref_uri.specs.Normal.{guarded, normal, normal_text};
 ghost use Rattle.ref_uri.specs.Resolution.{through_last_slash, merged, target_path, resolved_components};
 ghost use Rattle.ref_uri.specs.Written.{written, written_scheme, written_authority};
-ghost use Rattle.ref_uri.specs.Target.{written_path, written_components, lengths_of_components, AreParts, IsTarget, components_of, behind_directory};
+ghost use Rattle.ref_uri.specs.Target.{written_path, written_components, lengths_of_components, AreParts, LacksEncodedDot, LosesSameDots, IsTarget, components_of, behind_directory, path_behind, target_with_dots};
 
 use crate::dots::{push_merged_without_dots, push_without_dots};
 use crate::lengths::{Lengths, Parts, head};
@@ -18,6 +18,8 @@ use std::alloc::{AllocError, Global};
 pub enum PathOf<'a> {
     /// A path that keeps its dot segments.
     Kept(&'a str),
+    /// A path that keeps its dot segments as it is given, and has none in normal form.
+    OfBase(&'a str),
     /// A path without its dot segments.
     Removed(&'a str),
     /// A path behind a directory and a slash, without their dot segments.
@@ -62,6 +64,7 @@ fn directory(base: Parts<'_>) -> Option<&str>
 fn path_behind<'a>(base: Parts<'a>, path: &'a str) -> PathOf<'a>
     requires { IsAscii base.path.now }
     ensures value { written_path Form.Given result ≡ target_path (components_of base.entry) path.now }
+    ensures normal { written_path Form.Normal result ≡ remove_dot_segments (normal_text (path_behind (components_of base.entry) path.now)) }
     ensures parts { is_path base.entry.path.now ≡ true → is_path path.now ≡ true → AreParts result }
 {
     if path.as_bytes().first() == Some(&b'/') {
@@ -78,6 +81,7 @@ pub fn resolved<'a>(base: Parts<'a>, reference: Parts<'a>) -> Target<'a>
     requires base { are_components (components_of base) ≡ true }
     requires reference { are_components (components_of reference) ≡ true }
     ensures value { written_components Form.Given result ≡ resolved_components (components_of base.entry) (components_of reference.entry) }
+    ensures normal { is_some (option_copied base.entry.scheme) ≡ true → written_components Form.Normal result ≡ normal (target_with_dots (components_of base.entry) (components_of reference.entry)) }
     ensures target { IsTarget result }
 {
     let fragment = reference.fragment;
@@ -103,7 +107,7 @@ pub fn resolved<'a>(base: Parts<'a>, reference: Parts<'a>) -> Target<'a>
         return Target {
             scheme: base.scheme,
             authority: base.authority,
-            path: PathOf::Kept(base.path),
+            path: PathOf::OfBase(base.path),
             query: reference.query.or(base.query),
             fragment,
         };
@@ -234,11 +238,34 @@ fn guard(buffer: &mut String, start: usize, authority: Option<&str>) -> Result<(
     buffer.insert_str(start, "/.")
 }
 
+/// Whether a triple of `.` stands in a text.
+fn holds_encoded_dot(text: &str) -> bool
+    ensures { (result ≡ false) ↔ LacksEncodedDot text.now }
+{
+    text.contains("%2e") || text.contains("%2E")
+}
+
 impl<'a> PathOf<'a> {
+    /// Whether the dot segments that the path loses as it is given are those that it loses in normal form: a segment such
+    /// as `%2e` is one there alone. The base's own path loses none as it is given, and all in normal form.
+    pub fn loses_same_dots(self) -> bool
+        ensures { (result ≡ true) ↔ LosesSameDots self.entry }
+    {
+        match self {
+            PathOf::Kept(_) => false,
+            PathOf::OfBase(_) => true,
+            PathOf::Removed(path) => !holds_encoded_dot(path),
+            PathOf::Merged(directory, path) => {
+                !holds_encoded_dot(directory) && !holds_encoded_dot(path)
+            }
+        }
+    }
+
     /// The room that the path takes.
     fn room(self) -> usize {
         match self {
             PathOf::Kept(path) => path.len(),
+            PathOf::OfBase(path) => path.len(),
             PathOf::Removed(path) => path.len(),
             PathOf::Merged(directory, path) => {
                 directory.len().saturating_add(path.len()).saturating_add(1)
@@ -255,6 +282,10 @@ impl<'a> PathOf<'a> {
     {
         match self {
             PathOf::Kept(path) => form.push(buffer, path),
+            PathOf::OfBase(path) => match form {
+                Form::Given => form.push(buffer, path),
+                Form::Normal => push_without_dots(buffer, path, form),
+            },
             PathOf::Removed(path) => push_without_dots(buffer, path, form),
             PathOf::Merged(directory, path) => {
                 push_merged_without_dots(buffer, directory, path, form)

@@ -10,7 +10,7 @@ ghost use Rattle.ref_uri.specs.Normal.{normal_form};
 ghost use Rattle.ref_uri.specs.Reference.{is_uri_reference, is_uri, with_fragment};
 
 use crate::characters::{self, Class};
-use crate::error::{ParseError, ResolveError, ResolveFault, UriError, UriFault, UriParseFault};
+use crate::error::{ParseError, ResolveError, UriError, UriFault, UriParseFault};
 use crate::lengths::Lengths;
 use crate::parser;
 use crate::reference::UriRef;
@@ -213,18 +213,6 @@ fn parse_reference(alloc: Global, text: &str) -> Result<UriRef<'_>, UriFault>
     }
 }
 
-/// The target of a reference against a base that has a scheme.
-fn target(alloc: Global, reference: UriRef<'_>, base: UriRef<'_>) -> Result<Uri, AllocError>
-    requires { is_some (scheme base) ≡ true }
-    ensures { IfOk result (λ uri. uri ≡ resolved base.entry reference.entry) }
-{
-    match reference.resolve_against(alloc, base) {
-        Ok(uri) => Ok(uri),
-        Err(ResolveFault::Memory(error)) => Err(error),
-        Err(ResolveFault::Invalid(_)) => unreachable!(),
-    }
-}
-
 /// The base of texts without a scheme, `json-schema:///`.
 fn default_base() -> UriRef<'static>
     ensures { result ≡ default_base }
@@ -238,7 +226,7 @@ fn default_base() -> UriRef<'static>
 /// The URI that a text means: its normal form, resolved against `json-schema:///` where it has no scheme.
 ///
 /// `Invalid` with [`UriError::Parse`] exactly where the text is no URI reference (RFC 3986, 4.1), `Memory` where there is
-/// none. Linear in the text.
+/// none. Linear in the text. An answer takes memory once.
 pub fn from_str(alloc: Global, uri: &str) -> Result<Uri, UriFault>
     ensures ok { IfOk result (λ answer. parsed uri.now ≡ Ok answer) }
     ensures fault { IfErr result (IsFaultOf (parsed uri.now)) }
@@ -247,12 +235,12 @@ pub fn from_str(alloc: Global, uri: &str) -> Result<Uri, UriFault>
         Ok(reference) => reference,
         Err(fault) => return Err(fault),
     };
-    let (text, lengths) = reference.normalized(alloc)?;
     if reference.has_scheme() {
+        let (text, lengths) = reference.normalized(alloc)?;
         return Ok(Uri::from_written(text, lengths));
     }
-    let normal = UriRef::from_parsed(text.as_str(), lengths);
-    Ok(target(alloc, normal, default_base())?)
+    let (text, lengths) = reference.normalized_then_resolved(alloc, &default_base())?;
+    Ok(Uri::from_written(text, lengths))
 }
 
 fn begins_with_hash(text: &str) -> bool
@@ -276,6 +264,8 @@ fn is_fragment_at_end(base: &str, text: &str) -> bool
 ///
 /// `Invalid` with [`UriError::Resolve`] exactly where the base has no scheme, and with [`UriError::Parse`] exactly where
 /// it has one and the text is no URI reference and not that fragment; `Memory` where there is none. Linear in the two texts.
+/// An answer takes memory once, and once more where a triple of `.`, `%2e`, stands in the text's path or in the base's path
+/// before it: dot segments go before triples are decoded, and again after.
 pub fn resolve_against(alloc: Global, base: UriRef<'_>, uri: &str) -> Result<Uri, UriFault>
     ensures ok { IfOk result (λ answer. against base.entry uri.now ≡ Ok answer) }
     ensures fault { IfErr result (IsFaultOf (against base.entry uri.now)) }
@@ -293,6 +283,7 @@ pub fn resolve_against(alloc: Global, base: UriRef<'_>, uri: &str) -> Result<Uri
         Ok(reference) => reference,
         Err(fault) => return Err(fault),
     };
-    let target = target(alloc, reference, base.strip_fragment())?;
-    Ok(target.normalize(alloc)?)
+    let base = base.strip_fragment();
+    let (text, lengths) = reference.resolved_then_normalized(alloc, &base)?;
+    Ok(Uri::from_written(text, lengths))
 }

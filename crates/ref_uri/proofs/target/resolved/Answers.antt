@@ -1,13 +1,15 @@
-use Rattle.std.proofs.Common.{◌≡◌, ℕ, List, true, option_copied, Option, Bor, subst, ap, ◌∙◌, sym, arith}
+use Rattle.std.proofs.Common.{◌≡◌, ℕ, List, true, option_copied, Option, Bor, subst, ap, ◌∙◌, sym, refl, arith}
 use Rattle.std.proofs.lemmas.Bool.Decides.{nat_tests}
 use Rattle.ref_uri.specs.Characters.{is_path_character}
 use Rattle.ref_uri.specs.Components.{is_query, if_there}
-use Rattle.ref_uri.specs.Normal.{guarded}
-use Rattle.ref_uri.specs.Target.{components_of, written_path}
-use Rattle.ref_uri.specs.declared.written.Form.TheVariants.{Given}
+use Rattle.ref_uri.specs.DotSegments.{remove_dot_segments}
+use Rattle.ref_uri.specs.Normal.{guarded, normal, normal_text}
+use Rattle.ref_uri.specs.Target.{components_of, written_path, path_behind}
+use Rattle.ref_uri.specs.declared.written.Form.TheVariants.{Given, Normal}
 use Rattle.ref_uri.proofs.AsciiLemmas.{encoded_ascii, IsAscii-from_all_ascii}
 use Rattle.ref_uri.proofs.UniqueLemmas.{tested}
-use Rattle.ref_uri.proofs.TargetLemmas.{resolved_path, none_there, or_there, as_given, the_components}
+use Rattle.ref_uri.proofs.NormalTargets.{normal_parts_are, dots_with_scheme, dots_with_authority, dots_of_base, dots_behind}
+use Rattle.ref_uri.proofs.TargetLemmas.{resolved_path, none_there, still_there, or_there, or_is_query_or, as_given, the_components}
 use Rattle.ref_uri.proofs.target.resolved.Goals as goal
 
 pub returns-then-is_some-clause-target : goal.returns-then-is_some-clause-target
@@ -59,3 +61,37 @@ returns-clause-value c =
     as_given base.scheme base.authority (guarded base.authority (written_path Given c.path_behind.result)) reference.query reference.fragment
     ∙ ap (λ path. the_components base.scheme base.authority (guarded base.authority path) reference.query reference.fragment) c.path_behind.ensures.value
     ∙ sym (resolved_path base reference scheme authority (sym c.is_empty.ensures ∙ c.if-is_empty.false))
+
+pub returns-then-is_some-clause-normal : goal.returns-then-is_some-clause-normal
+returns-then-is_some-clause-normal c = λ based.
+    let base = components_of c.args.base in
+    let r = components_of c.args.reference in
+    let there = still_there c.args.reference.scheme (sym c.is_some.ensures ∙ c.if-is_some.true) in
+    normal_parts_are r.scheme r.authority r.path (remove_dot_segments (normal_text r.path)) r.query r.fragment there refl ∙ ap normal (sym (dots_with_scheme base r there))
+
+pub returns-then-is_some-2-clause-normal : goal.returns-then-is_some-2-clause-normal
+returns-then-is_some-2-clause-normal c = λ based.
+    let base = components_of c.args.base in
+    let r = components_of c.args.reference in
+    let scheme = none_there c.args.reference.scheme (sym c.is_some.ensures ∙ c.if-is_some.false) in
+    normal_parts_are base.scheme r.authority r.path (remove_dot_segments (normal_text r.path)) r.query r.fragment based refl
+    ∙ ap normal (sym (dots_with_authority base r scheme (still_there c.args.reference.authority (sym c.is_some-2.ensures ∙ c.if-is_some-2.true))))
+
+pub returns-then-is_empty-clause-normal : goal.returns-then-is_empty-clause-normal
+returns-then-is_empty-clause-normal c = λ based.
+    let base = components_of c.args.base in
+    let r = components_of c.args.reference in
+    let scheme = none_there c.args.reference.scheme (sym c.is_some.ensures ∙ c.if-is_some.false) in
+    let authority = none_there c.args.reference.authority (sym c.is_some-2.ensures ∙ c.if-is_some-2.false) in
+    normal_parts_are base.scheme base.authority base.path (remove_dot_segments (normal_text base.path)) (option_copied c.or.result) r.fragment based refl
+    ∙ ap (λ q. normal (the_components base.scheme base.authority base.path q r.fragment)) (ap option_copied c.or.ensures ∙ or_is_query_or c.args.reference.query c.args.base.query)
+    ∙ ap normal (sym (dots_of_base base r scheme authority (sym c.is_empty.ensures ∙ c.if-is_empty.true)))
+
+pub returns-clause-normal : goal.returns-clause-normal
+returns-clause-normal c = λ based.
+    let base = components_of c.args.base in
+    let r = components_of c.args.reference in
+    let scheme = none_there c.args.reference.scheme (sym c.is_some.ensures ∙ c.if-is_some.false) in
+    let authority = none_there c.args.reference.authority (sym c.is_some-2.ensures ∙ c.if-is_some-2.false) in
+    normal_parts_are base.scheme base.authority (path_behind base r.path) (written_path Normal c.path_behind.result) r.query r.fragment based c.path_behind.ensures.normal
+    ∙ ap normal (sym (dots_behind base r scheme authority (sym c.is_empty.ensures ∙ c.if-is_empty.false)))

@@ -1,9 +1,9 @@
-use Rattle.std.proofs.Common.{◌≡◌, Ok, true, false, is_some, refl, ap, sym, ◌∙◌}
+use Rattle.std.proofs.Common.{◌≡◌, Ok, true, false, is_some, refl, ap, sym, ◌∙◌, string_bytes}
 use Rattle.ref_uri.specs.Components.{scheme}
 use Rattle.ref_uri.specs.Normal.{normal_form}
 use Rattle.ref_uri.specs.Reference.{is_uri_reference}
-use Rattle.ref_uri.specs.Resolution.{resolved}
-use Rattle.ref_uri.specs.Targets.{unparsed, parsed, default_base}
+use Rattle.ref_uri.specs.Targets.{unparsed, parsed}
+use Rattle.ref_uri.proofs.DefaultTarget.{default_text, default_uri}
 use Rattle.ref_uri.proofs.Meanings.{parsed_with_scheme, parsed_without_scheme, parsed_refused, fault_moved, default_has_scheme}
 use Rattle.ref_uri.proofs.uri.from_str.Goals as goal
 
@@ -22,16 +22,18 @@ returns-then-has_scheme-clause-ok c =
     parsed_with_scheme text (c.in-Ok.ensures.accepted refl) there
     ∙ ap (λ t. Ok t) (ap normal_form (sym c.in-Ok.ensures.reference) ∙ sym c.in_ok-text.ensures.text ∙ sym c.from_written.ensures)
 
-pub from_parsed-normal-requires : goal.from_parsed-normal-requires
-from_parsed-normal-requires c = rw c.as_str.ensures.value c.in_ok-text.ensures.parsed
+pub normalized_then_resolved-requires : goal.normalized_then_resolved-requires
+normalized_then_resolved-requires c = ap is_some (ap scheme c.default_base.ensures) ∙ default_has_scheme
 
-pub target-requires : goal.target-requires
-target-requires c = ap is_some (ap scheme c.default_base.ensures) ∙ default_has_scheme
+pub from_written-requires-2 : goal.from_written-requires-2
+from_written-requires-2 c =
+    default_uri c.default_base.result c.in-Ok.reference c.args.uri.now (string_bytes c.in_ok-text-2.text) c.in_ok-text-2.lengths c.default_base.ensures c.in-Ok.ensures.reference (c.in-Ok.ensures.accepted refl)
+    (sym c.has_scheme.ensures ∙ c.if-has_scheme.false) c.in_ok-text-2.ensures.text c.in_ok-text-2.ensures.lengths
 
 pub returns-clause-ok : goal.returns-clause-ok
 returns-clause-ok c =
     let text = c.args.uri.now in
-    let none : is_some (scheme text) ≡ false = ap (λ t. is_some (scheme t)) (sym c.in-Ok.ensures.reference) ∙ sym c.has_scheme.ensures ∙ c.if-has_scheme.false in
-    let normal = c.from_parsed-normal.ensures ∙ c.as_str.ensures.value ∙ c.in_ok-text.ensures.text ∙ ap normal_form c.in-Ok.ensures.reference in
-    parsed_without_scheme text (c.in-Ok.ensures.accepted refl) none
-    ∙ ap (λ t. Ok t) (sym (c.in_ok-target.ensures ∙ ap (λ b. resolved b c.from_parsed-normal.result) c.default_base.ensures ∙ ap (resolved default_base) normal))
+    let none = sym c.has_scheme.ensures ∙ c.if-has_scheme.false in
+    let written = default_text c.default_base.result c.in-Ok.reference text (string_bytes c.in_ok-text-2.text) c.default_base.ensures c.in-Ok.ensures.reference (c.in-Ok.ensures.accepted refl) none c.in_ok-text-2.ensures.text in
+    parsed_without_scheme text (c.in-Ok.ensures.accepted refl) (ap (λ t. is_some (scheme t)) (sym c.in-Ok.ensures.reference) ∙ none)
+    ∙ ap (λ t. Ok t) (sym (c.from_written-2.ensures ∙ written))

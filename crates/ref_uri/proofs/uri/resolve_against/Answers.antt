@@ -24,8 +24,8 @@ returns-in-Err-clause-fault c =
     fault_moved (against base text) (unparsed text) c.in-Err.fault (is_uri_reference text ≡ false) c.in-Err.ensures.refused c.in-Err.ensures.invalid
     (against_refused base text (sym c.has_scheme.ensures ∙ c.if-not-has_scheme.false) other)
 
-pub target-requires : goal.target-requires
-target-requires c = ap is_some c.strip_fragment.ensures.scheme ∙ sym c.has_scheme.ensures ∙ c.if-not-has_scheme.false
+pub resolved_then_normalized-requires : goal.resolved_then_normalized-requires
+resolved_then_normalized-requires c = ap is_some c.strip_fragment-base.ensures.scheme ∙ sym c.has_scheme.ensures ∙ c.if-not-has_scheme.false
 
 pub returns-then-is_fragment_at_end-clause-ok : goal.returns-then-is_fragment_at_end-clause-ok
 returns-then-is_fragment_at_end-clause-ok c =
@@ -39,6 +39,6 @@ returns-clause-ok c =
     let base = c.args.base in
     let text = c.args.uri.now in
     let other : (eqb (get_or text 0 0) 35 && ends_with eqb base text) ≡ false = ap (λ b. eqb (get_or text 0 0) 35 && ends_with eqb b text) (sym c.as_str-2.ensures) ∙ sym c.is_fragment_at_end.ensures ∙ c.if-is_fragment_at_end.false in
-    let target = c.in_ok-target.ensures ∙ ap (λ b. resolved b c.in-Ok.reference) c.strip_fragment.ensures.value ∙ ap (resolved (with_fragment base None)) c.in-Ok.ensures.reference in
+    let target = ap (λ b. resolved b c.in-Ok.reference) c.strip_fragment-base.ensures.value ∙ ap (resolved (with_fragment base None)) c.in-Ok.ensures.reference in
     against_target base text (sym c.has_scheme.ensures ∙ c.if-not-has_scheme.false) other (c.in-Ok.ensures.accepted refl)
-    ∙ ap (λ t. Ok t) (sym (c.in_ok-normalize.ensures ∙ ap normal_form target))
+    ∙ ap (λ t. Ok t) (sym (c.from_written.ensures ∙ c.in_ok-text.ensures.text ∙ ap normal_form target))

@@ -1,0 +1,73 @@
+-- The normal form of a target, written at once from the target's parts.
+use Rattle.std.proofs.Common.{◌≡◌, ℕ, true, ◌||◌, List, ◌∷◌, ◌++◌, eqb, sym, ap, ◌∙◌, subst, Option, is_some, option_copied}
+use Rattle.std.specs.List.{list_all, AllByRecursion}
+use Rattle.std.proofs.lemmas.Bool.{and_parts}
+use Rattle.ref_uri.specs.declared.lengths.Lengths.{Lengths}
+use Rattle.ref_uri.specs.declared.target.PathOf.{PathOf}
+use Rattle.ref_uri.specs.declared.target.PathOf.TheVariants.{Kept, OfBase, Removed, Merged}
+use Rattle.ref_uri.specs.declared.target.Target.{Target}
+use Rattle.ref_uri.specs.declared.written.Form.TheVariants.{Given, Normal}
+use Rattle.ref_uri.specs.Characters.{has_whole_triples, is_path_character}
+use Rattle.ref_uri.specs.Components.{Components, components, are_components, text_of, scheme, is_path}
+use Rattle.ref_uri.specs.DotSegments.{segments, remove_dot_segments}
+use Rattle.ref_uri.specs.Lengths.{IsParsedUri}
+use Rattle.ref_uri.specs.Normal.{guarded, normal, normal_text, normal_form}
+use Rattle.ref_uri.specs.Resolution.{resolved, resolved_components}
+use Rattle.ref_uri.specs.Target.{written_path, written_components, lengths_of_components, AreParts, LosesSameDots, IsTarget}
+use Rattle.ref_uri.proofs.EncodedLemmas.{whole-append}
+use Rattle.ref_uri.proofs.NormalTargets.{normal_parts_are}
+use Rattle.ref_uri.proofs.NormalTwice.{removed_twice, guarded_removed}
+use Rattle.ref_uri.proofs.PathValid.{each_append}
+use Rattle.ref_uri.proofs.PlainDots.{Stays, segments_stay, removed_normal}
+use Rattle.ref_uri.proofs.SegmentLemmas.{segments-append}
+use Rattle.ref_uri.proofs.TargetLemmas.{as_given, map_given}
+use Rattle.ref_uri.proofs.UniqueLemmas.{components-text_of}
+use Rattle.ref_uri.proofs.ValidTargets.{resolved_is_valid}
+use Rattle.ref_uri.proofs.WrittenUri.{some_there, normal_text_of, resolved_text_of, normal_parsed, normal_scheme, target_has_scheme}
+
+whole_path : (path : List ℕ) → is_path path ≡ true → has_whole_triples path ≡ true
+whole_path path h = (and_parts (list_all (λ x. is_path_character x || eqb x 37) path) (has_whole_triples path) h).1
+
+-- a path that is written without its dot segments, and then again in normal form
+removed_at_once : (a : Option (List ℕ)) (path : List ℕ) → has_whole_triples path ≡ true → AllByRecursion Stays (segments path) → remove_dot_segments (normal_text path) ≡ remove_dot_segments (normal_text (guarded a (remove_dot_segments path)))
+removed_at_once a path whole stay =
+    sym (removed_twice (normal_text path)) ∙ ap remove_dot_segments (removed_normal path whole stay) ∙ sym (guarded_removed a (remove_dot_segments path))
+
+path_at_once : (a : Option (List ℕ)) (path : PathOf) → AreParts path → LosesSameDots path → written_path Normal path ≡ remove_dot_segments (normal_text (guarded a (written_path Given path)))
+path_at_once a (Kept path) h same = absurd same
+path_at_once a (OfBase path) h same = sym (guarded_removed a path.now)
+path_at_once a (Removed path) h same = removed_at_once a path.now (whole_path path.now h) (segments_stay path.now (whole_path path.now h) same)
+path_at_once a (Merged directory path) h same =
+    let front = whole_path directory.now h.0 in
+    let rest = whole_path path.now h.1 in
+    removed_at_once a (directory.now ++ 47 ∷ path.now) (whole-append directory.now (47 ∷ path.now) front rest)
+    (subst (AllByRecursion Stays) (sym (segments-append directory.now path.now)) (each_append Stays (segments directory.now) (segments path.now) (segments_stay directory.now front same.0) (segments_stay path.now rest same.1)))
+
+-- a base with a scheme
+pub scheme_there : (b : Components) (base : List ℕ) → b ≡ components base → is_some (scheme base) ≡ true → is_some b.scheme ≡ true
+scheme_there b base is there = ap (λ (d : Components). is_some d.scheme) is ∙ there
+
+-- the components of a target against it
+pub written_at_once : (t : Target) (b r : Components) → IsTarget t → LosesSameDots t.path → is_some b.scheme ≡ true → written_components Given t ≡ resolved_components b r → written_components Normal t ≡ normal (resolved_components b r)
+written_at_once t b r is same based given =
+    let s = option_copied t.scheme in
+    let a = option_copied t.authority in
+    let q = option_copied t.query in
+    let f = option_copied t.fragment in
+    let there = ap is_some (sym (map_given s)) ∙ ap (λ (d : Components). is_some d.scheme) given ∙ target_has_scheme b r based in
+    normal_parts_are s a (guarded a (written_path Given t.path)) (written_path Normal t.path) q f there (path_at_once a t.path is.path_test same)
+    ∙ ap normal (sym (as_given s a (guarded a (written_path Given t.path)) q f) ∙ given)
+
+-- the normal form of a target, and that it is a URI
+pub normal_of_target : (b r : Components) (base reference : List ℕ) → b ≡ components base → r ≡ components reference → are_components b ≡ true → are_components r ≡ true → is_some b.scheme ≡ true → text_of (normal (resolved_components b r)) ≡ normal_form (resolved base reference)
+normal_of_target b r base reference is are h k based =
+    let s = some_there b.scheme based in
+    let target = resolved_components b r in
+    normal_text_of target (text_of target) (sym (components-text_of target (resolved_is_valid b r s.0 s.1 h k))) ∙ ap normal_form (resolved_text_of b r base reference is are)
+
+pub normal_target_uri : (b r : Components) (text : List ℕ) (lengths : Lengths) → are_components b ≡ true → are_components r ≡ true → is_some b.scheme ≡ true → text ≡ text_of (normal (resolved_components b r)) → lengths ≡ lengths_of_components (normal (resolved_components b r)) → IsParsedUri text lengths
+normal_target_uri b r text lengths h k based written long =
+    let s = some_there b.scheme based in
+    let target = resolved_components b r in
+    let valid = resolved_is_valid b r s.0 s.1 h k in
+    (normal_parsed target text lengths valid written long, normal_scheme target text valid written ∙ target_has_scheme b r based)
