@@ -164,3 +164,7 @@ merged_is_removed form directory path front whole =
     ∙ ap (λ p. path_after Front [] (parts ++ rest) ++ end_of p) (sym (progress_after-append Front parts rest))
     ∙ ap (ended Front []) (sym (map-append (written form) (segments directory) (segments path)) ∙ ap (map (written form)) (sym (segments-append directory path)))
     ∙ ended_is_removed form (directory ++ 47 ∷ path) (whole-append directory (47 ∷ path) front whole)
+
+-- a path that two forms write alike, and so its segments
+pub parts_alike : (form other : Form) (path : List ℕ) → has_whole_triples path ≡ true → written form path ≡ written other path → map (written form) (segments path) ≡ map (written other) (segments path)
+parts_alike form other path whole same = sym (written_segments form path whole) ∙ ap segments same ∙ written_segments other path whole

@@ -197,7 +197,7 @@ pub fn push_without_dots(buffer: &mut String, path: &str, form: Form) -> Result<
     ensures ascii { OnOk result (IsAscii (string_bytes buffer.new)) }
 {
     let start = buffer.len();
-    push_rest(buffer, start, Progress::Front, path, form)
+    push_rest(buffer, start, Progress::Front, path, form.of_parts(path))
 }
 
 /// Appends a directory, a slash and a path, without their dot segments.
@@ -216,6 +216,7 @@ pub fn push_merged_without_dots(
     ensures ascii { OnOk result (IsAscii (string_bytes buffer.new)) }
 {
     let start = buffer.len();
-    let progress = push_segments(buffer, start, Progress::Front, directory, form)?;
-    push_rest(buffer, start, progress, path, form)
+    let in_front = form.of_parts(directory);
+    let progress = push_segments(buffer, start, Progress::Front, directory, in_front)?;
+    push_rest(buffer, start, progress, path, form.of_parts(path))
 }

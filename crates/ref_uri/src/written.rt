@@ -171,6 +171,17 @@ fn push_normal_authority(buffer: &mut String, authority: &str) -> Result<(), All
 }
 
 impl Form {
+    /// The form in which the parts of a text are written as in this one: as they were given, where it holds no triple.
+    pub fn of_parts(self, text: &str) -> Form
+        ensures { written result text.now ≡ written self text.now }
+    {
+        match self {
+            Form::Given => Form::Given,
+            Form::Normal if text.contains('%') => Form::Normal,
+            Form::Normal => Form::Given,
+        }
+    }
+
     /// Appends a path, a query or a fragment.
     pub fn push(self, buffer: &mut String, text: &str) -> Result<(), AllocError>
         requires ascii { IsAscii text.now }
