@@ -3,7 +3,6 @@ ghost use Rattle.std.specs.Prelude.{◌≡◌, [], ◌∷◌, codes, Some, None,
 ghost use Rattle.ref_draft.specs.declared.draft.Draft.TheVariants.{Draft7, Draft202012};
 ghost use Rattle.ref_uri.specs.Targets.{unparsed};
 ghost use Rattle.referencing.specs.Fault.{PointerToNowhere, InvalidArrayIndex, InvalidPercentEncoding, NoSuchAnchor, InvalidAnchor, InvalidUri, not_retrieved};
-ghost use Rattle.referencing.specs.World.{added};
 ghost use Rattle.referencing.specs.Lookup.{lookup};
 ghost use Rattle.referencing.specs.Follow.{Enter};
 ghost use Rattle.referencing.specs.Rows.{at, world, yes, empty, text, one, two, three, pair, resolver, found, steps, look, answer, refusal};
@@ -65,7 +64,7 @@ pub fn lookups_by_anchor()
 
 /// A child's documents stand before its parent's.
 pub fn layers()
-    ensures nearest { steps (added (at Draft202012 "http://a/m" (one "title" (text "child")) ∷ []) ∷ world (at Draft202012 "http://a/m" (two "$anchor" (text "p") "title" (text "parent")) ∷ [])) "http://a/m" (look "" ∷ []) ≡ answer (Some (one "title" (text "child"))) (codes "http://a/m") (codes "http://a/m" ∷ []) }
-    ensures parent_anchor { steps (added (at Draft202012 "http://a/m" (one "title" (text "child")) ∷ []) ∷ world (at Draft202012 "http://a/m" (two "$anchor" (text "p") "title" (text "parent")) ∷ [])) "http://a/m" (look "#p" ∷ []) ≡ answer (Some (two "$anchor" (text "p") "title" (text "parent"))) (codes "http://a/m") (codes "http://a/m" ∷ []) }
+    ensures nearest { steps ((at Draft202012 "http://a/m" (one "title" (text "child")) ∷ []) ∷ world (at Draft202012 "http://a/m" (two "$anchor" (text "p") "title" (text "parent")) ∷ [])) "http://a/m" (look "" ∷ []) ≡ answer (Some (one "title" (text "child"))) (codes "http://a/m") (codes "http://a/m" ∷ []) }
+    ensures parent_anchor { steps ((at Draft202012 "http://a/m" (one "title" (text "child")) ∷ []) ∷ world (at Draft202012 "http://a/m" (two "$anchor" (text "p") "title" (text "parent")) ∷ [])) "http://a/m" (look "#p" ∷ []) ≡ answer (Some (two "$anchor" (text "p") "title" (text "parent"))) (codes "http://a/m") (codes "http://a/m" ∷ []) }
     ensures same_uri { steps (world (at Draft202012 "http://a/m" yes ∷ at Draft202012 "http://a/m" empty ∷ [])) "http://a/m" (look "" ∷ []) ≡ answer (Some empty) (codes "http://a/m") (codes "http://a/m" ∷ []) }
 {}
