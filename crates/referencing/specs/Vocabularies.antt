@@ -1,6 +1,6 @@
 -- Vocabularies of meta-schemas (2020-12 Core, 8.1.2; 2019-09 Core, 8.1.2).
-use Rattle.std.specs.Prelude.{ℕ, Bool, true, false, ◌&&◌, ◌||◌, List, [], ◌∷◌, ◌++◌, map, filter, codes, bytes_eq, Option, Some, None, Result, Ok, Err, if◌then◌else◌, option_and_then, is_some}
-use Rattle.std.specs.List.{find, list_any}
+use Rattle.std.specs.Prelude.{ℕ, ◌/◌, ◌%◌, ◌==◌, Bool, true, false, ◌&&◌, ◌||◌, List, [], ◌∷◌, ◌++◌, map, filter, codes, bytes_eq, Option, Some, None, Result, Ok, Err, if◌then◌else◌, option_and_then, is_some}
+use Rattle.std.specs.List.{find, list_any, join_by}
 use Rattle.std.specs.Option.{option_map_or}
 use Rattle.std.specs.Ordering.{nat_cmp, match_ordering}
 use Rattle.std.specs.Cmp.Lexicographic.{slice_cmp}
@@ -78,6 +78,14 @@ with_vocabulary s (Custom uri) = record s { customs = put uri s.customs }
 abbrev pub of_names : List (List ℕ) → VocabularySet
 of_names names = record { names = names; customs = [] }
 
+-- of the known names, in their order, those whose bits are set, the lowest bit first; higher bits mean nothing
+abbrev pub names_of_bits : ℕ → List Known → List (List ℕ)
+names_of_bits bits [] = []
+names_of_bits bits (k ∷ ks) = (if bits % 2 == 1 then k.name ∷ [] else []) ++ names_of_bits (bits / 2) ks
+
+abbrev pub of_bits : ℕ → VocabularySet
+of_bits bits = of_names (names_of_bits bits known)
+
 -- the vocabularies of the newest draft, without what asserts formats
 abbrev pub set_of_2020 : VocabularySet
 set_of_2020 = of_names (codes "core" ∷ codes "applicator" ∷ codes "unevaluated" ∷ codes "validation" ∷ codes "meta-data" ∷ codes "format-annotation" ∷ codes "content" ∷ [])
@@ -95,13 +103,8 @@ default_set Unknown = set_of_2020
 abbrev pub quoted : List ℕ → List ℕ
 quoted text = codes "\"" ++ text ++ codes "\""
 
-abbrev pub listed : List (List ℕ) → List ℕ
-listed [] = []
-listed (text ∷ []) = quoted text
-listed (text ∷ next ∷ rest) = quoted text ++ codes ", " ++ listed (next ∷ rest)
-
 abbrev pub set_text : VocabularySet → List ℕ
-set_text s = codes "[" ++ listed (s.names ++ s.customs) ++ codes "]"
+set_text s = codes "[" ++ join_by quoted (codes ", ") (s.names ++ s.customs) ++ codes "]"
 
 -- what a member of `$vocabulary` adds: one that is true, and format-assertion in any case
 abbrev pub is_format_assertion : Vocabulary → Bool
