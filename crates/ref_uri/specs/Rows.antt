@@ -1,5 +1,6 @@
 -- Worked rows of URIs: what the definitions answer at literals, which the standard gives or each step of it. Each row is proved
 -- by computation. Sections are of RFC 3986.
+pub mod Errors
 use Rattle.std.specs.Prelude.{◌≡◌, true, false, [], ◌∷◌, codes, Some, None, Ok, Err}
 use Rattle.std.specs.Char.{to_ascii_lowercase}
 use Rattle.ref_uri.specs.Characters.{is_unreserved, is_sub_delim, is_scheme_character, is_name_character, is_userinfo_character, is_segment_character, is_first_segment_character, is_path_character, is_query_character, begins_with_hex_digits, has_whole_triples, is_encoded, begins_with_triple, begins_encoded}

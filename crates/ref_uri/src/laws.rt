@@ -4,6 +4,7 @@ ghost use Rattle.ref_uri.specs.Components.{Components, components, text_of, are_
 ghost use Rattle.ref_uri.specs.Normal.{normal_form};
 ghost use Rattle.ref_uri.specs.Targets.{parsed};
 ghost use Rattle.ref_uri.specs.Rows.{CharacterRows, AuthorityRows, ComponentRows, SegmentRows, NormalRows, ResolutionRows, MeaningRows};
+ghost use Rattle.ref_uri.specs.Rows.Errors.{ErrorRows};
 ghost use Rattle.ref_uri.specs.Reference.{is_uri_reference, is_uri, IsTextOfComponents, with_fragment};
 
 /// Every text is that of its components (RFC 3986, 5.3 and appendix B).
@@ -96,4 +97,9 @@ pub fn resolution_rows()
 /// The worked rows of what texts mean, alone and against a base.
 pub fn meaning_rows()
     ensures { MeaningRows }
+{}
+
+/// The worked rows of what errors say.
+pub fn error_rows()
+    ensures { ErrorRows }
 {}

@@ -38,6 +38,7 @@ pub fn pending_documents()
 pub fn documents_of_builders()
     ensures same_uri { layer_of (extended [] (value_under "http://a/m" yes ∷ value_under "http://a/m" empty ∷ [])) ≡ Ok (at Draft202012 "http://a/m" empty ∷ []) }
     ensures without_hash { layer_of (extended [] (value_under "http://a/d#" yes ∷ [])) ≡ Ok (at Draft202012 "http://a/d" yes ∷ []) }
+    ensures meta_schemas { layer_of (extended [] (value_under "http://json-schema.org/draft-07/schema#" (one "title" (text "m")) ∷ [])) ≡ Ok (at Draft202012 "http://json-schema.org/draft-07/schema" (one "title" (text "m")) ∷ []) }
     ensures values_and_resources { documents_of (Some Draft7) (waiting "http://a/r" empty ∷ record { uri = codes "http://a/s"; tree = empty; draft = Some Draft4 } ∷ []) ≡ at Draft7 "http://a/r" empty ∷ at Draft4 "http://a/s" empty ∷ [] }
     ensures none { documents_of (Some Draft7) [] ≡ [] }
     ensures given_documents { (given_of_builder default_retriever 3 (Some Draft7) [] (waiting "http://a/r" empty ∷ [])).documents ≡ at Draft7 "http://a/r" empty ∷ [] }

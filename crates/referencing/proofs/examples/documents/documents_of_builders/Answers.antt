@@ -7,6 +7,7 @@ unfolding referencing_on_literals
 returns c = record {
   same_uri = refl;
   without_hash = refl;
+  meta_schemas = refl;
   values_and_resources = refl;
   none = refl;
   given_documents = refl;
