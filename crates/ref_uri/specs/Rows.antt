@@ -1,5 +1,6 @@
--- Worked rows of URIs: what the definitions answer at literals, which the standard gives or each step of it. Each row is proved
--- by computation. Sections are of RFC 3986.
+-- Worked rows of URIs: what the definitions answer at literals, whole texts of the standard and the steps that lead to them.
+-- Each row is proved by computation. Sections are of RFC 3986.
+pub mod Bodies
 pub mod Errors
 use Rattle.std.specs.Prelude.{◌≡◌, true, false, [], ◌∷◌, codes, Some, None, Ok, Err}
 use Rattle.std.specs.Char.{to_ascii_lowercase}

@@ -4,6 +4,7 @@ ghost use Rattle.ref_uri.specs.Components.{Components, components, text_of, are_
 ghost use Rattle.ref_uri.specs.Normal.{normal_form};
 ghost use Rattle.ref_uri.specs.Targets.{parsed};
 ghost use Rattle.ref_uri.specs.Rows.{CharacterRows, AuthorityRows, ComponentRows, SegmentRows, NormalRows, ResolutionRows, MeaningRows};
+ghost use Rattle.ref_uri.specs.Rows.Bodies.{BodyRows};
 ghost use Rattle.ref_uri.specs.Rows.Errors.{ErrorRows};
 ghost use Rattle.ref_uri.specs.Reference.{is_uri_reference, is_uri, IsTextOfComponents, with_fragment};
 
@@ -102,4 +103,9 @@ pub fn meaning_rows()
 /// The worked rows of what errors say.
 pub fn error_rows()
     ensures { ErrorRows }
+{}
+
+/// The worked rows of what private clauses say of how far a body has come.
+pub fn body_rows()
+    ensures { BodyRows }
 {}

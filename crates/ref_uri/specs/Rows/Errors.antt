@@ -1,5 +1,5 @@
 -- Worked rows of what errors say.
-use Rattle.std.specs.Prelude.{◌≡◌, ℕ, List, true, false, [], codes, Ok, Err, String, string_bytes}
+use Rattle.std.specs.Prelude.{◌≡◌, true, false, codes, Ok, Err, String, string_bytes}
 use Rattle.std.specs.declared.alloc.AllocError.{AllocError}
 use Rattle.std.specs.declared.alloc.Global.{Global}
 use Rattle.ref_uri.specs.Targets.{unparsed, unresolved}

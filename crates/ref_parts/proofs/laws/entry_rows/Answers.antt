@@ -23,4 +23,7 @@ returns c = record {
   first_slot = refl;
   written_form = refl;
   second_of_a_form = refl;
+  hashed_entries = λ map is. is;
+  hashed_form = λ map is. let three = ap length is in omega (arith, three);
+  not_hashed_yet = λ map is more. let two = ap length is in omega (arith, two, more);
 }

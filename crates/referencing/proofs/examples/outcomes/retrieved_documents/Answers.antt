@@ -1,4 +1,4 @@
-use Rattle.std.proofs.Common.{◌≡◌, Ok, Err, refl, [], ◌∷◌, codes, arith}
+use Rattle.std.proofs.Common.{Ok, Err, refl, [], ◌∷◌, codes, arith}
 use Rattle.ref_draft.specs.declared.draft.Draft.TheVariants.{Draft202012}
 use Rattle.ref_uri.specs.Targets.{unparsed}
 use Rattle.referencing.specs.Fault.{InvalidUri}
