@@ -4,3 +4,4 @@ pub mod Appending
 pub mod Closure
 pub mod References
 pub mod Levels
+pub mod Pending

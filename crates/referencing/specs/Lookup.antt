@@ -41,6 +41,7 @@ abbrev pub at_base : Resolver → Result (List ℕ) Refusal → Result Resolver 
 at_base r (Ok uri) = Ok (record r { base = uri })
 at_base r (Err refusal) = Err refusal
 
+-- an identifier, where there is one, is resolved against the base (2020-12 Core, 8.2.1)
 abbrev pub by_identifier : Resolver → Option (List ℕ) → Result Resolver Refusal
 by_identifier r None = Ok r
 by_identifier r (Some id) = at_base r (against r.base id)
@@ -64,6 +65,7 @@ abbrev pub entry_of : List ℕ × Result Named Fault → List (List ℕ × Named
 entry_of (uri, Ok n) = (uri, n) ∷ []
 entry_of (uri, Err fault) = []
 
+-- whether an anchor is a dynamic one
 abbrev pub is_dynamic : Kind → Bool
 is_dynamic Plain = false
 is_dynamic Dynamic = true
@@ -88,6 +90,7 @@ abbrev pub by_scope : Resolver → Named → List (List ℕ × Result Named Faul
 by_scope r first meanings =
     unless_fault (flat_map fault_of meanings) (entry_found r (outermost (r.base, first) (flat_map entry_of meanings)))
 
+-- a dynamic anchor, by the scope of the resolver that asks
 abbrev pub dynamically : World → Resolver → Named → Result Found Fault
 dynamically world r first = by_scope r first (in_scope world first.name r.scope)
 

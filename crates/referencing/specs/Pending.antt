@@ -28,7 +28,7 @@ abbrev pub pending_of : Addition → Result Pending Refusal
 pending_of a = parsed (trimmed a.text) >>= λ uri. Ok (record { uri = uri; tree = a.tree; draft = a.draft })
 
 -- Pending documents stand in order of first addition: a later one under the same URI takes the earlier one's place.
-abbrev pub with_pending : List Pending → Pending → List Pending
+unfoldable pub with_pending : List Pending → Pending → List Pending
 with_pending ps p =
     if list_any (λ e. bytes_eq e.uri p.uri) ps then map (λ e. if bytes_eq e.uri p.uri then p else e) ps
     else ps ++ p ∷ []

@@ -23,10 +23,11 @@ answers_marked (Err fault) = false
 abbrev pub looked_up : World → Resolver → List (Result Found Fault)
 looked_up world r = map (λ uri. lookup world r uri) r.scope
 
--- the longest beginning of lookups that answer marked values, and what stands behind it
+-- the longest beginning of lookups that answer marked values
 abbrev pub marked_beginning : List (Result Found Fault) → List (Result Found Fault)
 marked_beginning answers = take_while answers_marked answers
 
+-- what stands behind that beginning
 abbrev pub behind_beginning : List (Result Found Fault) → List (Result Found Fault)
 behind_beginning answers = drop (length (marked_beginning answers)) answers
 

@@ -36,6 +36,7 @@ pub fn lookups_by_pointer()
 /// One lookup from a resolver.
 pub fn lookups_of_references()
     ensures whole_resource { lookup (world (at Draft202012 "http://a/r" empty ∷ [])) (resolver "http://a/r" []) (codes "#") ≡ Ok (found empty Draft202012 (resolver "http://a/r" (codes "http://a/r" ∷ []))) }
+    ensures whole_document { lookup (world (at Draft202012 "http://example.com" (two "properties" (one "foo" (one "type" (text "string"))) "type" (text "object")) ∷ [])) (resolver "http://example.com" []) (codes "#") ≡ Ok (found (two "properties" (one "foo" (one "type" (text "string"))) "type" (text "object")) Draft202012 (resolver "http://example.com" (codes "http://example.com" ∷ []))) }
     ensures scope_stays { lookup (world (at Draft202012 "http://a/r" empty ∷ [])) (resolver "http://a/r" (codes "http://a/s" ∷ [])) (codes "#") ≡ Ok (found empty Draft202012 (resolver "http://a/r" (codes "http://a/s" ∷ []))) }
     ensures draft_of_the_place { lookup (world (at Draft7 "http://a/r" empty ∷ [])) (resolver "http://a/q" []) (codes "r") ≡ Ok (found empty Draft7 (resolver "http://a/r" (codes "http://a/q" ∷ []))) }
     ensures no_reference { lookup (world (at Draft202012 "http://a/r" empty ∷ [])) (resolver "http://a/r" []) (codes "c d#/x") ≡ Err (InvalidUri (unparsed (codes "c d"))) }
