@@ -1,4 +1,6 @@
 -- Worked rows of pointer text: what the definitions answer at literals. Each row is proved by computation.
+pub mod Entries
+pub mod Escapes
 pub mod Maps
 pub mod Paths
 use Rattle.std.specs.Prelude.{◌≡◌, true, false, [], ◌∷◌, codes, Some, None}

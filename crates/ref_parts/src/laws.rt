@@ -6,6 +6,8 @@ ghost use Rattle.serde_json.specs.Data.{Data};
 ghost use Rattle.ref_parts.specs.Path.{Part, value_at, HasFittingIndexes};
 ghost use Rattle.ref_parts.specs.Pointer.{escape, unescape, pointer_text, evaluate, parse_index};
 ghost use Rattle.ref_parts.specs.Rows.{PointerRows, TokenRows, ExampleRows, FragmentRows};
+ghost use Rattle.ref_parts.specs.Rows.Entries.{EntryRows};
+ghost use Rattle.ref_parts.specs.Rows.Escapes.{EscapeRows};
 ghost use Rattle.ref_parts.specs.Rows.Maps.{MapRows};
 ghost use Rattle.ref_parts.specs.Rows.Paths.{PathRows, LinkRows};
 
@@ -61,4 +63,14 @@ pub fn path_rows()
 /// The worked rows of small maps.
 pub fn map_rows()
     ensures { MapRows }
+{}
+
+/// The worked rows of a small map's entries by their places, and of a value that is written at one.
+pub fn entry_rows()
+    ensures { EntryRows }
+{}
+
+/// The worked rows of escapes in keys, and of a whole pointer (RFC 6901, sections 3 and 4).
+pub fn escape_rows()
+    ensures { EscapeRows }
 {}

@@ -12,3 +12,4 @@ pub mod Targets
 pub mod Written
 pub mod Removal
 pub mod Target
+pub mod Rows

@@ -3,6 +3,9 @@ ghost use Rattle.std.specs.Prelude.{◌≡◌, ◌↔◌, Ok, List, [], ℕ, Som
 ghost use Rattle.ref_uri.specs.Components.{Components, components, text_of, are_components, scheme, authority, path, query, fragment};
 ghost use Rattle.ref_uri.specs.Normal.{normal_form};
 ghost use Rattle.ref_uri.specs.Targets.{parsed};
+ghost use Rattle.ref_uri.specs.Rows.{CharacterRows, AuthorityRows, ComponentRows, SegmentRows, NormalRows, ResolutionRows, MeaningRows};
+ghost use Rattle.ref_uri.specs.Rows.Bodies.{BodyRows};
+ghost use Rattle.ref_uri.specs.Rows.Errors.{ErrorRows};
 ghost use Rattle.ref_uri.specs.Reference.{is_uri_reference, is_uri, IsTextOfComponents, with_fragment};
 
 /// Every text is that of its components (RFC 3986, 5.3 and appendix B).
@@ -60,4 +63,49 @@ pub fn normal_form_is_its_own()
 /// What a text means by itself is its own normal form.
 pub fn meanings_are_normal()
     ensures { (text uri : List ℕ) → parsed text ≡ Ok uri → normal_form uri ≡ uri }
+{}
+
+/// The worked rows of characters and triples (RFC 3986, 2 and 3).
+pub fn character_rows()
+    ensures { CharacterRows }
+{}
+
+/// The worked rows of authorities and their parts (RFC 3986, 3.2).
+pub fn authority_rows()
+    ensures { AuthorityRows }
+{}
+
+/// The worked rows of components, where they begin and end, and what they may hold (RFC 3986, 3).
+pub fn component_rows()
+    ensures { ComponentRows }
+{}
+
+/// The worked rows of dot segments, one by one (RFC 3986, 5.2.4).
+pub fn segment_rows()
+    ensures { SegmentRows }
+{}
+
+/// The worked rows of the normal forms of parts (RFC 3986, 6.2.2 and 3.2.3).
+pub fn normal_rows()
+    ensures { NormalRows }
+{}
+
+/// The worked rows of the five cases of resolution (RFC 3986, 5.2.2 and 5.2.3).
+pub fn resolution_rows()
+    ensures { ResolutionRows }
+{}
+
+/// The worked rows of what texts mean, alone and against a base.
+pub fn meaning_rows()
+    ensures { MeaningRows }
+{}
+
+/// The worked rows of what errors say.
+pub fn error_rows()
+    ensures { ErrorRows }
+{}
+
+/// The worked rows of what private clauses say of how far a body has come.
+pub fn body_rows()
+    ensures { BodyRows }
 {}

@@ -3,3 +3,5 @@ pub mod Retrieval
 pub mod Appending
 pub mod Closure
 pub mod References
+pub mod Levels
+pub mod Pending

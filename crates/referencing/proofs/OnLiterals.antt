@@ -8,9 +8,10 @@ use Rattle.referencing.specs.Pointers.{index_of}
 use Rattle.referencing.specs.Lookup.{lookup}
 use Rattle.referencing.specs.Recursive.{lookup_recursive}
 use Rattle.referencing.specs.Follow.{followed}
+use Rattle.referencing.specs.Pending.{with_pending}
 use Rattle.referencing.specs.Vocabularies.{find_in, find_vocabularies}
 
 -- what a proof unfolds to compute this crate's definitions on a literal
 unfoldable pub referencing_on_literals : ⊤
-unfolding is_utf8 chars encode percent_encoding_on_literals ref_uri_on_literals anchor index_of lookup lookup_recursive followed find_in find_vocabularies
+unfolding is_utf8 chars encode percent_encoding_on_literals ref_uri_on_literals anchor index_of lookup lookup_recursive followed find_in find_vocabularies with_pending
 referencing_on_literals = tt

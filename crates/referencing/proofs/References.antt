@@ -21,7 +21,7 @@ use Rattle.referencing.specs.Fault.{Fault, Unretrievable, PointerToNowhere, Inva
 use Rattle.referencing.specs.Anchors.{Named, named, fallback_uri, found_or, fallback, anchor}
 use Rattle.referencing.specs.Bases.{Along, along_part}
 use Rattle.referencing.specs.Pointers.{◌>>=◌, as_invalid_uri, or_fault, index_of, step_into, walked_along, pointed}
-use Rattle.referencing.specs.Lookup.{Resolver, moved, with_entry, in_scope, entry_found, outermost, dynamically, named_found, in_subresource, by_pointer, by_name, at_fragment, lookup}
+use Rattle.referencing.specs.Lookup.{Resolver, moved, in_scope, fault_of, entry_of, unless_fault, entry_found, outermost, dynamically, named_found, in_subresource, by_pointer, by_name, at_fragment, lookup}
 use Rattle.referencing.specs.Wants.{Want, Reference, MetaSchema, reference_at, schema_at, wanted, wants_at, wants, is_open, open_wants}
 
 -- ---- answers that are no unretrievable URI
@@ -112,23 +112,32 @@ anchor_clear world uri name =
     entry_or_clear (named world uri name) (fallback world name (option_map_or fallback_uri (means world uri) None))
     (fallback_clear world name (option_map_or fallback_uri (means world uri) None))
 
-with_clear : (uri : List ℕ) (r : Result Named Fault) (rest : Result (List (List ℕ × Named)) Fault) → Clear r → Clear rest → Clear (with_entry uri r rest)
-with_clear uri (Ok n) (Ok entries) clear later = tt
-with_clear uri (Ok n) (Err fault) clear later = later
-with_clear uri (Err (Unretrievable other source)) rest clear later = clear
-with_clear uri (Err (PointerToNowhere pointer)) rest clear later = tt
-with_clear uri (Err (InvalidPercentEncoding pointer)) rest clear later = tt
-with_clear uri (Err (InvalidArrayIndex pointer index)) rest clear later = tt
-with_clear uri (Err (NoSuchAnchor name)) rest clear later = later
-with_clear uri (Err (InvalidAnchor name)) rest clear later = tt
-with_clear uri (Err (InvalidUri refusal)) rest clear later = tt
-with_clear uri (Err (UnknownSpecification other)) rest clear later = tt
-with_clear uri (Err (CircularMetaschema other)) rest clear later = tt
-with_clear uri (Err (RetrievalLimit other limit)) rest clear later = tt
+-- of faults the first is no unretrievable URI
+abbrev FirstOther : List Fault → Type 0
+FirstOther [] = ⊤
+FirstOther (fault ∷ more) = Other fault
 
-scope_clear : (world : World) (name : List ℕ) (scope : List (List ℕ)) → Clear (in_scope world name scope)
+faults_clear : (uri : List ℕ) (r : Result Named Fault) (rest : List Fault) → Clear r → FirstOther rest → FirstOther (fault_of (uri, r) ++ rest)
+faults_clear uri (Ok n) rest clear later = later
+faults_clear uri (Err (Unretrievable other source)) rest clear later = clear
+faults_clear uri (Err (PointerToNowhere pointer)) rest clear later = tt
+faults_clear uri (Err (InvalidPercentEncoding pointer)) rest clear later = tt
+faults_clear uri (Err (InvalidArrayIndex pointer index)) rest clear later = tt
+faults_clear uri (Err (NoSuchAnchor name)) rest clear later = later
+faults_clear uri (Err (InvalidAnchor name)) rest clear later = tt
+faults_clear uri (Err (InvalidUri refusal)) rest clear later = tt
+faults_clear uri (Err (UnknownSpecification other)) rest clear later = tt
+faults_clear uri (Err (CircularMetaschema other)) rest clear later = tt
+faults_clear uri (Err (RetrievalLimit other limit)) rest clear later = tt
+
+scope_clear : (world : World) (name : List ℕ) (scope : List (List ℕ)) → FirstOther (flat_map fault_of (in_scope world name scope))
 scope_clear world name [] = tt
-scope_clear world name (uri ∷ scope) = with_clear uri (anchor world uri name) (in_scope world name scope) (anchor_clear world uri name) (scope_clear world name scope)
+scope_clear world name (uri ∷ scope) =
+    faults_clear uri (anchor world uri name) (flat_map fault_of (in_scope world name scope)) (anchor_clear world uri name) (scope_clear world name scope)
+
+unless_clear : {A : Type 0} (faults : List Fault) (answer : Result A Fault) → FirstOther faults → Clear answer → Clear (unless_fault faults answer)
+unless_clear [] answer none clear = clear
+unless_clear (fault ∷ more) answer other clear = other
 
 entry_clear : (r : Resolver) (uri : List ℕ) (n : Named) → Clear (entry_found r (uri, n))
 entry_clear r uri n =
@@ -138,8 +147,9 @@ entry_clear r uri n =
 
 dynamic_clear : (world : World) (r : Resolver) (first : Named) → Clear (dynamically world r first)
 dynamic_clear world r first =
-    in_turn (in_scope world first.name r.scope) (λ entries. entry_found r (outermost (r.base, first) entries)) (scope_clear world first.name r.scope)
-    (λ entries. entry_clear r (outermost (r.base, first) entries).0 (outermost (r.base, first) entries).1)
+    let meanings = in_scope world first.name r.scope in
+    let last = outermost (r.base, first) (flat_map entry_of meanings) in
+    unless_clear (flat_map fault_of meanings) (entry_found r last) (scope_clear world first.name r.scope) (entry_clear r last.0 last.1)
 
 named_clear : (world : World) (r : Resolver) (n : Named) (kind : Kind) → Clear (named_found world r n kind)
 named_clear world r n Plain = tt

@@ -20,6 +20,7 @@ pub record Named : Type 0 where
 abbrev pub named_under : List ℕ → Place → List Named
 named_under uri p = map (λ a. record { uri = uri; name = a.0; kind = a.1; place = p }) (anchors p.draft p.value)
 
+-- under its base, which it may lack
 abbrev pub named_by : Place → Result (List ℕ) Refusal → List Named
 named_by p (Ok base) = named_under base p
 named_by p (Err refusal) = []
@@ -28,6 +29,7 @@ named_by p (Err refusal) = []
 abbrev pub names_in : Document → List Named
 names_in d = named_under d.uri (root d) ++ flat_map (λ p. named_by p p.base) (places d)
 
+-- the names of a layer, document by document
 abbrev pub names : Layer → List Named
 names layer = flat_map names_in layer
 
@@ -49,10 +51,12 @@ not_named name = if list_any (λ c. c == 47) name then InvalidAnchor name else N
 abbrev pub fallback_uri : Place → Option (Result (List ℕ) Refusal)
 fallback_uri p = option_map_or (λ id. Some (parsed id)) (identifier_of p) None
 
+-- an entry, or the fault of a name that nothing has
 abbrev pub found_or : List ℕ → Option Named → Result Named Fault
 found_or name (Some n) = Ok n
 found_or name None = Err (not_named name)
 
+-- the entry under that URI, where there is one, or why it means none
 abbrev pub fallback : World → List ℕ → Option (Result (List ℕ) Refusal) → Result Named Fault
 fallback world name None = Err (not_named name)
 fallback world name (Some (Ok uri)) = found_or name (named world uri name)

@@ -17,6 +17,7 @@ borne_with p (Some id) (Ok base) = (base, p) ∷ []
 borne_with p (Some id) (Err refusal) = []
 borne_with p None base = []
 
+-- what a place is borne under by itself
 abbrev pub borne_by : Place → List (List ℕ × Place)
 borne_by p = borne_with p (identifier_of p) p.base
 
@@ -24,6 +25,7 @@ borne_by p = borne_with p (identifier_of p) p.base
 abbrev pub borne_in : Document → List (List ℕ × Place)
 borne_in d = (d.uri, root d) ∷ flat_map borne_by (places d)
 
+-- what stands under the URIs of a layer, document by document
 abbrev pub bears : Layer → List (List ℕ × Place)
 bears layer = flat_map borne_in layer
 

@@ -77,6 +77,7 @@ pub record OutcomeLaws (given : Given) : Type 0 where
   pub documents : (answer : Result Layer Fault) → DocumentsAlone given answer
   pub first_fault : (answer : Result Layer Fault) → FirstFaultAlone given answer
 
+-- the same, whatever is given
 abbrev pub OutcomesOfRetrieval : Type 0
 OutcomesOfRetrieval =
     (answers : List ℕ → Data → Bool) (refuses : List ℕ → List ℕ → Bool) (limit : ℕ) (draft : Draft) (parents : World) (documents : Layer)

@@ -2,6 +2,7 @@
 use Rattle.std.specs.Prelude.{ℕ, List, ◌++◌, codes, decimal}
 use Rattle.ref_uri.specs.Targets.{Refusal, refusal_text}
 
+-- the faults; want of memory is none of them
 pub data Fault : Type 0 where
   -- the URI that means no place, and why it could not be retrieved
   Unretrievable : List ℕ → List ℕ → Fault
@@ -18,6 +19,7 @@ pub data Fault : Type 0 where
   -- the URI that was wanted next, and the limit
   RetrievalLimit : List ℕ → ℕ → Fault
 
+-- what is displayed
 abbrev pub fault_text : Fault → List ℕ
 fault_text (Unretrievable uri source) =
     codes "Resource '" ++ uri ++ codes "' is not present in a registry and retrieving it failed: " ++ source

@@ -19,6 +19,7 @@ pub record Followed : Type 0 where
   pub last : Option (Data × Draft)
   pub resolver : Resolver
 
+-- after a lookup that found this
 abbrev pub after_lookup : Found → Followed
 after_lookup found = record { last = Some (found.value, found.draft); resolver = found.resolver }
 
@@ -33,6 +34,7 @@ abbrev pub numbered : ℕ → Result Followed Fault → Result Followed (ℕ × 
 numbered n (Ok f) = Ok f
 numbered n (Err fault) = Err (n, fault)
 
+-- the steps one after another, the first of them with this number
 abbrev pub followed_from : World → ℕ → Followed → List Step → Result Followed (ℕ × Fault)
 followed_from world n f [] = Ok f
 followed_from world n f (step ∷ steps) = numbered n (stepped world f step) >>= λ g. followed_from world (n + 1) g steps

@@ -9,6 +9,7 @@ pub mod Closure
 pub mod References
 pub mod Preparing
 pub mod Retrievers
+pub mod Pending
 pub mod Bases
 pub mod Pointers
 pub mod Lookup

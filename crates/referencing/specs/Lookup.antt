@@ -1,13 +1,18 @@
 -- Where a reference leads (2020-12 Core, 8.2.3).
-use Rattle.std.specs.Prelude.{ℕ, Bool, true, false, not, ◌||◌, ◌==◌, List, [], ◌∷◌, length, bytes_eq, Option, Some, None, Result, Ok, Err, if◌then◌else◌}
+use Rattle.std.specs.Prelude.{ℕ, Bool, true, false, not, ◌||◌, ◌==◌, List, [], ◌∷◌, ◌++◌, map, filter, flat_map, length, codes, bytes_eq, Option, Some, None, Result, Ok, Err, if◌then◌else◌}
+use Rattle.std.specs.List.{join_by}
+use Rattle.std.specs.Option.{option_map_or}
 use Rattle.serde_json.specs.Data.{Data}
+use Rattle.ref_parts.specs.Path.{Part}
+use Rattle.ref_parts.specs.Pointer.{pointer_text}
+use Rattle.ref_parts.specs.Encoded.{encoded}
 use Rattle.ref_draft.specs.declared.draft.Draft.{Draft}
 use Rattle.ref_draft.specs.Schema.{identifier}
 use Rattle.ref_draft.specs.Anchors.{Kind, Plain, Dynamic}
 use Rattle.ref_uri.specs.Targets.{Refusal, target, fragment_part, against}
 use Rattle.referencing.specs.World.{World}
 use Rattle.referencing.specs.Places.{Place}
-use Rattle.referencing.specs.Bearing.{means}
+use Rattle.referencing.specs.Bearing.{last_of, means}
 use Rattle.referencing.specs.Anchors.{Named, anchor}
 use Rattle.referencing.specs.Fault.{Fault, NoSuchAnchor, not_retrieved}
 use Rattle.referencing.specs.Bases.{Along}
@@ -36,6 +41,7 @@ abbrev pub at_base : Resolver → Result (List ℕ) Refusal → Result Resolver 
 at_base r (Ok uri) = Ok (record r { base = uri })
 at_base r (Err refusal) = Err refusal
 
+-- an identifier, where there is one, is resolved against the base (2020-12 Core, 8.2.1)
 abbrev pub by_identifier : Resolver → Option (List ℕ) → Result Resolver Refusal
 by_identifier r None = Ok r
 by_identifier r (Some id) = at_base r (against r.base id)
@@ -44,25 +50,30 @@ by_identifier r (Some id) = at_base r (against r.base id)
 abbrev pub in_subresource : Resolver → Draft → Data → Result Resolver Refusal
 in_subresource r draft value = by_identifier r (identifier draft value)
 
--- the anchors of a name in the scope, each under its URI: one that isn't there is passed over, another fault ends it
-abbrev pub with_entry : List ℕ → Result Named Fault → Result (List (List ℕ × Named)) Fault → Result (List (List ℕ × Named)) Fault
-with_entry uri (Ok n) (Ok entries) = Ok ((uri, n) ∷ entries)
-with_entry uri (Ok n) (Err fault) = Err fault
-with_entry uri (Err (NoSuchAnchor name)) rest = rest
-with_entry uri (Err fault) rest = Err fault
+-- what a name means under each URI of the scope, inner to outer
+abbrev pub in_scope : World → List ℕ → List (List ℕ) → List (List ℕ × Result Named Fault)
+in_scope world name scope = map (λ uri. (uri, anchor world uri name)) scope
 
-abbrev pub in_scope : World → List ℕ → List (List ℕ) → Result (List (List ℕ × Named)) Fault
-in_scope world name [] = Ok []
-in_scope world name (uri ∷ scope) = with_entry uri (anchor world uri name) (in_scope world name scope)
+-- its fault, unless it is that no such anchor is there
+abbrev pub fault_of : List ℕ × Result Named Fault → List Fault
+fault_of (uri, Ok n) = []
+fault_of (uri, Err (NoSuchAnchor name)) = []
+fault_of (uri, Err fault) = fault ∷ []
 
+-- the entry that it means
+abbrev pub entry_of : List ℕ × Result Named Fault → List (List ℕ × Named)
+entry_of (uri, Ok n) = (uri, n) ∷ []
+entry_of (uri, Err fault) = []
+
+-- whether an anchor is a dynamic one
 abbrev pub is_dynamic : Kind → Bool
 is_dynamic Plain = false
 is_dynamic Dynamic = true
 
--- the outermost dynamic entry, or what was found first (2020-12 Core, 8.2.3.2)
-abbrev pub outermost : List ℕ × Named → List (List ℕ × Named) → List ℕ × Named
-outermost first [] = first
-outermost first (e ∷ entries) = outermost (if is_dynamic e.1.kind then e else first) entries
+-- the first fault, or else this answer
+abbrev pub unless_fault : {A : Type 0} → List Fault → Result A Fault → Result A Fault
+unless_fault [] answer = answer
+unless_fault (fault ∷ more) answer = Err fault
 
 -- an entry's place, whose identifier is resolved against the URI that it was found under
 abbrev pub entry_found : Resolver → List ℕ × Named → Result Found Fault
@@ -70,9 +81,18 @@ entry_found r (uri, n) =
     as_invalid_uri (in_subresource (record r { base = uri }) n.place.draft n.place.value)
     >>= λ moved. Ok (record { value = n.place.value; draft = n.place.draft; resolver = moved })
 
--- a dynamic anchor: the outermost of the scope
+-- of the entries filtered to the dynamic ones the last, or what was found first (2020-12 Core, 8.2.3.2)
+abbrev pub outermost : List ℕ × Named → List (List ℕ × Named) → List ℕ × Named
+outermost first entries = option_map_or (λ e. e) (last_of (filter (λ e. is_dynamic e.1.kind) entries)) first
+
+-- a dynamic anchor, by what its name means in the scope: the first fault, or else the outermost
+abbrev pub by_scope : Resolver → Named → List (List ℕ × Result Named Fault) → Result Found Fault
+by_scope r first meanings =
+    unless_fault (flat_map fault_of meanings) (entry_found r (outermost (r.base, first) (flat_map entry_of meanings)))
+
+-- a dynamic anchor, by the scope of the resolver that asks
 abbrev pub dynamically : World → Resolver → Named → Result Found Fault
-dynamically world r first = in_scope world first.name r.scope >>= λ entries. entry_found r (outermost (r.base, first) entries)
+dynamically world r first = by_scope r first (in_scope world first.name r.scope)
 
 -- a plain anchor answers its place
 abbrev pub named_found : World → Resolver → Named → Kind → Result Found Fault
@@ -102,3 +122,11 @@ lookup world r reference =
     as_invalid_uri (target r.base reference)
     >>= λ uri. or_fault (means world uri) (not_retrieved uri)
     >>= λ place. at_fragment world (moved r uri) place (fragment_part reference)
+
+-- where a path leads from a base: the lookup, with an empty scope, of `#` and the path's pointer text as a fragment holds it
+abbrev pub located : World → List ℕ → List Part → Result Found Fault
+located world base path = lookup world (record { base = base; scope = [] }) (35 ∷ encoded (pointer_text path))
+
+-- a resolver as it is displayed: its base, and its scope from inner to outer
+abbrev pub resolver_text : Resolver → List ℕ
+resolver_text r = codes "Resolver { base_uri: \"" ++ r.base ++ codes "\", scopes: \"[" ++ join_by (λ uri. uri) (codes ", ") r.scope ++ codes "]\" }"

@@ -9,11 +9,13 @@ uris_of_2019 =
     map (λ part. codes "https://json-schema.org/draft/2019-09/" ++ part)
     (map codes ("schema" ∷ "meta/applicator" ∷ "meta/content" ∷ "meta/core" ∷ "meta/format" ∷ "meta/meta-data" ∷ "meta/validation" ∷ []))
 
+-- those of 2020-12
 abbrev pub uris_of_2020 : List (List ℕ)
 uris_of_2020 =
     map (λ part. codes "https://json-schema.org/draft/2020-12/" ++ part)
     (map codes ("schema" ∷ "meta/core" ∷ "meta/applicator" ∷ "meta/unevaluated" ∷ "meta/validation" ∷ "meta/meta-data" ∷ "meta/format-annotation" ∷ "meta/format-assertion" ∷ "meta/content" ∷ []))
 
+-- those of a draft; a custom meta-schema's are those of 2020-12
 abbrev pub uris_for_draft : Draft → List (List ℕ)
 uris_for_draft Draft4 = codes "http://json-schema.org/draft-04/schema#" ∷ []
 uris_for_draft Draft6 = codes "http://json-schema.org/draft-06/schema#" ∷ []

@@ -38,6 +38,7 @@ abbrev pub children_with : Result (List ℕ) Refusal → Place → List Place
 children_with (Ok base) p = map (child_place p.path base) (walked p.draft p.value)
 children_with (Err refusal) p = []
 
+-- the children of a place, by its base
 abbrev pub children_of : Place → List Place
 children_of p = children_with p.base p
 

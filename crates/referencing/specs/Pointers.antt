@@ -14,15 +14,18 @@ use Rattle.ref_uri.specs.Targets.{Refusal}
 use Rattle.referencing.specs.Fault.{Fault, PointerToNowhere, InvalidPercentEncoding, InvalidArrayIndex, InvalidUri}
 use Rattle.referencing.specs.Bases.{Along, along_part}
 
+-- one answer after another: the first fault ends them
 infixl 10 ◌>>=◌
 abbrev pub ◌>>=◌ : {E A B : Type 0} → Result A E → (A → Result B E) → Result B E
 (Ok x) >>= f = f x
 (Err e) >>= f = Err e
 
+-- a refused URI as a fault
 abbrev pub as_invalid_uri : {A : Type 0} → Result A Refusal → Result A Fault
 as_invalid_uri (Ok x) = Ok x
 as_invalid_uri (Err refusal) = Err (InvalidUri refusal)
 
+-- what is there, or this fault
 abbrev pub or_fault : {A : Type 0} → Option A → Fault → Result A Fault
 or_fault None fault = Err fault
 or_fault (Some x) fault = Ok x

@@ -1,9 +1,11 @@
 -- Recursive references (2019-09 Core, 8.2.4.2).
-use Rattle.std.specs.Prelude.{ℕ, Bool, false, List, [], ◌∷◌, codes, Result, Ok, Err, if◌then◌else◌, option_and_then}
+use Rattle.std.specs.Prelude.{Bool, false, List, [], ◌∷◌, map, drop, length, codes, Result, Ok, Err, if◌then◌else◌, option_and_then}
+use Rattle.std.specs.List.{take_while}
 use Rattle.std.specs.Option.{option_map_or}
 use Rattle.serde_json.specs.Data.{Data}
 use Rattle.serde_json.specs.Find.{get, as_bool}
 use Rattle.referencing.specs.World.{World}
+use Rattle.referencing.specs.Bearing.{last_of}
 use Rattle.referencing.specs.Fault.{Fault}
 use Rattle.referencing.specs.Pointers.{◌>>=◌}
 use Rattle.referencing.specs.Lookup.{Resolver, Found, lookup}
@@ -12,20 +14,36 @@ use Rattle.referencing.specs.Lookup.{Resolver, Found, lookup}
 abbrev pub is_marked : Data → Bool
 is_marked value = option_map_or (λ b. b) (option_and_then as_bool (get (codes "$recursiveAnchor") value)) false
 
--- The last of the longest beginning of lookups that answer marked values; what was found before stands where the first of
--- them doesn't, and a fault right behind the beginning is the answer.
-abbrev pub outermost_marked : Found → List (Result Found Fault) → Result Found Fault
-outermost_marked before [] = Ok before
-outermost_marked before (Err fault ∷ rest) = Err fault
-outermost_marked before (Ok found ∷ rest) = if is_marked found.value then outermost_marked found rest else Ok before
+-- a lookup that answers a marked value
+abbrev pub answers_marked : Result Found Fault → Bool
+answers_marked (Ok found) = is_marked found.value
+answers_marked (Err fault) = false
 
 -- the lookups of the scope's URIs, inner to outer, each from the resolver asked
-abbrev pub looked_up : World → Resolver → List (List ℕ) → List (Result Found Fault)
-looked_up world r [] = []
-looked_up world r (uri ∷ scope) = lookup world r uri ∷ looked_up world r scope
+abbrev pub looked_up : World → Resolver → List (Result Found Fault)
+looked_up world r = map (λ uri. lookup world r uri) r.scope
+
+-- the longest beginning of lookups that answer marked values
+abbrev pub marked_beginning : List (Result Found Fault) → List (Result Found Fault)
+marked_beginning answers = take_while answers_marked answers
+
+-- what stands behind that beginning
+abbrev pub behind_beginning : List (Result Found Fault) → List (Result Found Fault)
+behind_beginning answers = drop (length (marked_beginning answers)) answers
+
+-- a fault that stands right behind, or else this answer
+abbrev pub unless_fault_behind : List (Result Found Fault) → Result Found Fault → Result Found Fault
+unless_fault_behind [] answer = answer
+unless_fault_behind (Ok found ∷ rest) answer = answer
+unless_fault_behind (Err fault ∷ rest) answer = Err fault
+
+-- The last of the longest beginning, or the first lookup where that is empty; a fault right behind the beginning is the answer.
+abbrev pub outermost_marked : Result Found Fault → List (Result Found Fault) → Result Found Fault
+outermost_marked first answers =
+    unless_fault_behind (behind_beginning answers) (option_map_or (λ answer. answer) (last_of (marked_beginning answers)) first)
 
 -- where `$recursiveRef` leads
 unfoldable pub lookup_recursive : World → Resolver → Result Found Fault
 lookup_recursive world r =
     lookup world r (codes "#")
-    >>= λ first. if is_marked first.value then outermost_marked first (looked_up world r r.scope) else Ok first
+    >>= λ first. if is_marked first.value then outermost_marked (Ok first) (looked_up world r) else Ok first

@@ -8,11 +8,13 @@ use Rattle.ref_draft.specs.declared.draft.Draft.TheVariants.{Draft202012}
 use Rattle.ref_draft.specs.Anchors.{Kind}
 use Rattle.ref_uri.specs.Targets.{Refusal}
 use Rattle.referencing.specs.Fault.{Fault}
-use Rattle.referencing.specs.World.{Document, Layer, World, document, added}
+use Rattle.referencing.specs.World.{Document, Layer, World, document}
 use Rattle.referencing.specs.Places.{Place, root}
 use Rattle.referencing.specs.Anchors.{Named}
 use Rattle.referencing.specs.Preparing.{Retriever, Given}
 use Rattle.referencing.specs.Retrievers.{default_retriever, map_retriever}
+use Rattle.referencing.specs.Pending.{Addition, Pending, documents_of}
+use Rattle.referencing.specs.Pointers.{◌>>=◌}
 use Rattle.referencing.specs.Bases.{Along}
 use Rattle.referencing.specs.Lookup.{Resolver, Found}
 use Rattle.referencing.specs.Follow.{Step, Lookup, Followed, followed}
@@ -42,6 +44,20 @@ pair d e = array (item d (item e no_items))
 -- a document of a draft under a URI
 abbrev pub at : Draft → Literal → Data → Document
 at draft uri tree = document draft (codes uri) tree
+
+-- what is added: a value, or a resource of a draft
+abbrev pub value_under : Literal → Data → Addition
+value_under uri tree = record { text = codes uri; tree = tree; draft = None }
+
+abbrev pub resource_under : Literal → Draft → Data → Addition
+resource_under uri draft tree = record { text = codes uri; tree = tree; draft = Some draft }
+
+-- a value that is pending under a URI, and the documents that pending ones become, where no draft was set
+abbrev pub waiting : Literal → Data → Pending
+waiting uri tree = record { uri = codes uri; tree = tree; draft = None }
+
+abbrev pub layer_of : Result (List Pending) Refusal → Result Layer Refusal
+layer_of ps = ps >>= λ pending. Ok (documents_of None pending)
 
 -- a document that refers to `b`, one that `b` may be, and one without references
 abbrev pub refers_to_b : Document
@@ -74,7 +90,7 @@ given_alone documents = given default_retriever 10000 documents
 
 -- a registry without a parent
 abbrev pub world : List Document → World
-world documents = added documents ∷ []
+world documents = documents ∷ []
 
 -- what steps answer: the value, the base and the scope, or the step that faults
 pub data Answer : Type 0 where

@@ -1,6 +1,6 @@
 -- Vocabularies of meta-schemas (2020-12 Core, 8.1.2; 2019-09 Core, 8.1.2).
-use Rattle.std.specs.Prelude.{ℕ, Bool, true, false, ◌&&◌, ◌||◌, List, [], ◌∷◌, ◌++◌, map, filter, codes, bytes_eq, Option, Some, None, Result, Ok, Err, if◌then◌else◌, option_and_then, is_some}
-use Rattle.std.specs.List.{find, list_any}
+use Rattle.std.specs.Prelude.{ℕ, ◌/◌, ◌%◌, ◌==◌, Bool, true, false, ◌&&◌, ◌||◌, List, [], ◌∷◌, ◌++◌, map, filter, codes, bytes_eq, Option, Some, None, Result, Ok, Err, if◌then◌else◌, option_and_then, is_some}
+use Rattle.std.specs.List.{find, list_any, join_by}
 use Rattle.std.specs.Option.{option_map_or}
 use Rattle.std.specs.Ordering.{nat_cmp, match_ordering}
 use Rattle.std.specs.Cmp.Lexicographic.{slice_cmp}
@@ -46,6 +46,7 @@ is_uri_of uri k =
     bytes_eq uri (codes "https://json-schema.org/draft/2020-12/vocab/" ++ k.name)
     || (k.in_2019 && bytes_eq uri (codes "https://json-schema.org/draft/2019-09/vocab/" ++ k.name))
 
+-- the custom vocabulary of a URI
 abbrev pub custom : Result (List ℕ) Refusal → Result Vocabulary Refusal
 custom (Ok uri) = Ok (Custom uri)
 custom (Err refusal) = Err refusal
@@ -59,9 +60,11 @@ pub record VocabularySet : Type 0 where
   pub names : List (List ℕ)
   pub customs : List (List ℕ)
 
+-- whether a name is one of a list
 abbrev pub has_name : List (List ℕ) → List ℕ → Bool
 has_name names name = list_any (λ n. bytes_eq n name) names
 
+-- whether a vocabulary is in a set
 abbrev pub contains : VocabularySet → Vocabulary → Bool
 contains s (Named name) = has_name s.names name
 contains s (Custom uri) = has_name s.customs uri
@@ -71,12 +74,23 @@ abbrev pub put : List ℕ → List (List ℕ) → List (List ℕ)
 put uri [] = uri ∷ []
 put uri (other ∷ rest) = match_ordering (slice_cmp nat_cmp uri other) (uri ∷ other ∷ rest) (other ∷ rest) (other ∷ put uri rest)
 
+-- a set with one more vocabulary
 abbrev pub with_vocabulary : VocabularySet → Vocabulary → VocabularySet
 with_vocabulary s (Named name) = record s { names = filter (λ n. has_name s.names n || bytes_eq n name) (map (λ k. k.name) known) }
 with_vocabulary s (Custom uri) = record s { customs = put uri s.customs }
 
+-- the set of known vocabularies alone
 abbrev pub of_names : List (List ℕ) → VocabularySet
 of_names names = record { names = names; customs = [] }
+
+-- of the known names, in their order, those whose bits are set, the lowest bit first; higher bits mean nothing
+abbrev pub names_of_bits : ℕ → List Known → List (List ℕ)
+names_of_bits bits [] = []
+names_of_bits bits (k ∷ ks) = (if bits % 2 == 1 then k.name ∷ [] else []) ++ names_of_bits (bits / 2) ks
+
+-- the set of those whose bits are set
+abbrev pub of_bits : ℕ → VocabularySet
+of_bits bits = of_names (names_of_bits bits known)
 
 -- the vocabularies of the newest draft, without what asserts formats
 abbrev pub set_of_2020 : VocabularySet
@@ -91,26 +105,24 @@ default_set Draft201909 = of_names (codes "core" ∷ codes "applicator" ∷ code
 default_set Draft202012 = set_of_2020
 default_set Unknown = set_of_2020
 
--- how a set is displayed
+-- in quotes
 abbrev pub quoted : List ℕ → List ℕ
 quoted text = codes "\"" ++ text ++ codes "\""
 
-abbrev pub listed : List (List ℕ) → List ℕ
-listed [] = []
-listed (text ∷ []) = quoted text
-listed (text ∷ next ∷ rest) = quoted text ++ codes ", " ++ listed (next ∷ rest)
-
+-- a set as it is displayed: the known names, then the URIs of the others
 abbrev pub set_text : VocabularySet → List ℕ
-set_text s = codes "[" ++ listed (s.names ++ s.customs) ++ codes "]"
+set_text s = codes "[" ++ join_by quoted (codes ", ") (s.names ++ s.customs) ++ codes "]"
 
--- what a member of `$vocabulary` adds: one that is true, and format-assertion in any case
+-- format-assertion is added by a member of `$vocabulary` in any case, any other where the member is true
 abbrev pub is_format_assertion : Vocabulary → Bool
 is_format_assertion (Named name) = bytes_eq name (codes "format-assertion")
 is_format_assertion (Custom uri) = false
 
+-- whether a value is true
 abbrev pub is_true : Data → Bool
 is_true value = option_map_or (λ b. b) (as_bool value) false
 
+-- a set after one member
 abbrev pub with_member : VocabularySet → Data → Result Vocabulary Refusal → Result VocabularySet Refusal
 with_member s value (Ok v) = Ok (if is_true value || is_format_assertion v then with_vocabulary s v else s)
 with_member s value (Err refusal) = Err refusal
@@ -128,6 +140,7 @@ known_set id =
     else (if bytes_eq id (codes "https://json-schema.org/draft-07/schema") || bytes_eq id (codes "https://json-schema.org/draft-06/schema") || bytes_eq id (codes "https://json-schema.org/draft-04/schema") then Some None
     else None))
 
+-- a set as one that is there
 abbrev pub some_set : Result VocabularySet Refusal → Result (Option VocabularySet) Refusal
 some_set (Ok s) = Ok (Some s)
 some_set (Err refusal) = Err refusal
@@ -143,12 +156,13 @@ find_in value =
     option_map_or (λ s. Ok s) (option_and_then known_set (text_under (codes "$id") value))
     (set_of_members (option_and_then as_object (get (codes "$vocabulary") value)))
 
--- the set of a custom meta-schema: that of the document that its URI means, or the default of 2020-12
+-- the set that a meta-schema declares, or the default of 2020-12
 abbrev pub set_or_default : Result (Option VocabularySet) Refusal → VocabularySet
 set_or_default (Ok (Some s)) = s
 set_or_default (Ok None) = default_set Unknown
 set_or_default (Err refusal) = default_set Unknown
 
+-- that of the document under a URI, whose fragment takes no part
 abbrev pub set_at : World → Result (List ℕ) Refusal → VocabularySet
 set_at world (Ok uri) = option_map_or (λ p. set_or_default (find_in p.value)) (means world (with_fragment uri None)) (default_set Unknown)
 set_at world (Err refusal) = default_set Unknown

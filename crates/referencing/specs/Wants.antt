@@ -16,10 +16,12 @@ pub data Cause : Type 0 where
   Reference : Cause
   MetaSchema : Cause
 
+-- a URI that is wanted, and why
 pub record Want : Type 0 where
   pub cause : Cause
   pub uri : List ℕ
 
+-- whether a draft is that of a custom meta-schema
 abbrev pub is_unknown : Draft → Bool
 is_unknown Draft4 = false
 is_unknown Draft6 = false
@@ -37,18 +39,21 @@ without_fragment (Err refusal) = Err refusal
 abbrev pub schema_uri : List ℕ → Option (Result (List ℕ) Refusal)
 schema_uri text = if is_unknown (from_schema_uri text) then Some (without_fragment (parsed text)) else None
 
--- what a place's text under `$ref` refers to, and what its `$schema` names, where its base is known
+-- what a place's text under `$ref` refers to, where its base is known
 abbrev pub reference_at : List ℕ → Data → Option (Result (List ℕ) Refusal)
 reference_at base value = option_map_or (λ r. Some (target base r)) (text_under (codes "$ref") value) None
 
+-- what a value's `$schema` names, where that is no known draft
 abbrev pub schema_at : Data → Option (Result (List ℕ) Refusal)
 schema_at value = option_and_then schema_uri (text_under (codes "$schema") value)
 
+-- what is wanted, where something is and it resolves
 abbrev pub wanted : Cause → Option (Result (List ℕ) Refusal) → List Want
 wanted cause None = []
 wanted cause (Some (Ok uri)) = record { cause = cause; uri = uri } ∷ []
 wanted cause (Some (Err refusal)) = []
 
+-- why it does not resolve
 abbrev pub refused : Option (Result (List ℕ) Refusal) → List Refusal
 refused None = []
 refused (Some (Ok uri)) = []
@@ -64,10 +69,11 @@ abbrev pub faults_at : Result (List ℕ) Refusal → Data → List Refusal
 faults_at (Ok base) value = refused (reference_at base value) ++ refused (schema_at value)
 faults_at (Err refusal) value = refusal ∷ refused (schema_at value)
 
--- by documents and places
+-- the wants of a layer, by documents and places
 abbrev pub wants : Layer → List Want
 wants layer = flat_map (λ d. flat_map (λ p. wants_at p.base p.value) (places d)) layer
 
+-- by documents and places, each place's in its order
 abbrev pub faults : Layer → List Refusal
 faults layer = flat_map (λ d. flat_map (λ p. faults_at p.base p.value) (places d)) layer
 
@@ -75,5 +81,6 @@ faults layer = flat_map (λ d. flat_map (λ p. faults_at p.base p.value) (places
 abbrev pub is_open : World → Want → Bool
 is_open world want = not (is_some (means world want.uri))
 
+-- the wants of a layer that are open, in their order
 abbrev pub open_wants : World → Layer → List Want
 open_wants world layer = filter (is_open world) (wants layer)

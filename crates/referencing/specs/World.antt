@@ -1,5 +1,5 @@
 -- The documents that references are resolved among.
-use Rattle.std.specs.Prelude.{ℕ, List, [], ◌∷◌, bytes_eq, if◌then◌else◌}
+use Rattle.std.specs.Prelude.{ℕ, List}
 use Rattle.serde_json.specs.Data.{Data}
 use Rattle.ref_draft.specs.declared.draft.Draft.{Draft}
 use Rattle.ref_draft.specs.Schema.{detect}
@@ -21,16 +21,3 @@ World = List Layer
 -- a tree under a URI as a document, where the registry's draft detects that of the root
 abbrev pub document : Draft → List ℕ → Data → Document
 document draft uri tree = record { uri = uri; tree = tree; draft = detect draft tree }
-
--- Documents stand in order of first addition: a later one under the same URI takes the earlier one's place.
-abbrev pub with_document : Layer → Document → Layer
-with_document [] d = d ∷ []
-with_document (e ∷ layer) d = if bytes_eq e.uri d.uri then d ∷ layer else e ∷ with_document layer d
-
--- the layer of documents that are added one after another
-abbrev pub added_to : Layer → List Document → Layer
-added_to layer [] = layer
-added_to layer (d ∷ ds) = added_to (with_document layer d) ds
-
-abbrev pub added : List Document → Layer
-added ds = added_to [] ds

@@ -1,12 +1,26 @@
 //! Laws of the definitions. Each function is empty: its contract states the law, and the check proves it.
-ghost use Rattle.std.specs.Prelude.{◌≡◌, ℕ, List, ◌∷◌, Some, None};
-ghost use Rattle.referencing.specs.World.{Layer, World};
-ghost use Rattle.referencing.specs.Places.{Place};
+ghost use Rattle.std.specs.Prelude.{◌≡◌, ◌≤◌, ℕ, List, [], ◌∷◌, map, Some, None, Ok};
+ghost use Rattle.std.specs.List.{AllPairs};
+ghost use Rattle.serde_json.specs.Data.{depth};
+ghost use Rattle.referencing.specs.World.{Document, Layer, World};
+ghost use Rattle.referencing.specs.Places.{Place, root, levels_below, places};
 ghost use Rattle.referencing.specs.Bearing.{bears, last_under, means};
 ghost use Rattle.referencing.specs.Anchors.{Named, last_named, named, names};
 ghost use Rattle.referencing.specs.Closure.{OutcomesOfRetrieval};
+ghost use Rattle.referencing.specs.Pending.{Addition, Pending, extended};
 ghost use Rattle.referencing.specs.References.{ReferencesAreRetrieved};
 ghost use Rattle.referencing.specs.Appending.{MeaningsStay, MeaningsStayBelow, MetWantsStay, OpenWantsAfter};
+
+/// Pending documents stand under URIs that differ, whatever was added.
+pub fn pending_documents_differ()
+    ensures { (additions : List Addition) (ps : List Pending) → extended [] additions ≡ Ok ps
+        → AllPairs (λ u v. ¬ (u ≡ v)) (map (λ p. p.uri) ps) }
+{}
+
+/// The levels of a document end at the depth of its tree: however many more are joined, they are its places.
+pub fn levels_end_at_the_depth()
+    ensures { (d : Document) (n : ℕ) → depth d.tree ≤ n → root d ∷ levels_below n (root d ∷ []) ≡ places d }
+{}
 
 /// The nearest layer decides what a URI means, and what a name under it does: an entry there is the answer, and without one
 /// the parents' layers answer.

@@ -1,6 +1,6 @@
 //! The registry and resolver of JSON Schema references. So far the definitions stand: read `specs/World.antt`,
-//! `specs/Places.antt`, `specs/Bearing.antt`, `specs/Preparing.antt`, `specs/Lookup.antt` and `specs/Follow.antt`, in this
-//! order; the calls come next.
+//! `specs/Places.antt`, `specs/Bearing.antt`, `specs/Preparing.antt`, `specs/Pending.antt`, `specs/Lookup.antt` and
+//! `specs/Follow.antt`, in this order; the calls come next.
 #![tactic(auto)]
 
 pub mod examples;

@@ -4,7 +4,6 @@ ghost use Rattle.ref_parts.specs.Path.{Key};
 ghost use Rattle.ref_draft.specs.declared.draft.Draft.TheVariants.{Draft7, Draft201909, Draft202012};
 ghost use Rattle.ref_draft.specs.Anchors.{Plain, Dynamic};
 ghost use Rattle.ref_uri.specs.Targets.{unparsed};
-ghost use Rattle.referencing.specs.World.{added};
 ghost use Rattle.referencing.specs.Fault.{InvalidAnchor, InvalidUri, NoSuchAnchor};
 ghost use Rattle.referencing.specs.Places.{root};
 ghost use Rattle.referencing.specs.Anchors.{named_under, named_by, names_in, names, last_named, named, not_named, fallback_uri, found_or, fallback, anchor};
@@ -25,8 +24,8 @@ pub fn names_of_documents()
 /// What a name means under a URI, where it stands there.
 pub fn entries_of_names()
     ensures last_entry { option_map shown (named (world (at Draft202012 "http://a/r" (two "$anchor" (text "n") "not" (one "$dynamicAnchor" (text "n"))) ∷ [])) (codes "http://a/r") (codes "n")) ≡ Some (codes "http://a/r", codes "n", Dynamic, Key (codes "not") ∷ []) }
-    ensures nearest_layer { option_map shown (named (added (at Draft202012 "http://a/r" (one "$dynamicAnchor" (text "n")) ∷ []) ∷ world (at Draft202012 "http://a/r" (one "$anchor" (text "n")) ∷ [])) (codes "http://a/r") (codes "n")) ≡ Some (codes "http://a/r", codes "n", Dynamic, []) }
-    ensures parent { option_map shown (named (added (at Draft202012 "http://a/r" empty ∷ []) ∷ world (at Draft202012 "http://a/r" (one "$anchor" (text "n")) ∷ [])) (codes "http://a/r") (codes "n")) ≡ Some (codes "http://a/r", codes "n", Plain, []) }
+    ensures nearest_layer { option_map shown (named ((at Draft202012 "http://a/r" (one "$dynamicAnchor" (text "n")) ∷ []) ∷ world (at Draft202012 "http://a/r" (one "$anchor" (text "n")) ∷ [])) (codes "http://a/r") (codes "n")) ≡ Some (codes "http://a/r", codes "n", Dynamic, []) }
+    ensures parent { option_map shown (named ((at Draft202012 "http://a/r" empty ∷ []) ∷ world (at Draft202012 "http://a/r" (one "$anchor" (text "n")) ∷ [])) (codes "http://a/r") (codes "n")) ≡ Some (codes "http://a/r", codes "n", Plain, []) }
     ensures of_entries { option_map shown (last_named (codes "http://a/r") (codes "n") (names (at Draft202012 "http://a/r" (one "$anchor" (text "n")) ∷ at Draft202012 "http://a/s" (one "$anchor" (text "n")) ∷ []))) ≡ Some (codes "http://a/r", codes "n", Plain, []) }
     ensures of_no_entry { last_named (codes "http://a/r") (codes "n") [] ≡ None }
     ensures another_uri { option_map shown (named (world (at Draft202012 "http://a/x" (one "$anchor" (text "n")) ∷ [])) (codes "http://a/r") (codes "n")) ≡ None }

@@ -3,7 +3,6 @@ ghost use Rattle.std.specs.Prelude.{◌≡◌, [], ◌∷◌, codes, Some, None,
 ghost use Rattle.ref_parts.specs.Path.{Key};
 ghost use Rattle.ref_draft.specs.declared.draft.Draft.TheVariants.{Draft7, Draft202012};
 ghost use Rattle.ref_uri.specs.Targets.{unparsed};
-ghost use Rattle.referencing.specs.World.{added};
 ghost use Rattle.referencing.specs.Places.{root};
 ghost use Rattle.referencing.specs.Bearing.{last_of, borne_with, borne_by, borne_in, bears, last_under, means};
 ghost use Rattle.referencing.specs.Rows.{world, at, yes, empty, text, one, two, uris_and_paths, path_of};
@@ -38,6 +37,6 @@ pub fn meanings_of_uris()
     ensures own_identifier { path_of (means (world (at Draft202012 "http://a/r" (one "$id" (text "#x")) ∷ [])) (codes "http://a/r#x")) ≡ Some [] }
     ensures exactly { path_of (means (world (at Draft202012 "http://a/d" yes ∷ [])) (codes "http://a/d#")) ≡ None }
     ensures later_document { option_map (λ p. p.value) (means (world (at Draft202012 "http://a/k" (one "$id" (text "http://a/k")) ∷ at Draft202012 "http://a/b" (one "not" (two "$id" (text "http://a/k") "title" (text "late"))) ∷ [])) (codes "http://a/k")) ≡ Some (two "$id" (text "http://a/k") "title" (text "late")) }
-    ensures nearest_layer { option_map (λ p. p.value) (means (added (at Draft202012 "http://a/m" empty ∷ []) ∷ world (at Draft202012 "http://a/m" yes ∷ [])) (codes "http://a/m")) ≡ Some empty }
-    ensures parent { option_map (λ p. p.value) (means (added (at Draft202012 "http://a/n" empty ∷ []) ∷ world (at Draft202012 "http://a/m" yes ∷ [])) (codes "http://a/m")) ≡ Some yes }
+    ensures nearest_layer { option_map (λ p. p.value) (means ((at Draft202012 "http://a/m" empty ∷ []) ∷ world (at Draft202012 "http://a/m" yes ∷ [])) (codes "http://a/m")) ≡ Some empty }
+    ensures parent { option_map (λ p. p.value) (means ((at Draft202012 "http://a/n" empty ∷ []) ∷ world (at Draft202012 "http://a/m" yes ∷ [])) (codes "http://a/m")) ≡ Some yes }
 {}

@@ -1,6 +1,6 @@
 //! Following steps.
 ghost use Rattle.std.specs.Prelude.{◌≡◌, [], ◌∷◌, codes, Some, None, Ok, Err};
-ghost use Rattle.ref_draft.specs.declared.draft.Draft.TheVariants.{Draft7, Draft201909, Draft202012};
+ghost use Rattle.ref_draft.specs.declared.draft.Draft.TheVariants.{Draft7, Draft201909, Draft202012, Unknown};
 ghost use Rattle.ref_uri.specs.Targets.{unparsed};
 ghost use Rattle.referencing.specs.Fault.{InvalidUri, PointerToNowhere, not_retrieved};
 ghost use Rattle.referencing.specs.Follow.{Recursive, Enter, after_lookup, stepped, numbered, followed_from, followed};
@@ -28,6 +28,7 @@ pub fn steps_in_turn()
     ensures counted_on { followed_from [] 7 (followed_to None (resolver "http://a/r" [])) (look "" ∷ []) ≡ Err (7, not_retrieved (codes "http://a/r")) }
     ensures after_no_more_steps { followed_from [] 7 (followed_to (Some (yes, Draft7)) (resolver "a:b" [])) [] ≡ Ok (followed_to (Some (yes, Draft7)) (resolver "a:b" [])) }
     ensures from_a_base { followed (world (at Draft7 "http://a/r" yes ∷ [])) (codes "http://a/r") (look "" ∷ []) ≡ Ok (followed_to (Some (yes, Draft7)) (resolver "http://a/r" (codes "http://a/r" ∷ []))) }
+    ensures with_its_draft { followed (world (at Draft202012 "http://a/r" (one "$schema" (text "http://a/meta#")) ∷ at Draft202012 "http://a/meta" (one "title" (text "m")) ∷ [])) (codes "http://a/r") (look "" ∷ []) ≡ Ok (followed_to (Some (one "$schema" (text "http://a/meta#"), Unknown)) (resolver "http://a/r" (codes "http://a/r" ∷ []))) }
     ensures numbered_fault { numbered 3 (Err (PointerToNowhere (codes "/q"))) ≡ Err (3, PointerToNowhere (codes "/q")) }
     ensures numbered_answer { numbered 3 (Ok (followed_to None (resolver "a:b" []))) ≡ Ok (followed_to None (resolver "a:b" [])) }
 {}

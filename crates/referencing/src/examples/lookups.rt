@@ -1,10 +1,11 @@
 //! Lookups by URI, pointer and anchor, step after step.
 ghost use Rattle.std.specs.Prelude.{◌≡◌, [], ◌∷◌, codes, Some, None, Ok, Err};
-ghost use Rattle.ref_draft.specs.declared.draft.Draft.TheVariants.{Draft7, Draft202012};
+ghost use Rattle.serde_json.specs.Data.{number, unsigned};
+ghost use Rattle.ref_parts.specs.Path.{Key};
+ghost use Rattle.ref_draft.specs.declared.draft.Draft.TheVariants.{Draft4, Draft7, Draft201909, Draft202012};
 ghost use Rattle.ref_uri.specs.Targets.{unparsed};
 ghost use Rattle.referencing.specs.Fault.{PointerToNowhere, InvalidArrayIndex, InvalidPercentEncoding, NoSuchAnchor, InvalidAnchor, InvalidUri, not_retrieved};
-ghost use Rattle.referencing.specs.World.{added};
-ghost use Rattle.referencing.specs.Lookup.{lookup};
+ghost use Rattle.referencing.specs.Lookup.{lookup, located};
 ghost use Rattle.referencing.specs.Follow.{Enter};
 ghost use Rattle.referencing.specs.Rows.{at, world, yes, empty, text, one, two, three, pair, resolver, found, steps, look, answer, refusal};
 
@@ -35,6 +36,7 @@ pub fn lookups_by_pointer()
 /// One lookup from a resolver.
 pub fn lookups_of_references()
     ensures whole_resource { lookup (world (at Draft202012 "http://a/r" empty ∷ [])) (resolver "http://a/r" []) (codes "#") ≡ Ok (found empty Draft202012 (resolver "http://a/r" (codes "http://a/r" ∷ []))) }
+    ensures whole_document { lookup (world (at Draft202012 "http://example.com" (two "properties" (one "foo" (one "type" (text "string"))) "type" (text "object")) ∷ [])) (resolver "http://example.com" []) (codes "#") ≡ Ok (found (two "properties" (one "foo" (one "type" (text "string"))) "type" (text "object")) Draft202012 (resolver "http://example.com" (codes "http://example.com" ∷ []))) }
     ensures scope_stays { lookup (world (at Draft202012 "http://a/r" empty ∷ [])) (resolver "http://a/r" (codes "http://a/s" ∷ [])) (codes "#") ≡ Ok (found empty Draft202012 (resolver "http://a/r" (codes "http://a/s" ∷ []))) }
     ensures draft_of_the_place { lookup (world (at Draft7 "http://a/r" empty ∷ [])) (resolver "http://a/q" []) (codes "r") ≡ Ok (found empty Draft7 (resolver "http://a/r" (codes "http://a/q" ∷ []))) }
     ensures no_reference { lookup (world (at Draft202012 "http://a/r" empty ∷ [])) (resolver "http://a/r" []) (codes "c d#/x") ≡ Err (InvalidUri (unparsed (codes "c d"))) }
@@ -55,17 +57,32 @@ pub fn faults_of_lookups()
 pub fn lookups_by_anchor()
     ensures unknown { steps (world (at Draft202012 "http://a/r" empty ∷ [])) "http://a/r" (look "#unknownAnchor" ∷ []) ≡ refusal 0 (NoSuchAnchor (codes "unknownAnchor")) }
     ensures invalid { steps (world (at Draft202012 "http://a/r" empty ∷ [])) "http://a/r" (look "#invalid/anchor" ∷ []) ≡ refusal 0 (InvalidAnchor (codes "invalid/anchor")) }
+    ensures beside_a_known_one { steps (world (at Draft202012 "http://example.com" (one "$defs" (one "foo" (one "$anchor" (text "knownAnchor")))) ∷ [])) "http://example.com" (look "#unknownAnchor" ∷ []) ≡ refusal 0 (NoSuchAnchor (codes "unknownAnchor")) }
     ensures fallback { steps (world (at Draft202012 "http://a/x" (two "$defs" (one "p" (one "$anchor" (text "foo"))) "$id" (text "http://b/y")) ∷ [])) "http://a/x" (look "http://a/x#foo" ∷ []) ≡ answer (Some (one "$anchor" (text "foo"))) (codes "http://a/x") (codes "http://a/x" ∷ []) }
     ensures fallback_of_relative { steps (world (at Draft202012 "http://a/x" (two "$defs" (one "p" (one "$anchor" (text "foo"))) "$id" (text "y")) ∷ [])) "http://a/x" (look "http://a/x#foo" ∷ []) ≡ refusal 0 (NoSuchAnchor (codes "foo")) }
     ensures dynamic { steps (world (at Draft202012 "https://example.com/root.json" (two "$defs" (one "node" (one "$dynamicAnchor" (text "node"))) "$id" (text "https://example.com/root.json")) ∷ at Draft202012 "https://example.com/tree.json" (two "$dynamicAnchor" (text "node") "$id" (text "https://example.com/tree.json")) ∷ [])) "https://example.com/root.json" (look "tree.json" ∷ look "#node" ∷ []) ≡ answer (Some (one "$dynamicAnchor" (text "node"))) (codes "https://example.com/root.json") (codes "https://example.com/root.json" ∷ []) }
     ensures dynamic_invalid { steps (world (at Draft202012 "http://a/t" (one "$dynamicAnchor" (text "n/m")) ∷ at Draft202012 "http://a/r" yes ∷ [])) "http://a/r" (look "t#n/m" ∷ []) ≡ refusal 0 (InvalidAnchor (codes "n/m")) }
     ensures dynamic_nested { steps (world (at Draft202012 "http://example.com" (three "$defs" (one "foo" (three "$defs" (two "bar" yes "baz" (one "$dynamicAnchor" (text "fooAnchor"))) "$dynamicAnchor" (text "fooAnchor") "$id" (text "foo"))) "$dynamicAnchor" (text "fooAnchor") "$id" (text "http://example.com")) ∷ at Draft202012 "http://example.com/foo/" yes ∷ at Draft202012 "http://example.com/foo/bar" (three "$defs" (one "foo" (three "$defs" (two "bar" yes "baz" (one "$dynamicAnchor" (text "fooAnchor"))) "$dynamicAnchor" (text "fooAnchor") "$id" (text "foo"))) "$dynamicAnchor" (text "fooAnchor") "$id" (text "http://example.com")) ∷ [])) "http://example.com" (look "" ∷ look "foo/" ∷ look "bar" ∷ look "#fooAnchor" ∷ []) ≡ answer (Some (three "$defs" (one "foo" (three "$defs" (two "bar" yes "baz" (one "$dynamicAnchor" (text "fooAnchor"))) "$dynamicAnchor" (text "fooAnchor") "$id" (text "foo"))) "$dynamicAnchor" (text "fooAnchor") "$id" (text "http://example.com"))) (codes "http://example.com") (codes "http://example.com/foo/" ∷ codes "http://example.com" ∷ codes "http://example.com" ∷ []) }
+    ensures dynamic_past_a_plain_one { steps (world (at Draft202012 "http://example.com" (three "$defs" (one "foo" (three "$defs" (two "bar" yes "baz" (one "$dynamicAnchor" (text "fooAnchor"))) "$dynamicAnchor" (text "fooAnchor") "$id" (text "foo"))) "$dynamicAnchor" (text "fooAnchor") "$id" (text "http://example.com")) ∷ at Draft202012 "http://example.com/foo/" (one "$anchor" (text "fooAnchor")) ∷ at Draft202012 "http://example.com/foo/bar" (three "$defs" (one "foo" (three "$defs" (two "bar" yes "baz" (one "$dynamicAnchor" (text "fooAnchor"))) "$dynamicAnchor" (text "fooAnchor") "$id" (text "foo"))) "$dynamicAnchor" (text "fooAnchor") "$id" (text "http://example.com")) ∷ [])) "http://example.com" (look "" ∷ look "foo/" ∷ look "bar" ∷ look "#fooAnchor" ∷ []) ≡ answer (Some (three "$defs" (one "foo" (three "$defs" (two "bar" yes "baz" (one "$dynamicAnchor" (text "fooAnchor"))) "$dynamicAnchor" (text "fooAnchor") "$id" (text "foo"))) "$dynamicAnchor" (text "fooAnchor") "$id" (text "http://example.com"))) (codes "http://example.com") (codes "http://example.com/foo/" ∷ codes "http://example.com" ∷ codes "http://example.com" ∷ []) }
     ensures dynamic_alone { steps (world (at Draft202012 "http://example.com" (one "$dynamicAnchor" (text "foo")) ∷ [])) "http://example.com" (look "#foo" ∷ []) ≡ answer (Some (one "$dynamicAnchor" (text "foo"))) (codes "http://example.com") (codes "http://example.com" ∷ []) }
+{}
+
+/// Lookups of paths, by their pointer text as a fragment holds it.
+pub fn located_paths()
+    ensures escaped { located (world (at Draft202012 "http://a/r" (one "a/b%" (one "" (one "~" (number (unsigned 7))))) ∷ [])) (codes "http://a/r") (Key (codes "a/b%") ∷ Key [] ∷ Key (codes "~") ∷ []) ≡ Ok (found (number (unsigned 7)) Draft202012 (resolver "http://a/r" (codes "http://a/r" ∷ []))) }
+    ensures escaped_reference { lookup (world (at Draft202012 "http://a/r" (one "a/b%" (one "" (one "~" (number (unsigned 7))))) ∷ [])) (resolver "http://a/r" []) (codes "#/a~1b%25//~0") ≡ Ok (found (number (unsigned 7)) Draft202012 (resolver "http://a/r" (codes "http://a/r" ∷ []))) }
+    ensures root { located (world (at Draft202012 "http://a/r" (one "not" yes) ∷ [])) (codes "http://a/r") [] ≡ Ok (found (one "not" yes) Draft202012 (resolver "http://a/r" (codes "http://a/r" ∷ []))) }
+    ensures through_a_resource { located (world (at Draft201909 "http://a/r" (one "$defs" (one "a" (two "$id" (text "http://b/k/") "dependencies" (one "d" (one "$id" (text "m")))))) ∷ [])) (codes "http://a/r") (Key (codes "$defs") ∷ Key (codes "a") ∷ Key (codes "dependencies") ∷ Key (codes "d") ∷ []) ≡ Ok (found (one "$id" (text "m")) Draft201909 (resolver "http://b/k/m" (codes "http://a/r" ∷ []))) }
+    ensures from_a_resource { located (world (at Draft201909 "http://a/r" (one "$defs" (one "a" (two "$id" (text "http://b/k/") "dependencies" (one "d" (one "$id" (text "m")))))) ∷ [])) (codes "http://b/k/") (Key (codes "dependencies") ∷ Key (codes "d") ∷ []) ≡ Ok (found (one "$id" (text "m")) Draft201909 (resolver "http://b/k/m" (codes "http://b/k/" ∷ []))) }
+    ensures defs_in_4 { located (world (at Draft4 "http://a/r" (one "$defs" (one "a" (one "id" (text "s/")))) ∷ [])) (codes "http://a/r") (Key (codes "$defs") ∷ Key (codes "a") ∷ []) ≡ Ok (found (one "id" (text "s/")) Draft4 (resolver "http://a/r" (codes "http://a/r" ∷ []))) }
+    ensures past_a_map_with_an_identifier { located (world (at Draft202012 "http://a/r" (one "properties" (two "$id" (text "m") "x" (one "$id" (text "s")))) ∷ [])) (codes "http://a/r") (Key (codes "properties") ∷ Key (codes "x") ∷ []) ≡ Ok (found (one "$id" (text "s")) Draft202012 (resolver "http://a/s" (codes "http://a/r" ∷ []))) }
+    ensures nowhere { located (world (at Draft202012 "http://a/r" empty ∷ [])) (codes "http://a/r") (Key (codes "a/b") ∷ []) ≡ Err (PointerToNowhere (codes "/a~1b")) }
 {}
 
 /// A child's documents stand before its parent's.
 pub fn layers()
-    ensures nearest { steps (added (at Draft202012 "http://a/m" (one "title" (text "child")) ∷ []) ∷ world (at Draft202012 "http://a/m" (two "$anchor" (text "p") "title" (text "parent")) ∷ [])) "http://a/m" (look "" ∷ []) ≡ answer (Some (one "title" (text "child"))) (codes "http://a/m") (codes "http://a/m" ∷ []) }
-    ensures parent_anchor { steps (added (at Draft202012 "http://a/m" (one "title" (text "child")) ∷ []) ∷ world (at Draft202012 "http://a/m" (two "$anchor" (text "p") "title" (text "parent")) ∷ [])) "http://a/m" (look "#p" ∷ []) ≡ answer (Some (two "$anchor" (text "p") "title" (text "parent"))) (codes "http://a/m") (codes "http://a/m" ∷ []) }
+    ensures nearest { steps ((at Draft202012 "http://a/m" (one "title" (text "child")) ∷ []) ∷ world (at Draft202012 "http://a/m" (two "$anchor" (text "p") "title" (text "parent")) ∷ [])) "http://a/m" (look "" ∷ []) ≡ answer (Some (one "title" (text "child"))) (codes "http://a/m") (codes "http://a/m" ∷ []) }
+    ensures parent_anchor { steps ((at Draft202012 "http://a/m" (one "title" (text "child")) ∷ []) ∷ world (at Draft202012 "http://a/m" (two "$anchor" (text "p") "title" (text "parent")) ∷ [])) "http://a/m" (look "#p" ∷ []) ≡ answer (Some (two "$anchor" (text "p") "title" (text "parent"))) (codes "http://a/m") (codes "http://a/m" ∷ []) }
+    ensures meta_schema_of_a_parent { steps ((at Draft202012 "http://a/r" (one "$ref" (text "http://json-schema.org/draft-07/schema#")) ∷ []) ∷ world (at Draft202012 "http://json-schema.org/draft-07/schema" (one "title" (text "m")) ∷ [])) "http://a/r" (look "http://json-schema.org/draft-07/schema#" ∷ []) ≡ answer (Some (one "title" (text "m"))) (codes "http://json-schema.org/draft-07/schema") (codes "http://a/r" ∷ []) }
     ensures same_uri { steps (world (at Draft202012 "http://a/m" yes ∷ at Draft202012 "http://a/m" empty ∷ [])) "http://a/m" (look "" ∷ []) ≡ answer (Some empty) (codes "http://a/m") (codes "http://a/m" ∷ []) }
 {}

@@ -6,7 +6,7 @@ ghost use Rattle.referencing.specs.Fault.{InvalidUri, RetrievalLimit, Unretrieva
 ghost use Rattle.referencing.specs.Wants.{Reference, MetaSchema};
 ghost use Rattle.referencing.specs.Preparing.{IsOutcome, IsRun, refusal_fault};
 ghost use Rattle.referencing.specs.Retrievers.{default_retriever, map_retriever};
-ghost use Rattle.referencing.specs.Closure.{given_by, AreRetrieved, IsClosure};
+ghost use Rattle.referencing.specs.Closure.{given_by, IsRetrieved, AreRetrieved, IsClosure, IsReady, IsUsedUp, DocumentsAlone, FirstFaultAlone};
 ghost use Rattle.referencing.specs.Appending.{HasMeaning};
 ghost use Rattle.referencing.specs.Rows.{world, at, yes, empty, text, one, two, refers_to_b, b_refers_to_c, c_is_true, given, given_with, given_alone, has_b, has_b_and_c};
 
@@ -38,6 +38,8 @@ pub fn limits_and_refusals()
     ensures refused { IsOutcome (given_with 2) (Err (Unretrievable (codes "http://a/c") (codes "no document under this URI"))) }
     ensures refused_by_default { IsOutcome (given_alone (refers_to_b ∷ [])) (Err (Unretrievable (codes "http://a/b") (codes "Default retriever does not fetch resources"))) }
     ensures refused_meta_schema { IsOutcome (given_alone (at Draft202012 "http://a/r" (one "$schema" (text "http://a/meta#")) ∷ [])) (Err (UnknownSpecification (codes "http://a/meta"))) }
+    ensures refused_relative_meta_schema { IsOutcome (given_alone (at Draft202012 "http://a/r" (one "$schema" (text "invalid")) ∷ [])) (Err (UnknownSpecification (codes "json-schema:///invalid"))) }
+    ensures missing_meta_schema { IsOutcome (given (map_retriever []) 10000 (at Draft202012 "http://a/r" (one "$schema" (text "http://a/meta#")) ∷ [])) (Err (UnknownSpecification (codes "http://a/meta"))) }
     ensures as_a_reference { refusal_fault Reference (codes "a:b") (codes "no document under this URI") ≡ Unretrievable (codes "a:b") (codes "no document under this URI") }
     ensures as_a_meta_schema { refusal_fault MetaSchema (codes "a:b") (codes "no document under this URI") ≡ UnknownSpecification (codes "a:b") }
 {}
@@ -47,6 +49,8 @@ pub fn ready_layers()
     ensures nothing_wanted { IsOutcome (given_alone (at Draft202012 "http://a/r" empty ∷ [])) (Ok (at Draft202012 "http://a/r" empty ∷ [])) }
     ensures own_reference { IsOutcome (given_alone (at Draft202012 "http://a/r" (two "$id" (text "#x") "$ref" (text "")) ∷ [])) (Ok (at Draft202012 "http://a/r" (two "$id" (text "#x") "$ref" (text "")) ∷ [])) }
     ensures both_retrieved { IsOutcome (given has_b_and_c 2 (refers_to_b ∷ [])) (Ok (refers_to_b ∷ b_refers_to_c ∷ c_is_true ∷ [])) }
+    ensures of_a_parent { IsOutcome (record { retriever = default_retriever; limit = 10000; draft = Draft202012; parents = world (at Draft202012 "http://json-schema.org/draft-07/schema" (one "title" (text "m")) ∷ []); documents = at Draft202012 "http://a/r" (one "$ref" (text "http://json-schema.org/draft-07/schema#")) ∷ [] }) (Ok (at Draft202012 "http://a/r" (one "$ref" (text "http://json-schema.org/draft-07/schema#")) ∷ [])) }
+    ensures retrieved_with_an_identifier { IsOutcome (given (map_retriever ((codes "http://a/b", one "$id" (text "http://o/")) ∷ [])) 10000 (refers_to_b ∷ [])) (Ok (refers_to_b ∷ at Draft202012 "http://a/b" (one "$id" (text "http://o/")) ∷ [])) }
     ensures meta_schema_retrieved { IsOutcome (given (map_retriever ((codes "http://a/meta", yes) ∷ [])) 1 (at Draft202012 "http://a/r" (one "$schema" (text "http://a/meta#")) ∷ [])) (Ok (at Draft202012 "http://a/r" (one "$schema" (text "http://a/meta#")) ∷ at Draft202012 "http://a/meta" yes ∷ [])) }
 {}
 
@@ -65,6 +69,26 @@ pub fn closures()
     ensures none_behind { AreRetrieved (given_with 2) (refers_to_b ∷ []) [] }
     ensures no_refusal_without_a_test { ¬ ((given_by (λ uri tree. true) (λ uri text. false) 3 Draft7 [] []).retriever.may_refuse (codes "a:b") (codes "no")) }
     ensures answer_by_a_test { (given_by (λ uri tree. true) (λ uri text. false) 3 Draft7 [] []).retriever.may_answer (codes "a:b") yes }
+    ensures of_a_retrieved_document { HasMeaning (world (refers_to_b ∷ at Draft202012 "http://a/b" (one "$id" (text "http://o/")) ∷ [])) (codes "http://a/b") }
+    ensures of_its_identifier { HasMeaning (world (refers_to_b ∷ at Draft202012 "http://a/b" (one "$id" (text "http://o/")) ∷ [])) (codes "http://o/") }
     ensures own_meaning { HasMeaning (world (refers_to_b ∷ [])) (codes "http://a/r") }
     ensures no_meaning { ¬ (HasMeaning (world (refers_to_b ∷ [])) (codes "http://a/b")) }
+{}
+
+/// What a document was retrieved for, and what holds of a ready layer, of a limit that is used up, and of one outcome alone.
+pub fn retrieved_documents()
+    ensures behind_the_first { IsRetrieved (given_with 2) (refers_to_b ∷ []) b_refers_to_c }
+    ensures behind_the_second { IsRetrieved (given has_b_and_c 2 (refers_to_b ∷ [])) (refers_to_b ∷ b_refers_to_c ∷ []) c_is_true }
+    ensures not_twice { ¬ (IsRetrieved (given_with 2) (refers_to_b ∷ b_refers_to_c ∷ []) b_refers_to_c) }
+    ensures each { AreRetrieved (given has_b_and_c 2 (refers_to_b ∷ [])) (refers_to_b ∷ []) (b_refers_to_c ∷ c_is_true ∷ []) }
+    ensures ready_at_once { IsReady (given_alone (c_is_true ∷ [])) (c_is_true ∷ []) }
+    ensures ready_after_two { IsReady (given has_b_and_c 2 (refers_to_b ∷ [])) (refers_to_b ∷ b_refers_to_c ∷ c_is_true ∷ []) }
+    ensures not_ready { ¬ (IsReady (given_with 2) (refers_to_b ∷ b_refers_to_c ∷ [])) }
+    ensures used_up { IsUsedUp (given_with 1) (codes "http://a/c") 1 }
+    ensures used_up_at_once { IsUsedUp (given_with 0) (codes "http://a/b") 0 }
+    ensures not_used_up { ¬ (IsUsedUp (given_with 2) (codes "http://a/c") 1) }
+    ensures documents_alone { DocumentsAlone (given_alone (c_is_true ∷ [])) (Ok (c_is_true ∷ [])) }
+    ensures no_other_documents { IsOutcome (given_alone (c_is_true ∷ [])) (Ok []) → ⊥ }
+    ensures first_fault_alone { FirstFaultAlone (given_alone (at Draft202012 "http://a/r" (one "$ref" (text "c d")) ∷ [])) (Err (InvalidUri (unparsed (codes "c d")))) }
+    ensures no_other_fault { IsOutcome (given_alone (at Draft202012 "http://a/r" (one "$ref" (text "c d")) ∷ [])) (Ok (at Draft202012 "http://a/r" (one "$ref" (text "c d")) ∷ [])) → ⊥ }
 {}

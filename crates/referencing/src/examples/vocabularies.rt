@@ -3,7 +3,7 @@ ghost use Rattle.std.specs.Prelude.{◌≡◌, true, false, [], ◌∷◌, map, 
 ghost use Rattle.serde_json.specs.Data.{boolean, no_members, member};
 ghost use Rattle.ref_draft.specs.declared.draft.Draft.TheVariants.{Draft4, Draft7, Draft201909, Draft202012, Unknown};
 ghost use Rattle.ref_uri.specs.Targets.{unparsed};
-ghost use Rattle.referencing.specs.Vocabularies.{Named, Custom, known, is_uri_of, custom, from_text, has_name, contains, put, with_vocabulary, of_names, set_of_2020, default_set, quoted, listed, set_text, is_format_assertion, is_true, with_member, collected, known_set, some_set, set_of_members, find_in, set_or_default, set_at, find_vocabularies, dialect_contents, find_vocabularies_at};
+ghost use Rattle.referencing.specs.Vocabularies.{Named, Custom, known, is_uri_of, custom, from_text, has_name, contains, put, with_vocabulary, names_of_bits, of_bits, of_names, set_of_2020, default_set, quoted, set_text, is_format_assertion, is_true, with_member, collected, known_set, some_set, set_of_members, find_in, set_or_default, set_at, find_vocabularies, dialect_contents, find_vocabularies_at};
 ghost use Rattle.referencing.specs.Rows.{world, at, yes, empty, text, one, two, three};
 
 /// The vocabulary that a text names.
@@ -42,12 +42,30 @@ pub fn sets_of_vocabularies()
     ensures default_of_unknown { default_set Unknown ≡ default_set Draft202012 }
 {}
 
+/// Sets by the bits of the known vocabularies, the first of which is the lowest bit.
+pub fn sets_of_bits()
+    ensures none { of_bits 0 ≡ of_names [] }
+    ensures lowest { of_bits 1 ≡ of_names (codes "core" ∷ []) }
+    ensures highest { of_bits 256 ≡ of_names (codes "format-assertion" ∷ []) }
+    ensures past_the_highest { of_bits 65024 ≡ of_names [] }
+    ensures all { of_bits 65535 ≡ of_names (map (λ k. k.name) known) }
+    ensures of_2019 { of_bits 155 ≡ default_set Draft201909 }
+    ensures of_2020 { of_bits 223 ≡ set_of_2020 }
+    ensures alone { contains (of_bits 32) (Named (codes "format")) ≡ true }
+    ensures without { contains (of_bits 223) (Named (codes "format")) ≡ false }
+    ensures two_names { names_of_bits 5 known ≡ codes "core" ∷ codes "unevaluated" ∷ [] }
+    ensures no_names { names_of_bits 5 [] ≡ [] }
+    ensures five_added { with_vocabulary (with_vocabulary (with_vocabulary (with_vocabulary (with_vocabulary (of_bits 0) (Named (codes "core"))) (Named (codes "applicator"))) (Named (codes "validation"))) (Named (codes "meta-data"))) (Named (codes "content")) ≡ of_bits 155 }
+    ensures one_more { with_vocabulary (of_bits 155) (Named (codes "format-annotation")) ≡ of_bits 219 }
+{}
+
 /// How sets are displayed.
 pub fn texts_of_sets()
     ensures known_and_custom { set_text (record { names = codes "core" ∷ codes "applicator" ∷ codes "unevaluated" ∷ codes "validation" ∷ codes "meta-data" ∷ []; customs = codes "https://example.com/custom-vocab" ∷ [] }) ≡ codes "[\"core\", \"applicator\", \"unevaluated\", \"validation\", \"meta-data\", \"https://example.com/custom-vocab\"]" }
     ensures none { set_text (of_names []) ≡ codes "[]" }
-    ensures one_name { listed (codes "core" ∷ []) ≡ codes "\"core\"" }
-    ensures two_names { listed (codes "core" ∷ codes "content" ∷ []) ≡ codes "\"core\", \"content\"" }
+    ensures one_name { set_text (of_names (codes "core" ∷ [])) ≡ codes "[\"core\"]" }
+    ensures two_names { set_text (of_names (codes "core" ∷ codes "content" ∷ [])) ≡ codes "[\"core\", \"content\"]" }
+    ensures of_bits_and_custom { set_text (with_vocabulary (of_bits 31) (Custom (codes "https://example.com/custom-vocab"))) ≡ codes "[\"core\", \"applicator\", \"unevaluated\", \"validation\", \"meta-data\", \"https://example.com/custom-vocab\"]" }
     ensures in_quotes { quoted (codes "core") ≡ codes "\"core\"" }
     ensures nothing_in_quotes { quoted [] ≡ codes "\"\"" }
 {}
@@ -73,6 +91,7 @@ pub fn declared_members()
 /// The vocabularies that a meta-schema declares.
 pub fn declared_vocabularies()
     ensures declared { find_in (one "$vocabulary" (two "https://json-schema.org/draft/2020-12/vocab/core" yes "https://json-schema.org/draft/2020-12/vocab/format-assertion" (boolean false))) ≡ Ok (Some (of_names (codes "core" ∷ codes "format-assertion" ∷ []))) }
+    ensures declared_twice { find_in (one "$vocabulary" (two "https://json-schema.org/draft/2020-12/vocab/core" yes "https://json-schema.org/draft/2020-12/vocab/format-assertion" yes)) ≡ Ok (Some (of_names (codes "core" ∷ codes "format-assertion" ∷ []))) }
     ensures declared_beside_an_identifier { find_in (two "$id" (text "https://example.com/meta") "$vocabulary" (two "https://json-schema.org/draft/2020-12/vocab/core" yes "https://json-schema.org/draft/2020-12/vocab/format-assertion" yes)) ≡ Ok (Some (of_names (codes "core" ∷ codes "format-assertion" ∷ []))) }
     ensures known_2019 { find_in (one "$id" (text "https://json-schema.org/draft/2019-09/schema")) ≡ Ok (Some (default_set Draft201909)) }
     ensures known_2020 { find_in (one "$id" (text "https://json-schema.org/draft/2020-12/schema")) ≡ Ok (Some set_of_2020) }

@@ -4,4 +4,16 @@ use Rattle.referencing.proofs.examples.follow.steps_in_turn.Goals as goal
 
 pub returns : goal.returns
 unfolding referencing_on_literals
-returns c = record { no_steps = refl; member = refl; another_document = refl; first_fault = refl; entered_last = refl; counted_on = refl; after_no_more_steps = refl; from_a_base = refl; numbered_fault = refl; numbered_answer = refl }
+returns c = record {
+  no_steps = refl;
+  member = refl;
+  another_document = refl;
+  first_fault = refl;
+  entered_last = refl;
+  counted_on = refl;
+  after_no_more_steps = refl;
+  from_a_base = refl;
+  with_its_draft = refl;
+  numbered_fault = refl;
+  numbered_answer = refl;
+}

@@ -4,4 +4,24 @@ use Rattle.referencing.proofs.examples.fragments.dynamic_anchors.Goals as goal
 
 pub returns : goal.returns
 unfolding referencing_on_literals
-returns c = record { dynamic_kind = refl; plain_kind = refl; last_dynamic = refl; no_dynamic = refl; passed_over = refl; another_fault_ends = refl; fault_further_out = refl; entry_in_front = refl; in_the_scope = refl; fault_in_the_scope = refl; identifier_where_it_was_found = refl; refused_where_it_was_found = refl; outermost_of_the_scope = refl; found_first = refl }
+returns c = record {
+  dynamic_kind = refl;
+  plain_kind = refl;
+  last_dynamic = refl;
+  no_dynamic = refl;
+  not_there = refl;
+  another_fault = refl;
+  no_fault = refl;
+  an_entry = refl;
+  no_entry = refl;
+  first_fault = refl;
+  without_fault = refl;
+  in_the_scope = refl;
+  fault_in_the_scope = refl;
+  fault_before_entries = refl;
+  entry_of_the_scope = refl;
+  identifier_where_it_was_found = refl;
+  refused_where_it_was_found = refl;
+  outermost_of_the_scope = refl;
+  found_first = refl;
+}

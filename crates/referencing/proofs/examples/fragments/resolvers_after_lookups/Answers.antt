@@ -4,4 +4,10 @@ use Rattle.referencing.proofs.examples.fragments.resolvers_after_lookups.Goals a
 
 pub returns : goal.returns
 unfolding referencing_on_literals
-returns c = record { empty_scope = refl; another_base = refl; same_base = refl }
+returns c = record {
+  empty_scope = refl;
+  another_base = refl;
+  same_base = refl;
+  displayed = refl;
+  displayed_without_scope = refl;
+}

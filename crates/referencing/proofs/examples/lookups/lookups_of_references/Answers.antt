@@ -4,4 +4,11 @@ use Rattle.referencing.proofs.examples.lookups.lookups_of_references.Goals as go
 
 pub returns : goal.returns
 unfolding referencing_on_literals
-returns c = record { whole_resource = refl; scope_stays = refl; draft_of_the_place = refl; no_reference = refl; no_place = refl }
+returns c = record {
+  whole_resource = refl;
+  whole_document = refl;
+  scope_stays = refl;
+  draft_of_the_place = refl;
+  no_reference = refl;
+  no_place = refl;
+}

@@ -15,6 +15,8 @@ returns c = record {
   none_behind = tt;
   no_refusal_without_a_test = λ may. true≢false (sym may);
   answer_by_a_test = refl;
+  of_a_retrieved_document = refl;
+  of_its_identifier = refl;
   own_meaning = refl;
   no_meaning = λ has. true≢false (sym has);
 }

@@ -19,6 +19,8 @@ returns c = record {
   refused = refused 1 (refers_to_b ∷ b_refers_to_c ∷ []) want_of_c [] (codes "no document under this URI") (first_retrieved 2) (omega arith) refl refl (refl, refl);
   refused_by_default = refused 0 (refers_to_b ∷ []) want_of_b [] (codes "Default retriever does not fetch resources") begun (omega arith) refl refl refl;
   refused_meta_schema = refused 0 (at Draft202012 "http://a/r" (one "$schema" (text "http://a/meta#")) ∷ []) want_of_meta [] (codes "Default retriever does not fetch resources") begun (omega arith) refl refl refl;
+  refused_relative_meta_schema = refused 0 (at Draft202012 "http://a/r" (one "$schema" (text "invalid")) ∷ []) (record { cause = MetaSchema; uri = codes "json-schema:///invalid" }) [] (codes "Default retriever does not fetch resources") begun (omega arith) refl refl refl;
+  missing_meta_schema = refused 0 (at Draft202012 "http://a/r" (one "$schema" (text "http://a/meta#")) ∷ []) want_of_meta [] (codes "no document under this URI") begun (omega arith) refl refl (refl, refl);
   as_a_reference = refl;
   as_a_meta_schema = refl;
 }

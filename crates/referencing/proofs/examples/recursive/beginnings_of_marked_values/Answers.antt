@@ -4,4 +4,17 @@ use Rattle.referencing.proofs.examples.recursive.beginnings_of_marked_values.Goa
 
 pub returns : goal.returns
 unfolding referencing_on_literals
-returns c = record { none = refl; last_marked = refl; fault_behind = refl; fault_past_the_end = refl; inner_to_outer = refl; no_scope = refl }
+returns c = record {
+  none = refl;
+  last_marked = refl;
+  fault_behind = refl;
+  fault_past_the_end = refl;
+  beginning = refl;
+  no_beginning = refl;
+  behind = refl;
+  nothing_behind = refl;
+  unless_a_fault = refl;
+  unless_no_fault = refl;
+  inner_to_outer = refl;
+  no_scope = refl;
+}

@@ -4,4 +4,12 @@ use Rattle.referencing.proofs.examples.vocabularies.texts_of_sets.Goals as goal
 
 pub returns : goal.returns
 unfolding referencing_on_literals
-returns c = record { known_and_custom = refl; none = refl; one_name = refl; two_names = refl; in_quotes = refl; nothing_in_quotes = refl }
+returns c = record {
+  known_and_custom = refl;
+  none = refl;
+  one_name = refl;
+  two_names = refl;
+  of_bits_and_custom = refl;
+  in_quotes = refl;
+  nothing_in_quotes = refl;
+}

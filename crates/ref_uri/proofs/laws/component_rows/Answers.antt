@@ -1,0 +1,65 @@
+use Rattle.std.proofs.Common.{refl, [], codes}
+use Rattle.ref_uri.specs.Components.{components}
+use Rattle.ref_uri.proofs.OnLiterals.{ref_uri_on_literals}
+use Rattle.ref_uri.proofs.laws.component_rows.Goals as goal
+
+pub returns : goal.returns
+unfolding ref_uri_on_literals
+returns c = record {
+  with_its_mark = refl;
+  empty_with_its_mark = refl;
+  absent = refl;
+  whole_text = refl;
+  path_alone = refl;
+  colon_ends_scheme = refl;
+  dot_in_scheme = refl;
+  slash_ends_authority = refl;
+  colon_in_authority = refl;
+  authority_ends_here = refl;
+  authority_goes_on = refl;
+  authority_ends_the_text = refl;
+  question_ends_path = refl;
+  slash_in_path = refl;
+  hash_ends_query = refl;
+  question_in_query = refl;
+  behind_three = refl;
+  behind_none = refl;
+  behind_scheme = refl;
+  behind_no_scheme = refl;
+  two_slashes = refl;
+  one_slash = refl;
+  authority_there = refl;
+  authority_absent = refl;
+  behind_authority = refl;
+  behind_no_authority = refl;
+  behind_path = refl;
+  nothing_behind_path = refl;
+  query_there = refl;
+  query_absent = refl;
+  behind_query = refl;
+  behind_no_query = refl;
+  fragment_there = refl;
+  fragment_absent = refl;
+  scheme_of_digits_and_plus = refl;
+  scheme_of_digit = refl;
+  path_with_colon = refl;
+  path_with_question = refl;
+  query_with_slash = refl;
+  query_with_hash = refl;
+  absent_is_as_it_must = refl;
+  wrong_where_there = refl;
+  empty_behind_authority = refl;
+  rootless_behind_authority = refl;
+  colon_behind_scheme = refl;
+  slashes_behind_scheme = refl;
+  colon_in_first_segment = refl;
+  colon_in_second_segment = refl;
+  as_they_must = refl;
+  path_as_authority = refl;
+  with_scheme = refl;
+  without_fragment = refl;
+  another_fragment = refl;
+  empty_fragment = refl;
+  text_of_some = (components (codes "//a"), refl, refl);
+  text_of_path = (components [], refl, refl);
+}

@@ -1,0 +1,5 @@
+use Rattle.referencing.proofs.Levels.{places_end}
+use Rattle.referencing.proofs.laws.levels_end_at_the_depth.Goals as goal
+
+pub returns : goal.returns
+returns c = places_end
