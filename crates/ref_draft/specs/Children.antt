@@ -30,16 +30,19 @@ abbrev pub each_member : List ℕ → Members → List Child
 each_member keyword no_members = []
 each_member keyword (member key d ms) = (Key keyword ∷ Key key ∷ [], d) ∷ each_member keyword ms
 
--- the elements where the value is an array, the members where it is an object
+-- the elements where the value is an array
 abbrev pub elements : List ℕ → Data → List Child
 elements keyword value = option_map_or (elements_from keyword 0) (as_array value) []
 
+-- the members where the value is an object, in the order of their keys
 abbrev pub members : List ℕ → Data → List Child
 members keyword value = option_map_or (each_member keyword) (as_object value) []
 
+-- whether a value is an object
 abbrev pub is_object : Data → Bool
 is_object value = is_some (as_object value)
 
+-- whether a child is an object
 abbrev pub has_object : Child → Bool
 has_object child = is_object child.1
 
@@ -68,6 +71,7 @@ pub record Walked : Type 0 where
   pub value : Data
   pub draft : Draft
 
+-- a child with the draft that d detects on it
 abbrev pub with_draft : Draft → Child → Walked
 with_draft d child = record { path = child.0; value = child.1; draft = detect d child.1 }
 

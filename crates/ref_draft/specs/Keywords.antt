@@ -122,24 +122,31 @@ is_before_2019 Unknown = false
 
 -- ---- the keywords that a draft knows
 
+-- keywords of every draft
 abbrev pub known_in_all : List (List ℕ)
 known_in_all = map codes ("$ref" ∷ "$schema" ∷ "additionalItems" ∷ "additionalProperties" ∷ "allOf" ∷ "anyOf" ∷ "definitions" ∷ "dependencies" ∷ "enum" ∷ "exclusiveMaximum" ∷ "exclusiveMinimum" ∷ "format" ∷ "items" ∷ "maxItems" ∷ "maxLength" ∷ "maxProperties" ∷ "maximum" ∷ "minItems" ∷ "minLength" ∷ "minProperties" ∷ "minimum" ∷ "multipleOf" ∷ "not" ∷ "oneOf" ∷ "pattern" ∷ "patternProperties" ∷ "properties" ∷ "required" ∷ "type" ∷ "uniqueItems" ∷ [])
 
+-- of Draft 4 alone
 abbrev pub known_in_4 : List (List ℕ)
 known_in_4 = codes "id" ∷ []
 
+-- since Draft 6
 abbrev pub known_since_6 : List (List ℕ)
 known_since_6 = map codes ("$id" ∷ "const" ∷ "contains" ∷ "propertyNames" ∷ "contentEncoding" ∷ "contentMediaType" ∷ [])
 
+-- since Draft 7
 abbrev pub known_since_7 : List (List ℕ)
 known_since_7 = map codes ("else" ∷ "if" ∷ "then" ∷ [])
 
+-- since 2019-09
 abbrev pub known_since_2019 : List (List ℕ)
 known_since_2019 = map codes ("contentSchema" ∷ "$anchor" ∷ "$defs" ∷ "$recursiveAnchor" ∷ "$recursiveRef" ∷ "dependentRequired" ∷ "dependentSchemas" ∷ "maxContains" ∷ "minContains" ∷ "unevaluatedItems" ∷ "unevaluatedProperties" ∷ [])
 
+-- whether 2019-09 knows a keyword
 abbrev pub is_known_in_2019 : List ℕ → Bool
 is_known_in_2019 k = is_one_of k known_in_all || is_one_of k known_since_6 || is_one_of k known_since_7 || is_one_of k known_since_2019
 
+-- since 2020-12
 abbrev pub known_since_2020 : List (List ℕ)
 known_since_2020 = map codes ("$dynamicAnchor" ∷ "$dynamicRef" ∷ "prefixItems" ∷ [])
 

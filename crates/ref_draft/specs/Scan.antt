@@ -23,10 +23,11 @@ abbrev pub scan_row : Draft → Row
 scan_row Draft4 = draft_4_row
 scan_row d = row d
 
--- whether a value keyword leads to a schema, and whether a keyword's elements or members are schemas
+-- whether a keyword's value is a schema
 abbrev pub is_value_keyword : Draft → List ℕ → Bool
 is_value_keyword d keyword = is_one_of keyword (scan_row d).values
 
+-- whether a keyword's elements or members are schemas, so that one further part leads to each
 abbrev pub is_child_keyword : Draft → List ℕ → Bool
 is_child_keyword d keyword = is_one_of keyword (scan_row d).arrays || is_one_of keyword (scan_row d).maps
 

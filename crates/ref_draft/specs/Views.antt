@@ -32,12 +32,15 @@ pub record Tagged : Type 0 where
   pub contents : Data
   pub draft : Draft
 
+-- a value and its draft
 abbrev pub tagged : Draft → Data → Tagged
 tagged d t = record { contents = t; draft = d }
 
+-- what a resource shows
 abbrev pub resource : Resource → Tagged
 resource r = tagged r.draft (view r.contents)
 
+-- what a borrowed resource shows
 abbrev pub resource_ref : ResourceRef → Tagged
 resource_ref r = tagged r.draft (view r.contents.now)
 
@@ -50,6 +53,7 @@ abbrev pub anchor_name : Anchor → List ℕ × Kind
 anchor_name (anchor.Default name resource) = (name.now, Plain)
 anchor_name (anchor.Dynamic name resource) = (name.now, Dynamic)
 
+-- the resource of an anchor
 abbrev pub anchor_resource : Anchor → Tagged
 anchor_resource (anchor.Default name resource) = resource_ref resource
 anchor_resource (anchor.Dynamic name resource) = resource_ref resource

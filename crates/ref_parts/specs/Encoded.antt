@@ -20,6 +20,7 @@ is_fragment_byte b = is_unreserved b || is_sub_delim b || list_any (λ c. b == c
 abbrev pub encoded_byte : ℕ → List ℕ
 encoded_byte b = if is_fragment_byte b then b ∷ [] else percent_encode_byte b
 
+-- a text as a fragment holds it (RFC 3986, 2.1 and 3.5)
 abbrev pub encoded : List ℕ → List ℕ
 encoded text = flat_map encoded_byte text
 

@@ -5,6 +5,7 @@ use Rattle.ref_parts.specs.Path.{Part}
 use Rattle.ref_parts.specs.Segment.{part_of}
 use Rattle.ref_parts.specs.declared.path.Link.{Link}
 
+-- the parts that linked segments hold, the root's first
 abbrev pub path_of : {A : Type 0} → Option (Rc Link A) → List Part
 path_of None = []
 path_of (Some link) = link.value.parent ++ part_of link.value.segment ∷ []

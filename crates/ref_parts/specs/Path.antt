@@ -50,12 +50,14 @@ parent_path (part ∷ path) = Some (all_but_last part path)
 
 -- ---- equality, as a test
 
+-- whether two parts are the same
 abbrev pub part_eq : Part → Part → Bool
 part_eq (Key k) (Key m) = pointwise nat_eq k m
 part_eq (Key k) (Index j) = false
 part_eq (Index i) (Key m) = false
 part_eq (Index i) (Index j) = i == j
 
+-- whether two paths are the same
 abbrev pub path_eq : List Part → List Part → Bool
 path_eq path other = pointwise part_eq path other
 

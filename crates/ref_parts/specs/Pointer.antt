@@ -7,6 +7,7 @@ use Rattle.serde_json.specs.Data.{Data, null, boolean, number, string, array, ob
 use Rattle.serde_json.specs.Find.{get_item, get_member}
 use Rattle.ref_parts.specs.Path.{Part, Key, Index}
 
+-- the characters that are escaped (RFC 6901, section 3)
 abbrev pub tilde : ℕ
 tilde = 126
 

@@ -5,6 +5,7 @@ use Rattle.ref_uri.specs.declared.characters.Class.TheVariants.{FirstSegment, Us
 use Rattle.ref_uri.specs.Characters.{is_first_segment_character, is_userinfo_character, is_name_character, is_path_character, is_query_character}
 use Rattle.ref_uri.specs.Components.{ends_scheme, ends_path, ends_query}
 
+-- the characters of a class
 abbrev pub allows : Class → ℕ → Bool
 allows FirstSegment = is_first_segment_character
 allows Userinfo = is_userinfo_character

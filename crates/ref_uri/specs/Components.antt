@@ -67,6 +67,7 @@ begins_with_slashes text = (slice_index text 0 == 47) && (slice_index text 1 == 
 abbrev pub authority_in_front : List ℕ → Option (List ℕ)
 authority_in_front text = if begins_with_slashes text then Some (before_first ends_authority (drop 2 text)) else None
 
+-- the authority, where there is one (3.2)
 unfoldable pub authority : List ℕ → Option (List ℕ)
 authority text = authority_in_front (after_scheme text)
 
@@ -86,6 +87,7 @@ after_path text = drop (position_or_len ends_path (after_authority text)) (after
 abbrev pub query_in_front : List ℕ → Option (List ℕ)
 query_in_front text = if slice_index text 0 == 63 then Some (before_first ends_query (drop 1 text)) else None
 
+-- the query, where there is one (3.4)
 unfoldable pub query : List ℕ → Option (List ℕ)
 query text = query_in_front (after_path text)
 
@@ -97,6 +99,7 @@ after_query text = behind (option_map length (query text)) 1 (after_path text)
 abbrev pub fragment_in_front : List ℕ → Option (List ℕ)
 fragment_in_front text = if slice_index text 0 == 35 then Some (drop 1 text) else None
 
+-- the fragment, where there is one (3.5)
 unfoldable pub fragment : List ℕ → Option (List ℕ)
 fragment text = fragment_in_front (after_query text)
 

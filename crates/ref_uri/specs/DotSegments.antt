@@ -24,6 +24,7 @@ is_dot segment = bytes_eq segment (codes ".")
 abbrev pub is_dot_dot : List ℕ → Bool
 is_dot_dot segment = bytes_eq segment (codes "..")
 
+-- whether a segment is `.` or `..` (3.3)
 abbrev pub is_dot_segment : List ℕ → Bool
 is_dot_segment segment = is_dot segment || is_dot_dot segment
 

@@ -14,27 +14,33 @@ use Rattle.ref_uri.specs.declared.error.ResolveFault.TheVariants as resolve_faul
 use Rattle.ref_uri.specs.declared.error.UriParseFault.{UriParseFault}
 use Rattle.ref_uri.specs.declared.error.UriParseFault.TheVariants.{Invalid, Memory}
 
+-- what is displayed of a parse error
 abbrev pub parse_error_text : ParseError → List ℕ
 parse_error_text Syntax = codes "not a URI reference of RFC 3986"
 parse_error_text NoScheme = codes "no scheme"
 
+-- of a parse error, or of want of memory
 abbrev pub uri_parse_fault_text : UriParseFault → List ℕ
 uri_parse_fault_text (Invalid error) = parse_error_text error
 uri_parse_fault_text (Memory error) = codes "Out of memory"
 
+-- of a base without scheme
 abbrev pub resolve_error_text : ResolveError → List ℕ
 resolve_error_text BaseWithoutScheme = codes "the base has no scheme"
 
+-- of that, or of want of memory
 abbrev pub resolve_fault_text : ResolveFault → List ℕ
 resolve_fault_text (resolve_fault.Invalid error) = resolve_error_text error
 resolve_fault_text (resolve_fault.Memory error) = codes "Out of memory"
 
+-- of a text that means no URI
 abbrev pub uri_error_text : UriError → List ℕ
 uri_error_text (Parse uri is_reference error) =
     codes "Invalid URI " ++ (if is_reference then codes "reference '" else codes "'") ++ string_bytes uri ++ codes "': " ++ parse_error_text error
 uri_error_text (Resolve uri base error) =
     codes "Failed to resolve '" ++ string_bytes uri ++ codes "' against '" ++ string_bytes base ++ codes "': " ++ resolve_error_text error
 
+-- of that, or of want of memory
 abbrev pub uri_fault_text : UriFault → List ℕ
 uri_fault_text (uri_fault.Invalid error) = uri_error_text error
 uri_fault_text (uri_fault.Memory error) = codes "Out of memory"

@@ -5,9 +5,11 @@ use Rattle.ref_uri.specs.declared.lengths.Lengths.{Lengths}
 use Rattle.ref_uri.specs.Components.{scheme, authority, path, query}
 use Rattle.ref_uri.specs.Reference.{is_uri_reference}
 
+-- lengths of components
 abbrev pub the_lengths : Option ℕ → Option ℕ → ℕ → Option ℕ → Lengths
 the_lengths scheme authority path query = record { scheme = scheme; authority = authority; path = path; query = query }
 
+-- the lengths of the components of a text
 abbrev pub lengths_of : List ℕ → Lengths
 lengths_of text =
     the_lengths (option_map length (scheme text)) (option_map length (authority text)) (length (path text)) (option_map length (query text))

@@ -48,6 +48,7 @@ normal_host text = normal_encoded to_ascii_lowercase text
 abbrev pub normal_port_part : List ℕ → List ℕ
 normal_port_part part = if length part == 1 then [] else part
 
+-- an authority in normal form: userinfo, host and port part each (3.2.3 and 6.2.2)
 unfoldable pub normal_authority : List ℕ → List ℕ
 normal_authority authority =
     framed [] (option_map normal_text (userinfo authority)) (codes "@") ++ normal_host (host authority)

@@ -7,6 +7,7 @@ use Rattle.ref_uri.specs.declared.dots.Progress.TheVariants.{Front, Within, Dots
 use Rattle.ref_uri.specs.declared.dots.Segment.{Segment}
 use Rattle.ref_uri.specs.declared.dots.Segment.TheVariants.{Name, Dot, DotDot}
 
+-- what a segment asks of a path
 abbrev pub segment_of : List ℕ → Segment
 segment_of text = if is_dot text then Dot else (if is_dot_dot text then DotDot else Name)
 
@@ -22,21 +23,25 @@ next_written Name path segment = path ++ 47 ∷ segment
 next_written Dot path segment = path
 next_written DotDot path segment = before_last (λ c. c == 47) path
 
+-- how far a path is after its first segment
 abbrev pub first_progress : Segment → Progress
 first_progress Name = Within
 first_progress Dot = Front
 first_progress DotDot = Front
 
+-- how far it is after another
 abbrev pub next_progress : Segment → Progress
 next_progress Name = Within
 next_progress Dot = Dots
 next_progress DotDot = Dots
 
+-- the path after one more segment
 abbrev pub path_then : Progress → List ℕ → List ℕ → List ℕ
 path_then Front path segment = first_written (segment_of segment) path segment
 path_then Within path segment = next_written (segment_of segment) path segment
 path_then Dots path segment = next_written (segment_of segment) path segment
 
+-- how far it is then
 abbrev pub progress_then : Progress → List ℕ → Progress
 progress_then Front segment = first_progress (segment_of segment)
 progress_then Within segment = next_progress (segment_of segment)
@@ -47,6 +52,7 @@ abbrev pub path_after : Progress → List ℕ → List (List ℕ) → List ℕ
 path_after progress path [] = path
 path_after progress path (segment ∷ rest) = path_after (progress_then progress segment) (path_then progress path segment) rest
 
+-- how far it is after more segments
 abbrev pub progress_after : Progress → List (List ℕ) → Progress
 progress_after progress [] = progress
 progress_after progress (segment ∷ rest) = progress_after (progress_then progress segment) rest

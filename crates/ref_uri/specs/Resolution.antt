@@ -47,6 +47,7 @@ target_of_scheme base reference None = target_of_authority base reference refere
 abbrev pub with_guard : Components → Components
 with_guard c = record c { path = guarded c.authority c.path }
 
+-- the target of a reference, guarded
 abbrev pub resolved_components : Components → Components → Components
 resolved_components base reference = with_guard (target_of_scheme base reference reference.scheme)
 

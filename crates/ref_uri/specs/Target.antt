@@ -15,6 +15,7 @@ use Rattle.ref_uri.specs.Normal.{guarded, normal_text}
 use Rattle.ref_uri.specs.Resolution.{merged, target_of_scheme}
 use Rattle.ref_uri.specs.Written.{written, written_scheme, written_authority}
 
+-- a path as it is written
 abbrev pub written_path : Form → PathOf → List ℕ
 written_path form (Kept path) = written form path.now
 written_path Given (OfBase path) = path.now
@@ -22,6 +23,7 @@ written_path Normal (OfBase path) = remove_dot_segments (normal_text path.now)
 written_path form (Removed path) = remove_dot_segments (written form path.now)
 written_path form (Merged directory path) = remove_dot_segments (written form (directory.now ++ 47 ∷ path.now))
 
+-- the components as they are written
 abbrev pub written_components : Form → Target → Components
 written_components form target =
     record {
@@ -32,6 +34,7 @@ written_components form target =
       fragment = option_map (written form) (option_copied target.fragment);
     }
 
+-- their lengths
 abbrev pub lengths_of_components : Components → Lengths
 lengths_of_components c = the_lengths (option_map length c.scheme) (option_map length c.authority) (length c.path) (option_map length c.query)
 

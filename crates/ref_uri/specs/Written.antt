@@ -17,10 +17,12 @@ abbrev pub written : Form → List ℕ → List ℕ
 written Given = λ text. text
 written Normal = normal_text
 
+-- a scheme
 abbrev pub written_scheme : Form → List ℕ → List ℕ
 written_scheme Given = λ scheme. scheme
 written_scheme Normal = map to_ascii_lowercase
 
+-- an authority
 abbrev pub written_authority : Form → List ℕ → List ℕ
 written_authority Given = λ authority. authority
 written_authority Normal = normal_authority

@@ -16,6 +16,7 @@ use Rattle.referencing.specs.Bases.{Along, along_part}
 
 -- one answer after another: the first fault ends them
 infixl 10 ◌>>=◌
+-- an error stands, and a value goes on
 abbrev pub ◌>>=◌ : {E A B : Type 0} → Result A E → (A → Result B E) → Result B E
 (Ok x) >>= f = f x
 (Err e) >>= f = Err e

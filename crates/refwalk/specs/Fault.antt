@@ -2,6 +2,7 @@
 use Rattle.std.specs.Prelude.{ℕ, List, ◌++◌, codes, Result, Ok, Err}
 use Rattle.ref_uri.specs.Targets.{Refusal, refusal_text}
 
+-- why documents or a step are refused
 pub data Fault : Type 0 where
   -- no document bears this URI
   Unretrievable : List ℕ → Fault
@@ -14,6 +15,7 @@ pub data Fault : Type 0 where
   -- a text means no URI: what is said of it
   InvalidUri : List ℕ → Fault
 
+-- what is displayed of a fault
 abbrev pub fault_text : Fault → List ℕ
 fault_text (Unretrievable uri) =
     codes "Resource '" ++ (uri ++ codes "' is not present in a registry and retrieving it failed: Retrieving external resources is not supported once the registry is populated")

@@ -9,6 +9,7 @@ use Rattle.ref_uri.specs.declared.error.UriFault.{UriFault}
 use Rattle.ref_uri.specs.declared.error.UriFault.TheVariants as uri_fault
 use Rattle.refwalk.specs.Fault as fault
 
+-- what is seen of a fault
 abbrev pub fault_view : Fault → fault.Fault
 fault_view (Unretrievable uri) = fault.Unretrievable uri.value
 fault_view (PointerToNowhere pointer) = fault.PointerToNowhere pointer.now

@@ -53,5 +53,6 @@ followed_from world n f (s ∷ ss) = numbered n (stepped world f s) >>= λ g. fo
 abbrev pub start : List ℕ → Followed
 start base = record { last = None; resolver = record { base = base; scope = [] } }
 
+-- where steps lead from a base
 abbrev pub followed : List Document → List ℕ → List Step → Result Followed (ℕ × Fault)
 followed world base steps = followed_from world 0 (start base) steps

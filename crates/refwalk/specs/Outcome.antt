@@ -4,6 +4,7 @@ use Rattle.refwalk.specs.declared.stop.Stop.{Stop}
 use Rattle.refwalk.specs.declared.stop.Stop.TheVariants.{Memory, Because}
 
 infixl 10 ◌>>=◌
+-- an error stands, and a value goes on
 abbrev pub ◌>>=◌ : {E A B : Type 0} → Result A E → (A → Result B E) → Result B E
 (Ok x) >>= f = f x
 (Err e) >>= f = Err e

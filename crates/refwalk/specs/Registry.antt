@@ -24,5 +24,6 @@ abbrev pub prepared_after : List Document → List Document → Result (List Doc
 prepared_after world [] = Ok world
 prepared_after world (d ∷ ds) = uri_or_fault (parsed (trimmed d.uri)) >>= λ uri. prepared_after (added world (record { uri = uri; tree = d.tree })) ds
 
+-- the documents of a request, prepared
 abbrev pub prepared : List Document → Result (List Document) Fault
 prepared documents = prepared_after [] documents

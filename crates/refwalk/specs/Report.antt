@@ -14,13 +14,16 @@ use Rattle.refwalk.specs.Registry.{prepared}
 use Rattle.refwalk.specs.Fault.{Fault, fault_text}
 use Rattle.refwalk.specs.Follow.{Followed, followed}
 
+-- what is written, and how a run ends
 pub record Report : Type 0 where
   pub status : Status
   pub text : List ℕ
 
+-- a text, with a line feed
 abbrev pub line : List ℕ → List ℕ
 line text = text ++ 10 ∷ []
 
+-- why a request is bad, in a word or two
 abbrev pub reason : BadRequest → List ℕ
 reason NotJson = codes "not JSON"
 reason NotAnObject = codes "not an object"
@@ -34,15 +37,19 @@ reason Meta = codes "meta"
 reason DraftField = codes "draft"
 reason Limit = codes "limit"
 
+-- the report on a bad request
 abbrev pub bad_report : BadRequest → Report
 bad_report bad = record { status = status.BadRequest; text = line (codes "bad request " ++ reason bad) }
 
+-- the report on documents that can't be prepared
 abbrev pub prepare_report : Fault → Report
 prepare_report fault = record { status = status.Fault; text = line (codes "fault prepare " ++ fault_text fault) }
 
+-- the report on a step that can't be followed
 abbrev pub step_report : ℕ → Fault → Report
 step_report n fault = record { status = status.Fault; text = line (codes "fault " ++ (decimal n ++ (codes " " ++ fault_text fault))) }
 
+-- the name of a draft
 abbrev pub draft_name : Draft → List ℕ
 draft_name Draft4 = codes "4"
 draft_name Draft6 = codes "6"
@@ -56,15 +63,18 @@ abbrev pub value_lines : Draft → Option Data → List ℕ
 value_lines draft None = line (codes "no value")
 value_lines draft (Some d) = line (codes "value " ++ compact_text d) ++ line (codes "draft " ++ draft_name draft)
 
+-- the line of the scope, inner to outer
 abbrev pub scope_line : List (List ℕ) → List ℕ
 scope_line scope = line (codes "scope" ++ flat_map (λ uri. codes " " ++ uri) scope)
 
+-- the report on steps that were all followed
 abbrev pub done_report : Draft → Followed → Report
 done_report draft f = record {
   status = status.Done;
   text = value_lines draft f.last ++ (line (codes "base " ++ f.resolver.base) ++ scope_line f.resolver.scope);
 }
 
+-- the report on where the steps lead
 abbrev pub followed_report : Draft → Result Followed (ℕ × Fault) → Report
 followed_report draft (Ok f) = done_report draft f
 followed_report draft (Err (n, fault)) = step_report n fault
@@ -73,6 +83,7 @@ followed_report draft (Err (n, fault)) = step_report n fault
 abbrev pub draft_of_documents : Request → Draft
 draft_of_documents r = unwrap_or r.draft Draft202012
 
+-- the report once the documents are prepared
 abbrev pub prepared_report : Request → Result (List Document) Fault → Report
 prepared_report r (Ok world) = followed_report (draft_of_documents r) (followed world r.base r.steps)
 prepared_report r (Err fault) = prepare_report fault
@@ -81,6 +92,7 @@ prepared_report r (Err fault) = prepare_report fault
 unfoldable pub request_report : Request → Report
 request_report r = prepared_report r (prepared r.documents)
 
+-- the report on a request, bad or not
 abbrev pub read_report : Result Request BadRequest → Report
 read_report (Ok r) = request_report r
 read_report (Err bad) = bad_report bad
@@ -89,6 +101,7 @@ read_report (Err bad) = bad_report bad
 unfoldable pub report : List ℕ → Report
 report bytes = read_report (read_request bytes)
 
+-- a bad request is answered by a report, and so is one that is served
 abbrev pub read_is_answered : Result Request BadRequest → Bool
 read_is_answered (Ok r) = is_served r
 read_is_answered (Err bad) = true

@@ -26,6 +26,7 @@ pub data Step : Type 0 where
   Recursive : Step
   Enter : Data → Step
 
+-- the fields of a request
 pub record Request : Type 0 where
   pub documents : List Document
   pub base : List ℕ
@@ -70,6 +71,7 @@ remote_of d = option_and_then (if_passes (list_all (λ e. is_uri_reference e.uri
 unfoldable pub base_of : Data → Option (List ℕ)
 base_of d = option_and_then (λ text. result_ok (parsed text)) (as_str d)
 
+-- a text, null or an object
 abbrev pub step_of : Data → Option Step
 step_of null = Some Recursive
 step_of (boolean b) = None
@@ -78,6 +80,7 @@ step_of (string s) = Some (Lookup s)
 step_of (array ds) = None
 step_of (object ms) = Some (Enter (object ms))
 
+-- a list of steps
 unfoldable pub steps_of : Data → Option (List Step)
 steps_of d = list_of step_of d
 
@@ -90,6 +93,7 @@ draft_named s =
     else (if bytes_eq s (codes "2019-09") then Some draft.Draft201909
     else (if bytes_eq s (codes "2020-12") then Some draft.Draft202012 else None))))
 
+-- the name of a draft
 unfoldable pub draft_of : Data → Option Draft
 draft_of d = option_and_then draft_named (as_str d)
 
@@ -106,6 +110,7 @@ abbrev pub optional : {A : Type 0} → BadRequest → (Data → Option A) → Op
 optional bad f None = Ok None
 optional bad f (Some d) = ok_or (option_map Some (f d)) bad
 
+-- whether a request may have such a field
 abbrev pub is_field : List ℕ → Bool
 is_field name =
     bytes_eq name (codes "documents") || bytes_eq name (codes "base") || bytes_eq name (codes "steps") || bytes_eq name (codes "remote")

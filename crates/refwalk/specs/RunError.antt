@@ -3,6 +3,7 @@ use Rattle.std.specs.Prelude.{ℕ, List, codes}
 use Rattle.refwalk.specs.declared.run.RunError.{RunError}
 use Rattle.refwalk.specs.declared.run.RunError.TheVariants.{Read, Write, Memory, NotYet}
 
+-- what is displayed where there is no report
 abbrev pub run_error_text : RunError → List ℕ
 run_error_text Read = codes "cannot read"
 run_error_text Write = codes "cannot write"

@@ -38,6 +38,7 @@ abbrev pub is_pointer_fragment : List ℕ → Bool
 is_pointer_fragment [] = true
 is_pointer_fragment (c ∷ rest) = c == 47
 
+-- a lookup of such a reference
 abbrev pub is_served_step : Step → Bool
 is_served_step (Lookup reference) = is_pointer_fragment (fragment_part reference)
 is_served_step Recursive = false
@@ -47,5 +48,6 @@ is_served_step (Enter d) = false
 abbrev pub has_served_fields : Request → Bool
 has_served_fields r = is_none r.remote && is_none r.meta && is_none r.limit
 
+-- documents, steps and fields are all served
 unfoldable pub is_served : Request → Bool
 is_served r = list_all is_served_document r.documents && (list_all is_served_step r.steps && has_served_fields r)

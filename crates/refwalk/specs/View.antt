@@ -18,11 +18,13 @@ use Rattle.refwalk.specs.Report as report
 use Rattle.refwalk.specs.FaultView.{fault_view}
 pub use Rattle.refwalk.specs.RegistryView.{document_view}
 
+-- what is seen of a step
 abbrev pub step_view : Step → request.Step
 step_view (Lookup reference) = request.Lookup reference.now
 step_view Recursive = request.Recursive
 step_view (Enter value) = request.Enter (view value.now)
 
+-- of a request
 abbrev pub request_view : Request → request.Request
 request_view r = record {
   documents = map document_view r.documents.items;
@@ -34,12 +36,15 @@ request_view r = record {
   limit = r.limit;
 }
 
+-- of a resolver
 abbrev pub resolver_view : Resolver → follow.Resolver
 resolver_view r = record { base = r.base.value; scope = r.scope }
 
+-- of what is found last
 abbrev pub followed_view : Followed → follow.Followed
 followed_view f = record { last = option_map (λ v. view v.now) f.last; resolver = resolver_view f.resolver }
 
+-- of a fault with the number of its step
 abbrev pub step_fault_view : StepFault → ℕ × fault.Fault
 step_fault_view s = (s.step, fault_view s.fault)
 
@@ -48,5 +53,6 @@ abbrev pub numbered_stop : ℕ → Stop Fault → Stop StepFault
 numbered_stop n Memory = Memory
 numbered_stop n (Because fault) = Because (record { step = n; fault = fault })
 
+-- of a report
 abbrev pub report_view : Report → report.Report
 report_view r = record { status = r.status; text = string_bytes r.text }
