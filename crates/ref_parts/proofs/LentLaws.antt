@@ -1,19 +1,18 @@
 -- Where a key's pair stands, and what a write of its value leaves.
-use Rattle.std.proofs.Common.{◌≡◌, ℕ, zero, suc, ◌+◌, ◌<◌, Bool, true, false, cond, not, ltb, List, [], ◌∷◌, ◌++◌, length, take, drop, set, Option, Some, None, is_some, slice_get, slice_index_or, position, IsSome, ⊎_elim, sym, refl, ap, ◌∙◌, subst, arith, length-append, length-set, add-zero}
+use Rattle.std.proofs.Common.{◌≡◌, ℕ, zero, suc, ◌+◌, ◌<◌, Bool, true, false, cond, not, ltb, List, [], ◌∷◌, ◌++◌, length, take, drop, set, Option, Some, None, is_some, slice_get, slice_index_or, position, IsSome, ⊎_elim, sym, refl, ap, ◌∙◌, subst, arith, length-append, length-set}
 use Rattle.std.specs.Map.{lookup, keys_of}
 use Rattle.std.specs.List.{position_or_len}
-use Rattle.std.specs.Cmp.{IsEquivalence}
 use Rattle.std.specs.Prelude.{MatchOption}
 use Rattle.std.specs.Option.{UnwrapsOrElse}
 use Rattle.arrayvec.specs.ArrayVec.{ArrayVec}
 use Rattle.std.proofs.lemmas.Bool.{true≢false, cond-true, cond-false, cond_both, cases_Bool, ltb-true}
 use Rattle.indexmap.specs.Layout.{set_value_at, length-set_value_at}
 use Rattle.indexmap.specs.IndexMap.{insert_entry}
-use Rattle.ref_parts.specs.FiniteMap.{Puts, pairs, AllHold, EachOnce, IsPlaceOf, IsAt, IsFormOf, entries_of}
+use Rattle.ref_parts.specs.FiniteMap.{pairs, AllHold, EachOnce, IsPlaceOf, IsAt, IsFormOf, entries_of}
 use Rattle.ref_parts.specs.Lent.{with_value, with_form_value}
 use Rattle.ref_parts.specs.declared.small_map.Form.{Form}
 use Rattle.ref_parts.specs.declared.small_map.Form.TheVariants.{Small, Large}
-use Rattle.ref_parts.proofs.MapLaws.{set_read, alike, length-pairs, pairs-append, lookup-append_none, Puts-at}
+use Rattle.ref_parts.proofs.MapLaws.{length-pairs, pairs-append, lookup-append_none, insert_at, insert_same, insert_again}
 
 -- ---- slots
 
@@ -155,6 +154,14 @@ module _ {K V : Type 0} (eq : K → K → Bool) (key : K) where
       (λ yes found. let same : n ≡ i = cc in subst (IsAt eq key es) same (IsAt_first es (ltb-true _ _ yes)))
       (λ no found. absurd (cc))
 
+  pub cut_at : (es : List (K × V)) (place : ℕ) (w : V) (at : IsAt eq key es place) → set_value_at es place w ≡ at.front ++ (at.pair.0, w) ∷ at.back
+  cut_at es place w at =
+      ap (λ xs. set_value_at xs place w) at.cut ∙ ap (λ i. set_value_at (at.front ++ at.pair ∷ at.back) i w) (sym at.after) ∙ cut_written at.front at.pair at.back w
+
+  -- a write leaves the key where it is
+  pub IsAt_written : (es : List (K × V)) (place : ℕ) (w : V) → IsAt eq key es place → IsAt eq key (set_value_at es place w) place
+  IsAt_written es place w at = record { front = at.front; pair = (at.pair.0, w); back = at.back; cut = cut_at es place w at; after = at.after; first = at.first; here = at.here }
+
   -- the slots' place is that of their pairs
   pub IsAt_slot : (slots : List (Option (K × V))) (i : ℕ) → AllHold slots → IsPlaceOf eq key slots i → IsAt eq key (pairs slots) i
   IsAt_slot slots i hold place =
@@ -167,19 +174,6 @@ module _ {K V : Type 0} (eq : K → K → Bool) (key : K) where
         first = place.first;
         here = place.here.2;
       }
-
--- a pair in that slot stands at that place
-pub IsAt_set : {K V : Type 0} (eq : K → K → Bool) (key : K) (v : V) (slots new : List (Option (K × V))) (i : ℕ) → eq key key ≡ true → AllHold slots → IsPlaceOf eq key slots i → new ≡ set slots i (Some (key, v)) → IsAt eq key (pairs new) i
-IsAt_set eq key v slots new i own hold place is =
-    record {
-      front = pairs (take i slots);
-      pair = (key, v);
-      back = pairs (drop (i + 1) slots);
-      cut = ap pairs (is ∙ set_read slots i (Some (key, v)) place.within) ∙ pairs-append (take i slots) (Some (key, v) ∷ drop (i + 1) slots);
-      after = pairs_before slots i hold place.within;
-      first = place.first;
-      here = own;
-    }
 
 -- an entry behind entries that lack its key
 pub IsAt_last : {K V : Type 0} (eq : K → K → Bool) (key : K) (v : V) (es : List (K × V)) → eq key key ≡ true → lookup (eq key) es ≡ None → IsAt eq key (es ++ (key, v) ∷ []) (length es)
@@ -201,49 +195,18 @@ module _ {K V : Type 0} {n : ℕ} (eq : K → K → Bool) (key : K) (form : Form
       absent (Some x) e = absurd (true≢false e)
   finds_entry entries (Some i) is at found = subst (λ es. IsAt eq key es i) (sym is) (IsAt_position eq key entries i (sym at))
 
-module _ {K V : Type 0} {eq : K → K → Bool} (laws : IsEquivalence eq) where
-  -- a pair put where one was put before
-  Puts_again : (old mid new : List (K × V)) (key : K) (v w : V) → Puts eq old mid key v → Puts eq mid new key w → Puts eq old new key w
-  Puts_again old mid new key v w put again = record {
-    found = λ q. ⊎_elim
-        (λ (e : eq key q ≡ true). again.found q ∙ cond-true _ _ _ e ∙ sym (cond-true _ _ _ e))
-        (λ (e : eq key q ≡ false). again.found q ∙ cond-false _ _ _ e ∙ put.found q ∙ cond-false _ _ _ e ∙ sym (cond-false _ _ _ e))
-        (cases_Bool (eq key q));
-    count =
-        let has = put.found key ∙ cond-true _ _ _ (laws.refl key) in
-        again.count ∙ ap (λ o. length mid + cond (is_some o) 0 1) has ∙ add-zero _ ∙ put.count;
-  }
-
-  -- keys that are equal put alike
-  Puts_alike : (old new : List (K × V)) (key other : K) (w : V) → eq key other ≡ true → Puts eq old new other w → Puts eq old new key w
-  Puts_alike old new key other w same puts = record {
-    found = λ q. puts.found q ∙ ap (λ b. cond b (Some w) (lookup (eq q) old)) (sym (laws.congr key other q same));
-    count = puts.count ∙ ap (λ o. length old + cond (is_some o) 0 1) (alike laws key other same old);
-  }
-
+module _ {K V : Type 0} (eq : K → K → Bool) (key : K) where
   -- a write at the key's place puts the value there
-  pub Puts_written : (es : List (K × V)) (place : ℕ) (key : K) (w : V) → IsAt eq key es place → Puts eq es (set_value_at es place w) key w
-  Puts_written es place key w at =
-      let new = ap (λ xs. set_value_at xs place w) at.cut ∙ ap (λ i. set_value_at (at.front ++ at.pair ∷ at.back) i w) (sym at.after) ∙ cut_written at.front at.pair at.back w in
-      let none = alike laws key at.pair.0 at.here at.front ∙ at.first in
-      Puts_alike es (set_value_at es place w) key at.pair.0 w at.here
-      (subst (λ is. Puts eq es is at.pair.0 w) (sym new) (subst (λ was. Puts eq was (at.front ++ (at.pair.0, w) ∷ at.back) at.pair.0 w) (sym at.cut) (Puts-at laws at.front at.back at.pair at.pair.0 w none (laws.refl at.pair.0))))
+  pub written_is_put : (es : List (K × V)) (place : ℕ) (w : V) → IsAt eq key es place → set_value_at es place w ≡ insert_entry eq es key w
+  written_is_put es place w at =
+      cut_at eq key es place w at ∙ sym (insert_at eq key at.front at.back at.pair w at.first at.here) ∙ ap (λ xs. insert_entry eq xs key w) (sym at.cut)
 
-  pub Puts_through : (old mid : List (K × V)) (place : ℕ) (key : K) (v w : V) → Puts eq old mid key v → IsAt eq key mid place → Puts eq old (set_value_at mid place w) key w
-  Puts_through old mid place key v w put at = Puts_again old mid (set_value_at mid place w) key v w put (Puts_written mid place key w at)
+  -- also where one was put before
+  pub put_and_written : eq key key ≡ true → (es : List (K × V)) (place : ℕ) (v w : V) → IsAt eq key (insert_entry eq es key v) place → set_value_at (insert_entry eq es key v) place w ≡ insert_entry eq es key w
+  put_and_written own es place v w at = written_is_put (insert_entry eq es key v) place w at ∙ insert_again eq key own es v w
 
-  -- a key that is there, with the value that it has
-  pub Puts_same : (es : List (K × V)) (key : K) (v : V) → lookup (eq key) es ≡ Some v → Puts eq es es key v
-  Puts_same es key v has = record {
-    found = λ q. ⊎_elim
-        (λ (e : eq key q ≡ true). alike laws key q e es ∙ has ∙ sym (cond-true _ _ _ e))
-        (λ (e : eq key q ≡ false). sym (cond-false _ _ _ e))
-        (cases_Bool (eq key q));
-    count = sym (ap (λ o. length es + cond (is_some o) 0 1) has ∙ add-zero _);
-  }
-
--- the value that a key has, which is there
-pub starts_as : {K V : Type 0} {eq : K → K → Bool} (laws : IsEquivalence eq) (es : List (K × V)) (key : K) (place : ℕ) (P : V → Type 0) → IsAt eq key es place → (value : V) × UnwrapsOrElse (lookup (eq key) es) P value × Puts eq es es key value
-starts_as laws es key place P at =
-    let found = IsAt_found _ key es place at in
-    (at.pair.1, subst (λ o. UnwrapsOrElse o P at.pair.1) (sym found) refl, Puts_same laws es key at.pair.1 found)
+  -- the value that a key has, which is there
+  pub starts_as : (es : List (K × V)) (place : ℕ) (P : V → Type 0) → IsAt eq key es place → (value : V) × UnwrapsOrElse (lookup (eq key) es) P value × (es ≡ insert_entry eq es key value)
+  starts_as es place P at =
+      let found = IsAt_found eq key es place at in
+      (at.pair.1, subst (λ o. UnwrapsOrElse o P at.pair.1) (sym found) refl, sym (insert_same eq key es at.pair.1 found))

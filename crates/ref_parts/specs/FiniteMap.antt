@@ -1,13 +1,18 @@
 -- A small map as the list of its entries, read at a key by the keys' `==`.
 use Rattle.std.specs.Prelude.{◌≡◌, ℕ, ◌+◌, ◌<◌, ◌≤◌, Bool, true, take, drop, ◌++◌, List, [], ◌∷◌, length, Option, Some, None, is_some, if◌then◌else◌, ⊤}
-use Rattle.std.specs.Map.{lookup}
+use Rattle.std.specs.List.{AllZip}
+use Rattle.std.specs.Map.{lookup, keys_of}
 use Rattle.ref_parts.specs.declared.small_map.Form.{Form}
 use Rattle.ref_parts.specs.declared.small_map.Form.TheVariants.{Small, Large}
 
--- new is the finite map old with this value at the key, and has one more key where old lacks it
+-- new is the finite map old with this value at the key: the keys of old stay where they are, and a new one comes last
 pub record Puts {K V : Type 0} (eq : K → K → Bool) (old new : List (K × V)) (key : K) (value : V) : Type 0 where
   pub found : (q : K) → lookup (eq q) new ≡ (if eq key q then Some value else lookup (eq q) old)
-  pub count : length new ≡ length old + (if is_some (lookup (eq key) old) then 0 else 1)
+  pub keys : keys_of new ≡ (if is_some (lookup (eq key) old) then keys_of old else keys_of old ++ key ∷ [])
+
+-- entry by entry, the key is a clone by C and the value by D
+abbrev pub IsClone : {K V : Type 0} (C : K → K → Type 0) (D : V → V → Type 0) → List (K × V) → List (K × V) → Type 0
+IsClone C D entries copy = AllZip (λ e f. C e.0 f.0 × D e.1 f.1) entries copy
 
 -- the pairs that inline slots hold
 abbrev pub pairs : {K V : Type 0} → List (Option (K × V)) → List (K × V)
@@ -51,9 +56,3 @@ pub record IsAt {K V : Type 0} (eq : K → K → Bool) (key : K) (entries : List
   pub after : length front ≡ place
   pub first : lookup (eq key) front ≡ None
   pub here : eq key pair.0 ≡ true
-
--- the hashed map has the pairs of the slots, and room for one more
-pub record IsHashed {K V : Type 0} (eq : K → K → Bool) (slots : List (Option (K × V))) (entries : List (K × V)) (spare : ℕ) : Type 0 where
-  pub found : (q : K) → lookup (eq q) entries ≡ lookup (eq q) (pairs slots)
-  pub count : length entries ≡ length (pairs slots)
-  pub room : 0 < spare

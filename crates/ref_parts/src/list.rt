@@ -104,8 +104,14 @@ impl<T: Drop> List<T> {
     }
 }
 
+/// The same items, shared: one handle more, whatever the length, and no memory.
+///
+/// It is refused only where the first link has no count left for one more handle, which `std::rc::Rc` tells as want of
+/// memory. The empty list has no link, and isn't refused.
 impl<T: Drop> Clone for List<T> {
     ghost is_clone = { λ list copy. copy ≡ list };
+
+    ghost is_infallible = { λ list. list ≡ [] };
 
     fn clone(&self) -> Result<Self, AllocError> {
         let Some(node) = &self.head else {

@@ -1,12 +1,13 @@
 //! A map that holds its first pairs inline.
-ghost use Rattle.std.specs.Prelude.{◌≡◌, Bool, ◌+◌, ◌<◌, ◌≤◌, ◌↔◌, Some, None, slice_set, IsTrue, IsOk, IfOk, OnOk, OnErr, MatchOption, [], length, option_copied, option_map, slice_get, slice_index_or, IsSome};
+ghost use Rattle.std.specs.Prelude.{◌≡◌, Bool, ◌+◌, ◌<◌, ◌≤◌, ◌↔◌, None, IsTrue, IsOk, IfOk, OnOk, OnErr, MatchOption, [], length, option_copied, option_map, slice_get, slice_index_or, IsSome};
 ghost use Rattle.std.specs.Borrow.{sem};
 ghost use Rattle.std.specs.HashMap.{spare};
 ghost use Rattle.std.specs.Map.{lookup};
+ghost use Rattle.indexmap.specs.IndexMap.{insert_entry};
 ghost use Rattle.indexmap.specs.Lends.{lends_index};
 ghost use Rattle.ref_parts.specs.Lent.{lends_pair, lends_slot, lends_place};
 ghost use Rattle.std.specs.Option.{UnwrapsOrElse};
-ghost use Rattle.ref_parts.specs.FiniteMap.{pairs, Puts, EachOnce, IsPlaceOf, IsAt, IsHashed, entries_of, IsFormOf};
+ghost use Rattle.ref_parts.specs.FiniteMap.{pairs, Puts, EachOnce, IsPlaceOf, IsAt, IsClone, entries_of, IsFormOf};
 
 use arrayvec::ArrayVec;
 use indexmap::IndexMap;
@@ -130,13 +131,16 @@ fn value_in<K: Eq + Hash, V, Q: BorrowedKey<K>>(slots: &[Option<(K, V)>], key: Q
 impl<K: Eq + Hash + Drop, V: Drop, const N: usize> SmallMap<K, V, N> {
     ghost use Rattle.ref_parts.specs.Lent.{lends_value};
 
-    /// Puts a value at a key, in the place of the one that is there.
+    /// Puts a value at a key, in the place of the one that is there. A new key comes after the others.
     ///
-    /// Takes memory when it grows past `N` keys and as the hashed map grows. Where there is none it is refused, the map is
-    /// as it was, and the pair is dropped. At most `N` comparisons while it is small, and one look-up from then on.
+    /// Takes memory for a new key alone, when it grows past `N` keys and as the hashed map grows. Where there is none it is
+    /// refused, the map is as it was, and the pair is dropped. At most `N` comparisons while it is small, and one look-up
+    /// from then on.
     pub fn insert(&mut self, alloc: Global, key: K, value: V) -> Result<(), AllocError>
         ensures ok { OnOk result (Puts K.eq self.old self.new key value) }
         ensures err { OnErr result (self.new ≡ self.old) }
+        ensures there { IsSome (lookup (K.eq key) self.old) → IsOk result }
+        ensures inline { length self.old < N → IsOk result }
     {
         put(&mut self.form, alloc, key, value)?;
         Ok(())
@@ -154,6 +158,7 @@ impl<K: Eq + Hash + Drop, V: Drop, const N: usize> SmallMap<K, V, N> {
         ensures* writes_back { sem 𝓛 (lends_value K.row V.row N.row K.Hash self.entry key result) }
         ensures value { IfOk result (λ value. UnwrapsOrElse (lookup (K.eq key) self.old) V.is_default value.now) }
         ensures there { IsSome (lookup (K.eq key) self.old) → IsOk result }
+        ensures inline { length self.old < N → IsOk result }
     {
         let place = place_or_default(&mut self.form, alloc, key)?;
         Ok(value_at(&mut self.form, place))
@@ -169,9 +174,10 @@ fn place_or_default<K: Eq + Hash + Drop, V: Default + Drop, const N: usize>(
     requires { IsFormOf K.eq N form.old }
     ensures kept { IsFormOf K.eq N form.new }
     ensures place { IfOk result (IsAt K.eq key (entries_of form.new)) }
-    ensures ok { OnOk result ((value : V) × UnwrapsOrElse (lookup (K.eq key) (entries_of form.old)) V.is_default value × Puts K.eq (entries_of form.old) (entries_of form.new) key value) }
+    ensures ok { OnOk result ((value : V) × UnwrapsOrElse (lookup (K.eq key) (entries_of form.old)) V.is_default value × (entries_of form.new ≡ insert_entry K.eq (entries_of form.old) key value)) }
     ensures err { OnErr result (entries_of form.new ≡ entries_of form.old) }
     ensures there { IsSome (lookup (K.eq key) (entries_of form.old)) → IsOk result }
+    ensures inline { length (entries_of form.old) < N → IsOk result }
 {
     match find(form, &key) {
         Some(place) => Ok(place),
@@ -191,13 +197,14 @@ fn find<K: Eq + Hash, V, const N: usize>(form: &Form<K, V, N>, key: &K) -> Optio
 }
 
 impl<K: Eq + Hash + Clone + Drop, V: Clone + Drop, const N: usize> SmallMap<K, V, N> {
-    /// A copy of the map, where the clones of its keys and values are equal to them.
+    /// A copy of the map, whose keys and values are clones of its keys and values, in the same order.
     ///
-    /// Takes what memory those clones and a hashed map take, and is refused where there is none.
+    /// Each clone of a key has to be equal to the key. Takes what memory those clones and a hashed map take, and is refused
+    /// where there is none.
     pub fn clone(&self) -> Result<Self, AllocError>
-        requires keys { (x y : K) → K.is_clone x y → y ≡ x }
-        requires values { (x y : V) → V.is_clone x y → y ≡ x }
-        ensures { IfOk result (λ copy. copy ≡ self.now) }
+        requires { (x y : K) → K.is_clone x y → IsTrue (K.eq x y) }
+        ensures clones { IfOk result (λ copy. IsClone K.is_clone V.is_clone self.now copy) }
+        ensures same { IfOk result (λ copy. ((x y : K) → K.is_clone x y → y ≡ x) → ((x y : V) → V.is_clone x y → y ≡ x) → copy ≡ self.now) }
     {
         Ok(SmallMap {
             form: copied(&self.form)?,
@@ -238,9 +245,8 @@ impl<K: Eq + Hash + fmt::Debug, V: fmt::Debug, const N: usize> fmt::Debug for Sm
 fn copied<K: Eq + Hash + Clone + Drop, V: Clone + Drop, const N: usize>(
     form: &Form<K, V, N>,
 ) -> Result<Form<K, V, N>, AllocError>
-    requires keys { (x y : K) → K.is_clone x y → y ≡ x }
-    requires values { (x y : V) → V.is_clone x y → y ≡ x }
-    ensures same { IfOk result (λ copy. entries_of copy ≡ entries_of form.now) }
+    requires { (x y : K) → K.is_clone x y → IsTrue (K.eq x y) }
+    ensures clones { IfOk result (λ copy. IsClone K.is_clone V.is_clone (entries_of form.now) (entries_of copy)) }
     ensures kept { IfOk result (λ copy. IsFormOf K.eq N form.now → IsFormOf K.eq N copy) }
 {
     match form {
@@ -256,10 +262,12 @@ fn put_hashed<K: Eq + Hash + Drop, V: Drop>(
     value: V,
 ) -> Result<usize, AllocError>
     ensures place { IfOk result (IsAt K.eq key map.new.entries) }
-    ensures ok { OnOk result (Puts K.eq map.old.entries map.new.entries key value) }
+    ensures ok { OnOk result (map.new.entries ≡ insert_entry K.eq map.old.entries key value) }
     ensures err { OnErr result (map.new.entries ≡ map.old.entries) }
+    ensures there { IsSome (lookup (K.eq key) map.old.entries) → IsOk result }
     ensures room { 0 < spare map.old → IsOk result }
     ensures uses { spare map.old ≤ spare map.new + 1 }
+    ensures longer { OnOk result (length map.old.entries ≤ length map.new.entries) }
 {
     match map.insert_full(key, value) {
         Ok((place, _)) => Ok(place),
@@ -267,18 +275,21 @@ fn put_hashed<K: Eq + Hash + Drop, V: Drop>(
     }
 }
 
-// The hashed map of the pairs, with room for one more. The slots are empty afterwards, or as they were where it is
-// refused.
+// The hashed map of the pairs, in their order, with room for one more. The slots are empty afterwards, or as they were
+// where it is refused.
 fn hashed<K: Eq + Hash + Drop, V: Drop, const N: usize>(
     alloc: Global,
     slots: &mut ArrayVec<Option<(K, V)>, N>,
 ) -> Result<IndexMap<K, V>, AllocError>
     requires { EachOnce K.eq (pairs slots.old.items) }
-    ensures ok { IfOk result (λ map. IsHashed K.eq slots.old.items map.entries (spare map)) }
+    ensures ok { IfOk result (λ map. map.entries ≡ pairs slots.old.items) }
+    ensures room { IfOk result (λ map. 0 < spare map) }
     ensures err { OnErr result (slots.new.items ≡ slots.old.items) }
 {
     let room = slots.len().checked_add(1).ok_or(AllocError)?;
     let mut map = IndexMap::with_capacity(alloc, room)?;
+    // `pop` takes from the back.
+    slots.as_mut_slice().reverse();
     while let Some(slot) = slots.pop() {
         if let Some((key, value)) = slot {
             match put_hashed(&mut map, key, value) {
@@ -300,15 +311,17 @@ fn put<K: Eq + Hash + Drop, V: Drop, const N: usize>(
     requires { IsFormOf K.eq N form.old }
     ensures kept { IsFormOf K.eq N form.new }
     ensures place { IfOk result (IsAt K.eq key (entries_of form.new)) }
-    ensures ok { OnOk result (Puts K.eq (entries_of form.old) (entries_of form.new) key value) }
+    ensures ok { OnOk result (entries_of form.new ≡ insert_entry K.eq (entries_of form.old) key value) }
     ensures err { OnErr result (entries_of form.new ≡ entries_of form.old) }
+    ensures there { IsSome (lookup (K.eq key) (entries_of form.old)) → IsOk result }
+    ensures inline { length (entries_of form.old) < N → IsOk result }
 {
     let slots = match form {
         Form::Small(slots) => slots,
         Form::Large(map) => return put_hashed(map, key, value),
     };
     if let Some(place) = place_of(slots.as_slice(), &key) {
-        set_slot(slots, place, (key, value));
+        *slot_value(slots, place) = value;
         return Ok(place);
     }
     if slots.len() < N {
@@ -323,18 +336,6 @@ fn put<K: Eq + Hash + Drop, V: Drop, const N: usize>(
     };
     *form = Form::Large(map);
     Ok(place)
-}
-
-// Puts a pair into a slot.
-fn set_slot<K: Drop, V: Drop, const N: usize>(
-    slots: &mut ArrayVec<Option<(K, V)>, N>,
-    place: usize,
-    pair: (K, V),
-)
-    requires { place < length slots.old.items }
-    ensures { slots.new.items ≡ slice_set slots.old.items place (Some pair) }
-{
-    slots.as_mut_slice()[place] = Some(pair);
 }
 
 // Where the first slot is whose key is equal.

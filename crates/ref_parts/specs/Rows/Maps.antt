@@ -1,8 +1,12 @@
 -- Worked rows of small maps: what the definitions answer at literals.
 use Rattle.std.specs.Prelude.{◌≡◌, ℕ, nat_eq, List, [], ◌∷◌, Option, Some, None}
-use Rattle.ref_parts.specs.FiniteMap.{Puts, pairs, AllHold, entries_of, EachOnce, IsFormOf, IsPlaceOf, IsHashed}
+use Rattle.ref_parts.specs.FiniteMap.{Puts, pairs, AllHold, entries_of, EachOnce, IsFormOf, IsPlaceOf}
 use Rattle.ref_parts.specs.declared.small_map.Form.{Form}
 use Rattle.ref_parts.specs.declared.small_map.Form.TheVariants.{Small}
+
+-- key 1
+abbrev pub one : List (ℕ × ℕ)
+one = (1, 10) ∷ []
 
 -- keys 1 and 2
 abbrev pub two : List (ℕ × ℕ)
@@ -21,8 +25,10 @@ abbrev pub none : Form ℕ ℕ 0
 none = Small (record { items = [] })
 
 pub record MapRows : Type 0 where
-  pub put_new : Puts nat_eq ((1, 10) ∷ []) two 2 20
-  pub put_over : Puts nat_eq two ((2, 20) ∷ (1, 11) ∷ []) 1 11
+  pub put_new : Puts nat_eq one two 2 20
+  pub put_over : Puts nat_eq two ((1, 11) ∷ (2, 20) ∷ []) 1 11
+  pub put_moves : Puts nat_eq two ((2, 20) ∷ (1, 11) ∷ []) 1 11 → ⊥
+  pub put_before : Puts nat_eq one ((2, 20) ∷ (1, 10) ∷ []) 2 20 → ⊥
   pub put_drops : Puts nat_eq two ((1, 11) ∷ []) 1 11 → ⊥
   pub put_keeps : Puts nat_eq two two 1 11 → ⊥
   pub pairs_of_slots : pairs slots ≡ two
@@ -37,6 +43,3 @@ pub record MapRows : Type 0 where
   pub form_of_one : IsFormOf nat_eq 1 (inline 1) → ⊥
   pub place : IsPlaceOf nat_eq 2 slots 1
   pub other_place : IsPlaceOf nat_eq 2 slots 0 → ⊥
-  pub hashed : IsHashed nat_eq slots ((2, 20) ∷ (1, 10) ∷ []) 1
-  pub hashed_drops : IsHashed nat_eq slots ((2, 20) ∷ []) 1 → ⊥
-  pub hashed_full : IsHashed nat_eq slots two 0 → ⊥

@@ -1,8 +1,9 @@
-use Rattle.std.proofs.Common.{◌≡◌, ℕ, List, [], ◌∷◌, nat_eq, Option, Some, None, true, refl, ap, sym, subst, arith}
+use Rattle.std.proofs.Common.{◌≡◌, ℕ, List, [], ◌∷◌, nat_eq, Option, Some, None, true, length, refl, ap, sym, subst, arith}
 use Rattle.std.specs.Cmp.{nat_eq_equiv}
 use Rattle.std.proofs.lemmas.Bool.{false≢true}
 use Rattle.std.proofs.lemmas.Bool.Decides.{nat_tests}
-use Rattle.ref_parts.proofs.MapLaws.{Puts-push}
+use Rattle.ref_parts.proofs.MapLaws.{Puts-insert}
+use Rattle.ref_parts.specs.Rows.Maps.{one, two}
 use Rattle.ref_parts.proofs.laws.map_rows.Goals as goal
 
 abbrev first_key : List (Option (ℕ × ℕ)) → ℕ
@@ -12,9 +13,11 @@ first_key (Some pair ∷ slots) = pair.0
 
 pub returns : goal.returns
 returns c = record {
-  put_new = Puts-push nat_eq_equiv ((1, 10) ∷ []) 2 20 refl;
-  put_over = record { found = λ q. grind (arith, nat_tests); count = refl };
-  put_drops = λ p. omega (arith, p.count);
+  put_new = Puts-insert nat_eq_equiv one 2 20;
+  put_over = Puts-insert nat_eq_equiv two 1 11;
+  put_moves = λ p. let keys = p.keys in absurd (cc);
+  put_before = λ p. let keys = p.keys in absurd (cc);
+  put_drops = λ p. omega (arith, ap length p.keys);
   put_keeps = λ p. let same = p.found 1 in absurd (cc);
   pairs_of_slots = refl;
   pairs_past_empty = refl;
@@ -28,7 +31,4 @@ returns c = record {
   form_of_one = λ f. omega (arith, f.1);
   place = record { within = omega arith; first = refl; here = ((2, 20), refl, refl) };
   other_place = λ p. let key = ap first_key p.here.1 in false≢true (subst (λ k. nat_eq 2 k ≡ true) (sym key) p.here.2);
-  hashed = record { found = λ q. grind (arith, nat_tests); count = refl; room = omega arith };
-  hashed_drops = λ h. omega (arith, h.count);
-  hashed_full = λ h. omega (arith, h.room);
 }
