@@ -1,4 +1,4 @@
--- The anchors of a value (2020-12 Core, 8.2.2; 2019-09 Core, 8.2.3; Drafts 6 and 7 Core, 8.2.3; Draft 4 Core, 7.2.2).
+-- The anchors of a value (2020-12 Core, 8.2.2; 2019-09 Core, 8.2.3; Draft 7 Core, 8.2.3; Draft 6 Core, 9.2; Draft 4 Core, 7.2.2).
 use Rattle.std.specs.Prelude.{ℕ, List, ◌++◌, drop, codes, if◌then◌else◌, Option, Some, None, option_and_then, option_map}
 use Rattle.std.specs.Option.{option_to_list}
 use Rattle.serde_json.specs.Data.{Data}

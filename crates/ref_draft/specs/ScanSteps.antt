@@ -1,5 +1,5 @@
--- The scan of a way from its left, which accepts exactly what `Scan.IsAccepted` does (the law `scan_is_accepted`): a
--- function, so that the base along a way computes.
+-- The scan of parts from their left, which accepts exactly what `Scan.IsAccepted` does (the law `scan_is_accepted`): a
+-- function, so that the base along parts computes.
 use Rattle.std.specs.Prelude.{ℕ, List, [], ◌∷◌, Bool, true, false}
 use Rattle.ref_parts.specs.Path.{Part, Key, Index}
 use Rattle.ref_draft.specs.declared.draft.Draft.{Draft}

@@ -27,19 +27,19 @@ pub fn children_are_shallower()
     ensures { (d : Version) (value : Data) → AllByRecursion (λ child. depth child.1 < depth value) (children d value) }
 {}
 
-/// Where the scan reads the walk's keywords and accepts the way to a value, it accepts the way on to each of its
-/// children that is an object.
+/// Where the scan reads the walk's keywords and accepts the parts that lead to a value, it accepts those that lead on to
+/// each of its children that is an object.
 pub fn scan_goes_on_to_children()
     ensures { (d : Version) (parts : List Part) (value : Data)
         → ReadsTheWalk d → IsAccepted d parts value → AcceptsChildren d parts (children d value) }
 {}
 
-/// The scan, which reads the parts from the left, accepts exactly the ways that are accepted.
+/// The scan, which reads the parts from the left, accepts exactly those that are accepted.
 pub fn scan_is_accepted()
     ensures { (d : Version) (value : Data) (parts : List Part) → (scan d (is_object value) parts ≡ true) ↔ IsAccepted d parts value }
 {}
 
-/// A word followed by a child keyword alone isn't accepted: the way ends at an array or object of schemas.
+/// A word followed by a child keyword alone isn't accepted: the parts end at an array or object of schemas.
 pub fn scan_stops_at_a_child_keyword()
     ensures { (d : Version) (value : Data) (parts : List Part) (keyword : List ℕ) → SpellsWord d parts
         → IsTrue (is_child_keyword d keyword) → ¬ (IsAccepted d (parts ++ Key keyword ∷ []) value) }

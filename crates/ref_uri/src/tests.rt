@@ -463,7 +463,7 @@ fn says_why_texts_mean_no_uri(rt: HostRuntime) -> Result<(), Fail> {
     Ok(())
 }
 
-/// A path of `..` and `a` in turn ends at the root, and one of `a` and `..` at its directory.
+/// A path of `..` and `a` in turn leads to `a` at the root.
 #[test]
 fn removes_many_dot_segments(rt: HostRuntime) -> Result<(), Fail> {
     let alloc = rt.alloc();

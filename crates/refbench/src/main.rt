@@ -13,8 +13,11 @@ fn text_of(alloc: Global, kind: &str, size: usize) -> Result<String, AllocError>
         "names" => "/definitions",
         "dots" => "/../a",
         "triples" => "/%7euser%2F",
-        "root" => "/",
-        _ => "../g;x=1?y#s",
+        "encoded" => "/%2e%2e/a",
+        "up" => "../g",
+        "parameters" => "g;x=1/../y",
+        "fragment" => "g;x?y#s",
+        _ => "/",
     };
     let mut text = String::new(alloc);
     for _ in 0..size {

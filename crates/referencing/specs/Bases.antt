@@ -19,12 +19,13 @@ abbrev pub changed : Along → Result (List ℕ) Refusal → Result Along Refusa
 changed along (Ok uri) = Ok (if bytes_eq uri along.base then along else record { base = uri; since = [] })
 changed along (Err refusal) = Err refusal
 
--- an identifier counts where the parts since the last change are accepted at the value
+-- a value's identifier, where it has one, is resolved against the base
 abbrev pub identified : Along → Option (List ℕ) → Result Along Refusal
 identified along None = Ok along
 identified along (Some id) = changed along (against along.base id)
 
--- the base after one more part, which leads to a value of a resource of a draft
+-- the base after one more part, which leads to a value of a resource of a draft: its identifier counts where the parts since
+-- the last change are accepted at the value
 abbrev pub along_part : Draft → Along → Part → Data → Result Along Refusal
 along_part draft along part value =
     identified (record along { since = along.since ++ part ∷ [] })

@@ -3,7 +3,7 @@ use Rattle.std.specs.Prelude.{ℕ, List, [], ◌∷◌, ◌++◌, map, codes}
 use Rattle.ref_draft.specs.declared.draft.Draft.{Draft}
 use Rattle.ref_draft.specs.declared.draft.Draft.TheVariants.{Draft4, Draft6, Draft7, Draft201909, Draft202012, Unknown}
 
--- one for a draft before 2019-09, and then one for each vocabulary too
+-- those of 2019-09: the schema's, then one for each vocabulary
 abbrev pub uris_of_2019 : List (List ℕ)
 uris_of_2019 =
     map (λ part. codes "https://json-schema.org/draft/2019-09/" ++ part)

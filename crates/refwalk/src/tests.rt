@@ -77,7 +77,7 @@ struct Row {
     status: Status,
 }
 
-const ROWS: [Row; 31] = [
+const ROWS: [Row; 32] = [
     // What a user asks most often, a run without steps, and a pointer that leads nowhere.
     Row {
         request: r##"{"documents":[["http://a/r",{"properties":{"n":{"type":"string"}}}]],"base":"http://a/r","steps":["#/properties/n"]}"##,
@@ -138,6 +138,12 @@ const ROWS: [Row; 31] = [
         request: r##"{"documents":[["http://a/r",1]],"base":"http://a/r","steps":["r#x#/k"]}"##,
         report: "fault 0 Resource 'http://a/r#x' is not present in a registry and retrieving it failed: Retrieving external resources is not supported once the registry is populated\n",
         status: Status::Fault,
+    },
+    // The scope grows in front, at each base that is left.
+    Row {
+        request: r##"{"documents":[["http://a/r",1],["http://a/s",2],["http://a/t",3]],"base":"http://a/r","steps":["s","t","#"]}"##,
+        report: "value 3\ndraft 2020-12\nbase http://a/t\nscope http://a/s http://a/r\n",
+        status: Status::Done,
     },
     // Documents and bases stand under the normal form of their URIs; one without a scheme is resolved first.
     Row {

@@ -1,6 +1,6 @@
 -- Worked rows of small maps: what the definitions answer at literals.
 use Rattle.std.specs.Prelude.{◌≡◌, ℕ, nat_eq, List, [], ◌∷◌, Option, Some, None}
-use Rattle.ref_parts.specs.FiniteMap.{Puts, pairs, AllHold, entries_of, EachOnce, IsFormOf, IsPlaceOf}
+use Rattle.ref_parts.specs.FiniteMap.{Puts, IsClone, pairs, AllHold, entries_of, EachOnce, IsFormOf, IsPlaceOf}
 use Rattle.ref_parts.specs.declared.small_map.Form.{Form}
 use Rattle.ref_parts.specs.declared.small_map.Form.TheVariants.{Small}
 
@@ -31,6 +31,9 @@ pub record MapRows : Type 0 where
   pub put_before : Puts nat_eq one ((2, 20) ∷ (1, 10) ∷ []) 2 20 → ⊥
   pub put_drops : Puts nat_eq two ((1, 11) ∷ []) 1 11 → ⊥
   pub put_keeps : Puts nat_eq two two 1 11 → ⊥
+  pub clone_of_entries : IsClone (λ k l. l ≡ k) (λ v w. w ≡ v) two two
+  pub clone_in_another_order : IsClone (λ k l. l ≡ k) (λ v w. w ≡ v) two ((2, 20) ∷ (1, 10) ∷ []) → ⊥
+  pub clone_of_less : IsClone (λ k l. l ≡ k) (λ v w. w ≡ v) two one → ⊥
   pub pairs_of_slots : pairs slots ≡ two
   pub pairs_past_empty : pairs (None ∷ slots) ≡ two
   pub all_hold : AllHold slots

@@ -39,6 +39,14 @@ fn copy_of<T: Clone>(value: &T) -> Result<T, AllocError>
     value.clone()
 }
 
+fn iter_of<I: IntoIterator>(items: I) -> I::IntoIter {
+    items.into_iter()
+}
+
+fn are_alike<T: PartialEq>(a: &T, b: &T) -> bool {
+    a == b
+}
+
 fn are_equal<T: Eq>(a: &T, b: &T) -> bool
     ensures { result ≡ T.eq a.now b.now }
 {
@@ -94,6 +102,9 @@ fn a_list_has_its_items_in_order(rt: HostRuntime) -> Result<(), Fail> {
         sum = sum.saturating_add(*item);
     }
     assert_eq!(rt; sum, 3);
+    assert_eq!(rt; iter_of(&b).next().copied(), Some(1));
+    assert!(rt; are_alike(&a, &a));
+    assert!(rt; !are_alike(&a, &b));
     Ok(())
 }
 

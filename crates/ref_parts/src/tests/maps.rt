@@ -174,6 +174,12 @@ fn copies_of_maps_stand_alone(rt: HostRuntime) -> Result<(), Fail> {
     }
     assert!(rt; small.is_small());
     let mut large = small.clone()?;
+    assert!(rt; large.is_small());
+    for key in 0..4u32 {
+        let value = Some(key.saturating_mul(10));
+        assert_eq!(rt; small.get(&key).copied(), value, "at {key}");
+        assert_eq!(rt; large.get(&key).copied(), value, "at {key} of the copy");
+    }
     large.insert(alloc, 4, 40)?;
     assert!(rt; !large.is_small());
     assert!(rt; small.is_small());

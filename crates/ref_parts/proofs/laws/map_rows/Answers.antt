@@ -19,6 +19,9 @@ returns c = record {
   put_before = λ p. let keys = p.keys in absurd (cc);
   put_drops = λ p. omega (arith, ap length p.keys);
   put_keeps = λ p. let same = p.found 1 in absurd (cc);
+  clone_of_entries = ((refl, refl), ((refl, refl), tt));
+  clone_in_another_order = λ h. let first = h.0 in let key = first.0 in absurd (cc);
+  clone_of_less = λ h. absurd h.1;
   pairs_of_slots = refl;
   pairs_past_empty = refl;
   all_hold = tt;

@@ -10,6 +10,7 @@ returns c = record {
   beside_a_known_one = refl;
   fallback = refl;
   fallback_of_relative = refl;
+  fallback_of_fragment = refl;
   dynamic = refl;
   dynamic_invalid = refl;
   dynamic_nested = refl;
