@@ -217,10 +217,13 @@ fn parse_reference(alloc: Global, text: &str) -> Result<UriRef<'_>, UriFault>
 fn default_base() -> UriRef<'static>
     ensures { result ≡ default_base }
 {
-    match UriRef::parse("json-schema:///") {
-        Ok(base) => base,
-        Err(_) => unreachable!(),
-    }
+    let lengths = Lengths {
+        scheme: Some(11),
+        authority: Some(0),
+        path: 1,
+        query: None,
+    };
+    UriRef::from_parsed("json-schema:///", lengths)
 }
 
 /// The URI that a text means: its normal form, resolved against `json-schema:///` where it has no scheme.
