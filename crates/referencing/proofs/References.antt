@@ -16,7 +16,7 @@ use Rattle.ref_draft.specs.Schema.{text_under}
 use Rattle.ref_uri.specs.Targets.{Refusal, target, fragment_part}
 use Rattle.referencing.specs.World.{Document, Layer, World}
 use Rattle.referencing.specs.Places.{Place, places}
-use Rattle.referencing.specs.Bearing.{means}
+use Rattle.referencing.specs.Resources.{means}
 use Rattle.referencing.specs.Fault.{Fault, Unretrievable, PointerToNowhere, InvalidPercentEncoding, InvalidArrayIndex, NoSuchAnchor, InvalidAnchor, InvalidUri, UnknownSpecification, CircularMetaschema, RetrievalLimit}
 use Rattle.referencing.specs.Anchors.{Named, named, fallback_uri, found_or, fallback, anchor}
 use Rattle.referencing.specs.Bases.{Along, along_part}

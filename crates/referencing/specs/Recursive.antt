@@ -5,7 +5,7 @@ use Rattle.std.specs.Option.{option_map_or}
 use Rattle.serde_json.specs.Data.{Data}
 use Rattle.serde_json.specs.Find.{get, as_bool}
 use Rattle.referencing.specs.World.{World}
-use Rattle.referencing.specs.Bearing.{last_of}
+use Rattle.referencing.specs.Resources.{last_of}
 use Rattle.referencing.specs.Fault.{Fault}
 use Rattle.referencing.specs.Pointers.{◌>>=◌}
 use Rattle.referencing.specs.Lookup.{Resolver, Found, lookup}

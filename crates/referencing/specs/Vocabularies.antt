@@ -12,7 +12,7 @@ use Rattle.ref_draft.specs.Schema.{text_under, detect}
 use Rattle.ref_uri.specs.Reference.{with_fragment}
 use Rattle.ref_uri.specs.Targets.{Refusal, parsed}
 use Rattle.referencing.specs.World.{World}
-use Rattle.referencing.specs.Bearing.{means}
+use Rattle.referencing.specs.Resources.{means}
 use Rattle.referencing.specs.Wants.{is_unknown}
 use Rattle.referencing.specs.Pointers.{◌>>=◌}
 

@@ -9,7 +9,7 @@ use Rattle.ref_uri.specs.Reference.{with_fragment}
 use Rattle.ref_uri.specs.Targets.{Refusal, target, parsed}
 use Rattle.referencing.specs.World.{Layer, World}
 use Rattle.referencing.specs.Places.{places}
-use Rattle.referencing.specs.Bearing.{means}
+use Rattle.referencing.specs.Resources.{means}
 
 -- why a URI is wanted: a schema refers to it, or names it as its meta-schema
 pub data Cause : Type 0 where

@@ -13,7 +13,7 @@ ghost use Rattle.referencing.specs.Rows.{at, world, yes, empty, text, one, two, 
 pub fn lookups_by_pointer()
     ensures document { steps (world (at Draft202012 "http://a/r" (one "properties" (one "n" (one "type" (text "string")))) ∷ [])) "http://a/r" (look "#/properties/n" ∷ []) ≡ answer (Some (one "type" (text "string"))) (codes "http://a/r") (codes "http://a/r" ∷ []) }
     ensures nowhere { steps (world (at Draft202012 "http://a/r" empty ∷ [])) "http://a/r" (look "#/nope" ∷ []) ≡ refusal 0 (PointerToNowhere (codes "/nope")) }
-    ensures not_borne { steps (world (at Draft202012 "http://a/r" empty ∷ [])) "http://a/q" (look "#" ∷ []) ≡ refusal 0 (not_retrieved (codes "http://a/q")) }
+    ensures uri_of_no_place { steps (world (at Draft202012 "http://a/r" empty ∷ [])) "http://a/q" (look "#" ∷ []) ≡ refusal 0 (not_retrieved (codes "http://a/q")) }
     ensures leading_zero { steps (world (at Draft202012 "http://a/r" (one "prefixItems" (pair yes empty)) ∷ [])) "http://a/r" (look "#/prefixItems/01" ∷ []) ≡ answer (Some empty) (codes "http://a/r") (codes "http://a/r" ∷ []) }
     ensures plus_sign { steps (world (at Draft202012 "http://a/r" (one "prefixItems" (pair yes empty)) ∷ [])) "http://a/r" (look "#/prefixItems/+1" ∷ []) ≡ answer (Some empty) (codes "http://a/r") (codes "http://a/r" ∷ []) }
     ensures no_resource_below_const { steps (world (at Draft7 "http://a/r" (one "items" (one "const" (one "$id" (text "z")))) ∷ [])) "http://a/r" (look "z" ∷ []) ≡ refusal 0 (not_retrieved (codes "http://a/z")) }
@@ -29,7 +29,7 @@ pub fn lookups_by_pointer()
     ensures tilde_and_slash { steps (world (at Draft202012 "http://a/r" (one "~/" yes) ∷ [])) "http://a/r" (look "#/~~1" ∷ []) ≡ answer (Some yes) (codes "http://a/r") (codes "http://a/r" ∷ []) }
     ensures bad_identifier_below_items { steps (world (at Draft7 "http://a/r" (one "items" (one "const" (one "$id" (text "a b")))) ∷ [])) "http://a/r" (look "#/items/const" ∷ []) ≡ refusal 0 (InvalidUri (unparsed (codes "a b"))) }
     ensures parts_forgotten { steps (world (at Draft7 "http://a/r" (one "items" (two "$id" (text "z") "const" (one "$id" (text "w")))) ∷ [])) "http://a/r" (look "#/items/const" ∷ []) ≡ answer (Some (one "$id" (text "w"))) (codes "http://a/z") (codes "http://a/r" ∷ []) }
-    ensures borne_by_identifier { steps (world (at Draft202012 "http://a/r" (one "$id" (text "#x")) ∷ [])) "http://a/r#x" (look "#" ∷ []) ≡ answer (Some (one "$id" (text "#x"))) (codes "http://a/r#x") (codes "http://a/r#x" ∷ []) }
+    ensures uri_of_an_identifier { steps (world (at Draft202012 "http://a/r" (one "$id" (text "#x")) ∷ [])) "http://a/r#x" (look "#" ∷ []) ≡ answer (Some (one "$id" (text "#x"))) (codes "http://a/r#x") (codes "http://a/r#x" ∷ []) }
     ensures second_step_faults { steps (world (at Draft202012 "http://a/r" empty ∷ [])) "http://a/r" (look "" ∷ look "#/q" ∷ []) ≡ refusal 1 (PointerToNowhere (codes "/q")) }
 {}
 

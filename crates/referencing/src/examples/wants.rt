@@ -19,7 +19,7 @@ pub fn wants_of_layers()
 pub fn open_wants_of_layers()
     ensures reference { open_wants (world (refers_to_b ∷ [])) (refers_to_b ∷ []) ≡ record { cause = Reference; uri = codes "http://a/b" } ∷ [] }
     ensures meta_schema { open_wants (world (at Draft202012 "http://a/r" (one "$schema" (text "invalid")) ∷ [])) (at Draft202012 "http://a/r" (one "$schema" (text "invalid")) ∷ []) ≡ record { cause = MetaSchema; uri = codes "json-schema:///invalid" } ∷ [] }
-    ensures borne { open_wants (world (at Draft202012 "http://a/r" (two "$id" (text "#x") "$ref" (text "")) ∷ [])) (at Draft202012 "http://a/r" (two "$id" (text "#x") "$ref" (text "")) ∷ []) ≡ [] }
+    ensures met_by_an_identifier { open_wants (world (at Draft202012 "http://a/r" (two "$id" (text "#x") "$ref" (text "")) ∷ [])) (at Draft202012 "http://a/r" (two "$id" (text "#x") "$ref" (text "")) ∷ []) ≡ [] }
     ensures of_a_parent { open_wants ((refers_to_b ∷ []) ∷ world (b_refers_to_c ∷ [])) (refers_to_b ∷ []) ≡ [] }
     ensures unmet { is_open (world (refers_to_b ∷ [])) (record { cause = Reference; uri = codes "http://a/b" }) ≡ true }
     ensures met { is_open (world (refers_to_b ∷ [])) (record { cause = MetaSchema; uri = codes "http://a/r" }) ≡ false }
