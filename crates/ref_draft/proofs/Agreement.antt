@@ -1,16 +1,18 @@
 -- Where parts are accepted at an object, the parts to its children that are objects are accepted there.
-use Rattle.std.proofs.Common.{◌≡◌, ℕ, suc, List, [], ◌∷◌, ◌++◌, Bool, true, false, ◌&&◌, ◌||◌, cond, codes, inl, inr, ◌⊎◌, refl, sym, ap, ◌∙◌, true≢false, append_assoc}
+use Rattle.std.proofs.Common.{◌≡◌, ℕ, suc, List, [], ◌∷◌, ◌++◌, Bool, true, false, ◌&&◌, ◌||◌, cond, codes, inl, inr, ◌⊎◌, ⊎_elim, refl, sym, ap, subst, ◌∙◌, true≢false, append_assoc}
 use Rattle.std.specs.List.{filter, AllByRecursion}
 use Rattle.std.specs.Str.{bytes_eq}
+use Rattle.std.proofs.lemmas.Bool.{or_cases}
 use Rattle.serde_json.specs.Data.{Data, null, boolean, number, string, array, object, Items, no_items, item, Members, no_members, member}
 use Rattle.ref_parts.specs.Path.{Part, Key, Index}
 use Rattle.ref_draft.specs.declared.draft.Draft.{Draft}
 use Rattle.ref_draft.specs.declared.draft.Draft.TheVariants.{Draft4, Draft6, Draft7, Draft201909, Draft202012, Unknown}
 use Rattle.ref_draft.specs.declared.spec.Holding.{Holding}
 use Rattle.ref_draft.specs.declared.spec.Holding.TheVariants.{Whole, WholeObject, Elements, Members as EachMember, ElementsOrWhole, ObjectMembers, Nothing}
-use Rattle.ref_draft.specs.Keywords.{is_one_of, is_before_2020, holding, holding_by}
-use Rattle.ref_draft.specs.Children.{Child, elements_from, each_member, elements, members, held, below, children, has_object, is_object}
+use Rattle.ref_draft.specs.Keywords.{is_one_of, row_4, row, is_before_2020, boolean_or_schema, holding, holding_by}
+use Rattle.ref_draft.specs.Children.{Child, whole, elements_from, each_member, elements, members, held, below, children, has_object, is_object}
 use Rattle.ref_draft.specs.Scan.{scan_row, is_value_keyword, is_child_keyword, is_items_or_dependencies, Piece, AValue, AChild, parts_of, spelled, IsWord, SpellsWord, IsAccepted, ReadsTheWalk, AcceptsChildren}
+use Rattle.ref_draft.proofs.Disjoint.{same}
 
 -- the path of a child goes on a word, or passes `items` or `dependencies`
 record Passes (d : Draft) (path : List Part) : Type 0 where
@@ -78,7 +80,7 @@ of_object d k (object ms) at = each_of d k ms at
 -- what each kind says of a keyword
 abbrev Says : Draft → List ℕ → Holding → Type 0
 Says d k Whole = is_value_keyword d k ≡ true
-Says d k WholeObject = ⊥
+Says d k WholeObject = is_value_keyword d k ≡ true
 Says d k Elements = is_child_keyword d k ≡ true
 Says d k EachMember = is_child_keyword d k ≡ true
 Says d k ElementsOrWhole = (is_before_2020 d ≡ true) × (is_items_or_dependencies k ≡ true)
@@ -87,7 +89,7 @@ Says d k Nothing = Unit {0}
 
 of_held : (d : Draft) (how : Holding) (k : List ℕ) (v : Data) → Says d k how → AllExtend d (held how k v)
 of_held d Whole k v s = (by_value d k s, tt)
-of_held d WholeObject k v s = absurd s
+of_held d WholeObject k v s = filtered d (whole k v) (by_value d k s, tt)
 of_held d Elements k v s = of_array d k v (λ part. by_child d k part s)
 of_held d EachMember k v s = of_object d k v (λ part. by_child d k part s)
 of_held d ElementsOrWhole k v s = of_array_or_whole d k v (λ rest. by_items d k rest s.0 s.1)
@@ -128,13 +130,31 @@ says_by : (d : Draft) (k : List ℕ) → Says d k (holding_by (scan_row d) [] (i
 says_by d k = says d k (is_value_keyword d k) (is_one_of k (scan_row d).arrays) (is_one_of k (scan_row d).maps) (is_before_2020 d && bytes_eq k (codes "items")) (is_before_2020 d && bytes_eq k (codes "dependencies"))
     refl refl refl refl refl
 
+-- a keyword that may have a boolean in place of a schema is one whose value is a schema
+value_in_4 : (k : List ℕ) → is_one_of k (boolean_or_schema Draft4) ≡ true → is_one_of k row_4.values ≡ true
+value_in_4 k e =
+    ⊎_elim (λ here. ap (λ w. is_one_of w row_4.values) (same k (codes "additionalItems") here))
+    (λ later.
+    ⊎_elim (λ here. ap (λ w. is_one_of w row_4.values) (same k (codes "additionalProperties") here)) (λ none. absurd (true≢false (sym none)))
+    (or_cases (bytes_eq k (codes "additionalProperties")) false later))
+    (or_cases (bytes_eq k (codes "additionalItems")) (bytes_eq k (codes "additionalProperties") || false) e)
+
+value_of_row : (d : Draft) (k : List ℕ) → is_one_of k (boolean_or_schema d) ≡ true → is_one_of k (row d).values ≡ true
+value_of_row Draft4 k e = value_in_4 k e
+value_of_row Draft6 k e = absurd (true≢false (sym e))
+value_of_row Draft7 k e = absurd (true≢false (sym e))
+value_of_row Draft201909 k e = absurd (true≢false (sym e))
+value_of_row Draft202012 k e = absurd (true≢false (sym e))
+value_of_row Unknown k e = absurd (true≢false (sym e))
+
+says_or : (d : Draft) (k : List ℕ) (how : Holding) (b : Bool) → (b ≡ true → is_value_keyword d k ≡ true) → Says d k how → Says d k (cond b WholeObject how)
+says_or d k how true value s = value refl
+says_or d k how false value s = s
+
 says_holding : (d : Draft) (k : List ℕ) → ReadsTheWalk d → Says d k (holding d k)
-says_holding Draft4 k r = absurd r
-says_holding Draft6 k r = says_by Draft6 k
-says_holding Draft7 k r = says_by Draft7 k
-says_holding Draft201909 k r = says_by Draft201909 k
-says_holding Draft202012 k r = says_by Draft202012 k
-says_holding Unknown k r = says_by Unknown k
+says_holding d k r =
+    subst (λ x. Says d k (holding_by x (boolean_or_schema d) (is_before_2020 d) k)) r
+    (says_or d k (holding_by (scan_row d) [] (is_before_2020 d) k) (is_one_of k (boolean_or_schema d)) (λ e. ap (λ x. is_one_of k x.values) r ∙ value_of_row d k e) (says_by d k))
 
 append : (d : Draft) (xs ys : List Child) → AllExtend d xs → AllExtend d ys → AllExtend d (xs ++ ys)
 append d [] ys p q = q

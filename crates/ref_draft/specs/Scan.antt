@@ -83,10 +83,9 @@ pub record PassesItems (d : Draft) (parts : List Part) (value : Data) : Type 0 w
 abbrev pub IsAccepted : Draft → List Part → Data → Type 0
 IsAccepted d parts value = SpellsWord d parts ⊎ PassesItems d parts value
 
--- the drafts whose scan reads the walk's row: all but Draft 4
+-- the scan of a draft reads the walk's row
 abbrev pub ReadsTheWalk : Draft → Type 0
-ReadsTheWalk Draft4 = ⊥
-ReadsTheWalk d = ⊤
+ReadsTheWalk d = scan_row d ≡ row d
 
 -- the parts followed by a child's path are accepted at the child, where that is an object
 abbrev pub AcceptsChildren : Draft → List Part → List Child → Type 0

@@ -33,7 +33,11 @@ pub fn words_and_items()
     ensures no_object { ¬ (PassesItems Draft7 (key "items" ∷ []) yes) }
     ensures accepted_children { AcceptsChildren Draft202012 [] (((key "not" ∷ []), empty) ∷ ((key "$defs" ∷ key "a" ∷ []), yes) ∷ []) }
     ensures no_children { AcceptsChildren Draft202012 (key "const" ∷ []) [] }
+    ensures walk_of_6 { ReadsTheWalk Draft6 }
     ensures walk_of_7 { ReadsTheWalk Draft7 }
+    ensures walk_of_2019 { ReadsTheWalk Draft201909 }
+    ensures walk_of_2020 { ReadsTheWalk Draft202012 }
+    ensures walk_of_unknown { ReadsTheWalk Unknown }
     ensures not_of_4 { ¬ (ReadsTheWalk Draft4) }
 {}
 
