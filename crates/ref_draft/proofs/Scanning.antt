@@ -1,17 +1,16 @@
 -- The scan accepts exactly the parts that the definition does.
-use Rattle.std.proofs.Common.{◌≡◌, ℕ, List, [], ◌∷◌, ◌++◌, Bool, true, false, ◌&&◌, ◌||◌, cond, codes, inl, inr, ◌↔◌, refl, sym, ap, ◌∙◌, true≢false, append_assoc}
+use Rattle.std.proofs.Common.{◌≡◌, ℕ, List, [], ◌∷◌, ◌++◌, Bool, true, false, ◌&&◌, ◌||◌, codes, inl, inr, ◌↔◌, refl, sym, ap, ◌∙◌, true≢false, append_assoc}
 use Rattle.std.specs.Str.{bytes_eq}
+use Rattle.std.proofs.lemmas.Bool.{and_parts, or_left, or_right}
 use Rattle.std.proofs.lemmas.List.{append-nil}
 use Rattle.serde_json.specs.Data.{Data}
 use Rattle.ref_parts.specs.Path.{Part, Key, Index}
 use Rattle.ref_draft.specs.declared.draft.Draft.{Draft}
-use Rattle.ref_draft.specs.declared.spec.Holding.{Holding}
-use Rattle.ref_draft.specs.declared.spec.Holding.TheVariants.{Whole, Elements, Members, ElementsOrWhole, ObjectMembers, Nothing}
 use Rattle.ref_draft.specs.Keywords.{is_one_of, is_before_2020}
 use Rattle.ref_draft.specs.Children.{is_object}
 use Rattle.ref_draft.specs.Scan.{scan_row, is_value_keyword, is_child_keyword, is_items_or_dependencies, Piece, AnIndex, AValue, AChild, parts_of, spelled, IsPieceOf, IsWord, SpellsWord, IsAccepted}
 use Rattle.ref_draft.specs.ScanSteps.{go_on, scan, scan_past}
-use Rattle.ref_draft.proofs.Disjoint.{child_is_no_value, stops_at_items}
+use Rattle.ref_draft.proofs.Disjoint.{chosen, child_is_no_value, stops_at_items}
 
 -- ---- what the scan accepts is accepted
 
@@ -36,25 +35,9 @@ past : (d : Draft) (v : Data) (k : List ℕ) (parts : List Part) → is_child_ke
 past d v k [] child rests h = absurd (true≢false (sym h))
 past d v k (part ∷ parts) child rests h = add d v parts (AChild k part) child (rests part parts refl h)
 
--- how a keyword that is in these columns holds its subschemas
-abbrev chosen : Bool → Bool → Bool → Bool → Bool → Holding
-chosen value array map items dependencies = cond value Whole (cond array Elements (cond map Members (cond items ElementsOrWhole (cond dependencies ObjectMembers Nothing))))
-
 stop : (d : Draft) (v : Data) (k : List ℕ) (parts : List Part) → is_before_2020 d ≡ true → is_items_or_dependencies k ≡ true → is_object v ≡ true → IsAccepted d (Key k ∷ parts) v
 stop d v k parts before items object =
     inr (record { before = before; object = object; pieces = []; keyword = k; rest = parts; word = tt; items = items; spells = refl })
-
-both : (a b : Bool) → (a && b) ≡ true → (a ≡ true) × (b ≡ true)
-both true b e = (refl, e)
-both false b e = absurd (true≢false (sym e))
-
-or_left : (a b : Bool) → a ≡ true → (a || b) ≡ true
-or_left true b e = refl
-or_left false b e = absurd (true≢false (sym e))
-
-or_right : (a b : Bool) → b ≡ true → (a || b) ≡ true
-or_right true b e = refl
-or_right false b e = e
 
 at_key : (d : Draft) (v : Data) (k : List ℕ) (parts : List Part) (value array map items dependencies : Bool)
     → is_value_keyword d k ≡ value → is_one_of k (scan_row d).arrays ≡ array → is_one_of k (scan_row d).maps ≡ map
@@ -65,10 +48,10 @@ at_key d v k parts true array map items dependencies e a m i s on rests h = add 
 at_key d v k parts false true map items dependencies e a m i s on rests h = past d v k parts (or_left (is_one_of k (scan_row d).arrays) (is_one_of k (scan_row d).maps) a) rests h
 at_key d v k parts false false true items dependencies e a m i s on rests h = past d v k parts (or_right (is_one_of k (scan_row d).arrays) (is_one_of k (scan_row d).maps) m) rests h
 at_key d v k parts false false false true dependencies e a m i s on rests h =
-    let facts = both (is_before_2020 d) (bytes_eq k (codes "items")) i in
+    let facts = and_parts (is_before_2020 d) (bytes_eq k (codes "items")) i in
     stop d v k parts facts.0 (or_left (bytes_eq k (codes "items")) (bytes_eq k (codes "dependencies")) facts.1) h
 at_key d v k parts false false false false true e a m i s on rests h =
-    let facts = both (is_before_2020 d) (bytes_eq k (codes "dependencies")) s in
+    let facts = and_parts (is_before_2020 d) (bytes_eq k (codes "dependencies")) s in
     stop d v k parts facts.0 (or_right (bytes_eq k (codes "items")) (bytes_eq k (codes "dependencies")) facts.1) h
 at_key d v k parts false false false false false e a m i s on rests h = absurd (true≢false (sym h))
 
