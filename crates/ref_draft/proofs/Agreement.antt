@@ -9,9 +9,9 @@ use Rattle.ref_draft.specs.declared.draft.Draft.{Draft}
 use Rattle.ref_draft.specs.declared.draft.Draft.TheVariants.{Draft4, Draft6, Draft7, Draft201909, Draft202012, Unknown}
 use Rattle.ref_draft.specs.declared.spec.Holding.{Holding}
 use Rattle.ref_draft.specs.declared.spec.Holding.TheVariants.{Whole, WholeObject, Elements, Members as EachMember, ElementsOrWhole, ObjectMembers, Nothing}
-use Rattle.ref_draft.specs.Keywords.{is_one_of, row_4, row, is_before_2020, boolean_or_schema, holding, holding_by}
+use Rattle.ref_draft.specs.Keywords.{is_one_of, row_4, row, is_before_2020, is_items_or_dependencies, boolean_or_schema, holding, holding_by}
 use Rattle.ref_draft.specs.Children.{Child, whole, elements_from, each_member, elements, members, held, below, children, has_object, is_object}
-use Rattle.ref_draft.specs.Scan.{scan_row, is_value_keyword, is_child_keyword, is_items_or_dependencies, Piece, AValue, AChild, parts_of, spelled, IsPieceOf, SpellsWord, IsAccepted, ReadsTheWalk, AcceptsChildren}
+use Rattle.ref_draft.specs.Scan.{scan_row, is_value_keyword, is_child_keyword, Piece, AValue, AChild, parts_of, spelled, IsPieceOf, SpellsWord, IsAccepted, ReadsTheWalk, AcceptsChildren}
 use Rattle.ref_draft.proofs.Disjoint.{same, chosen}
 use Rattle.ref_draft.proofs.Lists.{all_append, all_filter}
 
@@ -89,24 +89,19 @@ of_held d ElementsOrWhole k v s = of_array_or_whole d k v (λ rest. by_items d k
 of_held d ObjectMembers k v s = all_filter (λ child. Extends d child.0) has_object (members k v) (of_object d k v (λ part. by_items d k (part ∷ []) s.0 s.1))
 of_held d Nothing k v s = tt
 
-says : (d : Draft) (k : List ℕ) (in_values in_arrays in_maps items dependencies : Bool)
+says : (d : Draft) (k : List ℕ) (in_values in_arrays in_maps either items : Bool)
     → is_value_keyword d k ≡ in_values → is_one_of k (scan_row d).arrays ≡ in_arrays → is_one_of k (scan_row d).maps ≡ in_maps
-    → (is_before_2020 d && bytes_eq k (codes "items")) ≡ items → (is_before_2020 d && bytes_eq k (codes "dependencies")) ≡ dependencies
-    → Says d k (chosen in_values in_arrays in_maps items dependencies)
-says d k true in_arrays in_maps items dependencies e a m i s = e
-says d k false true in_maps items dependencies e a m i s = or_left (is_one_of k (scan_row d).arrays) (is_one_of k (scan_row d).maps) a
-says d k false false true items dependencies e a m i s = or_right (is_one_of k (scan_row d).arrays) (is_one_of k (scan_row d).maps) m
-says d k false false false true dependencies e a m i s =
-    let facts = and_parts (is_before_2020 d) (bytes_eq k (codes "items")) i in
-    (facts.0, or_left (bytes_eq k (codes "items")) (bytes_eq k (codes "dependencies")) facts.1)
-says d k false false false false true e a m i s =
-    let facts = and_parts (is_before_2020 d) (bytes_eq k (codes "dependencies")) s in
-    (facts.0, or_right (bytes_eq k (codes "items")) (bytes_eq k (codes "dependencies")) facts.1)
-says d k false false false false false e a m i s = tt
+    → (is_before_2020 d && is_items_or_dependencies k) ≡ either → Says d k (chosen in_values in_arrays in_maps either items)
+says d k true in_arrays in_maps either items e a m i = e
+says d k false true in_maps either items e a m i = or_left (is_one_of k (scan_row d).arrays) (is_one_of k (scan_row d).maps) a
+says d k false false true either items e a m i = or_right (is_one_of k (scan_row d).arrays) (is_one_of k (scan_row d).maps) m
+says d k false false false true true e a m i = and_parts (is_before_2020 d) (is_items_or_dependencies k) i
+says d k false false false true false e a m i = and_parts (is_before_2020 d) (is_items_or_dependencies k) i
+says d k false false false false items e a m i = tt
 
 says_by : (d : Draft) (k : List ℕ) → Says d k (holding_by (scan_row d) [] (is_before_2020 d) k)
-says_by d k = says d k (is_value_keyword d k) (is_one_of k (scan_row d).arrays) (is_one_of k (scan_row d).maps) (is_before_2020 d && bytes_eq k (codes "items")) (is_before_2020 d && bytes_eq k (codes "dependencies"))
-    refl refl refl refl refl
+says_by d k = says d k (is_value_keyword d k) (is_one_of k (scan_row d).arrays) (is_one_of k (scan_row d).maps) (is_before_2020 d && is_items_or_dependencies k) (bytes_eq k (codes "items"))
+    refl refl refl refl
 
 -- a keyword that may have a boolean in place of a schema is one whose value is a schema
 value_in_4 : (k : List ℕ) → is_one_of k (boolean_or_schema Draft4) ≡ true → is_one_of k row_4.values ≡ true

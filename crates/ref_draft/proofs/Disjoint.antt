@@ -1,5 +1,5 @@
 -- The columns of a row share no keyword, and before 2020-12 none has `items` or `dependencies`.
-use Rattle.std.proofs.Common.{◌≡◌, ℕ, List, [], ◌∷◌, Bool, true, false, ◌&&◌, not, cond, codes, ⊎_elim, refl, sym, ap, ◌∙◌, true≢false}
+use Rattle.std.proofs.Common.{◌≡◌, ℕ, List, [], ◌∷◌, Bool, true, false, ◌&&◌, ◌||◌, not, cond, codes, ⊎_elim, refl, sym, ap, ◌∙◌, true≢false}
 use Rattle.std.specs.Str.{bytes_eq}
 use Rattle.std.proofs.lemmas.Bool.{and_parts, not-true, or_cases}
 use Rattle.std.proofs.lemmas.Slice.Eq.{bytes_eq-Decides}
@@ -7,8 +7,8 @@ use Rattle.ref_draft.specs.declared.draft.Draft.{Draft}
 use Rattle.ref_draft.specs.declared.draft.Draft.TheVariants.{Draft4, Draft6, Draft7, Draft201909, Draft202012, Unknown}
 use Rattle.ref_draft.specs.declared.spec.Holding.{Holding}
 use Rattle.ref_draft.specs.declared.spec.Holding.TheVariants.{Whole, Elements, Members, ElementsOrWhole, ObjectMembers, Nothing}
-use Rattle.ref_draft.specs.Keywords.{is_one_of, is_before_2020}
-use Rattle.ref_draft.specs.Scan.{scan_row, is_value_keyword, is_child_keyword, is_items_or_dependencies}
+use Rattle.ref_draft.specs.Keywords.{is_one_of, is_before_2020, is_items_or_dependencies}
+use Rattle.ref_draft.specs.Scan.{scan_row, is_value_keyword, is_child_keyword}
 use Rattle.ref_draft.specs.ScanSteps.{scan_holding, go_on}
 
 -- whether no keyword of the first list is in the second
@@ -45,7 +45,7 @@ maps_apart Unknown = refl
 
 -- how a keyword that is in these columns holds its subschemas
 abbrev pub chosen : Bool → Bool → Bool → Bool → Bool → Holding
-chosen value array map items dependencies = cond value Whole (cond array Elements (cond map Members (cond items ElementsOrWhole (cond dependencies ObjectMembers Nothing))))
+chosen value array map either items = cond value Whole (cond array Elements (cond map Members (cond either (cond items ElementsOrWhole ObjectMembers) Nothing)))
 
 -- a child keyword is no value keyword
 pub child_is_no_value : (d : Draft) (k : List ℕ) → is_child_keyword d k ≡ true → is_value_keyword d k ≡ false
@@ -74,5 +74,7 @@ at_dependencies Unknown object on past before = absurd (true≢false (sym before
 pub stops_at_items : (d : Draft) (k : List ℕ) (object on past : Bool) → is_before_2020 d ≡ true → is_items_or_dependencies k ≡ true → go_on (scan_holding d k) object on past ≡ object
 stops_at_items d k object on past before items =
     ⊎_elim (λ here. ap (λ w. go_on (scan_holding d w) object on past) (same k (codes "items") here) ∙ at_items d object on past before)
-    (λ here. ap (λ w. go_on (scan_holding d w) object on past) (same k (codes "dependencies") here) ∙ at_dependencies d object on past before)
-    (or_cases (bytes_eq k (codes "items")) (bytes_eq k (codes "dependencies")) items)
+    (λ later.
+    ⊎_elim (λ here. ap (λ w. go_on (scan_holding d w) object on past) (same k (codes "dependencies") here) ∙ at_dependencies d object on past before)
+    (λ none. absurd (true≢false (sym none))) (or_cases (bytes_eq k (codes "dependencies")) false later))
+    (or_cases (bytes_eq k (codes "items")) (bytes_eq k (codes "dependencies") || false) items)

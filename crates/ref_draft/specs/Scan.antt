@@ -2,12 +2,11 @@
 -- This is the project's own rule; the keywords are the drafts'.
 use Rattle.std.specs.Prelude.{◌≡◌, ℕ, List, [], ◌∷◌, ◌++◌, map, codes, IsTrue, Bool, ◌||◌, ◌⊎◌, ⊤}
 use Rattle.std.specs.List.{AllByRecursion}
-use Rattle.std.specs.Str.{bytes_eq}
 use Rattle.serde_json.specs.Data.{Data}
 use Rattle.ref_parts.specs.Path.{Part, Key, Index}
 use Rattle.ref_draft.specs.declared.draft.Draft.{Draft}
 use Rattle.ref_draft.specs.declared.draft.Draft.TheVariants.{Draft4}
-use Rattle.ref_draft.specs.Keywords.{Row, row, is_one_of, is_before_2020}
+use Rattle.ref_draft.specs.Keywords.{Row, row, is_one_of, is_before_2020, is_items_or_dependencies}
 use Rattle.ref_draft.specs.Children.{Child, is_object}
 
 -- the row of Draft 4 that the scan reads: fewer keywords than the walk's
@@ -57,10 +56,6 @@ IsPieceOf d (AChild keyword part) = IsTrue (is_child_keyword d keyword)
 -- the pieces of a word of a draft
 abbrev pub IsWord : Draft → List Piece → Type 0
 IsWord d pieces = AllByRecursion (IsPieceOf d) pieces
-
--- `items` or `dependencies`
-abbrev pub is_items_or_dependencies : List ℕ → Bool
-is_items_or_dependencies keyword = bytes_eq keyword (codes "items") || bytes_eq keyword (codes "dependencies")
 
 -- the parts are a word
 pub record SpellsWord (d : Draft) (parts : List Part) : Type 0 where
