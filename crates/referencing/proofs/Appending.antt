@@ -4,6 +4,7 @@ use Rattle.std.specs.Option.{option_map_or}
 use Rattle.std.specs.List.{All}
 use Rattle.std.specs.Prelude.{slice_index_or}
 use Rattle.std.proofs.lemmas.List.Elements.{All-nil, All-cons}
+use Rattle.std.proofs.lemmas.Bool.{not-false}
 use Rattle.std.proofs.lemmas.Slice.Eq.{bytes_eq-Decides}
 use Rattle.std.proofs.lemmas.List.Elements.{filter-append}
 use Rattle.std.proofs.lemmas.Grind.{flat_map-append}
@@ -78,13 +79,9 @@ all_mean front ds parents = λ k e within.
     by_entry (last_under (slice_index_or ds k e).uri (resources (front ++ ds))) (means parents (slice_index_or ds k e).uri)
     (under_behind front ds (slice_index_or ds k e).uri (all_under ds k e within))
 
-negated : (b : Bool) → not b ≡ false → b ≡ true
-negated true e = refl
-negated false e = absurd (true≢false e)
-
 pub met_wants_stay : (layer more : Layer) (parents : World) (want : Want) → is_open (layer ∷ parents) want ≡ false → is_open ((layer ++ more) ∷ parents) want ≡ false
 met_wants_stay layer more parents want met =
-    ap not (meanings_stay layer more parents want.uri (negated (is_some (means (layer ∷ parents) want.uri)) met))
+    ap not (meanings_stay layer more parents want.uri (not-false (is_some (means (layer ∷ parents) want.uri)) met))
 
 -- a filter by a test that a weaker one already made
 filter_step : (p q : Want → Bool) (w : Want) (ws : List Want) → (p w ≡ false → q w ≡ false) → filter q ws ≡ filter q (filter p ws) → (b : Bool) → p w ≡ b → filter q (w ∷ ws) ≡ filter q (cond b (w ∷ filter p ws) (filter p ws))
