@@ -14,7 +14,7 @@ use Rattle.ref_draft.specs.declared.draft.Draft.{Draft}
 use Rattle.ref_draft.specs.declared.spec.Holding.{Holding}
 use Rattle.ref_draft.specs.declared.spec.Holding.TheVariants.{Whole, WholeObject, Elements, Members as EachMember, ElementsOrWhole, ObjectMembers, Nothing}
 use Rattle.ref_draft.specs.Children.{Child, Walked, with_draft, AllStand, whole, elements_from, each_member, elements, members, held, has_object}
-use Rattle.ref_draft.specs.WalkSteps.{AreFoundIn, HasUniqueKeys, members_in}
+use Rattle.ref_draft.specs.WalkSteps.{AreFoundIn, HasUniqueKeys, HasUniqueKeysWhere, members_in}
 use Rattle.ref_draft.proofs.Lists.{all_append, all_filter}
 
 -- a path without its first part
@@ -73,7 +73,7 @@ stand_members k (string s) u = tt
 stand_members k (array ds) u = tt
 stand_members k (object ms) u = stand_each_member k ms ms u
 
-stand_held : (how : Holding) (k : List ℕ) (v : Data) → HasUniqueKeys v → StandUnder k v (held how k v)
+stand_held : (how : Holding) (k : List ℕ) (v : Data) → HasUniqueKeysWhere how v → StandUnder k v (held how k v)
 stand_held Whole k v u = ((refl, refl), tt)
 stand_held WholeObject k v u = all_filter (StandsUnder k v) has_object (whole k v) ((refl, refl), tt)
 stand_held Elements k v u = stand_elements k v
@@ -99,7 +99,7 @@ get_in (array ds) k v e = e
 get_in (object ms) k v e = e
 
 -- one keyword more
-pub step : (d : Draft) (t : Data) (how : Holding) (k : List ℕ) (v : Data) (done all : List Walked) → AllStand t done → get_member k (members_in t) ≡ Some v → HasUniqueKeys v → all ≡ done ++ map (with_draft d) (held how k v) → AllStand t all
+pub step : (d : Draft) (t : Data) (how : Holding) (k : List ℕ) (v : Data) (done all : List Walked) → AllStand t done → get_member k (members_in t) ≡ Some v → HasUniqueKeysWhere how v → all ≡ done ++ map (with_draft d) (held how k v) → AllStand t all
 step d t how k v done all before found unique is = rw is (all_append (λ child. value_at t child.path ≡ Some child.value) done (map (with_draft d) (held how k v)) before (from_object d t k v (held how k v) (get_in t k v found) (stand_held how k v unique)))
 
 -- ---- the entries of a map
