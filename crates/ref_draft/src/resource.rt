@@ -46,7 +46,9 @@ impl Resource {
             .create_resource(contents)
     }
 
-    /// A copy of the document with the same draft. Refuses only for want of memory, which it takes for the document.
+    /// A copy of the document with the same draft. It takes time linear in the document, and for each member a look-up
+    /// by its key; its stack grows with the depth of the document. Refuses only for want of memory, which it takes for
+    /// the document.
     pub fn clone(&self) -> Result<Self, AllocError>
         ensures { IfOk result (λ copy. resource copy ≡ resource self.now) }
     {

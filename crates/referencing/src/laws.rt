@@ -4,7 +4,7 @@ ghost use Rattle.std.specs.List.{AllPairs};
 ghost use Rattle.serde_json.specs.Data.{depth};
 ghost use Rattle.referencing.specs.World.{Document, Layer, World};
 ghost use Rattle.referencing.specs.Places.{Place, root, levels_below, places};
-ghost use Rattle.referencing.specs.Bearing.{bears, last_under, means};
+ghost use Rattle.referencing.specs.Resources.{resources, last_under, means};
 ghost use Rattle.referencing.specs.Anchors.{Named, last_named, named, names};
 ghost use Rattle.referencing.specs.Closure.{OutcomesOfRetrieval};
 ghost use Rattle.referencing.specs.Pending.{Addition, Pending, extended};
@@ -26,9 +26,9 @@ pub fn levels_end_at_the_depth()
 /// the parents' layers answer.
 pub fn nearest_layer_decides()
     ensures near { (layer : Layer) (parents : World) (uri found : List ℕ) (place : Place)
-        → last_under uri (bears layer) ≡ Some (found, place) → means (layer ∷ parents) uri ≡ Some place }
+        → last_under uri (resources layer) ≡ Some (found, place) → means (layer ∷ parents) uri ≡ Some place }
     ensures far { (layer : Layer) (parents : World) (uri : List ℕ)
-        → last_under uri (bears layer) ≡ None → means (layer ∷ parents) uri ≡ means parents uri }
+        → last_under uri (resources layer) ≡ None → means (layer ∷ parents) uri ≡ means parents uri }
     ensures near_name { (layer : Layer) (parents : World) (uri name : List ℕ) (entry : Named)
         → last_named uri name (names layer) ≡ Some entry → named (layer ∷ parents) uri name ≡ Some entry }
     ensures far_name { (layer : Layer) (parents : World) (uri name : List ℕ)

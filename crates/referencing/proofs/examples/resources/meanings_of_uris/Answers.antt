@@ -1,6 +1,6 @@
 use Rattle.std.proofs.Common.{refl}
 use Rattle.referencing.proofs.OnLiterals.{referencing_on_literals}
-use Rattle.referencing.proofs.examples.bearing.meanings_of_uris.Goals as goal
+use Rattle.referencing.proofs.examples.resources.meanings_of_uris.Goals as goal
 
 pub returns : goal.returns
 unfolding referencing_on_literals

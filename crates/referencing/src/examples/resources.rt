@@ -1,24 +1,24 @@
-//! Which URIs stand for which places.
+//! Which URIs identify which places.
 ghost use Rattle.std.specs.Prelude.{◌≡◌, [], ◌∷◌, codes, Some, None, Ok, Err, option_map};
 ghost use Rattle.ref_parts.specs.Path.{Key};
 ghost use Rattle.ref_draft.specs.declared.draft.Draft.TheVariants.{Draft7, Draft202012};
 ghost use Rattle.ref_uri.specs.Targets.{unparsed};
 ghost use Rattle.referencing.specs.Places.{root};
-ghost use Rattle.referencing.specs.Bearing.{last_of, borne_with, borne_by, borne_in, bears, last_under, means};
+ghost use Rattle.referencing.specs.Resources.{last_of, resource_with, resource_of, resources_in, resources, last_under, means};
 ghost use Rattle.referencing.specs.Rows.{world, at, yes, empty, text, one, two, uris_and_paths, path_of};
 
-/// What stands under URIs.
-pub fn borne_uris()
-    ensures root_twice { uris_and_paths (borne_in (at Draft202012 "http://a/r" (one "$id" (text "#x")))) ≡ (codes "http://a/r", []) ∷ (codes "http://a/r#x", []) ∷ [] }
-    ensures root_once { uris_and_paths (borne_in (at Draft7 "http://a/r" (one "$id" (text "#x")))) ≡ (codes "http://a/r", []) ∷ [] }
-    ensures by_documents_and_places { uris_and_paths (bears (at Draft202012 "http://a/r" (two "if" (one "$id" (text "x")) "then" yes) ∷ at Draft202012 "http://a/s" yes ∷ [])) ≡ (codes "http://a/r", []) ∷ (codes "http://a/x", Key (codes "if") ∷ []) ∷ (codes "http://a/s", []) ∷ [] }
-    ensures nothing { bears [] ≡ [] }
-    ensures by_a_place { uris_and_paths (borne_by (root (at Draft202012 "http://a/r" (one "$id" (text "y"))))) ≡ (codes "http://a/y", []) ∷ [] }
-    ensures by_a_place_without { borne_by (root (at Draft202012 "http://a/r" empty)) ≡ [] }
-    ensures by_a_refused_identifier { borne_by (root (at Draft202012 "http://a/r" (one "$id" (text "a b")))) ≡ [] }
-    ensures with_a_base { uris_and_paths (borne_with (root (at Draft202012 "http://a/r" yes)) (Some (codes "y")) (Ok (codes "http://a/y"))) ≡ (codes "http://a/y", []) ∷ [] }
-    ensures with_a_refusal { borne_with (root (at Draft202012 "http://a/r" yes)) (Some (codes "a b")) (Err (unparsed (codes "a b"))) ≡ [] }
-    ensures without_identifier { borne_with (root (at Draft202012 "http://a/r" yes)) None (Ok (codes "http://a/r")) ≡ [] }
+/// The places under URIs.
+pub fn uris_of_resources()
+    ensures root_twice { uris_and_paths (resources_in (at Draft202012 "http://a/r" (one "$id" (text "#x")))) ≡ (codes "http://a/r", []) ∷ (codes "http://a/r#x", []) ∷ [] }
+    ensures root_once { uris_and_paths (resources_in (at Draft7 "http://a/r" (one "$id" (text "#x")))) ≡ (codes "http://a/r", []) ∷ [] }
+    ensures by_documents_and_places { uris_and_paths (resources (at Draft202012 "http://a/r" (two "if" (one "$id" (text "x")) "then" yes) ∷ at Draft202012 "http://a/s" yes ∷ [])) ≡ (codes "http://a/r", []) ∷ (codes "http://a/x", Key (codes "if") ∷ []) ∷ (codes "http://a/s", []) ∷ [] }
+    ensures nothing { resources [] ≡ [] }
+    ensures by_a_place { uris_and_paths (resource_of (root (at Draft202012 "http://a/r" (one "$id" (text "y"))))) ≡ (codes "http://a/y", []) ∷ [] }
+    ensures by_a_place_without { resource_of (root (at Draft202012 "http://a/r" empty)) ≡ [] }
+    ensures by_a_refused_identifier { resource_of (root (at Draft202012 "http://a/r" (one "$id" (text "a b")))) ≡ [] }
+    ensures with_a_base { uris_and_paths (resource_with (root (at Draft202012 "http://a/r" yes)) (Some (codes "y")) (Ok (codes "http://a/y"))) ≡ (codes "http://a/y", []) ∷ [] }
+    ensures with_a_refusal { resource_with (root (at Draft202012 "http://a/r" yes)) (Some (codes "a b")) (Err (unparsed (codes "a b"))) ≡ [] }
+    ensures without_identifier { resource_with (root (at Draft202012 "http://a/r" yes)) None (Ok (codes "http://a/r")) ≡ [] }
 {}
 
 /// The last entry counts.
