@@ -1,4 +1,4 @@
--- The segments of a path that stands in a text to which more is appended.
+-- The segments and the triples of a text to which more is appended.
 use Rattle.std.proofs.Common.{◌≡◌, ◌≢◌, ℕ, ◌+◌, ◌-◌, ◌<◌, ◌≤◌, false, true, List, [], ◌∷◌, ◌++◌, length, take, drop, get_or, eqb, slice_range, refl, sym, ap, ◌∙◌, subst, arith}
 use Rattle.std.proofs.lemmas.Bool.{ne_eqb}
 use Rattle.std.proofs.lemmas.List.{take-append-drop, drop-append-le, take-append-le, take_at, length-drop, drop_more, get_or-take, get_or-drop, drop-drop, length-take-le}

@@ -503,7 +503,7 @@ fn removes_many_dot_segments(rt: HostRuntime) -> Result<(), Fail> {
     Ok(())
 }
 
-/// Of `/a/%2e%2e/..` again and again each `..` takes the segment before it away, which no longer takes `a`.
+/// Each `..` behind `/a/%2e%2e` takes `%2e%2e` away, so each `a` stays. Without it, only the last does.
 #[test]
 fn removes_many_encoded_dot_segments(rt: HostRuntime) -> Result<(), Fail> {
     let alloc = rt.alloc();
