@@ -15,6 +15,12 @@ fn segments_come_from_keys_and_indexes(rt: HostRuntime) -> Result<(), Fail> {
     assert!(rt; borrowed == of_string);
     assert!(rt; of_string == of_cow);
     assert!(rt; of_cow.clone()? == borrowed);
+    assert!(rt;
+        matches!(
+            borrowed.clone()?,
+            JsonPointerSegment::Key(CowStr::Borrowed("a"))
+        )
+    );
     assert!(rt; index == JsonPointerSegment::Index(3));
     assert!(rt; index != borrowed);
     assert!(rt; borrowed != JsonPointerSegment::from("b"));
