@@ -1,5 +1,7 @@
 -- A segment of the program as a part of a path.
+use Rattle.std.specs.Prelude.{⊤}
 use Rattle.std.specs.Cow.{cow_str_bytes}
+use Rattle.percent_encoding.specs.Cow.{IsBorrowedStr}
 use Rattle.ref_parts.specs.Path as path
 use Rattle.ref_parts.specs.Path.{Part}
 use Rattle.ref_parts.specs.declared.path.JsonPointerSegment.{JsonPointerSegment}
@@ -9,3 +11,8 @@ use Rattle.ref_parts.specs.declared.path.JsonPointerSegment.TheVariants.{Key, In
 abbrev pub part_of : JsonPointerSegment → Part
 part_of (Key k) = path.Key (cow_str_bytes k)
 part_of (Index i) = path.Index i
+
+-- an index, or a key that borrows its text
+abbrev pub OwnsNothing : JsonPointerSegment → Type 0
+OwnsNothing (Key k) = IsBorrowedStr k
+OwnsNothing (Index i) = ⊤

@@ -112,7 +112,7 @@ impl EncodedBuffer {
         self.text.clear();
     }
 
-    /// What was pushed since `new` or the last `clear`. Refused where there is no memory for it.
+    /// What was pushed since `new` or the last `clear`. Refused where there is no memory for it. Linear in the escaped text.
     pub fn decode(&self, alloc: Global) -> Result<String, AllocError>
         ensures { IfOk result (λ text. string_bytes text ≡ self.now) }
     {
@@ -128,7 +128,7 @@ impl<'a> EncodedString<'a> {
         self.encoded
     }
 
-    /// The text that the escaped text stands for. Refused where there is no memory for it.
+    /// The text that the escaped text stands for. Refused where there is no memory for it. Linear in the escaped text.
     pub fn decode(&self, alloc: Global) -> Result<String, AllocError>
         ensures { IfOk result (λ text. string_bytes text ≡ self.now) }
     {

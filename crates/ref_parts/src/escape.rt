@@ -18,7 +18,8 @@ pub fn first_escape(bytes: &[u8]) -> Option<usize>
 
 /// Appends the decimal text of an index.
 ///
-/// Refused where there is no memory for it, and then the buffer is as it was.
+/// Takes memory only where the buffer's room is too small for those digits, at most 20. Refused where there is none, and
+/// then the buffer is as it was.
 pub fn write_index(buffer: &mut String, idx: usize) -> Result<(), AllocError>
     ensures ok { OnOk result (string_bytes buffer.new ≡ string_bytes buffer.old ++ decimal idx) }
     ensures err { OnErr result (string_bytes buffer.new ≡ string_bytes buffer.old) }

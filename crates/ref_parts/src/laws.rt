@@ -1,6 +1,7 @@
 //! What holds of the definitions in `specs/`, for those who prove code above this crate. Each function does nothing:
 //! its clause is the law.
 ghost use Rattle.std.specs.Prelude.{◌≡◌, ◌↔◌, ◌<◌, ◌^◌, ℕ, List, [], ◌∷◌, Some, decimal, codes};
+ghost use Rattle.percent_encoding.specs.Percent.{percent_decode as decoded};
 ghost use Rattle.ref_parts.specs.Encoded.{encoded};
 ghost use Rattle.serde_json.specs.Data.{Data};
 ghost use Rattle.ref_parts.specs.Path.{Part, value_at, HasFittingIndexes};
@@ -32,11 +33,12 @@ pub fn pointer_rows()
     ensures { PointerRows }
 {}
 
-/// Text as a fragment holds it (RFC 3986, 2.1 and 3.5).
+/// Text as a fragment holds it, and such text read back (RFC 3986, 2.1 and 3.5).
 pub fn encoded_rows()
     ensures letters_of_two_bytes { encoded (195 ∷ 169 ∷ 37 ∷ []) ≡ codes "%C3%A9%25" }
     ensures space { encoded (codes "~ ?") ≡ codes "~%20?" }
     ensures slash { encoded (codes "/a~1b%") ≡ codes "/a~1b%25" }
+    ensures read_back { decoded (codes "%C3%A9%25") ≡ 195 ∷ 169 ∷ 37 ∷ [] }
 {}
 
 /// The worked rows of the bytes, tokens and texts that pointer text is made of (RFC 6901, sections 3 and 4).

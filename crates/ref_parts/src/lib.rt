@@ -12,5 +12,13 @@ pub mod laws;
 pub mod list;
 pub mod path;
 pub mod small_map;
+
+pub use encoded::{EncodedBuffer, EncodedString};
+pub use escape::{first_escape, unescape_segment, write_escaped_str, write_index};
+pub use evaluate::{parse_index, pointer};
+pub use list::List;
+pub use path::{JsonPointerNode, JsonPointerSegment};
+pub use small_map::{BorrowedKey, SmallMap};
+
 #[cfg(test)]
 mod tests;

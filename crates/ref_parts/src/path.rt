@@ -47,15 +47,21 @@ impl Eq for JsonPointerSegment<'_> {
     ghost laws = { on_equiv part_of part_equivalence };
 }
 
-/// The copy of a borrowed key borrows the same text and takes no memory.
+/// The copy of an index or of a borrowed key takes no memory, and the key's copy borrows the same text. That of an owned
+/// key copies its text, and is refused where there is no memory for it.
 impl Clone for JsonPointerSegment<'_> {
     ghost use Rattle.std.specs.Prelude.{◌≡◌};
-    ghost use Rattle.ref_parts.specs.Segment.{part_of};
+    ghost use Rattle.ref_parts.specs.Segment.{part_of, OwnsNothing};
 
     ghost is_clone = { λ segment copy. part_of copy ≡ part_of segment };
 
+    ghost is_infallible = { OwnsNothing };
+
     fn clone(&self) -> Result<Self, AllocError> {
         match self {
+            JsonPointerSegment::Key(CowStr::Borrowed(key)) => {
+                Ok(JsonPointerSegment::Key(CowStr::Borrowed(*key)))
+            }
             JsonPointerSegment::Key(key) => Ok(JsonPointerSegment::Key(key.clone()?)),
             JsonPointerSegment::Index(index) => Ok(JsonPointerSegment::Index(*index)),
         }
@@ -246,8 +252,14 @@ impl Default for JsonPointerNode<'_> {
     }
 }
 
+/// The same path, shared: one handle more, whatever the length, and no memory.
+///
+/// It is refused only where the last link has no count left for one more handle, which `std::rc::Rc` tells as want of
+/// memory. The root has no link, and isn't refused.
 impl Clone for JsonPointerNode<'_> {
     ghost is_clone = { λ node copy. copy ≡ node };
+
+    ghost is_infallible = { λ node. node ≡ [] };
 
     fn clone(&self) -> Result<Self, AllocError> {
         let Some(link) = &self.last else {

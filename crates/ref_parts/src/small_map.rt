@@ -200,7 +200,8 @@ impl<K: Eq + Hash + Clone + Drop, V: Clone + Drop, const N: usize> SmallMap<K, V
     /// A copy of the map, whose keys and values are clones of its keys and values, in the same order.
     ///
     /// Each clone of a key has to be equal to the key. Takes what memory those clones and a hashed map take, and is refused
-    /// where there is none.
+    /// where there is none. Each key and each value is cloned once, and beside them the hashed map's room is copied: no key
+    /// is hashed or compared.
     pub fn clone(&self) -> Result<Self, AllocError>
         requires { (x y : K) → K.is_clone x y → IsTrue (K.eq x y) }
         ensures clones { IfOk result (λ copy. IsClone K.is_clone V.is_clone self.now copy) }

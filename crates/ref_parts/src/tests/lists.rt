@@ -78,62 +78,111 @@ fn numbers(alloc: Global, count: u32) -> Result<List<u32>, AllocError> {
     Ok(list)
 }
 
-#[test]
-fn a_list_has_its_items_in_order(rt: HostRuntime) -> Result<(), Fail> {
-    let alloc = rt.alloc();
-    let empty: List<u32> = List::new();
-    assert!(rt; empty.is_empty());
-    assert_eq!(rt; front_of(&empty).copied(), None);
-    let a = empty.push_front(alloc, Rc::new(alloc, 2)?)?;
-    let b = a.push_front(alloc, Rc::new(alloc, 1)?)?;
-    assert!(rt; !b.is_empty());
-    assert!(rt; empty.is_empty());
-    assert_eq!(rt; debug_text(alloc, &b)?.as_str(), "[1, 2]");
-    assert_eq!(rt; debug_text(alloc, &a)?.as_str(), "[2]");
-    assert_eq!(rt; debug_text(alloc, &empty)?.as_str(), "[]");
-    let mut items = b.iter();
-    assert_eq!(rt; items.next().copied(), Some(1));
-    assert_eq!(rt; debug_text(alloc, &items)?.as_str(), "Iter { rest: [2] }");
-    assert_eq!(rt; items.next().copied(), Some(2));
-    assert_eq!(rt; items.next().copied(), None);
-    assert_eq!(rt; items.next().copied(), None);
+// What a list tells: whether it is empty, its front, what its iterator gives at first and then again and again, and the
+// sum of its items.
+fn told(list: &List<u32>) -> (bool, Option<u32>, Option<u32>, [Option<u32>; 4], u32) {
+    let front = front_of(list).copied();
+    let first = iter_of(list).next().copied();
+    let mut items = list.iter();
+    let given = [(), (), (), ()].map(|_| items.next().copied());
     let mut sum = 0u32;
-    for item in &b {
+    for item in list {
         sum = sum.saturating_add(*item);
     }
-    assert_eq!(rt; sum, 3);
-    assert_eq!(rt; iter_of(&b).next().copied(), Some(1));
-    assert!(rt; are_alike(&a, &a));
-    assert!(rt; !are_alike(&a, &b));
+    (list.is_empty(), front, first, given, sum)
+}
+
+// What is told of an empty list, of one with 2 in front of that, and of one with 1 in front of that again.
+fn told_of_three(
+    alloc: Global,
+) -> Result<[(bool, Option<u32>, Option<u32>, [Option<u32>; 4], u32); 3], AllocError> {
+    let empty = List::new();
+    let one = empty.push_front(alloc, Rc::new(alloc, 2)?)?;
+    let two = one.push_front(alloc, Rc::new(alloc, 1)?)?;
+    Ok([told(&empty), told(&one), told(&two)])
+}
+
+// How a list of the numbers below a count is shown, and whether there was memory to show its iterator.
+fn shown(alloc: Global, count: u32) -> Result<(String, bool), AllocError> {
+    let list = numbers(alloc, count)?;
+    let iterator_shown = debug_text(alloc, &list.iter()).is_ok();
+    Ok((debug_text(alloc, &list)?, iterator_shown))
+}
+
+#[test]
+fn a_list_has_its_items_in_order(rt: HostRuntime) -> Result<(), Fail> {
+    assert_eq!(rt;
+        told_of_three(rt.alloc())?,
+        [
+            (true, None, None, [None, None, None, None], 0),
+            (false, Some(2), Some(2), [Some(2), None, None, None], 2),
+            (false, Some(1), Some(1), [Some(1), Some(2), None, None], 3),
+        ]
+    );
+    for (count, text) in [(0, "[]"), (1, "[0]"), (2, "[1, 0]")] {
+        let (list, iterator_shown) = shown(rt.alloc(), count)?;
+        assert_eq!(rt; list.as_str(), text);
+        assert!(rt; iterator_shown);
+    }
     Ok(())
+}
+
+// A list of the texts a and b, of which the first is given.
+fn texts(alloc: Global, first: &Rc<String>) -> Result<List<String>, AllocError> {
+    pair_of(
+        alloc,
+        first.clone()?,
+        Rc::new(alloc, String::from_str(alloc, "b")?)?,
+    )
+}
+
+// What a list of texts and its copy tell: the front, the count, and whether they are equal and hash alike.
+fn texts_told(alloc: Global) -> Result<(String, u32, bool, bool), AllocError> {
+    let list = texts(alloc, &Rc::new(alloc, String::from_str(alloc, "a")?)?)?;
+    let copy = copy_of(&list)?;
+    Ok((
+        debug_text(alloc, &front_of(&list))?,
+        count_of(&copy),
+        are_equal(&list, &copy),
+        hash_of(&list) == hash_of(&copy),
+    ))
+}
+
+// How the copy of a list is shown once the list is gone, and then a longer one once the copy is gone.
+fn texts_shown(alloc: Global) -> Result<(String, String), AllocError> {
+    let first = Rc::new(alloc, String::from_str(alloc, "a")?)?;
+    let list = texts(alloc, &first)?;
+    let copy = copy_of(&list)?;
+    let_go(list);
+    let longer = copy.push_front(alloc, first)?;
+    let shown = debug_text(alloc, &copy)?;
+    let_go(copy);
+    Ok((shown, debug_text(alloc, &longer)?))
 }
 
 #[test]
 fn a_list_of_texts_serves_generic_callers(rt: HostRuntime) -> Result<(), Fail> {
-    let alloc = rt.alloc();
-    let first = Rc::new(alloc, String::from_str(alloc, "a")?)?;
-    let second = Rc::new(alloc, String::from_str(alloc, "b")?)?;
-    let list = pair_of(alloc, first.clone()?, second)?;
-    let copy = copy_of(&list)?;
-    assert_eq!(rt; front_of(&list).ok_or("no front")?.as_str(), "a");
-    assert_eq!(rt; count_of(&copy), 2);
-    assert!(rt; are_equal(&list, &copy));
-    assert_eq!(rt; hash_of(&list), hash_of(&copy));
-    assert_eq!(rt; debug_text(alloc, &copy)?.as_str(), "[\"a\", \"b\"]");
-    let longer = copy.push_front(alloc, first)?;
-    let_go(list);
-    assert_eq!(rt; debug_text(alloc, &copy)?.as_str(), "[\"a\", \"b\"]");
-    let_go(copy);
-    assert_eq!(rt;
-        debug_text(alloc, &longer)?.as_str(),
-        "[\"a\", \"a\", \"b\"]"
-    );
+    let (front, count, are_equal, hash_alike) = texts_told(rt.alloc())?;
+    assert_eq!(rt; front.as_str(), "Some(\"a\")");
+    assert_eq!(rt; count, 2);
+    assert!(rt; are_equal && hash_alike);
+    let (copy, longer) = texts_shown(rt.alloc())?;
+    assert_eq!(rt; copy.as_str(), "[\"a\", \"b\"]");
+    assert_eq!(rt; longer.as_str(), "[\"a\", \"a\", \"b\"]");
     Ok(())
+}
+
+// Whether a list of one number is like itself, and like one of two.
+fn likeness(alloc: Global) -> Result<(bool, bool), AllocError> {
+    let one = numbers(alloc, 1)?;
+    let two = numbers(alloc, 2)?;
+    Ok((are_alike(&one, &one), are_alike(&one, &two)))
 }
 
 #[test]
 fn equal_lists_are_equal_and_hash_alike(rt: HostRuntime) -> Result<(), Fail> {
     let alloc = rt.alloc();
+    assert_eq!(rt; likeness(alloc)?, (true, false));
     let a = numbers(alloc, 3)?;
     let b = numbers(alloc, 3)?;
     assert!(rt; a == b);

@@ -57,9 +57,9 @@ fn is_inline<K: Eq + Hash, V, const N: usize>(map: &SmallMap<K, V, N>) -> bool {
     map.is_small()
 }
 
-fn copy_of<K: Eq + Hash + Clone + Drop, V: Clone + Drop>(
-    map: &SmallMap<K, V, 2>,
-) -> Result<SmallMap<K, V, 2>, AllocError>
+fn copy_of<K: Eq + Hash + Clone + Drop, V: Clone + Drop, const N: usize>(
+    map: &SmallMap<K, V, N>,
+) -> Result<SmallMap<K, V, N>, AllocError>
     requires { (x y : K) → K.is_clone x y → IsTrue (K.eq x y) }
     ensures { IfOk result (IsClone K.is_clone V.is_clone map.now) }
 {
@@ -70,22 +70,55 @@ fn debug_text<T: fmt::Debug>(alloc: Global, value: &T) -> Result<String, AllocEr
     format!(in alloc; "{value:?}")
 }
 
+// ---- maps from texts
+
+// A map with these pairs, put in turn.
+fn counts(alloc: Global, pairs: &[(&str, u32)]) -> Result<SmallMap<String, u32, 2>, AllocError> {
+    let mut map = SmallMap::new();
+    for (key, value) in pairs {
+        map.insert(alloc, String::from_str(alloc, *key)?, *value)?;
+    }
+    Ok(map)
+}
+
+// Whether a map with these pairs is small, and what it answers at a key, by its text and by the key itself.
+fn answers(
+    alloc: Global,
+    pairs: &[(&str, u32)],
+    key: &str,
+) -> Result<(bool, Option<u32>, Option<u32>), AllocError> {
+    let map = counts(alloc, pairs)?;
+    let owned = String::from_str(alloc, key)?;
+    Ok((is_inline(&map), value_at(&map, key), value_at(&map, &owned)))
+}
+
 #[test]
-fn a_map_answers_by_key(rt: HostRuntime) -> Result<(), Fail> {
-    let alloc = rt.alloc();
-    let key = String::from_str(alloc, "key")?;
-    let missing = String::from_str(alloc, "missing")?;
-    let empty: SmallMap<String, u32, 2> = SmallMap::new();
-    assert!(rt; is_inline(&empty));
-    assert_eq!(rt; value_at(&empty, "key"), None);
-    assert_eq!(rt; value_at(&empty, &key), None);
-    let mut map = map_of(alloc, key.clone()?, 1u32)?;
-    assert_eq!(rt; value_at(&map, "key"), Some(1));
-    map.insert(alloc, key.clone()?, 2)?;
-    assert_eq!(rt; value_at(&map, "key"), Some(2));
-    assert_eq!(rt; value_at(&map, "missing"), None);
-    assert_eq!(rt; value_at(&map, &key), Some(2));
-    assert_eq!(rt; value_at(&map, &missing), None);
+fn a_map_answers_by_text_and_by_key(rt: HostRuntime) -> Result<(), Fail> {
+    let three = [("a", 10), ("b", 20), ("c", 30)];
+    for (pairs, key, value) in [
+        ([].as_slice(), "key", None),
+        ([("key", 1)].as_slice(), "key", Some(1)),
+        ([("key", 1), ("key", 2)].as_slice(), "key", Some(2)),
+        ([("key", 1), ("key", 2)].as_slice(), "missing", None),
+        (three.as_slice(), "a", Some(10)),
+        (three.as_slice(), "b", Some(20)),
+        (three.as_slice(), "c", Some(30)),
+        (three.as_slice(), "d", None),
+    ] {
+        let is_small = pairs.len() < 3;
+        assert_eq!(rt;
+            answers(rt.alloc(), pairs, key)?,
+            (is_small, value, value),
+            "at {key}"
+        );
+    }
+    Ok(())
+}
+
+#[test]
+fn text_and_keys_stand_for_equal_keys(rt: HostRuntime) -> Result<(), Fail> {
+    let key = String::from_str(rt.alloc(), "key")?;
+    let missing = String::from_str(rt.alloc(), "missing")?;
     assert!(rt; stands_for("key", &key));
     assert!(rt; !stands_for("kez", &key));
     assert!(rt; stands_for(&key, &key));
@@ -102,98 +135,142 @@ fn a_default_map_is_empty_and_small(rt: HostRuntime) -> Result<(), Fail> {
     Ok(())
 }
 
+// How a map with these pairs is shown.
+fn shown(alloc: Global, pairs: &[(&str, u32)]) -> Result<String, AllocError> {
+    debug_text(alloc, &counts(alloc, pairs)?)
+}
+
+// How a map with one pair is shown.
+fn one_shown(alloc: Global, key: &str, value: u32) -> Result<String, AllocError> {
+    debug_text(alloc, &map_of(alloc, String::from_str(alloc, key)?, value)?)
+}
+
 #[test]
 fn a_map_shows_its_pairs(rt: HostRuntime) -> Result<(), Fail> {
+    let three = [("a", 1), ("b", 2), ("c", 3)];
     let alloc = rt.alloc();
-    let mut map = map_of(alloc, String::from_str(alloc, "a")?, 1u32)?;
-    assert_eq!(rt; debug_text(alloc, &map)?.as_str(), "{\"a\": 1}");
-    map.insert(alloc, String::from_str(alloc, "b")?, 2)?;
-    assert_eq!(rt; debug_text(alloc, &map)?.as_str(), "{\"a\": 1, \"b\": 2}");
-    map.insert(alloc, String::from_str(alloc, "c")?, 3)?;
-    assert!(rt; !is_inline(&map));
+    assert_eq!(rt; one_shown(alloc, "a", 1)?.as_str(), "{\"a\": 1}");
+    assert_eq!(rt; shown(alloc, &three[..2])?.as_str(), "{\"a\": 1, \"b\": 2}");
     assert_eq!(rt;
-        debug_text(alloc, &map)?.as_str(),
+        shown(alloc, &three)?.as_str(),
         "{\"a\": 1, \"b\": 2, \"c\": 3}"
     );
     Ok(())
 }
 
-#[test]
-fn a_large_map_answers_by_text_and_by_key(rt: HostRuntime) -> Result<(), Fail> {
-    let alloc = rt.alloc();
-    let mut map: SmallMap<String, u32, 2> = SmallMap::new();
-    for (key, value) in [("a", 10), ("b", 20), ("c", 30)] {
-        map.insert(alloc, String::from_str(alloc, key)?, value)?;
-    }
-    assert!(rt; !is_inline(&map));
-    for (key, value) in [
-        ("a", Some(10)),
-        ("b", Some(20)),
-        ("c", Some(30)),
-        ("d", None),
-    ] {
-        let owned = String::from_str(alloc, key)?;
-        assert_eq!(rt; value_at(&map, key), value, "at {key}");
-        assert_eq!(rt; value_at(&map, &owned), value, "at {key}");
+// ---- maps from numbers
+
+// Puts these pairs in turn.
+fn put_numbers<const N: usize>(
+    map: &mut SmallMap<u32, u32, N>,
+    alloc: Global,
+    pairs: &[(u32, u32)],
+) -> Result<(), AllocError> {
+    for (key, value) in pairs {
+        map.insert(alloc, *key, *value)?;
     }
     Ok(())
+}
+
+// Whether a map is small, and its values at 0 to 4.
+fn told<const N: usize>(map: &SmallMap<u32, u32, N>) -> (bool, [Option<u32>; 5]) {
+    (
+        map.is_small(),
+        [0, 1, 2, 3, 4].map(|key| map.get(&key).copied()),
+    )
+}
+
+// What a map with two slots and these pairs tells.
+fn told_of(alloc: Global, pairs: &[(u32, u32)]) -> Result<(bool, [Option<u32>; 5]), AllocError> {
+    let mut map: SmallMap<u32, u32, 2> = SmallMap::new();
+    put_numbers(&mut map, alloc, pairs)?;
+    Ok(told(&map))
+}
+
+// What a map with no slots and these pairs tells.
+fn told_without_slots(
+    alloc: Global,
+    pairs: &[(u32, u32)],
+) -> Result<(bool, [Option<u32>; 5]), AllocError> {
+    let mut map: SmallMap<u32, u32, 0> = SmallMap::new();
+    put_numbers(&mut map, alloc, pairs)?;
+    Ok(told(&map))
 }
 
 #[test]
 fn a_map_is_small_up_to_its_bound(rt: HostRuntime) -> Result<(), Fail> {
     let alloc = rt.alloc();
-    let mut map: SmallMap<u32, u32, 2> = SmallMap::new();
-    map.insert(alloc, 1, 10)?;
-    map.insert(alloc, 2, 20)?;
-    assert!(rt; map.is_small());
-    map.insert(alloc, 2, 21)?;
-    assert!(rt; map.is_small());
-    map.insert(alloc, 3, 30)?;
-    assert!(rt; !map.is_small());
-    for (key, value) in [(1, Some(10)), (2, Some(21)), (3, Some(30)), (4, None)] {
-        assert_eq!(rt; map.get(&key).copied(), value, "at {key}");
+    let pairs = [(1, 10), (2, 20), (2, 21), (3, 30), (1, 11)];
+    for (front, told) in [
+        (&pairs[..0], (true, [None, None, None, None, None])),
+        (&pairs[..2], (true, [None, Some(10), Some(20), None, None])),
+        (&pairs[..3], (true, [None, Some(10), Some(21), None, None])),
+        (
+            &pairs[..4],
+            (false, [None, Some(10), Some(21), Some(30), None]),
+        ),
+        (
+            &pairs[..5],
+            (false, [None, Some(11), Some(21), Some(30), None]),
+        ),
+    ] {
+        assert_eq!(rt; told_of(alloc, front)?, told);
     }
-    map.insert(alloc, 1, 11)?;
-    assert_eq!(rt; map.get(&1).copied(), Some(11));
-    let mut without_slots: SmallMap<u32, u32, 0> = SmallMap::new();
-    assert!(rt; without_slots.is_small());
-    without_slots.insert(alloc, 1, 10)?;
-    assert!(rt; !without_slots.is_small());
-    assert_eq!(rt; without_slots.get(&1).copied(), Some(10));
+    assert_eq!(rt;
+        told_without_slots(alloc, &[])?,
+        (true, [None, None, None, None, None])
+    );
+    assert_eq!(rt;
+        told_without_slots(alloc, &[(1, 10)])?,
+        (false, [None, Some(10), None, None, None])
+    );
     Ok(())
 }
 
 // ---- copies
 
+// A map with the tenfold of each number below a count.
+fn tenfold(alloc: Global, count: u32) -> Result<SmallMap<u32, u32, 4>, AllocError> {
+    let mut map = SmallMap::new();
+    for key in 0..count {
+        map.insert(alloc, key, key.saturating_mul(10))?;
+    }
+    Ok(map)
+}
+
+// What a map of tenfolds and its copy tell.
+fn told_of_both(
+    alloc: Global,
+    count: u32,
+) -> Result<((bool, [Option<u32>; 5]), (bool, [Option<u32>; 5])), AllocError> {
+    let map = tenfold(alloc, count)?;
+    let copy = copy_of(&map)?;
+    Ok((told(&map), told(&copy)))
+}
+
+// What a map of tenfolds and its copy tell after 7 is put at 0 of the map, and 40 at 4 of the copy.
+fn told_of_both_written(
+    alloc: Global,
+    count: u32,
+) -> Result<((bool, [Option<u32>; 5]), (bool, [Option<u32>; 5])), AllocError> {
+    let mut map = tenfold(alloc, count)?;
+    let mut copy = copy_of(&map)?;
+    map.insert(alloc, 0, 7)?;
+    copy.insert(alloc, 4, 40)?;
+    Ok((told(&map), told(&copy)))
+}
+
 #[test]
 fn copies_of_maps_stand_alone(rt: HostRuntime) -> Result<(), Fail> {
     let alloc = rt.alloc();
-    let mut small: SmallMap<u32, u32, 4> = SmallMap::new();
-    for key in 0..4u32 {
-        small.insert(alloc, key, key.saturating_mul(10))?;
-    }
-    assert!(rt; small.is_small());
-    let mut large = small.clone()?;
-    assert!(rt; large.is_small());
-    for key in 0..4u32 {
-        let value = Some(key.saturating_mul(10));
-        assert_eq!(rt; small.get(&key).copied(), value, "at {key}");
-        assert_eq!(rt; large.get(&key).copied(), value, "at {key} of the copy");
-    }
-    large.insert(alloc, 4, 40)?;
-    assert!(rt; !large.is_small());
-    assert!(rt; small.is_small());
-    assert_eq!(rt; small.get(&4).copied(), None);
-    let copy = large.clone()?;
-    large.insert(alloc, 0, 7)?;
-    for key in 0..5u32 {
-        assert_eq!(rt;
-            copy.get(&key).copied(),
-            Some(key.saturating_mul(10)),
-            "at {key}"
-        );
-    }
-    assert_eq!(rt; large.get(&0).copied(), Some(7));
+    let small = (true, [Some(0), Some(10), Some(20), Some(30), None]);
+    let small_written = (true, [Some(7), Some(10), Some(20), Some(30), None]);
+    let large = (false, [Some(0), Some(10), Some(20), Some(30), Some(40)]);
+    let large_written = (false, [Some(7), Some(10), Some(20), Some(30), Some(40)]);
+    assert_eq!(rt; told_of_both(alloc, 4)?, (small, small));
+    assert_eq!(rt; told_of_both(alloc, 5)?, (large, large));
+    assert_eq!(rt; told_of_both_written(alloc, 4)?, (small_written, large));
+    assert_eq!(rt; told_of_both_written(alloc, 5)?, (large_written, large));
     Ok(())
 }
 
@@ -222,40 +299,49 @@ fn put_text(
     )
 }
 
-// A map with one under a and two under b.
-fn texts(alloc: Global) -> Result<SmallMap<String, String, 2>, AllocError> {
+// A map with these texts, put in turn.
+fn texts(alloc: Global, pairs: &[(&str, &str)]) -> Result<SmallMap<String, String, 2>, AllocError> {
     let mut map = SmallMap::new();
-    put_text(&mut map, alloc, "a", "one")?;
-    put_text(&mut map, alloc, "b", "two")?;
+    for (key, value) in pairs {
+        put_text(&mut map, alloc, *key, *value)?;
+    }
     Ok(map)
 }
 
-#[test]
-fn a_copy_of_a_small_map_of_texts_stands_alone(rt: HostRuntime) -> Result<(), Fail> {
-    let alloc = rt.alloc();
-    let mut map = texts(alloc)?;
+// Whether a map is small, and its texts at a, b and c.
+fn texts_told(alloc: Global, map: &SmallMap<String, String, 2>) -> Result<String, AllocError> {
+    let is_small = map.is_small();
+    let [a, b, c] = ["a", "b", "c"].map(|key| text_at(map, key).unwrap_or("none"));
+    format!(in alloc; "{is_small} {a} {b} {c}")
+}
+
+// What a copy of a map of texts tells, and then the map, after one more is put into it.
+fn texts_told_apart(
+    alloc: Global,
+    pairs: &[(&str, &str)],
+    key: &str,
+) -> Result<String, AllocError> {
+    let mut map = texts(alloc, pairs)?;
     let copy = text_copy(&map)?;
-    put_text(&mut map, alloc, "a", "other")?;
-    assert!(rt; copy.is_small());
-    assert_eq!(rt; text_at(&copy, "a"), Some("one"));
-    assert_eq!(rt; text_at(&copy, "b"), Some("two"));
-    assert_eq!(rt; text_at(&copy, "c"), None);
-    assert_eq!(rt; text_at(&map, "a"), Some("other"));
-    Ok(())
+    put_text(&mut map, alloc, key, "other")?;
+    format!(in alloc;
+        "{}, {}",
+        texts_told(alloc, &copy)?,
+        texts_told(alloc, &map)?
+    )
 }
 
 #[test]
-fn a_copy_of_a_large_map_of_texts_stands_alone(rt: HostRuntime) -> Result<(), Fail> {
-    let alloc = rt.alloc();
-    let mut map = texts(alloc)?;
-    put_text(&mut map, alloc, "c", "three")?;
-    let copy = text_copy(&map)?;
-    put_text(&mut map, alloc, "b", "other")?;
-    assert!(rt; !copy.is_small());
-    assert_eq!(rt; text_at(&copy, "a"), Some("one"));
-    assert_eq!(rt; text_at(&copy, "b"), Some("two"));
-    assert_eq!(rt; text_at(&copy, "c"), Some("three"));
-    assert_eq!(rt; text_at(&map, "b"), Some("other"));
+fn copies_of_maps_of_texts_stand_alone(rt: HostRuntime) -> Result<(), Fail> {
+    let pairs = [("a", "one"), ("b", "two"), ("c", "three")];
+    assert_eq!(rt;
+        texts_told_apart(rt.alloc(), &pairs[..2], "a")?.as_str(),
+        "true one two none, true other two none"
+    );
+    assert_eq!(rt;
+        texts_told_apart(rt.alloc(), &pairs, "b")?.as_str(),
+        "false one two three, false one other three"
+    );
     Ok(())
 }
 
@@ -276,69 +362,80 @@ fn write_at(
     Ok(())
 }
 
+// Writes at a key, and answers what was found there.
+fn replace<K: Eq + Hash + Drop>(
+    map: &mut SmallMap<K, u32, 2>,
+    alloc: Global,
+    key: K,
+    value: u32,
+) -> Result<u32, AllocError> {
+    let place = map.get_or_insert_default(alloc, key)?;
+    let found = *place;
+    *place = value;
+    Ok(found)
+}
+
+// What is found at a key of a map with 42 at "key", and then the values at "key" and "missing".
+fn replaced(
+    alloc: Global,
+    key: &str,
+    value: u32,
+) -> Result<(u32, Option<u32>, Option<u32>), AllocError> {
+    let mut map = counts(alloc, &[("key", 42)])?;
+    let found = replace(&mut map, alloc, String::from_str(alloc, key)?, value)?;
+    Ok((found, value_at(&map, "key"), value_at(&map, "missing")))
+}
+
 #[test]
 fn a_key_that_is_there_keeps_its_value(rt: HostRuntime) -> Result<(), Fail> {
-    let alloc = rt.alloc();
-    let mut map: SmallMap<String, u32, 2> = SmallMap::new();
-    map.insert(alloc, String::from_str(alloc, "key")?, 42)?;
-    let value = map.get_or_insert_default(alloc, String::from_str(alloc, "key")?)?;
-    assert_eq!(rt; *value, 42);
-    let value = map.get_or_insert_default(alloc, String::from_str(alloc, "missing")?)?;
-    assert_eq!(rt; *value, 0);
-    *value = 7;
-    assert_eq!(rt; value_at(&map, "missing"), Some(7));
-    assert_eq!(rt; value_at(&map, "key"), Some(42));
+    assert_eq!(rt; replaced(rt.alloc(), "key", 42)?, (42, Some(42), None));
+    assert_eq!(rt; replaced(rt.alloc(), "missing", 7)?, (0, Some(42), Some(7)));
     Ok(())
+}
+
+// A map that grows past its bound by a default: what is found there, and what the map tells.
+fn grown(alloc: Global) -> Result<(u32, (bool, [Option<u32>; 5])), AllocError> {
+    let mut map: SmallMap<u32, u32, 2> = SmallMap::new();
+    put_numbers(&mut map, alloc, &[(1, 10), (2, 20)])?;
+    let found = replace(&mut map, alloc, 3, 30)?;
+    Ok((found, told(&map)))
+}
+
+// Defaults in a map that has grown: whether there was memory, and what the map tells.
+fn grown_more(alloc: Global) -> Result<(bool, bool, (bool, [Option<u32>; 5])), AllocError> {
+    let mut map: SmallMap<u32, u32, 2> = SmallMap::new();
+    put_numbers(&mut map, alloc, &[(1, 10), (2, 20), (3, 30)])?;
+    let added = add_default(&mut map, alloc, 4);
+    write_at(&mut map, alloc, 2, 21)?;
+    let kept = add_default(&mut map, alloc, 2);
+    Ok((added, kept, told(&map)))
 }
 
 #[test]
 fn a_default_past_the_bound_keeps_the_pairs(rt: HostRuntime) -> Result<(), Fail> {
-    let alloc = rt.alloc();
-    let mut map: SmallMap<u32, u32, 2> = SmallMap::new();
-    map.insert(alloc, 1, 10)?;
-    map.insert(alloc, 2, 20)?;
-    assert!(rt; map.is_small());
-    let value = map.get_or_insert_default(alloc, 3)?;
-    assert_eq!(rt; *value, 0);
-    *value = 30;
-    assert!(rt; !map.is_small());
-    for (key, value) in [(1, Some(10)), (2, Some(20)), (3, Some(30)), (4, None)] {
-        assert_eq!(rt; map.get(&key).copied(), value, "at {key}");
-    }
-    assert!(rt; add_default(&mut map, alloc, 4));
-    write_at(&mut map, alloc, 2, 21)?;
-    assert!(rt; add_default(&mut map, alloc, 2));
-    for (key, value) in [
-        (1, Some(10)),
-        (2, Some(21)),
-        (3, Some(30)),
-        (4, Some(0)),
-        (5, None),
-    ] {
-        assert_eq!(rt; map.get(&key).copied(), value, "at {key}");
-    }
+    assert_eq!(rt;
+        grown(rt.alloc())?,
+        (0, (false, [None, Some(10), Some(20), Some(30), None]))
+    );
+    assert_eq!(rt;
+        grown_more(rt.alloc())?,
+        (
+            true,
+            true,
+            (false, [None, Some(10), Some(21), Some(30), Some(0)])
+        )
+    );
     Ok(())
 }
 
 // ---- maps of maps
 
-#[test]
-fn a_map_holds_maps(rt: HostRuntime) -> Result<(), Fail> {
-    let alloc = rt.alloc();
-    let mut one: SmallMap<String, u32, 2> = SmallMap::new();
-    one.insert(alloc, String::from_str(alloc, "a")?, 10)?;
-    one.insert(alloc, String::from_str(alloc, "b")?, 20)?;
-    let mut two: SmallMap<String, u32, 2> = SmallMap::new();
-    two.insert(alloc, String::from_str(alloc, "c")?, 30)?;
-    let mut map: SmallMap<u32, SmallMap<String, u32, 2>, 2> = SmallMap::new();
-    map.insert(alloc, 1, one)?;
-    map.insert(alloc, 2, two)?;
-    let one = map.get(&1).ok_or("no first map")?;
-    assert_eq!(rt; value_at(one, "a"), Some(10));
-    assert_eq!(rt; value_at(one, "b"), Some(20));
-    let two = map.get(&2).ok_or("no second map")?;
-    assert_eq!(rt; value_at(two, "c"), Some(30));
-    Ok(())
+// Two maps, put into one.
+fn held(alloc: Global) -> Result<SmallMap<u32, SmallMap<String, u32, 2>, 2>, AllocError> {
+    let mut map = SmallMap::new();
+    map.insert(alloc, 1, counts(alloc, &[("a", 10), ("b", 20)])?)?;
+    map.insert(alloc, 2, counts(alloc, &[("c", 30)])?)?;
+    Ok(map)
 }
 
 // Writes at two keys through what the outer map lends.
@@ -350,32 +447,34 @@ fn write_below(
     value: u32,
 ) -> Result<(), AllocError> {
     let key = String::from_str(alloc, inner)?;
-    write_text(map.get_or_insert_default(alloc, outer)?, alloc, key, value)
-}
-
-// Writes at a text.
-fn write_text(
-    map: &mut SmallMap<String, u32, 2>,
-    alloc: Global,
-    key: String,
-    value: u32,
-) -> Result<(), AllocError> {
-    *map.get_or_insert_default(alloc, key)? = value;
+    replace(map.get_or_insert_default(alloc, outer)?, alloc, key, value)?;
     Ok(())
 }
 
+// The same two maps, grown by defaults.
+fn grown_maps(alloc: Global) -> Result<SmallMap<u32, SmallMap<String, u32, 2>, 2>, AllocError> {
+    let mut map = SmallMap::new();
+    for (outer, inner, value) in [(1, "a", 10), (1, "b", 20), (2, "c", 30)] {
+        write_below(&mut map, alloc, outer, inner, value)?;
+    }
+    Ok(map)
+}
+
+// The values of both maps.
+fn below(
+    map: &SmallMap<u32, SmallMap<String, u32, 2>, 2>,
+) -> Option<(Option<u32>, Option<u32>, Option<u32>)> {
+    let one = map.get(&1)?;
+    let two = map.get(&2)?;
+    Some((value_at(one, "a"), value_at(one, "b"), value_at(two, "c")))
+}
+
 #[test]
-fn a_map_of_maps_grows_by_defaults(rt: HostRuntime) -> Result<(), Fail> {
+fn a_map_holds_maps(rt: HostRuntime) -> Result<(), Fail> {
     let alloc = rt.alloc();
-    let mut map: SmallMap<u32, SmallMap<String, u32, 2>, 2> = SmallMap::new();
-    write_below(&mut map, alloc, 1, "a", 10)?;
-    write_below(&mut map, alloc, 1, "b", 20)?;
-    write_below(&mut map, alloc, 2, "c", 30)?;
-    let one = map.get(&1).ok_or("no first map")?;
-    assert_eq!(rt; value_at(one, "a"), Some(10));
-    assert_eq!(rt; value_at(one, "b"), Some(20));
-    let two = map.get(&2).ok_or("no second map")?;
-    assert_eq!(rt; value_at(two, "c"), Some(30));
+    let values = Some((Some(10), Some(20), Some(30)));
+    assert_eq!(rt; below(&held(alloc)?), values);
+    assert_eq!(rt; below(&grown_maps(alloc)?), values);
     Ok(())
 }
 

@@ -4,7 +4,7 @@ use crate::encoded::EncodedBuffer;
 use crate::escape::{first_escape, unescape_segment, write_escaped_str, write_index};
 use crate::evaluate::{parse_index, pointer};
 use serde_json::Value;
-use std::alloc::Global;
+use std::alloc::{AllocError, Global};
 use std::borrow::CowStr;
 use std::test::Fail;
 
@@ -76,6 +76,18 @@ fn the_first_escape_is_found(rt: HostRuntime) {
     }
 }
 
+// A token after the two replacements, one after the other.
+fn replaced(alloc: Global, token: &str) -> Result<String, AllocError> {
+    token
+        .replace(alloc, "~1", "/")?
+        .as_str()
+        .replace(alloc, "~0", "~")
+}
+
+fn unescaped(alloc: Global, token: &str) -> Result<String, AllocError> {
+    unescape_segment(alloc, token)?.into_owned(alloc)
+}
+
 #[test]
 fn tokens_are_unescaped_by_two_replacements(rt: HostRuntime) -> Result<(), Fail> {
     for token in [
@@ -109,24 +121,26 @@ fn tokens_are_unescaped_by_two_replacements(rt: HostRuntime) -> Result<(), Fail>
         "~~1",
         "~~0",
     ] {
-        let slashes = token.replace(rt.alloc(), "~1", "/")?;
-        let wanted = slashes.as_str().replace(rt.alloc(), "~0", "~")?;
-        let key = unescape_segment(rt.alloc(), token)?;
-        assert_eq!(rt; key.as_str(), wanted.as_str(), "of {token}");
-    }
-    for (token, key) in [("~~1", "~/"), ("~~0", "~~"), ("~01", "~1"), ("~", "~")] {
         assert_eq!(rt;
-            unescape_segment(rt.alloc(), token)?.as_str(),
-            key,
+            unescaped(rt.alloc(), token)?.as_str(),
+            replaced(rt.alloc(), token)?.as_str(),
             "of {token}"
         );
     }
-    assert!(rt;
-        matches!(
-            unescape_segment(rt.alloc(), "a/b")?,
-            CowStr::Borrowed("a/b")
-        )
-    );
+    Ok(())
+}
+
+// Whether the key of a token is lent by it.
+fn is_borrowed(alloc: Global, token: &str) -> Result<bool, AllocError> {
+    Ok(matches!(unescape_segment(alloc, token)?, CowStr::Borrowed(key) if key == token))
+}
+
+#[test]
+fn tokens_are_unescaped_in_order(rt: HostRuntime) -> Result<(), Fail> {
+    for (token, key) in [("~~1", "~/"), ("~~0", "~~"), ("~01", "~1"), ("~", "~")] {
+        assert_eq!(rt; unescaped(rt.alloc(), token)?.as_str(), key, "of {token}");
+    }
+    assert!(rt; is_borrowed(rt.alloc(), "a/b")?);
     Ok(())
 }
 
@@ -143,59 +157,80 @@ fn pointers_mean_values(rt: HostRuntime) -> Result<(), Fail> {
     // The document of RFC 6901, section 5.
     let document =
         r#"{"foo":["bar","baz"],"":0,"a/b":1,"c%d":2,"e^f":3,"g|h":4,"i\\j":5,"k\"l":6," ":7,"m~n":8}"#;
-    for (text, value) in [
-        ("/foo", r#"["bar","baz"]"#),
-        ("/foo/0", r#""bar""#),
-        ("/", "0"),
-        ("/a~1b", "1"),
-        ("/c%d", "2"),
-        ("/e^f", "3"),
-        ("/g|h", "4"),
-        ("/i\\j", "5"),
-        ("/k\"l", "6"),
-        ("/ ", "7"),
-        ("/m~0n", "8"),
+    let small = r#"{"":{"a/b":[5]}}"#;
+    for (document, text, value) in [
+        (document, "/foo", Some(r#"["bar","baz"]"#)),
+        (document, "/foo/0", Some(r#""bar""#)),
+        (document, "/", Some("0")),
+        (document, "/a~1b", Some("1")),
+        (document, "/c%d", Some("2")),
+        (document, "/e^f", Some("3")),
+        (document, "/g|h", Some("4")),
+        (document, "/i\\j", Some("5")),
+        (document, "/k\"l", Some("6")),
+        (document, "/ ", Some("7")),
+        (document, "/m~0n", Some("8")),
+        (small, "", Some(small)),
+        (small, "//a~1b/0", Some("5")),
+        (document, "a", None),
+        (document, "/foo/2", None),
+        (document, "/foo/-", None),
+        (document, "/foo/00", None),
+        (document, "/foo/+1", None),
+        (document, "/nope", None),
+        (document, "/m~n/x", None),
+        (document, "//x", None),
     ] {
         let found = text_at(rt.alloc(), document, text)?;
-        assert_eq!(rt; found.ok_or("nothing there")?.as_str(), value, "at {text}");
-    }
-    let small = r#"{"":{"a/b":[5]}}"#;
-    let whole = text_at(rt.alloc(), small, "")?;
-    assert_eq!(rt; whole.ok_or("nothing there")?.as_str(), small);
-    let five = text_at(rt.alloc(), small, "//a~1b/0")?;
-    assert_eq!(rt; five.ok_or("nothing there")?.as_str(), "5");
-    for text in [
-        "a", "/foo/2", "/foo/-", "/foo/00", "/foo/+1", "/nope", "/m~n/x", "//x",
-    ] {
-        assert!(rt; text_at(rt.alloc(), document, text)?.is_none(), "at {text}");
+        assert_eq!(rt; found.as_deref(), value, "at {text}");
     }
     Ok(())
+}
+
+// What a buffer holds and what it is read back as, after some texts are pushed and cleared, and then others pushed; and
+// whether its encoded string tells the same.
+fn read_back(
+    alloc: Global,
+    cleared: [&str; 2],
+    pushed: [&str; 3],
+) -> Result<(String, String, bool), AllocError> {
+    let mut buffer = EncodedBuffer::new(alloc);
+    for text in cleared {
+        buffer.push_str(text)?;
+        buffer.clear();
+    }
+    for text in pushed {
+        buffer.push_str(text)?;
+    }
+    let read = buffer.decode(alloc)?;
+    let encoded = buffer.as_encoded();
+    let is_same = encoded.as_str() == buffer.as_str() && encoded.decode(alloc)? == read;
+    Ok((String::from_str(alloc, buffer.as_str())?, read, is_same))
 }
 
 #[test]
 fn escaped_text_is_read_back(rt: HostRuntime) -> Result<(), Fail> {
     let kept = "AZaz09-._~!$&'()*+,;=:@/?";
-    let mut buffer = EncodedBuffer::new(rt.alloc());
-    buffer.push_str("é%")?;
-    assert_eq!(rt; buffer.as_str(), "%C3%A9%25");
-    assert_eq!(rt; buffer.decode(rt.alloc())?.as_str(), "é%");
-    buffer.clear();
-    buffer.push_str("a/b")?;
-    buffer.clear();
-    buffer.push_str("~ ?")?;
-    assert_eq!(rt; buffer.as_str(), "~%20?");
-    assert_eq!(rt; buffer.as_encoded().as_str(), "~%20?");
-    assert_eq!(rt; buffer.as_encoded().decode(rt.alloc())?.as_str(), "~ ?");
-    buffer.push_str(kept)?;
-    assert_eq!(rt; buffer.as_str(), "~%20?AZaz09-._~!$&'()*+,;=:@/?");
-    buffer.push_str("\"#<>[\\]^`{|}")?;
-    assert_eq!(rt;
-        buffer.decode(rt.alloc())?.as_str(),
-        "~ ?AZaz09-._~!$&'()*+,;=:@/?\"#<>[\\]^`{|}"
-    );
-    assert_eq!(rt;
-        buffer.as_str(),
-        "~%20?AZaz09-._~!$&'()*+,;=:@/?%22%23%3C%3E%5B%5C%5D%5E%60%7B%7C%7D"
-    );
+    let escaped = "\"#<>[\\]^`{|}";
+    for (cleared, pushed, text, read) in [
+        (["", ""], ["é%", "", ""], "%C3%A9%25", "é%"),
+        (["é%", "a/b"], ["~ ?", "", ""], "~%20?", "~ ?"),
+        (
+            ["", ""],
+            ["~ ?", kept, ""],
+            "~%20?AZaz09-._~!$&'()*+,;=:@/?",
+            "~ ?AZaz09-._~!$&'()*+,;=:@/?",
+        ),
+        (
+            ["", ""],
+            ["~ ?", kept, escaped],
+            "~%20?AZaz09-._~!$&'()*+,;=:@/?%22%23%3C%3E%5B%5C%5D%5E%60%7B%7C%7D",
+            "~ ?AZaz09-._~!$&'()*+,;=:@/?\"#<>[\\]^`{|}",
+        ),
+    ] {
+        let (held, read_again, is_same) = read_back(rt.alloc(), cleared, pushed)?;
+        assert_eq!(rt; (held.as_str(), read_again.as_str()), (text, read));
+        assert!(rt; is_same);
+    }
     Ok(())
 }

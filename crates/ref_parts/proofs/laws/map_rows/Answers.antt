@@ -1,7 +1,6 @@
 use Rattle.std.proofs.Common.{◌≡◌, ℕ, List, [], ◌∷◌, nat_eq, Option, Some, None, true, length, refl, ap, sym, subst, arith}
 use Rattle.std.specs.Cmp.{nat_eq_equiv}
 use Rattle.std.proofs.lemmas.Bool.{false≢true}
-use Rattle.std.proofs.lemmas.Bool.Decides.{nat_tests}
 use Rattle.ref_parts.proofs.MapLaws.{Puts-insert}
 use Rattle.ref_parts.specs.Rows.Maps.{one, two}
 use Rattle.ref_parts.proofs.laws.map_rows.Goals as goal

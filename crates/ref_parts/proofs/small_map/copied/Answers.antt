@@ -1,4 +1,4 @@
-use Rattle.std.proofs.Common.{None, Some, sym, ap, subst, length, arith}
+use Rattle.std.proofs.Common.{None, Some, sym, ap, subst, arith}
 use Rattle.std.specs.List.{AllZip}
 use Rattle.std.proofs.lemmas.List.Elements.{length_all_zip}
 use Rattle.ref_parts.specs.FiniteMap.{IsClone, pairs, entries_of}
