@@ -39,14 +39,14 @@ pub enum Draft {
 impl Draft {
     /// The value as a resource of this draft. It takes no memory.
     pub fn create_resource(self, contents: Value) -> Resource
-        ensures { resource result ≡ tagged self (view contents) }
+        ensures value { resource result ≡ tagged self (view contents) }
     {
         Resource::new(contents, self)
     }
 
     /// The borrowed value as a resource of this draft. It takes no memory.
     pub fn create_resource_ref(self, contents: &Value) -> ResourceRef<'_>
-        ensures { resource_ref result ≡ tagged self (view contents.now) }
+        ensures value { resource_ref result ≡ tagged self (view contents.now) }
     {
         ResourceRef::new(contents, self)
     }
@@ -55,7 +55,7 @@ impl Draft {
     /// at its end; `Unknown` for another text. The URI without a version, `http://json-schema.org/schema`, is that of
     /// 2020-12. It takes no memory, and time linear in the text.
     pub fn from_schema_uri(uri: &str) -> Draft
-        ensures { result ≡ from_schema_uri uri.now }
+        ensures value { result ≡ from_schema_uri uri.now }
     {
         draft_of_uri(trim_hashes(uri))
     }
@@ -63,7 +63,7 @@ impl Draft {
     /// The draft of the value: that of its text under `$schema`, and this draft where it is no object or has no text
     /// there (2020-12 Core, 8.1.1). It takes no memory: a look-up, and time linear in the text.
     pub fn detect(self, contents: &Value) -> Draft
-        ensures { result ≡ detect self (view contents.now) }
+        ensures value { result ≡ detect self (view contents.now) }
     {
         match text_under(contents, "$schema") {
             Some(uri) => Draft::from_schema_uri(uri),
@@ -73,7 +73,7 @@ impl Draft {
 
     /// The keyword of a schema's identifier: `id` in Draft 4 (Core, 7.2), else `$id`.
     pub fn id_keyword(self) -> &'static str
-        ensures { result.now ≡ id_keyword self }
+        ensures value { result.now ≡ id_keyword self }
     {
         match self {
             Draft::Draft4 => "id",
@@ -85,7 +85,7 @@ impl Draft {
     /// and from Validation, 6 to 8, and with them earlier drafts' keywords but for `id`. It takes no memory, and compares
     /// the keyword with each of a list.
     pub fn is_known_keyword(&self, keyword: &str) -> bool
-        ensures { result ≡ is_known self.now keyword.now }
+        ensures value { result ≡ is_known self.now keyword.now }
     {
         match self {
             Draft::Draft4 => known::in_all(keyword) || known::in_4(keyword),
@@ -106,7 +106,7 @@ impl Draft {
     /// It takes no memory: a step is constant work for each keyword that it passes and, under `dependencies`, for each
     /// member.
     pub fn subresources_of<'a>(self, contents: &'a Value) -> ChildIter<'a>
-        ensures { values_left result ≡ subresources self (view contents.now) }
+        ensures items { values_left result ≡ subresources self (view contents.now) }
     {
         ChildIter::new(self, contents)
     }
@@ -147,7 +147,7 @@ impl Draft {
     /// any segments may follow `items` and `dependencies` to an object. This is this project's own rule, and no
     /// standard's. It takes no memory, and time linear in the segments.
     pub fn rebases(self, segments: &Segments, contents: &Value) -> bool
-        ensures { IsTrue result ↔ IsAccepted self segments.now (view contents.now) }
+        ensures accepted { IsTrue result ↔ IsAccepted self segments.now (view contents.now) }
     {
         scan::accepts(self, segments, contents.is_object())
     }
