@@ -113,7 +113,7 @@ pub fn error_rows()
     ensures rows { ErrorRows }
 {}
 
-/// The worked rows of what private clauses say of how far a body has come.
+/// The worked rows of the definitions that no public clause cites.
 pub fn body_rows()
     ensures rows { BodyRows }
 {}
