@@ -13,17 +13,17 @@ use crate::error::UriError;
 
 /// Every text is that of its components (RFC 3986, 5.3 and appendix B).
 pub fn components_make_their_text()
-    ensures { (text : List ℕ) → text_of (components text) ≡ text }
+    ensures law { (text : List ℕ) → text_of (components text) ≡ text }
 {}
 
 /// Components that hold what they may are determined by their text.
 pub fn components_are_determined()
-    ensures { (c : Components) → are_components c ≡ true → components (text_of c) ≡ c }
+    ensures law { (c : Components) → are_components c ≡ true → components (text_of c) ≡ c }
 {}
 
 /// A text is a URI reference exactly where it is the text of components that hold what they may.
 pub fn references_are_texts_of_components()
-    ensures { (text : List ℕ) → (is_uri_reference text ≡ true) ↔ IsTextOfComponents text }
+    ensures law { (text : List ℕ) → (is_uri_reference text ≡ true) ↔ IsTextOfComponents text }
 {}
 
 /// The two examples that the standard takes apart, and texts with components that are empty or absent (RFC 3986, 3).
@@ -60,60 +60,60 @@ pub fn references_of_examples()
 
 /// The normal form of a reference's normal form is itself (RFC 3986, 6.2.2).
 pub fn normal_form_is_its_own()
-    ensures { (text : List ℕ) → is_uri_reference text ≡ true → normal_form (normal_form text) ≡ normal_form text }
+    ensures law { (text : List ℕ) → is_uri_reference text ≡ true → normal_form (normal_form text) ≡ normal_form text }
 {}
 
 /// What a text means by itself is its own normal form.
 pub fn meanings_are_normal()
-    ensures { (text uri : List ℕ) → parsed text ≡ Ok uri → normal_form uri ≡ uri }
+    ensures law { (text uri : List ℕ) → parsed text ≡ Ok uri → normal_form uri ≡ uri }
 {}
 
 /// An error that says what the definitions refuse displays the text of that refusal.
 pub fn errors_say_refusals()
-    ensures { (error : UriError) (refusal : Refusal) → SaysRefusal error refusal → uri_error_text error ≡ refusal_text refusal }
+    ensures law { (error : UriError) (refusal : Refusal) → SaysRefusal error refusal → uri_error_text error ≡ refusal_text refusal }
 {}
 
 /// The worked rows of characters and triples (RFC 3986, 2 and 3).
 pub fn character_rows()
-    ensures { CharacterRows }
+    ensures rows { CharacterRows }
 {}
 
 /// The worked rows of authorities and their parts (RFC 3986, 3.2).
 pub fn authority_rows()
-    ensures { AuthorityRows }
+    ensures rows { AuthorityRows }
 {}
 
 /// The worked rows of components, where they begin and end, and what they may hold (RFC 3986, 3).
 pub fn component_rows()
-    ensures { ComponentRows }
+    ensures rows { ComponentRows }
 {}
 
 /// The worked rows of dot segments, one by one (RFC 3986, 5.2.4).
 pub fn segment_rows()
-    ensures { SegmentRows }
+    ensures rows { SegmentRows }
 {}
 
 /// The worked rows of the normal forms of parts (RFC 3986, 6.2.2 and 3.2.3).
 pub fn normal_rows()
-    ensures { NormalRows }
+    ensures rows { NormalRows }
 {}
 
 /// The worked rows of the five cases of resolution (RFC 3986, 5.2.2 and 5.2.3).
 pub fn resolution_rows()
-    ensures { ResolutionRows }
+    ensures rows { ResolutionRows }
 {}
 
 /// The worked rows of what texts mean, alone and against a base.
 pub fn meaning_rows()
-    ensures { MeaningRows }
+    ensures rows { MeaningRows }
 {}
 
 /// The worked rows of what errors say.
 pub fn error_rows()
-    ensures { ErrorRows }
+    ensures rows { ErrorRows }
 {}
 
-/// The worked rows of what private clauses say of how far a body has come.
+/// The worked rows of the definitions that no public clause cites.
 pub fn body_rows()
-    ensures { BodyRows }
+    ensures rows { BodyRows }
 {}

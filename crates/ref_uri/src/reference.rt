@@ -79,7 +79,7 @@ impl<'a> UriRef<'a> {
     /// unreserved characters decoded and the digits of others in upper case, an empty port without its `:`, and with a
     /// scheme no dot segments. Takes memory once, and is refused where there is none. Linear in the text.
     pub fn normalize(&self, alloc: Global) -> Result<String, AllocError>
-        ensures { IfOk result (λ text. string_bytes text ≡ normal_form self.now) }
+        ensures value { IfOk result (λ text. string_bytes text ≡ normal_form self.now) }
     {
         let (text, _) = self.normalized(alloc)?;
         Ok(text)
@@ -141,56 +141,56 @@ impl<'a> UriRef<'a> {
 
     /// The text.
     pub fn as_str(&self) -> &'a str
-        ensures { result.now ≡ self.now }
+        ensures value { result.now ≡ self.now }
     {
         self.text
     }
 
     /// The scheme, where there is one (RFC 3986, 3.1).
     pub fn scheme(&self) -> Option<&'a str>
-        ensures { option_copied result ≡ scheme self.now }
+        ensures value { option_copied result ≡ scheme self.now }
     {
         self.parts().scheme
     }
 
     /// The authority, where there is one: an empty one differs from none (RFC 3986, 3.2).
     pub fn authority(&self) -> Option<&'a str>
-        ensures { option_copied result ≡ authority self.now }
+        ensures value { option_copied result ≡ authority self.now }
     {
         self.parts().authority
     }
 
     /// The path, which may be empty (RFC 3986, 3.3).
     pub fn path(&self) -> &'a str
-        ensures { result.now ≡ path self.now }
+        ensures value { result.now ≡ path self.now }
     {
         self.parts().path
     }
 
     /// The query, where there is one: an empty one differs from none (RFC 3986, 3.4).
     pub fn query(&self) -> Option<&'a str>
-        ensures { option_copied result ≡ query self.now }
+        ensures value { option_copied result ≡ query self.now }
     {
         self.parts().query
     }
 
     /// The fragment, where there is one: an empty one differs from none (RFC 3986, 3.5).
     pub fn fragment(&self) -> Option<&'a str>
-        ensures { option_copied result ≡ fragment self.now }
+        ensures value { option_copied result ≡ fragment self.now }
     {
         self.parts().fragment
     }
 
     /// Whether there is a scheme.
     pub fn has_scheme(&self) -> bool
-        ensures { result ≡ is_some (scheme self.now) }
+        ensures value { result ≡ is_some (scheme self.now) }
     {
         self.scheme().is_some()
     }
 
     /// Whether there is a fragment.
     pub fn has_fragment(&self) -> bool
-        ensures { result ≡ is_some (fragment self.now) }
+        ensures value { result ≡ is_some (fragment self.now) }
     {
         self.fragment().is_some()
     }

@@ -58,7 +58,7 @@ impl Uri {
 
     /// The same URI, borrowed. A look-up; takes no memory.
     pub fn borrow(&self) -> UriRef<'_>
-        ensures { result ≡ self.now }
+        ensures value { result ≡ self.now }
     {
         UriRef::from_parsed(self.text.as_str(), self.lengths)
     }
@@ -74,7 +74,7 @@ impl Uri {
     /// The normal form of the URI (RFC 3986, 6.2.2 and 3.2.3), as [`UriRef::normalize`] has it. Takes memory once, and is
     /// refused where there is none. Linear in the text.
     pub fn normalize(&self, alloc: Global) -> Result<Uri, AllocError>
-        ensures { IfOk result (λ uri. uri ≡ normal_form self.now) }
+        ensures value { IfOk result (λ uri. uri ≡ normal_form self.now) }
     {
         let uri = UriRef::from_parsed(self.text.as_str(), self.lengths);
         let (text, lengths) = uri.normalized(alloc)?;
@@ -92,42 +92,42 @@ impl Uri {
 
     /// The text.
     pub fn as_str(&self) -> &str
-        ensures { result.now ≡ self.now }
+        ensures value { result.now ≡ self.now }
     {
         self.text.as_str()
     }
 
     /// The scheme (RFC 3986, 3.1).
     pub fn scheme(&self) -> &str
-        ensures { Some result.now ≡ scheme self.now }
+        ensures value { Some result.now ≡ scheme self.now }
     {
         self.lengths.parts(self.text.as_str()).scheme.unwrap()
     }
 
     /// The authority, where there is one: an empty one differs from none (RFC 3986, 3.2).
     pub fn authority(&self) -> Option<&str>
-        ensures { option_copied result ≡ authority self.now }
+        ensures value { option_copied result ≡ authority self.now }
     {
         self.borrow().authority()
     }
 
     /// The path, which may be empty (RFC 3986, 3.3).
     pub fn path(&self) -> &str
-        ensures { result.now ≡ path self.now }
+        ensures value { result.now ≡ path self.now }
     {
         self.borrow().path()
     }
 
     /// The query, where there is one: an empty one differs from none (RFC 3986, 3.4).
     pub fn query(&self) -> Option<&str>
-        ensures { option_copied result ≡ query self.now }
+        ensures value { option_copied result ≡ query self.now }
     {
         self.borrow().query()
     }
 
     /// The fragment, where there is one: an empty one differs from none (RFC 3986, 3.5).
     pub fn fragment(&self) -> Option<&str>
-        ensures { option_copied result ≡ fragment self.now }
+        ensures value { option_copied result ≡ fragment self.now }
     {
         self.borrow().fragment()
     }
@@ -143,14 +143,14 @@ impl Uri {
 
     /// Whether there is a fragment.
     pub fn has_fragment(&self) -> bool
-        ensures { result ≡ is_some (fragment self.now) }
+        ensures value { result ≡ is_some (fragment self.now) }
     {
         self.borrow().has_fragment()
     }
 
     /// The URI without its fragment, borrowed (RFC 3986, 3.5). A look-up; takes no memory.
     pub fn strip_fragment(&self) -> UriRef<'_>
-        ensures { result ≡ with_fragment self.now None }
+        ensures value { result ≡ with_fragment self.now None }
     {
         self.borrow().strip_fragment()
     }

@@ -12,4 +12,4 @@ says (Resolve uri base error) (unparsed text) h = absurd h
 says (Resolve uri base error) (unresolved text against) h = rw (h.0, h.1, h.2) (append_assoc (codes "Failed to resolve '" ++ text ++ codes "' against '" ++ against) (codes "': ") (codes "the base has no scheme"))
 
 pub returns : goal.returns
-returns c = says
+returns c = record { law = says }

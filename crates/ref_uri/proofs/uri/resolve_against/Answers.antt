@@ -12,33 +12,33 @@ returns-then-not-has_scheme-clause-fault c =
     let base = c.args.base in
     let text = c.args.uri.now in (
       unresolved text base,
-      against_without_scheme base text (sym c.has_scheme.ensures ∙ c.if-not-has_scheme.true),
-      (c.in_ok-uri.ensures.ok, c.in_ok-base.ensures.ok ∙ c.as_str.ensures, refl),
+      against_without_scheme base text (sym c.has_scheme.ensures.value ∙ c.if-not-has_scheme.true),
+      (c.in_ok-uri.ensures.ok, c.in_ok-base.ensures.ok ∙ c.as_str.ensures.value, refl),
     )
 
 pub returns-in-Err-clause-fault : goal.returns-in-Err-clause-fault
 returns-in-Err-clause-fault c =
     let base = c.args.base in
     let text = c.args.uri.now in
-    let other : (eqb (get_or text 0 0) 35 && ends_with eqb base text) ≡ false = ap (λ b. eqb (get_or text 0 0) 35 && ends_with eqb b text) (sym c.as_str-2.ensures) ∙ sym c.is_fragment_at_end.ensures ∙ c.if-is_fragment_at_end.false in
+    let other : (eqb (get_or text 0 0) 35 && ends_with eqb base text) ≡ false = ap (λ b. eqb (get_or text 0 0) 35 && ends_with eqb b text) (sym c.as_str-2.ensures.value) ∙ sym c.is_fragment_at_end.ensures ∙ c.if-is_fragment_at_end.false in
     fault_moved (against base text) (unparsed text) c.in-Err.fault (is_uri_reference text ≡ false) c.in-Err.ensures.refused c.in-Err.ensures.invalid
-    (against_refused base text (sym c.has_scheme.ensures ∙ c.if-not-has_scheme.false) other)
+    (against_refused base text (sym c.has_scheme.ensures.value ∙ c.if-not-has_scheme.false) other)
 
 pub resolved_then_normalized-requires : goal.resolved_then_normalized-requires
-resolved_then_normalized-requires c = ap is_some c.strip_fragment-base.ensures.scheme ∙ sym c.has_scheme.ensures ∙ c.if-not-has_scheme.false
+resolved_then_normalized-requires c = ap is_some c.strip_fragment-base.ensures.scheme ∙ sym c.has_scheme.ensures.value ∙ c.if-not-has_scheme.false
 
 pub returns-then-is_fragment_at_end-clause-ok : goal.returns-then-is_fragment_at_end-clause-ok
 returns-then-is_fragment_at_end-clause-ok c =
     let base = c.args.base in
     let text = c.args.uri.now in
-    let same : (eqb (get_or text 0 0) 35 && ends_with eqb base text) ≡ true = ap (λ b. eqb (get_or text 0 0) 35 && ends_with eqb b text) (sym c.as_str-2.ensures) ∙ sym c.is_fragment_at_end.ensures ∙ c.if-is_fragment_at_end.true in
-    against_same base text (sym c.has_scheme.ensures ∙ c.if-not-has_scheme.false) same ∙ ap (λ t. Ok t) (sym c.in_ok-to_uri.ensures)
+    let same : (eqb (get_or text 0 0) 35 && ends_with eqb base text) ≡ true = ap (λ b. eqb (get_or text 0 0) 35 && ends_with eqb b text) (sym c.as_str-2.ensures.value) ∙ sym c.is_fragment_at_end.ensures ∙ c.if-is_fragment_at_end.true in
+    against_same base text (sym c.has_scheme.ensures.value ∙ c.if-not-has_scheme.false) same ∙ ap (λ t. Ok t) (sym c.in_ok-to_uri.ensures)
 
 pub returns-clause-ok : goal.returns-clause-ok
 returns-clause-ok c =
     let base = c.args.base in
     let text = c.args.uri.now in
-    let other : (eqb (get_or text 0 0) 35 && ends_with eqb base text) ≡ false = ap (λ b. eqb (get_or text 0 0) 35 && ends_with eqb b text) (sym c.as_str-2.ensures) ∙ sym c.is_fragment_at_end.ensures ∙ c.if-is_fragment_at_end.false in
+    let other : (eqb (get_or text 0 0) 35 && ends_with eqb base text) ≡ false = ap (λ b. eqb (get_or text 0 0) 35 && ends_with eqb b text) (sym c.as_str-2.ensures.value) ∙ sym c.is_fragment_at_end.ensures ∙ c.if-is_fragment_at_end.false in
     let target = ap (λ b. resolved b c.in-Ok.reference) c.strip_fragment-base.ensures.value ∙ ap (resolved (with_fragment base None)) c.in-Ok.ensures.reference in
-    against_target base text (sym c.has_scheme.ensures ∙ c.if-not-has_scheme.false) other (c.in-Ok.ensures.accepted refl)
+    against_target base text (sym c.has_scheme.ensures.value ∙ c.if-not-has_scheme.false) other (c.in-Ok.ensures.accepted refl)
     ∙ ap (λ t. Ok t) (sym (c.from_written.ensures ∙ c.in_ok-text.ensures.text ∙ ap normal_form target))

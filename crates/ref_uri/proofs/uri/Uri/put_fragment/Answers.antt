@@ -18,7 +18,7 @@ put inside stripped reserved truncated pushed whole mark f a b c d e g =
 whole_is : (c : goal.After-unwrap-2) → string_bytes c.push_str.new.self ≡ with_fragment (string_bytes c.self.inside.text) (Some c.args.fragment.now)
 whole_is c =
     put (string_bytes c.self.inside.text) c.as_str-len.result.now (string_bytes c.reserve.new.self) (string_bytes c.truncate.new.self) (string_bytes c.push.new.self) (string_bytes c.push_str.new.self) _ c.args.fragment.now
-    (c.as_str-len.ensures ∙ c.strip_fragment.ensures ∙ ap (λ t. with_fragment t None) (sym c.self.view_is))
+    (c.as_str-len.ensures.value ∙ c.strip_fragment.ensures.value ∙ ap (λ t. with_fragment t None) (sym c.self.view_is))
     c.in_ok-reserve.ensures.bytes
     c.truncate.ensures.bytes
     (grown _ _ _ _ c.push.ensures.bytes (ap is_ok c.unwrap.ensures))

@@ -8,7 +8,7 @@ use Rattle.ref_uri.proofs.uri.Uri.set_fragment.Goals as goal
 -- the text up to the fragment
 cut_is : (c : goal.After-truncate) → string_bytes c.truncate.new.self ≡ with_fragment (string_bytes c.self.inside.text) None
 cut_is c =
-    let stripped = c.as_str-len.ensures ∙ c.strip_fragment.ensures ∙ ap (λ t. with_fragment t None) (sym c.self.view_is) in
+    let stripped = c.as_str-len.ensures.value ∙ c.strip_fragment.ensures.value ∙ ap (λ t. with_fragment t None) (sym c.self.view_is) in
     c.truncate.ensures.bytes ∙ ap (λ t. take (length t) (string_bytes c.self.inside.text)) stripped ∙ with_fragment-dropped (string_bytes c.self.inside.text)
 
 pub invariant_of-self : goal.invariant_of-self
