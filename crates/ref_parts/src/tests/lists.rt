@@ -102,11 +102,11 @@ fn told_of_three(
     Ok([told(&empty), told(&one), told(&two)])
 }
 
-// How a list of the numbers below a count is shown, and whether there was memory to show its iterator.
-fn shown(alloc: Global, count: u32) -> Result<(String, bool), AllocError> {
+// How a list of the numbers below a count is shown. Its iterator can be shown too.
+fn shown(alloc: Global, count: u32) -> Result<String, AllocError> {
     let list = numbers(alloc, count)?;
-    let iterator_shown = debug_text(alloc, &list.iter()).is_ok();
-    Ok((debug_text(alloc, &list)?, iterator_shown))
+    drop(debug_text(alloc, &list.iter())?);
+    debug_text(alloc, &list)
 }
 
 #[test]
@@ -120,9 +120,7 @@ fn a_list_has_its_items_in_order(rt: HostRuntime) -> Result<(), Fail> {
         ]
     );
     for (count, text) in [(0, "[]"), (1, "[0]"), (2, "[1, 0]")] {
-        let (list, iterator_shown) = shown(rt.alloc(), count)?;
-        assert_eq!(rt; list.as_str(), text);
-        assert!(rt; iterator_shown);
+        assert_eq!(rt; shown(rt.alloc(), count)?.as_str(), text);
     }
     Ok(())
 }
