@@ -1,6 +1,7 @@
 -- What a text means, case by case.
 use Rattle.std.proofs.Common.{◌≡◌, ℕ, true, false, ◌&&◌, List, Some, None, Result, Ok, Err, is_some, get_or, eqb, refl, ◌∙◌}
 use Rattle.std.specs.List.{ends_with}
+use Rattle.std.specs.Result.{IfErr, IsErrAnd}
 use Rattle.ref_uri.specs.Components.{scheme}
 use Rattle.ref_uri.specs.Errors.{IsFaultOf, IfInvalid}
 use Rattle.ref_uri.specs.Lengths.{the_lengths, IsParsed}
@@ -45,6 +46,11 @@ against_refused base text s e h = rw (s, e, h) refl
 pub fault_moved : (meaning : Result (List ℕ) Refusal) (refusal : Refusal) (fault : UriFault) (P : Type 0) → IsFaultOf (Err refusal) fault → IfInvalid fault P → (P → meaning ≡ Err refusal) → IsFaultOf meaning fault
 fault_moved meaning refusal (uri_fault.Invalid error) P is p moved = (is.0, moved p ∙ is.1, is.2)
 fault_moved meaning refusal (uri_fault.Memory error) P is p moved = tt
+
+-- a call that passes a fault on answers with it
+pub fault_passed : {X : Type 0} (r : Result X UriFault) (fault : UriFault) (meaning : Result (List ℕ) Refusal) → IsErrAnd r (λ e. e ≡ fault) → IsFaultOf meaning fault → IfErr r (IsFaultOf meaning)
+fault_passed (Ok x) fault meaning passed is = tt
+fault_passed (Err e) fault meaning passed is = rw passed is
 
 pub default_is_reference : is_uri_reference default_base ≡ true
 unfolding ref_uri_on_literals

@@ -141,14 +141,20 @@ impl From<AllocError> for ResolveFault {
 pub enum UriError {
     /// The text is no URI reference, or, where `is_reference` is false, no URI. No call here answers the latter.
     Parse {
+        /// The text, as it was handed in.
         uri: String,
+        /// Whether a reference was asked for, and not only a URI.
         is_reference: bool,
+        /// What the text lacks.
         error: ParseError,
     },
     /// The text has no target against the base.
     Resolve {
+        /// The text, as it was handed in.
         uri: String,
+        /// The base's text.
         base: String,
+        /// What the base lacks.
         error: ResolveError,
     },
 }

@@ -139,6 +139,7 @@ impl<'a> Hash for UriRef<'a> {
     }
 }
 
+/// The same URI, its text copied. Refused only where there is no memory for it; linear in the text.
 impl Clone for Uri {
     ghost is_clone = { λ uri copy. copy ≡ uri };
 

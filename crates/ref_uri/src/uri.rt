@@ -234,10 +234,7 @@ pub fn from_str(alloc: Global, uri: &str) -> Result<Uri, UriFault>
     ensures ok { IfOk result (λ answer. parsed uri.now ≡ Ok answer) }
     ensures fault { IfErr result (IsFaultOf (parsed uri.now)) }
 {
-    let reference = match parse_reference(alloc, uri) {
-        Ok(reference) => reference,
-        Err(fault) => return Err(fault),
-    };
+    let reference = parse_reference(alloc, uri)?;
     if reference.has_scheme() {
         let (text, lengths) = reference.normalized(alloc)?;
         return Ok(Uri::from_written(text, lengths));
@@ -281,10 +278,7 @@ pub fn resolve_against(alloc: Global, base: UriRef<'_>, uri: &str) -> Result<Uri
     if is_fragment_at_end(base.as_str(), uri) {
         return Ok(base.to_uri(alloc)?);
     }
-    let reference = match parse_reference(alloc, uri) {
-        Ok(reference) => reference,
-        Err(fault) => return Err(fault),
-    };
+    let reference = parse_reference(alloc, uri)?;
     let base = base.strip_fragment();
     let (text, lengths) = reference.resolved_then_normalized(alloc, &base)?;
     Ok(Uri::from_written(text, lengths))

@@ -102,9 +102,12 @@ fn told_of_three(
     Ok([told(&empty), told(&one), told(&two)])
 }
 
-// How a list of the numbers below a count is shown. Its iterator can be shown too.
-fn shown(alloc: Global, count: u32) -> Result<String, AllocError> {
-    let list = numbers(alloc, count)?;
+// How a list of these numbers is shown. Its iterator can be shown too.
+fn shown(alloc: Global, items: &[u32]) -> Result<String, AllocError> {
+    let mut list = List::new();
+    for item in items.iter().rev() {
+        list = list.push_front(alloc, Rc::new(alloc, *item)?)?;
+    }
     drop(debug_text(alloc, &list.iter())?);
     debug_text(alloc, &list)
 }
@@ -119,8 +122,12 @@ fn a_list_has_its_items_in_order(rt: HostRuntime) -> Result<(), Fail> {
             (false, Some(1), Some(1), [Some(1), Some(2), None, None], 3),
         ]
     );
-    for (count, text) in [(0, "[]"), (1, "[0]"), (2, "[1, 0]")] {
-        assert_eq!(rt; shown(rt.alloc(), count)?.as_str(), text);
+    for (items, text) in [
+        ([].as_slice(), "[]"),
+        ([2].as_slice(), "[2]"),
+        ([1, 2].as_slice(), "[1, 2]"),
+    ] {
+        assert_eq!(rt; shown(rt.alloc(), items)?.as_str(), text);
     }
     Ok(())
 }
