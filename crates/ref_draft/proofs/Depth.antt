@@ -1,28 +1,17 @@
 -- The children of a value nest less deeply than it.
-use Rattle.std.proofs.Common.{ℕ, suc, ◌<◌, ◌≤◌, List, [], ◌∷◌, ◌++◌, Bool, true, false, cond, arith}
-use Rattle.std.specs.List.{filter, AllByRecursion}
+use Rattle.std.proofs.Common.{ℕ, suc, ◌<◌, ◌≤◌, List, [], ◌∷◌, arith}
+use Rattle.std.specs.List.{AllByRecursion}
 use Rattle.serde_json.specs.Data.{Data, null, boolean, number, string, array, object, Items, no_items, item, Members, no_members, member, depth, items_depth, members_depth}
 use Rattle.ref_draft.specs.declared.draft.Draft.{Draft}
 use Rattle.ref_draft.specs.declared.spec.Holding.{Holding}
 use Rattle.ref_draft.specs.declared.spec.Holding.TheVariants.{Whole, WholeObject, Elements, Members as EachMember, ElementsOrWhole, ObjectMembers, Nothing}
 use Rattle.ref_draft.specs.Keywords.{holding}
 use Rattle.ref_draft.specs.Children.{Child, whole, elements_from, each_member, elements, members, held, below, children, has_object}
+use Rattle.ref_draft.proofs.Lists.{all_append, all_filter}
 
 -- each child nests at most n deep
 abbrev Within : ℕ → List Child → Type 0
 Within n cs = AllByRecursion (λ child. depth child.1 ≤ n) cs
-
-within_append : (n : ℕ) (xs ys : List Child) → Within n xs → Within n ys → Within n (xs ++ ys)
-within_append n [] ys p q = q
-within_append n (x ∷ xs) ys p q = (p.0, within_append n xs ys p.1 q)
-
-within_cond : (n : ℕ) (b : Bool) (x : Child) (xs : List Child) → depth x.1 ≤ n → Within n xs → Within n (cond b (x ∷ xs) xs)
-within_cond n true x xs p q = (p, q)
-within_cond n false x xs p q = q
-
-within_filter : (n : ℕ) (xs : List Child) → Within n xs → Within n (filter has_object xs)
-within_filter n [] p = tt
-within_filter n (x ∷ xs) p = within_cond n (has_object x) x (filter has_object xs) p.0 (within_filter n xs p.1)
 
 within_elements : (n : ℕ) (k : List ℕ) (i : ℕ) (ds : Items) → items_depth ds ≤ n → Within n (elements_from k i ds)
 within_elements n k i no_items h = tt
@@ -64,11 +53,11 @@ within_object n k (object ms) h = within_members n k ms (omega arith)
 
 within_held : (n : ℕ) (how : Holding) (k : List ℕ) (v : Data) → depth v ≤ n → Within n (held how k v)
 within_held n Whole k v h = (h, tt)
-within_held n WholeObject k v h = within_filter n (whole k v) (h, tt)
+within_held n WholeObject k v h = all_filter (λ child. depth child.1 ≤ n) has_object (whole k v) (h, tt)
 within_held n Elements k v h = within_array n k v h
 within_held n EachMember k v h = within_object n k v h
 within_held n ElementsOrWhole k v h = within_array_or_whole n k v h
-within_held n ObjectMembers k v h = within_filter n (members k v) (within_object n k v h)
+within_held n ObjectMembers k v h = all_filter (λ child. depth child.1 ≤ n) has_object (members k v) (within_object n k v h)
 within_held n Nothing k v h = tt
 
 within_below : (n : ℕ) (d : Draft) (ms : Members) → members_depth ms ≤ n → Within n (below d ms)
@@ -76,7 +65,7 @@ within_below n d no_members h = tt
 within_below n d (member k v ms) h =
     let here : depth v ≤ n = omega arith in
     let later : members_depth ms ≤ n = omega arith in
-    within_append n (held (holding d k) k v) (below d ms) (within_held n (holding d k) k v here) (within_below n d ms later)
+    all_append (λ child. depth child.1 ≤ n) (held (holding d k) k v) (below d ms) (within_held n (holding d k) k v here) (within_below n d ms later)
 
 strictly : (n : ℕ) (cs : List Child) → Within n cs → AllByRecursion (λ child. depth child.1 < suc n) cs
 strictly n [] p = tt

@@ -1,12 +1,14 @@
 -- The columns of a row share no keyword, and before 2020-12 none has `items` or `dependencies`.
-use Rattle.std.proofs.Common.{◌≡◌, ℕ, List, [], ◌∷◌, Bool, true, false, ◌&&◌, not, codes, ⊎_elim, refl, sym, ap, ◌∙◌, true≢false}
+use Rattle.std.proofs.Common.{◌≡◌, ℕ, List, [], ◌∷◌, Bool, true, false, ◌&&◌, ◌||◌, not, cond, codes, ⊎_elim, refl, sym, ap, ◌∙◌, true≢false}
 use Rattle.std.specs.Str.{bytes_eq}
-use Rattle.std.proofs.lemmas.Bool.{or_cases}
+use Rattle.std.proofs.lemmas.Bool.{and_parts, not-true, or_cases}
 use Rattle.std.proofs.lemmas.Slice.Eq.{bytes_eq-Decides}
 use Rattle.ref_draft.specs.declared.draft.Draft.{Draft}
 use Rattle.ref_draft.specs.declared.draft.Draft.TheVariants.{Draft4, Draft6, Draft7, Draft201909, Draft202012, Unknown}
-use Rattle.ref_draft.specs.Keywords.{is_one_of, is_before_2020}
-use Rattle.ref_draft.specs.Scan.{scan_row, is_value_keyword, is_child_keyword, is_items_or_dependencies}
+use Rattle.ref_draft.specs.declared.spec.Holding.{Holding}
+use Rattle.ref_draft.specs.declared.spec.Holding.TheVariants.{Whole, Elements, Members, ElementsOrWhole, ObjectMembers, Nothing}
+use Rattle.ref_draft.specs.Keywords.{is_one_of, is_before_2020, is_items_or_dependencies}
+use Rattle.ref_draft.specs.Scan.{scan_row, is_value_keyword, is_child_keyword}
 use Rattle.ref_draft.specs.ScanSteps.{scan_holding, go_on}
 
 -- whether no keyword of the first list is in the second
@@ -14,22 +16,14 @@ abbrev are_apart : List (List ℕ) → List (List ℕ) → Bool
 are_apart [] others = true
 are_apart (k ∷ ks) others = not (is_one_of k others) && are_apart ks others
 
-both : (a b : Bool) → (a && b) ≡ true → (a ≡ true) × (b ≡ true)
-both true b e = (refl, e)
-both false b e = absurd (true≢false (sym e))
-
-negated : (a : Bool) → not a ≡ true → a ≡ false
-negated true e = absurd (true≢false (sym e))
-negated false e = refl
-
 pub same : (k l : List ℕ) → bytes_eq k l ≡ true → k ≡ l
 same k l = (bytes_eq-Decides k l).0
 
 apart : (k : List ℕ) (ks others : List (List ℕ)) → are_apart ks others ≡ true → is_one_of k ks ≡ true → is_one_of k others ≡ false
 apart k [] others test among = absurd (true≢false (sym among))
 apart k (l ∷ ks) others test among =
-    let parts = both (not (is_one_of l others)) (are_apart ks others) test in
-    ⊎_elim (λ here. ap (λ w. is_one_of w others) (same k l here) ∙ negated (is_one_of l others) parts.0)
+    let parts = and_parts (not (is_one_of l others)) (are_apart ks others) test in
+    ⊎_elim (λ here. ap (λ w. is_one_of w others) (same k l here) ∙ not-true (is_one_of l others) parts.0)
     (λ later. apart k ks others parts.1 later)
     (or_cases (bytes_eq k l) (is_one_of k ks) among)
 
@@ -48,6 +42,10 @@ maps_apart Draft7 = refl
 maps_apart Draft201909 = refl
 maps_apart Draft202012 = refl
 maps_apart Unknown = refl
+
+-- how a keyword that is in these columns holds its subschemas
+abbrev pub chosen : Bool → Bool → Bool → Bool → Bool → Holding
+chosen value array map either items = cond value Whole (cond array Elements (cond map Members (cond either (cond items ElementsOrWhole ObjectMembers) Nothing)))
 
 -- a child keyword is no value keyword
 pub child_is_no_value : (d : Draft) (k : List ℕ) → is_child_keyword d k ≡ true → is_value_keyword d k ≡ false
@@ -76,5 +74,7 @@ at_dependencies Unknown object on past before = absurd (true≢false (sym before
 pub stops_at_items : (d : Draft) (k : List ℕ) (object on past : Bool) → is_before_2020 d ≡ true → is_items_or_dependencies k ≡ true → go_on (scan_holding d k) object on past ≡ object
 stops_at_items d k object on past before items =
     ⊎_elim (λ here. ap (λ w. go_on (scan_holding d w) object on past) (same k (codes "items") here) ∙ at_items d object on past before)
-    (λ here. ap (λ w. go_on (scan_holding d w) object on past) (same k (codes "dependencies") here) ∙ at_dependencies d object on past before)
-    (or_cases (bytes_eq k (codes "items")) (bytes_eq k (codes "dependencies")) items)
+    (λ later.
+    ⊎_elim (λ here. ap (λ w. go_on (scan_holding d w) object on past) (same k (codes "dependencies") here) ∙ at_dependencies d object on past before)
+    (λ none. absurd (true≢false (sym none))) (or_cases (bytes_eq k (codes "dependencies")) false later))
+    (or_cases (bytes_eq k (codes "items")) (bytes_eq k (codes "dependencies") || false) items)

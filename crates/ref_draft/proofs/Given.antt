@@ -8,18 +8,11 @@ use Rattle.ref_draft.specs.declared.spec.Holding.TheVariants.{Whole, WholeObject
 use Rattle.ref_draft.specs.Keywords.{holding, is_left_out}
 use Rattle.ref_draft.specs.Children.{Child, whole, elements_from, each_member, elements, members, held, below, has_object, keyword_of, is_given, subresources}
 use Rattle.ref_draft.proofs.Held.{value_of}
+use Rattle.ref_draft.proofs.Lists.{all_filter}
 
 -- each child stands under the keyword
 abbrev Under : List ℕ → List Child → Type 0
 Under k cs = AllByRecursion (λ child. keyword_of child.0 ≡ k) cs
-
-under_cond : (k : List ℕ) (b : Bool) (x : Child) (xs : List Child) → keyword_of x.0 ≡ k → Under k xs → Under k (cond b (x ∷ xs) xs)
-under_cond k true x xs p q = (p, q)
-under_cond k false x xs p q = q
-
-under_filter : (k : List ℕ) (xs : List Child) → Under k xs → Under k (filter has_object xs)
-under_filter k [] p = tt
-under_filter k (x ∷ xs) p = under_cond k (has_object x) x (filter has_object xs) p.0 (under_filter k xs p.1)
 
 under_elements : (k : List ℕ) (i : ℕ) (ds : Items) → Under k (elements_from k i ds)
 under_elements k i no_items = tt
@@ -55,11 +48,11 @@ under_object k (object ms) = under_members k ms
 
 pub under_held : (how : Holding) (k : List ℕ) (v : Data) → Under k (held how k v)
 under_held Whole k v = (refl, tt)
-under_held WholeObject k v = under_filter k (whole k v) (refl, tt)
+under_held WholeObject k v = all_filter (λ child. keyword_of child.0 ≡ k) has_object (whole k v) (refl, tt)
 under_held Elements k v = under_array k v
 under_held EachMember k v = under_object k v
 under_held ElementsOrWhole k v = under_array_or_whole k v
-under_held ObjectMembers k v = under_filter k (members k v) (under_object k v)
+under_held ObjectMembers k v = all_filter (λ child. keyword_of child.0 ≡ k) has_object (members k v) (under_object k v)
 under_held Nothing k v = tt
 
 filtered_given : (d : Draft) (k : List ℕ) (b : Bool) → is_left_out d k ≡ b → (cs : List Child) → Under k cs → filter (is_given d) cs ≡ cond b [] cs

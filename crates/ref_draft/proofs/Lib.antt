@@ -1,3 +1,4 @@
+pub mod Lists
 pub mod Trim
 pub mod Held
 pub mod Disjoint

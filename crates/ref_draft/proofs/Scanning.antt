@@ -1,17 +1,17 @@
 -- The scan accepts exactly the parts that the definition does.
 use Rattle.std.proofs.Common.{◌≡◌, ℕ, List, [], ◌∷◌, ◌++◌, Bool, true, false, ◌&&◌, ◌||◌, cond, codes, inl, inr, ◌↔◌, refl, sym, ap, ◌∙◌, true≢false, append_assoc}
 use Rattle.std.specs.Str.{bytes_eq}
+use Rattle.std.proofs.lemmas.Bool.{and_parts, or_left, or_right}
 use Rattle.std.proofs.lemmas.List.{append-nil}
 use Rattle.serde_json.specs.Data.{Data}
 use Rattle.ref_parts.specs.Path.{Part, Key, Index}
 use Rattle.ref_draft.specs.declared.draft.Draft.{Draft}
-use Rattle.ref_draft.specs.declared.spec.Holding.{Holding}
-use Rattle.ref_draft.specs.declared.spec.Holding.TheVariants.{Whole, Elements, Members, ElementsOrWhole, ObjectMembers, Nothing}
-use Rattle.ref_draft.specs.Keywords.{is_one_of, is_before_2020}
+use Rattle.ref_draft.specs.declared.spec.Holding.TheVariants.{ElementsOrWhole, ObjectMembers}
+use Rattle.ref_draft.specs.Keywords.{is_one_of, is_before_2020, is_items_or_dependencies}
 use Rattle.ref_draft.specs.Children.{is_object}
-use Rattle.ref_draft.specs.Scan.{scan_row, is_value_keyword, is_child_keyword, is_items_or_dependencies, Piece, AnIndex, AValue, AChild, parts_of, spelled, IsPieceOf, IsWord, SpellsWord, IsAccepted}
+use Rattle.ref_draft.specs.Scan.{scan_row, is_value_keyword, is_child_keyword, Piece, AnIndex, AValue, AChild, parts_of, spelled, IsPieceOf, IsWord, SpellsWord, IsAccepted}
 use Rattle.ref_draft.specs.ScanSteps.{go_on, scan, scan_past}
-use Rattle.ref_draft.proofs.Disjoint.{child_is_no_value, stops_at_items}
+use Rattle.ref_draft.proofs.Disjoint.{chosen, child_is_no_value, stops_at_items}
 
 -- ---- what the scan accepts is accepted
 
@@ -36,48 +36,34 @@ past : (d : Draft) (v : Data) (k : List ℕ) (parts : List Part) → is_child_ke
 past d v k [] child rests h = absurd (true≢false (sym h))
 past d v k (part ∷ parts) child rests h = add d v parts (AChild k part) child (rests part parts refl h)
 
--- how a keyword that is in these columns holds its subschemas
-abbrev chosen : Bool → Bool → Bool → Bool → Bool → Holding
-chosen value array map items dependencies = cond value Whole (cond array Elements (cond map Members (cond items ElementsOrWhole (cond dependencies ObjectMembers Nothing))))
-
 stop : (d : Draft) (v : Data) (k : List ℕ) (parts : List Part) → is_before_2020 d ≡ true → is_items_or_dependencies k ≡ true → is_object v ≡ true → IsAccepted d (Key k ∷ parts) v
 stop d v k parts before items object =
     inr (record { before = before; object = object; pieces = []; keyword = k; rest = parts; word = tt; items = items; spells = refl })
 
-both : (a b : Bool) → (a && b) ≡ true → (a ≡ true) × (b ≡ true)
-both true b e = (refl, e)
-both false b e = absurd (true≢false (sym e))
+-- `items` and `dependencies` end the scan alike
+ends : (items object on past : Bool) → go_on (cond items ElementsOrWhole ObjectMembers) object on past ≡ object
+ends true object on past = refl
+ends false object on past = refl
 
-or_left : (a b : Bool) → a ≡ true → (a || b) ≡ true
-or_left true b e = refl
-or_left false b e = absurd (true≢false (sym e))
-
-or_right : (a b : Bool) → b ≡ true → (a || b) ≡ true
-or_right true b e = refl
-or_right false b e = e
-
-at_key : (d : Draft) (v : Data) (k : List ℕ) (parts : List Part) (value array map items dependencies : Bool)
+at_key : (d : Draft) (v : Data) (k : List ℕ) (parts : List Part) (value array map either items : Bool)
     → is_value_keyword d k ≡ value → is_one_of k (scan_row d).arrays ≡ array → is_one_of k (scan_row d).maps ≡ map
-    → (is_before_2020 d && bytes_eq k (codes "items")) ≡ items → (is_before_2020 d && bytes_eq k (codes "dependencies")) ≡ dependencies
+    → (is_before_2020 d && is_items_or_dependencies k) ≡ either
     → (scan d (is_object v) parts ≡ true → IsAccepted d parts v) → ((part : Part) (rest : List Part) → parts ≡ part ∷ rest → scan d (is_object v) rest ≡ true → IsAccepted d rest v)
-    → go_on (chosen value array map items dependencies) (is_object v) (scan d (is_object v) parts) (scan_past d (is_object v) parts) ≡ true → IsAccepted d (Key k ∷ parts) v
-at_key d v k parts true array map items dependencies e a m i s on rests h = add d v parts (AValue k) e (on h)
-at_key d v k parts false true map items dependencies e a m i s on rests h = past d v k parts (or_left (is_one_of k (scan_row d).arrays) (is_one_of k (scan_row d).maps) a) rests h
-at_key d v k parts false false true items dependencies e a m i s on rests h = past d v k parts (or_right (is_one_of k (scan_row d).arrays) (is_one_of k (scan_row d).maps) m) rests h
-at_key d v k parts false false false true dependencies e a m i s on rests h =
-    let facts = both (is_before_2020 d) (bytes_eq k (codes "items")) i in
-    stop d v k parts facts.0 (or_left (bytes_eq k (codes "items")) (bytes_eq k (codes "dependencies")) facts.1) h
-at_key d v k parts false false false false true e a m i s on rests h =
-    let facts = both (is_before_2020 d) (bytes_eq k (codes "dependencies")) s in
-    stop d v k parts facts.0 (or_right (bytes_eq k (codes "items")) (bytes_eq k (codes "dependencies")) facts.1) h
-at_key d v k parts false false false false false e a m i s on rests h = absurd (true≢false (sym h))
+    → go_on (chosen value array map either items) (is_object v) (scan d (is_object v) parts) (scan_past d (is_object v) parts) ≡ true → IsAccepted d (Key k ∷ parts) v
+at_key d v k parts true array map either items e a m i on rests h = add d v parts (AValue k) e (on h)
+at_key d v k parts false true map either items e a m i on rests h = past d v k parts (or_left (is_one_of k (scan_row d).arrays) (is_one_of k (scan_row d).maps) a) rests h
+at_key d v k parts false false true either items e a m i on rests h = past d v k parts (or_right (is_one_of k (scan_row d).arrays) (is_one_of k (scan_row d).maps) m) rests h
+at_key d v k parts false false false true items e a m i on rests h =
+    let facts = and_parts (is_before_2020 d) (is_items_or_dependencies k) i in
+    stop d v k parts facts.0 facts.1 (sym (ends items (is_object v) (scan d (is_object v) parts) (scan_past d (is_object v) parts)) ∙ h)
+at_key d v k parts false false false false items e a m i on rests h = absurd (true≢false (sym h))
 
 mutual
   sound : (d : Draft) (v : Data) (parts : List Part) → scan d (is_object v) parts ≡ true → IsAccepted d parts v
   sound d v [] h = inl (record { pieces = []; word = tt; spells = refl })
   sound d v (Index i ∷ parts) h = add d v parts (AnIndex i) tt (sound d v parts h)
-  sound d v (Key k ∷ parts) h = at_key d v k parts (is_value_keyword d k) (is_one_of k (scan_row d).arrays) (is_one_of k (scan_row d).maps) (is_before_2020 d && bytes_eq k (codes "items")) (is_before_2020 d && bytes_eq k (codes "dependencies"))
-      refl refl refl refl refl (sound d v parts) (sound_after d v parts) h
+  sound d v (Key k ∷ parts) h = at_key d v k parts (is_value_keyword d k) (is_one_of k (scan_row d).arrays) (is_one_of k (scan_row d).maps) (is_before_2020 d && is_items_or_dependencies k) (bytes_eq k (codes "items"))
+      refl refl refl refl (sound d v parts) (sound_after d v parts) h
 
   sound_after : (d : Draft) (v : Data) (parts : List Part) (part : Part) (rest : List Part) → parts ≡ part ∷ rest → scan d (is_object v) rest ≡ true → IsAccepted d rest v
   sound_after d v [] part rest is h = absurd (cc)
@@ -87,21 +73,21 @@ mutual
 
 -- ---- what is accepted, the scan accepts
 
-at_value : (value array map items dependencies on object past : Bool) → value ≡ true → go_on (chosen value array map items dependencies) object on past ≡ on
-at_value true array map items dependencies on object past e = refl
-at_value false array map items dependencies on object past e = absurd (true≢false (sym e))
+at_value : (value array map either items on object past : Bool) → value ≡ true → go_on (chosen value array map either items) object on past ≡ on
+at_value true array map either items on object past e = refl
+at_value false array map either items on object past e = absurd (true≢false (sym e))
 
-at_child : (value array map items dependencies on object past : Bool) → value ≡ false → (array || map) ≡ true → go_on (chosen value array map items dependencies) object on past ≡ past
-at_child true array map items dependencies on object past e child = absurd (true≢false e)
-at_child false true map items dependencies on object past e child = refl
-at_child false false true items dependencies on object past e child = refl
-at_child false false false items dependencies on object past e child = absurd (true≢false (sym child))
+at_child : (value array map either items on object past : Bool) → value ≡ false → (array || map) ≡ true → go_on (chosen value array map either items) object on past ≡ past
+at_child true array map either items on object past e child = absurd (true≢false e)
+at_child false true map either items on object past e child = refl
+at_child false false true either items on object past e child = refl
+at_child false false false either items on object past e child = absurd (true≢false (sym child))
 
 -- the scan goes on after a piece
 passes : (d : Draft) (object : Bool) (piece : Piece) (rest : List Part) → IsPieceOf d piece → scan d object (parts_of piece ++ rest) ≡ scan d object rest
 passes d object (AnIndex i) rest ok = refl
-passes d object (AValue k) rest ok = at_value (is_value_keyword d k) (is_one_of k (scan_row d).arrays) (is_one_of k (scan_row d).maps) (is_before_2020 d && bytes_eq k (codes "items")) (is_before_2020 d && bytes_eq k (codes "dependencies")) _ object _ ok
-passes d object (AChild k part) rest ok = at_child (is_value_keyword d k) (is_one_of k (scan_row d).arrays) (is_one_of k (scan_row d).maps) (is_before_2020 d && bytes_eq k (codes "items")) (is_before_2020 d && bytes_eq k (codes "dependencies")) _ object _ (child_is_no_value d k ok) ok
+passes d object (AValue k) rest ok = at_value (is_value_keyword d k) (is_one_of k (scan_row d).arrays) (is_one_of k (scan_row d).maps) (is_before_2020 d && is_items_or_dependencies k) (bytes_eq k (codes "items")) _ object _ ok
+passes d object (AChild k part) rest ok = at_child (is_value_keyword d k) (is_one_of k (scan_row d).arrays) (is_one_of k (scan_row d).maps) (is_before_2020 d && is_items_or_dependencies k) (bytes_eq k (codes "items")) _ object _ (child_is_no_value d k ok) ok
 
 -- and after a word
 passes_word : (d : Draft) (object : Bool) (pieces : List Piece) (rest : List Part) → IsWord d pieces → scan d object (spelled pieces ++ rest) ≡ scan d object rest
@@ -129,4 +115,4 @@ pub stops_within : (d : Draft) (v : Data) (parts : List Part) (k : List ℕ) →
 stops_within d v parts k w child =
     refused d v (parts ++ Key k ∷ [])
     (ap (λ ps. scan d (is_object v) (ps ++ Key k ∷ [])) w.spells ∙ passes_word d (is_object v) w.pieces (Key k ∷ []) w.word
-    ∙ at_child (is_value_keyword d k) (is_one_of k (scan_row d).arrays) (is_one_of k (scan_row d).maps) (is_before_2020 d && bytes_eq k (codes "items")) (is_before_2020 d && bytes_eq k (codes "dependencies")) true (is_object v) false (child_is_no_value d k child) child)
+    ∙ at_child (is_value_keyword d k) (is_one_of k (scan_row d).arrays) (is_one_of k (scan_row d).maps) (is_before_2020 d && is_items_or_dependencies k) (bytes_eq k (codes "items")) true (is_object v) false (child_is_no_value d k child) child)

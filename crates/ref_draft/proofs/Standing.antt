@@ -1,6 +1,6 @@
 -- A child stands at its path.
-use Rattle.std.proofs.Common.{◌≡◌, ℕ, zero, suc, ◌+◌, List, [], ◌∷◌, ◌++◌, map, Bool, true, false, cond, Some, None, option_map, option_and_then, String, Global, string_cmp, string_bytes, refl, sym, ap, ◌∙◌, All, arith}
-use Rattle.std.specs.List.{filter, AllByRecursion}
+use Rattle.std.proofs.Common.{◌≡◌, ℕ, zero, suc, ◌+◌, List, [], ◌∷◌, ◌++◌, map, Some, None, option_map, option_and_then, String, Global, string_cmp, string_bytes, refl, sym, ap, ◌∙◌, All, arith}
+use Rattle.std.specs.List.{AllByRecursion}
 use Rattle.std.specs.Map.{lookup}
 use Rattle.std.specs.BTreeMap.{is_at}
 use Rattle.std.proofs.lemmas.List.Elements.{recursion_from_All}
@@ -14,7 +14,8 @@ use Rattle.ref_draft.specs.declared.draft.Draft.{Draft}
 use Rattle.ref_draft.specs.declared.spec.Holding.{Holding}
 use Rattle.ref_draft.specs.declared.spec.Holding.TheVariants.{Whole, WholeObject, Elements, Members as EachMember, ElementsOrWhole, ObjectMembers, Nothing}
 use Rattle.ref_draft.specs.Children.{Child, Walked, with_draft, AllStand, whole, elements_from, each_member, elements, members, held, has_object}
-use Rattle.ref_draft.specs.WalkSteps.{AreFoundIn, HasUniqueKeys, members_in}
+use Rattle.ref_draft.specs.WalkSteps.{AreFoundIn, HasUniqueKeys, HasUniqueKeysWhere, members_in}
+use Rattle.ref_draft.proofs.Lists.{all_append, all_filter}
 
 -- a path without its first part
 abbrev rest_of : List Part → List Part
@@ -22,16 +23,11 @@ rest_of [] = []
 rest_of (part ∷ path) = path
 
 -- each child's path is the keyword and what leads to it from the keyword's value
+abbrev StandsUnder : List ℕ → Data → Child → Type 0
+StandsUnder k v child = (child.0 ≡ Key k ∷ rest_of child.0) × (value_at v (rest_of child.0) ≡ Some child.1)
+
 abbrev StandUnder : List ℕ → Data → List Child → Type 0
-StandUnder k v cs = AllByRecursion (λ child. (child.0 ≡ Key k ∷ rest_of child.0) × (value_at v (rest_of child.0) ≡ Some child.1)) cs
-
-kept : (k : List ℕ) (v : Data) (b : Bool) (c : Child) (cs : List Child) → c.0 ≡ Key k ∷ rest_of c.0 → value_at v (rest_of c.0) ≡ Some c.1 → StandUnder k v cs → StandUnder k v (cond b (c ∷ cs) cs)
-kept k v true c cs p q r = ((p, q), r)
-kept k v false c cs p q r = r
-
-stand_filter : (k : List ℕ) (v : Data) (cs : List Child) → StandUnder k v cs → StandUnder k v (filter has_object cs)
-stand_filter k v [] p = tt
-stand_filter k v (c ∷ cs) p = kept k v (has_object c) c (filter has_object cs) p.0.0 p.0.1 (stand_filter k v cs p.1)
+StandUnder k v cs = AllByRecursion (StandsUnder k v) cs
 
 shift : (i j : ℕ) → i + suc j ≡ suc i + j
 shift i j = omega arith
@@ -77,13 +73,13 @@ stand_members k (string s) u = tt
 stand_members k (array ds) u = tt
 stand_members k (object ms) u = stand_each_member k ms ms u
 
-stand_held : (how : Holding) (k : List ℕ) (v : Data) → HasUniqueKeys v → StandUnder k v (held how k v)
+stand_held : (how : Holding) (k : List ℕ) (v : Data) → HasUniqueKeysWhere how v → StandUnder k v (held how k v)
 stand_held Whole k v u = ((refl, refl), tt)
-stand_held WholeObject k v u = stand_filter k v (whole k v) ((refl, refl), tt)
+stand_held WholeObject k v u = all_filter (StandsUnder k v) has_object (whole k v) ((refl, refl), tt)
 stand_held Elements k v u = stand_elements k v
 stand_held EachMember k v u = stand_members k v u
 stand_held ElementsOrWhole k v u = stand_elements_or_whole k v
-stand_held ObjectMembers k v u = stand_filter k v (members k v) (stand_members k v u)
+stand_held ObjectMembers k v u = all_filter (StandsUnder k v) has_object (members k v) (stand_members k v u)
 stand_held Nothing k v u = tt
 
 -- ---- from an object
@@ -94,10 +90,6 @@ from_object d t k v [] found p = tt
 from_object d t k v (c ∷ cs) found p =
     (ap (value_at t) p.0.0 ∙ ap (option_and_then (λ e. value_at e (rest_of c.0))) found ∙ p.0.1, from_object d t k v cs found p.1)
 
-append : (t : Data) (xs ys : List Walked) → AllStand t xs → AllStand t ys → AllStand t (xs ++ ys)
-append t [] ys p q = q
-append t (x ∷ xs) ys p q = (p.0, append t xs ys p.1 q)
-
 get_in : (t : Data) (k : List ℕ) (v : Data) → get_member k (members_in t) ≡ Some v → get k t ≡ Some v
 get_in null k v e = e
 get_in (boolean b) k v e = e
@@ -107,8 +99,8 @@ get_in (array ds) k v e = e
 get_in (object ms) k v e = e
 
 -- one keyword more
-pub step : (d : Draft) (t : Data) (how : Holding) (k : List ℕ) (v : Data) (done all : List Walked) → AllStand t done → get_member k (members_in t) ≡ Some v → HasUniqueKeys v → all ≡ done ++ map (with_draft d) (held how k v) → AllStand t all
-step d t how k v done all before found unique is = rw is (append t done (map (with_draft d) (held how k v)) before (from_object d t k v (held how k v) (get_in t k v found) (stand_held how k v unique)))
+pub step : (d : Draft) (t : Data) (how : Holding) (k : List ℕ) (v : Data) (done all : List Walked) → AllStand t done → get_member k (members_in t) ≡ Some v → HasUniqueKeysWhere how v → all ≡ done ++ map (with_draft d) (held how k v) → AllStand t all
+step d t how k v done all before found unique is = rw is (all_append (λ child. value_at t child.path ≡ Some child.value) done (map (with_draft d) (held how k v)) before (from_object d t k v (held how k v) (get_in t k v found) (stand_held how k v unique)))
 
 -- ---- the entries of a map
 

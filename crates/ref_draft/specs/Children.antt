@@ -34,7 +34,7 @@ each_member keyword (member key d ms) = (Key keyword ∷ Key key ∷ [], d) ∷ 
 abbrev pub elements : List ℕ → Data → List Child
 elements keyword value = option_map_or (elements_from keyword 0) (as_array value) []
 
--- the members where the value is an object, in the order of their keys
+-- the members where the value is an object, in their order, which `serde_json` keeps by the bytes of the keys
 abbrev pub members : List ℕ → Data → List Child
 members keyword value = option_map_or (each_member keyword) (as_object value) []
 
@@ -56,7 +56,8 @@ held ElementsOrWhole keyword value = option_map_or (elements_from keyword 0) (as
 held ObjectMembers keyword value = filter has_object (members keyword value)
 held Nothing keyword value = []
 
--- the children under each of an object's keywords, in the order of the keys
+-- the children under each of an object's keywords, in the order of the members, which `serde_json` keeps by the bytes of
+-- the keys
 abbrev pub below : Draft → Members → List Child
 below d no_members = []
 below d (member keyword value ms) = held (holding d keyword) keyword value ++ below d ms

@@ -69,8 +69,7 @@ row Draft201909 = row_2019
 row Draft202012 = row_2020
 row Unknown = row_2020
 
--- Drafts 4 to 2019-09: `items` is an array of schemas or one schema, and the members of `dependencies` are schemas
--- where they are objects
+-- Drafts 4 to 2019-09, where `items` and `dependencies` hold schemas in more than one way
 abbrev pub is_before_2020 : Draft → Bool
 is_before_2020 Draft4 = true
 is_before_2020 Draft6 = true
@@ -79,6 +78,10 @@ is_before_2020 Draft201909 = true
 is_before_2020 Draft202012 = false
 is_before_2020 Unknown = false
 
+-- `items` or `dependencies`
+abbrev pub is_items_or_dependencies : List ℕ → Bool
+is_items_or_dependencies keyword = is_one_of keyword (codes "items" ∷ codes "dependencies" ∷ [])
+
 -- the value keywords that may have a boolean in place of a schema (Draft 4 Validation, 5.3.1 and 5.4.4): in later
 -- drafts a boolean is a schema
 abbrev pub boolean_or_schema : Draft → List (List ℕ)
@@ -86,16 +89,16 @@ boolean_or_schema Draft4 = map codes ("additionalItems" ∷ "additionalPropertie
 boolean_or_schema _ = []
 
 -- How a keyword holds its subschemas, by a row, the keywords that may have a boolean in place of a schema, and whether
--- the draft is before 2020-12
+-- the draft is before 2020-12: there `items` is an array of schemas or one schema, and the members of `dependencies`
+-- are schemas where they are objects
 abbrev pub holding_by : Row → List (List ℕ) → Bool → List ℕ → Holding
 holding_by r booleans before_2020 keyword =
     if is_one_of keyword booleans then WholeObject
     else (if is_one_of keyword r.values then Whole
     else (if is_one_of keyword r.arrays then Elements
     else (if is_one_of keyword r.maps then Members
-    else (if before_2020 && bytes_eq keyword (codes "items") then ElementsOrWhole
-    else (if before_2020 && bytes_eq keyword (codes "dependencies") then ObjectMembers
-    else Nothing)))))
+    else (if before_2020 && is_items_or_dependencies keyword then (if bytes_eq keyword (codes "items") then ElementsOrWhole else ObjectMembers)
+    else Nothing))))
 
 -- How a keyword of a draft holds its subschemas
 abbrev pub holding : Draft → List ℕ → Holding
@@ -119,6 +122,15 @@ is_before_2019 Draft7 = true
 is_before_2019 Draft201909 = false
 is_before_2019 Draft202012 = false
 is_before_2019 Unknown = false
+
+-- whether a draft is that of a custom meta-schema
+abbrev pub is_unknown : Draft → Bool
+is_unknown Draft4 = false
+is_unknown Draft6 = false
+is_unknown Draft7 = false
+is_unknown Draft201909 = false
+is_unknown Draft202012 = false
+is_unknown Unknown = true
 
 -- ---- the keywords that a draft knows
 

@@ -2,12 +2,11 @@
 -- This is the project's own rule; the keywords are the drafts'.
 use Rattle.std.specs.Prelude.{◌≡◌, ℕ, List, [], ◌∷◌, ◌++◌, map, codes, IsTrue, Bool, ◌||◌, ◌⊎◌, ⊤}
 use Rattle.std.specs.List.{AllByRecursion}
-use Rattle.std.specs.Str.{bytes_eq}
 use Rattle.serde_json.specs.Data.{Data}
 use Rattle.ref_parts.specs.Path.{Part, Key, Index}
 use Rattle.ref_draft.specs.declared.draft.Draft.{Draft}
 use Rattle.ref_draft.specs.declared.draft.Draft.TheVariants.{Draft4}
-use Rattle.ref_draft.specs.Keywords.{Row, row, is_one_of, is_before_2020}
+use Rattle.ref_draft.specs.Keywords.{Row, row, is_one_of, is_before_2020, is_items_or_dependencies}
 use Rattle.ref_draft.specs.Children.{Child, is_object}
 
 -- the row of Draft 4 that the scan reads: fewer keywords than the walk's
@@ -58,10 +57,6 @@ IsPieceOf d (AChild keyword part) = IsTrue (is_child_keyword d keyword)
 abbrev pub IsWord : Draft → List Piece → Type 0
 IsWord d pieces = AllByRecursion (IsPieceOf d) pieces
 
--- `items` or `dependencies`
-abbrev pub is_items_or_dependencies : List ℕ → Bool
-is_items_or_dependencies keyword = bytes_eq keyword (codes "items") || bytes_eq keyword (codes "dependencies")
-
 -- the parts are a word
 pub record SpellsWord (d : Draft) (parts : List Part) : Type 0 where
   pub pieces : List Piece
@@ -83,10 +78,9 @@ pub record PassesItems (d : Draft) (parts : List Part) (value : Data) : Type 0 w
 abbrev pub IsAccepted : Draft → List Part → Data → Type 0
 IsAccepted d parts value = SpellsWord d parts ⊎ PassesItems d parts value
 
--- the drafts whose scan reads the walk's row: all but Draft 4
+-- the scan of a draft reads the walk's row
 abbrev pub ReadsTheWalk : Draft → Type 0
-ReadsTheWalk Draft4 = ⊥
-ReadsTheWalk d = ⊤
+ReadsTheWalk d = scan_row d ≡ row d
 
 -- the parts followed by a child's path are accepted at the child, where that is an object
 abbrev pub AcceptsChildren : Draft → List Part → List Child → Type 0

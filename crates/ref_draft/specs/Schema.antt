@@ -4,7 +4,7 @@ use Rattle.std.specs.List.{find}
 use Rattle.std.specs.Option.{option_map_or}
 use Rattle.std.specs.Str.{bytes_eq}
 use Rattle.serde_json.specs.Data.{Data}
-use Rattle.serde_json.specs.Find.{get, as_str}
+use Rattle.serde_json.specs.Find.{get, as_str, as_bool}
 use Rattle.ref_draft.specs.declared.draft.Draft.{Draft}
 use Rattle.ref_draft.specs.declared.draft.Draft.TheVariants.{Draft4, Draft6, Draft7, Draft201909, Draft202012, Unknown}
 use Rattle.ref_draft.specs.Keywords.{id_keyword, is_before_2019}
@@ -12,6 +12,10 @@ use Rattle.ref_draft.specs.Keywords.{id_keyword, is_before_2019}
 -- the text under a key of an object, where there is one
 abbrev pub text_under : List ℕ → Data → Option (List ℕ)
 text_under key d = option_and_then as_str (get key d)
+
+-- whether a value is `true`
+abbrev pub is_true : Data → Bool
+is_true value = option_map_or (λ b. b) (as_bool value) false
 
 -- a character before what is left of the text after it: a `#` before nothing is left out too
 abbrev pub before : ℕ → List ℕ → List ℕ

@@ -2,6 +2,8 @@
 use Rattle.std.specs.Prelude.{◌≡◌, Some, ⊤}
 use Rattle.serde_json.specs.Data.{Data, null, boolean, number, string, array, object, Members, no_members, member}
 use Rattle.serde_json.specs.Find.{get_member}
+use Rattle.ref_draft.specs.declared.spec.Holding.{Holding}
+use Rattle.ref_draft.specs.declared.spec.Holding.TheVariants.{Whole, WholeObject, Elements, Members as EachMember, ElementsOrWhole, ObjectMembers, Nothing}
 
 -- each member is the one that is found under its key
 abbrev pub AreFoundIn : Members → Members → Type 0
@@ -16,6 +18,16 @@ HasUniqueKeys (number n) = ⊤
 HasUniqueKeys (string s) = ⊤
 HasUniqueKeys (array ds) = ⊤
 HasUniqueKeys (object ms) = AreFoundIn ms ms
+
+-- where a keyword holds the members of its value as schemas, the value has each key once
+abbrev pub HasUniqueKeysWhere : Holding → Data → Type 0
+HasUniqueKeysWhere Whole value = ⊤
+HasUniqueKeysWhere WholeObject value = ⊤
+HasUniqueKeysWhere Elements value = ⊤
+HasUniqueKeysWhere EachMember value = HasUniqueKeys value
+HasUniqueKeysWhere ElementsOrWhole value = ⊤
+HasUniqueKeysWhere ObjectMembers value = HasUniqueKeys value
+HasUniqueKeysWhere Nothing value = ⊤
 
 -- the members of an object
 abbrev pub members_in : Data → Members

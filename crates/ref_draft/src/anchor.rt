@@ -33,7 +33,7 @@ pub enum Anchor<'a> {
 impl<'a> Anchor<'a> {
     /// The anchor's name.
     pub fn name(&self) -> &'a str
-        ensures { result.now ≡ (anchor_name self.now).0 }
+        ensures value { result.now ≡ (anchor_name self.now).0 }
     {
         match self {
             Anchor::Default { name, .. } => name,

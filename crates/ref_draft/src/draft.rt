@@ -39,23 +39,23 @@ pub enum Draft {
 impl Draft {
     /// The value as a resource of this draft. It takes no memory.
     pub fn create_resource(self, contents: Value) -> Resource
-        ensures { resource result ≡ tagged self (view contents) }
+        ensures value { resource result ≡ tagged self (view contents) }
     {
         Resource::new(contents, self)
     }
 
     /// The borrowed value as a resource of this draft. It takes no memory.
     pub fn create_resource_ref(self, contents: &Value) -> ResourceRef<'_>
-        ensures { resource_ref result ≡ tagged self (view contents.now) }
+        ensures value { resource_ref result ≡ tagged self (view contents.now) }
     {
         ResourceRef::new(contents, self)
     }
 
-    /// The draft whose meta-schema has this URI, with `http` or `https` and with any number of `#` at its end;
-    /// `Unknown` for another text. The URI without a version, `http://json-schema.org/schema`, is that of 2020-12. It
-    /// takes no memory, and time linear in the text.
+    /// The draft whose meta-schema has this URI (2020-12 Core, 8.1.1), with `http` or `https` and with any number of `#`
+    /// at its end; `Unknown` for another text. The URI without a version, `http://json-schema.org/schema`, is that of
+    /// 2020-12. It takes no memory, and time linear in the text.
     pub fn from_schema_uri(uri: &str) -> Draft
-        ensures { result ≡ from_schema_uri uri.now }
+        ensures value { result ≡ from_schema_uri uri.now }
     {
         draft_of_uri(trim_hashes(uri))
     }
@@ -63,7 +63,7 @@ impl Draft {
     /// The draft of the value: that of its text under `$schema`, and this draft where it is no object or has no text
     /// there (2020-12 Core, 8.1.1). It takes no memory: a look-up, and time linear in the text.
     pub fn detect(self, contents: &Value) -> Draft
-        ensures { result ≡ detect self (view contents.now) }
+        ensures value { result ≡ detect self (view contents.now) }
     {
         match text_under(contents, "$schema") {
             Some(uri) => Draft::from_schema_uri(uri),
@@ -73,7 +73,7 @@ impl Draft {
 
     /// The keyword of a schema's identifier: `id` in Draft 4 (Core, 7.2), else `$id`.
     pub fn id_keyword(self) -> &'static str
-        ensures { result.now ≡ id_keyword self }
+        ensures value { result.now ≡ id_keyword self }
     {
         match self {
             Draft::Draft4 => "id",
@@ -81,9 +81,11 @@ impl Draft {
         }
     }
 
-    /// Whether this draft knows the keyword. It takes no memory.
+    /// Whether this draft knows the keyword: of 2020-12 those that `specs/Keywords.antt` lists from Core, 8, 10 and 11,
+    /// and from Validation, 6 to 8, and with them earlier drafts' keywords but for `id`. It takes no memory, and compares
+    /// the keyword with each of a list.
     pub fn is_known_keyword(&self, keyword: &str) -> bool
-        ensures { result ≡ is_known self.now keyword.now }
+        ensures value { result ≡ is_known self.now keyword.now }
     {
         match self {
             Draft::Draft4 => known::in_all(keyword) || known::in_4(keyword),
@@ -98,20 +100,23 @@ impl Draft {
         }
     }
 
-    /// The values right below the value that this draft reads as schemas, in byte order of the keywords and then by
-    /// index or in byte order of the keys; none below a value that is no object. In 2019-09 those under `dependencies`
-    /// are left out, which `walk_children` visits. It takes no memory: each step is constant work for each keyword that
-    /// is passed.
+    /// The values right below the value that this draft reads as schemas (2020-12 Core, 10; earlier drafts as
+    /// `specs/Keywords.antt` lists), in byte order of the keywords and then by index or in byte order of the keys; none
+    /// below a value that is no object. In 2019-09 those under `dependencies` are left out, which `walk_children` visits.
+    /// It takes no memory: a step is constant work for each keyword that it passes and, under `dependencies`, for each
+    /// member.
     pub fn subresources_of<'a>(self, contents: &'a Value) -> ChildIter<'a>
-        ensures { values_left result ≡ subresources self (view contents.now) }
+        ensures items { values_left result ≡ subresources self (view contents.now) }
     {
         ChildIter::new(self, contents)
     }
 
-    /// The values right below the value that this draft reads as schemas, each with its keyword, the segment after it
-    /// and the draft that this one detects on it, in byte order of the keywords and then by index or in byte order of
-    /// the keys; none below a value that is no object. Each is what is found under its keyword and segment. Refuses only
-    /// for want of memory, which it takes for the list.
+    /// The values right below the value that this draft reads as schemas (2020-12 Core, 10; earlier drafts as
+    /// `specs/Keywords.antt` lists), each with its keyword, the segment after it and the draft that this one detects on
+    /// it, in byte order of the keywords and then by index or in byte order of the keys; none below a value that is no
+    /// object. Each is what is found under its keyword and segment. Refuses only for want of memory, which it takes for
+    /// the list. It takes constant work for each keyword, element and member that it passes, and for each child that of
+    /// `detect`.
     pub fn walk_children<'a>(
         self,
         alloc: Global,
@@ -123,8 +128,9 @@ impl Draft {
         walk::children(alloc, self, contents)
     }
 
-    /// The anchors of the value, a plain one before a dynamic one; each names the value as a resource of this draft.
-    /// Before 2019-09 an anchor stands in the identifier, after a leading `#`. It takes no memory: one look-up or two.
+    /// The anchors of the value (2020-12 Core, 8.2.2; 2019-09 Core, 8.2.3), a plain one before a dynamic one; each names
+    /// the value as a resource of this draft. Before 2019-09 an anchor stands in the identifier, after a leading `#`
+    /// (Draft 7 Core, 8.2.3; Draft 6 Core, 9.2; Draft 4 Core, 7.2.2). It takes no memory: one look-up or two.
     pub fn anchors<'a>(self, contents: &'a Value) -> AnchorIter<'a>
         ensures names { map anchor_name (anchors_left result) ≡ anchors self (view contents.now) }
         ensures resources { AllName (tagged self (view contents.now)) (anchors_left result) }
@@ -138,10 +144,10 @@ impl Draft {
 
     /// Whether an identifier of the value may change the base, where the segments lead to it from where the base last
     /// changed: each leads to a schema or to an array or object of schemas, and the last to a schema. Before 2020-12
-    /// any segments may follow `items` and `dependencies` to an object. It takes no memory, and time linear in the
-    /// segments.
+    /// any segments may follow `items` and `dependencies` to an object. This is this project's own rule, and no
+    /// standard's. It takes no memory, and time linear in the segments.
     pub fn rebases(self, segments: &Segments, contents: &Value) -> bool
-        ensures { IsTrue result ↔ IsAccepted self segments.now (view contents.now) }
+        ensures accepted { IsTrue result ↔ IsAccepted self segments.now (view contents.now) }
     {
         scan::accepts(self, segments, contents.is_object())
     }

@@ -14,33 +14,33 @@ use crate::draft::Draft;
 
 /// The drafts are ordered by age, with the custom meta-schema last.
 pub fn drafts_are_ordered()
-    ensures { (a b : Version) → ⟦<Draft as Ord>⟧.cmp a b ≡ nat_cmp (rank a) (rank b) }
+    ensures law { (a b : Version) → ⟦<Draft as Ord>⟧.cmp a b ≡ nat_cmp (rank a) (rank b) }
 {}
 
 /// The draft without further knowledge is 2020-12.
 pub fn default_is_2020()
-    ensures { ⟦<Draft as Default>⟧.is_default Draft.Draft202012 }
+    ensures law { ⟦<Draft as Default>⟧.is_default Draft.Draft202012 }
 {}
 
 /// A child nests less deeply than the value that it is a child of, so that the levels of children end.
 pub fn children_are_shallower()
-    ensures { (d : Version) (value : Data) → AllByRecursion (λ child. depth child.1 < depth value) (children d value) }
+    ensures law { (d : Version) (value : Data) → AllByRecursion (λ child. depth child.1 < depth value) (children d value) }
 {}
 
 /// Where the scan reads the walk's keywords and accepts the parts that lead to a value, it accepts those that lead on to
 /// each of its children that is an object.
 pub fn scan_goes_on_to_children()
-    ensures { (d : Version) (parts : List Part) (value : Data)
+    ensures law { (d : Version) (parts : List Part) (value : Data)
         → ReadsTheWalk d → IsAccepted d parts value → AcceptsChildren d parts (children d value) }
 {}
 
 /// The scan, which reads the parts from the left, accepts exactly those that are accepted.
 pub fn scan_is_accepted()
-    ensures { (d : Version) (value : Data) (parts : List Part) → (scan d (is_object value) parts ≡ true) ↔ IsAccepted d parts value }
+    ensures law { (d : Version) (value : Data) (parts : List Part) → (scan d (is_object value) parts ≡ true) ↔ IsAccepted d parts value }
 {}
 
 /// A word followed by a child keyword alone isn't accepted: the parts end at an array or object of schemas.
 pub fn scan_stops_at_a_child_keyword()
-    ensures { (d : Version) (value : Data) (parts : List Part) (keyword : List ℕ) → SpellsWord d parts
+    ensures law { (d : Version) (value : Data) (parts : List Part) (keyword : List ℕ) → SpellsWord d parts
         → IsTrue (is_child_keyword d keyword) → ¬ (IsAccepted d (parts ++ Key keyword ∷ []) value) }
 {}

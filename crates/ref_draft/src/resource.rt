@@ -25,30 +25,32 @@ impl Resource {
 
     /// The document.
     pub fn contents(&self) -> &Value
-        ensures { view result.now ≡ (resource self.now).contents }
+        ensures value { view result.now ≡ (resource self.now).contents }
     {
         &self.contents
     }
 
     /// The draft that it is read by.
     pub fn draft(&self) -> Draft
-        ensures { result ≡ (resource self.now).draft }
+        ensures value { result ≡ (resource self.now).draft }
     {
         self.draft
     }
 
     /// The document as a resource of the draft that 2020-12 detects on it. It takes no memory.
     pub fn from_contents(contents: Value) -> Resource
-        ensures { let tree = view contents in resource result ≡ tagged (detect Draft.Draft202012 tree) tree }
+        ensures value { let tree = view contents in resource result ≡ tagged (detect Draft.Draft202012 tree) tree }
     {
         Draft::Draft202012
             .detect(&contents)
             .create_resource(contents)
     }
 
-    /// A copy of the document with the same draft. Refuses only for want of memory, which it takes for the document.
+    /// A copy of the document with the same draft. It takes time linear in the document, and for each member a look-up
+    /// by its key; its stack grows with the depth of the document. Refuses only for want of memory, which it takes for
+    /// the document.
     pub fn clone(&self) -> Result<Self, AllocError>
-        ensures { IfOk result (λ copy. resource copy ≡ resource self.now) }
+        ensures copy { IfOk result (λ copy. resource copy ≡ resource self.now) }
     {
         Ok(Resource {
             contents: self.contents.clone()?,
@@ -67,28 +69,28 @@ pub struct ResourceRef<'a> {
 impl<'a> ResourceRef<'a> {
     /// The document as a resource of the draft.
     pub fn new(contents: &'a Value, draft: Draft) -> Self
-        ensures { resource_ref result ≡ tagged draft (view contents.now) }
+        ensures value { resource_ref result ≡ tagged draft (view contents.now) }
     {
         ResourceRef { contents, draft }
     }
 
     /// The document.
     pub fn contents(&self) -> &'a Value
-        ensures { view result.now ≡ (resource_ref self.now).contents }
+        ensures value { view result.now ≡ (resource_ref self.now).contents }
     {
         self.contents
     }
 
     /// The draft that it is read by.
     pub fn draft(&self) -> Draft
-        ensures { result ≡ (resource_ref self.now).draft }
+        ensures value { result ≡ (resource_ref self.now).draft }
     {
         self.draft
     }
 
     /// The document as a resource of the draft that 2020-12 detects on it. It takes no memory.
     pub fn from_contents(contents: &'a Value) -> Self
-        ensures { let tree = view contents.now in
+        ensures value { let tree = view contents.now in
             resource_ref result ≡ tagged (detect Draft.Draft202012 tree) tree }
     {
         ResourceRef::new(contents, Draft::Draft202012.detect(contents))
@@ -99,7 +101,7 @@ impl<'a> ResourceRef<'a> {
     /// anchor (Draft 7 Core, 8.2 and 8.3). It borrows the document's text and takes no memory: two look-ups, and time
     /// linear in the text.
     pub fn id(&self) -> Option<&'a str>
-        ensures { option_map (λ text. text.now) result ≡ id_of (resource_ref self.now) }
+        ensures value { option_map (λ text. text.now) result ≡ id_of (resource_ref self.now) }
     {
         identifier(self.draft, self.contents)
     }

@@ -62,7 +62,7 @@ impl<'a> Model for Segments<'a> {
 impl<'a> Segments<'a> {
     /// No segments. It takes no memory until the first is added.
     pub fn new(alloc: Global) -> Self
-        ensures { result ≡ [] }
+        ensures empty { result ≡ [] }
     {
         Segments {
             items: Vec::new(alloc),
@@ -80,7 +80,7 @@ impl<'a> Segments<'a> {
 
     /// The segments in order.
     pub fn iter(&self) -> slice::Iter<'_, Segment<'a>>
-        ensures { map part_of (iter_rest result) ≡ self.now }
+        ensures items { map part_of (iter_rest result) ≡ self.now }
     {
         self.items.iter()
     }

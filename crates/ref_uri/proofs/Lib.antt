@@ -35,3 +35,4 @@ pub mod NormalTargets
 pub mod DefaultTarget
 pub mod PlainDots
 pub mod WrittenAtOnce
+pub mod PartLemmas

@@ -1,14 +1,16 @@
 -- What a text means, case by case.
-use Rattle.std.proofs.Common.{◌≡◌, ℕ, true, false, ◌&&◌, List, None, Result, Ok, Err, is_some, get_or, eqb, refl, ◌∙◌}
+use Rattle.std.proofs.Common.{◌≡◌, ℕ, true, false, ◌&&◌, List, Some, None, Result, Ok, Err, is_some, get_or, eqb, refl, ◌∙◌}
 use Rattle.std.specs.List.{ends_with}
 use Rattle.ref_uri.specs.Components.{scheme}
 use Rattle.ref_uri.specs.Errors.{IsFaultOf, IfInvalid}
+use Rattle.ref_uri.specs.Lengths.{the_lengths, IsParsed}
 use Rattle.ref_uri.specs.Normal.{normal_form}
 use Rattle.ref_uri.specs.Reference.{is_uri_reference, with_fragment}
 use Rattle.ref_uri.specs.Resolution.{resolved}
 use Rattle.ref_uri.specs.Targets.{Refusal, unparsed, unresolved, default_base, parsed, against}
 use Rattle.ref_uri.specs.declared.error.UriFault.{UriFault}
 use Rattle.ref_uri.specs.declared.error.UriFault.TheVariants as uri_fault
+use Rattle.ref_uri.proofs.AsciiLemmas.{IsAscii-from_all_ascii}
 use Rattle.ref_uri.proofs.OnLiterals.{ref_uri_on_literals}
 
 pub parsed_with_scheme : (text : List ℕ) → is_uri_reference text ≡ true → is_some (scheme text) ≡ true → parsed text ≡ Ok (normal_form text)
@@ -47,6 +49,11 @@ fault_moved meaning refusal (uri_fault.Memory error) P is p moved = tt
 pub default_is_reference : is_uri_reference default_base ≡ true
 unfolding ref_uri_on_literals
 default_is_reference = refl
+
+-- the lengths of the default base's components
+pub default_is_parsed : IsParsed default_base (the_lengths (Some 11) (Some 0) 1 None)
+unfolding ref_uri_on_literals
+default_is_parsed = record { ascii = IsAscii-from_all_ascii default_base refl; reference = refl; lengths_are = refl }
 
 pub default_has_scheme : is_some (scheme default_base) ≡ true
 unfolding ref_uri_on_literals

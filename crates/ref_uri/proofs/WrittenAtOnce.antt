@@ -1,23 +1,23 @@
 -- The normal form of a target, written at once from the target's parts.
-use Rattle.std.proofs.Common.{◌≡◌, ℕ, true, ◌||◌, List, ◌∷◌, ◌++◌, eqb, sym, ap, ◌∙◌, subst, Option, is_some, option_copied}
+use Rattle.std.proofs.Common.{◌≡◌, ℕ, true, ◌||◌, List, ◌∷◌, ◌++◌, eqb, refl, sym, ap, ◌∙◌, subst, is_some, option_copied}
 use Rattle.std.specs.List.{list_all, AllByRecursion}
 use Rattle.std.proofs.lemmas.Bool.{and_parts}
 use Rattle.ref_uri.specs.declared.lengths.Lengths.{Lengths}
 use Rattle.ref_uri.specs.declared.target.PathOf.{PathOf}
 use Rattle.ref_uri.specs.declared.target.PathOf.TheVariants.{Kept, OfBase, Removed, Merged}
 use Rattle.ref_uri.specs.declared.target.Target.{Target}
-use Rattle.ref_uri.specs.declared.written.Form.TheVariants.{Given, Normal}
+use Rattle.ref_uri.specs.declared.written.Form.TheVariants.{Given, Normal, NormalTarget}
 use Rattle.ref_uri.specs.Characters.{has_whole_triples, is_path_character}
 use Rattle.ref_uri.specs.Components.{Components, components, are_components, text_of, scheme, is_path}
 use Rattle.ref_uri.specs.DotSegments.{segments, remove_dot_segments}
 use Rattle.ref_uri.specs.Lengths.{IsParsedUri}
 use Rattle.ref_uri.specs.Normal.{guarded, normal, normal_text, normal_form}
 use Rattle.ref_uri.specs.Resolution.{resolved, resolved_components}
-use Rattle.ref_uri.specs.Target.{written_path, written_components, lengths_of_components, AreParts, LosesSameDots, IsTarget}
-use Rattle.ref_uri.proofs.EncodedLemmas.{whole-append}
+use Rattle.ref_uri.specs.Target.{given_path, written_path, written_components, lengths_of_components, AreParts, LosesSameDots, IsTarget}
+use Rattle.ref_uri.proofs.EncodedLemmas.{whole-append, encoded-append}
 use Rattle.ref_uri.proofs.NormalTargets.{normal_parts_are}
 use Rattle.ref_uri.proofs.NormalTwice.{removed_twice, guarded_removed}
-use Rattle.ref_uri.proofs.PathValid.{each_append}
+use Rattle.ref_uri.proofs.PathValid.{each_append, removed_is_path}
 use Rattle.ref_uri.proofs.PlainDots.{Stays, segments_stay, removed_normal}
 use Rattle.ref_uri.proofs.SegmentLemmas.{segments-append}
 use Rattle.ref_uri.proofs.TargetLemmas.{as_given, map_given}
@@ -28,35 +28,45 @@ use Rattle.ref_uri.proofs.WrittenUri.{some_there, normal_text_of, resolved_text_
 whole_path : (path : List ℕ) → is_path path ≡ true → has_whole_triples path ≡ true
 whole_path path h = (and_parts (list_all (λ x. is_path_character x || eqb x 37) path) (has_whole_triples path) h).1
 
--- a path that is written without its dot segments, and then again in normal form
-removed_at_once : (a : Option (List ℕ)) (path : List ℕ) → has_whole_triples path ≡ true → AllByRecursion Stays (segments path) → remove_dot_segments (normal_text path) ≡ remove_dot_segments (normal_text (guarded a (remove_dot_segments path)))
-removed_at_once a path whole stay =
-    sym (removed_twice (normal_text path)) ∙ ap remove_dot_segments (removed_normal path whole stay) ∙ sym (guarded_removed a (remove_dot_segments path))
+-- a path that loses its dot segments before its triples are decoded, and after
+removed_at_once : (path : List ℕ) → has_whole_triples path ≡ true → AllByRecursion Stays (segments path) → remove_dot_segments (normal_text path) ≡ remove_dot_segments (normal_text (remove_dot_segments path))
+removed_at_once path whole stay = sym (removed_twice (normal_text path)) ∙ ap remove_dot_segments (removed_normal path whole stay)
 
-path_at_once : (a : Option (List ℕ)) (path : PathOf) → AreParts path → LosesSameDots path → written_path Normal path ≡ remove_dot_segments (normal_text (guarded a (written_path Given path)))
-path_at_once a (Kept path) h same = absurd same
-path_at_once a (OfBase path) h same = sym (guarded_removed a path.now)
-path_at_once a (Removed path) h same = removed_at_once a path.now (whole_path path.now h) (segments_stay path.now (whole_path path.now h) same)
-path_at_once a (Merged directory path) h same =
+path_at_once : (path : PathOf) → AreParts path → LosesSameDots path → written_path Normal path ≡ written_path NormalTarget path
+path_at_once (Kept path) h same = absurd same
+path_at_once (OfBase path) h same = refl
+path_at_once (Removed path) h same = removed_at_once path.now (whole_path path.now h) (segments_stay path.now (whole_path path.now h) same)
+path_at_once (Merged directory path) h same =
     let front = whole_path directory.now h.0 in
     let rest = whole_path path.now h.1 in
-    removed_at_once a (directory.now ++ 47 ∷ path.now) (whole-append directory.now (47 ∷ path.now) front rest)
+    removed_at_once (directory.now ++ 47 ∷ path.now) (whole-append directory.now (47 ∷ path.now) front rest)
     (subst (AllByRecursion Stays) (sym (segments-append directory.now path.now)) (each_append Stays (segments directory.now) (segments path.now) (segments_stay directory.now front same.0) (segments_stay path.now rest same.1)))
+
+-- the components of a target that is written at once
+pub written_at_once : (t : Target) → IsTarget t → LosesSameDots t.path → written_components Normal t ≡ written_components NormalTarget t
+written_at_once t is same = ap (λ (p : List ℕ). record (written_components Normal t) { path = guarded (option_copied t.authority) p }) (path_at_once t.path is.path_test same)
+
+-- whole triples stand in a path as it is given
+pub given_is_whole : (path : PathOf) → AreParts path → has_whole_triples (given_path path) ≡ true
+given_is_whole (Kept path) h = whole_path path.now h
+given_is_whole (OfBase path) h = whole_path path.now h
+given_is_whole (Removed path) h = whole_path (remove_dot_segments path.now) (removed_is_path path.now h)
+given_is_whole (Merged directory path) h = whole_path (remove_dot_segments (directory.now ++ 47 ∷ path.now)) (removed_is_path (directory.now ++ 47 ∷ path.now) (encoded-append is_path_character directory.now (47 ∷ path.now) h.0 h.1))
 
 -- a base with a scheme
 pub scheme_there : (b : Components) (base : List ℕ) → b ≡ components base → is_some (scheme base) ≡ true → is_some b.scheme ≡ true
 scheme_there b base is there = ap (λ (d : Components). is_some d.scheme) is ∙ there
 
--- the components of a target against it
-pub written_at_once : (t : Target) (b r : Components) → IsTarget t → LosesSameDots t.path → is_some b.scheme ≡ true → written_components Given t ≡ resolved_components b r → written_components Normal t ≡ normal (resolved_components b r)
-written_at_once t b r is same based given =
+-- the components of a target against it, in normal form
+pub written_normal : (t : Target) (b r : Components) → is_some b.scheme ≡ true → written_components Given t ≡ resolved_components b r → written_components NormalTarget t ≡ normal (resolved_components b r)
+written_normal t b r based given =
     let s = option_copied t.scheme in
     let a = option_copied t.authority in
     let q = option_copied t.query in
     let f = option_copied t.fragment in
     let there = ap is_some (sym (map_given s)) ∙ ap (λ (d : Components). is_some d.scheme) given ∙ target_has_scheme b r based in
-    normal_parts_are s a (guarded a (written_path Given t.path)) (written_path Normal t.path) q f there (path_at_once a t.path is.path_test same)
-    ∙ ap normal (sym (as_given s a (guarded a (written_path Given t.path)) q f) ∙ given)
+    normal_parts_are s a (guarded a (given_path t.path)) (written_path NormalTarget t.path) q f there (sym (guarded_removed a (given_path t.path)))
+    ∙ ap normal (sym (as_given s a (guarded a (given_path t.path)) q f) ∙ given)
 
 -- the normal form of a target, and that it is a URI
 pub normal_of_target : (b r : Components) (base reference : List ℕ) → b ≡ components base → r ≡ components reference → are_components b ≡ true → are_components r ≡ true → is_some b.scheme ≡ true → text_of (normal (resolved_components b r)) ≡ normal_form (resolved base reference)

@@ -16,7 +16,7 @@ use Rattle.ref_uri.proofs.SegmentLemmas.{segments-slash, segments-other, segment
 use Rattle.ref_uri.specs.Normal.{hex_value, normal_triple, normal_encoded, normal_text}
 use Rattle.ref_uri.specs.Written.{written}
 use Rattle.ref_uri.specs.declared.written.Form.{Form}
-use Rattle.ref_uri.specs.declared.written.Form.TheVariants.{Given, Normal}
+use Rattle.ref_uri.specs.declared.written.Form.TheVariants.{Given, Normal, NormalTarget}
 use Rattle.ref_uri.proofs.NormalLemmas.{normal_character, normal_triple_front, normal_none}
 use Rattle.ref_uri.proofs.Induction.{by_units}
 
@@ -26,7 +26,8 @@ unreserved_ascii c h = grind (arith, nat_tests)
 hex_ascii : (c : ℕ) → is_ascii_hexdigit c ≡ true → c < 128
 hex_ascii c h = grind (arith, nat_tests)
 
-triple_ascii : (fold : ℕ → ℕ) → ((c : ℕ) → c < 128 → fold c < 128) → (high low : ℕ) → is_ascii_hexdigit high ≡ true → is_ascii_hexdigit low ≡ true → IsAscii (normal_triple fold high low)
+-- a triple in normal form is ASCII
+pub triple_ascii : (fold : ℕ → ℕ) → ((c : ℕ) → c < 128 → fold c < 128) → (high low : ℕ) → is_ascii_hexdigit high ≡ true → is_ascii_hexdigit low ≡ true → IsAscii (normal_triple fold high low)
 triple_ascii fold keeps high low h l =
     elim (cases_Bool (is_unreserved (16 * hex_value high + hex_value low))) [
       | inl e ↦ rw e (IsAscii-cons _ [] (keeps _ (unreserved_ascii _ e)) IsAscii-nil)
@@ -44,6 +45,7 @@ normal_ascii fold keeps =
 pub written_ascii : (form : Form) (text : List ℕ) → has_whole_triples text ≡ true → IsAscii text → IsAscii (written form text)
 written_ascii Given text h ascii = ascii
 written_ascii Normal text h ascii = normal_ascii (λ c. c) (λ c lt. lt) text h ascii
+written_ascii NormalTarget text h ascii = normal_ascii (λ c. c) (λ c lt. lt) text h ascii
 
 -- What becomes of letters: it keeps hex digits, unreserved characters and `%` apart, and nothing else becomes `%`.
 pub record Keeps (fold : ℕ → ℕ) : Type 0 where
@@ -130,10 +132,9 @@ normal_is_encoded fold keeps p q character unreserved text h =
     passes : (c : ℕ) → c ≢ 37 → (p c || eqb c 37) ≡ true → (q (fold c) || eqb (fold c) 37) ≡ true
     passes c ne k = elim (or_cases (p c) (eqb c 37) k) [ inl a ↦ rw (character c a) refl | inr e ↦ absurd (ne (eqb-true c 37 e)) ]
 
--- the segments of a path that is written are those of the path, written
-pub written_segments : (form : Form) (path : List ℕ) → has_whole_triples path ≡ true → segments (written form path) ≡ map (written form) (segments path)
-written_segments Given path whole = sym (map-id (segments path))
-written_segments Normal path whole =
+-- the segments of a path in normal form are those of the path, in normal form
+normal_segments : (path : List ℕ) → has_whole_triples path ≡ true → segments (normal_text path) ≡ map normal_text (segments path)
+normal_segments path whole =
     by_units (λ t. segments (normal_text t) ≡ map normal_text (segments t))
     (ap segments (normal_none (λ c. c)) ∙ ap (λ s. s ∷ []) (sym (normal_none (λ c. c))))
     (λ c t ne whole rest. elim (cases_eq c 47) [ inl slash ↦ at_slash c t ne slash rest | inr other ↦ at_other c t ne other rest ])
@@ -169,3 +170,9 @@ written_segments Normal path whole =
         ∙ ap (λ s. s ∷ map normal_text shape.1) (sym (normal_triple_front (λ c. c) high low shape.0 h l))
         ∙ ap (λ ss. map normal_text (onto_first 37 (onto_first high (onto_first low ss)))) (sym shape.2)
         ∙ ap (map normal_text) (sym (segments-triple high low t h l))
+
+-- the segments of a path that is written are those of the path, written
+pub written_segments : (form : Form) (path : List ℕ) → has_whole_triples path ≡ true → segments (written form path) ≡ map (written form) (segments path)
+written_segments Given path whole = sym (map-id (segments path))
+written_segments Normal path whole = normal_segments path whole
+written_segments NormalTarget path whole = normal_segments path whole

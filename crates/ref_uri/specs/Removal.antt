@@ -35,6 +35,12 @@ next_progress Name = Within
 next_progress Dot = Dots
 next_progress DotDot = Dots
 
+-- what stands between the path and one more segment
+abbrev pub slash_of : Progress → List ℕ
+slash_of Front = []
+slash_of Within = codes "/"
+slash_of Dots = codes "/"
+
 -- the path after one more segment
 abbrev pub path_then : Progress → List ℕ → List ℕ → List ℕ
 path_then Front path segment = first_written (segment_of segment) path segment

@@ -6,7 +6,7 @@ use Rattle.ref_uri.specs.declared.target.PathOf.{PathOf}
 use Rattle.ref_uri.specs.declared.target.PathOf.TheVariants.{Kept, OfBase, Removed, Merged}
 use Rattle.ref_uri.specs.declared.target.Target.{Target}
 use Rattle.ref_uri.specs.declared.written.Form.{Form}
-use Rattle.ref_uri.specs.declared.written.Form.TheVariants.{Given, Normal}
+use Rattle.ref_uri.specs.declared.written.Form.TheVariants.{Given, Normal, NormalTarget}
 use Rattle.ref_uri.specs.Authority.{is_authority}
 use Rattle.ref_uri.specs.Components.{Components, if_there, is_scheme, is_path, is_query}
 use Rattle.ref_uri.specs.DotSegments.{remove_dot_segments}
@@ -15,13 +15,25 @@ use Rattle.ref_uri.specs.Normal.{guarded, normal_text}
 use Rattle.ref_uri.specs.Resolution.{merged, target_of_scheme}
 use Rattle.ref_uri.specs.Written.{written, written_scheme, written_authority}
 
--- a path as it is written
+-- a path as it is given
+abbrev pub given_path : PathOf → List ℕ
+given_path (Kept path) = path.now
+given_path (OfBase path) = path.now
+given_path (Removed path) = remove_dot_segments path.now
+given_path (Merged directory path) = remove_dot_segments (directory.now ++ 47 ∷ path.now)
+
+-- a path in normal form
+abbrev pub normal_path_of : PathOf → List ℕ
+normal_path_of (Kept path) = normal_text path.now
+normal_path_of (OfBase path) = remove_dot_segments (normal_text path.now)
+normal_path_of (Removed path) = remove_dot_segments (normal_text path.now)
+normal_path_of (Merged directory path) = remove_dot_segments (normal_text (directory.now ++ 47 ∷ path.now))
+
+-- A path as it is written: a target's loses its dot segments as it is given, and then those that it has in normal form.
 abbrev pub written_path : Form → PathOf → List ℕ
-written_path form (Kept path) = written form path.now
-written_path Given (OfBase path) = path.now
-written_path Normal (OfBase path) = remove_dot_segments (normal_text path.now)
-written_path form (Removed path) = remove_dot_segments (written form path.now)
-written_path form (Merged directory path) = remove_dot_segments (written form (directory.now ++ 47 ∷ path.now))
+written_path Given path = given_path path
+written_path Normal path = normal_path_of path
+written_path NormalTarget path = remove_dot_segments (normal_text (given_path path))
 
 -- the components as they are written
 abbrev pub written_components : Form → Target → Components

@@ -5,7 +5,7 @@ use Rattle.ref_uri.specs.Normal.{normal_text, normal_authority}
 use Rattle.ref_uri.specs.declared.written.Case.{Case}
 use Rattle.ref_uri.specs.declared.written.Case.TheVariants.{AsItIs, Lower}
 use Rattle.ref_uri.specs.declared.written.Form.{Form}
-use Rattle.ref_uri.specs.declared.written.Form.TheVariants.{Given, Normal}
+use Rattle.ref_uri.specs.declared.written.Form.TheVariants.{Given, Normal, NormalTarget}
 
 -- what a character becomes
 abbrev pub in_case : Case → ℕ → ℕ
@@ -16,13 +16,16 @@ in_case Lower = to_ascii_lowercase
 abbrev pub written : Form → List ℕ → List ℕ
 written Given = λ text. text
 written Normal = normal_text
+written NormalTarget = normal_text
 
 -- a scheme
 abbrev pub written_scheme : Form → List ℕ → List ℕ
 written_scheme Given = λ scheme. scheme
 written_scheme Normal = map to_ascii_lowercase
+written_scheme NormalTarget = map to_ascii_lowercase
 
 -- an authority
 abbrev pub written_authority : Form → List ℕ → List ℕ
 written_authority Given = λ authority. authority
 written_authority Normal = normal_authority
+written_authority NormalTarget = normal_authority

@@ -1,10 +1,10 @@
 //! The removal of dot segments while a path is written (RFC 3986, 5.2.4).
-ghost use Rattle.std.specs.Prelude.{◌≡◌, ◌≤◌, ◌++◌, List, [], ℕ, true, map, length, string_bytes, IfOk, OnOk, IsAscii, ◌∷◌, ◌==◌};
+ghost use Rattle.std.specs.Prelude.{◌≡◌, ◌≤◌, ◌++◌, List, [], ℕ, true, map, length, slice_range, take, drop, ◌<◌, ◌+◌, string_bytes, IfOk, OnOk, IsAscii, ◌∷◌, ◌==◌};
 ghost use Rattle.std.specs.List.{before_last};
 ghost use Rattle.ref_uri.specs.Characters.{has_whole_triples};
 ghost use Rattle.ref_uri.specs.DotSegments.{segments, remove_dot_segments};
 ghost use Rattle.ref_uri.specs.Written.{written};
-ghost use Rattle.ref_uri.specs.Removal.{segment_of, first_written, first_progress, next_written, next_progress, path_then, progress_then, path_after, progress_after, end_of, ended};
+ghost use Rattle.ref_uri.specs.Removal.{segment_of, first_written, first_progress, next_written, next_progress, slash_of, path_then, progress_then, path_after, progress_after, end_of, ended};
 
 use crate::written::Form;
 use std::alloc::AllocError;
@@ -55,58 +55,74 @@ fn take_last(buffer: &mut String, start: usize)
     }
 }
 
-/// Appends a segment as a path's first one, unless it is a dot segment.
-fn push_first(buffer: &mut String, segment: &str, form: Form) -> Result<Progress, AllocError>
+/// Lets the segment that was appended at `end` stand as a path's first one, or takes a dot segment away.
+fn settle_first(buffer: &mut String, end: usize) -> Progress
     requires buffer_ascii { IsAscii (string_bytes buffer.old) }
-    requires ascii { IsAscii segment.now }
-    requires triples { has_whole_triples segment.now ≡ true }
-    ensures text { (before path : List ℕ) → string_bytes buffer.old ≡ before ++ path → OnOk result (string_bytes buffer.new ≡ before ++ first_written (segment_of (written form segment.now)) path (written form segment.now)) }
-    ensures progress { IfOk result (λ p. p ≡ first_progress (segment_of (written form segment.now))) }
-    ensures ascii { OnOk result (IsAscii (string_bytes buffer.new)) }
-    ensures longer { OnOk result (length (string_bytes buffer.old) ≤ length (string_bytes buffer.new)) }
+    requires within { end ≤ length (string_bytes buffer.old) }
+    ensures text { (path segment : List ℕ) → string_bytes buffer.old ≡ path ++ segment → length path ≡ end → string_bytes buffer.new ≡ first_written (segment_of segment) path segment }
+    ensures progress { (path segment : List ℕ) → string_bytes buffer.old ≡ path ++ segment → length path ≡ end → result ≡ first_progress (segment_of segment) }
+    ensures ascii { IsAscii (string_bytes buffer.new) }
+    ensures longer { end ≤ length (string_bytes buffer.new) }
 {
-    let end = buffer.len();
-    form.push(buffer, segment)?;
     match segment_of(&buffer[end..]) {
-        Segment::Name => Ok(Progress::Within),
+        Segment::Name => Progress::Within,
         Segment::Dot | Segment::DotDot => {
             buffer.truncate(end);
-            Ok(Progress::Front)
+            Progress::Front
         }
     }
 }
 
-/// Appends a slash and a segment to the path that begins at `start`, unless it is a dot segment: then the path is as it
-/// asks.
-fn push_next(
-    buffer: &mut String,
-    start: usize,
-    segment: &str,
-    form: Form,
-) -> Result<Progress, AllocError>
+/// Lets the segment that was appended at `end`, with the slash before it, stand in the path that begins at `start`, or
+/// takes a dot segment away: then the path is as it asks.
+fn settle_next(buffer: &mut String, start: usize, end: usize) -> Progress
     requires buffer_ascii { IsAscii (string_bytes buffer.old) }
-    requires within { start ≤ length (string_bytes buffer.old) }
-    requires ascii { IsAscii segment.now }
-    requires triples { has_whole_triples segment.now ≡ true }
-    ensures text { (before path : List ℕ) → string_bytes buffer.old ≡ before ++ path → length before ≡ start → OnOk result (string_bytes buffer.new ≡ before ++ next_written (segment_of (written form segment.now)) path (written form segment.now)) }
-    ensures progress { IfOk result (λ p. p ≡ next_progress (segment_of (written form segment.now))) }
-    ensures ascii { OnOk result (IsAscii (string_bytes buffer.new)) }
-    ensures start { OnOk result (start ≤ length (string_bytes buffer.new)) }
+    requires start_within { start ≤ end }
+    requires within { end < length (string_bytes buffer.old) }
+    ensures text { (before path segment : List ℕ) → string_bytes buffer.old ≡ (before ++ path) ++ 47 ∷ segment → length before ≡ start → length (before ++ path) ≡ end → string_bytes buffer.new ≡ before ++ next_written (segment_of segment) path segment }
+    ensures progress { (path segment : List ℕ) → string_bytes buffer.old ≡ path ++ 47 ∷ segment → length path ≡ end → result ≡ next_progress (segment_of segment) }
+    ensures ascii { IsAscii (string_bytes buffer.new) }
+    ensures start { start ≤ length (string_bytes buffer.new) }
 {
-    let end = buffer.len();
-    buffer.push('/')?;
-    form.push(buffer, segment)?;
     match segment_of(&buffer[end + 1..]) {
-        Segment::Name => Ok(Progress::Within),
+        Segment::Name => Progress::Within,
         Segment::Dot => {
             buffer.truncate(end);
-            Ok(Progress::Dots)
+            Progress::Dots
         }
         Segment::DotDot => {
             buffer.truncate(end);
             take_last(buffer, start);
-            Ok(Progress::Dots)
+            Progress::Dots
         }
+    }
+}
+
+/// Appends the slash in front of a segment, unless the segment is a path's first one.
+fn push_slash(buffer: &mut String, progress: Progress) -> Result<(), AllocError>
+    ensures text { OnOk result (string_bytes buffer.new ≡ string_bytes buffer.old ++ slash_of progress) }
+    ensures ascii { OnOk result (IsAscii (string_bytes buffer.old) → IsAscii (string_bytes buffer.new)) }
+{
+    match progress {
+        Progress::Front => Ok(()),
+        Progress::Within | Progress::Dots => buffer.push_str("/"),
+    }
+}
+
+/// What becomes of the path that begins at `start`, when a segment was appended at `end`, with a slash or as the first.
+fn settle(buffer: &mut String, start: usize, progress: Progress, end: usize) -> Progress
+    requires buffer_ascii { IsAscii (string_bytes buffer.old) }
+    requires start_within { start ≤ end }
+    requires within { end + length (slash_of progress) ≤ length (string_bytes buffer.old) }
+    ensures text { (before path segment : List ℕ) → string_bytes buffer.old ≡ (before ++ path) ++ (slash_of progress ++ segment) → length before ≡ start → length (before ++ path) ≡ end → string_bytes buffer.new ≡ before ++ path_then progress path segment }
+    ensures progress { (path segment : List ℕ) → string_bytes buffer.old ≡ path ++ (slash_of progress ++ segment) → length path ≡ end → result ≡ progress_then progress segment }
+    ensures ascii { IsAscii (string_bytes buffer.new) }
+    ensures start { start ≤ length (string_bytes buffer.new) }
+{
+    match progress {
+        Progress::Front => settle_first(buffer, end),
+        Progress::Within => settle_next(buffer, start, end),
+        Progress::Dots => settle_next(buffer, start, end),
     }
 }
 
@@ -127,11 +143,33 @@ fn push_segment(
     ensures ascii { OnOk result (IsAscii (string_bytes buffer.new)) }
     ensures start { OnOk result (start ≤ length (string_bytes buffer.new)) }
 {
-    match progress {
-        Progress::Front => push_first(buffer, segment, form),
-        Progress::Within => push_next(buffer, start, segment, form),
-        Progress::Dots => push_next(buffer, start, segment, form),
-    }
+    let end = buffer.len();
+    push_slash(buffer, progress)?;
+    form.push(buffer, segment)?;
+    Ok(settle(buffer, start, progress, end))
+}
+
+/// Writes one more segment of the path that begins at `start`: the part of the buffer's text from `from` to `to`.
+fn push_part(
+    buffer: &mut String,
+    start: usize,
+    progress: Progress,
+    from: usize,
+    to: usize,
+) -> Result<Progress, AllocError>
+    requires buffer_ascii { IsAscii (string_bytes buffer.old) }
+    requires within { start ≤ length (string_bytes buffer.old) }
+    requires ordered { from ≤ to }
+    requires part_within { to ≤ length (string_bytes buffer.old) }
+    ensures text { (before path : List ℕ) → string_bytes buffer.old ≡ before ++ path → length before ≡ start → OnOk result (string_bytes buffer.new ≡ before ++ path_then progress path (slice_range (string_bytes buffer.old) from to)) }
+    ensures progress { IfOk result (λ p. p ≡ progress_then progress (slice_range (string_bytes buffer.old) from to)) }
+    ensures ascii { OnOk result (IsAscii (string_bytes buffer.new)) }
+    ensures start { OnOk result (start ≤ length (string_bytes buffer.new)) }
+{
+    let end = buffer.len();
+    push_slash(buffer, progress)?;
+    buffer.extend_from_within(from..to)?;
+    Ok(settle(buffer, start, progress, end))
 }
 
 /// Writes more segments of the path that begins at `start`.
@@ -219,4 +257,35 @@ pub fn push_merged_without_dots(
     let in_front = form.of_parts(directory);
     let progress = push_segments(buffer, start, Progress::Front, directory, in_front)?;
     push_rest(buffer, start, progress, path, form.of_parts(path))
+}
+
+/// Writes the path that the buffer's text ends in, from `start` on, once more behind it, without its dot segments.
+fn push_again(buffer: &mut String, start: usize) -> Result<(), AllocError>
+    requires buffer_ascii { IsAscii (string_bytes buffer.old) }
+    requires within { start ≤ length (string_bytes buffer.old) }
+    ensures text { OnOk result (string_bytes buffer.new ≡ string_bytes buffer.old ++ remove_dot_segments (drop start (string_bytes buffer.old))) }
+    ensures ascii { OnOk result (IsAscii (string_bytes buffer.new)) }
+{
+    let end = buffer.len();
+    let mut progress = Progress::Front;
+    let mut at = start;
+    'segments: while let Some(len) = buffer[at..end].find('/') {
+        progress = push_part(buffer, end, progress, at, at + len)?;
+        at += len + 1;
+    }
+    let progress = push_part(buffer, end, progress, at, end)?;
+    push_end(buffer, progress)
+}
+
+/// Takes the dot segments from the path that the buffer's text ends in, from `start` on: what is left is written behind the
+/// path, which then goes.
+pub fn remove_dots(buffer: &mut String, start: usize) -> Result<(), AllocError>
+    requires buffer_ascii { IsAscii (string_bytes buffer.old) }
+    requires within { start ≤ length (string_bytes buffer.old) }
+    ensures text { OnOk result (string_bytes buffer.new ≡ take start (string_bytes buffer.old) ++ remove_dot_segments (drop start (string_bytes buffer.old))) }
+    ensures ascii { OnOk result (IsAscii (string_bytes buffer.new)) }
+{
+    let end = buffer.len();
+    push_again(buffer, start)?;
+    buffer.replace_range(start..end, "")
 }

@@ -85,6 +85,8 @@ pub fn targets()
     ensures rootless { against (codes "a:b/c") (codes "../d") ≡ Ok (codes "a:/d") }
     ensures no_scheme { against (codes "/a") (codes "b") ≡ Err (unresolved (codes "b") (codes "/a")) }
     ensures same_fragment { against (codes "http://A/#x") (codes "#x") ≡ Ok (codes "http://A/#x") }
+    ensures dots_as_given_go_first { against (codes "http://a/b/c") (codes "x/%2e%2e/../y") ≡ Ok (codes "http://a/b/x/y") }
+    ensures decoded_dots_go_then { against (codes "http://a/b/c") (codes "x/../%2E./y") ≡ Ok (codes "http://a/y") }
     ensures base_fragment { against (codes "http://a/b#x") (codes "c") ≡ Ok (codes "http://a/c") }
     ensures text_of_unparsed { refusal_text (unparsed (codes "a b")) ≡ codes "Invalid URI reference 'a b': not a URI reference of RFC 3986" }
     ensures text_of_unresolved { refusal_text (unresolved (codes "b") (codes "/a")) ≡ codes "Failed to resolve 'b' against '/a': the base has no scheme" }

@@ -2,11 +2,14 @@
 ghost use Rattle.std.specs.Prelude.{◌≡◌, ◌↔◌, Ok, List, [], ℕ, Some, None, true, false, codes};
 ghost use Rattle.ref_uri.specs.Components.{Components, components, text_of, are_components, scheme, authority, path, query, fragment};
 ghost use Rattle.ref_uri.specs.Normal.{normal_form};
-ghost use Rattle.ref_uri.specs.Targets.{parsed};
+ghost use Rattle.ref_uri.specs.Targets.{Refusal, refusal_text, parsed};
+ghost use Rattle.ref_uri.specs.Errors.{uri_error_text, SaysRefusal};
 ghost use Rattle.ref_uri.specs.Rows.{CharacterRows, AuthorityRows, ComponentRows, SegmentRows, NormalRows, ResolutionRows, MeaningRows};
 ghost use Rattle.ref_uri.specs.Rows.Bodies.{BodyRows};
 ghost use Rattle.ref_uri.specs.Rows.Errors.{ErrorRows};
 ghost use Rattle.ref_uri.specs.Reference.{is_uri_reference, is_uri, IsTextOfComponents, with_fragment};
+
+use crate::error::UriError;
 
 /// Every text is that of its components (RFC 3986, 5.3 and appendix B).
 pub fn components_make_their_text()
@@ -63,6 +66,11 @@ pub fn normal_form_is_its_own()
 /// What a text means by itself is its own normal form.
 pub fn meanings_are_normal()
     ensures { (text uri : List ℕ) → parsed text ≡ Ok uri → normal_form uri ≡ uri }
+{}
+
+/// An error that says what the definitions refuse displays the text of that refusal.
+pub fn errors_say_refusals()
+    ensures { (error : UriError) (refusal : Refusal) → SaysRefusal error refusal → uri_error_text error ≡ refusal_text refusal }
 {}
 
 /// The worked rows of characters and triples (RFC 3986, 2 and 3).

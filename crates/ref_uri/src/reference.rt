@@ -124,8 +124,8 @@ impl<'a> UriRef<'a> {
         target.write(alloc, Form::Normal)
     }
 
-    /// The normal form of the target's text, and how long its components are. It is written at once, unless a path holds
-    /// `%2e`: then the target is written first.
+    /// The normal form of the target's text, and how long its components are. The path loses its dot segments before triples
+    /// are decoded and after: at once, unless it holds `%2e`.
     pub(crate) fn resolved_then_normalized(
         &self,
         alloc: Global,
@@ -136,11 +136,7 @@ impl<'a> UriRef<'a> {
         ensures parsed { IfOk result (λ t. IsParsedUri (string_bytes t.0) t.1) }
     {
         let target = target::resolved(base.parts(), self.parts());
-        if target.path.loses_same_dots() {
-            return target.write(alloc, Form::Normal);
-        }
-        let (given, lengths) = target.write(alloc, Form::Given)?;
-        UriRef::from_parsed(given.as_str(), lengths).normalized(alloc)
+        target.write(alloc, target.normal_form())
     }
 
     /// The text.

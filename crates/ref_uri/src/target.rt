@@ -6,11 +6,11 @@ ghost use Rattle.ref_uri.specs.DotSegments.{remove_dot_segments};
 ghost use Rattle.ref_uri.specs.Normal.{guarded, normal, normal_text};
 ghost use Rattle.ref_uri.specs.Resolution.{through_last_slash, merged, target_path, resolved_components};
 ghost use Rattle.ref_uri.specs.Written.{written, written_scheme, written_authority};
-ghost use Rattle.ref_uri.specs.Target.{written_path, written_components, lengths_of_components, AreParts, LacksEncodedDot, LosesSameDots, IsTarget, components_of, behind_directory, path_behind, target_with_dots};
+ghost use Rattle.ref_uri.specs.Target.{given_path, normal_path_of, written_path, written_components, lengths_of_components, AreParts, LacksEncodedDot, LosesSameDots, IsTarget, components_of, behind_directory, path_behind, target_with_dots};
 
-use crate::dots::{push_merged_without_dots, push_without_dots};
+use crate::dots::{push_merged_without_dots, push_without_dots, remove_dots};
 use crate::lengths::{Lengths, Parts, head};
-use crate::written::Form;
+use crate::written::{Form, normalize_end};
 use std::alloc::{AllocError, Global};
 
 /// Where a target's path comes from.
@@ -248,7 +248,7 @@ fn holds_encoded_dot(text: &str) -> bool
 impl<'a> PathOf<'a> {
     /// Whether the dot segments that the path loses as it is given are those that it loses in normal form: a segment such
     /// as `%2e` is one there alone. The base's own path loses none as it is given, and all in normal form.
-    pub fn loses_same_dots(self) -> bool
+    fn loses_same_dots(self) -> bool
         ensures { (result ≡ true) ↔ LosesSameDots self.entry }
     {
         match self {
@@ -261,8 +261,8 @@ impl<'a> PathOf<'a> {
         }
     }
 
-    /// The room that the path takes.
-    fn room(self) -> usize {
+    /// How long the path is at most.
+    fn len(self) -> usize {
         match self {
             PathOf::Kept(path) => path.len(),
             PathOf::OfBase(path) => path.len(),
@@ -273,6 +273,62 @@ impl<'a> PathOf<'a> {
         }
     }
 
+    /// The room that the path takes: a target's stands there twice while it is put in normal form.
+    fn room(self, form: Form) -> usize {
+        match form {
+            Form::Given | Form::Normal => self.len(),
+            Form::NormalTarget => self.len().saturating_mul(2),
+        }
+    }
+
+    /// Appends the path as it is given.
+    fn push_given(self, buffer: &mut String) -> Result<(), AllocError>
+        requires buffer_ascii { IsAscii (string_bytes buffer.old) }
+        requires parts { AreParts self }
+        ensures text { OnOk result (string_bytes buffer.new ≡ string_bytes buffer.old ++ given_path self.entry) }
+        ensures ascii { OnOk result (IsAscii (string_bytes buffer.new)) }
+    {
+        match self {
+            PathOf::Kept(path) => Form::Given.push(buffer, path),
+            PathOf::OfBase(path) => Form::Given.push(buffer, path),
+            PathOf::Removed(path) => push_without_dots(buffer, path, Form::Given),
+            PathOf::Merged(directory, path) => {
+                push_merged_without_dots(buffer, directory, path, Form::Given)
+            }
+        }
+    }
+
+    /// Appends the path in normal form.
+    fn push_normal(self, buffer: &mut String) -> Result<(), AllocError>
+        requires buffer_ascii { IsAscii (string_bytes buffer.old) }
+        requires parts { AreParts self }
+        ensures text { OnOk result (string_bytes buffer.new ≡ string_bytes buffer.old ++ normal_path_of self.entry) }
+        ensures ascii { OnOk result (IsAscii (string_bytes buffer.new)) }
+    {
+        match self {
+            PathOf::Kept(path) => Form::Normal.push(buffer, path),
+            PathOf::OfBase(path) => push_without_dots(buffer, path, Form::Normal),
+            PathOf::Removed(path) => push_without_dots(buffer, path, Form::Normal),
+            PathOf::Merged(directory, path) => {
+                push_merged_without_dots(buffer, directory, path, Form::Normal)
+            }
+        }
+    }
+
+    /// Appends the path as it is given, and puts it in normal form there. Dot segments that it has only then, such as
+    /// `%2e`, go at the end.
+    fn push_normal_target(self, buffer: &mut String) -> Result<(), AllocError>
+        requires buffer_ascii { IsAscii (string_bytes buffer.old) }
+        requires parts { AreParts self }
+        ensures text { OnOk result (string_bytes buffer.new ≡ string_bytes buffer.old ++ remove_dot_segments (normal_text (given_path self.entry))) }
+        ensures ascii { OnOk result (IsAscii (string_bytes buffer.new)) }
+    {
+        let start = buffer.len();
+        self.push_given(buffer)?;
+        normalize_end(buffer, start)?;
+        remove_dots(buffer, start)
+    }
+
     /// Appends the path.
     fn push(self, buffer: &mut String, form: Form) -> Result<(), AllocError>
         requires buffer_ascii { IsAscii (string_bytes buffer.old) }
@@ -280,16 +336,10 @@ impl<'a> PathOf<'a> {
         ensures text { OnOk result (string_bytes buffer.new ≡ string_bytes buffer.old ++ written_path form self.entry) }
         ensures ascii { OnOk result (IsAscii (string_bytes buffer.new)) }
     {
-        match self {
-            PathOf::Kept(path) => form.push(buffer, path),
-            PathOf::OfBase(path) => match form {
-                Form::Given => form.push(buffer, path),
-                Form::Normal => push_without_dots(buffer, path, form),
-            },
-            PathOf::Removed(path) => push_without_dots(buffer, path, form),
-            PathOf::Merged(directory, path) => {
-                push_merged_without_dots(buffer, directory, path, form)
-            }
+        match form {
+            Form::Given => self.push_given(buffer),
+            Form::Normal => self.push_normal(buffer),
+            Form::NormalTarget => self.push_normal_target(buffer),
         }
     }
 }
@@ -314,13 +364,24 @@ fn push_path(
 
 impl<'a> Target<'a> {
     /// The room that the text takes at most.
-    fn room(self) -> usize {
+    fn room(self, form: Form) -> usize {
         room(self.scheme)
             .saturating_add(room(self.authority))
-            .saturating_add(self.path.room())
+            .saturating_add(self.path.room(form))
             .saturating_add(room(self.query))
             .saturating_add(room(self.fragment))
             .saturating_add(2)
+    }
+
+    /// The form in which the target's normal form is written: at once, where its path loses the same dot segments so.
+    pub fn normal_form(self) -> Form
+        requires { IsTarget self }
+        ensures { written_components result self.entry ≡ written_components Form.NormalTarget self.entry }
+    {
+        if self.path.loses_same_dots() {
+            return Form::Normal;
+        }
+        Form::NormalTarget
     }
 
     /// The target's text, and how long its components are. Takes memory once.
@@ -329,7 +390,7 @@ impl<'a> Target<'a> {
         ensures text { IfOk result (λ t. string_bytes t.0 ≡ text_of (written_components form self.entry)) }
         ensures lengths { IfOk result (λ t. t.1 ≡ lengths_of_components (written_components form self.entry)) }
     {
-        let mut text = String::with_capacity(alloc, self.room())?;
+        let mut text = String::with_capacity(alloc, self.room(form))?;
         let scheme = push_scheme(&mut text, self.scheme, form)?;
         let authority = push_authority(&mut text, self.authority, form)?;
         let path = push_path(&mut text, self.path, self.authority, form)?;

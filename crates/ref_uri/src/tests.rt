@@ -413,6 +413,32 @@ fn answers_what_texts_mean(rt: HostRuntime) -> Result<(), Fail> {
     Ok(())
 }
 
+/// Dot segments go from a path as it is given, and then those go that it has once its triples are decoded.
+#[test]
+fn removes_dot_segments_before_triples_are_decoded_and_after(rt: HostRuntime) -> Result<(), Fail> {
+    let alloc = rt.alloc();
+    for (base, text, meaning) in [
+        ("http://a/b/c", "x/%2e%2e/../y", "http://a/b/x/y"),
+        ("http://a/b/c", "x/../%2e%2e/y", "http://a/y"),
+        ("http://a/b/c", "x/.%2E/../y?%2e%2e", "http://a/b/x/y?.."),
+        ("http://a/b/c", "x/%2e", "http://a/b/x/"),
+        ("http://a/b/c", "x/%2e%2E#%2e", "http://a/b/#."),
+        ("http://a/b/c", "x/%7e%2e/%2f", "http://a/b/x/~./%2F"),
+        ("http://a/b/c", "%2e%2e/%2e%2e/%2e%2e", "http://a/"),
+        ("http://a/x/%2e%2e/b", "../c", "http://a/x/c"),
+        ("http://a/x/%2e%2e/b", "c", "http://a/c"),
+        ("http://a/x/../%2e%2e/y", "?q", "http://a/y?q"),
+        ("a:b/%2e%2e/c", "d", "a:/d"),
+        ("a:/b", "/x/%2e%2e//c", "a:/.//c"),
+        ("a:/b", "/.//%2e%2e/c", "a:/c"),
+    ] {
+        let base = UriRef::parse(base)?;
+        let uri = uri::resolve_against(alloc, base, text)?;
+        assert_eq!(rt; uri.as_str(), meaning, "{text}");
+    }
+    Ok(())
+}
+
 #[test]
 fn says_why_texts_mean_no_uri(rt: HostRuntime) -> Result<(), Fail> {
     let alloc = rt.alloc();
@@ -473,6 +499,26 @@ fn removes_many_dot_segments(rt: HostRuntime) -> Result<(), Fail> {
     }
     let base = UriRef::parse("http://h/b")?;
     let uri = UriRef::parse(path.as_str())?.resolve_against(alloc, base)?;
+    assert_eq!(rt; uri.as_str(), "http://h/a");
+    Ok(())
+}
+
+/// Each `..` behind `/a/%2e%2e` takes `%2e%2e` away, so each `a` stays. Without it, only the last does.
+#[test]
+fn removes_many_encoded_dot_segments(rt: HostRuntime) -> Result<(), Fail> {
+    let alloc = rt.alloc();
+    let mut path = String::new(alloc);
+    let mut given_first = String::from_str(alloc, "http://h")?;
+    let mut decoded = String::new(alloc);
+    for _ in 0..1500 {
+        path.push_str("/a/%2e%2e/..")?;
+        given_first.push_str("/a")?;
+        decoded.push_str("/%2e%2e/a")?;
+    }
+    given_first.push_str("/")?;
+    let uri = uri::resolve_against(alloc, UriRef::parse("http://h/b")?, path.as_str())?;
+    assert_eq!(rt; uri.as_str(), given_first.as_str());
+    let uri = uri::resolve_against(alloc, UriRef::parse("http://h/b")?, decoded.as_str())?;
     assert_eq!(rt; uri.as_str(), "http://h/a");
     Ok(())
 }

@@ -217,10 +217,13 @@ fn parse_reference(alloc: Global, text: &str) -> Result<UriRef<'_>, UriFault>
 fn default_base() -> UriRef<'static>
     ensures { result ≡ default_base }
 {
-    match UriRef::parse("json-schema:///") {
-        Ok(base) => base,
-        Err(_) => unreachable!(),
-    }
+    let lengths = Lengths {
+        scheme: Some(11),
+        authority: Some(0),
+        path: 1,
+        query: None,
+    };
+    UriRef::from_parsed("json-schema:///", lengths)
 }
 
 /// The URI that a text means: its normal form, resolved against `json-schema:///` where it has no scheme.
@@ -264,8 +267,7 @@ fn is_fragment_at_end(base: &str, text: &str) -> bool
 ///
 /// `Invalid` with [`UriError::Resolve`] exactly where the base has no scheme, and with [`UriError::Parse`] exactly where
 /// it has one and the text is no URI reference and not that fragment; `Memory` where there is none. Linear in the two texts.
-/// An answer takes memory once, and once more where a triple of `.`, `%2e`, stands in the text's path or in the base's path
-/// before it: dot segments go before triples are decoded, and again after.
+/// An answer takes memory once.
 pub fn resolve_against(alloc: Global, base: UriRef<'_>, uri: &str) -> Result<Uri, UriFault>
     ensures ok { IfOk result (λ answer. against base.entry uri.now ≡ Ok answer) }
     ensures fault { IfErr result (IsFaultOf (against base.entry uri.now)) }

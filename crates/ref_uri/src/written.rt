@@ -1,8 +1,8 @@
 //! The components of a reference, written as they are or in normal form (RFC 3986, 6.2.2 and 3.2.3).
-ghost use Rattle.std.specs.Prelude.{◌≡◌, ◌<◌, ◌∷◌, [], ◌++◌, true, map, take, drop, length, ◌≤◌, ◌==◌, string_bytes, OnOk, IsAscii};
+ghost use Rattle.std.specs.Prelude.{◌≡◌, ◌<◌, ◌∷◌, [], ◌++◌, true, map, take, drop, length, slice_index, ◌+◌, ◌≤◌, ◌==◌, string_bytes, OnOk, IsAscii};
 ghost use Rattle.std.specs.List.{position_or_len};
 ghost use Rattle.std.specs.Char.{is_ascii_hexdigit};
-ghost use Rattle.ref_uri.specs.Characters.{has_whole_triples};
+ghost use Rattle.ref_uri.specs.Characters.{begins_with_hex_digits, has_whole_triples};
 ghost use Rattle.ref_uri.specs.Authority.{is_authority, host_len};
 ghost use Rattle.ref_uri.specs.Normal.{hex_value, normal_triple, normal_encoded, normal_text, normal_host, normal_port_part, normal_authority};
 ghost use Rattle.ref_uri.specs.Written.{in_case, written, written_scheme, written_authority};
@@ -25,6 +25,8 @@ pub enum Form {
     Given,
     /// In normal form.
     Normal,
+    /// In normal form, as a target whose path has lost its dot segments as it was given.
+    NormalTarget,
 }
 
 impl Case {
@@ -113,6 +115,48 @@ fn push_encoded(buffer: &mut String, text: &str, case: Case) -> Result<(), Alloc
     case.push_run(buffer, rest)
 }
 
+/// Appends the triple that stands in the buffer's text at `percent`, as [`push_triple`] does.
+fn push_triple_again(buffer: &mut String, percent: usize) -> Result<(), AllocError>
+    requires { begins_with_hex_digits (drop (percent + 1) (string_bytes buffer.old)) ≡ true }
+    ensures { OnOk result (string_bytes buffer.new ≡ string_bytes buffer.old ++ normal_triple (λ c. c) (slice_index (string_bytes buffer.old) (percent + 1)) (slice_index (string_bytes buffer.old) (percent + 2))) }
+{
+    let high = buffer.as_bytes()[percent + 1];
+    let low = buffer.as_bytes()[percent + 2];
+    push_triple(buffer, high, low, Case::AsItIs)
+}
+
+/// Writes the encoded text that the buffer's text ends in, from `start` on, once more behind it, in normal form.
+fn push_normal_again(buffer: &mut String, start: usize) -> Result<(), AllocError>
+    requires buffer_ascii { IsAscii (string_bytes buffer.old) }
+    requires within { start ≤ length (string_bytes buffer.old) }
+    requires triples { has_whole_triples (drop start (string_bytes buffer.old)) ≡ true }
+    ensures text { OnOk result (string_bytes buffer.new ≡ string_bytes buffer.old ++ normal_text (drop start (string_bytes buffer.old))) }
+    ensures ascii { OnOk result (IsAscii (string_bytes buffer.new)) }
+{
+    let end = buffer.len();
+    let mut at = start;
+    'runs: while let Some(len) = buffer[at..end].find('%') {
+        buffer.extend_from_within(at..at + len)?;
+        push_triple_again(buffer, at + len)?;
+        at += len + 3;
+    }
+    buffer.extend_from_within(at..end)
+}
+
+/// Puts the encoded text that the buffer's text ends in, from `start` on, in normal form: that is written behind the text,
+/// which then goes.
+pub fn normalize_end(buffer: &mut String, start: usize) -> Result<(), AllocError>
+    requires buffer_ascii { IsAscii (string_bytes buffer.old) }
+    requires within { start ≤ length (string_bytes buffer.old) }
+    requires triples { has_whole_triples (drop start (string_bytes buffer.old)) ≡ true }
+    ensures text { OnOk result (string_bytes buffer.new ≡ take start (string_bytes buffer.old) ++ normal_text (drop start (string_bytes buffer.old))) }
+    ensures ascii { OnOk result (IsAscii (string_bytes buffer.new)) }
+{
+    let end = buffer.len();
+    push_normal_again(buffer, start)?;
+    buffer.replace_range(start..end, "")
+}
+
 /// Where the character first stands, or the length.
 fn index_of(text: &[u8], c: u8) -> usize
     ensures value { result ≡ position_or_len (λ x. x == c) text.now }
@@ -177,8 +221,8 @@ impl Form {
     {
         match self {
             Form::Given => Form::Given,
-            Form::Normal if text.contains('%') => Form::Normal,
-            Form::Normal => Form::Given,
+            Form::Normal | Form::NormalTarget if text.contains('%') => Form::Normal,
+            Form::Normal | Form::NormalTarget => Form::Given,
         }
     }
 
@@ -191,7 +235,7 @@ impl Form {
     {
         match self {
             Form::Given => buffer.push_str(text),
-            Form::Normal => push_encoded(buffer, text, Case::AsItIs),
+            Form::Normal | Form::NormalTarget => push_encoded(buffer, text, Case::AsItIs),
         }
     }
 
@@ -203,7 +247,7 @@ impl Form {
     {
         match self {
             Form::Given => buffer.push_str(scheme),
-            Form::Normal => push_lower(buffer, scheme),
+            Form::Normal | Form::NormalTarget => push_lower(buffer, scheme),
         }
     }
 
@@ -216,7 +260,7 @@ impl Form {
     {
         match self {
             Form::Given => buffer.push_str(authority),
-            Form::Normal => push_normal_authority(buffer, authority),
+            Form::Normal | Form::NormalTarget => push_normal_authority(buffer, authority),
         }
     }
 }

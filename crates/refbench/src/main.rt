@@ -7,17 +7,14 @@ use anyhow::Context;
 use ref_uri::{UriRef, uri};
 use std::alloc::{AllocError, Global};
 
-/// A text of at least this many bytes, of pieces of its kind.
+/// A text of at least this many bytes, of pieces: those of a kind that has a name, or else the word itself.
 fn text_of(alloc: Global, kind: &str, size: usize) -> Result<String, AllocError> {
     let piece = match kind {
         "names" => "/definitions",
         "dots" => "/../a",
         "triples" => "/%7euser%2F",
         "encoded" => "/%2e%2e/a",
-        "up" => "../g",
-        "parameters" => "g;x=1/../y",
-        "fragment" => "g;x?y#s",
-        _ => "/",
+        word => word,
     };
     let mut text = String::new(alloc);
     for _ in 0..size {

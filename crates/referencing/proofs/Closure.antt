@@ -9,7 +9,7 @@ use Rattle.ref_uri.specs.Targets.{Refusal}
 use Rattle.serde_json.specs.Data.{Data}
 use Rattle.referencing.specs.World.{Document, Layer, World, document}
 use Rattle.referencing.specs.Places.{Place}
-use Rattle.referencing.specs.Bearing.{means}
+use Rattle.referencing.specs.Resources.{means}
 use Rattle.referencing.specs.Fault.{Fault, InvalidUri, RetrievalLimit}
 use Rattle.referencing.specs.Wants.{Want, Cause, Reference, MetaSchema, wants, faults, is_open, open_wants}
 use Rattle.referencing.specs.Preparing.{Given, IsRun, begun, retrieved, IsOutcome, faulty, limited, refused, ready, refusal_fault}
@@ -48,7 +48,7 @@ more_retrieved given n layer want more tree unmet answered closure =
     let d : Document = document given.draft want.uri tree in
     let first = first_passes (is_open (layer ∷ given.parents)) (wants layer) want more unmet in
     let none : means (layer ∷ given.parents) want.uri ≡ None = not_there (means (layer ∷ given.parents) want.uri) first.1 in
-    let last : IsRetrieved given layer d = record { cause = want.cause; tree = tree; wanted = first.0; unborne = none; answered = answered; is = refl } in
+    let last : IsRetrieved given layer d = record { cause = want.cause; tree = tree; wanted = first.0; no_place = none; answered = answered; is = refl } in
     record {
       retrieved = closure.retrieved ++ d ∷ [];
       is = ap (λ l. l ++ d ∷ []) closure.is ∙ append_assoc given.documents closure.retrieved (d ∷ []);

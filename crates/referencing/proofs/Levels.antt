@@ -6,6 +6,7 @@ use Rattle.ref_parts.specs.Path.{Part}
 use Rattle.ref_draft.specs.declared.draft.Draft.{Draft}
 use Rattle.ref_draft.specs.Children.{Child, children, with_draft}
 use Rattle.ref_draft.proofs.Depth.{shallower}
+use Rattle.ref_draft.proofs.Lists.{all_append}
 use Rattle.ref_uri.specs.Targets.{Refusal}
 use Rattle.referencing.specs.World.{Document}
 use Rattle.referencing.specs.Places.{Place, root, child_place, children_with, children_of, levels_below, places}
@@ -13,10 +14,6 @@ use Rattle.referencing.specs.Places.{Place, root, child_place, children_with, ch
 -- each place nests at most n deep
 abbrev Within : ℕ → List Place → Type 0
 Within n ps = AllByRecursion (λ p. depth p.value ≤ n) ps
-
-within_append : (n : ℕ) (ps qs : List Place) → Within n ps → Within n qs → Within n (ps ++ qs)
-within_append n [] qs first second = second
-within_append n (p ∷ ps) qs first second = (first.0, within_append n ps qs first.1 second)
 
 -- the children of a value that nests at most n + 1 deep
 within_children : (n : ℕ) (outer : Data) (path : List Part) (base : List ℕ) (draft : Draft) (cs : List Child) → depth outer ≤ suc n
@@ -32,7 +29,7 @@ within_place n p (Err refusal) small = tt
 within_level : (n : ℕ) (ps : List Place) → Within (suc n) ps → Within n (flat_map children_of ps)
 within_level n [] small = tt
 within_level n (p ∷ ps) small =
-    within_append n (children_of p) (flat_map children_of ps) (within_place n p p.base small.0) (within_level n ps small.1)
+    all_append (λ q. depth q.value ≤ n) (children_of p) (flat_map children_of ps) (within_place n p p.base small.0) (within_level n ps small.1)
 
 -- a value that doesn't nest has no children
 none_of_children : (outer : Data) (path : List Part) (base : List ℕ) (draft : Draft) (cs : List Child) → depth outer ≤ 0

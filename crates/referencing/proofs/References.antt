@@ -1,6 +1,6 @@
 -- A lookup from a place of a layer without an open want finds the place that its URI means.
 use Rattle.std.proofs.Common.{◌≡◌, ℕ, zero, suc, ◌==◌, Bool, true, false, not, cond, List, [], ◌∷◌, ◌++◌, filter, flat_map, Option, Some, None, is_some, Result, Ok, Err, codes, refl, sym, ap, subst, ◌∙◌, true≢false, arith}
-use Rattle.std.specs.List.{Contains, slice_split, list_any, All}
+use Rattle.std.specs.List.{Contains, list_any, All}
 use Rattle.std.specs.Prelude.{⊤}
 use Rattle.std.specs.Str.{is_utf8}
 use Rattle.std.specs.Option.{option_map_or}
@@ -9,14 +9,14 @@ use Rattle.percent_encoding.specs.Percent.{percent_decode}
 use Rattle.serde_json.specs.Data.{Data, null, boolean, number, string, array, object}
 use Rattle.serde_json.specs.Find.{get_item, get_member}
 use Rattle.ref_parts.specs.Path.{Key, Index}
-use Rattle.ref_parts.specs.Pointer.{unescape}
+use Rattle.ref_parts.specs.Pointer.{unescape, tokens}
 use Rattle.ref_draft.specs.declared.draft.Draft.{Draft}
 use Rattle.ref_draft.specs.Anchors.{Kind, Plain, Dynamic}
 use Rattle.ref_draft.specs.Schema.{text_under}
 use Rattle.ref_uri.specs.Targets.{Refusal, target, fragment_part}
 use Rattle.referencing.specs.World.{Document, Layer, World}
 use Rattle.referencing.specs.Places.{Place, places}
-use Rattle.referencing.specs.Bearing.{means}
+use Rattle.referencing.specs.Resources.{means}
 use Rattle.referencing.specs.Fault.{Fault, Unretrievable, PointerToNowhere, InvalidPercentEncoding, InvalidArrayIndex, NoSuchAnchor, InvalidAnchor, InvalidUri, UnknownSpecification, CircularMetaschema, RetrievalLimit}
 use Rattle.referencing.specs.Anchors.{Named, named, fallback_uri, found_or, fallback, anchor}
 use Rattle.referencing.specs.Bases.{Along, along_part}
@@ -84,8 +84,8 @@ walk_clear draft pointer along value (token ∷ tokens) =
 pointed_clear : (draft : Draft) (pointer base : List ℕ) (value : Data) (text : List ℕ) → Clear (pointed draft pointer base value text)
 pointed_clear draft pointer base value text =
     either (is_utf8 (percent_decode text))
-    (walked_along draft pointer (record { base = base; since = [] }) value (slice_split (λ c. c == 47) (percent_decode text))) (Err (InvalidPercentEncoding pointer))
-    (walk_clear draft pointer (record { base = base; since = [] }) value (slice_split (λ c. c == 47) (percent_decode text))) tt
+    (walked_along draft pointer (record { base = base; since = [] }) value (tokens (percent_decode text))) (Err (InvalidPercentEncoding pointer))
+    (walk_clear draft pointer (record { base = base; since = [] }) value (tokens (percent_decode text))) tt
 
 -- ---- anchors
 

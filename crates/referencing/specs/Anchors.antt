@@ -6,7 +6,7 @@ use Rattle.ref_draft.specs.Anchors.{Kind, anchors}
 use Rattle.ref_uri.specs.Targets.{Refusal, parsed}
 use Rattle.referencing.specs.World.{Document, Layer, World}
 use Rattle.referencing.specs.Places.{Place, places, root, identifier_of}
-use Rattle.referencing.specs.Bearing.{means, last_of}
+use Rattle.referencing.specs.Resources.{means, last_of}
 use Rattle.referencing.specs.Fault.{Fault, NoSuchAnchor, InvalidAnchor, InvalidUri}
 
 -- a name under a URI, with its kind and place
@@ -47,7 +47,7 @@ abbrev pub not_named : List ℕ → Fault
 not_named name = if list_any (λ c. c == 47) name then InvalidAnchor name else NoSuchAnchor name
 
 -- Where a name is sought that has no entry under the URI: under what the identifier of the place there means by itself.
--- This is the rule of the crate that this library follows; the place's base is to take its stead.
+-- This is the rule of the crate that this library follows; the place's base will be used instead.
 abbrev pub fallback_uri : Place → Option (Result (List ℕ) Refusal)
 fallback_uri p = option_map_or (λ id. Some (parsed id)) (identifier_of p) None
 

@@ -1,7 +1,7 @@
 -- What documents that are appended to a layer leave: a URI that means a place still means one, and so a want stays met.
 use Rattle.std.specs.Prelude.{◌≡◌, ℕ, false, List, ◌∷◌, ◌++◌, filter, is_some, IsTrue}
 use Rattle.referencing.specs.World.{Layer, World}
-use Rattle.referencing.specs.Bearing.{means}
+use Rattle.referencing.specs.Resources.{means}
 use Rattle.referencing.specs.Wants.{Want, is_open, open_wants}
 
 -- a URI means a place

@@ -5,7 +5,7 @@ use Rattle.serde_json.specs.Data.{Data}
 use Rattle.ref_draft.specs.declared.draft.Draft.{Draft}
 use Rattle.ref_uri.specs.Targets.{Refusal}
 use Rattle.referencing.specs.World.{Document, Layer, World, document}
-use Rattle.referencing.specs.Bearing.{means}
+use Rattle.referencing.specs.Resources.{means}
 use Rattle.referencing.specs.Fault.{Fault, InvalidUri, RetrievalLimit}
 use Rattle.referencing.specs.Wants.{Want, Cause, wants, faults, open_wants}
 use Rattle.referencing.specs.Preparing.{Given, IsRun, IsOutcome}
@@ -26,7 +26,7 @@ pub record IsRetrieved (given : Given) (before : Layer) (d : Document) : Type 0 
   pub cause : Cause
   pub tree : Data
   pub wanted : Contains (wants before) (record { cause = cause; uri = d.uri })
-  pub unborne : means (before ∷ given.parents) d.uri ≡ None
+  pub no_place : means (before ∷ given.parents) d.uri ≡ None
   pub answered : given.retriever.may_answer d.uri tree
   pub is : d ≡ document given.draft d.uri tree
 

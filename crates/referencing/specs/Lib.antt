@@ -1,7 +1,7 @@
 pub mod Fault
 pub mod World
 pub mod Places
-pub mod Bearing
+pub mod Resources
 pub mod Anchors
 pub mod Wants
 pub mod Appending

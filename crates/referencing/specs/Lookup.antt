@@ -12,7 +12,7 @@ use Rattle.ref_draft.specs.Anchors.{Kind, Plain, Dynamic}
 use Rattle.ref_uri.specs.Targets.{Refusal, target, fragment_part, against}
 use Rattle.referencing.specs.World.{World}
 use Rattle.referencing.specs.Places.{Place}
-use Rattle.referencing.specs.Bearing.{last_of, means}
+use Rattle.referencing.specs.Resources.{last_of, means}
 use Rattle.referencing.specs.Anchors.{Named, anchor}
 use Rattle.referencing.specs.Fault.{Fault, NoSuchAnchor, not_retrieved}
 use Rattle.referencing.specs.Bases.{Along}

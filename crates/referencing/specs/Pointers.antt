@@ -1,6 +1,6 @@
 -- A pointer in a reference's fragment (RFC 6901, sections 3, 4 and 6), walked with the base along it.
-use Rattle.std.specs.Prelude.{ℕ, ◌^◌, ◌&&◌, ◌==◌, nat_lt, List, [], ◌∷◌, length, Option, Some, None, Result, Ok, Err, if◌then◌else◌}
-use Rattle.std.specs.List.{slice_split, list_all}
+use Rattle.std.specs.Prelude.{ℕ, ◌^◌, ◌&&◌, nat_lt, List, [], ◌∷◌, length, Option, Some, None, Result, Ok, Err, if◌then◌else◌}
+use Rattle.std.specs.List.{list_all}
 use Rattle.std.specs.Char.{is_ascii_digit}
 use Rattle.std.specs.Str.{is_utf8}
 use Rattle.std.specs.Str.Parse.{without_leading_plus, digits_value}
@@ -8,7 +8,7 @@ use Rattle.percent_encoding.specs.Percent.{percent_decode}
 use Rattle.serde_json.specs.Data.{Data, null, boolean, number, string, array, object}
 use Rattle.serde_json.specs.Find.{get_item, get_member}
 use Rattle.ref_parts.specs.Path.{Part, Key, Index}
-use Rattle.ref_parts.specs.Pointer.{unescape}
+use Rattle.ref_parts.specs.Pointer.{unescape, tokens}
 use Rattle.ref_draft.specs.declared.draft.Draft.{Draft}
 use Rattle.ref_uri.specs.Targets.{Refusal}
 use Rattle.referencing.specs.Fault.{Fault, PointerToNowhere, InvalidPercentEncoding, InvalidArrayIndex, InvalidUri}
@@ -57,5 +57,5 @@ walked_along draft pointer along value (token ∷ tokens) =
 abbrev pub pointed : Draft → List ℕ → List ℕ → Data → List ℕ → Result (Data × Along) Fault
 pointed draft pointer base value text =
     if is_utf8 (percent_decode text)
-    then walked_along draft pointer (record { base = base; since = [] }) value (slice_split (λ c. c == 47) (percent_decode text))
+    then walked_along draft pointer (record { base = base; since = [] }) value (tokens (percent_decode text))
     else Err (InvalidPercentEncoding pointer)

@@ -1,18 +1,19 @@
 -- Recursive references (2019-09 Core, 8.2.4.2).
-use Rattle.std.specs.Prelude.{Bool, false, List, [], ◌∷◌, map, drop, length, codes, Result, Ok, Err, if◌then◌else◌, option_and_then}
+use Rattle.std.specs.Prelude.{Bool, false, List, [], ◌∷◌, map, drop, length, codes, Result, Ok, Err, if◌then◌else◌}
 use Rattle.std.specs.List.{take_while}
 use Rattle.std.specs.Option.{option_map_or}
 use Rattle.serde_json.specs.Data.{Data}
-use Rattle.serde_json.specs.Find.{get, as_bool}
+use Rattle.serde_json.specs.Find.{get}
+use Rattle.ref_draft.specs.Schema.{is_true}
 use Rattle.referencing.specs.World.{World}
-use Rattle.referencing.specs.Bearing.{last_of}
+use Rattle.referencing.specs.Resources.{last_of}
 use Rattle.referencing.specs.Fault.{Fault}
 use Rattle.referencing.specs.Pointers.{◌>>=◌}
 use Rattle.referencing.specs.Lookup.{Resolver, Found, lookup}
 
 -- an object whose `$recursiveAnchor` is true
 abbrev pub is_marked : Data → Bool
-is_marked value = option_map_or (λ b. b) (option_and_then as_bool (get (codes "$recursiveAnchor") value)) false
+is_marked value = option_map_or is_true (get (codes "$recursiveAnchor") value) false
 
 -- a lookup that answers a marked value
 abbrev pub answers_marked : Result Found Fault → Bool

@@ -2,7 +2,7 @@
 use Rattle.std.specs.Prelude.{◌≡◌, ℕ, List, codes, Some, None}
 use Rattle.std.specs.Option.{option_map_or}
 use Rattle.serde_json.specs.Data.{Data}
-use Rattle.referencing.specs.Bearing.{last_under}
+use Rattle.referencing.specs.Resources.{last_under}
 use Rattle.referencing.specs.Preparing.{Retriever}
 
 -- it always refuses

@@ -1,7 +1,7 @@
 -- Literal documents for rows that compute.
 use Prim.Native.String.{String as Literal}
 use Rattle.std.specs.Prelude.{ℕ, true, List, [], ◌∷◌, map, codes, Option, Some, None, option_map, Result, Ok, Err}
-use Rattle.serde_json.specs.Data.{Data, boolean, string, array, object, no_items, item, no_members, member}
+use Rattle.serde_json.specs.Data.{Data, boolean, number, unsigned, string, array, object, no_items, item, no_members, member}
 use Rattle.ref_parts.specs.Path.{Part}
 use Rattle.ref_draft.specs.declared.draft.Draft.{Draft}
 use Rattle.ref_draft.specs.declared.draft.Draft.TheVariants.{Draft202012}
@@ -25,6 +25,10 @@ yes = boolean true
 abbrev pub text : Literal → Data
 text t = string (codes t)
 
+-- a whole number
+abbrev pub whole : ℕ → Data
+whole n = number (unsigned n)
+
 abbrev pub empty : Data
 empty = object no_members
 
@@ -38,12 +42,21 @@ two key d other e = object (member (codes key) d (member (codes other) e no_memb
 abbrev pub three : Literal → Data → Literal → Data → Literal → Data → Data
 three key d other e third f = object (member (codes key) d (member (codes other) e (member (codes third) f no_members)))
 
+-- an array of one element, of two
+abbrev pub list : Data → Data
+list d = array (item d no_items)
+
 abbrev pub pair : Data → Data → Data
 pair d e = array (item d (item e no_items))
 
 -- a document of a draft under a URI
 abbrev pub at : Draft → Literal → Data → Document
 at draft uri tree = document draft (codes uri) tree
+
+-- {"":4,"a":{"b":3},"a%zz":1,"l":[],"~/":5,"~2":2}
+abbrev pub odd_keys : Document
+odd_keys = at Draft202012 "http://a/r" (object (member [] (whole 4) (member (codes "a") (one "b" (whole 3)) (member (codes "a%zz") (whole 1)
+    (member (codes "l") (array no_items) (member (codes "~/") (whole 5) (member (codes "~2") (whole 2) no_members)))))))
 
 -- what is added: a value, or a resource of a draft
 abbrev pub value_under : Literal → Data → Addition

@@ -5,15 +5,15 @@ use Rattle.std.specs.Option.{option_map_or}
 use Rattle.std.specs.Ordering.{nat_cmp, match_ordering}
 use Rattle.std.specs.Cmp.Lexicographic.{slice_cmp}
 use Rattle.serde_json.specs.Data.{Data, Members, no_members, member}
-use Rattle.serde_json.specs.Find.{get, as_object, as_bool}
+use Rattle.serde_json.specs.Find.{get, as_object}
 use Rattle.ref_draft.specs.declared.draft.Draft.{Draft}
 use Rattle.ref_draft.specs.declared.draft.Draft.TheVariants.{Draft4, Draft6, Draft7, Draft201909, Draft202012, Unknown}
-use Rattle.ref_draft.specs.Schema.{text_under, detect}
+use Rattle.ref_draft.specs.Keywords.{is_unknown}
+use Rattle.ref_draft.specs.Schema.{text_under, is_true, detect}
 use Rattle.ref_uri.specs.Reference.{with_fragment}
 use Rattle.ref_uri.specs.Targets.{Refusal, parsed}
 use Rattle.referencing.specs.World.{World}
-use Rattle.referencing.specs.Bearing.{means}
-use Rattle.referencing.specs.Wants.{is_unknown}
+use Rattle.referencing.specs.Resources.{means}
 use Rattle.referencing.specs.Pointers.{◌>>=◌}
 
 -- a known vocabulary: the last part of its URI, which is its displayed name, and whether 2019-09 has it
@@ -117,10 +117,6 @@ set_text s = codes "[" ++ join_by quoted (codes ", ") (s.names ++ s.customs) ++ 
 abbrev pub is_format_assertion : Vocabulary → Bool
 is_format_assertion (Named name) = bytes_eq name (codes "format-assertion")
 is_format_assertion (Custom uri) = false
-
--- whether a value is true
-abbrev pub is_true : Data → Bool
-is_true value = option_map_or (λ b. b) (as_bool value) false
 
 -- a set after one member
 abbrev pub with_member : VocabularySet → Data → Result Vocabulary Refusal → Result VocabularySet Refusal

@@ -1,15 +1,14 @@
 -- What the documents of a layer want, and what is wrong with them.
-use Rattle.std.specs.Prelude.{ℕ, Bool, true, false, if◌then◌else◌, List, [], ◌∷◌, ◌++◌, flat_map, filter, not, codes, Option, Some, None, Result, Ok, Err, is_some, option_and_then}
+use Rattle.std.specs.Prelude.{ℕ, Bool, if◌then◌else◌, List, [], ◌∷◌, ◌++◌, flat_map, filter, not, codes, Option, Some, None, Result, Ok, Err, is_some, option_and_then}
 use Rattle.std.specs.Option.{option_map_or}
 use Rattle.serde_json.specs.Data.{Data}
-use Rattle.ref_draft.specs.declared.draft.Draft.{Draft}
-use Rattle.ref_draft.specs.declared.draft.Draft.TheVariants.{Draft4, Draft6, Draft7, Draft201909, Draft202012, Unknown}
+use Rattle.ref_draft.specs.Keywords.{is_unknown}
 use Rattle.ref_draft.specs.Schema.{text_under, from_schema_uri}
 use Rattle.ref_uri.specs.Reference.{with_fragment}
 use Rattle.ref_uri.specs.Targets.{Refusal, target, parsed}
 use Rattle.referencing.specs.World.{Layer, World}
 use Rattle.referencing.specs.Places.{places}
-use Rattle.referencing.specs.Bearing.{means}
+use Rattle.referencing.specs.Resources.{means}
 
 -- why a URI is wanted: a schema refers to it, or names it as its meta-schema
 pub data Cause : Type 0 where
@@ -20,15 +19,6 @@ pub data Cause : Type 0 where
 pub record Want : Type 0 where
   pub cause : Cause
   pub uri : List ℕ
-
--- whether a draft is that of a custom meta-schema
-abbrev pub is_unknown : Draft → Bool
-is_unknown Draft4 = false
-is_unknown Draft6 = false
-is_unknown Draft7 = false
-is_unknown Draft201909 = false
-is_unknown Draft202012 = false
-is_unknown Unknown = true
 
 -- a URI without its fragment
 abbrev pub without_fragment : Result (List ℕ) Refusal → Result (List ℕ) Refusal

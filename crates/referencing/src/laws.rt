@@ -4,7 +4,7 @@ ghost use Rattle.std.specs.List.{AllPairs};
 ghost use Rattle.serde_json.specs.Data.{depth};
 ghost use Rattle.referencing.specs.World.{Document, Layer, World};
 ghost use Rattle.referencing.specs.Places.{Place, root, levels_below, places};
-ghost use Rattle.referencing.specs.Bearing.{bears, last_under, means};
+ghost use Rattle.referencing.specs.Resources.{resources, last_under, means};
 ghost use Rattle.referencing.specs.Anchors.{Named, last_named, named, names};
 ghost use Rattle.referencing.specs.Closure.{OutcomesOfRetrieval};
 ghost use Rattle.referencing.specs.Pending.{Addition, Pending, extended};
@@ -13,22 +13,22 @@ ghost use Rattle.referencing.specs.Appending.{MeaningsStay, MeaningsStayBelow, M
 
 /// Pending documents stand under URIs that differ, whatever was added.
 pub fn pending_documents_differ()
-    ensures { (additions : List Addition) (ps : List Pending) → extended [] additions ≡ Ok ps
+    ensures law { (additions : List Addition) (ps : List Pending) → extended [] additions ≡ Ok ps
         → AllPairs (λ u v. ¬ (u ≡ v)) (map (λ p. p.uri) ps) }
 {}
 
 /// The levels of a document end at the depth of its tree: however many more are joined, they are its places.
 pub fn levels_end_at_the_depth()
-    ensures { (d : Document) (n : ℕ) → depth d.tree ≤ n → root d ∷ levels_below n (root d ∷ []) ≡ places d }
+    ensures law { (d : Document) (n : ℕ) → depth d.tree ≤ n → root d ∷ levels_below n (root d ∷ []) ≡ places d }
 {}
 
 /// The nearest layer decides what a URI means, and what a name under it does: an entry there is the answer, and without one
 /// the parents' layers answer.
 pub fn nearest_layer_decides()
     ensures near { (layer : Layer) (parents : World) (uri found : List ℕ) (place : Place)
-        → last_under uri (bears layer) ≡ Some (found, place) → means (layer ∷ parents) uri ≡ Some place }
+        → last_under uri (resources layer) ≡ Some (found, place) → means (layer ∷ parents) uri ≡ Some place }
     ensures far { (layer : Layer) (parents : World) (uri : List ℕ)
-        → last_under uri (bears layer) ≡ None → means (layer ∷ parents) uri ≡ means parents uri }
+        → last_under uri (resources layer) ≡ None → means (layer ∷ parents) uri ≡ means parents uri }
     ensures near_name { (layer : Layer) (parents : World) (uri name : List ℕ) (entry : Named)
         → last_named uri name (names layer) ≡ Some entry → named (layer ∷ parents) uri name ≡ Some entry }
     ensures far_name { (layer : Layer) (parents : World) (uri name : List ℕ)
@@ -50,10 +50,10 @@ pub fn appended_documents_leave_wants_met()
 /// the answer; a layer that is ready has no fault and no open want. Documents without a fault and an open want are the one
 /// outcome, and so is the first fault of documents that have one.
 pub fn outcomes_of_retrieval()
-    ensures { OutcomesOfRetrieval }
+    ensures law { OutcomesOfRetrieval }
 {}
 
 /// Where no want is open, a reference at a place of the layer never leads to a URI that is not present.
 pub fn references_are_retrieved()
-    ensures { ReferencesAreRetrieved }
+    ensures law { ReferencesAreRetrieved }
 {}

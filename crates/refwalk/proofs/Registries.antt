@@ -1,9 +1,8 @@
 -- The documents of a request as the program keeps them.
-use Rattle.std.proofs.Common.{◌≡◌, ℕ, ◌+◌, ◌<◌, Bool, true, false, List, [], ◌∷◌, length, map, drop, get_or, Option, Some, None, option_map, Ok, cond, Bor, bytes_eq, refl, sym, ap, ◌∙◌, add-one, subst}
+use Rattle.std.proofs.Common.{◌≡◌, ℕ, ◌+◌, ◌<◌, Bool, true, false, List, [], ◌∷◌, length, map, drop, get_or, Option, Some, None, option_map, Ok, cond, Bor, bytes_eq, refl, sym, ap, ◌∙◌, subst}
 use Rattle.std.specs.List.{IsDistinct, AllByRecursion}
 use Rattle.std.specs.Map.{lookup, keys_of}
 use Rattle.std.specs.Option.{option_or}
-use Rattle.std.proofs.Math.Seq.{drop-cons}
 use Rattle.std.proofs.lemmas.Slice.Eq.{bytes_eq-Decides}
 use Rattle.indexmap.specs.IndexMap.{insert_entry}
 use Rattle.serde_json.specs.Data.{Data}
@@ -20,6 +19,7 @@ use Rattle.refwalk.specs.Fault.{uri_or_fault}
 use Rattle.refwalk.specs.FaultView.{fault_view}
 use Rattle.refwalk.specs.Outcome.{◌>>=◌, Stops}
 use Rattle.refwalk.specs.Request as spec
+use Rattle.refwalk.proofs.Steps.{drop-read}
 use Rattle.refwalk.proofs.Walks.{Stops-bind}
 
 abbrev pub Entry : Type 0
@@ -33,11 +33,6 @@ pub documents_view-insert : (es : List Entry) (k : List ℕ) (v : Bor Value) →
 documents_view-insert [] k v = refl
 documents_view-insert (e ∷ es) k v =
     documents_view-cond (bytes_eq k e.0) _ _ ∙ ap (λ ds. cond (bytes_eq k e.0) (record { uri = e.0; tree = view v.now } ∷ documents_view es) (entry_view e ∷ ds)) (documents_view-insert es k v)
-
-drop-read : (docs : List Document) (i : ℕ) (d : Document) → i < length docs → d ≡ get_or docs i d → drop i docs ≡ d ∷ drop (i + 1) docs
-drop-read docs i d h e =
-    let cut : drop i docs ≡ get_or docs i d ∷ drop (i + 1) docs = rw (add-one, drop-cons docs i d) in
-    cut ∙ ap (λ x. x ∷ drop (i + 1) docs) (sym e)
 
 -- what is left to prepare, of which the first is this document
 one_document : (world : List spec.Document) (docs : List Document) (i : ℕ) (d : Document) → i < length docs → d ≡ get_or docs i d

@@ -11,10 +11,11 @@ use Rattle.refwalk.specs.Outcome.{◌>>=◌, Stops}
 use Rattle.refwalk.specs.Follow.{Followed, stepped, numbered, followed_from}
 use Rattle.refwalk.specs.View.{step_view, step_fault_view, numbered_stop}
 
-drop-read : (steps : List Step) (i : ℕ) (s : Step) → i < length steps → s ≡ get_or steps i s → drop i steps ≡ s ∷ drop (i + 1) steps
-drop-read steps i s h e =
-    let cut : drop i steps ≡ get_or steps i s ∷ drop (i + 1) steps = rw (add-one, drop-cons steps i s) in
-    cut ∙ ap (λ x. x ∷ drop (i + 1) steps) (sym e)
+-- what is left of a list of which an item was read
+pub drop-read : {X : Type 0} (xs : List X) (i : ℕ) (x : X) → i < length xs → x ≡ get_or xs i x → drop i xs ≡ x ∷ drop (i + 1) xs
+drop-read xs i x h e =
+    let cut : drop i xs ≡ get_or xs i x ∷ drop (i + 1) xs = rw (add-one, drop-cons xs i x) in
+    cut ∙ ap (λ y. y ∷ drop (i + 1) xs) (sym e)
 
 one_step : (world : List request.Document) (n : ℕ) (f : Followed) (steps : List Step) (s : Step) → n < length steps → s ≡ get_or steps n s
     → followed_from world n f (map step_view (drop n steps)) ≡ (numbered n (stepped world f (step_view s)) >>= λ g. followed_from world (n + 1) g (map step_view (drop (n + 1) steps)))

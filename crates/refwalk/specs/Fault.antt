@@ -4,7 +4,7 @@ use Rattle.ref_uri.specs.Targets.{Refusal, refusal_text}
 
 -- why documents or a step are refused
 pub data Fault : Type 0 where
-  -- no document bears this URI
+  -- no document stands under this URI
   Unretrievable : List ℕ → Fault
   PointerToNowhere : List ℕ → Fault
   InvalidPercentEncoding : List ℕ → Fault

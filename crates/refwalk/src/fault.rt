@@ -8,13 +8,17 @@ use std::rc::Rc;
 /// A fault, with what its text names.
 #[derive(Drop)]
 pub enum Fault<'a> {
-    /// No document bears the URI.
+    /// No document stands under the URI.
     Unretrievable { uri: Rc<Uri> },
+    /// The pointer leads nowhere.
     PointerToNowhere { pointer: &'a str },
+    /// The pointer, percent-decoded, is no text.
     InvalidPercentEncoding { pointer: &'a str },
     /// The part of the pointer is no index of an array.
     InvalidArrayIndex { pointer: &'a str, index: String },
+    /// Nothing has this name.
     NoSuchAnchor { anchor: &'a str },
+    /// A name with `/` in it is no anchor's.
     InvalidAnchor { anchor: &'a str },
     /// A text means no URI.
     InvalidUri(UriError),

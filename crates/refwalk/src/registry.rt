@@ -43,7 +43,7 @@ pub fn prepared<'a>(
 }
 
 impl<'a> Registry<'a> {
-    /// The tree of the document that bears the URI: a look-up.
+    /// The tree of the document under the URI: a look-up.
     pub fn tree(&self, uri: &Uri) -> Option<&'a Value>
         ensures { option_map (λ v. view v.now) result
             ≡ spec.means (documents_view self.now.documents.entries) uri.now }

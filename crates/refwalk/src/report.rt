@@ -19,8 +19,11 @@ use std::alloc::{AllocError, Global};
 /// How a run ended. Its number is the program's exit status.
 #[derive(Clone, Copy, Debug, Drop, PartialEq, Eq)]
 pub enum Status {
+    /// The report has no fault.
     Done = 0,
+    /// Documents can't be prepared, or a step can't be followed.
     Fault = 1,
+    /// The request is bad.
     BadRequest = 2,
 }
 

@@ -50,16 +50,27 @@ pub struct Request<'a> {
 /// What is wrong with a request, in the order in which it is tested.
 #[derive(Clone, Copy, Debug, Drop, PartialEq, Eq)]
 pub enum BadRequest {
+    /// The bytes are no JSON.
     NotJson,
+    /// The tree is no object.
     NotAnObject,
+    /// Somewhere in the tree a number is no whole number of 64 bits.
     Float,
+    /// A key names no field.
     UnknownField,
+    /// `documents` is missing, or is no list of a text and a schema each.
     Documents,
+    /// `base` is missing, or is no text that means a URI.
     Base,
+    /// `steps` is missing, or holds what is no text, null or object.
     Steps,
+    /// `remote` is no list of a URI reference and a schema each.
     Remote,
+    /// `meta` is no list of a text and a schema each.
     Meta,
+    /// `draft` names none.
     Draft,
+    /// `limit` is no whole number of 64 bits.
     Limit,
 }
 
@@ -94,13 +105,10 @@ fn are_fields(members: &Map<String, Value>) -> bool
 fn is_field(name: &str) -> bool
     ensures { result ≡ spec.is_field name.now }
 {
-    name == "documents"
-        || name == "base"
-        || name == "steps"
-        || name == "remote"
-        || name == "meta"
-        || name == "draft"
-        || name == "limit"
+    matches!(
+        name,
+        "documents" | "base" | "steps" | "remote" | "meta" | "draft" | "limit"
+    )
 }
 
 #[tactic(auto, unfolding(crate::specs::Request::fields_of))]
@@ -313,20 +321,12 @@ fn draft_of(value: &Value) -> Option<Draft>
 fn draft_named(name: &str) -> Option<Draft>
     ensures { result ≡ spec.draft_named name.now }
 {
-    if name == "4" {
-        return Some(Draft::Draft4);
+    match name {
+        "4" => Some(Draft::Draft4),
+        "6" => Some(Draft::Draft6),
+        "7" => Some(Draft::Draft7),
+        "2019-09" => Some(Draft::Draft201909),
+        "2020-12" => Some(Draft::Draft202012),
+        _ => None,
     }
-    if name == "6" {
-        return Some(Draft::Draft6);
-    }
-    if name == "7" {
-        return Some(Draft::Draft7);
-    }
-    if name == "2019-09" {
-        return Some(Draft::Draft201909);
-    }
-    if name == "2020-12" {
-        return Some(Draft::Draft202012);
-    }
-    None
 }

@@ -29,9 +29,13 @@ const CHUNK: usize = 4096;
 /// Why a run gives no status.
 #[derive(Clone, Copy, Debug, Drop, PartialEq, Eq)]
 pub enum RunError {
+    /// A read failed.
     Read,
+    /// A write failed.
     Write,
+    /// Memory ran out.
     Memory,
+    /// The request is one that no report answers yet.
     NotYet,
 }
 
@@ -98,10 +102,14 @@ fn tree_of(alloc: Global, bytes: &[u8]) -> Result<Option<Value>, AllocError>
     }
 }
 
-/// Reads one request to the end, makes its whole report, and writes it.
+/// Reads one request to the end, makes its whole report, and writes it. The status is that of the report.
+///
+/// `Read` only where a read failed, `Write` only where a write did, `NotYet` exactly where no report answers the request yet,
+/// `Memory` where a growth is refused. Nothing was written but after `Write`, after which nothing is said of what was.
 ///
 /// Takes memory for the bytes, the tree, the request, its documents, base, pointers and scope, and the report. Reading ends
-/// over every source: each read before the end lengthens a vector.
+/// over every source: each read before the end lengthens a vector. Linear in the bytes, and for each step in its text, in the
+/// base and in what its pointer passes.
 pub fn run<R: Source, W: Sink>(
     alloc: Global,
     reader: &mut R,
@@ -140,7 +148,7 @@ fn write_report<W: Sink>(writer: &mut W, report: &Report) -> Result<Status, RunE
     }
 }
 
-/// The report on the bytes of a request.
+/// The report on the bytes of a request. `NotYet` exactly where no report answers it yet, `Memory` where a growth is refused.
 pub fn answer(alloc: Global, bytes: &[u8]) -> Result<Report, RunError>
     ensures { AnswersBytes bytes.now result }
 {

@@ -82,10 +82,8 @@ fn members_have_keyword(members: &Map<String, Value>) -> bool
 fn is_keyword(key: &str) -> bool
     ensures { result ≡ served.is_keyword key.now }
 {
-    key == "$id"
-        || key == "id"
-        || key == "$anchor"
-        || key == "$dynamicAnchor"
-        || key == "$schema"
-        || key == "$ref"
+    matches!(
+        key,
+        "$id" | "id" | "$anchor" | "$dynamicAnchor" | "$schema" | "$ref"
+    )
 }

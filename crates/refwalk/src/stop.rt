@@ -9,7 +9,9 @@ use std::alloc::{AllocError, AllocFailed};
 /// Memory was refused, or there is an error of the call's own.
 #[derive(Drop)]
 pub enum Stop<E> {
+    /// Memory ran out.
     Memory,
+    /// The call's own error.
     Because(E),
 }
 

@@ -2,7 +2,7 @@
 ghost use Rattle.std.specs.Prelude.{◌≡◌, true, false, [], ◌∷◌, codes, length};
 ghost use Rattle.ref_draft.specs.declared.draft.Draft.TheVariants.{Draft4, Draft6, Draft7, Draft201909, Draft202012, Unknown};
 ghost use Rattle.ref_draft.specs.declared.spec.Holding.TheVariants.{Whole, WholeObject, Elements, Members, ElementsOrWhole, ObjectMembers, Nothing};
-ghost use Rattle.ref_draft.specs.Keywords.{is_one_of, row_4, row_6, row_7, row_2019, row_2020, row, is_before_2019, is_before_2020, boolean_or_schema, holding_by, holding, is_left_out, id_keyword, known_in_all, known_in_4, known_since_6, known_since_7, known_since_2019, known_since_2020, is_known_in_2019, is_known};
+ghost use Rattle.ref_draft.specs.Keywords.{is_one_of, row_4, row_6, row_7, row_2019, row_2020, row, is_before_2019, is_before_2020, is_unknown, is_items_or_dependencies, boolean_or_schema, holding_by, holding, is_left_out, id_keyword, known_in_all, known_in_4, known_since_6, known_since_7, known_since_2019, known_since_2020, is_known_in_2019, is_known};
 ghost use Rattle.ref_draft.specs.Order.{rank};
 
 /// The keywords under which schemas stand, draft by draft.
@@ -47,6 +47,9 @@ pub fn holdings_of_keywords()
     ensures by_a_row_since_2020 { holding_by row_6 [] false (codes "items") ≡ Nothing }
     ensures booleans_of_4 { boolean_or_schema Draft4 ≡ codes "additionalItems" ∷ codes "additionalProperties" ∷ [] }
     ensures booleans_of_6 { boolean_or_schema Draft6 ≡ [] }
+    ensures items { is_items_or_dependencies (codes "items") ≡ true }
+    ensures dependencies { is_items_or_dependencies (codes "dependencies") ≡ true }
+    ensures another { is_items_or_dependencies (codes "dependentSchemas") ≡ false }
     ensures left_out { is_left_out Draft201909 (codes "dependencies") ≡ true }
     ensures not_left_out { is_left_out Draft201909 (codes "dependentSchemas") ≡ false }
     ensures not_left_out_in_7 { is_left_out Draft7 (codes "dependencies") ≡ false }
@@ -59,6 +62,9 @@ pub fn ages_of_drafts()
     ensures unknown_not_before_2020 { is_before_2020 Unknown ≡ false }
     ensures before_2019 { is_before_2019 Draft7 ≡ true }
     ensures not_before_2019 { is_before_2019 Draft201909 ≡ false }
+    ensures unknown_draft { is_unknown Unknown ≡ true }
+    ensures known_draft { is_unknown Draft4 ≡ false }
+    ensures newest_draft { is_unknown Draft202012 ≡ false }
     ensures identifier_of_4 { id_keyword Draft4 ≡ codes "id" }
     ensures identifier_of_6 { id_keyword Draft6 ≡ codes "$id" }
     ensures first { rank Draft4 ≡ 0 }

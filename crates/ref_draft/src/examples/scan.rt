@@ -4,7 +4,7 @@ ghost use Rattle.ref_parts.specs.Path.{Index};
 ghost use Rattle.ref_draft.specs.declared.draft.Draft.TheVariants.{Draft4, Draft6, Draft7, Draft201909, Draft202012, Unknown};
 ghost use Rattle.ref_draft.specs.declared.spec.Holding.TheVariants.{Whole, WholeObject, Elements, Members, ElementsOrWhole, ObjectMembers, Nothing};
 ghost use Rattle.ref_draft.specs.Keywords.{row};
-ghost use Rattle.ref_draft.specs.Scan.{draft_4_row, scan_row, is_value_keyword, is_child_keyword, AnIndex, AValue, AChild, parts_of, spelled, IsPieceOf, IsWord, is_items_or_dependencies, SpellsWord, PassesItems, IsAccepted, ReadsTheWalk, AcceptsChildren};
+ghost use Rattle.ref_draft.specs.Scan.{draft_4_row, scan_row, is_value_keyword, is_child_keyword, AnIndex, AValue, AChild, parts_of, spelled, IsPieceOf, IsWord, SpellsWord, PassesItems, IsAccepted, ReadsTheWalk, AcceptsChildren};
 ghost use Rattle.ref_draft.specs.ScanSteps.{scan_holding, go_on, scan, scan_past};
 ghost use Rattle.ref_draft.specs.Rows.{empty, yes, one, key};
 
@@ -33,7 +33,11 @@ pub fn words_and_items()
     ensures no_object { ¬ (PassesItems Draft7 (key "items" ∷ []) yes) }
     ensures accepted_children { AcceptsChildren Draft202012 [] (((key "not" ∷ []), empty) ∷ ((key "$defs" ∷ key "a" ∷ []), yes) ∷ []) }
     ensures no_children { AcceptsChildren Draft202012 (key "const" ∷ []) [] }
+    ensures walk_of_6 { ReadsTheWalk Draft6 }
     ensures walk_of_7 { ReadsTheWalk Draft7 }
+    ensures walk_of_2019 { ReadsTheWalk Draft201909 }
+    ensures walk_of_2020 { ReadsTheWalk Draft202012 }
+    ensures walk_of_unknown { ReadsTheWalk Unknown }
     ensures not_of_4 { ¬ (ReadsTheWalk Draft4) }
 {}
 
@@ -48,9 +52,6 @@ pub fn keywords_of_the_scan()
     ensures elements_keyword { is_child_keyword Draft7 (codes "oneOf") ≡ true }
     ensures members_keyword { is_child_keyword Draft4 (codes "definitions") ≡ true }
     ensures no_child_keyword { is_child_keyword Draft7 (codes "$defs") ≡ false }
-    ensures items { is_items_or_dependencies (codes "items") ≡ true }
-    ensures dependencies { is_items_or_dependencies (codes "dependencies") ≡ true }
-    ensures another { is_items_or_dependencies (codes "dependentSchemas") ≡ false }
 {}
 
 /// The pieces of words.

@@ -1,7 +1,8 @@
 //! The drafts and the identifiers of schemas.
 ghost use Rattle.std.specs.Prelude.{◌≡◌, true, false, [], ◌∷◌, map, codes, length, Some, None};
+ghost use Rattle.serde_json.specs.Data.{boolean};
 ghost use Rattle.ref_draft.specs.declared.draft.Draft.TheVariants.{Draft4, Draft6, Draft7, Draft201909, Draft202012, Unknown};
-ghost use Rattle.ref_draft.specs.Schema.{text_under, before, trimmed, meta_schemas, is_at, draft_of_uri, from_schema_uri, detect, begins_with_hash, is_hidden, identifier};
+ghost use Rattle.ref_draft.specs.Schema.{text_under, is_true, before, trimmed, meta_schemas, is_at, draft_of_uri, from_schema_uri, detect, begins_with_hash, is_hidden, identifier};
 ghost use Rattle.ref_draft.specs.Rows.{empty, yes, text, one, two, list, schema};
 
 /// The draft of a schema by its `$schema` (2020-12 Core, 8.1.1).
@@ -60,4 +61,11 @@ pub fn identifiers_of_values()
     ensures text_of_a_key { text_under (codes "$id") (one "$id" (text "k")) ≡ Some (codes "k") }
     ensures no_text_of_a_key { text_under (codes "$id") (one "$id" (list (text "k"))) ≡ None }
     ensures no_key { text_under (codes "$id") (text "$id") ≡ None }
+{}
+
+/// Whether values are `true`.
+pub fn true_values()
+    ensures true_value { is_true yes ≡ true }
+    ensures false_value { is_true (boolean false) ≡ false }
+    ensures text_value { is_true (text "true") ≡ false }
 {}

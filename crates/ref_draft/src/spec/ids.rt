@@ -18,7 +18,7 @@ pub(crate) fn text_under<'a>(contents: &'a Value, key: &str) -> Option<&'a str>
 ///
 /// Takes no memory. Linear in their number.
 pub fn trim_hashes(text: &str) -> &str
-    ensures { result.now ≡ trimmed text.now }
+    ensures value { result.now ≡ trimmed text.now }
 {
     text.trim_end_matches('#')
 }

@@ -4,7 +4,7 @@ ghost use Rattle.ref_parts.specs.Path.{Key};
 ghost use Rattle.serde_json.specs.View.{view, items_view, members_view};
 ghost use Rattle.ref_draft.specs.Keywords.{holding};
 ghost use Rattle.ref_draft.specs.Children.{AllStand, walked, with_draft, held, elements_from, each_member, has_object};
-ghost use Rattle.ref_draft.specs.WalkSteps.{HasUniqueKeys};
+ghost use Rattle.ref_draft.specs.WalkSteps.{AreFoundIn, HasUniqueKeysWhere};
 ghost use Rattle.ref_draft.specs.Views.{Adds, parts_of, walked_child};
 
 use crate::draft::Draft;
@@ -38,32 +38,25 @@ pub(crate) fn children<'a>(
     let mut children = Vec::new(alloc);
     if let Some(schema) = contents.as_object() {
         for (keyword, value) in schema {
-            keys_are_unique(value);
             push_held(&mut children, draft, keyword.as_str(), value)?;
         }
     }
     Ok(children)
 }
 
-// An object has each key once, as its map tells: so a child is what is found at its path. It does nothing.
-fn keys_are_unique(value: &Value)
-    ensures { HasUniqueKeys (view value.now) }
-{
-    if let Some(members) = value.as_object() {
-        let _ = members.iter();
-    }
-}
-
-// Adds the children under one keyword.
+// Adds the children under one keyword. Where these are members, the map has each key once: so a child is what is found at
+// its path.
+#[tactic(auto, using(crate::proofs::Standing::unique_object, crate::proofs::Standing::unique_other))]
 fn push_held<'a>(
     children: &mut Vec<Child<'a>>,
     draft: Draft,
     keyword: &'a str,
     value: &'a Value,
 ) -> Result<(), AllocError>
-    ensures { OnOk result
+    ensures adds { OnOk result
         (Adds draft (held (holding draft keyword.now) keyword.now (view value.now))
         children.old.items children.new.items) }
+    ensures unique { HasUniqueKeysWhere (holding draft keyword.now) (view value.now) }
 {
     match draft.holding(keyword) {
         Holding::Whole => push(children, draft, keyword, None, value),
@@ -106,15 +99,17 @@ fn push_elements<'a>(
 }
 
 // Adds each member under its key.
+#[tactic(auto, using(crate::proofs::Standing::are_found))]
 fn push_members<'a>(
     children: &mut Vec<Child<'a>>,
     draft: Draft,
     keyword: &'a str,
     members: &'a Map<String, Value>,
 ) -> Result<(), AllocError>
-    ensures { OnOk result
+    ensures adds { OnOk result
         (Adds draft (each_member keyword.now (members_view members.now.entries))
         children.old.items children.new.items) }
+    ensures found { AreFoundIn (members_view members.now.entries) (members_view members.now.entries) }
 {
     for (key, member) in members {
         push(children, draft, keyword, Some(key.as_str().into()), member)?;
@@ -123,15 +118,17 @@ fn push_members<'a>(
 }
 
 // Adds each member that is an object under its key.
+#[tactic(auto, using(crate::proofs::Standing::are_found))]
 fn push_object_members<'a>(
     children: &mut Vec<Child<'a>>,
     draft: Draft,
     keyword: &'a str,
     members: &'a Map<String, Value>,
 ) -> Result<(), AllocError>
-    ensures { OnOk result
+    ensures adds { OnOk result
         (Adds draft (filter has_object (each_member keyword.now (members_view members.now.entries)))
         children.old.items children.new.items) }
+    ensures found { AreFoundIn (members_view members.now.entries) (members_view members.now.entries) }
 {
     for (key, member) in members {
         push_object(children, draft, keyword, Some(key.as_str().into()), member)?;

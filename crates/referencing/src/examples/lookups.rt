@@ -7,13 +7,13 @@ ghost use Rattle.ref_uri.specs.Targets.{unparsed};
 ghost use Rattle.referencing.specs.Fault.{PointerToNowhere, InvalidArrayIndex, InvalidPercentEncoding, NoSuchAnchor, InvalidAnchor, InvalidUri, not_retrieved};
 ghost use Rattle.referencing.specs.Lookup.{lookup, located};
 ghost use Rattle.referencing.specs.Follow.{Enter};
-ghost use Rattle.referencing.specs.Rows.{at, world, yes, empty, text, one, two, three, pair, resolver, found, steps, look, answer, refusal};
+ghost use Rattle.referencing.specs.Rows.{at, world, yes, empty, text, one, two, three, list, pair, whole, odd_keys, resolver, found, steps, look, answer, refusal};
 
 /// Lookups by URI and pointer.
 pub fn lookups_by_pointer()
     ensures document { steps (world (at Draft202012 "http://a/r" (one "properties" (one "n" (one "type" (text "string")))) ∷ [])) "http://a/r" (look "#/properties/n" ∷ []) ≡ answer (Some (one "type" (text "string"))) (codes "http://a/r") (codes "http://a/r" ∷ []) }
     ensures nowhere { steps (world (at Draft202012 "http://a/r" empty ∷ [])) "http://a/r" (look "#/nope" ∷ []) ≡ refusal 0 (PointerToNowhere (codes "/nope")) }
-    ensures not_borne { steps (world (at Draft202012 "http://a/r" empty ∷ [])) "http://a/q" (look "#" ∷ []) ≡ refusal 0 (not_retrieved (codes "http://a/q")) }
+    ensures uri_of_no_place { steps (world (at Draft202012 "http://a/r" empty ∷ [])) "http://a/q" (look "#" ∷ []) ≡ refusal 0 (not_retrieved (codes "http://a/q")) }
     ensures leading_zero { steps (world (at Draft202012 "http://a/r" (one "prefixItems" (pair yes empty)) ∷ [])) "http://a/r" (look "#/prefixItems/01" ∷ []) ≡ answer (Some empty) (codes "http://a/r") (codes "http://a/r" ∷ []) }
     ensures plus_sign { steps (world (at Draft202012 "http://a/r" (one "prefixItems" (pair yes empty)) ∷ [])) "http://a/r" (look "#/prefixItems/+1" ∷ []) ≡ answer (Some empty) (codes "http://a/r") (codes "http://a/r" ∷ []) }
     ensures no_resource_below_const { steps (world (at Draft7 "http://a/r" (one "items" (one "const" (one "$id" (text "z")))) ∷ [])) "http://a/r" (look "z" ∷ []) ≡ refusal 0 (not_retrieved (codes "http://a/z")) }
@@ -24,13 +24,26 @@ pub fn lookups_by_pointer()
     ensures const_is_no_schema { steps (world (at Draft202012 "http://a/r" (one "const" (one "$id" (text "z"))) ∷ [])) "http://a/r" (look "#/const" ∷ []) ≡ answer (Some (one "$id" (text "z"))) (codes "http://a/r") (codes "http://a/r" ∷ []) }
     ensures const_below_items { steps (world (at Draft7 "http://a/r" (one "items" (one "const" (one "$id" (text "z")))) ∷ [])) "http://a/r" (look "#/items/const" ∷ []) ≡ answer (Some (one "$id" (text "z"))) (codes "http://a/z") (codes "http://a/r" ∷ []) }
     ensures last_wins { steps (world (at Draft202012 "http://a/r" (one "$defs" (two "a" (two "$id" (text "http://a/k") "title" (text "1")) "b" (two "$id" (text "http://a/k") "title" (text "2")))) ∷ [])) "http://a/r" (look "http://a/k" ∷ []) ≡ answer (Some (two "$id" (text "http://a/k") "title" (text "2"))) (codes "http://a/k") (codes "http://a/r" ∷ []) }
-    ensures escaped_in_fragment { steps (world (at Draft202012 "http://a/r" (one "a" (one "b" yes)) ∷ [])) "http://a/r" (look "#/a%2Fb" ∷ []) ≡ answer (Some yes) (codes "http://a/r") (codes "http://a/r" ∷ []) }
-    ensures empty_key { steps (world (at Draft202012 "http://a/r" (one "" yes) ∷ [])) "http://a/r" (look "#/" ∷ []) ≡ answer (Some yes) (codes "http://a/r") (codes "http://a/r" ∷ []) }
-    ensures tilde_and_slash { steps (world (at Draft202012 "http://a/r" (one "~/" yes) ∷ [])) "http://a/r" (look "#/~~1" ∷ []) ≡ answer (Some yes) (codes "http://a/r") (codes "http://a/r" ∷ []) }
     ensures bad_identifier_below_items { steps (world (at Draft7 "http://a/r" (one "items" (one "const" (one "$id" (text "a b")))) ∷ [])) "http://a/r" (look "#/items/const" ∷ []) ≡ refusal 0 (InvalidUri (unparsed (codes "a b"))) }
+    ensures no_schema_below_items { steps (world (at Draft202012 "http://a/r" (one "items" (one "const" (one "$id" (text "a b")))) ∷ [])) "http://a/r" (look "#/items/const" ∷ []) ≡ answer (Some (one "$id" (text "a b"))) (codes "http://a/r") (codes "http://a/r" ∷ []) }
+    ensures prefix_items_in_4 { steps (world (at Draft4 "http://a/r" (one "prefixItems" (list (one "id" (text "t")))) ∷ [])) "http://a/r" (look "#/prefixItems/0" ∷ []) ≡ answer (Some (one "id" (text "t"))) (codes "http://a/r") (codes "http://a/r" ∷ []) }
+    ensures const_in_4 { steps (world (at Draft4 "http://a/r" (one "const" (one "id" (text "t"))) ∷ [])) "http://a/r" (look "#/const" ∷ []) ≡ answer (Some (one "id" (text "t"))) (codes "http://a/r") (codes "http://a/r" ∷ []) }
     ensures parts_forgotten { steps (world (at Draft7 "http://a/r" (one "items" (two "$id" (text "z") "const" (one "$id" (text "w")))) ∷ [])) "http://a/r" (look "#/items/const" ∷ []) ≡ answer (Some (one "$id" (text "w"))) (codes "http://a/z") (codes "http://a/r" ∷ []) }
-    ensures borne_by_identifier { steps (world (at Draft202012 "http://a/r" (one "$id" (text "#x")) ∷ [])) "http://a/r#x" (look "#" ∷ []) ≡ answer (Some (one "$id" (text "#x"))) (codes "http://a/r#x") (codes "http://a/r#x" ∷ []) }
+    ensures uri_of_an_identifier { steps (world (at Draft202012 "http://a/r" (one "$id" (text "#x")) ∷ [])) "http://a/r#x" (look "#" ∷ []) ≡ answer (Some (one "$id" (text "#x"))) (codes "http://a/r#x") (codes "http://a/r#x" ∷ []) }
     ensures second_step_faults { steps (world (at Draft202012 "http://a/r" empty ∷ [])) "http://a/r" (look "" ∷ look "#/q" ∷ []) ≡ refusal 1 (PointerToNowhere (codes "/q")) }
+{}
+
+/// Triples, escapes and indexes in pointers, as written and not as they should be (RFC 6901, sections 3, 4 and 6).
+pub fn lookups_of_odd_keys()
+    ensures malformed_triple { steps (world (odd_keys ∷ [])) "http://a/r" (look "#/a%zz" ∷ []) ≡ answer (Some (whole 1)) (codes "http://a/r") (codes "http://a/r" ∷ []) }
+    ensures no_escape { steps (world (odd_keys ∷ [])) "http://a/r" (look "#/~2" ∷ []) ≡ answer (Some (whole 2)) (codes "http://a/r") (codes "http://a/r" ∷ []) }
+    ensures slash_by_a_triple { steps (world (odd_keys ∷ [])) "http://a/r" (look "#/a%2Fb" ∷ []) ≡ answer (Some (whole 3)) (codes "http://a/r") (codes "http://a/r" ∷ []) }
+    ensures empty_key { steps (world (odd_keys ∷ [])) "http://a/r" (look "#/" ∷ []) ≡ answer (Some (whole 4)) (codes "http://a/r") (codes "http://a/r" ∷ []) }
+    ensures tilde_and_slash { steps (world (odd_keys ∷ [])) "http://a/r" (look "#/~~1" ∷ []) ≡ answer (Some (whole 5)) (codes "http://a/r") (codes "http://a/r" ∷ []) }
+    ensures percent_alone { steps (world (odd_keys ∷ [])) "http://a/r" (look "#/%" ∷ []) ≡ refusal 0 (PointerToNowhere (codes "/%")) }
+    ensures plus_alone { steps (world (odd_keys ∷ [])) "http://a/r" (look "#/l/+" ∷ []) ≡ refusal 0 (InvalidArrayIndex (codes "/l/+") (codes "+")) }
+    ensures past_64_bits { steps (world (odd_keys ∷ [])) "http://a/r" (look "#/l/18446744073709551616" ∷ []) ≡ refusal 0 (InvalidArrayIndex (codes "/l/18446744073709551616") (codes "18446744073709551616")) }
+    ensures greatest_index { steps (world (odd_keys ∷ [])) "http://a/r" (look "#/l/18446744073709551615" ∷ []) ≡ refusal 0 (PointerToNowhere (codes "/l/18446744073709551615")) }
 {}
 
 /// One lookup from a resolver.

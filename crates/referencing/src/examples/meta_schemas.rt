@@ -1,7 +1,7 @@
 //! The URIs of meta-schemas.
 ghost use Rattle.std.specs.Prelude.{◌≡◌, [], ◌∷◌, codes, Some, length, take};
 ghost use Rattle.ref_draft.specs.declared.draft.Draft.TheVariants.{Draft4, Draft6, Draft7, Draft201909, Draft202012, Unknown};
-ghost use Rattle.referencing.specs.Bearing.{last_of};
+ghost use Rattle.referencing.specs.Resources.{last_of};
 ghost use Rattle.referencing.specs.MetaSchemas.{uris, uris_for_draft, uris_of_2019, uris_of_2020};
 
 /// The URIs of each draft.

@@ -2,7 +2,6 @@
 //! the Rust crate where it alone decides.
 
 pub mod anchors;
-pub mod bearing;
 pub mod documents;
 pub mod faults;
 pub mod follow;
@@ -13,5 +12,6 @@ pub mod outcomes;
 pub mod places;
 pub mod pointers;
 pub mod recursive;
+pub mod resources;
 pub mod vocabularies;
 pub mod wants;

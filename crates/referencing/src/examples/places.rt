@@ -14,6 +14,7 @@ pub fn places_by_levels()
     ensures by_levels { paths_and_bases (places (at Draft202012 "http://a/r" (two "if" (one "not" yes) "then" yes))) ≡ ([], Ok (codes "http://a/r")) ∷ (Key (codes "if") ∷ [], Ok (codes "http://a/r")) ∷ (Key (codes "then") ∷ [], Ok (codes "http://a/r")) ∷ (Key (codes "if") ∷ Key (codes "not") ∷ [], Ok (codes "http://a/r")) ∷ [] }
     ensures none_below_a_refused_identifier { paths_and_bases (places (at Draft202012 "http://a/r" (one "not" (two "$id" (text "a b") "not" yes)))) ≡ ([], Ok (codes "http://a/r")) ∷ (Key (codes "not") ∷ [], Err (unparsed (codes "a b"))) ∷ [] }
     ensures draft_4 { paths_and_bases (places (at Draft4 "http://a/r" (one "$defs" (one "a" (one "id" (text "s/")))))) ≡ ([], Ok (codes "http://a/r")) ∷ (Key (codes "$defs") ∷ Key (codes "a") ∷ [], Ok (codes "http://a/s/")) ∷ [] }
+    ensures below_a_map_with_an_identifier { paths_and_bases (places (at Draft202012 "http://a/r" (one "properties" (two "$id" (text "m") "x" (one "$id" (text "s")))))) ≡ ([], Ok (codes "http://a/r")) ∷ (Key (codes "properties") ∷ Key (codes "$id") ∷ [], Ok (codes "http://a/r")) ∷ (Key (codes "properties") ∷ Key (codes "x") ∷ [], Ok (codes "http://a/s")) ∷ [] }
 {}
 
 /// The bases of places (2020-12 Core, 8.2.1).

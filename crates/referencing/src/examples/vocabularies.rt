@@ -3,7 +3,7 @@ ghost use Rattle.std.specs.Prelude.{◌≡◌, true, false, [], ◌∷◌, map, 
 ghost use Rattle.serde_json.specs.Data.{boolean, no_members, member};
 ghost use Rattle.ref_draft.specs.declared.draft.Draft.TheVariants.{Draft4, Draft7, Draft201909, Draft202012, Unknown};
 ghost use Rattle.ref_uri.specs.Targets.{unparsed};
-ghost use Rattle.referencing.specs.Vocabularies.{Named, Custom, known, is_uri_of, custom, from_text, has_name, contains, put, with_vocabulary, names_of_bits, of_bits, of_names, set_of_2020, default_set, quoted, set_text, is_format_assertion, is_true, with_member, collected, known_set, some_set, set_of_members, find_in, set_or_default, set_at, find_vocabularies, dialect_contents, find_vocabularies_at};
+ghost use Rattle.referencing.specs.Vocabularies.{Named, Custom, known, is_uri_of, custom, from_text, has_name, contains, put, with_vocabulary, names_of_bits, of_bits, of_names, set_of_2020, default_set, quoted, set_text, is_format_assertion, with_member, collected, known_set, some_set, set_of_members, find_in, set_or_default, set_at, find_vocabularies, dialect_contents, find_vocabularies_at};
 ghost use Rattle.referencing.specs.Rows.{world, at, yes, empty, text, one, two, three};
 
 /// The vocabulary that a text names.
@@ -74,8 +74,6 @@ pub fn texts_of_sets()
 pub fn declared_members()
     ensures format_assertion { is_format_assertion (Named (codes "format-assertion")) ≡ true }
     ensures another { is_format_assertion (Named (codes "format")) ≡ false }
-    ensures true_value { is_true yes ≡ true }
-    ensures text_value { is_true (text "true") ≡ false }
     ensures true_member { with_member (of_names []) yes (Ok (Custom (codes "a:b"))) ≡ Ok (record { names = []; customs = codes "a:b" ∷ [] }) }
     ensures false_member { with_member (of_names []) (boolean false) (Ok (Custom (codes "a:b"))) ≡ Ok (of_names []) }
     ensures false_format_assertion { with_member (of_names []) (boolean false) (Ok (Named (codes "format-assertion"))) ≡ Ok (of_names (codes "format-assertion" ∷ [])) }

@@ -2,7 +2,7 @@
 ghost use Rattle.std.specs.Prelude.{◌≡◌, true, false, [], ◌∷◌, codes, Some, None, Ok, Err};
 ghost use Rattle.ref_draft.specs.declared.draft.Draft.TheVariants.{Draft4, Draft7, Draft202012, Unknown};
 ghost use Rattle.ref_uri.specs.Targets.{unparsed};
-ghost use Rattle.referencing.specs.Wants.{Reference, MetaSchema, is_unknown, without_fragment, schema_uri, reference_at, schema_at, wanted, refused, wants_at, faults_at, wants, faults, is_open, open_wants};
+ghost use Rattle.referencing.specs.Wants.{Reference, MetaSchema, without_fragment, schema_uri, reference_at, schema_at, wanted, refused, wants_at, faults_at, wants, faults, is_open, open_wants};
 ghost use Rattle.referencing.specs.Rows.{world, at, yes, empty, text, one, two, refers_to_b, b_refers_to_c};
 
 /// Which URIs are wanted.
@@ -19,7 +19,7 @@ pub fn wants_of_layers()
 pub fn open_wants_of_layers()
     ensures reference { open_wants (world (refers_to_b ∷ [])) (refers_to_b ∷ []) ≡ record { cause = Reference; uri = codes "http://a/b" } ∷ [] }
     ensures meta_schema { open_wants (world (at Draft202012 "http://a/r" (one "$schema" (text "invalid")) ∷ [])) (at Draft202012 "http://a/r" (one "$schema" (text "invalid")) ∷ []) ≡ record { cause = MetaSchema; uri = codes "json-schema:///invalid" } ∷ [] }
-    ensures borne { open_wants (world (at Draft202012 "http://a/r" (two "$id" (text "#x") "$ref" (text "")) ∷ [])) (at Draft202012 "http://a/r" (two "$id" (text "#x") "$ref" (text "")) ∷ []) ≡ [] }
+    ensures met_by_an_identifier { open_wants (world (at Draft202012 "http://a/r" (two "$id" (text "#x") "$ref" (text "")) ∷ [])) (at Draft202012 "http://a/r" (two "$id" (text "#x") "$ref" (text "")) ∷ []) ≡ [] }
     ensures of_a_parent { open_wants ((refers_to_b ∷ []) ∷ world (b_refers_to_c ∷ [])) (refers_to_b ∷ []) ≡ [] }
     ensures unmet { is_open (world (refers_to_b ∷ [])) (record { cause = Reference; uri = codes "http://a/b" }) ≡ true }
     ensures met { is_open (world (refers_to_b ∷ [])) (record { cause = MetaSchema; uri = codes "http://a/r" }) ≡ false }
@@ -45,8 +45,6 @@ pub fn wants_of_places()
     ensures refused_meta_schema_uri { schema_uri (codes "a b") ≡ Some (Err (unparsed (codes "a b"))) }
     ensures fragment_dropped { without_fragment (Ok (codes "http://a/meta#x")) ≡ Ok (codes "http://a/meta") }
     ensures refusal_kept { without_fragment (Err (unparsed (codes "a b"))) ≡ Err (unparsed (codes "a b")) }
-    ensures unknown_draft { is_unknown Unknown ≡ true }
-    ensures known_draft { is_unknown Draft4 ≡ false }
 {}
 
 /// The wants and faults of one place.

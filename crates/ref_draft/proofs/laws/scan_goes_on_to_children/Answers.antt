@@ -2,4 +2,4 @@ use Rattle.ref_draft.proofs.Agreement.{accepts_children}
 use Rattle.ref_draft.proofs.laws.scan_goes_on_to_children.Goals as goal
 
 pub returns : goal.returns
-returns c = accepts_children
+returns c = record { law = accepts_children }

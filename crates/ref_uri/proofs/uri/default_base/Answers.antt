@@ -1,7 +1,5 @@
-use Rattle.std.proofs.Common.{◌∙◌}
-use Rattle.std.proofs.lemmas.Bool.{false≢true}
-use Rattle.ref_uri.proofs.Meanings.{default_is_reference}
+use Rattle.ref_uri.proofs.Meanings.{default_is_parsed}
 use Rattle.ref_uri.proofs.uri.default_base.Goals as goal
 
-pub unreachable-requires : goal.unreachable-requires
-unreachable-requires c = false≢true (c.in-Err.ensures.accepted ∙ default_is_reference)
+pub from_parsed-requires : goal.from_parsed-requires
+from_parsed-requires c = default_is_parsed

@@ -2,4 +2,4 @@ use Rattle.referencing.proofs.Levels.{places_end}
 use Rattle.referencing.proofs.laws.levels_end_at_the_depth.Goals as goal
 
 pub returns : goal.returns
-returns c = places_end
+returns c = record { law = places_end }

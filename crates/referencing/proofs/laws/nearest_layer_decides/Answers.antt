@@ -1,6 +1,6 @@
 use Rattle.std.proofs.Common.{Some, ap}
 use Rattle.std.specs.Option.{option_map_or}
-use Rattle.referencing.specs.Bearing.{means}
+use Rattle.referencing.specs.Resources.{means}
 use Rattle.referencing.specs.Anchors.{named}
 use Rattle.referencing.proofs.laws.nearest_layer_decides.Goals as goal
 

@@ -2,4 +2,4 @@ use Rattle.referencing.proofs.Pending.{pending_differ}
 use Rattle.referencing.proofs.laws.pending_documents_differ.Goals as goal
 
 pub returns : goal.returns
-returns c = pending_differ
+returns c = record { law = pending_differ }

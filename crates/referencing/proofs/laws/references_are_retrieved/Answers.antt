@@ -2,4 +2,4 @@ use Rattle.referencing.proofs.References.{references_are_retrieved}
 use Rattle.referencing.proofs.laws.references_are_retrieved.Goals as goal
 
 pub returns : goal.returns
-returns c = references_are_retrieved
+returns c = record { law = references_are_retrieved }

@@ -9,4 +9,4 @@ pub returns : goal.returns
 returns c =
     let is : c.accepts.result ≡ scan c.args.self (is_object (view c.args.contents.now)) c.args.segments.now = c.accepts.ensures ∙ ap (λ b. scan c.args.self b c.args.segments.now) c.is_object.ensures in
     let both = scan_accepts c.args.self (view c.args.contents.now) c.args.segments.now in
-    (λ h. both.0 (sym is ∙ h), λ h. is ∙ both.1 h)
+    record { accepted = (λ h. both.0 (sym is ∙ h), λ h. is ∙ both.1 h) }

@@ -2,4 +2,4 @@ use Rattle.ref_draft.proofs.Trim.{trimmed_is}
 use Rattle.ref_draft.proofs.spec.ids.trim_hashes.Goals as goal
 
 pub returns : goal.returns
-returns c = trimmed_is c.args.text.now c.trim_end_matches.result.now c.trim_end_matches.ensures.matches
+returns c = record { value = trimmed_is c.args.text.now c.trim_end_matches.result.now c.trim_end_matches.ensures.matches }

@@ -19,6 +19,6 @@ loop-keyword-preserved c =
     let found = rw c.in-Some-2.ensures.steps at c.loop-keyword.invariant.2 in (
       grind (arith, common_steps),
       step c.args.draft (view c.args.contents.now) (holding c.args.draft c.as_str.result.now) c.as_str.result.now (view c.in-Some-2.value.now) (map walked_child c.loop-keyword.children.items)
-          (map walked_child c.push_held.new.children.items) c.loop-keyword.invariant.1 (rw c.as_str.ensures.value found.0) c.keys_are_unique.ensures c.in_ok-push_held.ensures,
+          (map walked_child c.push_held.new.children.items) c.loop-keyword.invariant.1 (rw c.as_str.ensures.value found.0) c.push_held.ensures.unique c.in_ok-push_held.ensures.adds,
       found.1,
     )

@@ -14,15 +14,15 @@ use Rattle.referencing.proofs.examples.outcomes.retrieved_documents.Goals as goa
 
 first : IsRetrieved (given_with 2) (refers_to_b ∷ []) b_refers_to_c
 unfolding referencing_on_literals
-first = record { cause = Reference; tree = one "$ref" (text "c"); wanted = (0, omega arith, refl); unborne = refl; answered = refl; is = refl }
+first = record { cause = Reference; tree = one "$ref" (text "c"); wanted = (0, omega arith, refl); no_place = refl; answered = refl; is = refl }
 
 first_of_two : IsRetrieved (given has_b_and_c 2 (refers_to_b ∷ [])) (refers_to_b ∷ []) b_refers_to_c
 unfolding referencing_on_literals
-first_of_two = record { cause = Reference; tree = one "$ref" (text "c"); wanted = (0, omega arith, refl); unborne = refl; answered = refl; is = refl }
+first_of_two = record { cause = Reference; tree = one "$ref" (text "c"); wanted = (0, omega arith, refl); no_place = refl; answered = refl; is = refl }
 
 second : IsRetrieved (given has_b_and_c 2 (refers_to_b ∷ [])) (refers_to_b ∷ b_refers_to_c ∷ []) c_is_true
 unfolding referencing_on_literals
-second = record { cause = Reference; tree = yes; wanted = (1, omega arith, refl); unborne = refl; answered = refl; is = refl }
+second = record { cause = Reference; tree = yes; wanted = (1, omega arith, refl); no_place = refl; answered = refl; is = refl }
 
 abbrev faulty_alone : Layer
 faulty_alone = at Draft202012 "http://a/r" (one "$ref" (text "c d")) ∷ []

@@ -4,4 +4,4 @@ use Rattle.referencing.proofs.examples.wants.open_wants_of_layers.Goals as goal
 
 pub returns : goal.returns
 unfolding referencing_on_literals
-returns c = record { reference = refl; meta_schema = refl; borne = refl; of_a_parent = refl; unmet = refl; met = refl }
+returns c = record { reference = refl; meta_schema = refl; met_by_an_identifier = refl; of_a_parent = refl; unmet = refl; met = refl }

@@ -1,7 +1,0 @@
-use Rattle.std.proofs.Common.{refl}
-use Rattle.referencing.proofs.OnLiterals.{referencing_on_literals}
-use Rattle.referencing.proofs.examples.bearing.last_entries.Goals as goal
-
-pub returns : goal.returns
-unfolding referencing_on_literals
-returns c = record { of_two = refl; of_one = refl; of_three = refl; under_a_uri = refl; under_no_uri = refl }
