@@ -72,7 +72,7 @@ impl<'a> Model for EncodedString<'a> {
 impl EncodedBuffer {
     /// A buffer without text. Takes no memory.
     pub fn new(alloc: Global) -> Self
-        ensures { result ≡ [] }
+        ensures empty { result ≡ [] }
     {
         EncodedBuffer {
             text: String::new(alloc),
@@ -91,14 +91,14 @@ impl EncodedBuffer {
 
     /// The escaped text.
     pub fn as_str(&self) -> &str
-        ensures { result.now ≡ encoded self.now }
+        ensures value { result.now ≡ encoded self.now }
     {
         self.as_encoded().as_str()
     }
 
     /// The escaped text, to be lent on. Takes no memory.
     pub fn as_encoded(&self) -> EncodedString<'_>
-        ensures { result ≡ self.now }
+        ensures value { result ≡ self.now }
     {
         EncodedString {
             encoded: self.text.as_str(),
@@ -107,14 +107,14 @@ impl EncodedBuffer {
 
     /// Forgets the text and keeps its memory.
     pub fn clear(&mut self)
-        ensures { self.new ≡ [] }
+        ensures empty { self.new ≡ [] }
     {
         self.text.clear();
     }
 
     /// What was pushed since `new` or the last `clear`. Refused where there is no memory for it. Linear in the escaped text.
     pub fn decode(&self, alloc: Global) -> Result<String, AllocError>
-        ensures { IfOk result (λ text. string_bytes text ≡ self.now) }
+        ensures value { IfOk result (λ text. string_bytes text ≡ self.now) }
     {
         self.as_encoded().decode(alloc)
     }
@@ -123,14 +123,14 @@ impl EncodedBuffer {
 impl<'a> EncodedString<'a> {
     /// The escaped text.
     pub fn as_str(&self) -> &'a str
-        ensures { result.now ≡ encoded self.now }
+        ensures value { result.now ≡ encoded self.now }
     {
         self.encoded
     }
 
     /// The text that the escaped text stands for. Refused where there is no memory for it. Linear in the escaped text.
     pub fn decode(&self, alloc: Global) -> Result<String, AllocError>
-        ensures { IfOk result (λ text. string_bytes text ≡ self.now) }
+        ensures value { IfOk result (λ text. string_bytes text ≡ self.now) }
     {
         without_escapes(alloc, self.encoded)
     }

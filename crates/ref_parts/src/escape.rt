@@ -11,7 +11,7 @@ use std::borrow::CowStr;
 ///
 /// Takes no memory, and is one pass up to that byte.
 pub fn first_escape(bytes: &[u8]) -> Option<usize>
-    ensures { result ≡ escape_position bytes.now }
+    ensures value { result ≡ escape_position bytes.now }
 {
     bytes.iter().position(|byte| *byte == b'~' || *byte == b'/')
 }

@@ -69,7 +69,7 @@ fn step<'a>(alloc: Global, target: &'a Value, token: &str) -> Result<Option<&'a 
 ///
 /// Nothing for any other text. Takes no memory, and is one pass.
 pub fn parse_index(s: &str) -> Option<usize>
-    ensures { result ≡ index_of s.now }
+    ensures value { result ≡ index_of s.now }
 {
     if s.starts_with('+') || (s.starts_with('0') && s.len() != 1) {
         return None;

@@ -14,23 +14,23 @@ ghost use Rattle.ref_parts.specs.Rows.Paths.{PathRows, LinkRows};
 
 /// Unescaping an escaped key gives the key back.
 pub fn unescape_undoes_escape()
-    ensures { (key : List ℕ) → unescape (escape key) ≡ key }
+    ensures law { (key : List ℕ) → unescape (escape key) ≡ key }
 {}
 
 /// A text is an index's exactly where it is that index's decimal text, for indexes that a `usize` holds.
 pub fn index_text_is_decimal()
-    ensures { (text : List ℕ) (i : ℕ) → (parse_index text ≡ Some i) ↔ ((text ≡ decimal i) × (i < 2 ^ 64)) }
+    ensures law { (text : List ℕ) (i : ℕ) → (parse_index text ≡ Some i) ↔ ((text ≡ decimal i) × (i < 2 ^ 64)) }
 {}
 
 /// The pointer text of a path that leads to a value means that value.
 pub fn pointer_text_leads_where_its_path_does()
-    ensures { (document : Data) (path : List Part) (value : Data) → HasFittingIndexes path
+    ensures law { (document : Data) (path : List Part) (value : Data) → HasFittingIndexes path
         → value_at document path ≡ Some value → evaluate document (pointer_text path) ≡ Some value }
 {}
 
 /// The worked rows of the definitions of pointer text.
 pub fn pointer_rows()
-    ensures { PointerRows }
+    ensures rows { PointerRows }
 {}
 
 /// Text as a fragment holds it, and such text read back (RFC 3986, 2.1 and 3.5).
@@ -43,17 +43,17 @@ pub fn encoded_rows()
 
 /// The worked rows of the bytes, tokens and texts that pointer text is made of (RFC 6901, sections 3 and 4).
 pub fn token_rows()
-    ensures { TokenRows }
+    ensures rows { TokenRows }
 {}
 
 /// The pointers of RFC 6901's example (section 5), and steps that lead nowhere.
 pub fn example_rows()
-    ensures { ExampleRows }
+    ensures rows { ExampleRows }
 {}
 
 /// That example's pointers as a fragment holds them (RFC 6901, section 6), and the bytes of a fragment (RFC 3986, 3.5).
 pub fn fragment_rows()
-    ensures { FragmentRows }
+    ensures rows { FragmentRows }
 {}
 
 /// The worked rows of paths.
@@ -64,15 +64,15 @@ pub fn path_rows()
 
 /// The worked rows of small maps.
 pub fn map_rows()
-    ensures { MapRows }
+    ensures rows { MapRows }
 {}
 
 /// The worked rows of a small map's entries by their places, and of a value that is written at one.
 pub fn entry_rows()
-    ensures { EntryRows }
+    ensures rows { EntryRows }
 {}
 
 /// The worked rows of escapes in keys, and of a whole pointer (RFC 6901, sections 3 and 4).
 pub fn escape_rows()
-    ensures { EscapeRows }
+    ensures rows { EscapeRows }
 {}

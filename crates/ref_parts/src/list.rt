@@ -65,14 +65,14 @@ fn rest_of<T: Drop>(node: Rc<Node<T>>) -> Option<Rc<Node<T>>>
 impl<T: Drop> List<T> {
     /// The empty list. Takes no memory.
     pub fn new() -> Self
-        ensures { result ≡ [] }
+        ensures empty { result ≡ [] }
     {
         List { head: None }
     }
 
     /// Whether the list has no items.
     pub fn is_empty(&self) -> bool
-        ensures { result ≡ (length self.now == 0) }
+        ensures value { result ≡ (length self.now == 0) }
     {
         self.head.is_none()
     }
@@ -81,7 +81,7 @@ impl<T: Drop> List<T> {
     ///
     /// Takes memory for one link, whatever the length, and is refused where there is none.
     pub fn push_front(&self, alloc: Global, value: Rc<T>) -> Result<Self, AllocError>
-        ensures { IfOk result (λ list. list ≡ value.value ∷ self.now) }
+        ensures items { IfOk result (λ list. list ≡ value.value ∷ self.now) }
     {
         let next = self.clone()?;
         let node = Rc::new(alloc, Node { value, next })?;
@@ -90,7 +90,7 @@ impl<T: Drop> List<T> {
 
     /// The items from the front on. Takes no memory.
     pub fn iter(&self) -> Iter<'_, T>
-        ensures { result ≡ self.now }
+        ensures items { result ≡ self.now }
     {
         Iter { rest: self }
     }

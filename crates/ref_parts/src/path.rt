@@ -183,7 +183,7 @@ fn before(link: Rc<Link<'_>>) -> Option<Rc<Link<'_>>>
 impl<'a> JsonPointerNode<'a> {
     /// The root. Takes no memory.
     pub fn new() -> Self
-        ensures { result ≡ [] }
+        ensures empty { result ≡ [] }
     {
         JsonPointerNode::from_last(None)
     }
@@ -196,7 +196,7 @@ impl<'a> JsonPointerNode<'a> {
         alloc: Global,
         segment: S,
     ) -> Result<Self, AllocError>
-        ensures { IfOk result (λ node. (s : JsonPointerSegment) × S.converts segment s × (node ≡ self.now ++ part_of s ∷ [])) }
+        ensures value { IfOk result (λ node. (s : JsonPointerSegment) × S.converts segment s × (node ≡ self.now ++ part_of s ∷ [])) }
     {
         let segment = segment.into();
         let parent = self.clone()?;
@@ -206,7 +206,7 @@ impl<'a> JsonPointerNode<'a> {
 
     /// The last part, or index 0 at the root.
     pub fn segment(&self) -> &JsonPointerSegment<'a>
-        ensures { part_of result.now ≡ last_part self.now }
+        ensures value { part_of result.now ≡ last_part self.now }
     {
         match &self.last {
             Some(link) => &link.segment,
@@ -216,7 +216,7 @@ impl<'a> JsonPointerNode<'a> {
 
     /// The path without its last part; the root has none.
     pub fn parent(&self) -> Option<&Self>
-        ensures { option_map (λ node. node.now) result ≡ parent_path self.now }
+        ensures value { option_map (λ node. node.now) result ≡ parent_path self.now }
     {
         match &self.last {
             Some(link) => Some(&link.parent),

@@ -25,11 +25,11 @@ pub trait BorrowedKey<K: Eq + Hash>: Copy {
 
     /// Whether it stands for this key.
     fn is_for(&self, key: &K) -> bool
-        ensures { result ≡ is_for self.now key.now };
+        ensures value { result ≡ is_for self.now key.now };
 
     /// The value in a hashed map at the key that it stands for: one look-up.
     fn find_in<'m, V>(&self, map: &'m IndexMap<K, V>) -> Option<&'m V>
-        ensures { option_copied result ≡ lookup (is_for self.now) map.now.entries };
+        ensures value { option_copied result ≡ lookup (is_for self.now) map.now.entries };
 }
 
 impl<K: Eq + Hash> BorrowedKey<K> for &K {
@@ -87,7 +87,7 @@ impl<K: Eq + Hash, V, const N: usize> Model for SmallMap<K, V, N> {
 impl<K: Eq + Hash, V, const N: usize> SmallMap<K, V, N> {
     /// An empty map. Takes no memory.
     pub fn new() -> Self
-        ensures { result ≡ [] }
+        ensures empty { result ≡ [] }
     {
         SmallMap {
             form: Form::Small(ArrayVec::new()),
@@ -96,7 +96,7 @@ impl<K: Eq + Hash, V, const N: usize> SmallMap<K, V, N> {
 
     /// Whether the pairs are held inline, which they are exactly up to `N` keys.
     pub fn is_small(&self) -> bool
-        ensures { IsTrue result ↔ (length self.now ≤ N) }
+        ensures value { IsTrue result ↔ (length self.now ≤ N) }
     {
         matches!(&self.form, Form::Small(_))
     }
@@ -105,7 +105,7 @@ impl<K: Eq + Hash, V, const N: usize> SmallMap<K, V, N> {
     ///
     /// Takes no memory. At most `N` comparisons while it is small, and one look-up from then on.
     pub fn get<Q: BorrowedKey<K>>(&self, key: Q) -> Option<&V>
-        ensures { option_copied result ≡ lookup (Q.is_for key) self.now }
+        ensures value { option_copied result ≡ lookup (Q.is_for key) self.now }
     {
         match &self.form {
             Form::Small(slots) => value_in(slots.as_slice(), key),

@@ -14,19 +14,19 @@ returns-in_err-reserve-clause-full c =
 pub split_at-requires : goal.split_at-requires
 split_at-requires c =
     let rest = c.runs.rest.now in
-    let cut = CutsAt-found rest _ _ c.in-Some.index c.as_bytes.ensures.value c.first_escape.ensures c.in-Some.is in
+    let cut = CutsAt-found rest _ _ c.in-Some.index c.as_bytes.ensures.value c.first_escape.ensures.value c.in-Some.is in
     IsCharBoundary-before_ascii rest c.in-Some.index cut.within (below_ascii rest c.in-Some.index cut)
 
 pub returns-in_err-push_str-clause-full : goal.returns-in_err-push_str-clause-full
 returns-in_err-push_str-clause-full c =
     let rest = c.runs.rest.now in
-    let cut = CutsAt-found rest _ _ c.in-Some.index c.as_bytes.ensures.value c.first_escape.ensures c.in-Some.is in
+    let cut = CutsAt-found rest _ _ c.in-Some.index c.as_bytes.ensures.value c.first_escape.ensures.value c.in-Some.is in
     on_err c.from_residual-in_err-push_str.result (omega (arith, c.in_err-push_str.ensures.full, c.split_at.ensures.front_len, length_turn rest c.in-Some.index cut, c.runs.invariant.len, c.runs.invariant.capacity))
 
 pub returns-in_err-push_str-2-clause-full : goal.returns-in_err-push_str-2-clause-full
 returns-in_err-push_str-2-clause-full c =
     let rest = c.runs.rest.now in
-    let cut = CutsAt-found rest _ _ c.in-Some.index c.as_bytes.ensures.value c.first_escape.ensures c.in-Some.is in
+    let cut = CutsAt-found rest _ _ c.in-Some.index c.as_bytes.ensures.value c.first_escape.ensures.value c.in-Some.is in
     let token : length c.if-as_bytes-index-eq126.token.now ≡ 2 =
     elim c.if-as_bytes-index-eq126.branch [ then-as_bytes-index-eq126 w ↦ ap (λ t. length t.now) w.token-is | else-as_bytes-index-eq126 w ↦ ap (λ t. length t.now) w.token-is ] in
     on_err c.from_residual-in_err-push_str-2.result
@@ -35,14 +35,14 @@ returns-in_err-push_str-2-clause-full c =
 pub range_from-rest-requires : goal.range_from-rest-requires
 range_from-rest-requires c =
     let rest = c.runs.rest.now in
-    let cut = CutsAt-found rest _ _ c.in-Some.index c.as_bytes.ensures.value c.first_escape.ensures c.in-Some.is in
+    let cut = CutsAt-found rest _ _ c.in-Some.index c.as_bytes.ensures.value c.first_escape.ensures.value c.in-Some.is in
     λ _. IsCharBoundary-after_ascii rest c.in-Some.index c.runs.invariant.utf8 cut.within (below_ascii rest c.in-Some.index cut)
 
 pub runs-preserved : goal.runs-preserved
 runs-preserved c =
     let rest = c.runs.rest.now in
     let i = c.in-Some.index in
-    let cut = CutsAt-found rest _ _ i c.as_bytes.ensures.value c.first_escape.ensures c.in-Some.is in
+    let cut = CutsAt-found rest _ _ i c.as_bytes.ensures.value c.first_escape.ensures.value c.in-Some.is in
     let buffer = string_bytes c.runs.buffer in
     let token = c.if-as_bytes-index-eq126.token.now in
     let here : get_or c.as_bytes-in-Some.result.now i 0 ≡ get_or rest i 0 = ap (λ x. get_or x i 0) c.as_bytes-in-Some.ensures.value in
@@ -67,7 +67,7 @@ runs-preserved c =
 pub returns-clause-ok : goal.returns-clause-ok
 returns-clause-ok c =
     let rest = c.runs.rest.now in
-    let none : first_escape rest ≡ None = ap first_escape (sym c.as_bytes.ensures.value) ∙ sym c.first_escape.ensures ∙ c.in_default.is in
+    let none : first_escape rest ≡ None = ap first_escape (sym c.as_bytes.ensures.value) ∙ sym c.first_escape.ensures.value ∙ c.in_default.is in
     on_ok_pushed c.push_str-2.result _ _ _ _ c.push_str-2.ensures.bytes (ap (λ x. string_bytes c.runs.buffer ++ x) (sym (escape_none rest none)) ∙ c.runs.invariant.text)
 
 pub returns-clause-full : goal.returns-clause-full

@@ -11,4 +11,4 @@ returns c =
     let plus : get_or s 0 0 ≢ 43 = λ e. both_ways c.starts_with.result c.if-starts_with.false (sign ∙ eq-eqb (get_or s 0 0) 43 e) in
     let lone : get_or s 0 0 ≡ 48 → length s ≡ 1 = λ e.
     ⊎_elim (λ one. one.1) (λ other. absurd (both_ways c.starts_with-else-starts_with.result other (zero ∙ eq-eqb (get_or s 0 0) 48 e))) c.if-s-ne1.either in
-    c.ok.ensures.value ∙ index_from_parse s c.parse.result c.parse.ensures.value.0 plus lone
+    record { value = c.ok.ensures.value ∙ index_from_parse s c.parse.result c.parse.ensures.value.0 plus lone }

@@ -10,5 +10,5 @@ returns-in_default-clause-value c =
     let array : c.is_array.result ≡ true = c.if-not-is_array.false in
     let step = step_in_array (view c.args.target.now) (unescape c.args.token.now) (sym c.is_array.ensures ∙ array) in
     let key = ap parse_index (c.as_str-2.ensures.value ∙ c.in_ok-key.ensures.value) in
-    let gone : parse_index (unescape c.args.token.now) ≡ None = sym key ∙ sym c.parse_index.ensures ∙ c.in_default.is in
+    let gone : parse_index (unescape c.args.token.now) ≡ None = sym key ∙ sym c.parse_index.ensures.value ∙ c.in_default.is in
     sym (step ∙ ap (option_and_then (λ i. at i (view c.args.target.now))) gone)

@@ -9,4 +9,4 @@ pub invariant_of-self : goal.invariant_of-self
 invariant_of-self c = subst IsEncoded (sym c.clear.ensures.bytes) IsEncoded-nil
 
 pub returns : goal.returns
-returns c = ap percent_decode c.clear.ensures.bytes ∙ percent_decode-nil
+returns c = record { empty = ap percent_decode c.clear.ensures.bytes ∙ percent_decode-nil }

@@ -9,4 +9,4 @@ pub invariant_of-result : goal.invariant_of-result
 invariant_of-result c = subst IsEncoded (sym c.new.ensures.bytes) IsEncoded-nil
 
 pub returns : goal.returns
-returns c = ap percent_decode c.new.ensures.bytes ∙ percent_decode-nil
+returns c = record { empty = ap percent_decode c.new.ensures.bytes ∙ percent_decode-nil }

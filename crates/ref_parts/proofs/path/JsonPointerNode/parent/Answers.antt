@@ -10,4 +10,4 @@ pub returns-in-Some : goal.returns-in-Some
 returns-in-Some c =
     let link = c.in-Some.link.value in
     let shape : c.args.self.now ≡ link.parent ++ part_of link.segment ∷ [] = sym c.self.view_is ∙ ap path_of c.in-Some.is in
-    ap (λ (l : Link). Some l.parent) c.deref.ensures ∙ sym (ap parent_path shape ∙ parent_path-push link.parent (part_of link.segment))
+    record { value = ap (λ (l : Link). Some l.parent) c.deref.ensures ∙ sym (ap parent_path shape ∙ parent_path-push link.parent (part_of link.segment)) }

@@ -10,4 +10,4 @@ pub returns-in-Some : goal.returns-in-Some
 returns-in-Some c =
     let link = c.in-Some.link.value in
     let shape : c.args.self.now ≡ link.parent ++ part_of link.segment ∷ [] = sym c.self.view_is ∙ ap path_of c.in-Some.is in
-    ap (λ (l : Link). part_of l.segment) c.deref.ensures ∙ sym (ap last_part shape ∙ last_part-push link.parent (part_of link.segment))
+    record { value = ap (λ (l : Link). part_of l.segment) c.deref.ensures ∙ sym (ap last_part shape ∙ last_part-push link.parent (part_of link.segment)) }

@@ -7,4 +7,4 @@ pub returns-in-Small : goal.returns-in-Small
 returns-in-Small g c =
     let form = rw c.in-Small.is at c.self.invariant in
     let view = ap entries_of (sym c.in-Small.is) ∙ c.self.view_is in
-    (λ _. omega (arith, form.1, length-pairs-le c.in-Small.field-0.items, ap length view), λ _. refl)
+    record { value = (λ _. omega (arith, form.1, length-pairs-le c.in-Small.field-0.items, ap length view), λ _. refl) }
