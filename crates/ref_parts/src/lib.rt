@@ -16,7 +16,7 @@ pub mod small_map;
 pub use encoded::{EncodedBuffer, EncodedString};
 pub use escape::{first_escape, unescape_segment, write_escaped_str, write_index};
 pub use evaluate::{parse_index, pointer};
-pub use list::List;
+pub use list::{Iter, List};
 pub use path::{JsonPointerNode, JsonPointerSegment};
 pub use small_map::{BorrowedKey, SmallMap};
 

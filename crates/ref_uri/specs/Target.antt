@@ -61,7 +61,7 @@ AreParts (Merged directory path) = (is_path directory.now ≡ true) × (is_path 
 abbrev pub LacksEncodedDot : List ℕ → Type 0
 LacksEncodedDot text = (before after : List ℕ) → (text ≢ before ++ (codes "%2e" ++ after)) × (text ≢ before ++ (codes "%2E" ++ after))
 
--- the dot segments that the path loses as it is given are those that it loses in normal form
+-- The path in normal form is the same, be its dot segments removed before triples are decoded and after, or after alone.
 abbrev pub LosesSameDots : PathOf → Type 0
 LosesSameDots (Kept path) = ⊥
 LosesSameDots (OfBase path) = ⊤

@@ -145,7 +145,7 @@ pub enum UriError {
         uri: String,
         /// Whether a reference was asked for, and not only a URI.
         is_reference: bool,
-        /// What the text lacks.
+        /// Why it is none.
         error: ParseError,
     },
     /// The text has no target against the base.

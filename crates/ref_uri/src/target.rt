@@ -246,8 +246,8 @@ fn holds_encoded_dot(text: &str) -> bool
 }
 
 impl<'a> PathOf<'a> {
-    /// Whether the dot segments that the path loses as it is given are those that it loses in normal form: a segment such
-    /// as `%2e` is one there alone. The base's own path loses none as it is given, and all in normal form.
+    /// Whether the path in normal form is the same, be its dot segments removed before triples are decoded and after, or
+    /// after alone: a segment such as `%2e` is one only then. The base's own path loses its dot segments only then.
     fn loses_same_dots(self) -> bool
         ensures { (result ≡ true) ↔ LosesSameDots self.entry }
     {

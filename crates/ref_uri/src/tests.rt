@@ -503,7 +503,7 @@ fn removes_many_dot_segments(rt: HostRuntime) -> Result<(), Fail> {
     Ok(())
 }
 
-/// Each `..` behind `/a/%2e%2e` takes `%2e%2e` away, so each `a` stays. Without it, only the last does.
+/// Each `..` behind `/a/%2e%2e` takes `%2e%2e` away, so each `a` stays. Without those `..`, only the last `a` stays.
 #[test]
 fn removes_many_encoded_dot_segments(rt: HostRuntime) -> Result<(), Fail> {
     let alloc = rt.alloc();

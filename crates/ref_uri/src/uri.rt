@@ -264,7 +264,7 @@ fn is_fragment_at_end(base: &str, text: &str) -> bool
 ///
 /// `Invalid` with [`UriError::Resolve`] exactly where the base has no scheme, and with [`UriError::Parse`] exactly where
 /// it has one and the text is no URI reference and not that fragment; `Memory` where there is none. Linear in the two texts.
-/// An answer takes memory once.
+/// An answer takes memory once; where a path holds `%2e`, with room for the path twice, which the answer keeps.
 pub fn resolve_against(alloc: Global, base: UriRef<'_>, uri: &str) -> Result<Uri, UriFault>
     ensures ok { IfOk result (λ answer. against base.entry uri.now ≡ Ok answer) }
     ensures fault { IfErr result (IsFaultOf (against base.entry uri.now)) }

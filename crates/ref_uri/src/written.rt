@@ -25,7 +25,7 @@ pub enum Form {
     Given,
     /// In normal form.
     Normal,
-    /// In normal form, as a target whose path has lost its dot segments as it was given.
+    /// In normal form, of a target: its path loses its dot segments before triples are decoded, and again after.
     NormalTarget,
 }
 

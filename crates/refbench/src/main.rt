@@ -7,7 +7,7 @@ use anyhow::Context;
 use ref_uri::{UriRef, uri};
 use std::alloc::{AllocError, Global};
 
-/// A text of at least this many bytes, of pieces: those of a kind that has a name, or else the word itself.
+/// A text of at least this many bytes: the piece of a named kind again and again, or else the word itself.
 fn text_of(alloc: Global, kind: &str, size: usize) -> Result<String, AllocError> {
     let piece = match kind {
         "names" => "/definitions",

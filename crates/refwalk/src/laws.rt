@@ -3,40 +3,40 @@ ghost use Rattle.refwalk.specs.Rows.{IndexRows, PartsRows, StepRows, ServedRows,
 
 /// The parts of a pointer that are indexes of an array.
 pub fn index_rows()
-    ensures { IndexRows }
+    ensures rows { IndexRows }
 {}
 
 /// The parts of a pointer's text.
 pub fn parts_rows()
-    ensures { PartsRows }
+    ensures rows { PartsRows }
 {}
 
 /// Steps into values.
 pub fn step_rows()
-    ensures { StepRows }
+    ensures rows { StepRows }
 {}
 
 /// Steps that are served.
 pub fn served_rows()
-    ensures { ServedRows }
+    ensures rows { ServedRows }
 {}
 
 /// Texts that mean no URI.
 pub fn fault_rows()
-    ensures { FaultRows }
+    ensures rows { FaultRows }
 {}
 
 /// What a URI means among documents.
 pub fn means_rows()
-    ensures { MeansRows }
+    ensures rows { MeansRows }
 {}
 
 /// The scope after a lookup.
 pub fn scope_rows()
-    ensures { ScopeRows }
+    ensures rows { ScopeRows }
 {}
 
 /// The names of drafts.
 pub fn draft_rows()
-    ensures { DraftRows }
+    ensures rows { DraftRows }
 {}

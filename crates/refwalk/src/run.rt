@@ -104,8 +104,9 @@ fn tree_of(alloc: Global, bytes: &[u8]) -> Result<Option<Value>, AllocError>
 
 /// Reads one request to the end, makes its whole report, and writes it. The status is that of the report.
 ///
-/// `Read` only where a read failed, `Write` only where a write did, `NotYet` exactly where no report answers the request yet,
-/// `Memory` where a growth is refused. Nothing was written but after `Write`, after which nothing is said of what was.
+/// `Read` only where a read failed, `Write` only where a write did, `NotYet` only where no report answers what was read,
+/// `Memory` where a growth is refused. Where it answers neither a status nor `Write`, nothing was written; of what a failed
+/// write left nothing is said.
 ///
 /// Takes memory for the bytes, the tree, the request, its documents, base, pointers and scope, and the report. Reading ends
 /// over every source: each read before the end lengthens a vector. Linear in the bytes, and for each step in its text, in the
@@ -119,7 +120,7 @@ pub fn run<R: Source, W: Sink>(
     // status is that of the report.
     ensures reported { IfOk result (λ status. IsTrue (R.ended reader.new)
         × Reports (R.given reader.old) (R.given reader.new) (W.taken writer.old) (W.taken writer.new) status) }
-    // "Not yet" comes exactly where no report answers what was read.
+    // "Not yet" comes only where no report answers what was read.
     ensures not_yet { result ≡ Err RunError.NotYet → IsTrue (R.ended reader.new)
         × IsUnanswered (R.given reader.old) (R.given reader.new) }
     // A read that failed, and a write that failed.
@@ -148,7 +149,7 @@ fn write_report<W: Sink>(writer: &mut W, report: &Report) -> Result<Status, RunE
     }
 }
 
-/// The report on the bytes of a request. `NotYet` exactly where no report answers it yet, `Memory` where a growth is refused.
+/// The report on the bytes of a request. `NotYet` only where no report answers it yet, `Memory` where a growth is refused.
 pub fn answer(alloc: Global, bytes: &[u8]) -> Result<Report, RunError>
     ensures { AnswersBytes bytes.now result }
 {

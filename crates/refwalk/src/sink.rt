@@ -73,7 +73,7 @@ pub struct StandardOutput {
 impl StandardOutput {
     /// Standard output, of which no write has failed.
     pub fn new(stdout: Stdout) -> StandardOutput
-        ensures { result.failures ≡ 0 }
+        ensures count { result.failures ≡ 0 }
     {
         StandardOutput {
             stdout,

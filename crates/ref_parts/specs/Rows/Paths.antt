@@ -1,11 +1,14 @@
 -- Worked rows of paths: what the definitions answer at literals.
-use Rattle.std.specs.Prelude.{◌≡◌, ℕ, true, false, [], ◌∷◌, ◌++◌, codes, Some, None}
+use Rattle.std.specs.Prelude.{◌≡◌, ℕ, true, false, List, [], ◌∷◌, ◌++◌, codes, Some, None, String}
+use Rattle.std.specs.Borrow.{Bor}
+use Rattle.std.specs.declared.alloc.Global.{Global}
+use Rattle.std.specs.declared.borrow.CowStr.TheVariants as cow
 use Rattle.std.specs.declared.rc.Rc.{Rc}
 use Rattle.serde_json.specs.Data.{string}
 use Rattle.ref_parts.specs.Path.{Key, Index, child_at, value_at, HasFittingIndexes, last_of, last_part, all_but_last, parent_path, part_eq, path_eq}
 use Rattle.ref_parts.specs.Items.{items_of}
 use Rattle.ref_parts.specs.Link.{path_of}
-use Rattle.ref_parts.specs.Segment.{part_of}
+use Rattle.ref_parts.specs.Segment.{part_of, OwnsNothing}
 use Rattle.ref_parts.specs.Rows.{example, foo}
 use Rattle.ref_parts.specs.declared.list.Node.{Node}
 use Rattle.ref_parts.specs.declared.path.Link.{Link}
@@ -41,6 +44,9 @@ pub record PathRows : Type 0 where
   pub other_path : path_eq (Index 1 ∷ Index 2 ∷ []) (Index 2 ∷ Index 1 ∷ []) ≡ false
   pub first_segment : part_of (segment.Index 0) ≡ Index 0
   pub index_segment : part_of (segment.Index 3) ≡ Index 3
+  pub index_owns_nothing : OwnsNothing (segment.Index 3)
+  pub borrowed_key_owns_nothing : (key : Bor (List ℕ)) → OwnsNothing (segment.Key (cow.Borrowed key))
+  pub owned_key_owns_its_text : (key : String Global) → OwnsNothing (segment.Key (cow.Owned key)) → ⊥
 
 -- what a chain of links is seen as, from its last link on, and a shared list from its first node on
 pub record LinkRows : Type 0 where

@@ -66,6 +66,20 @@ fn a_node_has_its_parts_and_its_parent(rt: HostRuntime) -> Result<(), Fail> {
     Ok(())
 }
 
+// A node that can't grow is as it was; its copy takes no memory.
+#[test]
+fn a_refused_part_leaves_the_node(rt: HostRuntime) -> Result<(), Fail> {
+    let node = JsonPointerNode::new().push(rt.alloc(), 1usize)?;
+    assert!(rt; node.clone().is_ok());
+    assert!(rt; JsonPointerNode::new().clone().is_ok());
+    let longer = node.push(rt.alloc(), 2usize);
+    assert!(rt; *node.segment() == JsonPointerSegment::Index(1));
+    if let Ok(longer) = longer {
+        assert!(rt; *longer.segment() == JsonPointerSegment::Index(2));
+    }
+    Ok(())
+}
+
 #[test]
 fn a_long_node_is_dropped(rt: HostRuntime) -> Result<(), Fail> {
     let mut node = JsonPointerNode::new();

@@ -12,7 +12,7 @@ use Rattle.ref_uri.specs.declared.written.Form.TheVariants.{Given, Normal, Norma
 use Rattle.ref_uri.specs.Class.{allows, ends}
 use Rattle.ref_uri.specs.Components.{components}
 use Rattle.ref_uri.specs.Lengths.{the_lengths, lengths_of, IsParsed, IsParsedUri}
-use Rattle.ref_uri.specs.Removal.{segment_of, first_written, next_written, first_progress, next_progress, path_then, progress_then, path_after, progress_after, end_of, ended}
+use Rattle.ref_uri.specs.Removal.{segment_of, first_written, next_written, first_progress, next_progress, path_then, progress_then, path_after, progress_after, slash_of, end_of, ended}
 use Rattle.ref_uri.specs.Target.{given_path, normal_path_of, written_path, written_components, lengths_of_components, AreParts, LacksEncodedDot, LosesSameDots, IsTarget, components_of, behind_directory, path_behind, path_with_dots, target_with_dots}
 use Rattle.ref_uri.specs.Written.{in_case, written, written_scheme, written_authority}
 
@@ -48,6 +48,9 @@ pub record BodyRows : Type 0 where
   pub no_more_segments : path_after Within (codes "/a") [] ≡ codes "/a"
   pub dot_at_the_end : progress_after Front (codes "a" ∷ codes "." ∷ []) ≡ Dots
   pub nothing_came : progress_after Front [] ≡ Front
+  pub no_slash_in_front : slash_of Front ≡ []
+  pub slash_behind_a_segment : slash_of Within ≡ codes "/"
+  pub slash_behind_a_dot_segment : slash_of Dots ≡ codes "/"
   pub slash_at_the_end : end_of Dots ≡ codes "/"
   pub no_slash_at_the_end : end_of Within ≡ []
   pub ended_by_a_dot : ended Front [] (codes "a" ∷ codes "." ∷ []) ≡ codes "a/"

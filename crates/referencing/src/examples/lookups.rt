@@ -33,7 +33,7 @@ pub fn lookups_by_pointer()
     ensures second_step_faults { steps (world (at Draft202012 "http://a/r" empty ∷ [])) "http://a/r" (look "" ∷ look "#/q" ∷ []) ≡ refusal 1 (PointerToNowhere (codes "/q")) }
 {}
 
-/// Triples, escapes and indexes in pointers, as written and not as they should be (RFC 6901, sections 3, 4 and 6).
+/// Triples, escapes and indexes in pointers that are malformed or unusual (RFC 6901, sections 3, 4 and 6).
 pub fn lookups_of_odd_keys()
     ensures malformed_triple { steps (world (odd_keys ∷ [])) "http://a/r" (look "#/a%zz" ∷ []) ≡ answer (Some (whole 1)) (codes "http://a/r") (codes "http://a/r" ∷ []) }
     ensures no_escape { steps (world (odd_keys ∷ [])) "http://a/r" (look "#/~2" ∷ []) ≡ answer (Some (whole 2)) (codes "http://a/r") (codes "http://a/r" ∷ []) }

@@ -36,4 +36,7 @@ returns c = record { paths = paths; links = record { no_link = refl; last_link =
       other_path = refl;
       first_segment = refl;
       index_segment = refl;
+      index_owns_nothing = tt;
+      borrowed_key_owns_nothing = λ key. tt;
+      owned_key_owns_its_text = λ key h. h;
     }

@@ -4,4 +4,4 @@ use Rattle.refwalk.proofs.laws.index_rows.Goals as goal
 
 pub returns : goal.returns
 unfolding index_of
-returns c = (refl, refl, refl, refl, refl, refl, refl, refl, refl)
+returns c = record { rows = (refl, refl, refl, refl, refl, refl, refl, refl, refl) }

@@ -2,4 +2,4 @@ use Rattle.std.proofs.Common.{refl}
 use Rattle.refwalk.proofs.laws.means_rows.Goals as goal
 
 pub returns : goal.returns
-returns c = (refl, refl)
+returns c = record { rows = (refl, refl) }
