@@ -32,7 +32,7 @@ disallows_percent Query = refl
 hex_is_no_percent : (c : ℕ) → is_ascii_hexdigit c ≡ true → eqb c 37 ≡ false
 hex_is_no_percent c h = grind (arith, nat_tests)
 
-or_true : (b : Bool) → (b || true) ≡ true
+pub or_true : (b : Bool) → (b || true) ≡ true
 or_true true = refl
 or_true false = refl
 

@@ -14,6 +14,7 @@ use Rattle.ref_uri.proofs.NormalLemmas.{normal_plain}
 use Rattle.ref_uri.proofs.WrittenLemmas.{keeps_as_is, keeps_lower, normal_is_encoded}
 use Rattle.ref_uri.proofs.AuthorityCharacters.{is_literal_character, literal_characters}
 use Rattle.ref_uri.proofs.AuthorityText.{AreParts, text_of_parts, authority_of_parts, parts_of_authority}
+use Rattle.ref_uri.proofs.EncodedLemmas.{or_true}
 
 abbrev lower : List ℕ → List ℕ
 lower text = map to_ascii_lowercase text
@@ -72,10 +73,6 @@ lower_bracket text h =
     let both = and_parts (eqb (position_or_len (λ c. eqb c 93) text + 1) (length text)) (is_address b || is_future_address b) h in
     rw (before-lower 93 same_bracket text, position-lower 93 same_bracket text, length-map text to_ascii_lowercase)
     (and_from _ _ both.0 (elim (or_cases (is_address b) (is_future_address b) both.1) [ inl a ↦ rw (lower_address b a) refl | inr f ↦ rw (lower_future b f) (or_true (is_address (lower b))) ]))
-  where
-    or_true : (b : Bool) → (b || true) ≡ true
-    or_true true = refl
-    or_true false = refl
 
 lower_bracketed : (text : List ℕ) → is_bracketed text ≡ true → is_bracketed (lower text) ≡ true
 lower_bracketed [] h = h
@@ -101,10 +98,6 @@ normal_host_is_host text h =
       | inr name ↦ rw (normal_is_encoded to_ascii_lowercase keeps_lower is_name_character is_name_character lower_name unreserved_name text name) (or_true (is_bracketed (normal_host text)))
     ]
   where
-    or_true : (b : Bool) → (b || true) ≡ true
-    or_true true = refl
-    or_true false = refl
-
     lower_name : (c : ℕ) → is_name_character c ≡ true → is_name_character (to_ascii_lowercase c) ≡ true
     lower_name c k = grind (arith, nat_tests)
 

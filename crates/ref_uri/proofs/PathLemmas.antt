@@ -8,10 +8,7 @@ use Rattle.std.proofs.lemmas.List.Folds.{length-prefix_len}
 use Rattle.ref_uri.specs.Authority.{is_authority}
 use Rattle.ref_uri.specs.Reference.{is_uri_reference}
 use Rattle.ref_uri.specs.Components.{are_components, if_there, is_scheme, is_path, is_query, query, fragment, behind, authority_in_front, scheme, authority, path, after_scheme, after_authority, is_path_after, ends_scheme, ends_authority, ends_path, begins_with_slashes}
-
-or_true : (b : Bool) → (b || true) ≡ true
-or_true true = refl
-or_true false = refl
+use Rattle.ref_uri.proofs.EncodedLemmas.{or_true}
 
 -- what stands before the first that passes, one element on
 pub before_first-cons : (p : ℕ → Bool) (c : ℕ) (text : List ℕ) → before_first p (c ∷ text) ≡ cond (p c) [] (c ∷ before_first p text)

@@ -38,7 +38,7 @@ each_drop P zero xs h = h
 each_drop P (suc n) [] h = tt
 each_drop P (suc n) (x ∷ xs) h = each_drop P n xs h.1
 
-path-append : (p q : List ℕ) → is_path p ≡ true → is_path q ≡ true → is_path (p ++ q) ≡ true
+pub path-append : (p q : List ℕ) → is_path p ≡ true → is_path q ≡ true → is_path (p ++ q) ≡ true
 path-append p q h k = encoded-append is_path_character p q h k
 
 slashes_are_path : (parts : List (List ℕ)) → AllByRecursion (λ s. is_path s ≡ true) parts → is_path (behind_slashes parts) ≡ true

@@ -10,7 +10,6 @@ use Rattle.ref_uri.specs.Components.{Components, are_components, if_there, is_sc
 use Rattle.ref_uri.specs.DotSegments.{remove_dot_segments}
 use Rattle.ref_uri.specs.Normal.{guarded, normal, normal_path, normal_text, normal_triple, normal_authority}
 use Rattle.ref_uri.specs.Resolution.{merged, query_or, target_path, target_of_path, target_of_authority, target_of_scheme, with_guard, resolved_components, through_last_slash}
-use Rattle.ref_uri.proofs.EncodedLemmas.{encoded-append}
 use Rattle.ref_uri.proofs.Induction.{by_units}
 use Rattle.ref_uri.proofs.PathLemmas.{before_first-cons}
 use Rattle.ref_uri.proofs.NormalLemmas.{normal_none, normal_character, normal_triple_front}
@@ -18,7 +17,7 @@ use Rattle.ref_uri.proofs.WrittenLemmas.{keeps_as_is, triple_passes}
 use Rattle.ref_uri.proofs.UniqueLemmas.{Tested, tested}
 use Rattle.ref_uri.proofs.TargetLemmas.{the_components, slash_in_front, slashes_in_front}
 use Rattle.ref_uri.proofs.NormalValid.{normal_is_authority, lower_is_scheme, normal_is_path, normal_is_query}
-use Rattle.ref_uri.proofs.PathValid.{starts_path, StartsPath, removed_is_path, removed_starts, guarded_is_path, guarded_has_no_slashes, through_is_path, through_starts}
+use Rattle.ref_uri.proofs.PathValid.{path-append, starts_path, StartsPath, removed_is_path, removed_starts, guarded_is_path, guarded_has_no_slashes, through_is_path, through_starts}
 
 -- components of which each holds what it may
 pub from_tests : (c : Components) → Tested c → are_components c ≡ true
@@ -39,9 +38,6 @@ pub valid_target : (s : List ℕ) (a : Option (List ℕ)) (path : List ℕ) (q f
 valid_target s a path q f scheme authority is query fragment starts =
     from_tests (the_components (Some s) a (guarded a path) q f)
     (record { scheme_test = scheme; authority_test = authority; path_test = guarded_is_path a path is; query_test = query; fragment_test = fragment; place_test = guarded_place s a path starts })
-
-path-append : (p q : List ℕ) → is_path p ≡ true → is_path q ≡ true → is_path (p ++ q) ≡ true
-path-append p q h k = encoded-append _ p q h k
 
 -- a path behind the base's
 merged_is_path : (base : Components) (path : List ℕ) → is_path base.path ≡ true → is_path path ≡ true → is_path (merged base path) ≡ true
