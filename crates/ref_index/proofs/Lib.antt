@@ -1,0 +1,6 @@
+pub mod Hashes
+pub mod Queues
+pub mod Holding
+pub mod Paths
+pub mod Visiting
+pub mod Walking

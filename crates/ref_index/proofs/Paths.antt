@@ -1,0 +1,33 @@
+-- Paths, and the value that one leads to.
+use Rattle.std.proofs.Common.{◌≡◌, List, [], ◌∷◌, ◌++◌, Option, Some, None, map, reverse, refl, sym, ap, ◌∙◌}
+use Rattle.std.proofs.lemmas.List.{map-append, reverse-append}
+use Rattle.std.specs.Prelude.{option_and_then}
+use Rattle.serde_json.specs.Data.{Data}
+use Rattle.ref_parts.specs.Path.{Part, child_at, value_at, last_part, last_of, parent_path, all_but_last}
+
+last_behind : (part : Part) (path : List Part) → part ∷ path ≡ all_but_last part path ++ last_of part path ∷ []
+last_behind part [] = refl
+last_behind part (next ∷ path) = ap (λ ps. part ∷ ps) (last_behind next path)
+
+-- a path that has a parent is that and its last part
+pub last_stands : (path before : List Part) → parent_path path ≡ Some before → path ≡ before ++ last_part path ∷ []
+last_stands [] before is = cc
+last_stands (part ∷ path) before is =
+    let same : all_but_last part path ≡ before = cc in
+    last_behind part path ∙ ap (λ ps. ps ++ last_of part path ∷ []) same
+
+-- one that has none is the root
+pub without_parent : (path : List Part) → parent_path path ≡ None → path ≡ []
+without_parent [] is = refl
+without_parent (part ∷ path) is = cc
+
+-- ---- a step
+
+pub stepped : (d : Data) (part : Part) (rest : List Part) (o : Option Data) → o ≡ child_at d part → value_at d (part ∷ rest) ≡ option_and_then (λ e. value_at e rest) o
+stepped d part rest o is = ap (option_and_then (λ e. value_at e rest)) (sym is)
+
+-- ---- turned round
+
+pub map-reverse : {X Y : Type 0} (f : X → Y) (xs : List X) → map f (reverse xs) ≡ reverse (map f xs)
+map-reverse f [] = refl
+map-reverse f (x ∷ xs) = ap (map f) (reverse-append (x ∷ []) xs) ∙ map-append f (reverse xs) (x ∷ []) ∙ ap (λ ys. ys ++ f x ∷ []) (map-reverse f xs) ∙ sym (reverse-append (f x ∷ []) (map f xs))

@@ -1,0 +1,44 @@
+-- What a visit adds, over plain values.
+use Rattle.std.proofs.Common.{◌≡◌, ℕ, List, ◌++◌, Result, Ok, OnOk, sym, ap, ◌∙◌, subst, append_assoc}
+use Rattle.serde_json.specs.Data.{Data}
+use Rattle.ref_uri.specs.Targets.{Refusal}
+use Rattle.ref_uri.specs.Errors.{IsFaultOf}
+use Rattle.ref_uri.specs.declared.error.UriFault.{UriFault}
+use Rattle.ref_uri.specs.declared.error.UriFault.TheVariants.{Invalid, Memory}
+use Rattle.referencing.specs.World.{Layer}
+use Rattle.referencing.specs.Places.{Place}
+use Rattle.referencing.specs.Anchors.{Named}
+use Rattle.referencing.specs.Wants.{Want, Reference, MetaSchema, wanted, refused, reference_at, schema_at, wants_at, faults_at}
+use Rattle.ref_index.specs.declared.found.Found.{Found}
+use Rattle.ref_index.specs.Found.{Holds}
+use Rattle.ref_index.specs.Visits.{IsFirstFault}
+
+-- ---- the same lists under other names
+
+pub on_same : {A E : Type 0} (r : Result A E) (layer : Layer) (f : Found) (rs rs' : List (List ℕ × Place)) (ns ns' : List Named) (ws ws' : List Want) → rs ≡ rs' → ns ≡ ns' → ws ≡ ws'
+    → OnOk r (Holds layer f rs ns ws) → OnOk r (Holds layer f rs' ns' ws')
+on_same r layer f rs rs' ns ns' ws ws' a b c held =
+    subst (λ x. OnOk r (Holds layer f x ns' ws')) a (subst (λ x. OnOk r (Holds layer f rs x ws')) b (subst (λ x. OnOk r (Holds layer f rs ns x)) c held))
+
+pub holds_same : (layer : Layer) (f : Found) (rs rs' : List (List ℕ × Place)) (ns ns' : List Named) (ws ws' : List Want) → rs ≡ rs' → ns ≡ ns' → ws ≡ ws'
+    → Holds layer f rs ns ws → Holds layer f rs' ns' ws'
+holds_same layer f rs rs' ns ns' ws ws' a b c held =
+    subst (λ x. Holds layer f x ns' ws') a (subst (λ x. Holds layer f rs x ws') b (subst (λ x. Holds layer f rs ns x) c held))
+
+-- ---- the first fault of a place
+
+pub first_of_base : (base : Result (List ℕ) Refusal) (value : Data) (fault : UriFault) → IsFaultOf base fault → IsFirstFault (faults_at base value) fault
+first_of_base base value (Invalid error) (refusal, is, says) = (refusal, refused (schema_at value), ap (λ b. faults_at b value) is, says)
+first_of_base base value (Memory error) is = tt
+
+pub first_of_reference : (base : Result (List ℕ) Refusal) (uri : List ℕ) (value : Data) (fault : UriFault) → base ≡ Ok uri → IsFirstFault (refused (reference_at uri value)) fault → IsFirstFault (faults_at base value) fault
+first_of_reference base uri value (Invalid error) based (refusal, more, is, says) =
+    (refusal, more ++ refused (schema_at value), ap (λ b. faults_at b value) based ∙ ap (λ l. l ++ refused (schema_at value)) is, says)
+first_of_reference base uri value (Memory error) based is = tt
+
+-- ---- what a place wants, where its base is known
+
+pub wants_where : (base : Result (List ℕ) Refusal) (uri : List ℕ) (value : Data) (ws : List Want) → base ≡ Ok uri
+    → (ws ++ wanted Reference (reference_at uri value)) ++ wanted MetaSchema (schema_at value) ≡ ws ++ wants_at base value
+wants_where base uri value ws based =
+    append_assoc ws (wanted Reference (reference_at uri value)) (wanted MetaSchema (schema_at value)) ∙ ap (λ b. ws ++ wants_at b value) (sym based)

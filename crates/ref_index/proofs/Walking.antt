@@ -1,0 +1,159 @@
+-- The walk, place by place, over plain values.
+use Rattle.std.proofs.Common.{◌≡◌, ℕ, zero, suc, ◌+◌, ◌<◌, ◌≤◌, List, [], ◌∷◌, ◌++◌, map, flat_map, take, drop, length, Option, Some, None, Result, Ok, Err, refl, sym, ap, ◌∙◌, subst, append_assoc, append-nil, arith, length-append}
+use Rattle.std.specs.Prelude.{slice_get, option_and_then}
+use Rattle.std.proofs.lemmas.Option.{get_or_from_slice_get}
+use Rattle.std.proofs.lemmas.List.{take_more, drop_more, drop_all, take-append-le, drop-append-le, map-append, flat_map_more, length-take-le, length-map}
+use Rattle.std.proofs.lemmas.Grind.{flat_map-append}
+use Rattle.serde_json.specs.Data.{Data}
+use Rattle.serde_json.specs.View.{view}
+use Rattle.ref_parts.specs.Path.{Part, child_at, value_at}
+use Rattle.ref_draft.specs.Children.{Walked, AllStand, walked}
+use Rattle.ref_uri.specs.Targets.{Refusal}
+use Rattle.ref_uri.specs.declared.error.UriFault.{UriFault}
+use Rattle.ref_uri.specs.declared.error.UriFault.TheVariants.{Invalid, Memory}
+use Rattle.referencing.specs.World.{Document}
+use Rattle.referencing.specs.Places.{Place, root, child_place, children_with, children_of, places}
+use Rattle.referencing.specs.Resources.{resource_of}
+use Rattle.referencing.specs.Anchors.{named_under}
+use Rattle.ref_index.specs.declared.found.Found.{Found}
+use Rattle.ref_index.specs.declared.queue.Visit.{Visit}
+use Rattle.ref_index.specs.Queue.{place_of, IsQueue}
+use Rattle.ref_index.specs.Visits.{IsFirstFault, IsVisited, IsWalked, AllStandIn, IsAt, faults_of, names_of, wants_of}
+use Rattle.ref_index.proofs.Visiting.{holds_same}
+use Rattle.ref_index.proofs.Queues.{at_root, step, at_end, beginning}
+
+-- ---- values at paths
+
+along : (p q : List Part) (next : Option Data) (d : Data) → next ≡ Some d → option_and_then (λ e. value_at e q) next ≡ value_at d q
+along p q next d is = ap (option_and_then (λ e. value_at e q)) is
+
+by_child : (p q : List Part) → ((e : Data) → value_at e (p ++ q) ≡ option_and_then (λ f. value_at f q) (value_at e p)) → (o : Option Data)
+    → option_and_then (λ e. value_at e (p ++ q)) o ≡ option_and_then (λ e. value_at e q) (option_and_then (λ e. value_at e p) o)
+by_child p q each None = refl
+by_child p q each (Some e) = each e
+
+behind : (t : Data) (p q : List Part) → value_at t (p ++ q) ≡ option_and_then (λ e. value_at e q) (value_at t p)
+behind t [] q = refl
+behind t (part ∷ p) q = by_child p q (λ e. behind e p q) (child_at t part)
+
+children_stand : (d : Document) (path : List Part) (base : List ℕ) (value : Data) (cs : List Walked) → value_at d.tree path ≡ Some value → AllStand value cs → AllStandIn d (map (child_place path base) cs)
+children_stand d path base value [] at all = tt
+children_stand d path base value (child ∷ cs) at all =
+    (behind d.tree path child.path ∙ along path child.path (value_at d.tree path) value at ∙ all.0, children_stand d path base value cs at all.1)
+
+place_children_stand : (d : Document) (p : Place) (base : Result (List ℕ) Refusal) → value_at d.tree p.path ≡ Some p.value → AllStand p.value (walked p.draft p.value) → AllStandIn d (children_with base p)
+place_children_stand d p (Ok base) at all = children_stand d p.path base p.value (walked p.draft p.value) at all
+place_children_stand d p (Err refusal) at all = tt
+
+all_behind : (d : Document) (ps qs : List Place) → AllStandIn d ps → AllStandIn d qs → AllStandIn d (ps ++ qs)
+all_behind d [] qs front back = back
+all_behind d (p ∷ ps) qs front back = (front.0, all_behind d ps qs front.1 back)
+
+stands_at : (d : Document) (vs : List Visit) (i : ℕ) (v : Visit) → slice_get vs i ≡ Some v → AllStandIn d (map place_of vs) → value_at d.tree (place_of v).path ≡ Some (place_of v).value
+stands_at d [] i v at all = cc
+stands_at d (w ∷ vs) zero v at all = let same : w ≡ v = cc in subst (λ u. value_at d.tree (place_of u).path ≡ Some (place_of u).value) same all.0
+stands_at d (w ∷ vs) (suc i) v at all = stands_at d vs i v at all.1
+
+-- ---- the first fault
+
+pub first_in_front : (fs gs : List Refusal) (fault : UriFault) → IsFirstFault fs fault → IsFirstFault (fs ++ gs) fault
+first_in_front fs gs (Invalid error) (refusal, more, is, says) = (refusal, more ++ gs, ap (λ l. l ++ gs) is, says)
+first_in_front fs gs (Memory error) is = tt
+
+-- the first fault of the place that is visited, where none before it has one
+pub first_of_visit : (d : Document) (visited waiting : List Place) (p : Place) (fault : UriFault) → IsQueue d visited (p ∷ waiting) → flat_map faults_of visited ≡ []
+    → IsFirstFault (faults_of p) fault → IsFirstFault (flat_map faults_of (places d)) fault
+first_of_visit d visited waiting p fault is none first =
+    let left = beginning d visited (p ∷ waiting) is in
+    let split : flat_map faults_of (places d) ≡ faults_of p ++ flat_map faults_of (waiting ++ left.0) =
+    ap (flat_map faults_of) left.1 ∙ flat_map-append faults_of visited (p ∷ (waiting ++ left.0)) ∙ ap (λ l. l ++ flat_map faults_of (p ∷ (waiting ++ left.0))) none in
+    subst (λ l. IsFirstFault l fault) (sym split) (first_in_front (faults_of p) (flat_map faults_of (waiting ++ left.0)) fault first)
+
+-- ---- the queue at a head
+
+pub head_is : (vs : List Visit) (i : ℕ) (v : Visit) → i < length vs → slice_get vs i ≡ Some v → map place_of (drop i vs) ≡ place_of v ∷ map place_of (drop (i + 1) vs)
+head_is vs i v within at =
+    ap (map place_of) (drop_more vs i v within ∙ ap (λ w. w ∷ drop (i + 1) vs) (get_or_from_slice_get vs i v v at))
+
+visited_is : (vs more : List Visit) (i : ℕ) (v : Visit) → i < length vs → slice_get vs i ≡ Some v → map place_of (take (i + 1) (vs ++ more)) ≡ map place_of (take i vs) ++ place_of v ∷ []
+visited_is vs more i v within at =
+    ap (map place_of) (take-append-le (i + 1) vs more (omega arith) ∙ take_more vs i v within ∙ ap (λ w. take i vs ++ w ∷ []) (get_or_from_slice_get vs i v v at))
+    ∙ map-append place_of (take i vs) (v ∷ [])
+
+waiting_is : (vs more : List Visit) (i : ℕ) → i < length vs → map place_of (drop (i + 1) (vs ++ more)) ≡ map place_of (drop (i + 1) vs) ++ map place_of more
+waiting_is vs more i within = ap (map place_of) (drop-append-le (i + 1) vs more (omega arith)) ∙ map-append place_of (drop (i + 1) vs) more
+
+-- ---- one place more
+
+added_more : {A : Type 0} (f : Place → List A) (front : List A) (x : List A) (visited : List Place) (p : Place) → (front ++ (x ++ flat_map f visited)) ++ f p ≡ front ++ (x ++ flat_map f (visited ++ p ∷ []))
+added_more f front x visited p =
+    append_assoc front (x ++ flat_map f visited) (f p) ∙ ap (λ l. front ++ l) (flat_map_more f x visited p)
+
+pub walked_more : (d : Document) (number : ℕ) (old new newer : Found) (visited : List Place) (v : Visit) (queue after : List Visit) → value_at d.tree (place_of v).path ≡ Some (place_of v).value
+    → IsWalked d number old new visited → IsVisited number None v new newer queue after → IsWalked d number old newer (visited ++ place_of v ∷ [])
+walked_more d number old new newer visited v queue after at walk visit = record {
+  added = λ layer rs ns ws numbered held.
+      holds_same layer newer _ _ _ _ _ _ (added_more resource_of rs ((d.uri, root d) ∷ []) visited (place_of v))
+      (added_more names_of ns (named_under d.uri (root d)) visited (place_of v)) (added_more wants_of ws [] visited (place_of v))
+      (visit.added layer _ _ _ (walk.added layer rs ns ws numbered held) (record { document = d; numbered = numbered; value = at }));
+  faultless = flat_map-append faults_of visited (place_of v ∷ []) ∙ ap (λ l. l ++ (faults_of (place_of v) ++ [])) walk.faultless ∙ append-nil (faults_of (place_of v)) ∙ visit.faultless;
+}
+
+grown_stand : (d : Document) (vs more : List Visit) (v : Visit) → value_at d.tree (place_of v).path ≡ Some (place_of v).value → AllStandIn d (map place_of vs)
+    → map place_of more ≡ children_of (place_of v) → AllStand (view v.value.now) (walked v.draft (view v.value.now)) → AllStandIn d (map place_of (vs ++ more))
+grown_stand d vs more v at all children stand =
+    subst (AllStandIn d) (sym (map-append place_of vs more))
+    (all_behind d (map place_of vs) (map place_of more) all (subst (AllStandIn d) (sym children) (place_children_stand d (place_of v) (place_of v).base at stand)))
+
+pub advance : (d : Document) (number : ℕ) (old new newer : Found) (queue after : List Visit) (head : ℕ) (v : Visit) → head < length queue → slice_get queue head ≡ Some v
+    → IsAt d number old new queue head → IsVisited number None v new newer queue after → IsAt d number old newer after (head + 1)
+advance d number old new newer queue after head v within here is visit =
+    let at = stands_at d queue head v here is.stand in
+    let vs = queue ++ visit.more in
+    let front = visited_is queue visit.more head v within here in
+    let moved = step d (map place_of (take head queue)) (map place_of (drop (head + 1) queue)) (place_of v) (subst (IsQueue d (map place_of (take head queue))) (head_is queue head v within here) is.order) in
+    let rest : map place_of (drop (head + 1) queue) ++ children_of (place_of v) ≡ map place_of (drop (head + 1) vs) = sym (waiting_is queue visit.more head within ∙ ap (λ l. map place_of (drop (head + 1) queue) ++ l) visit.children) in
+    let result : IsAt d number old newer vs (head + 1) = record {
+      within = omega (arith, length-append queue visit.more);
+      order = subst (λ l. IsQueue d l (map place_of (drop (head + 1) vs))) (sym front) (subst (IsQueue d (map place_of (take head queue) ++ place_of v ∷ [])) rest moved);
+      stand = grown_stand d queue visit.more v at is.stand visit.children visit.stand;
+      walk = subst (IsWalked d number old newer) (sym front) (walked_more d number old new newer (map place_of (take head queue)) v queue after at is.walk visit);
+    } in
+    subst (λ l. IsAt d number old newer l (head + 1)) (sym visit.grown) result
+
+-- the root is the first
+pub begin : (d : Document) (number : ℕ) (old new : Found) (queue after : List Visit) (v : Visit) → queue ≡ v ∷ [] → place_of v ≡ root d → IsVisited number (Some d.uri) v old new queue after → IsAt d number old new after 1
+begin d number old new queue after v one is visit =
+    let at : value_at d.tree (place_of v).path ≡ Some (place_of v).value = subst (λ p. value_at d.tree p.path ≡ Some p.value) (sym is) refl in
+    let vs = v ∷ visit.more in
+    let same : vs ≡ after = sym (visit.grown ∙ ap (λ l. l ++ visit.more) one) in
+    let order : IsQueue d (place_of v ∷ []) (map place_of visit.more) =
+    subst (IsQueue d (place_of v ∷ [])) (sym visit.children) (step d [] [] (place_of v) (subst (λ p. IsQueue d [] (p ∷ [])) (sym is) (at_root d))) in
+    let result : IsAt d number old new vs 1 = record {
+      within = omega arith;
+      order = order;
+      stand = grown_stand d (v ∷ []) visit.more v at (at, tt) visit.children visit.stand;
+      walk = record {
+        added = λ layer rs ns ws numbered held.
+            holds_same layer new _ _ _ _ _ _
+            (ap (λ p. rs ++ (d.uri, p) ∷ resource_of (place_of v)) is ∙ ap (λ l. rs ++ (d.uri, root d) ∷ l) (sym (append-nil (resource_of (place_of v)))))
+            (ap (λ p. ns ++ (named_under d.uri p ++ names_of (place_of v))) is ∙ ap (λ l. ns ++ (named_under d.uri (root d) ++ l)) (sym (append-nil (names_of (place_of v)))))
+            (ap (λ l. ws ++ l) (sym (append-nil (wants_of (place_of v)))))
+            (visit.added layer rs ns ws held (record { document = d; numbered = numbered; value = at }));
+        faultless = append-nil (faults_of (place_of v)) ∙ visit.faultless;
+      };
+    } in
+    subst (λ l. IsAt d number old new l 1) same result
+
+-- ---- the end
+
+pub finish : (d : Document) (number : ℕ) (old new : Found) (queue : List Visit) (head : ℕ) → length queue ≤ head → IsAt d number old new queue head → IsWalked d number old new (places d)
+finish d number old new queue head all is =
+    subst (IsWalked d number old new)
+    (sym (at_end d (map place_of (take head queue)) (subst (λ l. IsQueue d (map place_of (take head queue)) (map place_of l)) (drop_all head queue all) is.order))) is.walk
+
+pub left : (d : Document) (number : ℕ) (old new : Found) (queue : List Visit) (head : ℕ) (v : Visit) → head < length queue → slice_get queue head ≡ Some v → IsAt d number old new queue head → head < length (places d)
+left d number old new queue head v within here is =
+    let some = beginning d (map place_of (take head queue)) (place_of v ∷ map place_of (drop (head + 1) queue)) (subst (IsQueue d (map place_of (take head queue))) (head_is queue head v within here) is.order) in
+    let long : length (places d) ≡ length (map place_of (take head queue)) + suc (length (map place_of (drop (head + 1) queue) ++ some.0)) = ap length some.1 ∙ length-append (map place_of (take head queue)) _ in
+    omega (arith, length-map (take head queue) place_of, length-take-le head queue (omega arith))

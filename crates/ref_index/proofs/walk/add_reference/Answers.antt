@@ -1,0 +1,12 @@
+use Rattle.std.proofs.Common.{◌≡◌, ◌++◌, ◌∷◌, [], subst, sym, rules}
+use Rattle.serde_json.specs.View.{view}
+use Rattle.referencing.specs.Wants as wants
+use Rattle.referencing.specs.Wants.{Want, wanted, reference_at}
+use Rattle.ref_index.specs.Found.{Holds}
+use Rattle.ref_index.proofs.walk.add_reference.Goals as goal
+
+pub returns-clause-added : goal.returns-clause-added
+returns-clause-added c = λ layer rs ns ws held.
+    let want : Want = record { cause = wants.Reference; uri = c.in_ok-uri.uri.value } in
+    let is : wanted wants.Reference (reference_at c.args.base.now.value (view c.args.value.now)) ≡ want ∷ [] = search rules in
+    subst (λ more. Holds layer c.add_want.new.self rs ns (ws ++ more)) (sym is) (c.in_ok-add_want.ensures.added layer rs ns ws held)

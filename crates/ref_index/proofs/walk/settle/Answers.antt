@@ -1,0 +1,36 @@
+use Rattle.std.proofs.Common.{◌≡◌, ◌++◌, refl, ap, ◌∙◌, option_map, Ok, rules, subst}
+use Rattle.ref_draft.specs.Views.{id_of}
+use Rattle.ref_uri.specs.Errors.{IsFaultOf}
+use Rattle.referencing.specs.Places.{base_within}
+use Rattle.referencing.specs.Wants.{Reference, wanted, reference_at}
+use Rattle.ref_index.specs.Queue.{place_of}
+use Rattle.ref_index.specs.Visits.{resources_at, names_at}
+use Rattle.ref_index.proofs.Visiting.{first_of_base, first_of_reference, wants_where, holds_same}
+use Rattle.ref_index.proofs.walk.settle.Goals as goal
+
+pub returns-in_err-base-clause-fault : goal.returns-in_err-base-clause-fault
+returns-in_err-base-clause-fault c =
+    let p = place_of c.args.place.now in
+    let outer = c.args.place.now.outer.value in
+    let fault = first_of_base p.base p.value c.in_err-base.field-0.0 (subst (λ id. IsFaultOf (base_within outer id) c.in_err-base.field-0.0) (c.id-id.ensures.value ∙ ap id_of c.new.ensures.value) c.in_err-base.ensures.fault) in
+    search rules
+
+pub returns-in_err-add_reference-clause-fault : goal.returns-in_err-add_reference-clause-fault
+returns-in_err-add_reference-clause-fault c =
+    let p = place_of c.args.place.now in
+    let based : p.base ≡ Ok c.in_ok-base.base.value = search rules in
+    let fault = first_of_reference p.base c.in_ok-base.base.value p.value c.in_err-add_reference.field-0.0 based c.in_err-add_reference.ensures.fault in
+    search rules
+
+pub returns-clause-added : goal.returns-clause-added
+returns-clause-added c = λ layer rs ns ws held stands.
+    let p = place_of c.args.place.now in
+    let under = option_map (λ text. text.now) c.args.under in
+    let base = c.in_ok-base.base.value in
+    let based : p.base ≡ Ok base = search rules in
+    let rs' = rs ++ resources_at under p in
+    let ns' = ns ++ names_at under p in
+    let placed = c.in_ok-add_place.ensures layer rs ns ws held stands based in
+    let referred = c.in_ok-add_reference.ensures.added layer rs' ns' ws placed in
+    holds_same layer c.add_meta_schema.new.found rs' rs' ns' ns' _ _ refl refl (wants_where p.base base p.value ws based)
+    (c.in_ok-add_meta_schema.ensures.added layer rs' ns' (ws ++ wanted Reference (reference_at base p.value)) referred)

@@ -1,0 +1,25 @@
+use Rattle.std.proofs.Common.{◌≡◌, ◌∙◌, Ok, sym, ap, subst, map, option_map, rules}
+use Rattle.std.proofs.lemmas.Option.{get_or_from_slice_get}
+use Rattle.serde_json.specs.View.{view}
+use Rattle.ref_draft.specs.Children.{walked}
+use Rattle.referencing.specs.Places.{child_place, children_with}
+use Rattle.ref_index.specs.Queue.{place_of}
+use Rattle.ref_index.specs.Visits.{IsVisited}
+use Rattle.ref_index.proofs.walk.visit.Goals as goal
+
+pub returns-clause-ok : goal.returns-clause-ok
+returns-clause-ok c = λ v at.
+    let w = c.index-place.result.now in
+    let same : w ≡ v = c.index-place.ensures ∙ get_or_from_slice_get c.args.queue.now.items c.args.head v w at in
+    let based : (place_of w).base ≡ Ok c.in_ok-base.base.value = c.in_ok-base.ensures.base in
+    let path : c.in_ok-path.path ≡ w.path = search rules in
+    let pushed = c.in_ok-push_children.ensures in
+    let visited : IsVisited c.args.number (option_map (λ text. text.now) c.args.under) w c.args.found.now c.settle.new.found c.args.queue.now.items c.push_children.new.queue.items = record {
+      added = c.in_ok-base.ensures.added;
+      faultless = c.in_ok-base.ensures.faultless;
+      more = pushed.0;
+      grown = pushed.1;
+      children = pushed.2 ∙ ap (λ l. map (child_place l c.in_ok-base.base.value) (walked w.draft (view w.value.now))) path ∙ ap (λ b. children_with b (place_of w)) (sym based);
+      stand = pushed.3;
+    } in
+    subst (λ u. IsVisited c.args.number (option_map (λ text. text.now) c.args.under) u c.args.found.now c.settle.new.found c.args.queue.now.items c.push_children.new.queue.items) same visited

@@ -1,0 +1,63 @@
+-- That what the walk has found is what the definitions list.
+use Rattle.std.specs.Prelude.{◌≡◌, ℕ, List, [], map, string_bytes, slice_get, Bool, true, false, Some, Ok, String}
+use Rattle.std.specs.List.{AllZip, list_any}
+use Rattle.std.specs.Str.{bytes_eq}
+use Rattle.std.specs.HashSet.{contains_text}
+use Rattle.std.specs.declared.alloc.Global.{Global}
+use Rattle.std.specs.declared.rc.Rc.{Rc}
+use Rattle.ref_parts.specs.Path.{value_at}
+use Rattle.ref_draft.specs.Anchors.{Kind, Plain, Dynamic}
+use Rattle.referencing.specs.World.{Document, Layer}
+use Rattle.referencing.specs.Places.{Place}
+use Rattle.referencing.specs.Anchors.{Named}
+use Rattle.referencing.specs.Wants as wants
+use Rattle.referencing.specs.Wants.{Want as Wanted}
+use Rattle.ref_index.specs.declared.entry.Entry.{Entry}
+use Rattle.ref_index.specs.declared.entry.NamedEntry.{NamedEntry}
+use Rattle.ref_index.specs.declared.found.Found.{Found}
+use Rattle.ref_index.specs.declared.found.Want.{Want}
+use Rattle.ref_index.specs.declared.found.Cause.{Cause}
+use Rattle.ref_index.specs.declared.found.Cause.TheVariants.{Reference, MetaSchema}
+use Rattle.ref_index.specs.Parts.{part_of}
+
+-- an entry tells a place of one of a layer's documents, where the path leads to the place's value
+pub record IsEntryOf (layer : Layer) (e : Entry) (p : Place) : Type 0 where
+  pub document : Document
+  pub numbered : slice_get layer e.document ≡ Some document
+  pub path : map part_of e.path.items ≡ p.path
+  pub value : value_at document.tree p.path ≡ Some p.value
+  pub draft : e.draft ≡ p.draft
+  pub base : p.base ≡ Ok e.base.value
+
+-- an entry under a URI is that of a resource
+abbrev pub IsResourceOf : Layer → String Global × String Global × Rc Entry Global → List ℕ × Place → Type 0
+IsResourceOf layer t r = (string_bytes t.0 ≡ r.0) × (string_bytes t.1 ≡ []) × IsEntryOf layer t.2.value r.1
+
+-- an anchor's kind
+abbrev pub kind_of : Bool → Kind
+kind_of true = Dynamic
+kind_of false = Plain
+
+-- the entry of an anchor of a place under a URI
+abbrev pub name_entry : List ℕ → Place → List ℕ × Kind → Named
+name_entry uri p a = record { uri = uri; name = a.0; kind = a.1; place = p }
+
+-- an entry under a URI and a name is that of an anchor
+abbrev pub IsNameOf : Layer → String Global × String Global × NamedEntry → Named → Type 0
+IsNameOf layer t n = (string_bytes t.0 ≡ n.uri) × (string_bytes t.1 ≡ n.name) × (kind_of t.2.is_dynamic ≡ n.kind) × IsEntryOf layer t.2.entry.value n.place
+
+-- why a URI is wanted
+abbrev pub cause_of : Cause → wants.Cause
+cause_of Reference = wants.Reference
+cause_of MetaSchema = wants.MetaSchema
+
+-- a want
+abbrev pub want_of : Want → Wanted
+want_of w = record { cause = cause_of w.cause; uri = w.uri.value }
+
+-- What was found is these resources, names and wants, in their order; the set of URIs is that of the resources.
+pub record Holds (layer : Layer) (f : Found) (resources : List (List ℕ × Place)) (names : List Named) (wants : List Wanted) : Type 0 where
+  pub by_uri : AllZip (IsResourceOf layer) f.resources.items resources
+  pub by_name : AllZip (IsNameOf layer) f.names.items names
+  pub wanted : map want_of f.wants.items ≡ wants
+  pub known : (uri : List ℕ) → contains_text f.identified uri ≡ list_any (λ r. bytes_eq r.0 uri) resources

@@ -1,0 +1,28 @@
+-- The queue of the walk, for private clauses: what was found of a document's places is a beginning of them.
+use Rattle.std.specs.Prelude.{◌≡◌, ℕ, ◌≤◌, List, ◌++◌, flat_map}
+use Rattle.serde_json.specs.Data.{depth}
+use Rattle.serde_json.specs.View.{view}
+use Rattle.ref_draft.specs.Schema.{identifier}
+use Rattle.referencing.specs.World.{Document}
+use Rattle.referencing.specs.Places.{Place, base_within, children_of, levels_below, places}
+use Rattle.ref_index.specs.declared.queue.Visit.{Visit}
+
+-- the place of a visit
+abbrev pub place_of : Visit → Place
+place_of v = record {
+  path = v.path;
+  value = view v.value.now;
+  draft = v.draft;
+  base = base_within v.outer.value (identifier v.draft (view v.value.now));
+}
+
+-- the rest of a level, then the level below it, of which the beginning was found, and the m levels below that
+abbrev pub left_from : ℕ → List Place → List Place → List Place
+left_from m level next = level ++ ((next ++ flat_map children_of level) ++ levels_below m (next ++ flat_map children_of level))
+
+-- Some places were visited, and some wait: the rest of a level, then what was found of the next one.
+pub record IsQueue (d : Document) (visited waiting : List Place) : Type 0 where
+  pub level : List Place
+  pub next : List Place
+  pub split : waiting ≡ level ++ next
+  pub whole : (m : ℕ) → depth d.tree ≤ m → places d ≡ visited ++ left_from m level next

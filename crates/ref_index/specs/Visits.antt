@@ -1,0 +1,87 @@
+-- What one visited place adds, for private clauses.
+use Rattle.std.specs.Prelude.{◌≡◌, ℕ, List, [], ◌∷◌, ◌++◌, ◌≤◌, map, flat_map, take, drop, length, ⊤, slice_get, Option, Some, None}
+use Rattle.serde_json.specs.View.{view}
+use Rattle.std.specs.List.{AllByRecursion}
+use Rattle.ref_parts.specs.Path.{value_at}
+use Rattle.ref_uri.specs.Targets.{Refusal}
+use Rattle.ref_uri.specs.Errors.{SaysRefusal}
+use Rattle.ref_uri.specs.declared.error.UriFault.{UriFault}
+use Rattle.ref_uri.specs.declared.error.UriFault.TheVariants.{Invalid, Memory}
+use Rattle.referencing.specs.World.{Document, Layer}
+use Rattle.referencing.specs.Places.{Place, root, children_of}
+use Rattle.referencing.specs.Resources.{resource_of}
+use Rattle.referencing.specs.Anchors.{Named, named_under, named_by}
+use Rattle.referencing.specs.Wants.{Want, wants_at, faults_at}
+use Rattle.ref_draft.specs.Children.{AllStand, walked}
+use Rattle.ref_index.specs.declared.found.Found.{Found}
+use Rattle.ref_index.specs.declared.queue.Visit.{Visit}
+use Rattle.ref_index.specs.Found.{Holds}
+use Rattle.ref_index.specs.Queue.{place_of, IsQueue}
+
+-- the first of these faults, or want of memory
+abbrev pub IsFirstFault : List Refusal → UriFault → Type 0
+IsFirstFault faults (Invalid error) = (refusal : Refusal) × (more : List Refusal) × (faults ≡ refusal ∷ more) × SaysRefusal error refusal
+IsFirstFault faults (Memory error) = ⊤
+
+-- the place stands in the document with this number
+pub record StandsIn (layer : Layer) (number : ℕ) (p : Place) : Type 0 where
+  pub document : Document
+  pub numbered : slice_get layer number ≡ Some document
+  pub value : value_at document.tree p.path ≡ Some p.value
+
+-- a place under a URI of a document, where there is one
+abbrev pub under_document : Option (List ℕ) → Place → List (List ℕ × Place)
+under_document None p = []
+under_document (Some uri) p = (uri, p) ∷ []
+
+-- the entries of a place, that under a URI of its document first
+abbrev pub resources_at : Option (List ℕ) → Place → List (List ℕ × Place)
+resources_at under p = under_document under p ++ resource_of p
+
+-- the names of a place under a URI of a document, where there is one
+abbrev pub names_under : Option (List ℕ) → Place → List Named
+names_under None p = []
+names_under (Some uri) p = named_under uri p
+
+-- the names of a place, those under a URI of its document first
+abbrev pub names_at : Option (List ℕ) → Place → List Named
+names_at under p = names_under under p ++ named_by p p.base
+
+-- the faults of a place
+abbrev pub faults_of : Place → List Refusal
+faults_of p = faults_at p.base p.value
+
+-- what a place wants
+abbrev pub wants_of : Place → List Want
+wants_of p = wants_at p.base p.value
+
+-- its names under its base
+abbrev pub names_of : Place → List Named
+names_of p = named_by p p.base
+
+-- A place was visited: what it is identified by, is named and wants was added, it has no fault, and its children came to the queue.
+pub record IsVisited (number : ℕ) (under : Option (List ℕ)) (v : Visit) (old new : Found) (queue after : List Visit) : Type 0 where
+  pub added : (layer : Layer) (rs : List (List ℕ × Place)) (ns : List Named) (ws : List Want) → Holds layer old rs ns ws → StandsIn layer number (place_of v)
+      → Holds layer new (rs ++ resources_at under (place_of v)) (ns ++ names_at under (place_of v)) (ws ++ wants_of (place_of v))
+  pub faultless : faults_of (place_of v) ≡ []
+  pub more : List Visit
+  pub grown : after ≡ queue ++ more
+  pub children : map place_of more ≡ children_of (place_of v)
+  pub stand : AllStand (view v.value.now) (walked v.draft (view v.value.now))
+
+-- Places of a document were visited from the root on: what they are identified by, are named and want was added, and none has a fault.
+pub record IsWalked (d : Document) (number : ℕ) (old new : Found) (visited : List Place) : Type 0 where
+  pub added : (layer : Layer) (rs : List (List ℕ × Place)) (ns : List Named) (ws : List Want) → slice_get layer number ≡ Some d → Holds layer old rs ns ws
+      → Holds layer new (rs ++ (d.uri, root d) ∷ flat_map resource_of visited) (ns ++ (named_under d.uri (root d) ++ flat_map names_of visited)) (ws ++ flat_map wants_of visited)
+  pub faultless : flat_map faults_of visited ≡ []
+
+-- each place's value stands at its path
+abbrev pub AllStandIn : Document → List Place → Type 0
+AllStandIn d ps = AllByRecursion (λ p. value_at d.tree p.path ≡ Some p.value) ps
+
+-- what holds of the queue before each visit
+pub record IsAt (d : Document) (number : ℕ) (old new : Found) (queue : List Visit) (head : ℕ) : Type 0 where
+  pub within : head ≤ length queue
+  pub order : IsQueue d (map place_of (take head queue)) (map place_of (drop head queue))
+  pub stand : AllStandIn d (map place_of queue)
+  pub walk : IsWalked d number old new (map place_of (take head queue))

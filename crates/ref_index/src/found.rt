@@ -1,0 +1,152 @@
+//! What the walk over documents has found: which URIs and names mean which places, and what is wanted.
+ghost use Rattle.std.specs.Prelude.{◌≡◌, ℕ, List, [], ◌∷◌, ◌++◌, OnOk, if◌then◌else◌, true};
+ghost use Rattle.std.specs.HashSet.{contains_text};
+ghost use Rattle.std.specs.Str.{bytes_eq};
+ghost use Rattle.ref_draft.specs.Views.{anchor_name, resource_ref, tagged};
+ghost use Rattle.referencing.specs.World.{Layer};
+ghost use Rattle.referencing.specs.Places.{Place};
+ghost use Rattle.referencing.specs.Anchors.{Named, named_under};
+ghost use Rattle.referencing.specs.Wants.{Want as Wanted};
+ghost use Rattle.ref_index.specs.Found.{Holds, IsEntryOf, cause_of, kind_of, name_entry};
+
+use crate::entry::{Entry, NamedEntry};
+use ref_draft::{Anchor, AnchorIter, ResourceRef};
+use ref_uri::Uri;
+use std::alloc::{AllocError, Global};
+use std::collections::HashSet;
+use std::rc::Rc;
+
+/// Why a URI is wanted.
+#[derive(Debug, Clone, Copy, PartialEq, Eq)]
+pub enum Cause {
+    /// A schema refers to it.
+    Reference,
+    /// A schema names it as its meta-schema.
+    MetaSchema,
+}
+
+/// A URI that is wanted, and why.
+#[derive(Drop)]
+pub struct Want {
+    pub cause: Cause,
+    pub uri: Rc<Uri>,
+}
+
+/// What was found so far, in the order of documents and places.
+#[derive(Drop)]
+pub struct Found {
+    /// The places that URIs identify, each under its URI and the empty text.
+    pub resources: Vec<(String, String, Rc<Entry>)>,
+    /// The places that anchors name, each under its URI and name.
+    pub names: Vec<(String, String, NamedEntry)>,
+    /// What is wanted.
+    pub wants: Vec<Want>,
+    /// The URIs that identify places.
+    pub identified: HashSet<String>,
+}
+
+impl Found {
+    /// Nothing. Takes no memory.
+    pub fn new(alloc: Global) -> Found
+        ensures empty { (layer : Layer) → Holds layer result [] [] [] }
+    {
+        Found {
+            resources: Vec::new(alloc),
+            names: Vec::new(alloc),
+            wants: Vec::new(alloc),
+            identified: HashSet::new(alloc),
+        }
+    }
+
+    /// Adds that a URI identifies a place. Takes memory for the text of the URI, and is refused where there is none.
+    pub fn add_resource(
+        &mut self,
+        alloc: Global,
+        uri: &str,
+        entry: &Rc<Entry>,
+    ) -> Result<(), AllocError>
+        ensures added { (layer : Layer) (rs : List (List ℕ × Place)) (ns : List Named) (ws : List Wanted) (p : Place)
+            → Holds layer self.old rs ns ws → IsEntryOf layer entry.now.value p
+            → OnOk result (Holds layer self.new (rs ++ (uri.now, p) ∷ []) ns ws) }
+    {
+        identify(alloc, &mut self.identified, uri)?;
+        let text = String::from_str(alloc, uri)?;
+        let entry = entry.clone()?;
+        self.resources.push((text, String::new(alloc), entry))?;
+        Ok(())
+    }
+
+    // Adds that an anchor names a place.
+    fn add_name(
+        &mut self,
+        alloc: Global,
+        uri: &str,
+        entry: &Rc<Entry>,
+        anchor: Anchor<'_>,
+    ) -> Result<(), AllocError>
+        ensures { (layer : Layer) (rs : List (List ℕ × Place)) (ns : List Named) (ws : List Wanted) (p : Place)
+            → Holds layer self.old rs ns ws → IsEntryOf layer entry.now.value p
+            → OnOk result (Holds layer self.new rs (ns ++ name_entry uri.now p (anchor_name anchor.entry) ∷ []) ws) }
+    {
+        let is_dynamic = is_dynamic(&anchor);
+        let name = String::from_str(alloc, anchor.name())?;
+        let uri = String::from_str(alloc, uri)?;
+        let entry = entry.clone()?;
+        self.names
+            .push((uri, name, NamedEntry { is_dynamic, entry }))?;
+        Ok(())
+    }
+
+    /// Adds the anchors of a place under a URI. Takes memory for the texts of the URI and of each name.
+    pub fn add_names(
+        &mut self,
+        alloc: Global,
+        uri: &str,
+        entry: &Rc<Entry>,
+        resource: ResourceRef<'_>,
+    ) -> Result<(), AllocError>
+        ensures added { (layer : Layer) (rs : List (List ℕ × Place)) (ns : List Named) (ws : List Wanted) (p : Place)
+            → Holds layer self.old rs ns ws → IsEntryOf layer entry.now.value p → resource_ref resource.entry ≡ tagged p.draft p.value
+            → OnOk result (Holds layer self.new rs (ns ++ named_under uri.now p) ws) }
+    {
+        match resource.draft().anchors(resource.contents()) {
+            AnchorIter::Empty => Ok(()),
+            AnchorIter::One(anchor) => self.add_name(alloc, uri, entry, anchor),
+            AnchorIter::Two(plain, dynamic) => {
+                self.add_name(alloc, uri, entry, plain)?;
+                self.add_name(alloc, uri, entry, dynamic)
+            }
+        }
+    }
+
+    /// Adds a want.
+    pub fn add_want(&mut self, cause: Cause, uri: Rc<Uri>) -> Result<(), AllocError>
+        ensures added { (layer : Layer) (rs : List (List ℕ × Place)) (ns : List Named) (ws : List Wanted)
+            → Holds layer self.old rs ns ws
+            → OnOk result (Holds layer self.new rs ns (ws ++ record { cause = cause_of cause; uri = uri.value } ∷ [])) }
+    {
+        self.wants.push(Want { cause, uri })?;
+        Ok(())
+    }
+}
+
+// Adds a URI to those that identify places.
+fn identify(alloc: Global, identified: &mut HashSet<String>, uri: &str) -> Result<(), AllocError>
+    ensures { (u : List ℕ) → OnOk result (contains_text identified.new u ≡ (if bytes_eq uri.now u then true else contains_text identified.old u)) }
+{
+    if identified.contains(uri) {
+        return Ok(());
+    }
+    identified.insert(String::from_str(alloc, uri)?)?;
+    Ok(())
+}
+
+// Whether an anchor is a dynamic one.
+fn is_dynamic(anchor: &Anchor<'_>) -> bool
+    ensures { kind_of result ≡ (anchor_name anchor.now).1 }
+{
+    match anchor {
+        Anchor::Dynamic { .. } => true,
+        Anchor::Default { .. } => false,
+    }
+}

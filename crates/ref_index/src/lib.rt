@@ -1,0 +1,17 @@
+//! The walk over documents: the places where schemas stand, what identifies them, and what they want.
+//!
+//! A document's own text stays where it is. Read `specs/Views.antt` first, which says what contracts see of the types here.
+#![tactic(auto)]
+
+pub mod document;
+pub mod entry;
+pub mod found;
+pub mod path;
+mod queue;
+pub mod reference;
+pub mod walk;
+
+pub use document::{Contents, Document};
+pub use entry::{Entry, NamedEntry};
+pub use found::{Found, Want};
+pub use path::PathPart;

@@ -1,0 +1,330 @@
+//! The walk over the places of a document.
+ghost use Rattle.std.specs.Prelude.{◌≡◌, ◌<◌, ℕ, List, [], ◌∷◌, ◌++◌, map, flat_map, length, option_map, slice_get, false, Some, Ok, OnOk, IfOk, IfErr};
+ghost use Rattle.serde_json.specs.View.{view};
+ghost use Rattle.ref_parts.specs.Path.{value_at};
+ghost use Rattle.ref_draft.specs.Schema.{identifier, text_under};
+ghost use Rattle.ref_draft.specs.Views.{resource_ref, tagged};
+ghost use Rattle.ref_draft.specs.Anchors.{anchors};
+ghost use Rattle.ref_draft.specs.Children.{AllStand, walked};
+ghost use Rattle.ref_uri.specs.Targets.{parsed};
+ghost use Rattle.ref_uri.specs.Errors.{IsFaultOf};
+ghost use Rattle.referencing.specs.World.{Layer};
+ghost use Rattle.referencing.specs.Places.{Place, base_within, child_place, root, places};
+ghost use Rattle.referencing.specs.Resources.{resource_of};
+ghost use Rattle.referencing.specs.Anchors.{Named, named_by};
+ghost use Rattle.referencing.specs.Wants.{Want as Wanted, Reference, MetaSchema, reference_at, schema_at, wanted, refused, wants_at, faults_at, without_fragment};
+ghost use Rattle.ref_index.specs.Contents.{tree_of};
+ghost use Rattle.ref_index.specs.Found.{Holds, IsEntryOf};
+ghost use Rattle.ref_index.specs.Queue.{place_of};
+ghost use Rattle.ref_index.specs.declared.queue.Visit.{Visit};
+ghost use Rattle.ref_index.specs.Document.{document_of};
+ghost use Rattle.ref_index.specs.Visits.{IsFirstFault, StandsIn, IsVisited, IsWalked, faults_of, under_document, names_under, resources_at, names_at};
+
+use crate::document::Document;
+use crate::entry::Entry;
+use crate::found::{Cause, Found};
+use crate::path::owned;
+use crate::queue::Visit;
+use crate::reference::{shared, target};
+use ref_draft::{AnchorIter, Child, Draft, ResourceRef};
+use ref_parts::path::JsonPointerNode;
+use ref_uri::uri::{from_str, resolve_against};
+use ref_uri::{Uri, UriFault};
+use serde_json::Value;
+use std::alloc::{AllocError, Global};
+use std::rc::Rc;
+
+// The base of a place: its identifier against the base around it, or that base.
+fn base_of(alloc: Global, outer: &Rc<Uri>, id: Option<&str>) -> Result<Rc<Uri>, UriFault>
+    ensures ok { IfOk result (λ base. base_within outer.now.value (option_map (λ text. text.now) id.entry) ≡ Ok base.value) }
+    ensures fault { IfErr result (IsFaultOf (base_within outer.now.value (option_map (λ text. text.now) id.entry))) }
+{
+    match id {
+        Some(id) => {
+            let base = resolve_against(alloc, outer.borrow(), id)?;
+            Ok(shared(alloc, base)?)
+        }
+        None => Ok(outer.clone()?),
+    }
+}
+
+// The entry of a place whose base is known.
+fn entry_of(
+    alloc: Global,
+    number: usize,
+    place: &Visit<'_>,
+    base: &Rc<Uri>,
+) -> Result<Rc<Entry>, AllocError>
+    ensures { (layer : Layer) → StandsIn layer number (place_of place.now) → (place_of place.now).base ≡ Ok base.now.value
+        → IfOk result (λ entry. IsEntryOf layer entry.value (place_of place.now)) }
+{
+    let path = owned(alloc, &place.path)?;
+    let base = base.clone()?;
+    let entry = Entry {
+        document: number,
+        path,
+        draft: place.draft,
+        base,
+    };
+    Ok(Rc::new(alloc, entry)?)
+}
+
+// Whether the resource has an anchor.
+fn has_anchors(resource: ResourceRef<'_>) -> bool
+    ensures { result ≡ false → anchors (resource_ref resource.entry).draft (resource_ref resource.entry).contents ≡ [] }
+{
+    !matches!(
+        resource.draft().anchors(resource.contents()),
+        AnchorIter::Empty
+    )
+}
+
+// Adds what identifies and names the root under the URI of its document.
+fn add_under(
+    alloc: Global,
+    found: &mut Found,
+    under: Option<&str>,
+    entry: &Rc<Entry>,
+    resource: ResourceRef<'_>,
+) -> Result<(), AllocError>
+    ensures { (layer : Layer) (rs : List (List ℕ × Place)) (ns : List Named) (ws : List Wanted) (p : Place)
+        → Holds layer found.old rs ns ws → IsEntryOf layer entry.now.value p → resource_ref resource.entry ≡ tagged p.draft p.value
+        → OnOk result (Holds layer found.new (rs ++ under_document (option_map (λ text. text.now) under.entry) p)
+        (ns ++ names_under (option_map (λ text. text.now) under.entry) p) ws) }
+{
+    let Some(uri) = under else {
+        return Ok(());
+    };
+    found.add_resource(alloc, uri, entry)?;
+    found.add_names(alloc, uri, entry, resource)
+}
+
+// Adds what identifies and names a place under its base.
+fn add_by_base(
+    alloc: Global,
+    found: &mut Found,
+    base: &Rc<Uri>,
+    entry: &Rc<Entry>,
+    resource: ResourceRef<'_>,
+) -> Result<(), AllocError>
+    ensures { (layer : Layer) (rs : List (List ℕ × Place)) (ns : List Named) (ws : List Wanted) (p : Place)
+        → Holds layer found.old rs ns ws → IsEntryOf layer entry.now.value p → resource_ref resource.entry ≡ tagged p.draft p.value
+        → p.base ≡ Ok base.now.value
+        → OnOk result (Holds layer found.new (rs ++ resource_of p) (ns ++ named_by p p.base) ws) }
+{
+    if resource.id().is_some() {
+        found.add_resource(alloc, base.as_str(), entry)?;
+    }
+    found.add_names(alloc, base.as_str(), entry, resource)
+}
+
+// Adds what identifies and names a place, first under the URI of its document, where it is the root.
+fn add_place(
+    alloc: Global,
+    found: &mut Found,
+    number: usize,
+    place: &Visit<'_>,
+    under: Option<&str>,
+    base: &Rc<Uri>,
+) -> Result<(), AllocError>
+    ensures { (layer : Layer) (rs : List (List ℕ × Place)) (ns : List Named) (ws : List Wanted)
+        → Holds layer found.old rs ns ws → StandsIn layer number (place_of place.now) → (place_of place.now).base ≡ Ok base.now.value
+        → OnOk result (Holds layer found.new (rs ++ resources_at (option_map (λ text. text.now) under.entry) (place_of place.now))
+        (ns ++ names_at (option_map (λ text. text.now) under.entry) (place_of place.now)) ws) }
+{
+    let resource = ResourceRef::new(place.value, place.draft);
+    if under.is_none() && resource.id().is_none() && !has_anchors(resource) {
+        return Ok(());
+    }
+    let entry = entry_of(alloc, number, place, base)?;
+    add_under(alloc, found, under, &entry, resource)?;
+    add_by_base(alloc, found, base, &entry, resource)
+}
+
+// Adds what a text under `$ref` refers to.
+fn add_reference(
+    alloc: Global,
+    found: &mut Found,
+    value: &Value,
+    base: &Rc<Uri>,
+) -> Result<(), UriFault>
+    ensures added { (layer : Layer) (rs : List (List ℕ × Place)) (ns : List Named) (ws : List Wanted)
+        → Holds layer found.old rs ns ws
+        → OnOk result (Holds layer found.new rs ns (ws ++ wanted Reference (reference_at base.now.value (view value.now)))) }
+    ensures faultless { OnOk result (refused (reference_at base.now.value (view value.now)) ≡ []) }
+    ensures fault { IfErr result (IsFirstFault (refused (reference_at base.now.value (view value.now)))) }
+{
+    let Some(reference) = value.get("$ref").and_then(Value::as_str) else {
+        return Ok(());
+    };
+    let uri = target(alloc, base, reference)?;
+    found.add_want(Cause::Reference, uri)?;
+    Ok(())
+}
+
+// The URI that a text names a meta-schema by, without its fragment.
+fn schema_uri(alloc: Global, text: &str) -> Result<Rc<Uri>, UriFault>
+    ensures ok { IfOk result (λ uri. without_fragment (parsed text.now) ≡ Ok uri.value) }
+    ensures fault { IfErr result (IsFaultOf (without_fragment (parsed text.now))) }
+{
+    let mut uri = from_str(alloc, text)?;
+    if let Err(error) = uri.set_fragment(None) {
+        unreachable!("{error}");
+    }
+    Ok(shared(alloc, uri)?)
+}
+
+// Adds what a text under `$schema` names, where that is no known draft.
+fn add_meta_schema(alloc: Global, found: &mut Found, value: &Value) -> Result<(), UriFault>
+    ensures added { (layer : Layer) (rs : List (List ℕ × Place)) (ns : List Named) (ws : List Wanted)
+        → Holds layer found.old rs ns ws
+        → OnOk result (Holds layer found.new rs ns (ws ++ wanted MetaSchema (schema_at (view value.now)))) }
+    ensures faultless { OnOk result (refused (schema_at (view value.now)) ≡ []) }
+    ensures fault { IfErr result (IsFirstFault (refused (schema_at (view value.now)))) }
+{
+    let Some(text) = value.get("$schema").and_then(Value::as_str) else {
+        return Ok(());
+    };
+    if Draft::from_schema_uri(text) != Draft::Unknown {
+        return Ok(());
+    }
+    let uri = schema_uri(alloc, text)?;
+    found.add_want(Cause::MetaSchema, uri)?;
+    Ok(())
+}
+
+// Adds what a place is identified by, is named and wants, and answers its base.
+fn settle(
+    alloc: Global,
+    found: &mut Found,
+    number: usize,
+    place: &Visit<'_>,
+    under: Option<&str>,
+) -> Result<Rc<Uri>, UriFault>
+    ensures base { IfOk result (λ base. (place_of place.now).base ≡ Ok base.value) }
+    ensures added { (layer : Layer) (rs : List (List ℕ × Place)) (ns : List Named) (ws : List Wanted)
+        → Holds layer found.old rs ns ws → StandsIn layer number (place_of place.now)
+        → OnOk result (Holds layer found.new (rs ++ resources_at (option_map (λ text. text.now) under.entry) (place_of place.now))
+        (ns ++ names_at (option_map (λ text. text.now) under.entry) (place_of place.now))
+        (ws ++ wants_at (place_of place.now).base (place_of place.now).value)) }
+    ensures faultless { OnOk result (faults_at (place_of place.now).base (place_of place.now).value ≡ []) }
+    ensures fault { IfErr result (IsFirstFault (faults_at (place_of place.now).base (place_of place.now).value)) }
+{
+    let id = ResourceRef::new(place.value, place.draft).id();
+    let base = base_of(alloc, &place.outer, id)?;
+    add_place(alloc, found, number, place, under, &base)?;
+    add_reference(alloc, found, place.value, &base)?;
+    add_meta_schema(alloc, found, place.value)?;
+    Ok(base)
+}
+
+// Adds the children of a place to the queue.
+fn push_children<'w>(
+    alloc: Global,
+    queue: &mut Vec<Visit<'w>>,
+    path: &JsonPointerNode<'w>,
+    value: &'w Value,
+    draft: Draft,
+    base: &Rc<Uri>,
+) -> Result<(), AllocError>
+    ensures { OnOk result ((more : List Visit) × (queue.new.items ≡ queue.old.items ++ more)
+        × (map place_of more ≡ map (child_place path.now base.now.value) (walked draft (view value.now)))
+        × AllStand (view value.now) (walked draft (view value.now))) }
+{
+    for child in draft.walk_children(alloc, value)? {
+        let Child {
+            keyword,
+            segment,
+            value,
+            draft,
+        } = child;
+        let outer = base.clone()?;
+        let keyword = path.push(alloc, keyword)?;
+        let path = match segment {
+            Some(segment) => keyword.push(alloc, segment)?,
+            None => keyword,
+        };
+        queue.push(Visit {
+            path,
+            value,
+            draft,
+            outer,
+        })?;
+    }
+    Ok(())
+}
+
+// Adds a visit to the queue.
+fn push_visit<'w>(queue: &mut Vec<Visit<'w>>, visit: Visit<'w>) -> Result<(), AllocError>
+    ensures { OnOk result (queue.new.items ≡ queue.old.items ++ visit.entry ∷ []) }
+{
+    queue.push(visit)?;
+    Ok(())
+}
+
+// Visits the place at the head of the queue, and adds its children.
+fn visit<'w>(
+    alloc: Global,
+    found: &mut Found,
+    number: usize,
+    queue: &mut Vec<Visit<'w>>,
+    head: usize,
+    under: Option<&str>,
+) -> Result<(), UriFault>
+    requires { head < length queue.old.items }
+    ensures ok { (v : Visit) → slice_get queue.old.items head ≡ Some v
+        → OnOk result (IsVisited number (option_map (λ text. text.now) under.entry) v found.old found.new queue.old.items queue.new.items) }
+    ensures fault { (v : Visit) → slice_get queue.old.items head ≡ Some v → IfErr result (IsFirstFault (faults_of (place_of v))) }
+{
+    let place = &queue[head];
+    let base = settle(alloc, found, number, place, under)?;
+    let path = place.path.clone()?;
+    let (value, draft) = (place.value, place.draft);
+    push_children(alloc, queue, &path, value, draft, &base)?;
+    Ok(())
+}
+
+// The root of a document, to be visited first.
+fn root_of<'w>(alloc: Global, document: &'w Document<'_>) -> Result<Visit<'w>, AllocError>
+    ensures { IfOk result (λ v. place_of v ≡ root (document_of document.now)) }
+{
+    let uri = document.uri.clone()?;
+    Ok(Visit {
+        path: JsonPointerNode::new(),
+        value: document.contents.value(),
+        draft: document.draft,
+        outer: shared(alloc, uri)?,
+    })
+}
+
+/// Walks over the places of a document, whose number is given, and adds what they are identified by, are named and want.
+///
+/// Refuses for the first fault of the document's places, level by level: an identifier, a reference or the name of a
+/// meta-schema that means no URI; and for want of memory.
+pub fn walk(
+    alloc: Global,
+    found: &mut Found,
+    number: usize,
+    document: &Document<'_>,
+) -> Result<(), UriFault>
+    ensures ok { OnOk result (IsWalked (document_of document.now) number found.old found.new (places (document_of document.now))) }
+    ensures fault { IfErr result (IsFirstFault (flat_map faults_of (places (document_of document.now)))) }
+{
+    let root = root_of(alloc, document)?;
+    let mut queue = Vec::new(alloc);
+    push_visit(&mut queue, root)?;
+    visit(
+        alloc,
+        found,
+        number,
+        &mut queue,
+        0,
+        Some(document.uri.as_str()),
+    )?;
+    let mut head = 1;
+    while head < queue.len() {
+        visit(alloc, found, number, &mut queue, head, None)?;
+        head += 1;
+    }
+    Ok(())
+}
