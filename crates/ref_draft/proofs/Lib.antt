@@ -2,6 +2,7 @@ pub mod Lists
 pub mod Trim
 pub mod Held
 pub mod Disjoint
+pub mod Holdings
 pub mod Scanning
 pub mod Depth
 pub mod Given

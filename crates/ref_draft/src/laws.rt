@@ -6,7 +6,7 @@ ghost use Rattle.serde_json.specs.Data.{Data, depth};
 ghost use Rattle.ref_draft.specs.declared.draft.Draft.{Draft as Version};
 ghost use Rattle.ref_draft.specs.Children.{children, is_object};
 ghost use Rattle.ref_draft.specs.Order.{rank};
-ghost use Rattle.ref_draft.specs.Scan.{AcceptsChildren, IsAccepted, ReadsTheWalk, SpellsWord, is_child_keyword};
+ghost use Rattle.ref_draft.specs.Scan.{AcceptsChildren, IsAccepted, SpellsWord, is_child_keyword};
 ghost use Rattle.ref_draft.specs.ScanSteps.{scan};
 ghost use Rattle.ref_parts.specs.Path.{Key, Part};
 
@@ -27,11 +27,11 @@ pub fn children_are_shallower()
     ensures law { (d : Version) (value : Data) → AllByRecursion (λ child. depth child.1 < depth value) (children d value) }
 {}
 
-/// Where the scan reads the walk's keywords and accepts the parts that lead to a value, it accepts those that lead on to
-/// each of its children that is an object.
+/// Where the parts that lead to a value are accepted, those that lead on to each of its children that is an object are
+/// accepted there.
 pub fn scan_goes_on_to_children()
     ensures law { (d : Version) (parts : List Part) (value : Data)
-        → ReadsTheWalk d → IsAccepted d parts value → AcceptsChildren d parts (children d value) }
+        → IsAccepted d parts value → AcceptsChildren d parts (children d value) }
 {}
 
 /// The scan, which reads the parts from the left, accepts exactly those that are accepted.

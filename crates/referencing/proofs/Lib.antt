@@ -1,5 +1,6 @@
 pub mod OnLiterals
 pub mod Retrieval
+pub mod Last
 pub mod Appending
 pub mod Closure
 pub mod References

@@ -1,3 +1,4 @@
+pub mod Results
 pub mod Fault
 pub mod World
 pub mod Places
