@@ -71,9 +71,9 @@ of_held : (d : Draft) (how : Holding) (k : List ℕ) (v : Data) → Says d k how
 of_held d Whole k v s = (by_value d k s, tt)
 of_held d WholeObject k v s = all_filter (λ child. Extends d child.0) has_object (whole k v) (by_value d k s, tt)
 of_held d Elements k v s = of_array d k v (λ part. by_child d k part s)
-of_held d EachMember k v s = of_object d k v (λ part. by_child d k part s)
+of_held d EachMember k v s = of_object d k v (λ part. by_child d k part s.child)
 of_held d ElementsOrWhole k v s = of_array_or_whole d k v (λ rest. by_items d k rest s.before s.items)
-of_held d ObjectMembers k v s = all_filter (λ child. Extends d child.0) has_object (members k v) (of_object d k v (λ part. by_items d k (part ∷ []) s.before s.items))
+of_held d ObjectMembers k v s = all_filter (λ child. Extends d child.0) has_object (members k v) (of_object d k v (λ part. by_items d k (part ∷ []) s.items.before s.items.items))
 of_held d Nothing k v s = tt
 
 of_below : (d : Draft) (ms : Members) → AllExtend d (below d ms)

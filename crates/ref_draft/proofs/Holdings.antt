@@ -7,7 +7,7 @@ use Rattle.ref_draft.specs.declared.draft.Draft.{Draft}
 use Rattle.ref_draft.specs.declared.draft.Draft.TheVariants.{Draft4, Draft6, Draft7, Draft201909, Draft202012, Unknown}
 use Rattle.ref_draft.specs.declared.spec.Holding.{Holding}
 use Rattle.ref_draft.specs.declared.spec.Holding.TheVariants.{Whole, WholeObject, Elements, Members as EachMember, ElementsOrWhole, ObjectMembers, Nothing}
-use Rattle.ref_draft.specs.Keywords.{is_one_of, row_4, row, is_before_2020, is_items_or_dependencies, boolean_or_schema, holding}
+use Rattle.ref_draft.specs.Keywords.{is_one_of, row_4, row, is_before_2020, is_items_or_dependencies, is_map_keyword, boolean_or_schema, holding}
 use Rattle.ref_draft.specs.Scan.{is_value_keyword, is_child_keyword}
 use Rattle.ref_draft.specs.ScanSteps.{scan, scan_past}
 use Rattle.ref_draft.proofs.Disjoint.{same, child_is_no_value, items_is_no_value, items_is_no_child}
@@ -23,13 +23,22 @@ pub record HoldsItems (d : Draft) (k : List ℕ) : Type 0 where
   pub before : is_before_2020 d ≡ true
   pub items : is_items_or_dependencies k ≡ true
 
+-- a keyword whose object has schemas as members, in the table or `dependencies`
+pub record HoldsMembers (d : Draft) (k : List ℕ) : Type 0 where
+  pub child : is_child_keyword d k ≡ true
+  pub in_map : is_map_keyword d k ≡ true
+
+pub record HoldsDependencies (d : Draft) (k : List ℕ) : Type 0 where
+  pub items : HoldsItems d k
+  pub in_map : is_map_keyword d k ≡ true
+
 abbrev pub Says : Draft → List ℕ → Holding → Type 0
 Says d k Whole = is_value_keyword d k ≡ true
 Says d k WholeObject = is_value_keyword d k ≡ true
 Says d k Elements = is_child_keyword d k ≡ true
-Says d k EachMember = is_child_keyword d k ≡ true
+Says d k EachMember = HoldsMembers d k
 Says d k ElementsOrWhole = HoldsItems d k
-Says d k ObjectMembers = HoldsItems d k
+Says d k ObjectMembers = HoldsDependencies d k
 Says d k Nothing = HoldsNothing d k
 
 -- a keyword that may have a boolean in place of a schema is one whose value is a schema
@@ -66,13 +75,17 @@ says : (d : Draft) (k : List ℕ) (boolean value array map items dependencies : 
 says d k true value array map items dependencies b v a m i e = value_of_row d k b
 says d k false true array map items dependencies b v a m i e = v
 says d k false false true map items dependencies b v a m i e = or_left (is_one_of k (row d).arrays) (is_one_of k (row d).maps) a
-says d k false false false true items dependencies b v a m i e = or_right (is_one_of k (row d).arrays) (is_one_of k (row d).maps) m
+says d k false false false true items dependencies b v a m i e =
+    record { child = or_right (is_one_of k (row d).arrays) (is_one_of k (row d).maps) m; in_map = or_left (is_one_of k (row d).maps) (is_before_2020 d && bytes_eq k (codes "dependencies")) m }
 says d k false false false false true dependencies b v a m i e =
     let parts = and_parts (is_before_2020 d) (bytes_eq k (codes "items")) i in
     record { before = parts.0; items = or_left (bytes_eq k (codes "items")) (bytes_eq k (codes "dependencies") || false) parts.1 }
 says d k false false false false false true b v a m i e =
     let parts = and_parts (is_before_2020 d) (bytes_eq k (codes "dependencies")) e in
-    record { before = parts.0; items = or_right (bytes_eq k (codes "items")) (bytes_eq k (codes "dependencies") || false) (or_left (bytes_eq k (codes "dependencies")) false parts.1) }
+    record {
+      items = record { before = parts.0; items = or_right (bytes_eq k (codes "items")) (bytes_eq k (codes "dependencies") || false) (or_left (bytes_eq k (codes "dependencies")) false parts.1) };
+      in_map = or_right (is_one_of k (row d).maps) (is_before_2020 d && bytes_eq k (codes "dependencies")) e;
+    }
 says d k false false false false false false b v a m i e =
     record {
       no_value = v;
@@ -138,9 +151,9 @@ goes_on : (d : Draft) (object : Bool) (k : List ℕ) (parts : List Part) (how : 
 goes_on d object k parts Whole s = scan-value d object k parts s
 goes_on d object k parts WholeObject s = scan-value d object k parts s
 goes_on d object k parts Elements s = scan-child d object k parts s
-goes_on d object k parts EachMember s = scan-child d object k parts s
+goes_on d object k parts EachMember s = scan-child d object k parts s.child
 goes_on d object k parts ElementsOrWhole s = scan-items d object k parts s
-goes_on d object k parts ObjectMembers s = scan-items d object k parts s
+goes_on d object k parts ObjectMembers s = scan-items d object k parts s.items
 goes_on d object k parts Nothing s = scan-nothing d object k parts s
 
 pub scan_key : (d : Draft) (object : Bool) (k : List ℕ) (parts : List Part) → scan d object (Key k ∷ parts) ≡ by_holding (holding d k) object (scan d object parts) (scan_past d object parts)

@@ -8,3 +8,4 @@ pub mod Depth
 pub mod Given
 pub mod Standing
 pub mod Agreement
+pub mod Beginnings

@@ -96,6 +96,10 @@ holding d keyword =
     else (if is_before_2020 d && bytes_eq keyword (codes "dependencies") then ObjectMembers
     else Nothing)))))
 
+-- whether the members of a keyword's object are schemas
+abbrev pub is_map_keyword : Draft → List ℕ → Bool
+is_map_keyword d keyword = is_one_of keyword (row d).maps || is_before_2020 d && bytes_eq keyword (codes "dependencies")
+
 -- What `subresources_of` leaves out: in 2019-09 what is under `dependencies`
 abbrev pub is_left_out : Draft → List ℕ → Bool
 is_left_out Draft201909 keyword = bytes_eq keyword (codes "dependencies")

@@ -5,6 +5,7 @@ pub mod Anchors
 pub mod Scan
 pub mod Views
 pub mod ScanSteps
+pub mod Beginnings
 pub mod Rows
 pub mod Order
-pub mod WalkSteps
+pub mod inner

@@ -1,7 +1,11 @@
 -- The last of a list, where the list grows at its end.
-use Rattle.std.proofs.Common.{◌≡◌, List, [], ◌∷◌, ◌++◌, true, Option, Some, None, is_some, refl, sym, ap, ◌∙◌, true≢false}
+use Rattle.std.proofs.Common.{◌≡◌, ℕ, List, [], ◌∷◌, ◌++◌, true, ◌&&◌, filter, Option, Some, None, is_some, refl, sym, ap, ◌∙◌, true≢false, bytes_eq}
 use Rattle.std.specs.List.{last_or}
 use Rattle.std.specs.Option.{option_or}
+use Rattle.std.proofs.lemmas.List.Elements.{filter-append}
+use Rattle.referencing.specs.Places.{Place}
+use Rattle.referencing.specs.Resources.{last_under}
+use Rattle.referencing.specs.Anchors.{Named, last_named}
 
 kept : {X : Type 0} (x : X) (xs : List X) (o : Option X) → option_or (last_or (Some x) xs) o ≡ last_or (Some x) xs
 kept x [] o = refl
@@ -36,3 +40,13 @@ last_stays xs ys there = ap is_some (last_of_both xs ys) ∙ one_right (last_or 
 
 pub last_behind : {X : Type 0} (xs ys : List X) → is_some (last_or None ys) ≡ true → is_some (last_or None (xs ++ ys)) ≡ true
 last_behind xs ys there = ap is_some (last_of_both xs ys) ∙ one_left (last_or None ys) (last_or None xs) there
+
+pub last_under_both : (uri : List ℕ) (entries more : List (List ℕ × Place)) → last_under uri (entries ++ more) ≡ option_or (last_under uri more) (last_under uri entries)
+last_under_both uri entries more =
+    let under = λ (e : List ℕ × Place). bytes_eq e.0 uri in
+    ap (last_or None) (filter-append under entries more) ∙ last_of_both (filter under entries) (filter under more)
+
+pub last_named_both : (uri name : List ℕ) (entries more : List Named) → last_named uri name (entries ++ more) ≡ option_or (last_named uri name more) (last_named uri name entries)
+last_named_both uri name entries more =
+    let here = λ (e : Named). bytes_eq e.uri uri && bytes_eq e.name name in
+    ap (last_or None) (filter-append here entries more) ∙ last_of_both (filter here entries) (filter here more)

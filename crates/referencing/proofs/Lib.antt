@@ -5,4 +5,6 @@ pub mod Appending
 pub mod Closure
 pub mod References
 pub mod Levels
+pub mod Descent
+pub mod Changes
 pub mod Pending

@@ -4,7 +4,8 @@ ghost use Rattle.ref_parts.specs.Path.{Index};
 ghost use Rattle.ref_draft.specs.declared.draft.Draft.TheVariants.{Draft4, Draft6, Draft7, Draft201909, Draft202012, Unknown};
 ghost use Rattle.ref_draft.specs.Scan.{is_value_keyword, is_child_keyword, AnIndex, AValue, AChild, parts_of, spelled, IsPieceOf, IsWord, SpellsWord, PassesItems, IsAccepted, AcceptsChildren};
 ghost use Rattle.ref_draft.specs.ScanSteps.{scan, scan_past};
-ghost use Rattle.ref_draft.specs.Rows.{empty, yes, one, key};
+ghost use Rattle.ref_draft.specs.Beginnings.{is_array, IsMapOfSchemas, EndsWithin, AllEndWithin};
+ghost use Rattle.ref_draft.specs.Rows.{empty, yes, one, list, key};
 
 /// Which parts are accepted at a value.
 pub fn accepted_parts()
@@ -46,6 +47,19 @@ pub fn keywords_of_the_scan()
     ensures elements_keyword { is_child_keyword Draft7 (codes "oneOf") ≡ true }
     ensures members_keyword { is_child_keyword Draft4 (codes "definitions") ≡ true }
     ensures no_child_keyword { is_child_keyword Draft7 (codes "$defs") ≡ false }
+{}
+
+/// What stands between a schema and its child.
+pub fn beginnings_of_paths()
+    ensures an_array { is_array (list yes) ≡ true }
+    ensures no_array { is_array empty ≡ false }
+    ensures a_map { IsMapOfSchemas Draft7 (codes "properties") empty }
+    ensures no_map { ¬ (IsMapOfSchemas Draft7 (codes "const") empty) }
+    ensures no_object { ¬ (IsMapOfSchemas Draft7 (codes "properties") yes) }
+    ensures in_an_array { EndsWithin Draft7 [] (one "allOf" (list yes)) (key "allOf" ∷ []) }
+    ensures in_a_map { EndsWithin Draft202012 (key "not" ∷ []) (one "properties" (one "x" yes)) (key "properties" ∷ []) }
+    ensures nowhere { ¬ (EndsWithin Draft7 [] empty (key "allOf" ∷ [])) }
+    ensures all { AllEndWithin Draft7 [] (one "not" yes) ((key "not" ∷ [], yes) ∷ []) }
 {}
 
 /// The pieces of words.
