@@ -6,6 +6,7 @@ pub mod Scan
 pub mod Views
 pub mod ScanSteps
 pub mod Beginnings
+pub mod UniqueKeys
 pub mod Rows
 pub mod Order
 pub mod inner

@@ -10,6 +10,7 @@ ghost use Rattle.ref_draft.specs.Order.{rank};
 ghost use Rattle.ref_draft.specs.Scan.{AcceptsChildren, IsAccepted, SpellsWord, is_child_keyword};
 ghost use Rattle.ref_draft.specs.ScanSteps.{scan};
 ghost use Rattle.ref_draft.specs.Beginnings.{AllEndWithin};
+ghost use Rattle.ref_draft.specs.UniqueKeys.{HasUniqueKeys};
 ghost use Rattle.ref_draft.specs.Views.{part_of};
 ghost use Rattle.ref_parts.specs.Path.{Key, Part, part_eq};
 
@@ -38,6 +39,11 @@ pub fn children_are_shallower()
     ensures law { (d : Version) (value : Data) → AllByRecursion (λ child. depth child.1 < depth value) (children d value) }
 {}
 
+/// Each child of a value whose objects have each key once stands at its path.
+pub fn children_stand_at_their_paths()
+    ensures law { (d : Version) (value : Data) → HasUniqueKeys value → AllStand value (walked d value) }
+{}
+
 /// Where the parts that lead to a value are accepted, those that lead on to each of its children that is an object are
 /// accepted there.
 pub fn scan_goes_on_to_children()
@@ -46,7 +52,7 @@ pub fn scan_goes_on_to_children()
 {}
 
 /// Before the path of a child ends, behind parts that are accepted, it leads to an array or to a map of subschemas, and since
-/// 2020-12 nothing there is accepted. The children are to stand at their paths, as those of an object with each key once do.
+/// 2020-12 nothing there is accepted. The children are to stand at their paths, as `children_stand_at_their_paths` says.
 pub fn paths_of_children_end_within()
     ensures law { (d : Version) (parts : List Part) (value : Data)
         → IsAccepted d parts value → AllStand value (walked d value) → AllEndWithin d parts value (children d value) }

@@ -7,4 +7,5 @@ pub mod References
 pub mod Levels
 pub mod Descent
 pub mod Changes
+pub mod Differ
 pub mod Pending

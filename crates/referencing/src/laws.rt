@@ -1,9 +1,11 @@
 //! Laws of the definitions. Each function is empty: its contract states the law, and the check proves it.
 ghost use Rattle.std.specs.Prelude.{◌≡◌, ◌≤◌, ℕ, List, [], ◌∷◌, ◌++◌, drop, map, Some, None, Ok};
-ghost use Rattle.std.specs.List.{AllPairs};
+ghost use Rattle.std.specs.List.{AllByRecursion, AllPairs};
 ghost use Rattle.std.specs.Option.{option_or};
 ghost use Rattle.serde_json.specs.Data.{Data, depth};
+ghost use Rattle.ref_parts.specs.Path.{value_at};
 ghost use Rattle.ref_draft.specs.declared.draft.Draft.{Draft};
+ghost use Rattle.ref_draft.specs.UniqueKeys.{HasUniqueKeys};
 ghost use Rattle.referencing.specs.World.{Document, Layer, World};
 ghost use Rattle.referencing.specs.Places.{Place, root, levels_below, places};
 ghost use Rattle.referencing.specs.Descent.{AreChildren};
@@ -26,6 +28,13 @@ pub fn pending_documents_differ()
 /// The levels of a document end at the depth of its tree: however many more are joined, they are its places.
 pub fn levels_end_at_the_depth()
     ensures law { (d : Document) (n : ℕ) → depth d.tree ≤ n → root d ∷ levels_below n (root d ∷ []) ≡ places d }
+{}
+
+/// Where each object of a document has each key once, each place of it has its value at its path, and the paths of places
+/// differ.
+pub fn places_stand_at_their_paths()
+    ensures values { (d : Document) → HasUniqueKeys d.tree → AllByRecursion (λ p. value_at d.tree p.path ≡ Some p.value) (places d) }
+    ensures paths { (d : Document) → HasUniqueKeys d.tree → AllPairs (λ p q. ¬ (p ≡ q)) (map (λ p. p.path) (places d)) }
 {}
 
 /// Each place of a document but its root is a child of one that stands before it.
