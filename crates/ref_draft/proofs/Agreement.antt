@@ -1,18 +1,15 @@
 -- Where parts are accepted at an object, the parts to its children that are objects are accepted there.
-use Rattle.std.proofs.Common.{◌≡◌, ℕ, suc, List, [], ◌∷◌, ◌++◌, Bool, true, false, ◌&&◌, ◌||◌, cond, codes, inl, inr, ◌⊎◌, ⊎_elim, refl, sym, ap, subst, ◌∙◌, true≢false, append_assoc}
+use Rattle.std.proofs.Common.{◌≡◌, ℕ, suc, List, [], ◌∷◌, ◌++◌, true, inl, inr, ◌⊎◌, refl, sym, ap, ◌∙◌, append_assoc}
 use Rattle.std.specs.List.{AllByRecursion}
-use Rattle.std.specs.Str.{bytes_eq}
-use Rattle.std.proofs.lemmas.Bool.{and_parts, or_cases, or_left, or_right}
 use Rattle.serde_json.specs.Data.{Data, null, boolean, number, string, array, object, Items, no_items, item, Members, no_members, member}
 use Rattle.ref_parts.specs.Path.{Part, Key, Index}
 use Rattle.ref_draft.specs.declared.draft.Draft.{Draft}
-use Rattle.ref_draft.specs.declared.draft.Draft.TheVariants.{Draft4, Draft6, Draft7, Draft201909, Draft202012, Unknown}
 use Rattle.ref_draft.specs.declared.spec.Holding.{Holding}
 use Rattle.ref_draft.specs.declared.spec.Holding.TheVariants.{Whole, WholeObject, Elements, Members as EachMember, ElementsOrWhole, ObjectMembers, Nothing}
-use Rattle.ref_draft.specs.Keywords.{is_one_of, row_4, row, is_before_2020, is_items_or_dependencies, boolean_or_schema, holding, holding_by}
+use Rattle.ref_draft.specs.Keywords.{is_before_2020, is_items_or_dependencies, holding}
 use Rattle.ref_draft.specs.Children.{Child, whole, elements_from, each_member, elements, members, held, below, children, has_object, is_object}
-use Rattle.ref_draft.specs.Scan.{scan_row, is_value_keyword, is_child_keyword, Piece, AValue, AChild, parts_of, spelled, IsPieceOf, SpellsWord, IsAccepted, ReadsTheWalk, AcceptsChildren}
-use Rattle.ref_draft.proofs.Disjoint.{same, chosen}
+use Rattle.ref_draft.specs.Scan.{is_value_keyword, is_child_keyword, Piece, AValue, AChild, parts_of, spelled, IsPieceOf, SpellsWord, IsAccepted, AcceptsChildren}
+use Rattle.ref_draft.proofs.Holdings.{Says, says_holding}
 use Rattle.ref_draft.proofs.Lists.{all_append, all_filter}
 
 -- the path of a child goes on a word, or passes `items` or `dependencies`
@@ -70,68 +67,18 @@ of_object d k (string s) at = tt
 of_object d k (array ds) at = tt
 of_object d k (object ms) at = each_of d k ms at
 
--- what each kind says of a keyword
-abbrev Says : Draft → List ℕ → Holding → Type 0
-Says d k Whole = is_value_keyword d k ≡ true
-Says d k WholeObject = is_value_keyword d k ≡ true
-Says d k Elements = is_child_keyword d k ≡ true
-Says d k EachMember = is_child_keyword d k ≡ true
-Says d k ElementsOrWhole = (is_before_2020 d ≡ true) × (is_items_or_dependencies k ≡ true)
-Says d k ObjectMembers = (is_before_2020 d ≡ true) × (is_items_or_dependencies k ≡ true)
-Says d k Nothing = Unit {0}
-
 of_held : (d : Draft) (how : Holding) (k : List ℕ) (v : Data) → Says d k how → AllExtend d (held how k v)
 of_held d Whole k v s = (by_value d k s, tt)
 of_held d WholeObject k v s = all_filter (λ child. Extends d child.0) has_object (whole k v) (by_value d k s, tt)
 of_held d Elements k v s = of_array d k v (λ part. by_child d k part s)
-of_held d EachMember k v s = of_object d k v (λ part. by_child d k part s)
-of_held d ElementsOrWhole k v s = of_array_or_whole d k v (λ rest. by_items d k rest s.0 s.1)
-of_held d ObjectMembers k v s = all_filter (λ child. Extends d child.0) has_object (members k v) (of_object d k v (λ part. by_items d k (part ∷ []) s.0 s.1))
+of_held d EachMember k v s = of_object d k v (λ part. by_child d k part s.child)
+of_held d ElementsOrWhole k v s = of_array_or_whole d k v (λ rest. by_items d k rest s.before s.items)
+of_held d ObjectMembers k v s = all_filter (λ child. Extends d child.0) has_object (members k v) (of_object d k v (λ part. by_items d k (part ∷ []) s.items.before s.items.items))
 of_held d Nothing k v s = tt
 
-says : (d : Draft) (k : List ℕ) (in_values in_arrays in_maps either items : Bool)
-    → is_value_keyword d k ≡ in_values → is_one_of k (scan_row d).arrays ≡ in_arrays → is_one_of k (scan_row d).maps ≡ in_maps
-    → (is_before_2020 d && is_items_or_dependencies k) ≡ either → Says d k (chosen in_values in_arrays in_maps either items)
-says d k true in_arrays in_maps either items e a m i = e
-says d k false true in_maps either items e a m i = or_left (is_one_of k (scan_row d).arrays) (is_one_of k (scan_row d).maps) a
-says d k false false true either items e a m i = or_right (is_one_of k (scan_row d).arrays) (is_one_of k (scan_row d).maps) m
-says d k false false false true true e a m i = and_parts (is_before_2020 d) (is_items_or_dependencies k) i
-says d k false false false true false e a m i = and_parts (is_before_2020 d) (is_items_or_dependencies k) i
-says d k false false false false items e a m i = tt
-
-says_by : (d : Draft) (k : List ℕ) → Says d k (holding_by (scan_row d) [] (is_before_2020 d) k)
-says_by d k = says d k (is_value_keyword d k) (is_one_of k (scan_row d).arrays) (is_one_of k (scan_row d).maps) (is_before_2020 d && is_items_or_dependencies k) (bytes_eq k (codes "items"))
-    refl refl refl refl
-
--- a keyword that may have a boolean in place of a schema is one whose value is a schema
-value_in_4 : (k : List ℕ) → is_one_of k (boolean_or_schema Draft4) ≡ true → is_one_of k row_4.values ≡ true
-value_in_4 k e =
-    ⊎_elim (λ here. ap (λ w. is_one_of w row_4.values) (same k (codes "additionalItems") here))
-    (λ later.
-    ⊎_elim (λ here. ap (λ w. is_one_of w row_4.values) (same k (codes "additionalProperties") here)) (λ none. absurd (true≢false (sym none)))
-    (or_cases (bytes_eq k (codes "additionalProperties")) false later))
-    (or_cases (bytes_eq k (codes "additionalItems")) (bytes_eq k (codes "additionalProperties") || false) e)
-
-value_of_row : (d : Draft) (k : List ℕ) → is_one_of k (boolean_or_schema d) ≡ true → is_one_of k (row d).values ≡ true
-value_of_row Draft4 k e = value_in_4 k e
-value_of_row Draft6 k e = absurd (true≢false (sym e))
-value_of_row Draft7 k e = absurd (true≢false (sym e))
-value_of_row Draft201909 k e = absurd (true≢false (sym e))
-value_of_row Draft202012 k e = absurd (true≢false (sym e))
-value_of_row Unknown k e = absurd (true≢false (sym e))
-
-says_or : (d : Draft) (k : List ℕ) (how : Holding) (b : Bool) → (b ≡ true → is_value_keyword d k ≡ true) → Says d k how → Says d k (cond b WholeObject how)
-says_or d k how true value s = value refl
-says_or d k how false value s = s
-
-says_holding : (d : Draft) (k : List ℕ) → ReadsTheWalk d → Says d k (holding d k)
-says_holding d k r =
-    subst (λ x. Says d k (holding_by x (boolean_or_schema d) (is_before_2020 d) k)) r
-    (says_or d k (holding_by (scan_row d) [] (is_before_2020 d) k) (is_one_of k (boolean_or_schema d)) (λ e. ap (λ x. is_one_of k x.values) r ∙ value_of_row d k e) (says_by d k))
-
-of_below : (d : Draft) (ms : Members) → ReadsTheWalk d → AllExtend d (below d ms)
-of_below d no_members r = tt
-of_below d (member k v ms) r = all_append (λ child. Extends d child.0) (held (holding d k) k v) (below d ms) (of_held d (holding d k) k v (says_holding d k r)) (of_below d ms r)
+of_below : (d : Draft) (ms : Members) → AllExtend d (below d ms)
+of_below d no_members = tt
+of_below d (member k v ms) = all_append (λ child. Extends d child.0) (held (holding d k) k v) (below d ms) (of_held d (holding d k) k v (says_holding d k)) (of_below d ms)
 
 -- ---- words one after another
 
@@ -173,10 +120,10 @@ each : (d : Draft) (parts : List Part) (t : Data) (cs : List Child) → IsAccept
 each d parts t [] a p = tt
 each d parts t (c ∷ cs) a p = (λ there. further d parts c.0 t c.1 a p.0 there, each d parts t cs a p.1)
 
-pub accepts_children : (d : Draft) (parts : List Part) (t : Data) → ReadsTheWalk d → IsAccepted d parts t → AcceptsChildren d parts (children d t)
-accepts_children d parts null r a = tt
-accepts_children d parts (boolean b) r a = tt
-accepts_children d parts (number x) r a = tt
-accepts_children d parts (string s) r a = tt
-accepts_children d parts (array ds) r a = tt
-accepts_children d parts (object ms) r a = each d parts (object ms) (below d ms) a (of_below d ms r)
+pub accepts_children : (d : Draft) (parts : List Part) (t : Data) → IsAccepted d parts t → AcceptsChildren d parts (children d t)
+accepts_children d parts null a = tt
+accepts_children d parts (boolean b) a = tt
+accepts_children d parts (number x) a = tt
+accepts_children d parts (string s) a = tt
+accepts_children d parts (array ds) a = tt
+accepts_children d parts (object ms) a = each d parts (object ms) (below d ms) a (of_below d ms)

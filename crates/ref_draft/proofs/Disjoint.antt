@@ -1,15 +1,12 @@
 -- The columns of a row share no keyword, and before 2020-12 none has `items` or `dependencies`.
-use Rattle.std.proofs.Common.{◌≡◌, ℕ, List, [], ◌∷◌, Bool, true, false, ◌&&◌, ◌||◌, not, cond, codes, ⊎_elim, refl, sym, ap, ◌∙◌, true≢false}
+use Rattle.std.proofs.Common.{◌≡◌, ℕ, List, [], ◌∷◌, Bool, true, false, ◌&&◌, ◌||◌, not, codes, ⊎_elim, refl, sym, ap, ◌∙◌, true≢false}
 use Rattle.std.specs.Str.{bytes_eq}
 use Rattle.std.proofs.lemmas.Bool.{and_parts, not-true, or_cases}
 use Rattle.std.proofs.lemmas.Slice.Eq.{bytes_eq-Decides}
 use Rattle.ref_draft.specs.declared.draft.Draft.{Draft}
 use Rattle.ref_draft.specs.declared.draft.Draft.TheVariants.{Draft4, Draft6, Draft7, Draft201909, Draft202012, Unknown}
-use Rattle.ref_draft.specs.declared.spec.Holding.{Holding}
-use Rattle.ref_draft.specs.declared.spec.Holding.TheVariants.{Whole, Elements, Members, ElementsOrWhole, ObjectMembers, Nothing}
-use Rattle.ref_draft.specs.Keywords.{is_one_of, is_before_2020, is_items_or_dependencies}
-use Rattle.ref_draft.specs.Scan.{scan_row, is_value_keyword, is_child_keyword}
-use Rattle.ref_draft.specs.ScanSteps.{scan_holding, go_on}
+use Rattle.ref_draft.specs.Keywords.{row, is_one_of, is_before_2020, is_items_or_dependencies}
+use Rattle.ref_draft.specs.Scan.{is_value_keyword, is_child_keyword}
 
 -- whether no keyword of the first list is in the second
 abbrev are_apart : List (List ℕ) → List (List ℕ) → Bool
@@ -27,54 +24,45 @@ apart k (l ∷ ks) others test among =
     (λ later. apart k ks others parts.1 later)
     (or_cases (bytes_eq k l) (is_one_of k ks) among)
 
-arrays_apart : (d : Draft) → are_apart (scan_row d).arrays (scan_row d).values ≡ true
-arrays_apart Draft4 = refl
-arrays_apart Draft6 = refl
-arrays_apart Draft7 = refl
-arrays_apart Draft201909 = refl
-arrays_apart Draft202012 = refl
-arrays_apart Unknown = refl
-
-maps_apart : (d : Draft) → are_apart (scan_row d).maps (scan_row d).values ≡ true
-maps_apart Draft4 = refl
-maps_apart Draft6 = refl
-maps_apart Draft7 = refl
-maps_apart Draft201909 = refl
-maps_apart Draft202012 = refl
-maps_apart Unknown = refl
-
--- how a keyword that is in these columns holds its subschemas
-abbrev pub chosen : Bool → Bool → Bool → Bool → Bool → Holding
-chosen value array map either items = cond value Whole (cond array Elements (cond map Members (cond either (cond items ElementsOrWhole ObjectMembers) Nothing)))
+columns_apart : (d : Draft) → (are_apart (row d).arrays (row d).values && are_apart (row d).maps (row d).values) ≡ true
+columns_apart Draft4 = refl
+columns_apart Draft6 = refl
+columns_apart Draft7 = refl
+columns_apart Draft201909 = refl
+columns_apart Draft202012 = refl
+columns_apart Unknown = refl
 
 -- a child keyword is no value keyword
 pub child_is_no_value : (d : Draft) (k : List ℕ) → is_child_keyword d k ≡ true → is_value_keyword d k ≡ false
 child_is_no_value d k child =
-    ⊎_elim (λ array. apart k (scan_row d).arrays (scan_row d).values (arrays_apart d) array)
-    (λ map. apart k (scan_row d).maps (scan_row d).values (maps_apart d) map)
-    (or_cases (is_one_of k (scan_row d).arrays) (is_one_of k (scan_row d).maps) child)
+    let tests = and_parts (are_apart (row d).arrays (row d).values) (are_apart (row d).maps (row d).values) (columns_apart d) in
+    ⊎_elim (λ array. apart k (row d).arrays (row d).values tests.0 array)
+    (λ map. apart k (row d).maps (row d).values tests.1 map)
+    (or_cases (is_one_of k (row d).arrays) (is_one_of k (row d).maps) child)
 
-at_items : (d : Draft) (object on past : Bool) → is_before_2020 d ≡ true → go_on (scan_holding d (codes "items")) object on past ≡ object
-at_items Draft4 object on past before = refl
-at_items Draft6 object on past before = refl
-at_items Draft7 object on past before = refl
-at_items Draft201909 object on past before = refl
-at_items Draft202012 object on past before = absurd (true≢false (sym before))
-at_items Unknown object on past before = absurd (true≢false (sym before))
+-- the two keywords that hold schemas in more than one way
+abbrev both : List (List ℕ)
+both = codes "items" ∷ codes "dependencies" ∷ []
 
-at_dependencies : (d : Draft) (object on past : Bool) → is_before_2020 d ≡ true → go_on (scan_holding d (codes "dependencies")) object on past ≡ object
-at_dependencies Draft4 object on past before = refl
-at_dependencies Draft6 object on past before = refl
-at_dependencies Draft7 object on past before = refl
-at_dependencies Draft201909 object on past before = refl
-at_dependencies Draft202012 object on past before = absurd (true≢false (sym before))
-at_dependencies Unknown object on past before = absurd (true≢false (sym before))
+both_apart : (d : Draft) → is_before_2020 d ≡ true → (are_apart both (row d).values && (are_apart both (row d).arrays && are_apart both (row d).maps)) ≡ true
+both_apart Draft4 before = refl
+both_apart Draft6 before = refl
+both_apart Draft7 before = refl
+both_apart Draft201909 before = refl
+both_apart Draft202012 before = absurd (true≢false (sym before))
+both_apart Unknown before = absurd (true≢false (sym before))
 
--- before 2020-12 the scan stops at `items` and `dependencies`, and accepts where the value is an object
-pub stops_at_items : (d : Draft) (k : List ℕ) (object on past : Bool) → is_before_2020 d ≡ true → is_items_or_dependencies k ≡ true → go_on (scan_holding d k) object on past ≡ object
-stops_at_items d k object on past before items =
-    ⊎_elim (λ here. ap (λ w. go_on (scan_holding d w) object on past) (same k (codes "items") here) ∙ at_items d object on past before)
-    (λ later.
-    ⊎_elim (λ here. ap (λ w. go_on (scan_holding d w) object on past) (same k (codes "dependencies") here) ∙ at_dependencies d object on past before)
-    (λ none. absurd (true≢false (sym none))) (or_cases (bytes_eq k (codes "dependencies")) false later))
-    (or_cases (bytes_eq k (codes "items")) (bytes_eq k (codes "dependencies") || false) items)
+neither : (a b : Bool) → a ≡ false → b ≡ false → (a || b) ≡ false
+neither true b e f = e
+neither false b e f = f
+
+-- before 2020-12 `items` and `dependencies` are neither value keywords nor child keywords
+pub items_is_no_value : (d : Draft) (k : List ℕ) → is_before_2020 d ≡ true → is_items_or_dependencies k ≡ true → is_value_keyword d k ≡ false
+items_is_no_value d k before items =
+    apart k both (row d).values (and_parts (are_apart both (row d).values) (are_apart both (row d).arrays && are_apart both (row d).maps) (both_apart d before)).0 items
+
+pub items_is_no_child : (d : Draft) (k : List ℕ) → is_before_2020 d ≡ true → is_items_or_dependencies k ≡ true → is_child_keyword d k ≡ false
+items_is_no_child d k before items =
+    let columns = (and_parts (are_apart both (row d).values) (are_apart both (row d).arrays && are_apart both (row d).maps) (both_apart d before)).1 in
+    let tests = and_parts (are_apart both (row d).arrays) (are_apart both (row d).maps) columns in
+    neither (is_one_of k (row d).arrays) (is_one_of k (row d).maps) (apart k both (row d).arrays tests.0 items) (apart k both (row d).maps tests.1 items)

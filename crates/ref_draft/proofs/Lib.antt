@@ -1,9 +1,15 @@
 pub mod Lists
+pub mod Under
+pub mod Hereditary
 pub mod Trim
 pub mod Held
 pub mod Disjoint
+pub mod Holdings
 pub mod Scanning
 pub mod Depth
 pub mod Given
 pub mod Standing
+pub mod Unique
+pub mod Apart
 pub mod Agreement
+pub mod Beginnings

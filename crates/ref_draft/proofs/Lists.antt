@@ -13,3 +13,7 @@ kept P false x xs p q = q
 pub all_filter : {X : Type 0} (P : X → Type 0) (test : X → Bool) (xs : List X) → AllByRecursion P xs → AllByRecursion P (filter test xs)
 all_filter P test [] p = tt
 all_filter P test (x ∷ xs) p = kept P (test x) x (filter test xs) p.0 (all_filter P test xs p.1)
+
+pub all_map : {X : Type 0} (P Q : X → Type 0) (xs : List X) → ((x : X) → P x → Q x) → AllByRecursion P xs → AllByRecursion Q xs
+all_map P Q [] each p = tt
+all_map P Q (x ∷ xs) each p = (each x p.0, all_map P Q xs each p.1)

@@ -1,17 +1,15 @@
 -- The scan accepts exactly the parts that the definition does.
-use Rattle.std.proofs.Common.{◌≡◌, ℕ, List, [], ◌∷◌, ◌++◌, Bool, true, false, ◌&&◌, ◌||◌, cond, codes, inl, inr, ◌↔◌, refl, sym, ap, ◌∙◌, true≢false, append_assoc}
-use Rattle.std.specs.Str.{bytes_eq}
-use Rattle.std.proofs.lemmas.Bool.{and_parts, or_left, or_right}
+use Rattle.std.proofs.Common.{◌≡◌, ℕ, List, [], ◌∷◌, ◌++◌, Bool, true, false, ◌&&◌, cond, inl, inr, ◌↔◌, refl, sym, ap, ◌∙◌, true≢false, append_assoc}
+use Rattle.std.proofs.lemmas.Bool.{and_parts}
 use Rattle.std.proofs.lemmas.List.{append-nil}
 use Rattle.serde_json.specs.Data.{Data}
 use Rattle.ref_parts.specs.Path.{Part, Key, Index}
 use Rattle.ref_draft.specs.declared.draft.Draft.{Draft}
-use Rattle.ref_draft.specs.declared.spec.Holding.TheVariants.{ElementsOrWhole, ObjectMembers}
-use Rattle.ref_draft.specs.Keywords.{is_one_of, is_before_2020, is_items_or_dependencies}
+use Rattle.ref_draft.specs.Keywords.{is_before_2020, is_items_or_dependencies}
 use Rattle.ref_draft.specs.Children.{is_object}
-use Rattle.ref_draft.specs.Scan.{scan_row, is_value_keyword, is_child_keyword, Piece, AnIndex, AValue, AChild, parts_of, spelled, IsPieceOf, IsWord, SpellsWord, IsAccepted}
-use Rattle.ref_draft.specs.ScanSteps.{go_on, scan, scan_past}
-use Rattle.ref_draft.proofs.Disjoint.{chosen, child_is_no_value, stops_at_items}
+use Rattle.ref_draft.specs.Scan.{is_value_keyword, is_child_keyword, Piece, AnIndex, AValue, AChild, parts_of, spelled, IsPieceOf, IsWord, SpellsWord, IsAccepted}
+use Rattle.ref_draft.specs.ScanSteps.{scan, scan_past}
+use Rattle.ref_draft.proofs.Holdings.{scan-value, scan-child, scan-items}
 
 -- ---- what the scan accepts is accepted
 
@@ -36,34 +34,22 @@ past : (d : Draft) (v : Data) (k : List ℕ) (parts : List Part) → is_child_ke
 past d v k [] child rests h = absurd (true≢false (sym h))
 past d v k (part ∷ parts) child rests h = add d v parts (AChild k part) child (rests part parts refl h)
 
-stop : (d : Draft) (v : Data) (k : List ℕ) (parts : List Part) → is_before_2020 d ≡ true → is_items_or_dependencies k ≡ true → is_object v ≡ true → IsAccepted d (Key k ∷ parts) v
-stop d v k parts before items object =
-    inr (record { before = before; object = object; pieces = []; keyword = k; rest = parts; word = tt; items = items; spells = refl })
-
--- `items` and `dependencies` end the scan alike
-ends : (items object on past : Bool) → go_on (cond items ElementsOrWhole ObjectMembers) object on past ≡ object
-ends true object on past = refl
-ends false object on past = refl
-
-at_key : (d : Draft) (v : Data) (k : List ℕ) (parts : List Part) (value array map either items : Bool)
-    → is_value_keyword d k ≡ value → is_one_of k (scan_row d).arrays ≡ array → is_one_of k (scan_row d).maps ≡ map
-    → (is_before_2020 d && is_items_or_dependencies k) ≡ either
+at_key : (d : Draft) (v : Data) (k : List ℕ) (parts : List Part) (value child : Bool)
+    → is_value_keyword d k ≡ value → is_child_keyword d k ≡ child
     → (scan d (is_object v) parts ≡ true → IsAccepted d parts v) → ((part : Part) (rest : List Part) → parts ≡ part ∷ rest → scan d (is_object v) rest ≡ true → IsAccepted d rest v)
-    → go_on (chosen value array map either items) (is_object v) (scan d (is_object v) parts) (scan_past d (is_object v) parts) ≡ true → IsAccepted d (Key k ∷ parts) v
-at_key d v k parts true array map either items e a m i on rests h = add d v parts (AValue k) e (on h)
-at_key d v k parts false true map either items e a m i on rests h = past d v k parts (or_left (is_one_of k (scan_row d).arrays) (is_one_of k (scan_row d).maps) a) rests h
-at_key d v k parts false false true either items e a m i on rests h = past d v k parts (or_right (is_one_of k (scan_row d).arrays) (is_one_of k (scan_row d).maps) m) rests h
-at_key d v k parts false false false true items e a m i on rests h =
-    let facts = and_parts (is_before_2020 d) (is_items_or_dependencies k) i in
-    stop d v k parts facts.0 facts.1 (sym (ends items (is_object v) (scan d (is_object v) parts) (scan_past d (is_object v) parts)) ∙ h)
-at_key d v k parts false false false false items e a m i on rests h = absurd (true≢false (sym h))
+    → cond value (scan d (is_object v) parts) (cond child (scan_past d (is_object v) parts) ((is_before_2020 d && is_items_or_dependencies k) && is_object v)) ≡ true → IsAccepted d (Key k ∷ parts) v
+at_key d v k parts true child is other on rests h = add d v parts (AValue k) is (on h)
+at_key d v k parts false true is other on rests h = past d v k parts other rests h
+at_key d v k parts false false is other on rests h =
+    let both = and_parts (is_before_2020 d && is_items_or_dependencies k) (is_object v) h in
+    let facts = and_parts (is_before_2020 d) (is_items_or_dependencies k) both.0 in
+    inr (record { before = facts.0; object = both.1; pieces = []; keyword = k; rest = parts; word = tt; items = facts.1; spells = refl })
 
 mutual
   sound : (d : Draft) (v : Data) (parts : List Part) → scan d (is_object v) parts ≡ true → IsAccepted d parts v
   sound d v [] h = inl (record { pieces = []; word = tt; spells = refl })
   sound d v (Index i ∷ parts) h = add d v parts (AnIndex i) tt (sound d v parts h)
-  sound d v (Key k ∷ parts) h = at_key d v k parts (is_value_keyword d k) (is_one_of k (scan_row d).arrays) (is_one_of k (scan_row d).maps) (is_before_2020 d && is_items_or_dependencies k) (bytes_eq k (codes "items"))
-      refl refl refl refl (sound d v parts) (sound_after d v parts) h
+  sound d v (Key k ∷ parts) h = at_key d v k parts (is_value_keyword d k) (is_child_keyword d k) refl refl (sound d v parts) (sound_after d v parts) h
 
   sound_after : (d : Draft) (v : Data) (parts : List Part) (part : Part) (rest : List Part) → parts ≡ part ∷ rest → scan d (is_object v) rest ≡ true → IsAccepted d rest v
   sound_after d v [] part rest is h = absurd (cc)
@@ -73,24 +59,14 @@ mutual
 
 -- ---- what is accepted, the scan accepts
 
-at_value : (value array map either items on object past : Bool) → value ≡ true → go_on (chosen value array map either items) object on past ≡ on
-at_value true array map either items on object past e = refl
-at_value false array map either items on object past e = absurd (true≢false (sym e))
-
-at_child : (value array map either items on object past : Bool) → value ≡ false → (array || map) ≡ true → go_on (chosen value array map either items) object on past ≡ past
-at_child true array map either items on object past e child = absurd (true≢false e)
-at_child false true map either items on object past e child = refl
-at_child false false true either items on object past e child = refl
-at_child false false false either items on object past e child = absurd (true≢false (sym child))
-
 -- the scan goes on after a piece
 passes : (d : Draft) (object : Bool) (piece : Piece) (rest : List Part) → IsPieceOf d piece → scan d object (parts_of piece ++ rest) ≡ scan d object rest
 passes d object (AnIndex i) rest ok = refl
-passes d object (AValue k) rest ok = at_value (is_value_keyword d k) (is_one_of k (scan_row d).arrays) (is_one_of k (scan_row d).maps) (is_before_2020 d && is_items_or_dependencies k) (bytes_eq k (codes "items")) _ object _ ok
-passes d object (AChild k part) rest ok = at_child (is_value_keyword d k) (is_one_of k (scan_row d).arrays) (is_one_of k (scan_row d).maps) (is_before_2020 d && is_items_or_dependencies k) (bytes_eq k (codes "items")) _ object _ (child_is_no_value d k ok) ok
+passes d object (AValue k) rest ok = scan-value d object k rest ok
+passes d object (AChild k part) rest ok = scan-child d object k (part ∷ rest) ok
 
 -- and after a word
-passes_word : (d : Draft) (object : Bool) (pieces : List Piece) (rest : List Part) → IsWord d pieces → scan d object (spelled pieces ++ rest) ≡ scan d object rest
+pub passes_word : (d : Draft) (object : Bool) (pieces : List Piece) (rest : List Part) → IsWord d pieces → scan d object (spelled pieces ++ rest) ≡ scan d object rest
 passes_word d object [] rest word = refl
 passes_word d object (piece ∷ pieces) rest word =
     ap (scan d object) (append_assoc (parts_of piece) (spelled pieces) rest) ∙ passes d object piece (spelled pieces ++ rest) word.0 ∙ passes_word d object pieces rest word.1
@@ -99,7 +75,7 @@ complete : (d : Draft) (v : Data) (parts : List Part) → IsAccepted d parts v �
 complete d v parts (inl w) = ap (scan d (is_object v)) (w.spells ∙ sym (append-nil (spelled w.pieces))) ∙ passes_word d (is_object v) w.pieces [] w.word
 complete d v parts (inr w) =
     ap (scan d (is_object v)) w.spells ∙ passes_word d (is_object v) w.pieces (Key w.keyword ∷ w.rest) w.word
-    ∙ stops_at_items d w.keyword (is_object v) (scan d (is_object v) w.rest) (scan_past d (is_object v) w.rest) w.before w.items ∙ w.object
+    ∙ scan-items d (is_object v) w.keyword w.rest (record { before = w.before; items = w.items }) ∙ w.object
 
 pub scan_accepts : (d : Draft) (v : Data) (parts : List Part) → (scan d (is_object v) parts ≡ true) ↔ IsAccepted d parts v
 scan_accepts d v parts = (sound d v parts, complete d v parts)
@@ -114,5 +90,4 @@ refused d v parts e h = true≢false (sym (complete d v parts h) ∙ e)
 pub stops_within : (d : Draft) (v : Data) (parts : List Part) (k : List ℕ) → SpellsWord d parts → is_child_keyword d k ≡ true → IsAccepted d (parts ++ Key k ∷ []) v → ⊥
 stops_within d v parts k w child =
     refused d v (parts ++ Key k ∷ [])
-    (ap (λ ps. scan d (is_object v) (ps ++ Key k ∷ [])) w.spells ∙ passes_word d (is_object v) w.pieces (Key k ∷ []) w.word
-    ∙ at_child (is_value_keyword d k) (is_one_of k (scan_row d).arrays) (is_one_of k (scan_row d).maps) (is_before_2020 d && is_items_or_dependencies k) (bytes_eq k (codes "items")) true (is_object v) false (child_is_no_value d k child) child)
+    (ap (λ ps. scan d (is_object v) (ps ++ Key k ∷ [])) w.spells ∙ passes_word d (is_object v) w.pieces (Key k ∷ []) w.word ∙ scan-child d (is_object v) k [] child)

@@ -9,24 +9,20 @@ use Rattle.serde_json.specs.Find.{as_object, get, get_item, get_member}
 use Rattle.serde_json.specs.View.{view, members_view}
 use Rattle.serde_json.specs.declared.value.Value.{Value}
 use Rattle.serde_json.proofs.Views.{view-lookup}
-use Rattle.ref_parts.specs.Path.{Part, Key, value_at}
+use Rattle.ref_parts.specs.Path.{Key, value_at}
 use Rattle.ref_draft.specs.declared.draft.Draft.{Draft}
 use Rattle.ref_draft.specs.declared.spec.Holding.{Holding}
 use Rattle.ref_draft.specs.declared.spec.Holding.TheVariants.{Whole, WholeObject, Elements, Members as EachMember, ElementsOrWhole, ObjectMembers, Nothing}
 use Rattle.ref_draft.specs.Children.{Child, Walked, with_draft, AllStand, whole, elements_from, each_member, elements, members, held, has_object}
-use Rattle.ref_draft.specs.WalkSteps.{AreFoundIn, HasUniqueKeys, HasUniqueKeysWhere, members_in}
+use Rattle.ref_draft.specs.inner.WalkSteps.{AreFoundIn, FindsMembers, FindsMembersWhere, members_in}
 use Rattle.ref_draft.proofs.Lists.{all_append, all_filter}
-
--- a path without its first part
-abbrev rest_of : List Part → List Part
-rest_of [] = []
-rest_of (part ∷ path) = path
+use Rattle.ref_draft.proofs.Under.{rest_of}
 
 -- each child's path is the keyword and what leads to it from the keyword's value
-abbrev StandsUnder : List ℕ → Data → Child → Type 0
+abbrev pub StandsUnder : List ℕ → Data → Child → Type 0
 StandsUnder k v child = (child.0 ≡ Key k ∷ rest_of child.0) × (value_at v (rest_of child.0) ≡ Some child.1)
 
-abbrev StandUnder : List ℕ → Data → List Child → Type 0
+abbrev pub StandUnder : List ℕ → Data → List Child → Type 0
 StandUnder k v cs = AllByRecursion (StandsUnder k v) cs
 
 shift : (i j : ℕ) → i + suc j ≡ suc i + j
@@ -65,7 +61,7 @@ stand_elements_or_whole k (string s) = ((refl, refl), tt)
 stand_elements_or_whole k (array ds) = stand_elements_from k 0 ds ds (λ j. ap (λ n. get_item n ds) (front j))
 stand_elements_or_whole k (object ms) = ((refl, refl), tt)
 
-stand_members : (k : List ℕ) (v : Data) → HasUniqueKeys v → StandUnder k v (members k v)
+stand_members : (k : List ℕ) (v : Data) → FindsMembers v → StandUnder k v (members k v)
 stand_members k null u = tt
 stand_members k (boolean b) u = tt
 stand_members k (number x) u = tt
@@ -73,7 +69,7 @@ stand_members k (string s) u = tt
 stand_members k (array ds) u = tt
 stand_members k (object ms) u = stand_each_member k ms ms u
 
-stand_held : (how : Holding) (k : List ℕ) (v : Data) → HasUniqueKeysWhere how v → StandUnder k v (held how k v)
+pub stand_held : (how : Holding) (k : List ℕ) (v : Data) → FindsMembersWhere how v → StandUnder k v (held how k v)
 stand_held Whole k v u = ((refl, refl), tt)
 stand_held WholeObject k v u = all_filter (StandsUnder k v) has_object (whole k v) ((refl, refl), tt)
 stand_held Elements k v u = stand_elements k v
@@ -85,7 +81,7 @@ stand_held Nothing k v u = tt
 -- ---- from an object
 
 -- found under its key, the keyword's value has its children where the object has them
-from_object : (d : Draft) (t : Data) (k : List ℕ) (v : Data) (cs : List Child) → get k t ≡ Some v → StandUnder k v cs → AllStand t (map (with_draft d) cs)
+pub from_object : (d : Draft) (t : Data) (k : List ℕ) (v : Data) (cs : List Child) → get k t ≡ Some v → StandUnder k v cs → AllStand t (map (with_draft d) cs)
 from_object d t k v [] found p = tt
 from_object d t k v (c ∷ cs) found p =
     (ap (value_at t) p.0.0 ∙ ap (option_and_then (λ e. value_at e (rest_of c.0))) found ∙ p.0.1, from_object d t k v cs found p.1)
@@ -99,7 +95,7 @@ get_in (array ds) k v e = e
 get_in (object ms) k v e = e
 
 -- one keyword more
-pub step : (d : Draft) (t : Data) (how : Holding) (k : List ℕ) (v : Data) (done all : List Walked) → AllStand t done → get_member k (members_in t) ≡ Some v → HasUniqueKeysWhere how v → all ≡ done ++ map (with_draft d) (held how k v) → AllStand t all
+pub step : (d : Draft) (t : Data) (how : Holding) (k : List ℕ) (v : Data) (done all : List Walked) → AllStand t done → get_member k (members_in t) ≡ Some v → FindsMembersWhere how v → all ≡ done ++ map (with_draft d) (held how k v) → AllStand t all
 step d t how k v done all before found unique is = rw is (all_append (λ child. value_at t child.path ≡ Some child.value) done (map (with_draft d) (held how k v)) before (from_object d t k v (held how k v) (get_in t k v found) (stand_held how k v unique)))
 
 -- ---- the entries of a map
@@ -120,7 +116,7 @@ members_in_is (string s) ms e = absurd (cc)
 members_in_is (array ds) ms e = absurd (cc)
 members_in_is (object ns) ms e = cc
 
-pub unique_object : (t : Data) (ms : Members) → Some ms ≡ as_object t → AreFoundIn ms ms → HasUniqueKeys t
+pub unique_object : (t : Data) (ms : Members) → Some ms ≡ as_object t → AreFoundIn ms ms → FindsMembers t
 unique_object null ms e found = tt
 unique_object (boolean b) ms e found = tt
 unique_object (number x) ms e found = tt
@@ -128,7 +124,7 @@ unique_object (string s) ms e found = tt
 unique_object (array ds) ms e found = tt
 unique_object (object ns) ms e found = let same : ms ≡ ns = cc in rw (← same) found
 
-pub unique_other : (t : Data) → None ≡ as_object t → HasUniqueKeys t
+pub unique_other : (t : Data) → None ≡ as_object t → FindsMembers t
 unique_other null e = tt
 unique_other (boolean b) e = tt
 unique_other (number x) e = tt

@@ -1,14 +1,22 @@
 -- What `trim_end_matches` gives at the character `#` is the text without the `#` characters at its end.
-use Rattle.std.proofs.Common.{◌≡◌, ◌≢◌, ℕ, ◌≤◌, ◌+◌, ◌-◌, List, [], ◌∷◌, ◌++◌, length, take, Bool, true, false, Option, Some, None, IfSome, nat_eq, Bor, MatchOption, drop, option_map, refl, sym, ap, ◌∙◌, arith, rules}
+use Rattle.std.proofs.Common.{◌≡◌, ◌≢◌, ℕ, ◌≤◌, ◌+◌, ◌-◌, List, [], ◌∷◌, ◌++◌, length, take, Bool, true, false, Option, Some, None, IfSome, nat_eq, Bor, MatchOption, drop, option_map, reverse, cond, ◌==◌, refl, sym, ap, ◌∙◌, arith, rules}
+use Rattle.std.specs.List.{prefix_len, suffix_len}
+use Rattle.std.proofs.lemmas.List.{reverse-append, reverse-reverse, length-append, take-append-le, take_all}
 use Rattle.std.specs.Str.Pattern.{FindsCharSuffix, CutsSuffixes, IsTrimEndMatches}
 use Rattle.std.specs.Str.Pattern.{FindsCharPrefix}
 use Rattle.std.proofs.lemmas.Str.Pattern.{ends_char, strip_prefix_char}
 use Rattle.ref_draft.specs.Anchors.{after_hash}
-use Rattle.ref_draft.specs.Schema.{before, trimmed}
+use Rattle.ref_draft.specs.Schema.{trimmed}
+
+abbrev is_hash : ℕ → Bool
+is_hash c = c == 35
 
 trimmed-hash : (text : List ℕ) → trimmed (text ++ (35 ∷ [])) ≡ trimmed text
-trimmed-hash [] = refl
-trimmed-hash (c ∷ text) = ap (before c) (trimmed-hash text)
+trimmed-hash text =
+    let run : suffix_len is_hash (text ++ (35 ∷ [])) ≡ 1 + suffix_len is_hash text = ap (prefix_len is_hash) (reverse-append text (35 ∷ [])) in
+    let within : length text - suffix_len is_hash text ≤ length text = omega arith in
+    let count : length (text ++ (35 ∷ [])) - suffix_len is_hash (text ++ (35 ∷ [])) ≡ length text - suffix_len is_hash text = omega (arith, run, length-append text (35 ∷ [])) in
+    ap (λ n. take n (text ++ (35 ∷ []))) count ∙ take-append-le (length text - suffix_len is_hash text) text (35 ∷ []) within
 
 -- cutting one `#` leaves the trimmed text as it was
 trimmed-cut : (m : List ℕ) (n : ℕ) → FindsCharSuffix 35 m (Some n) → trimmed (take (length m - n) m) ≡ trimmed m
@@ -22,15 +30,21 @@ trimmed-cuts : (s : List ℕ) (ns : List ℕ) (r : List ℕ) → CutsSuffixes (F
 trimmed-cuts s [] r cuts = ap trimmed cuts
 trimmed-cuts s (n ∷ ns) r cuts = ap trimmed cuts.3 ∙ trimmed-cut cuts.0 n cuts.2 ∙ trimmed-cuts s ns cuts.0 cuts.1
 
-kept : (c : ℕ) (b : Bool) → nat_eq c 35 ≡ b → ((front : List ℕ) → c ∷ [] ≢ front ++ (35 ∷ [])) → before c [] ≡ c ∷ []
-kept c true e ends = absurd (ends [] (ap (λ d. d ∷ []) (search (rules, e))))
-kept c false e ends = rw e
+no_run : (c : ℕ) (rest : List ℕ) (b : Bool) → nat_eq c 35 ≡ b → (c ≡ 35 → ⊥) → prefix_len is_hash (c ∷ rest) ≡ 0
+no_run c rest true e other = absurd (other (search (rules, e)))
+no_run c rest false e other = ap (λ b. cond b (1 + prefix_len is_hash rest) 0) e
+
+run_from : (r back : List ℕ) → reverse r ≡ back → ((front : List ℕ) → r ≢ front ++ (35 ∷ [])) → suffix_len is_hash r ≡ 0
+run_from r [] is ends = ap (prefix_len is_hash) is
+run_from r (c ∷ back) is ends =
+    let whole : r ≡ reverse back ++ (c ∷ []) = sym (reverse-reverse r) ∙ ap reverse is ∙ reverse-append (c ∷ []) back in
+    ap (prefix_len is_hash) is ∙ no_run c back (nat_eq c 35) refl (λ hash. ends (reverse back) (whole ∙ ap (λ d. reverse back ++ (d ∷ [])) hash))
 
 -- a text that doesn't end in `#` stays
 trimmed-whole : (r : List ℕ) → ((front : List ℕ) → r ≢ front ++ (35 ∷ [])) → trimmed r ≡ r
-trimmed-whole [] ends = refl
-trimmed-whole (c ∷ []) ends = kept c (nat_eq c 35) refl ends
-trimmed-whole (c ∷ e ∷ rest) ends = ap (before c) (trimmed-whole (e ∷ rest) (λ front is. ends (c ∷ front) (ap (λ t. c ∷ t) is)))
+trimmed-whole r ends =
+    let run : suffix_len is_hash r ≡ 0 = run_from r (reverse r) refl ends in
+    take_all (length r - suffix_len is_hash r) r (omega (arith, run))
 
 trimmed-full : (r : List ℕ) (o : Option ℕ) → FindsCharSuffix 35 r o → IfSome o (λ n. n ≡ 0) → trimmed r ≡ r
 unfolding lib.Utf8.encode

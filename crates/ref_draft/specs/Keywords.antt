@@ -66,17 +66,13 @@ row Draft4 = row_4
 row Draft6 = row_6
 row Draft7 = row_7
 row Draft201909 = row_2019
-row Draft202012 = row_2020
-row Unknown = row_2020
+row _ = row_2020
 
 -- Drafts 4 to 2019-09, where `items` and `dependencies` hold schemas in more than one way
 abbrev pub is_before_2020 : Draft → Bool
-is_before_2020 Draft4 = true
-is_before_2020 Draft6 = true
-is_before_2020 Draft7 = true
-is_before_2020 Draft201909 = true
 is_before_2020 Draft202012 = false
 is_before_2020 Unknown = false
+is_before_2020 _ = true
 
 -- `items` or `dependencies`
 abbrev pub is_items_or_dependencies : List ℕ → Bool
@@ -88,21 +84,21 @@ abbrev pub boolean_or_schema : Draft → List (List ℕ)
 boolean_or_schema Draft4 = map codes ("additionalItems" ∷ "additionalProperties" ∷ [])
 boolean_or_schema _ = []
 
--- How a keyword holds its subschemas, by a row, the keywords that may have a boolean in place of a schema, and whether
--- the draft is before 2020-12: there `items` is an array of schemas or one schema, and the members of `dependencies`
--- are schemas where they are objects
-abbrev pub holding_by : Row → List (List ℕ) → Bool → List ℕ → Holding
-holding_by r booleans before_2020 keyword =
-    if is_one_of keyword booleans then WholeObject
-    else (if is_one_of keyword r.values then Whole
-    else (if is_one_of keyword r.arrays then Elements
-    else (if is_one_of keyword r.maps then Members
-    else (if before_2020 && is_items_or_dependencies keyword then (if bytes_eq keyword (codes "items") then ElementsOrWhole else ObjectMembers)
-    else Nothing))))
-
--- How a keyword of a draft holds its subschemas
+-- How a keyword of a draft holds its subschemas. Before 2020-12 `items` is an array of schemas or one schema, and the
+-- members of `dependencies` are schemas where they are objects.
 abbrev pub holding : Draft → List ℕ → Holding
-holding d keyword = holding_by (row d) (boolean_or_schema d) (is_before_2020 d) keyword
+holding d keyword =
+    if is_one_of keyword (boolean_or_schema d) then WholeObject
+    else (if is_one_of keyword (row d).values then Whole
+    else (if is_one_of keyword (row d).arrays then Elements
+    else (if is_one_of keyword (row d).maps then Members
+    else (if is_before_2020 d && bytes_eq keyword (codes "items") then ElementsOrWhole
+    else (if is_before_2020 d && bytes_eq keyword (codes "dependencies") then ObjectMembers
+    else Nothing)))))
+
+-- whether the members of a keyword's object are schemas
+abbrev pub is_map_keyword : Draft → List ℕ → Bool
+is_map_keyword d keyword = is_one_of keyword (row d).maps || is_before_2020 d && bytes_eq keyword (codes "dependencies")
 
 -- What `subresources_of` leaves out: in 2019-09 what is under `dependencies`
 abbrev pub is_left_out : Draft → List ℕ → Bool
@@ -119,18 +115,12 @@ abbrev pub is_before_2019 : Draft → Bool
 is_before_2019 Draft4 = true
 is_before_2019 Draft6 = true
 is_before_2019 Draft7 = true
-is_before_2019 Draft201909 = false
-is_before_2019 Draft202012 = false
-is_before_2019 Unknown = false
+is_before_2019 _ = false
 
 -- whether a draft is that of a custom meta-schema
 abbrev pub is_unknown : Draft → Bool
-is_unknown Draft4 = false
-is_unknown Draft6 = false
-is_unknown Draft7 = false
-is_unknown Draft201909 = false
-is_unknown Draft202012 = false
 is_unknown Unknown = true
+is_unknown _ = false
 
 -- ---- the keywords that a draft knows
 
@@ -168,5 +158,4 @@ is_known Draft4 k = is_one_of k known_in_all || is_one_of k known_in_4
 is_known Draft6 k = is_one_of k known_in_all || is_one_of k known_since_6
 is_known Draft7 k = is_one_of k known_in_all || is_one_of k known_since_6 || is_one_of k known_since_7
 is_known Draft201909 k = is_known_in_2019 k
-is_known Draft202012 k = is_known_in_2019 k || is_one_of k known_since_2020
-is_known Unknown k = is_known_in_2019 k || is_one_of k known_since_2020
+is_known _ k = is_known_in_2019 k || is_one_of k known_since_2020

@@ -5,6 +5,8 @@ pub mod Anchors
 pub mod Scan
 pub mod Views
 pub mod ScanSteps
+pub mod Beginnings
+pub mod UniqueKeys
 pub mod Rows
 pub mod Order
-pub mod WalkSteps
+pub mod inner

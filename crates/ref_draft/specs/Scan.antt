@@ -1,34 +1,20 @@
 -- Where an identifier may change the base along a pointer: the parts since the last change lead from schema to schema.
 -- This is the project's own rule; the keywords are the drafts'.
-use Rattle.std.specs.Prelude.{◌≡◌, ℕ, List, [], ◌∷◌, ◌++◌, map, codes, IsTrue, Bool, ◌||◌, ◌⊎◌, ⊤}
+use Rattle.std.specs.Prelude.{◌≡◌, ℕ, List, [], ◌∷◌, ◌++◌, IsTrue, Bool, ◌||◌, ◌⊎◌, ⊤}
 use Rattle.std.specs.List.{AllByRecursion}
 use Rattle.serde_json.specs.Data.{Data}
 use Rattle.ref_parts.specs.Path.{Part, Key, Index}
 use Rattle.ref_draft.specs.declared.draft.Draft.{Draft}
-use Rattle.ref_draft.specs.declared.draft.Draft.TheVariants.{Draft4}
-use Rattle.ref_draft.specs.Keywords.{Row, row, is_one_of, is_before_2020, is_items_or_dependencies}
+use Rattle.ref_draft.specs.Keywords.{row, is_one_of, is_before_2020, is_items_or_dependencies}
 use Rattle.ref_draft.specs.Children.{Child, is_object}
-
--- the row of Draft 4 that the scan reads: fewer keywords than the walk's
-abbrev pub draft_4_row : Row
-draft_4_row = record {
-  values = map codes ("additionalItems" ∷ "additionalProperties" ∷ "not" ∷ []);
-  arrays = map codes ("allOf" ∷ "anyOf" ∷ "oneOf" ∷ []);
-  maps = map codes ("definitions" ∷ "patternProperties" ∷ "properties" ∷ []);
-}
-
--- the row that the scan reads: the walk's but for Draft 4
-abbrev pub scan_row : Draft → Row
-scan_row Draft4 = draft_4_row
-scan_row d = row d
 
 -- whether a keyword's value is a schema
 abbrev pub is_value_keyword : Draft → List ℕ → Bool
-is_value_keyword d keyword = is_one_of keyword (scan_row d).values
+is_value_keyword d keyword = is_one_of keyword (row d).values
 
 -- whether a keyword's elements or members are schemas, so that one further part leads to each
 abbrev pub is_child_keyword : Draft → List ℕ → Bool
-is_child_keyword d keyword = is_one_of keyword (scan_row d).arrays || is_one_of keyword (scan_row d).maps
+is_child_keyword d keyword = is_one_of keyword (row d).arrays || is_one_of keyword (row d).maps
 
 -- a piece of a word: an index, a value keyword, or a child keyword with the part after it
 pub data Piece : Type 0 where
@@ -77,10 +63,6 @@ pub record PassesItems (d : Draft) (parts : List Part) (value : Data) : Type 0 w
 -- The parts are accepted at a value: an identifier there may change the base
 abbrev pub IsAccepted : Draft → List Part → Data → Type 0
 IsAccepted d parts value = SpellsWord d parts ⊎ PassesItems d parts value
-
--- the scan of a draft reads the walk's row
-abbrev pub ReadsTheWalk : Draft → Type 0
-ReadsTheWalk d = scan_row d ≡ row d
 
 -- the parts followed by a child's path are accepted at the child, where that is an object
 abbrev pub AcceptsChildren : Draft → List Part → List Child → Type 0

@@ -1,6 +1,6 @@
 -- Which draft a schema is read by, and its identifier (2020-12 Core, 8.1.1 and 8.2.1; Draft 7 Core, 7 and 8.2).
-use Rattle.std.specs.Prelude.{ℕ, List, [], ◌∷◌, ◌++◌, Bool, false, ◌&&◌, ◌||◌, ◌==◌, codes, if◌then◌else◌, Option, Some, None, is_some, option_and_then}
-use Rattle.std.specs.List.{find}
+use Rattle.std.specs.Prelude.{ℕ, ◌-◌, List, [], ◌∷◌, ◌++◌, length, take, Bool, false, ◌&&◌, ◌||◌, ◌==◌, codes, if◌then◌else◌, Option, Some, None, is_some, option_and_then}
+use Rattle.std.specs.List.{find, suffix_len}
 use Rattle.std.specs.Option.{option_map_or}
 use Rattle.std.specs.Str.{bytes_eq}
 use Rattle.serde_json.specs.Data.{Data}
@@ -17,15 +17,9 @@ text_under key d = option_and_then as_str (get key d)
 abbrev pub is_true : Data → Bool
 is_true value = option_map_or (λ b. b) (as_bool value) false
 
--- a character before what is left of the text after it: a `#` before nothing is left out too
-abbrev pub before : ℕ → List ℕ → List ℕ
-before c [] = if c == 35 then [] else c ∷ []
-before c (e ∷ rest) = c ∷ e ∷ rest
-
--- a text without the `#` characters at its end
+-- a text without the run of `#` characters at its end
 abbrev pub trimmed : List ℕ → List ℕ
-trimmed [] = []
-trimmed (c ∷ text) = before c (trimmed text)
+trimmed text = take (length text - suffix_len (λ c. c == 35) text) text
 
 -- what follows `http` or `https` in the URI of each meta-schema; the one without a version is that of 2020-12
 abbrev pub meta_schemas : List (List ℕ × Draft)

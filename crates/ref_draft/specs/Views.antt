@@ -25,7 +25,7 @@ use Rattle.ref_draft.specs.declared.spec.children.ChildIterInner.TheVariants as 
 use Rattle.ref_draft.specs.declared.spec.walk.Child.{Child}
 use Rattle.ref_draft.specs.Anchors.{Kind, Plain, Dynamic}
 use Rattle.ref_draft.specs.Schema.{identifier}
-use Rattle.ref_draft.specs.Children.{Child as Pair, Walked, is_object, subresources, with_draft}
+use Rattle.ref_draft.specs.Children.{Walked, is_object, subresources}
 
 -- a tree, and the draft that it is read by
 pub record Tagged : Type 0 where
@@ -97,7 +97,3 @@ inner_left inner.Empty = []
 -- the values that an iterator has left: those under the keyword that it is at, then those under the keywords after it
 abbrev pub values_left : ChildIter → List Data
 values_left it = inner_left it.current ++ option_map_or (λ members. subresources it.draft (object (members_view members))) it.members []
-
--- the children cs were added at the end, each with the draft that d detects on it
-abbrev pub Adds : Draft → List Pair → List Child → List Child → Type 0
-Adds d cs old new = map walked_child new ≡ map walked_child old ++ map (with_draft d) cs

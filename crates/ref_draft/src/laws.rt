@@ -4,22 +4,34 @@ ghost use Rattle.std.specs.List.{AllByRecursion};
 ghost use Rattle.std.specs.Ordering.{nat_cmp};
 ghost use Rattle.serde_json.specs.Data.{Data, depth};
 ghost use Rattle.ref_draft.specs.declared.draft.Draft.{Draft as Version};
-ghost use Rattle.ref_draft.specs.Children.{children, is_object};
+ghost use Rattle.ref_draft.specs.declared.segments.Segment.{Segment as PointerSegment};
+ghost use Rattle.ref_draft.specs.Children.{AllStand, children, is_object, walked};
 ghost use Rattle.ref_draft.specs.Order.{rank};
-ghost use Rattle.ref_draft.specs.Scan.{AcceptsChildren, IsAccepted, ReadsTheWalk, SpellsWord, is_child_keyword};
+ghost use Rattle.ref_draft.specs.Scan.{AcceptsChildren, IsAccepted, SpellsWord, is_child_keyword};
 ghost use Rattle.ref_draft.specs.ScanSteps.{scan};
-ghost use Rattle.ref_parts.specs.Path.{Key, Part};
+ghost use Rattle.ref_draft.specs.Beginnings.{AllEndWithin};
+ghost use Rattle.ref_draft.specs.UniqueKeys.{HasUniqueKeys};
+ghost use Rattle.ref_draft.specs.Views.{part_of};
+ghost use Rattle.ref_parts.specs.Path.{Key, Part, part_eq};
 
 use crate::draft::Draft;
+use crate::segments::Segment;
 
 /// The drafts are ordered by age, with the custom meta-schema last.
 pub fn drafts_are_ordered()
     ensures law { (a b : Version) → ⟦<Draft as Ord>⟧.cmp a b ≡ nat_cmp (rank a) (rank b) }
 {}
 
-/// The draft without further knowledge is 2020-12.
+/// The draft without further knowledge is 2020-12, and none else.
 pub fn default_is_2020()
-    ensures law { ⟦<Draft as Default>⟧.is_default Draft.Draft202012 }
+    ensures law { (d : Version) → ⟦<Draft as Default>⟧.is_default d → d ≡ Draft.Draft202012 }
+{}
+
+/// Segments are equal where their parts are: keys where their texts are, borrowed or owned, and indexes where they are one
+/// number. A copy has the part of what it copies.
+pub fn segments_are_parts()
+    ensures equality { (a b : PointerSegment) → ⟦<Segment<'static> as PartialEq>⟧.eq a b ≡ part_eq (part_of a) (part_of b) }
+    ensures copy { (segment copy : PointerSegment) → ⟦<Segment<'static> as Clone>⟧.is_clone segment copy → part_of copy ≡ part_of segment }
 {}
 
 /// A child nests less deeply than the value that it is a child of, so that the levels of children end.
@@ -27,11 +39,23 @@ pub fn children_are_shallower()
     ensures law { (d : Version) (value : Data) → AllByRecursion (λ child. depth child.1 < depth value) (children d value) }
 {}
 
-/// Where the scan reads the walk's keywords and accepts the parts that lead to a value, it accepts those that lead on to
-/// each of its children that is an object.
+/// Each child of a value whose objects have each key once stands at its path.
+pub fn children_stand_at_their_paths()
+    ensures law { (d : Version) (value : Data) → HasUniqueKeys value → AllStand value (walked d value) }
+{}
+
+/// Where the parts that lead to a value are accepted, those that lead on to each of its children that is an object are
+/// accepted there.
 pub fn scan_goes_on_to_children()
     ensures law { (d : Version) (parts : List Part) (value : Data)
-        → ReadsTheWalk d → IsAccepted d parts value → AcceptsChildren d parts (children d value) }
+        → IsAccepted d parts value → AcceptsChildren d parts (children d value) }
+{}
+
+/// Before the path of a child ends, behind parts that are accepted, it leads to an array or to a map of subschemas, and since
+/// 2020-12 nothing there is accepted. The children are to stand at their paths, as `children_stand_at_their_paths` says.
+pub fn paths_of_children_end_within()
+    ensures law { (d : Version) (parts : List Part) (value : Data)
+        → IsAccepted d parts value → AllStand value (walked d value) → AllEndWithin d parts value (children d value) }
 {}
 
 /// The scan, which reads the parts from the left, accepts exactly those that are accepted.

@@ -337,9 +337,10 @@ fn scans(rt: HostRuntime) -> Result<(), Fail> {
         (Draft::Draft6, "dependencies", true, false),
         (Draft::Draft6, "if", false, false),
         (Draft::Draft201909, "$defs a if", true, true),
-        (Draft::Draft4, "$defs a", false, false),
+        (Draft::Draft4, "$defs a", true, true),
         (Draft::Draft4, "definitions a not", true, true),
-        (Draft::Draft4, "contains", false, false),
+        (Draft::Draft4, "contains", true, true),
+        (Draft::Draft4, "const", false, false),
         (Draft::Unknown, "prefixItems 0", true, true),
     ] {
         let mut segments = Segments::new(rt.alloc());

@@ -8,22 +8,11 @@ use Rattle.std.proofs.lemmas.Bool.{not-false}
 use Rattle.std.proofs.lemmas.Slice.Eq.{bytes_eq-Decides}
 use Rattle.std.proofs.lemmas.List.Elements.{filter-append}
 use Rattle.std.proofs.lemmas.Grind.{flat_map-append}
+use Rattle.referencing.proofs.Last.{last_there, last_stays, last_behind}
 use Rattle.referencing.specs.World.{Document, Layer, World}
 use Rattle.referencing.specs.Places.{Place, places, root}
-use Rattle.referencing.specs.Resources.{last_of, last_under, resource_of, resources_in, resources, means}
+use Rattle.referencing.specs.Resources.{last_under, resource_of, resources_in, resources, means}
 use Rattle.referencing.specs.Wants.{Want, wants_at, wants, is_open, open_wants}
-
-last_there : {X : Type 0} (x : X) (xs : List X) → is_some (last_of (x ∷ xs)) ≡ true
-last_there x [] = refl
-last_there x (y ∷ xs) = last_there y xs
-
-last_stays : {X : Type 0} (xs ys : List X) → is_some (last_of xs) ≡ true → is_some (last_of (xs ++ ys)) ≡ true
-last_stays [] ys there = absurd (true≢false (sym there))
-last_stays (x ∷ xs) ys there = last_there x (xs ++ ys)
-
-last_behind : {X : Type 0} (xs ys : List X) → is_some (last_of ys) ≡ true → is_some (last_of (xs ++ ys)) ≡ true
-last_behind [] ys there = there
-last_behind (x ∷ xs) ys there = last_there x (xs ++ ys)
 
 under_stays : (layer more : Layer) (uri : List ℕ) → is_some (last_under uri (resources layer)) ≡ true → is_some (last_under uri (resources (layer ++ more))) ≡ true
 under_stays layer more uri there =

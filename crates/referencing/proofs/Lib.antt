@@ -1,7 +1,11 @@
 pub mod OnLiterals
 pub mod Retrieval
+pub mod Last
 pub mod Appending
 pub mod Closure
 pub mod References
 pub mod Levels
+pub mod Descent
+pub mod Changes
+pub mod Differ
 pub mod Pending

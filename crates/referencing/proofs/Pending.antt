@@ -6,7 +6,7 @@ use Rattle.std.proofs.lemmas.List.Elements.{All-nil, All-cons}
 use Rattle.std.proofs.lemmas.List.Quantifiers.{all_pairs_push}
 use Rattle.std.proofs.lemmas.Slice.Eq.{bytes_eq-Decides}
 use Rattle.ref_uri.specs.Targets.{Refusal}
-use Rattle.referencing.specs.Pointers.{◌>>=◌}
+use Rattle.referencing.specs.Results.{◌>>=◌}
 use Rattle.referencing.specs.Pending.{Addition, Pending, pending_of, with_pending, extended}
 
 abbrev uris : List Pending → List (List ℕ)

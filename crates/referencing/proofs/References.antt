@@ -1,9 +1,9 @@
 -- A lookup from a place of a layer without an open want finds the place that its URI means.
-use Rattle.std.proofs.Common.{◌≡◌, ℕ, zero, suc, ◌==◌, Bool, true, false, not, cond, List, [], ◌∷◌, ◌++◌, filter, flat_map, Option, Some, None, is_some, Result, Ok, Err, codes, refl, sym, ap, subst, ◌∙◌, true≢false, arith}
+use Rattle.std.proofs.Common.{◌≡◌, ℕ, zero, suc, ◌==◌, Bool, true, false, not, cond, List, [], ◌∷◌, ◌++◌, filter, flat_map, Option, Some, None, is_some, option_map, Result, Ok, Err, codes, refl, sym, ap, subst, ◌∙◌, true≢false, arith}
 use Rattle.std.specs.List.{Contains, list_any, All}
 use Rattle.std.specs.Prelude.{⊤}
 use Rattle.std.specs.Str.{is_utf8}
-use Rattle.std.specs.Option.{option_map_or}
+use Rattle.std.specs.Option.{ok_or, option_or}
 use Rattle.std.proofs.lemmas.List.Elements.{Contains-append_left, Contains-append_right, All-nil, All-cons}
 use Rattle.percent_encoding.specs.Percent.{percent_decode}
 use Rattle.serde_json.specs.Data.{Data, null, boolean, number, string, array, object}
@@ -17,11 +17,12 @@ use Rattle.ref_uri.specs.Targets.{Refusal, target, fragment_part}
 use Rattle.referencing.specs.World.{Document, Layer, World}
 use Rattle.referencing.specs.Places.{Place, places}
 use Rattle.referencing.specs.Resources.{means}
-use Rattle.referencing.specs.Fault.{Fault, Unretrievable, PointerToNowhere, InvalidPercentEncoding, InvalidArrayIndex, NoSuchAnchor, InvalidAnchor, InvalidUri, UnknownSpecification, CircularMetaschema, RetrievalLimit}
-use Rattle.referencing.specs.Anchors.{Named, named, fallback_uri, found_or, fallback, anchor}
+use Rattle.referencing.specs.Fault.{Fault, Unretrievable, PointerToNowhere, InvalidPercentEncoding, InvalidArrayIndex, NoSuchAnchor, InvalidAnchor, InvalidUri, UnknownSpecification, CircularMetaschema, RetrievalLimit, as_invalid_uri}
+use Rattle.referencing.specs.Results.{◌>>=◌}
+use Rattle.referencing.specs.Anchors.{Named, named, named_by_identifier, not_named, anchor}
 use Rattle.referencing.specs.Bases.{Along, along_part}
-use Rattle.referencing.specs.Pointers.{◌>>=◌, as_invalid_uri, or_fault, index_of, step_into, walked_along, pointed}
-use Rattle.referencing.specs.Lookup.{Resolver, moved, in_scope, fault_of, entry_of, unless_fault, entry_found, outermost, dynamically, named_found, in_subresource, by_pointer, by_name, at_fragment, lookup}
+use Rattle.referencing.specs.Pointers.{index_of, step_into, walked_along, pointed}
+use Rattle.referencing.specs.Lookup.{Resolver, moved, in_scope, fault_of, entry_of, unless_fault, entry_found, outermost, dynamically, named_found, in_subresource, pointer_found, at_fragment, lookup}
 use Rattle.referencing.specs.Wants.{Want, Reference, MetaSchema, reference_at, schema_at, wanted, wants_at, wants, is_open, open_wants}
 
 -- ---- answers that are no unretrievable URI
@@ -50,7 +51,7 @@ as_invalid : {A : Type 0} (r : Result A Refusal) → Clear (as_invalid_uri r)
 as_invalid (Ok x) = tt
 as_invalid (Err refusal) = tt
 
-or_other : {A : Type 0} (o : Option A) (fault : Fault) → Other fault → Clear (or_fault o fault)
+or_other : {A : Type 0} (o : Option A) (fault : Fault) → Other fault → Clear (ok_or o fault)
 or_other None fault other = other
 or_other (Some x) fault other = tt
 
@@ -66,11 +67,11 @@ step_clear pointer (boolean b) token = tt
 step_clear pointer (number n) token = tt
 step_clear pointer (string s) token = tt
 step_clear pointer (array ds) token =
-    in_turn (or_fault (index_of token) (InvalidArrayIndex pointer token)) (λ i. or_fault (get_item i ds) (PointerToNowhere pointer) >>= λ d. Ok (Index i, d))
+    in_turn (ok_or (index_of token) (InvalidArrayIndex pointer token)) (λ i. ok_or (get_item i ds) (PointerToNowhere pointer) >>= λ d. Ok (Index i, d))
     (or_other (index_of token) (InvalidArrayIndex pointer token) tt)
-    (λ i. in_turn (or_fault (get_item i ds) (PointerToNowhere pointer)) (λ d. Ok (Index i, d)) (or_other (get_item i ds) (PointerToNowhere pointer) tt) (λ d. tt))
+    (λ i. in_turn (ok_or (get_item i ds) (PointerToNowhere pointer)) (λ d. Ok (Index i, d)) (or_other (get_item i ds) (PointerToNowhere pointer) tt) (λ d. tt))
 step_clear pointer (object ms) token =
-    in_turn (or_fault (get_member (unescape token) ms) (PointerToNowhere pointer)) (λ d. Ok (Key (unescape token), d))
+    in_turn (ok_or (get_member (unescape token) ms) (PointerToNowhere pointer)) (λ d. Ok (Key (unescape token), d))
     (or_other (get_member (unescape token) ms) (PointerToNowhere pointer) tt) (λ d. tt)
 
 walk_clear : (draft : Draft) (pointer : List ℕ) (along : Along) (value : Data) (tokens : List (List ℕ)) → Clear (walked_along draft pointer along value tokens)
@@ -93,24 +94,10 @@ not_named_other : (name : List ℕ) (b : Bool) → Other (cond b (InvalidAnchor 
 not_named_other name true = tt
 not_named_other name false = tt
 
-found_or_clear : (name : List ℕ) (o : Option Named) → Clear (found_or name o)
-found_or_clear name (Some n) = tt
-found_or_clear name None = not_named_other name (list_any (λ c. c == 47) name)
-
-fallback_clear : (world : World) (name : List ℕ) (o : Option (Result (List ℕ) Refusal)) → Clear (fallback world name o)
-fallback_clear world name None = not_named_other name (list_any (λ c. c == 47) name)
-fallback_clear world name (Some (Ok uri)) = found_or_clear name (named world uri name)
-fallback_clear world name (Some (Err refusal)) = tt
-
-entry_or_clear : (o : Option Named) (other : Result Named Fault) → Clear other → Clear (option_map_or (λ n. Ok n) o other)
-entry_or_clear None other clear = clear
-entry_or_clear (Some n) other clear = tt
-
 anchor_clear : (world : World) (uri name : List ℕ) → Clear (anchor world uri name)
 unfolding anchor
 anchor_clear world uri name =
-    entry_or_clear (named world uri name) (fallback world name (option_map_or fallback_uri (means world uri) None))
-    (fallback_clear world name (option_map_or fallback_uri (means world uri) None))
+    or_other (option_or (named world uri name) (named_by_identifier world uri name)) (not_named name) (not_named_other name (list_any (λ c. c == 47) name))
 
 -- of faults the first is no unretrievable URI
 abbrev FirstOther : List Fault → Type 0
@@ -155,20 +142,14 @@ named_clear : (world : World) (r : Resolver) (n : Named) (kind : Kind) → Clear
 named_clear world r n Plain = tt
 named_clear world r n Dynamic = dynamic_clear world r n
 
-by_name_clear : (world : World) (r : Resolver) (n : Result Named Fault) → Clear n → Clear (by_name world r n)
-by_name_clear world r (Ok n) clear = named_clear world r n n.kind
-by_name_clear world r (Err fault) clear = clear
-
-by_pointer_clear : (r : Resolver) (draft : Draft) (found : Result (Data × Along) Fault) → Clear found → Clear (by_pointer r draft found)
-by_pointer_clear r draft (Ok found) clear = tt
-by_pointer_clear r draft (Err fault) clear = clear
-
 fragment_clear : (world : World) (r : Resolver) (p : Place) (text : List ℕ) → Clear (at_fragment world r p text)
 fragment_clear world r p [] = tt
 fragment_clear world r p (c ∷ text) =
-    either (c == 47) (by_pointer r p.draft (pointed p.draft (c ∷ text) r.base p.value text)) (by_name world r (anchor world r.base (c ∷ text)))
-    (by_pointer_clear r p.draft (pointed p.draft (c ∷ text) r.base p.value text) (pointed_clear p.draft (c ∷ text) r.base p.value text))
-    (by_name_clear world r (anchor world r.base (c ∷ text)) (anchor_clear world r.base (c ∷ text)))
+    let to = pointed p.draft (c ∷ text) r.base p.value text in
+    let n = anchor world r.base (c ∷ text) in
+    either (c == 47) (to >>= λ found. Ok (pointer_found r p.draft found)) (n >>= λ entry. named_found world r entry entry.kind)
+    (in_turn to (λ found. Ok (pointer_found r p.draft found)) (pointed_clear p.draft (c ∷ text) r.base p.value text) (λ found. tt))
+    (in_turn n (λ entry. named_found world r entry entry.kind) (anchor_clear world r.base (c ∷ text)) (λ entry. named_clear world r entry entry.kind))
 
 -- ---- wants
 
@@ -196,7 +177,7 @@ meant layer parents want none within =
 
 wanted_there : (place : Place) (base reference uri : List ℕ) → place.base ≡ Ok base → text_under (codes "$ref") place.value ≡ Some reference → target base reference ≡ Ok uri → Contains (wants_at place.base place.value) (record { cause = Reference; uri = uri })
 wanted_there place base reference uri based says leads =
-    let at : reference_at base place.value ≡ Some (Ok uri) = ap (λ o. option_map_or (λ r. Some (target base r)) o None) says ∙ ap (λ t. Some t) leads in
+    let at : reference_at base place.value ≡ Some (Ok uri) = ap (option_map (target base)) says ∙ ap (λ t. Some t) leads in
     subst (λ b. Contains (wants_at b place.value) (record { cause = Reference; uri = uri })) (sym based)
     (subst (λ o. Contains (wanted Reference o ++ wanted MetaSchema (schema_at place.value)) (record { cause = Reference; uri = uri })) (sym at) (0, omega arith, refl))
 

@@ -1,5 +1,5 @@
 -- Why documents can't be prepared, or a reference can't be followed, with the text that is displayed.
-use Rattle.std.specs.Prelude.{ℕ, List, ◌++◌, codes, decimal}
+use Rattle.std.specs.Prelude.{ℕ, List, ◌++◌, codes, decimal, Result, Ok, Err}
 use Rattle.ref_uri.specs.Targets.{Refusal, refusal_text}
 
 -- the faults; want of memory is none of them
@@ -18,6 +18,11 @@ pub data Fault : Type 0 where
   CircularMetaschema : List ℕ → Fault
   -- the URI that was wanted next, and the limit
   RetrievalLimit : List ℕ → ℕ → Fault
+
+-- a refused URI as a fault
+abbrev pub as_invalid_uri : {A : Type 0} → Result A Refusal → Result A Fault
+as_invalid_uri (Ok x) = Ok x
+as_invalid_uri (Err refusal) = Err (InvalidUri refusal)
 
 -- what is displayed
 abbrev pub fault_text : Fault → List ℕ

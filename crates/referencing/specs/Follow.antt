@@ -2,9 +2,9 @@
 use Rattle.std.specs.Prelude.{ℕ, ◌+◌, List, [], ◌∷◌, Option, Some, None, Result, Ok, Err}
 use Rattle.serde_json.specs.Data.{Data}
 use Rattle.ref_draft.specs.declared.draft.Draft.{Draft}
+use Rattle.referencing.specs.Results.{◌>>=◌}
 use Rattle.referencing.specs.World.{World}
-use Rattle.referencing.specs.Fault.{Fault}
-use Rattle.referencing.specs.Pointers.{◌>>=◌, as_invalid_uri}
+use Rattle.referencing.specs.Fault.{Fault, as_invalid_uri}
 use Rattle.referencing.specs.Lookup.{Resolver, Found, lookup, in_subresource}
 use Rattle.referencing.specs.Recursive.{lookup_recursive}
 

@@ -1,6 +1,8 @@
+pub mod Results
 pub mod Fault
 pub mod World
 pub mod Places
+pub mod Descent
 pub mod Resources
 pub mod Anchors
 pub mod Wants
@@ -11,6 +13,7 @@ pub mod Preparing
 pub mod Retrievers
 pub mod Pending
 pub mod Bases
+pub mod Changes
 pub mod Pointers
 pub mod Lookup
 pub mod Recursive

@@ -1,7 +1,7 @@
 -- Where a reference leads (2020-12 Core, 8.2.3).
-use Rattle.std.specs.Prelude.{ℕ, Bool, true, false, not, ◌||◌, ◌==◌, List, [], ◌∷◌, ◌++◌, map, filter, flat_map, length, codes, bytes_eq, Option, Some, None, Result, Ok, Err, if◌then◌else◌}
-use Rattle.std.specs.List.{join_by}
-use Rattle.std.specs.Option.{option_map_or}
+use Rattle.std.specs.Prelude.{ℕ, Bool, true, false, not, ◌||◌, ◌==◌, List, [], ◌∷◌, ◌++◌, map, filter, flat_map, length, codes, bytes_eq, None, Result, Ok, Err, if◌then◌else◌}
+use Rattle.std.specs.List.{join_by, last_or}
+use Rattle.std.specs.Option.{ok_or, unwrap_or}
 use Rattle.serde_json.specs.Data.{Data}
 use Rattle.ref_parts.specs.Path.{Part}
 use Rattle.ref_parts.specs.Pointer.{pointer_text}
@@ -9,14 +9,15 @@ use Rattle.ref_parts.specs.Encoded.{encoded}
 use Rattle.ref_draft.specs.declared.draft.Draft.{Draft}
 use Rattle.ref_draft.specs.Schema.{identifier}
 use Rattle.ref_draft.specs.Anchors.{Kind, Plain, Dynamic}
-use Rattle.ref_uri.specs.Targets.{Refusal, target, fragment_part, against}
+use Rattle.ref_uri.specs.Targets.{Refusal, target, fragment_part}
+use Rattle.referencing.specs.Results.{◌>>=◌}
 use Rattle.referencing.specs.World.{World}
-use Rattle.referencing.specs.Places.{Place}
-use Rattle.referencing.specs.Resources.{last_of, means}
+use Rattle.referencing.specs.Places.{Place, base_within}
+use Rattle.referencing.specs.Resources.{means}
 use Rattle.referencing.specs.Anchors.{Named, anchor}
-use Rattle.referencing.specs.Fault.{Fault, NoSuchAnchor, not_retrieved}
+use Rattle.referencing.specs.Fault.{Fault, NoSuchAnchor, as_invalid_uri, not_retrieved}
 use Rattle.referencing.specs.Bases.{Along}
-use Rattle.referencing.specs.Pointers.{◌>>=◌, as_invalid_uri, or_fault, pointed}
+use Rattle.referencing.specs.Pointers.{pointed}
 
 -- where a lookup starts from: the base URI, and the dynamic scope, inner to outer
 pub record Resolver : Type 0 where
@@ -36,19 +37,9 @@ moved r uri = record {
   scope = (if (length r.scope == 0) || not (bytes_eq uri r.base) then r.base ∷ r.scope else r.scope);
 }
 
--- an identifier changes the base and nothing else
-abbrev pub at_base : Resolver → Result (List ℕ) Refusal → Result Resolver Refusal
-at_base r (Ok uri) = Ok (record r { base = uri })
-at_base r (Err refusal) = Err refusal
-
--- an identifier, where there is one, is resolved against the base (2020-12 Core, 8.2.1)
-abbrev pub by_identifier : Resolver → Option (List ℕ) → Result Resolver Refusal
-by_identifier r None = Ok r
-by_identifier r (Some id) = at_base r (against r.base id)
-
--- the resolver in a value: its identifier is applied
+-- the resolver in a value: its identifier, where it has one, changes the base and nothing else (2020-12 Core, 8.2.1)
 abbrev pub in_subresource : Resolver → Draft → Data → Result Resolver Refusal
-in_subresource r draft value = by_identifier r (identifier draft value)
+in_subresource r draft value = base_within r.base (identifier draft value) >>= λ base. Ok (record r { base = base })
 
 -- what a name means under each URI of the scope, inner to outer
 abbrev pub in_scope : World → List ℕ → List (List ℕ) → List (List ℕ × Result Named Fault)
@@ -83,7 +74,7 @@ entry_found r (uri, n) =
 
 -- of the entries filtered to the dynamic ones the last, or what was found first (2020-12 Core, 8.2.3.2)
 abbrev pub outermost : List ℕ × Named → List (List ℕ × Named) → List ℕ × Named
-outermost first entries = option_map_or (λ e. e) (last_of (filter (λ e. is_dynamic e.1.kind) entries)) first
+outermost first entries = unwrap_or (last_or None (filter (λ e. is_dynamic e.1.kind) entries)) first
 
 -- a dynamic anchor, by what its name means in the scope: the first fault, or else the outermost
 abbrev pub by_scope : Resolver → Named → List (List ℕ × Result Named Fault) → Result Found Fault
@@ -99,28 +90,22 @@ abbrev pub named_found : World → Resolver → Named → Kind → Result Found 
 named_found world r n Plain = Ok (record { value = n.place.value; draft = n.place.draft; resolver = r })
 named_found world r n Dynamic = dynamically world r n
 
--- what a pointer leads to in a resource of a draft, with the base there
-abbrev pub by_pointer : Resolver → Draft → Result (Data × Along) Fault → Result Found Fault
-by_pointer r draft (Ok found) = Ok (record { value = found.0; draft = draft; resolver = record r { base = found.1.base } })
-by_pointer r draft (Err fault) = Err fault
-
--- what an anchor names
-abbrev pub by_name : World → Resolver → Result Named Fault → Result Found Fault
-by_name world r (Ok n) = named_found world r n n.kind
-by_name world r (Err fault) = Err fault
+-- a value that a pointer leads to in a resource of a draft, with the base there
+abbrev pub pointer_found : Resolver → Draft → Data × Along → Found
+pointer_found r draft (value, along) = record { value = value; draft = draft; resolver = record r { base = along.base } }
 
 -- what a fragment means in the resource at a place: the resource, what a pointer leads to, or what an anchor names
 abbrev pub at_fragment : World → Resolver → Place → List ℕ → Result Found Fault
 at_fragment world r p [] = Ok (record { value = p.value; draft = p.draft; resolver = r })
 at_fragment world r p (c ∷ text) =
-    if c == 47 then by_pointer r p.draft (pointed p.draft (c ∷ text) r.base p.value text)
-    else by_name world r (anchor world r.base (c ∷ text))
+    if c == 47 then (pointed p.draft (c ∷ text) r.base p.value text >>= λ to. Ok (pointer_found r p.draft to))
+    else (anchor world r.base (c ∷ text) >>= λ n. named_found world r n n.kind)
 
 -- where a reference leads from a resolver
 unfoldable pub lookup : World → Resolver → List ℕ → Result Found Fault
 lookup world r reference =
     as_invalid_uri (target r.base reference)
-    >>= λ uri. or_fault (means world uri) (not_retrieved uri)
+    >>= λ uri. ok_or (means world uri) (not_retrieved uri)
     >>= λ place. at_fragment world (moved r uri) place (fragment_part reference)
 
 -- where a path leads from a base: the lookup, with an empty scope, of `#` and the path's pointer text as a fragment holds it

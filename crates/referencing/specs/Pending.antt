@@ -1,15 +1,15 @@
 -- The documents that are added to a builder, whose draft may still be set. Their order and drafts are this library's own rules.
 use Rattle.std.specs.Prelude.{ℕ, List, [], ◌∷◌, ◌++◌, map, bytes_eq, Option, Result, Ok, if◌then◌else◌}
 use Rattle.std.specs.List.{list_any}
-use Rattle.std.specs.Option.{option_map_or}
+use Rattle.std.specs.Option.{unwrap_or}
 use Rattle.serde_json.specs.Data.{Data}
 use Rattle.ref_draft.specs.declared.draft.Draft.{Draft}
 use Rattle.ref_draft.specs.declared.draft.Draft.TheVariants.{Draft202012}
 use Rattle.ref_draft.specs.Schema.{trimmed, detect}
 use Rattle.ref_uri.specs.Targets.{Refusal, parsed}
+use Rattle.referencing.specs.Results.{◌>>=◌}
 use Rattle.referencing.specs.World.{Document, Layer, World}
 use Rattle.referencing.specs.Preparing.{Retriever, Given}
-use Rattle.referencing.specs.Pointers.{◌>>=◌}
 
 -- what is added: the text of its URI, its tree, and its draft where it is given as a resource
 pub record Addition : Type 0 where
@@ -44,11 +44,11 @@ extended ps (a ∷ more) = added ps a >>= λ next. extended next more
 
 -- the draft that a builder detects with: the one that was set, or else 2020-12
 abbrev pub builder_draft : Option Draft → Draft
-builder_draft set = option_map_or (λ d. d) set Draft202012
+builder_draft set = unwrap_or set Draft202012
 
 -- a pending document's draft: the given one, or what the builder's detects on its tree
 abbrev pub document_of : Draft → Pending → Document
-document_of draft p = record { uri = p.uri; tree = p.tree; draft = option_map_or (λ d. d) p.draft (detect draft p.tree) }
+document_of draft p = record { uri = p.uri; tree = p.tree; draft = unwrap_or p.draft (detect draft p.tree) }
 
 -- the documents that preparing begins with, where the builder's draft was set or not
 abbrev pub documents_of : Option Draft → List Pending → Layer

@@ -1,6 +1,7 @@
 -- A pointer in a reference's fragment (RFC 6901, sections 3, 4 and 6), walked with the base along it.
 use Rattle.std.specs.Prelude.{ℕ, ◌^◌, ◌&&◌, nat_lt, List, [], ◌∷◌, length, Option, Some, None, Result, Ok, Err, if◌then◌else◌}
 use Rattle.std.specs.List.{list_all}
+use Rattle.std.specs.Option.{ok_or}
 use Rattle.std.specs.Char.{is_ascii_digit}
 use Rattle.std.specs.Str.{is_utf8}
 use Rattle.std.specs.Str.Parse.{without_leading_plus, digits_value}
@@ -10,26 +11,9 @@ use Rattle.serde_json.specs.Find.{get_item, get_member}
 use Rattle.ref_parts.specs.Path.{Part, Key, Index}
 use Rattle.ref_parts.specs.Pointer.{unescape, tokens}
 use Rattle.ref_draft.specs.declared.draft.Draft.{Draft}
-use Rattle.ref_uri.specs.Targets.{Refusal}
-use Rattle.referencing.specs.Fault.{Fault, PointerToNowhere, InvalidPercentEncoding, InvalidArrayIndex, InvalidUri}
+use Rattle.referencing.specs.Results.{◌>>=◌}
+use Rattle.referencing.specs.Fault.{Fault, PointerToNowhere, InvalidPercentEncoding, InvalidArrayIndex, as_invalid_uri}
 use Rattle.referencing.specs.Bases.{Along, along_part}
-
--- one answer after another: the first fault ends them
-infixl 10 ◌>>=◌
--- an error stands, and a value goes on
-abbrev pub ◌>>=◌ : {E A B : Type 0} → Result A E → (A → Result B E) → Result B E
-(Ok x) >>= f = f x
-(Err e) >>= f = Err e
-
--- a refused URI as a fault
-abbrev pub as_invalid_uri : {A : Type 0} → Result A Refusal → Result A Fault
-as_invalid_uri (Ok x) = Ok x
-as_invalid_uri (Err refusal) = Err (InvalidUri refusal)
-
--- what is there, or this fault
-abbrev pub or_fault : {A : Type 0} → Option A → Fault → Result A Fault
-or_fault None fault = Err fault
-or_fault (Some x) fault = Ok x
 
 -- decimal digits behind a `+` or not, of a number of 64 bits; leading zeros don't matter, which is the crate's choice
 unfoldable pub index_of : List ℕ → Option ℕ
@@ -44,8 +28,8 @@ step_into pointer (boolean b) token = Err (PointerToNowhere pointer)
 step_into pointer (number n) token = Err (PointerToNowhere pointer)
 step_into pointer (string s) token = Err (PointerToNowhere pointer)
 step_into pointer (array ds) token =
-    or_fault (index_of token) (InvalidArrayIndex pointer token) >>= λ i. or_fault (get_item i ds) (PointerToNowhere pointer) >>= λ d. Ok (Index i, d)
-step_into pointer (object ms) token = or_fault (get_member (unescape token) ms) (PointerToNowhere pointer) >>= λ d. Ok (Key (unescape token), d)
+    ok_or (index_of token) (InvalidArrayIndex pointer token) >>= λ i. ok_or (get_item i ds) (PointerToNowhere pointer) >>= λ d. Ok (Index i, d)
+step_into pointer (object ms) token = ok_or (get_member (unescape token) ms) (PointerToNowhere pointer) >>= λ d. Ok (Key (unescape token), d)
 
 -- the value along the tokens, with the base there; the first fault from the left ends it
 abbrev pub walked_along : Draft → List ℕ → Along → Data → List (List ℕ) → Result (Data × Along) Fault

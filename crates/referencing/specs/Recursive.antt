@@ -1,14 +1,13 @@
 -- Recursive references (2019-09 Core, 8.2.4.2).
-use Rattle.std.specs.Prelude.{Bool, false, List, [], ◌∷◌, map, drop, length, codes, Result, Ok, Err, if◌then◌else◌}
-use Rattle.std.specs.List.{take_while}
-use Rattle.std.specs.Option.{option_map_or}
+use Rattle.std.specs.Prelude.{Bool, false, List, [], ◌∷◌, map, drop, codes, None, Result, Ok, Err, if◌then◌else◌}
+use Rattle.std.specs.List.{take_while, prefix_len, last_or}
+use Rattle.std.specs.Option.{option_map_or, unwrap_or}
 use Rattle.serde_json.specs.Data.{Data}
 use Rattle.serde_json.specs.Find.{get}
 use Rattle.ref_draft.specs.Schema.{is_true}
+use Rattle.referencing.specs.Results.{◌>>=◌}
 use Rattle.referencing.specs.World.{World}
-use Rattle.referencing.specs.Resources.{last_of}
 use Rattle.referencing.specs.Fault.{Fault}
-use Rattle.referencing.specs.Pointers.{◌>>=◌}
 use Rattle.referencing.specs.Lookup.{Resolver, Found, lookup}
 
 -- an object whose `$recursiveAnchor` is true
@@ -30,7 +29,7 @@ marked_beginning answers = take_while answers_marked answers
 
 -- what stands behind that beginning
 abbrev pub behind_beginning : List (Result Found Fault) → List (Result Found Fault)
-behind_beginning answers = drop (length (marked_beginning answers)) answers
+behind_beginning answers = drop (prefix_len answers_marked answers) answers
 
 -- a fault that stands right behind, or else this answer
 abbrev pub unless_fault_behind : List (Result Found Fault) → Result Found Fault → Result Found Fault
@@ -41,7 +40,7 @@ unless_fault_behind (Err fault ∷ rest) answer = Err fault
 -- The last of the longest beginning, or the first lookup where that is empty; a fault right behind the beginning is the answer.
 abbrev pub outermost_marked : Result Found Fault → List (Result Found Fault) → Result Found Fault
 outermost_marked first answers =
-    unless_fault_behind (behind_beginning answers) (option_map_or (λ answer. answer) (last_of (marked_beginning answers)) first)
+    unless_fault_behind (behind_beginning answers) (unwrap_or (last_or None (marked_beginning answers)) first)
 
 -- where `$recursiveRef` leads
 unfoldable pub lookup_recursive : World → Resolver → Result Found Fault

@@ -1,25 +1,18 @@
 -- Which URIs identify which places: the schema resources (2020-12 Core, 8.2.1).
-use Rattle.std.specs.Prelude.{ℕ, List, [], ◌∷◌, flat_map, filter, bytes_eq, Option, Some, None, Result, Ok, Err}
-use Rattle.std.specs.Option.{option_map_or}
-use Rattle.ref_uri.specs.Targets.{Refusal}
+use Rattle.std.specs.Prelude.{ℕ, List, [], ◌∷◌, flat_map, filter, bytes_eq, Option, Some, None, option_map, option_and_then}
+use Rattle.std.specs.List.{last_or}
+use Rattle.std.specs.Option.{option_map_or, option_to_list}
+use Rattle.std.specs.Result.{result_ok}
 use Rattle.referencing.specs.World.{Document, Layer, World}
 use Rattle.referencing.specs.Places.{Place, places, root, identifier_of}
 
--- the last of a list
-abbrev pub last_of : {X : Type 0} → List X → Option X
-last_of [] = None
-last_of (x ∷ []) = Some x
-last_of (x ∷ y ∷ rest) = last_of (y ∷ rest)
+-- the URI that identifies a place by its own identifier: its base, where the identifier resolves
+abbrev pub own_uri : Place → Option (List ℕ)
+own_uri p = option_and_then (λ id. result_ok p.base) (identifier_of p)
 
 -- the entry of a place with an identifier: the place under its base
-abbrev pub resource_with : Place → Option (List ℕ) → Result (List ℕ) Refusal → List (List ℕ × Place)
-resource_with p (Some id) (Ok base) = (base, p) ∷ []
-resource_with p (Some id) (Err refusal) = []
-resource_with p None base = []
-
--- the entry of a place by its own identifier
 abbrev pub resource_of : Place → List (List ℕ × Place)
-resource_of p = resource_with p (identifier_of p) p.base
+resource_of p = option_to_list (option_map (λ uri. (uri, p)) (own_uri p))
 
 -- a document's URI identifies its root; then each place with an identifier is identified by its base
 abbrev pub resources_in : Document → List (List ℕ × Place)
@@ -31,7 +24,7 @@ resources layer = flat_map resources_in layer
 
 -- the last entry under a URI
 abbrev pub last_under : {X : Type 0} → List ℕ → List (List ℕ × X) → Option (List ℕ × X)
-last_under uri entries = last_of (filter (λ e. bytes_eq e.0 uri) entries)
+last_under uri entries = last_or None (filter (λ e. bytes_eq e.0 uri) entries)
 
 -- the last entry under a URI in the nearest layer that has one
 abbrev pub means : World → List ℕ → Option Place

@@ -1,6 +1,5 @@
 -- The retrievers that come with the library, by what they may answer and refuse.
-use Rattle.std.specs.Prelude.{◌≡◌, ℕ, List, codes, Some, None}
-use Rattle.std.specs.Option.{option_map_or}
+use Rattle.std.specs.Prelude.{◌≡◌, ℕ, List, codes, Some, None, option_map}
 use Rattle.serde_json.specs.Data.{Data}
 use Rattle.referencing.specs.Resources.{last_under}
 use Rattle.referencing.specs.Preparing.{Retriever}
@@ -15,6 +14,6 @@ default_retriever = record {
 -- it answers the last value under a URI, and refuses the URIs that it lacks
 abbrev pub map_retriever : List (List ℕ × Data) → Retriever
 map_retriever pairs = record {
-  may_answer = λ uri tree. option_map_or (λ e. Some e.1) (last_under uri pairs) None ≡ Some tree;
+  may_answer = λ uri tree. option_map (λ e. e.1) (last_under uri pairs) ≡ Some tree;
   may_refuse = λ uri text. (last_under uri pairs ≡ None) × (text ≡ codes "no document under this URI");
 }

@@ -7,6 +7,7 @@ use Rattle.ref_draft.specs.declared.draft.Draft.{Draft}
 use Rattle.ref_draft.specs.declared.draft.Draft.TheVariants.{Draft202012}
 use Rattle.ref_draft.specs.Anchors.{Kind}
 use Rattle.ref_uri.specs.Targets.{Refusal}
+use Rattle.referencing.specs.Results.{◌>>=◌}
 use Rattle.referencing.specs.Fault.{Fault}
 use Rattle.referencing.specs.World.{Document, Layer, World, document}
 use Rattle.referencing.specs.Places.{Place, root}
@@ -14,7 +15,6 @@ use Rattle.referencing.specs.Anchors.{Named}
 use Rattle.referencing.specs.Preparing.{Retriever, Given}
 use Rattle.referencing.specs.Retrievers.{default_retriever, map_retriever}
 use Rattle.referencing.specs.Pending.{Addition, Pending, documents_of}
-use Rattle.referencing.specs.Pointers.{◌>>=◌}
 use Rattle.referencing.specs.Bases.{Along}
 use Rattle.referencing.specs.Lookup.{Resolver, Found}
 use Rattle.referencing.specs.Follow.{Step, Lookup, Followed, followed}

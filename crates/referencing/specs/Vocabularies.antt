@@ -12,9 +12,9 @@ use Rattle.ref_draft.specs.Keywords.{is_unknown}
 use Rattle.ref_draft.specs.Schema.{text_under, is_true, detect}
 use Rattle.ref_uri.specs.Reference.{with_fragment}
 use Rattle.ref_uri.specs.Targets.{Refusal, parsed}
+use Rattle.referencing.specs.Results.{◌>>=◌}
 use Rattle.referencing.specs.World.{World}
 use Rattle.referencing.specs.Resources.{means}
-use Rattle.referencing.specs.Pointers.{◌>>=◌}
 
 -- a known vocabulary: the last part of its URI, which is its displayed name, and whether 2019-09 has it
 pub record Known : Type 0 where
@@ -37,7 +37,7 @@ known =
 
 -- a known vocabulary by its name, or another by its URI
 pub data Vocabulary : Type 0 where
-  Named : List ℕ → Vocabulary
+  Standard : List ℕ → Vocabulary
   Custom : List ℕ → Vocabulary
 
 -- whether a URI is that of a known vocabulary
@@ -46,14 +46,9 @@ is_uri_of uri k =
     bytes_eq uri (codes "https://json-schema.org/draft/2020-12/vocab/" ++ k.name)
     || (k.in_2019 && bytes_eq uri (codes "https://json-schema.org/draft/2019-09/vocab/" ++ k.name))
 
--- the custom vocabulary of a URI
-abbrev pub custom : Result (List ℕ) Refusal → Result Vocabulary Refusal
-custom (Ok uri) = Ok (Custom uri)
-custom (Err refusal) = Err refusal
-
 -- the vocabulary that a text names
 abbrev pub from_text : List ℕ → Result Vocabulary Refusal
-from_text text = option_map_or (λ k. Ok (Named k.name)) (find (is_uri_of text) known) (custom (parsed text))
+from_text text = option_map_or (λ k. Ok (Standard k.name)) (find (is_uri_of text) known) (parsed text >>= λ uri. Ok (Custom uri))
 
 -- a set of vocabularies: the known ones in their order, and the URIs of the others in byte order, each once
 pub record VocabularySet : Type 0 where
@@ -66,7 +61,7 @@ has_name names name = list_any (λ n. bytes_eq n name) names
 
 -- whether a vocabulary is in a set
 abbrev pub contains : VocabularySet → Vocabulary → Bool
-contains s (Named name) = has_name s.names name
+contains s (Standard name) = has_name s.names name
 contains s (Custom uri) = has_name s.customs uri
 
 -- a URI at its place among others in byte order
@@ -76,7 +71,7 @@ put uri (other ∷ rest) = match_ordering (slice_cmp nat_cmp uri other) (uri ∷
 
 -- a set with one more vocabulary
 abbrev pub with_vocabulary : VocabularySet → Vocabulary → VocabularySet
-with_vocabulary s (Named name) = record s { names = filter (λ n. has_name s.names n || bytes_eq n name) (map (λ k. k.name) known) }
+with_vocabulary s (Standard name) = record s { names = filter (λ n. has_name s.names n || bytes_eq n name) (map (λ k. k.name) known) }
 with_vocabulary s (Custom uri) = record s { customs = put uri s.customs }
 
 -- the set of known vocabularies alone
@@ -115,18 +110,17 @@ set_text s = codes "[" ++ join_by quoted (codes ", ") (s.names ++ s.customs) ++ 
 
 -- format-assertion is added by a member of `$vocabulary` in any case, any other where the member is true
 abbrev pub is_format_assertion : Vocabulary → Bool
-is_format_assertion (Named name) = bytes_eq name (codes "format-assertion")
+is_format_assertion (Standard name) = bytes_eq name (codes "format-assertion")
 is_format_assertion (Custom uri) = false
 
 -- a set after one member
-abbrev pub with_member : VocabularySet → Data → Result Vocabulary Refusal → Result VocabularySet Refusal
-with_member s value (Ok v) = Ok (if is_true value || is_format_assertion v then with_vocabulary s v else s)
-with_member s value (Err refusal) = Err refusal
+abbrev pub with_member : VocabularySet → Data → Vocabulary → VocabularySet
+with_member s value v = if is_true value || is_format_assertion v then with_vocabulary s v else s
 
 -- each key of `$vocabulary` is read, also where its value is false
 abbrev pub collected : VocabularySet → Members → Result VocabularySet Refusal
 collected s no_members = Ok s
-collected s (member key value ms) = with_member s value (from_text key) >>= λ more. collected more ms
+collected s (member key value ms) = from_text key >>= λ v. collected (with_member s value v) ms
 
 -- the meta-schemas that are known by their identifier, with their set, or none before 2019-09
 abbrev pub known_set : List ℕ → Option (Option VocabularySet)
@@ -136,15 +130,10 @@ known_set id =
     else (if bytes_eq id (codes "https://json-schema.org/draft-07/schema") || bytes_eq id (codes "https://json-schema.org/draft-06/schema") || bytes_eq id (codes "https://json-schema.org/draft-04/schema") then Some None
     else None))
 
--- a set as one that is there
-abbrev pub some_set : Result VocabularySet Refusal → Result (Option VocabularySet) Refusal
-some_set (Ok s) = Ok (Some s)
-some_set (Err refusal) = Err refusal
-
 -- what the members of `$vocabulary` declare: none without such an object
 abbrev pub set_of_members : Option Members → Result (Option VocabularySet) Refusal
 set_of_members None = Ok None
-set_of_members (Some ms) = some_set (collected (of_names []) ms)
+set_of_members (Some ms) = collected (of_names []) ms >>= λ s. Ok (Some s)
 
 -- the vocabularies that a meta-schema declares
 unfoldable pub find_in : Data → Result (Option VocabularySet) Refusal

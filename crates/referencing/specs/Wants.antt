@@ -1,11 +1,11 @@
 -- What the documents of a layer want, and what is wrong with them.
-use Rattle.std.specs.Prelude.{ℕ, Bool, if◌then◌else◌, List, [], ◌∷◌, ◌++◌, flat_map, filter, not, codes, Option, Some, None, Result, Ok, Err, is_some, option_and_then}
-use Rattle.std.specs.Option.{option_map_or}
+use Rattle.std.specs.Prelude.{ℕ, Bool, if◌then◌else◌, List, [], ◌∷◌, ◌++◌, flat_map, filter, not, codes, Option, Some, None, Result, Ok, Err, is_some, option_map, option_and_then}
 use Rattle.serde_json.specs.Data.{Data}
 use Rattle.ref_draft.specs.Keywords.{is_unknown}
 use Rattle.ref_draft.specs.Schema.{text_under, from_schema_uri}
 use Rattle.ref_uri.specs.Reference.{with_fragment}
 use Rattle.ref_uri.specs.Targets.{Refusal, target, parsed}
+use Rattle.referencing.specs.Results.{◌>>=◌}
 use Rattle.referencing.specs.World.{Layer, World}
 use Rattle.referencing.specs.Places.{places}
 use Rattle.referencing.specs.Resources.{means}
@@ -20,18 +20,13 @@ pub record Want : Type 0 where
   pub cause : Cause
   pub uri : List ℕ
 
--- a URI without its fragment
-abbrev pub without_fragment : Result (List ℕ) Refusal → Result (List ℕ) Refusal
-without_fragment (Ok uri) = Ok (with_fragment uri None)
-without_fragment (Err refusal) = Err refusal
-
 -- the URI of a text that names a meta-schema of no known draft: its fragment takes no part
 abbrev pub schema_uri : List ℕ → Option (Result (List ℕ) Refusal)
-schema_uri text = if is_unknown (from_schema_uri text) then Some (without_fragment (parsed text)) else None
+schema_uri text = if is_unknown (from_schema_uri text) then Some (parsed text >>= λ uri. Ok (with_fragment uri None)) else None
 
 -- what a place's text under `$ref` refers to, where its base is known
 abbrev pub reference_at : List ℕ → Data → Option (Result (List ℕ) Refusal)
-reference_at base value = option_map_or (λ r. Some (target base r)) (text_under (codes "$ref") value) None
+reference_at base value = option_map (target base) (text_under (codes "$ref") value)
 
 -- what a value's `$schema` names, where that is no known draft
 abbrev pub schema_at : Data → Option (Result (List ℕ) Refusal)
@@ -44,10 +39,10 @@ wanted cause (Some (Ok uri)) = record { cause = cause; uri = uri } ∷ []
 wanted cause (Some (Err refusal)) = []
 
 -- why it does not resolve
-abbrev pub refused : Option (Result (List ℕ) Refusal) → List Refusal
-refused None = []
-refused (Some (Ok uri)) = []
-refused (Some (Err refusal)) = refusal ∷ []
+abbrev pub refusals_of : Option (Result (List ℕ) Refusal) → List Refusal
+refusals_of None = []
+refusals_of (Some (Ok uri)) = []
+refusals_of (Some (Err refusal)) = refusal ∷ []
 
 -- a place wants what it refers to, which needs a base, then its meta-schema
 abbrev pub wants_at : Result (List ℕ) Refusal → Data → List Want
@@ -56,8 +51,8 @@ wants_at (Err refusal) value = wanted MetaSchema (schema_at value)
 
 -- a place's faults: its identifier, or its reference where it has a base, then its meta-schema
 abbrev pub faults_at : Result (List ℕ) Refusal → Data → List Refusal
-faults_at (Ok base) value = refused (reference_at base value) ++ refused (schema_at value)
-faults_at (Err refusal) value = refusal ∷ refused (schema_at value)
+faults_at (Ok base) value = refusals_of (reference_at base value) ++ refusals_of (schema_at value)
+faults_at (Err refusal) value = refusal ∷ refusals_of (schema_at value)
 
 -- the wants of a layer, by documents and places
 abbrev pub wants : Layer → List Want

@@ -1,9 +1,17 @@
 //! Laws of the definitions. Each function is empty: its contract states the law, and the check proves it.
-ghost use Rattle.std.specs.Prelude.{◌≡◌, ◌≤◌, ℕ, List, [], ◌∷◌, map, Some, None, Ok};
-ghost use Rattle.std.specs.List.{AllPairs};
-ghost use Rattle.serde_json.specs.Data.{depth};
+ghost use Rattle.std.specs.Prelude.{◌≡◌, ◌≤◌, ℕ, List, [], ◌∷◌, ◌++◌, drop, map, Some, None, Ok};
+ghost use Rattle.std.specs.List.{AllByRecursion, AllPairs};
+ghost use Rattle.std.specs.Option.{option_or};
+ghost use Rattle.serde_json.specs.Data.{Data, depth};
+ghost use Rattle.ref_parts.specs.Path.{value_at};
+ghost use Rattle.ref_draft.specs.declared.draft.Draft.{Draft};
+ghost use Rattle.ref_draft.specs.UniqueKeys.{HasUniqueKeys};
 ghost use Rattle.referencing.specs.World.{Document, Layer, World};
 ghost use Rattle.referencing.specs.Places.{Place, root, levels_below, places};
+ghost use Rattle.referencing.specs.Descent.{AreChildren};
+ghost use Rattle.referencing.specs.Bases.{Along};
+ghost use Rattle.referencing.specs.Changes.{LeadsAlong};
+ghost use Rattle.referencing.specs.Pointers.{pointed};
 ghost use Rattle.referencing.specs.Resources.{resources, last_under, means};
 ghost use Rattle.referencing.specs.Anchors.{Named, last_named, named, names};
 ghost use Rattle.referencing.specs.Closure.{OutcomesOfRetrieval};
@@ -20,6 +28,33 @@ pub fn pending_documents_differ()
 /// The levels of a document end at the depth of its tree: however many more are joined, they are its places.
 pub fn levels_end_at_the_depth()
     ensures law { (d : Document) (n : ℕ) → depth d.tree ≤ n → root d ∷ levels_below n (root d ∷ []) ≡ places d }
+{}
+
+/// Where each object of a document has each key once, each place of it has its value at its path, and the paths of places
+/// differ.
+pub fn places_stand_at_their_paths()
+    ensures values { (d : Document) → HasUniqueKeys d.tree → AllByRecursion (λ p. value_at d.tree p.path ≡ Some p.value) (places d) }
+    ensures paths { (d : Document) → HasUniqueKeys d.tree → AllPairs (λ p q. ¬ (p ≡ q)) (map (λ p. p.path) (places d)) }
+{}
+
+/// Each place of a document but its root is a child of one that stands before it.
+pub fn places_descend_from_the_root()
+    ensures law { (d : Document) → AreChildren (root d ∷ []) (drop 1 (places d)) }
+{}
+
+/// Of entries to which more are added at the end, the last under a URI, and the last under a URI and a name, is the last of
+/// those that were added, or else the last of those that were there.
+pub fn later_entries_count()
+    ensures under_a_uri { (uri : List ℕ) (entries more : List (List ℕ × Place))
+        → last_under uri (entries ++ more) ≡ option_or (last_under uri more) (last_under uri entries) }
+    ensures under_a_name { (uri name : List ℕ) (entries more : List Named)
+        → last_named uri name (entries ++ more) ≡ option_or (last_named uri name more) (last_named uri name entries) }
+{}
+
+/// Where a pointer succeeds, what it finds stands at a path, and the base is that of the last change along this path.
+pub fn pointers_lead_along_paths()
+    ensures law { (draft : Draft) (pointer start text : List ℕ) (value found : Data) (along : Along)
+        → pointed draft pointer start value text ≡ Ok (found, along) → LeadsAlong draft start value found along }
 {}
 
 /// The nearest layer decides what a URI means, and what a name under it does: an entry there is the answer, and without one

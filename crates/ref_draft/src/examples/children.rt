@@ -5,6 +5,7 @@ ghost use Rattle.ref_parts.specs.Path.{Index};
 ghost use Rattle.ref_draft.specs.declared.draft.Draft.TheVariants.{Draft4, Draft6, Draft7, Draft201909, Draft202012, Unknown};
 ghost use Rattle.ref_draft.specs.declared.spec.Holding.TheVariants.{Whole, WholeObject, Elements, Members, ElementsOrWhole, ObjectMembers, Nothing};
 ghost use Rattle.ref_draft.specs.Children.{AllStand, whole, elements_from, each_member, elements, members, is_object, has_object, held, below, children, with_draft, walked, keyword_of, is_given, subresources};
+ghost use Rattle.ref_draft.specs.UniqueKeys.{KeysDiffer, HasUniqueKeys, ItemsHaveUniqueKeys, MembersHaveUniqueKeys};
 ghost use Rattle.ref_draft.specs.Rows.{empty, yes, text, one, two, list, pair, key, schema, paths, dependent};
 
 /// The children of one schema in each draft.
@@ -65,6 +66,18 @@ pub fn elements_and_members()
     ensures array { is_object (list empty) ≡ false }
     ensures with_object { has_object ((key "not" ∷ []), empty) ≡ true }
     ensures with_boolean { has_object ((key "not" ∷ []), yes) ≡ false }
+{}
+
+/// Trees whose objects have each key once.
+pub fn trees_with_unique_keys()
+    ensures once { HasUniqueKeys (two "a" yes "b" (list (one "a" empty))) }
+    ensures twice { ¬ (HasUniqueKeys (two "a" yes "a" yes)) }
+    ensures twice_in_an_element { ¬ (HasUniqueKeys (list (two "a" yes "a" empty))) }
+    ensures twice_in_a_member { ¬ (HasUniqueKeys (one "b" (two "a" yes "a" empty))) }
+    ensures keys { KeysDiffer (member (codes "a") yes (member (codes "A") yes no_members)) }
+    ensures equal_keys { ¬ (KeysDiffer (member (codes "a") yes (member (codes "b") yes (member (codes "a") yes no_members)))) }
+    ensures elements { ItemsHaveUniqueKeys (item yes (item (one "a" yes) no_items)) }
+    ensures members_apart { MembersHaveUniqueKeys (member (codes "a") yes (member (codes "a") empty no_members)) }
 {}
 
 /// The children with their drafts, at their paths.

@@ -2,7 +2,7 @@
 ghost use Rattle.std.specs.Prelude.{◌≡◌, true, false, [], ◌∷◌, codes, length};
 ghost use Rattle.ref_draft.specs.declared.draft.Draft.TheVariants.{Draft4, Draft6, Draft7, Draft201909, Draft202012, Unknown};
 ghost use Rattle.ref_draft.specs.declared.spec.Holding.TheVariants.{Whole, WholeObject, Elements, Members, ElementsOrWhole, ObjectMembers, Nothing};
-ghost use Rattle.ref_draft.specs.Keywords.{is_one_of, row_4, row_6, row_7, row_2019, row_2020, row, is_before_2019, is_before_2020, is_unknown, is_items_or_dependencies, boolean_or_schema, holding_by, holding, is_left_out, id_keyword, known_in_all, known_in_4, known_since_6, known_since_7, known_since_2019, known_since_2020, is_known_in_2019, is_known};
+ghost use Rattle.ref_draft.specs.Keywords.{is_one_of, row_4, row_6, row_7, row_2019, row_2020, row, is_before_2019, is_before_2020, is_unknown, is_items_or_dependencies, boolean_or_schema, holding, is_map_keyword, is_left_out, id_keyword, known_in_all, known_in_4, known_since_6, known_since_7, known_since_2019, known_since_2020, is_known_in_2019, is_known};
 ghost use Rattle.ref_draft.specs.Order.{rank};
 
 /// The keywords under which schemas stand, draft by draft.
@@ -42,14 +42,16 @@ pub fn holdings_of_keywords()
     ensures dependencies_before_2020 { holding Draft4 (codes "dependencies") ≡ ObjectMembers }
     ensures dependencies_since_2020 { holding Draft202012 (codes "dependencies") ≡ Nothing }
     ensures no_keyword { holding Draft7 (codes "const") ≡ Nothing }
-    ensures by_another_row { holding_by row_6 [] false (codes "if") ≡ Nothing }
-    ensures by_a_row_before_2020 { holding_by row_6 [] true (codes "items") ≡ ElementsOrWhole }
-    ensures by_a_row_since_2020 { holding_by row_6 [] false (codes "items") ≡ Nothing }
+    ensures if_since_7 { holding Draft6 (codes "if") ≡ Nothing }
     ensures booleans_of_4 { boolean_or_schema Draft4 ≡ codes "additionalItems" ∷ codes "additionalProperties" ∷ [] }
     ensures booleans_of_6 { boolean_or_schema Draft6 ≡ [] }
     ensures items { is_items_or_dependencies (codes "items") ≡ true }
     ensures dependencies { is_items_or_dependencies (codes "dependencies") ≡ true }
     ensures another { is_items_or_dependencies (codes "dependentSchemas") ≡ false }
+    ensures map_of_schemas { is_map_keyword Draft7 (codes "properties") ≡ true }
+    ensures dependencies_as_a_map { is_map_keyword Draft7 (codes "dependencies") ≡ true }
+    ensures no_map_since_2020 { is_map_keyword Draft202012 (codes "dependencies") ≡ false }
+    ensures no_map_of_schemas { is_map_keyword Draft7 (codes "$defs") ≡ false }
     ensures left_out { is_left_out Draft201909 (codes "dependencies") ≡ true }
     ensures not_left_out { is_left_out Draft201909 (codes "dependentSchemas") ≡ false }
     ensures not_left_out_in_7 { is_left_out Draft7 (codes "dependencies") ≡ false }

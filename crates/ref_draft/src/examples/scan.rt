@@ -1,12 +1,11 @@
 //! Where an identifier may change the base along a pointer.
-ghost use Rattle.std.specs.Prelude.{◌≡◌, true, false, [], ◌∷◌, codes, length};
+ghost use Rattle.std.specs.Prelude.{◌≡◌, true, false, [], ◌∷◌, codes};
 ghost use Rattle.ref_parts.specs.Path.{Index};
 ghost use Rattle.ref_draft.specs.declared.draft.Draft.TheVariants.{Draft4, Draft6, Draft7, Draft201909, Draft202012, Unknown};
-ghost use Rattle.ref_draft.specs.declared.spec.Holding.TheVariants.{Whole, WholeObject, Elements, Members, ElementsOrWhole, ObjectMembers, Nothing};
-ghost use Rattle.ref_draft.specs.Keywords.{row};
-ghost use Rattle.ref_draft.specs.Scan.{draft_4_row, scan_row, is_value_keyword, is_child_keyword, AnIndex, AValue, AChild, parts_of, spelled, IsPieceOf, IsWord, SpellsWord, PassesItems, IsAccepted, ReadsTheWalk, AcceptsChildren};
-ghost use Rattle.ref_draft.specs.ScanSteps.{scan_holding, go_on, scan, scan_past};
-ghost use Rattle.ref_draft.specs.Rows.{empty, yes, one, key};
+ghost use Rattle.ref_draft.specs.Scan.{is_value_keyword, is_child_keyword, AnIndex, AValue, AChild, parts_of, spelled, IsPieceOf, IsWord, SpellsWord, PassesItems, IsAccepted, AcceptsChildren};
+ghost use Rattle.ref_draft.specs.ScanSteps.{scan, scan_past};
+ghost use Rattle.ref_draft.specs.Beginnings.{is_array, IsMapOfSchemas, EndsWithin, AllEndWithin};
+ghost use Rattle.ref_draft.specs.Rows.{empty, yes, one, list, key};
 
 /// Which parts are accepted at a value.
 pub fn accepted_parts()
@@ -19,7 +18,11 @@ pub fn accepted_parts()
     ensures below_items_at_no_object { ¬ (IsAccepted Draft7 (key "items" ∷ key "const" ∷ []) yes) }
     ensures value_keyword { IsAccepted Draft6 (key "properties" ∷ key "items" ∷ key "not" ∷ []) yes }
     ensures dependencies { IsAccepted Draft201909 (key "$defs" ∷ key "a" ∷ key "dependencies" ∷ []) empty }
-    ensures defs_in_4 { ¬ (IsAccepted Draft4 (key "$defs" ∷ key "a" ∷ []) empty) }
+    ensures defs_in_4 { IsAccepted Draft4 (key "$defs" ∷ key "a" ∷ []) empty }
+    ensures prefix_items_in_4 { IsAccepted Draft4 (key "prefixItems" ∷ Index 0 ∷ []) empty }
+    ensures boolean_or_schema_in_4 { IsAccepted Draft4 (key "additionalItems" ∷ []) empty }
+    ensures const_in_4 { ¬ (IsAccepted Draft4 (key "const" ∷ []) empty) }
+    ensures defs_in_6 { ¬ (IsAccepted Draft6 (key "$defs" ∷ key "a" ∷ []) empty) }
 {}
 
 /// The two ways in which parts are accepted.
@@ -33,25 +36,30 @@ pub fn words_and_items()
     ensures no_object { ¬ (PassesItems Draft7 (key "items" ∷ []) yes) }
     ensures accepted_children { AcceptsChildren Draft202012 [] (((key "not" ∷ []), empty) ∷ ((key "$defs" ∷ key "a" ∷ []), yes) ∷ []) }
     ensures no_children { AcceptsChildren Draft202012 (key "const" ∷ []) [] }
-    ensures walk_of_6 { ReadsTheWalk Draft6 }
-    ensures walk_of_7 { ReadsTheWalk Draft7 }
-    ensures walk_of_2019 { ReadsTheWalk Draft201909 }
-    ensures walk_of_2020 { ReadsTheWalk Draft202012 }
-    ensures walk_of_unknown { ReadsTheWalk Unknown }
-    ensures not_of_4 { ¬ (ReadsTheWalk Draft4) }
 {}
 
 /// The keywords that the scan reads.
 pub fn keywords_of_the_scan()
-    ensures values_of_4 { draft_4_row.values ≡ codes "additionalItems" ∷ codes "additionalProperties" ∷ codes "not" ∷ [] }
-    ensures maps_of_4 { draft_4_row.maps ≡ codes "definitions" ∷ codes "patternProperties" ∷ codes "properties" ∷ [] }
-    ensures row_of_4 { scan_row Draft4 ≡ draft_4_row }
-    ensures row_of_7 { scan_row Draft7 ≡ row Draft7 }
     ensures value_keyword { is_value_keyword Draft202012 (codes "items") ≡ true }
-    ensures contains_in_4 { is_value_keyword Draft4 (codes "contains") ≡ false }
+    ensures contains_in_4 { is_value_keyword Draft4 (codes "contains") ≡ true }
+    ensures const_in_4 { is_value_keyword Draft4 (codes "const") ≡ false }
+    ensures defs_in_4 { is_child_keyword Draft4 (codes "$defs") ≡ true }
     ensures elements_keyword { is_child_keyword Draft7 (codes "oneOf") ≡ true }
     ensures members_keyword { is_child_keyword Draft4 (codes "definitions") ≡ true }
     ensures no_child_keyword { is_child_keyword Draft7 (codes "$defs") ≡ false }
+{}
+
+/// What stands between a schema and its child.
+pub fn beginnings_of_paths()
+    ensures an_array { is_array (list yes) ≡ true }
+    ensures no_array { is_array empty ≡ false }
+    ensures a_map { IsMapOfSchemas Draft7 (codes "properties") empty }
+    ensures no_map { ¬ (IsMapOfSchemas Draft7 (codes "const") empty) }
+    ensures no_object { ¬ (IsMapOfSchemas Draft7 (codes "properties") yes) }
+    ensures in_an_array { EndsWithin Draft7 [] (one "allOf" (list yes)) (key "allOf" ∷ []) }
+    ensures in_a_map { EndsWithin Draft202012 (key "not" ∷ []) (one "properties" (one "x" yes)) (key "properties" ∷ []) }
+    ensures nowhere { ¬ (EndsWithin Draft7 [] empty (key "allOf" ∷ [])) }
+    ensures all { AllEndWithin Draft7 [] (one "not" yes) ((key "not" ∷ [], yes) ∷ []) }
 {}
 
 /// The pieces of words.
@@ -72,20 +80,17 @@ pub fn pieces_of_words()
 
 /// The scan, part by part.
 pub fn steps_of_the_scan()
-    ensures value_of_4 { scan_holding Draft4 (codes "additionalItems") ≡ Whole }
-    ensures defs_of_4 { scan_holding Draft4 (codes "$defs") ≡ Nothing }
-    ensures items_of_7 { scan_holding Draft7 (codes "items") ≡ ElementsOrWhole }
-    ensures on_at_a_value { go_on Whole false true false ≡ true }
-    ensures past_at_elements { go_on Elements true false true ≡ true }
-    ensures past_at_members { go_on Members true true false ≡ false }
-    ensures object_at_items { go_on ElementsOrWhole true false false ≡ true }
-    ensures object_at_dependencies { go_on ObjectMembers false true true ≡ false }
-    ensures ends_at_no_keyword { go_on Nothing true true true ≡ false }
-    ensures on_at_a_value_or_boolean { go_on WholeObject false true false ≡ true }
     ensures no_parts { scan Draft4 false [] ≡ true }
     ensures accepted { scan Draft202012 false (key "properties" ∷ key "const" ∷ key "not" ∷ []) ≡ true }
     ensures refused { scan Draft202012 true (key "not" ∷ key "const" ∷ []) ≡ false }
     ensures past_nothing { scan_past Draft202012 true [] ≡ false }
     ensures past_a_part { scan_past Draft202012 true (key "const" ∷ key "not" ∷ []) ≡ true }
     ensures unknown_as_2020 { scan Unknown true (key "prefixItems" ∷ Index 0 ∷ []) ≡ true }
+    ensures value_of_4 { scan Draft4 false (key "additionalItems" ∷ []) ≡ true }
+    ensures defs_of_4 { scan Draft4 false (key "$defs" ∷ key "a" ∷ []) ≡ true }
+    ensures items_of_7 { scan Draft7 true (key "items" ∷ key "const" ∷ []) ≡ true }
+    ensures items_of_7_at_no_object { scan Draft7 false (key "items" ∷ key "const" ∷ []) ≡ false }
+    ensures dependencies_of_2019 { scan Draft201909 true (key "not" ∷ key "dependencies" ∷ []) ≡ true }
+    ensures dependencies_of_2020 { scan Draft202012 true (key "dependencies" ∷ key "a" ∷ []) ≡ false }
+    ensures element_of_2019 { scan Draft201909 true (key "prefixItems" ∷ Index 0 ∷ []) ≡ false }
 {}

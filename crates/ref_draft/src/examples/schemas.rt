@@ -2,7 +2,7 @@
 ghost use Rattle.std.specs.Prelude.{◌≡◌, true, false, [], ◌∷◌, map, codes, length, Some, None};
 ghost use Rattle.serde_json.specs.Data.{boolean};
 ghost use Rattle.ref_draft.specs.declared.draft.Draft.TheVariants.{Draft4, Draft6, Draft7, Draft201909, Draft202012, Unknown};
-ghost use Rattle.ref_draft.specs.Schema.{text_under, is_true, before, trimmed, meta_schemas, is_at, draft_of_uri, from_schema_uri, detect, begins_with_hash, is_hidden, identifier};
+ghost use Rattle.ref_draft.specs.Schema.{text_under, is_true, trimmed, meta_schemas, is_at, draft_of_uri, from_schema_uri, detect, begins_with_hash, is_hidden, identifier};
 ghost use Rattle.ref_draft.specs.Rows.{empty, yes, text, one, two, list, schema};
 
 /// The draft of a schema by its `$schema` (2020-12 Core, 8.1.1).
@@ -35,9 +35,8 @@ pub fn drafts_of_uris()
     ensures trimmed_twice { trimmed (codes "k##") ≡ codes "k" }
     ensures trimmed_at_the_end { trimmed (codes "a#b") ≡ codes "a#b" }
     ensures trimmed_to_nothing { trimmed (codes "#") ≡ [] }
-    ensures hash_before_nothing { before 35 [] ≡ [] }
-    ensures hash_before_a_letter { before 35 (codes "b") ≡ codes "#b" }
-    ensures letter_before_nothing { before 97 [] ≡ codes "a" }
+    ensures trimmed_whole { trimmed (codes "k") ≡ codes "k" }
+    ensures trimmed_empty { trimmed [] ≡ [] }
 {}
 
 /// The identifier of a value in each draft (2020-12 Core, 8.2.1; Draft 7 Core, 8.2 and 8.3).

@@ -20,8 +20,9 @@ ghost use Rattle.ref_draft.specs.declared.segments.Segment.TheVariants as segmen
 ghost use Rattle.ref_draft.specs.declared.spec.children.ChildIterInner.TheVariants as inner;
 ghost use Rattle.ref_draft.specs.declared.spec.Holding.TheVariants.{Whole, Members, ObjectMembers};
 ghost use Rattle.ref_draft.specs.Anchors.{Plain, Dynamic};
-ghost use Rattle.ref_draft.specs.Views.{tagged, resource, resource_ref, id_of, anchor_name, anchor_resource, AllName, anchors_left, part_of, parts_of, walked_child, objects_of, inner_left, values_left, Adds};
-ghost use Rattle.ref_draft.specs.WalkSteps.{AreFoundIn, HasUniqueKeys, HasUniqueKeysWhere, members_in};
+ghost use Rattle.ref_draft.specs.Views.{tagged, resource, resource_ref, id_of, anchor_name, anchor_resource, AllName, anchors_left, part_of, parts_of, walked_child, objects_of, inner_left, values_left};
+ghost use Rattle.ref_draft.specs.inner.Added.{Adds};
+ghost use Rattle.ref_draft.specs.inner.WalkSteps.{AreFoundIn, FindsMembers, FindsMembersWhere, members_in};
 ghost use Rattle.ref_draft.specs.Rows.{empty, yes, text, one, two, list, key};
 
 /// Resources and their identifiers.
@@ -77,11 +78,11 @@ pub fn views_of_iterators()
 
 /// That an object has each key once.
 pub fn keys_of_objects()
-    ensures once { HasUniqueKeys (two "a" yes "b" empty) }
-    ensures twice { ¬ (HasUniqueKeys (two "a" yes "a" empty)) }
-    ensures once_where_members { HasUniqueKeysWhere Members (two "a" yes "b" empty) }
-    ensures twice_where_members { ¬ (HasUniqueKeysWhere ObjectMembers (two "a" yes "a" empty)) }
-    ensures twice_where_whole { HasUniqueKeysWhere Whole (two "a" yes "a" empty) }
+    ensures once { FindsMembers (two "a" yes "b" empty) }
+    ensures twice { ¬ (FindsMembers (two "a" yes "a" empty)) }
+    ensures once_where_members { FindsMembersWhere Members (two "a" yes "b" empty) }
+    ensures twice_where_members { ¬ (FindsMembersWhere ObjectMembers (two "a" yes "a" empty)) }
+    ensures twice_where_whole { FindsMembersWhere Whole (two "a" yes "a" empty) }
     ensures found { AreFoundIn (member (codes "a") yes no_members) (member (codes "a") yes no_members) }
     ensures not_found { ¬ (AreFoundIn no_members (member (codes "a") yes no_members)) }
     ensures members { members_in (one "a" yes) ≡ member (codes "a") yes no_members }

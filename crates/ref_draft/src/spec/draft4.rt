@@ -1,7 +1,6 @@
 //! The keywords of Draft 4.
 ghost use Rattle.std.specs.Prelude.{◌≡◌};
 ghost use Rattle.ref_draft.specs.Keywords.{holding};
-ghost use Rattle.ref_draft.specs.ScanSteps.{scan_holding};
 
 use crate::draft::Draft;
 use crate::spec::Holding;
@@ -24,20 +23,6 @@ pub(crate) fn holding(keyword: &str) -> Holding
         "allOf" | "anyOf" | "oneOf" | "prefixItems" => Holding::Elements,
         "$defs" | "definitions" | "dependentSchemas" | "patternProperties" | "properties" =>
             Holding::Members,
-        "items" => Holding::ElementsOrWhole,
-        "dependencies" => Holding::ObjectMembers,
-        _ => Holding::Nothing,
-    }
-}
-
-// The same for the scan, which knows fewer keywords.
-pub(crate) fn scan_holding(keyword: &str) -> Holding
-    ensures { result ≡ scan_holding Draft.Draft4 keyword.now }
-{
-    match keyword {
-        "additionalItems" | "additionalProperties" | "not" => Holding::Whole,
-        "allOf" | "anyOf" | "oneOf" => Holding::Elements,
-        "definitions" | "patternProperties" | "properties" => Holding::Members,
         "items" => Holding::ElementsOrWhole,
         "dependencies" => Holding::ObjectMembers,
         _ => Holding::Nothing,

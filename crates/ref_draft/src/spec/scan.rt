@@ -1,19 +1,20 @@
 //! The scan of a pointer's segments: whether they lead from schema to schema.
 ghost use Rattle.std.specs.Prelude.{◌≡◌};
-ghost use Rattle.ref_draft.specs.ScanSteps.{scan, scan_holding};
+ghost use Rattle.ref_draft.specs.ScanSteps.{scan};
 
 use crate::draft::Draft;
 use crate::segments::{Segment, Segments};
-use crate::spec::{Holding, draft4};
+use crate::spec::Holding;
 
 // Whether the segments are accepted at a value, where `object` says whether that is an object.
+#[tactic(auto, using(crate::proofs::Holdings::scan_key))]
 pub(crate) fn accepts(draft: Draft, segments: &Segments, object: bool) -> bool
     ensures { result ≡ scan draft object segments.now }
 {
     let mut rest = segments.iter();
     while let Some(segment) = rest.next() {
         if let Segment::Key(keyword) = segment {
-            match holding(draft, keyword.as_str()) {
+            match draft.holding(keyword.as_str()) {
                 Holding::Whole | Holding::WholeObject => {}
                 Holding::Elements | Holding::Members => {
                     if rest.next().is_none() {
@@ -26,14 +27,4 @@ pub(crate) fn accepts(draft: Draft, segments: &Segments, object: bool) -> bool
         }
     }
     true
-}
-
-// How a keyword holds its subschemas for the scan: as for the walk but in Draft 4.
-fn holding(draft: Draft, keyword: &str) -> Holding
-    ensures { result ≡ scan_holding draft keyword.now }
-{
-    match draft {
-        Draft::Draft4 => draft4::scan_holding(keyword),
-        _ => draft.holding(keyword),
-    }
 }

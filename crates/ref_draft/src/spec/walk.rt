@@ -4,8 +4,9 @@ ghost use Rattle.ref_parts.specs.Path.{Key};
 ghost use Rattle.serde_json.specs.View.{view, items_view, members_view};
 ghost use Rattle.ref_draft.specs.Keywords.{holding};
 ghost use Rattle.ref_draft.specs.Children.{AllStand, walked, with_draft, held, elements_from, each_member, has_object};
-ghost use Rattle.ref_draft.specs.WalkSteps.{AreFoundIn, HasUniqueKeysWhere};
-ghost use Rattle.ref_draft.specs.Views.{Adds, parts_of, walked_child};
+ghost use Rattle.ref_draft.specs.inner.WalkSteps.{AreFoundIn, FindsMembersWhere};
+ghost use Rattle.ref_draft.specs.inner.Added.{Adds};
+ghost use Rattle.ref_draft.specs.Views.{parts_of, walked_child};
 
 use crate::draft::Draft;
 use crate::spec::Holding;
@@ -56,7 +57,7 @@ fn push_held<'a>(
     ensures adds { OnOk result
         (Adds draft (held (holding draft keyword.now) keyword.now (view value.now))
         children.old.items children.new.items) }
-    ensures unique { HasUniqueKeysWhere (holding draft keyword.now) (view value.now) }
+    ensures unique { FindsMembersWhere (holding draft keyword.now) (view value.now) }
 {
     match draft.holding(keyword) {
         Holding::Whole => push(children, draft, keyword, None, value),

@@ -6,7 +6,7 @@ ghost use Rattle.ref_draft.specs.Anchors.{Plain, Dynamic};
 ghost use Rattle.ref_uri.specs.Targets.{unparsed, unresolved};
 ghost use Rattle.referencing.specs.Fault.{InvalidAnchor, InvalidUri, NoSuchAnchor, PointerToNowhere};
 ghost use Rattle.referencing.specs.Places.{root};
-ghost use Rattle.referencing.specs.Lookup.{moved, at_base, by_identifier, in_subresource, in_scope, fault_of, entry_of, is_dynamic, unless_fault, outermost, entry_found, by_scope, dynamically, named_found, by_pointer, by_name, at_fragment, resolver_text};
+ghost use Rattle.referencing.specs.Lookup.{moved, in_subresource, in_scope, fault_of, entry_of, is_dynamic, unless_fault, outermost, entry_found, by_scope, dynamically, named_found, pointer_found, at_fragment, resolver_text};
 ghost use Rattle.referencing.specs.Rows.{at, world, yes, empty, text, one, two, along, resolver, found, name_at};
 
 /// The base and the scope after a lookup.
@@ -20,13 +20,10 @@ pub fn resolvers_after_lookups()
 
 /// An identifier of a value, applied (2020-12 Core, 8.2.1).
 pub fn resolvers_in_subresources()
-    ensures identifier { by_identifier (resolver "http://a/r" (codes "http://a/q" ∷ [])) (Some (codes "k/")) ≡ Ok (resolver "http://a/k/" (codes "http://a/q" ∷ [])) }
-    ensures no_identifier { by_identifier (resolver "http://a/r" (codes "http://a/q" ∷ [])) None ≡ Ok (resolver "http://a/r" (codes "http://a/q" ∷ [])) }
-    ensures refused_identifier { by_identifier (resolver "http://a/r" []) (Some (codes "a b")) ≡ Err (unparsed (codes "a b")) }
-    ensures base_without_scheme { by_identifier (resolver "/a" []) (Some (codes "b")) ≡ Err (unresolved (codes "b") (codes "/a")) }
-    ensures at_another_base { at_base (resolver "http://a/r" []) (Ok (codes "a:b")) ≡ Ok (resolver "a:b" []) }
-    ensures at_no_base { at_base (resolver "http://a/r" []) (Err (unparsed (codes "a b"))) ≡ Err (unparsed (codes "a b")) }
-    ensures entered { in_subresource (resolver "http://a/r" []) Draft202012 (one "$id" (text "k/")) ≡ Ok (resolver "http://a/k/" []) }
+    ensures entered { in_subresource (resolver "http://a/r" (codes "http://a/q" ∷ [])) Draft202012 (one "$id" (text "k/")) ≡ Ok (resolver "http://a/k/" (codes "http://a/q" ∷ [])) }
+    ensures no_identifier { in_subresource (resolver "http://a/r" (codes "http://a/q" ∷ [])) Draft202012 yes ≡ Ok (resolver "http://a/r" (codes "http://a/q" ∷ [])) }
+    ensures refused_identifier { in_subresource (resolver "http://a/r" []) Draft202012 (one "$id" (text "a b")) ≡ Err (unparsed (codes "a b")) }
+    ensures base_without_scheme { in_subresource (resolver "/a" []) Draft202012 (one "$id" (text "b")) ≡ Err (unresolved (codes "b") (codes "/a")) }
     ensures beside_a_reference { in_subresource (resolver "http://a/r" []) Draft7 (two "$id" (text "k/") "$ref" (text "b")) ≡ Ok (resolver "http://a/r" []) }
 {}
 
@@ -37,10 +34,8 @@ pub fn fragments_of_resources()
     ensures pointer_to_nowhere { at_fragment [] (resolver "http://a/r" []) (root (at Draft202012 "http://a/r" empty)) (codes "/nope") ≡ Err (PointerToNowhere (codes "/nope")) }
     ensures anchor { at_fragment (world (at Draft202012 "http://a/r" (one "$anchor" (text "n")) ∷ [])) (resolver "http://a/r" []) (root (at Draft202012 "http://a/r" (one "$anchor" (text "n")))) (codes "n") ≡ Ok (found (one "$anchor" (text "n")) Draft202012 (resolver "http://a/r" [])) }
     ensures undecoded_anchor { at_fragment (world (at Draft202012 "http://a/r" (one "$anchor" (text "n")) ∷ [])) (resolver "http://a/r" []) (root (at Draft202012 "http://a/r" (one "$anchor" (text "n")))) (codes "%6E") ≡ Err (NoSuchAnchor (codes "%6E")) }
-    ensures by_a_pointer { by_pointer (resolver "http://a/r" (codes "http://a/q" ∷ [])) Draft7 (Ok (yes, along "http://a/s/" [])) ≡ Ok (found yes Draft7 (resolver "http://a/s/" (codes "http://a/q" ∷ []))) }
-    ensures by_a_faulty_pointer { by_pointer (resolver "http://a/r" []) Draft7 (Err (PointerToNowhere (codes "/x"))) ≡ Err (PointerToNowhere (codes "/x")) }
-    ensures by_a_plain_name { by_name [] (resolver "http://a/r" []) (Ok (name_at "http://a/x" "n" Plain Draft201909 (one "$id" (text "y")))) ≡ Ok (found (one "$id" (text "y")) Draft201909 (resolver "http://a/r" [])) }
-    ensures by_no_name { by_name [] (resolver "http://a/r" []) (Err (NoSuchAnchor (codes "n"))) ≡ Err (NoSuchAnchor (codes "n")) }
+    ensures by_a_pointer { pointer_found (resolver "http://a/r" (codes "http://a/q" ∷ [])) Draft7 (yes, along "http://a/s/" []) ≡ found yes Draft7 (resolver "http://a/s/" (codes "http://a/q" ∷ [])) }
+    ensures plain_name_with_identifier { named_found [] (resolver "http://a/r" []) (name_at "http://a/x" "n" Plain Draft201909 (one "$id" (text "y"))) Plain ≡ Ok (found (one "$id" (text "y")) Draft201909 (resolver "http://a/r" [])) }
     ensures plain_name { named_found [] (resolver "http://a/r" (codes "http://a/q" ∷ [])) (name_at "http://a/x" "n" Plain Draft7 yes) Plain ≡ Ok (found yes Draft7 (resolver "http://a/r" (codes "http://a/q" ∷ []))) }
     ensures dynamic_name { named_found [] (resolver "http://a/r" []) (name_at "http://a/x" "n" Dynamic Draft202012 (one "$id" (text "y"))) Dynamic ≡ Ok (found (one "$id" (text "y")) Draft202012 (resolver "http://a/y" [])) }
 {}

@@ -1,12 +1,14 @@
 //! Pointers in fragments, and the base along them.
 ghost use Rattle.std.specs.Prelude.{◌≡◌, ℕ, List, [], ◌∷◌, codes, Some, None, Ok, Err};
+ghost use Rattle.std.specs.Option.{ok_or};
 ghost use Rattle.serde_json.specs.Data.{Data, null, string};
 ghost use Rattle.ref_parts.specs.Path.{Key, Index};
 ghost use Rattle.ref_draft.specs.declared.draft.Draft.TheVariants.{Draft7, Draft202012};
 ghost use Rattle.ref_uri.specs.Targets.{unparsed};
-ghost use Rattle.referencing.specs.Fault.{PointerToNowhere, InvalidArrayIndex, InvalidPercentEncoding, InvalidUri};
-ghost use Rattle.referencing.specs.Bases.{changed, identified, along_part};
-ghost use Rattle.referencing.specs.Pointers.{◌>>=◌ as in_turn, as_invalid_uri, or_fault, index_of, step_into, walked_along, pointed};
+ghost use Rattle.referencing.specs.Results.{◌>>=◌ as in_turn};
+ghost use Rattle.referencing.specs.Fault.{PointerToNowhere, InvalidArrayIndex, InvalidPercentEncoding, InvalidUri, as_invalid_uri};
+ghost use Rattle.referencing.specs.Bases.{changed, along_part};
+ghost use Rattle.referencing.specs.Pointers.{index_of, step_into, walked_along, pointed};
 ghost use Rattle.referencing.specs.Rows.{yes, empty, text, one, two, pair, along};
 
 /// Indexes: a `+` and leading zeros are taken.
@@ -53,11 +55,10 @@ pub fn walks_along_pointers()
 
 /// The base after one more part.
 pub fn bases_along_pointers()
-    ensures changed_base { changed (along "http://a/r" (Key (codes "not") ∷ [])) (Ok (codes "http://a/s")) ≡ Ok (along "http://a/s" []) }
-    ensures same_base { changed (along "http://a/r" (Key (codes "not") ∷ [])) (Ok (codes "http://a/r")) ≡ Ok (along "http://a/r" (Key (codes "not") ∷ [])) }
-    ensures refused_base { changed (along "http://a/r" []) (Err (unparsed (codes "a b"))) ≡ Err (unparsed (codes "a b")) }
-    ensures no_identifier { identified (along "http://a/r" (Key (codes "not") ∷ [])) None ≡ Ok (along "http://a/r" (Key (codes "not") ∷ [])) }
-    ensures identifier { identified (along "http://a/r" (Key (codes "not") ∷ [])) (Some (codes "s/")) ≡ Ok (along "http://a/s/" []) }
+    ensures changed_base { changed (along "http://a/r" (Key (codes "not") ∷ [])) (codes "http://a/s") ≡ along "http://a/s" [] }
+    ensures same_base { changed (along "http://a/r" (Key (codes "not") ∷ [])) (codes "http://a/r") ≡ along "http://a/r" (Key (codes "not") ∷ []) }
+    ensures no_identifier { along_part Draft202012 (along "http://a/r" []) (Key (codes "not")) empty ≡ Ok (along "http://a/r" (Key (codes "not") ∷ [])) }
+    ensures identifier_of_the_base { along_part Draft202012 (along "http://a/r" []) (Key (codes "not")) (one "$id" (text "r")) ≡ Ok (along "http://a/r" (Key (codes "not") ∷ [])) }
     ensures accepted { along_part Draft202012 (along "http://a/r" (Key (codes "properties") ∷ [])) (Key (codes "x")) (one "$id" (text "s/")) ≡ Ok (along "http://a/s/" []) }
     ensures not_accepted { along_part Draft202012 (along "http://a/r" []) (Key (codes "const")) (one "$id" (text "z")) ≡ Ok (along "http://a/r" (Key (codes "const") ∷ [])) }
     ensures below_items { along_part Draft7 (along "http://a/r" (Key (codes "items") ∷ [])) (Key (codes "const")) (one "$id" (text "z")) ≡ Ok (along "http://a/z" []) }
@@ -66,9 +67,9 @@ pub fn bases_along_pointers()
 
 /// Answers one after another.
 pub fn answers_in_turn()
-    ensures then { in_turn (Ok yes) (λ (value : Data). or_fault (Some value) (PointerToNowhere (codes "/a"))) ≡ Ok yes }
-    ensures fault_ends { in_turn (Err (PointerToNowhere (codes "/a"))) (λ (value : Data). or_fault (Some value) (PointerToNowhere (codes "/b"))) ≡ Err (PointerToNowhere (codes "/a")) }
-    ensures nothing_there { in_turn (or_fault None (PointerToNowhere (codes "/a"))) (λ (value : Data). Ok value) ≡ Err (PointerToNowhere (codes "/a")) }
+    ensures then { in_turn (Ok yes) (λ (value : Data). ok_or (Some value) (PointerToNowhere (codes "/a"))) ≡ Ok yes }
+    ensures fault_ends { in_turn (Err (PointerToNowhere (codes "/a"))) (λ (value : Data). ok_or (Some value) (PointerToNowhere (codes "/b"))) ≡ Err (PointerToNowhere (codes "/a")) }
+    ensures nothing_there { in_turn (ok_or None (PointerToNowhere (codes "/a"))) (λ (value : Data). Ok value) ≡ Err (PointerToNowhere (codes "/a")) }
     ensures refusal_as_fault { in_turn (as_invalid_uri (Err (unparsed (codes "a b")))) (λ (uri : List ℕ). Ok (string uri)) ≡ Err (InvalidUri (unparsed (codes "a b"))) }
     ensures answer_kept { in_turn (as_invalid_uri (Ok (codes "a:b"))) (λ (uri : List ℕ). Ok (string uri)) ≡ Ok (string (codes "a:b")) }
 {}

@@ -1,10 +1,9 @@
 //! Which URIs identify which places.
-ghost use Rattle.std.specs.Prelude.{◌≡◌, [], ◌∷◌, codes, Some, None, Ok, Err, option_map};
+ghost use Rattle.std.specs.Prelude.{◌≡◌, [], ◌∷◌, codes, Some, None, option_map};
 ghost use Rattle.ref_parts.specs.Path.{Key};
 ghost use Rattle.ref_draft.specs.declared.draft.Draft.TheVariants.{Draft7, Draft202012};
-ghost use Rattle.ref_uri.specs.Targets.{unparsed};
 ghost use Rattle.referencing.specs.Places.{root};
-ghost use Rattle.referencing.specs.Resources.{last_of, resource_with, resource_of, resources_in, resources, last_under, means};
+ghost use Rattle.referencing.specs.Resources.{own_uri, resource_of, resources_in, resources, last_under, means};
 ghost use Rattle.referencing.specs.Rows.{world, at, yes, empty, text, one, two, uris_and_paths, path_of};
 
 /// The places under URIs.
@@ -16,16 +15,14 @@ pub fn uris_of_resources()
     ensures by_a_place { uris_and_paths (resource_of (root (at Draft202012 "http://a/r" (one "$id" (text "y"))))) ≡ (codes "http://a/y", []) ∷ [] }
     ensures by_a_place_without { resource_of (root (at Draft202012 "http://a/r" empty)) ≡ [] }
     ensures by_a_refused_identifier { resource_of (root (at Draft202012 "http://a/r" (one "$id" (text "a b")))) ≡ [] }
-    ensures with_a_base { uris_and_paths (resource_with (root (at Draft202012 "http://a/r" yes)) (Some (codes "y")) (Ok (codes "http://a/y"))) ≡ (codes "http://a/y", []) ∷ [] }
-    ensures with_a_refusal { resource_with (root (at Draft202012 "http://a/r" yes)) (Some (codes "a b")) (Err (unparsed (codes "a b"))) ≡ [] }
-    ensures without_identifier { resource_with (root (at Draft202012 "http://a/r" yes)) None (Ok (codes "http://a/r")) ≡ [] }
+    ensures own { own_uri (root (at Draft202012 "http://a/r" (one "$id" (text "y")))) ≡ Some (codes "http://a/y") }
+    ensures none_of_a_refusal { own_uri (root (at Draft202012 "http://a/r" (one "$id" (text "a b")))) ≡ None }
+    ensures none_without_identifier { own_uri (root (at Draft202012 "http://a/r" yes)) ≡ None }
+    ensures none_of_a_hidden_identifier { own_uri (root (at Draft7 "http://a/r" (two "$id" (text "y") "$ref" (text "b")))) ≡ None }
 {}
 
 /// The last entry counts.
 pub fn last_entries()
-    ensures of_two { last_of (codes "a" ∷ codes "b" ∷ []) ≡ Some (codes "b") }
-    ensures of_one { last_of (codes "a" ∷ []) ≡ Some (codes "a") }
-    ensures of_three { last_of (codes "c" ∷ codes "a" ∷ codes "b" ∷ []) ≡ Some (codes "b") }
     ensures under_a_uri { last_under (codes "a:b") ((codes "a:b", yes) ∷ (codes "a:c", yes) ∷ (codes "a:b", empty) ∷ (codes "a:c", yes) ∷ []) ≡ Some (codes "a:b", empty) }
     ensures under_no_uri { last_under (codes "a:B") ((codes "a:b", yes) ∷ []) ≡ None }
 {}

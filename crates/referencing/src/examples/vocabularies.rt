@@ -3,21 +3,19 @@ ghost use Rattle.std.specs.Prelude.{◌≡◌, true, false, [], ◌∷◌, map, 
 ghost use Rattle.serde_json.specs.Data.{boolean, no_members, member};
 ghost use Rattle.ref_draft.specs.declared.draft.Draft.TheVariants.{Draft4, Draft7, Draft201909, Draft202012, Unknown};
 ghost use Rattle.ref_uri.specs.Targets.{unparsed};
-ghost use Rattle.referencing.specs.Vocabularies.{Named, Custom, known, is_uri_of, custom, from_text, has_name, contains, put, with_vocabulary, names_of_bits, of_bits, of_names, set_of_2020, default_set, quoted, set_text, is_format_assertion, with_member, collected, known_set, some_set, set_of_members, find_in, set_or_default, set_at, find_vocabularies, dialect_contents, find_vocabularies_at};
+ghost use Rattle.referencing.specs.Vocabularies.{Standard, Custom, known, is_uri_of, from_text, has_name, contains, put, with_vocabulary, names_of_bits, of_bits, of_names, set_of_2020, default_set, quoted, set_text, is_format_assertion, with_member, collected, known_set, set_of_members, find_in, set_or_default, set_at, find_vocabularies, dialect_contents, find_vocabularies_at};
 ghost use Rattle.referencing.specs.Rows.{world, at, yes, empty, text, one, two, three};
 
 /// The vocabulary that a text names.
 pub fn vocabularies_of_texts()
     ensures nine_known { length known ≡ 9 }
     ensures names_of_known { map (λ k. k.name) known ≡ codes "core" ∷ codes "applicator" ∷ codes "unevaluated" ∷ codes "validation" ∷ codes "meta-data" ∷ codes "format" ∷ codes "format-annotation" ∷ codes "content" ∷ codes "format-assertion" ∷ [] }
-    ensures format_of_2019 { from_text (codes "https://json-schema.org/draft/2019-09/vocab/format") ≡ Ok (Named (codes "format")) }
-    ensures format_of_2020 { from_text (codes "https://json-schema.org/draft/2020-12/vocab/format") ≡ Ok (Named (codes "format")) }
-    ensures format_annotation { from_text (codes "https://json-schema.org/draft/2020-12/vocab/format-annotation") ≡ Ok (Named (codes "format-annotation")) }
+    ensures format_of_2019 { from_text (codes "https://json-schema.org/draft/2019-09/vocab/format") ≡ Ok (Standard (codes "format")) }
+    ensures format_of_2020 { from_text (codes "https://json-schema.org/draft/2020-12/vocab/format") ≡ Ok (Standard (codes "format")) }
+    ensures format_annotation { from_text (codes "https://json-schema.org/draft/2020-12/vocab/format-annotation") ≡ Ok (Standard (codes "format-annotation")) }
     ensures unevaluated_of_2020_alone { from_text (codes "https://json-schema.org/draft/2019-09/vocab/unevaluated") ≡ Ok (Custom (codes "https://json-schema.org/draft/2019-09/vocab/unevaluated")) }
     ensures custom_text { from_text (codes "https://example.com/custom-vocab") ≡ Ok (Custom (codes "https://example.com/custom-vocab")) }
     ensures refused_text { from_text (codes "a b") ≡ Err (unparsed (codes "a b")) }
-    ensures custom_uri { custom (Ok (codes "a:b")) ≡ Ok (Custom (codes "a:b")) }
-    ensures custom_refusal { custom (Err (unparsed (codes "a b"))) ≡ Err (unparsed (codes "a b")) }
     ensures uri_of_2020 { is_uri_of (codes "https://json-schema.org/draft/2020-12/vocab/unevaluated") (record { name = codes "unevaluated"; in_2019 = false }) ≡ true }
     ensures no_uri_of_2019 { is_uri_of (codes "https://json-schema.org/draft/2019-09/vocab/unevaluated") (record { name = codes "unevaluated"; in_2019 = false }) ≡ false }
     ensures uri_of_2019 { is_uri_of (codes "https://json-schema.org/draft/2019-09/vocab/core") (record { name = codes "core"; in_2019 = true }) ≡ true }
@@ -27,14 +25,14 @@ pub fn vocabularies_of_texts()
 pub fn sets_of_vocabularies()
     ensures a_name { has_name (codes "core" ∷ codes "content" ∷ []) (codes "content") ≡ true }
     ensures no_name { has_name (codes "core" ∷ []) (codes "cor") ≡ false }
-    ensures contains_known { contains (of_names (codes "core" ∷ [])) (Named (codes "core")) ≡ true }
-    ensures contains_no_known { contains (of_names (codes "core" ∷ [])) (Named (codes "unevaluated")) ≡ false }
+    ensures contains_known { contains (of_names (codes "core" ∷ [])) (Standard (codes "core")) ≡ true }
+    ensures contains_no_known { contains (of_names (codes "core" ∷ [])) (Standard (codes "unevaluated")) ≡ false }
     ensures contains_custom { contains (record { names = []; customs = codes "https://example.com/custom-vocab" ∷ [] }) (Custom (codes "https://example.com/custom-vocab")) ≡ true }
     ensures contains_no_custom { contains (record { names = []; customs = codes "https://example.com/custom-vocab" ∷ [] }) (Custom (codes "https://example.com/other-vocab")) ≡ false }
     ensures put_in_order { put (codes "b:x") (codes "a:x" ∷ codes "c:x" ∷ []) ≡ codes "a:x" ∷ codes "b:x" ∷ codes "c:x" ∷ [] }
     ensures put_once { put (codes "a:x") (codes "a:x" ∷ []) ≡ codes "a:x" ∷ [] }
-    ensures with_known { with_vocabulary (of_names (codes "core" ∷ codes "content" ∷ [])) (Named (codes "unevaluated")) ≡ of_names (codes "core" ∷ codes "unevaluated" ∷ codes "content" ∷ []) }
-    ensures with_known_once { with_vocabulary (of_names (codes "core" ∷ [])) (Named (codes "core")) ≡ of_names (codes "core" ∷ []) }
+    ensures with_known { with_vocabulary (of_names (codes "core" ∷ codes "content" ∷ [])) (Standard (codes "unevaluated")) ≡ of_names (codes "core" ∷ codes "unevaluated" ∷ codes "content" ∷ []) }
+    ensures with_known_once { with_vocabulary (of_names (codes "core" ∷ [])) (Standard (codes "core")) ≡ of_names (codes "core" ∷ []) }
     ensures with_custom { with_vocabulary (of_names (codes "core" ∷ [])) (Custom (codes "a:b")) ≡ record { names = codes "core" ∷ []; customs = codes "a:b" ∷ [] } }
     ensures newest { set_of_2020 ≡ of_names (codes "core" ∷ codes "applicator" ∷ codes "unevaluated" ∷ codes "validation" ∷ codes "meta-data" ∷ codes "format-annotation" ∷ codes "content" ∷ []) }
     ensures default_of_4 { default_set Draft4 ≡ of_names [] }
@@ -51,12 +49,12 @@ pub fn sets_of_bits()
     ensures all { of_bits 65535 ≡ of_names (map (λ k. k.name) known) }
     ensures of_2019 { of_bits 155 ≡ default_set Draft201909 }
     ensures of_2020 { of_bits 223 ≡ set_of_2020 }
-    ensures alone { contains (of_bits 32) (Named (codes "format")) ≡ true }
-    ensures without { contains (of_bits 223) (Named (codes "format")) ≡ false }
+    ensures alone { contains (of_bits 32) (Standard (codes "format")) ≡ true }
+    ensures without { contains (of_bits 223) (Standard (codes "format")) ≡ false }
     ensures two_names { names_of_bits 5 known ≡ codes "core" ∷ codes "unevaluated" ∷ [] }
     ensures no_names { names_of_bits 5 [] ≡ [] }
-    ensures five_added { with_vocabulary (with_vocabulary (with_vocabulary (with_vocabulary (with_vocabulary (of_bits 0) (Named (codes "core"))) (Named (codes "applicator"))) (Named (codes "validation"))) (Named (codes "meta-data"))) (Named (codes "content")) ≡ of_bits 155 }
-    ensures one_more { with_vocabulary (of_bits 155) (Named (codes "format-annotation")) ≡ of_bits 219 }
+    ensures five_added { with_vocabulary (with_vocabulary (with_vocabulary (with_vocabulary (with_vocabulary (of_bits 0) (Standard (codes "core"))) (Standard (codes "applicator"))) (Standard (codes "validation"))) (Standard (codes "meta-data"))) (Standard (codes "content")) ≡ of_bits 155 }
+    ensures one_more { with_vocabulary (of_bits 155) (Standard (codes "format-annotation")) ≡ of_bits 219 }
 {}
 
 /// How sets are displayed.
@@ -72,18 +70,16 @@ pub fn texts_of_sets()
 
 /// What the members of `$vocabulary` add.
 pub fn declared_members()
-    ensures format_assertion { is_format_assertion (Named (codes "format-assertion")) ≡ true }
-    ensures another { is_format_assertion (Named (codes "format")) ≡ false }
-    ensures true_member { with_member (of_names []) yes (Ok (Custom (codes "a:b"))) ≡ Ok (record { names = []; customs = codes "a:b" ∷ [] }) }
-    ensures false_member { with_member (of_names []) (boolean false) (Ok (Custom (codes "a:b"))) ≡ Ok (of_names []) }
-    ensures false_format_assertion { with_member (of_names []) (boolean false) (Ok (Named (codes "format-assertion"))) ≡ Ok (of_names (codes "format-assertion" ∷ [])) }
-    ensures refused_member { with_member (of_names []) (boolean false) (Err (unparsed (codes "a b"))) ≡ Err (unparsed (codes "a b")) }
+    ensures format_assertion { is_format_assertion (Standard (codes "format-assertion")) ≡ true }
+    ensures another { is_format_assertion (Standard (codes "format")) ≡ false }
+    ensures true_member { with_member (of_names []) yes (Custom (codes "a:b")) ≡ record { names = []; customs = codes "a:b" ∷ [] } }
+    ensures false_member { with_member (of_names []) (boolean false) (Custom (codes "a:b")) ≡ of_names [] }
+    ensures false_format_assertion { with_member (of_names []) (boolean false) (Standard (codes "format-assertion")) ≡ of_names (codes "format-assertion" ∷ []) }
     ensures refused_where_false { collected (of_names []) (member (codes "a b") (boolean false) no_members) ≡ Err (unparsed (codes "a b")) }
     ensures two_members { collected (of_names []) (member (codes "https://example.com/custom-vocab1") yes (member (codes "https://example.com/custom-vocab2") yes (member (codes "https://example.com/custom-vocab3") (boolean false) no_members))) ≡ Ok (record { names = []; customs = codes "https://example.com/custom-vocab1" ∷ codes "https://example.com/custom-vocab2" ∷ [] }) }
     ensures no_object { set_of_members None ≡ Ok None }
     ensures no_members { set_of_members (Some no_members) ≡ Ok (Some (of_names [])) }
-    ensures a_set { some_set (Ok (of_names [])) ≡ Ok (Some (of_names [])) }
-    ensures a_refusal { some_set (Err (unparsed (codes "a b"))) ≡ Err (unparsed (codes "a b")) }
+    ensures refused_members { set_of_members (Some (member (codes "a b") yes no_members)) ≡ Err (unparsed (codes "a b")) }
 {}
 
 /// The vocabularies that a meta-schema declares.

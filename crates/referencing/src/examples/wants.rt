@@ -2,7 +2,7 @@
 ghost use Rattle.std.specs.Prelude.{◌≡◌, true, false, [], ◌∷◌, codes, Some, None, Ok, Err};
 ghost use Rattle.ref_draft.specs.declared.draft.Draft.TheVariants.{Draft4, Draft7, Draft202012, Unknown};
 ghost use Rattle.ref_uri.specs.Targets.{unparsed};
-ghost use Rattle.referencing.specs.Wants.{Reference, MetaSchema, without_fragment, schema_uri, reference_at, schema_at, wanted, refused, wants_at, faults_at, wants, faults, is_open, open_wants};
+ghost use Rattle.referencing.specs.Wants.{Reference, MetaSchema, schema_uri, reference_at, schema_at, wanted, refusals_of, wants_at, faults_at, wants, faults, is_open, open_wants};
 ghost use Rattle.referencing.specs.Rows.{world, at, yes, empty, text, one, two, refers_to_b, b_refers_to_c};
 
 /// Which URIs are wanted.
@@ -43,8 +43,6 @@ pub fn wants_of_places()
     ensures known_meta_schema { schema_at (one "$schema" (text "https://json-schema.org/draft/2020-12/schema")) ≡ None }
     ensures meta_schema_uri { schema_uri (codes "invalid#x") ≡ Some (Ok (codes "json-schema:///invalid")) }
     ensures refused_meta_schema_uri { schema_uri (codes "a b") ≡ Some (Err (unparsed (codes "a b"))) }
-    ensures fragment_dropped { without_fragment (Ok (codes "http://a/meta#x")) ≡ Ok (codes "http://a/meta") }
-    ensures refusal_kept { without_fragment (Err (unparsed (codes "a b"))) ≡ Err (unparsed (codes "a b")) }
 {}
 
 /// The wants and faults of one place.
@@ -52,8 +50,8 @@ pub fn wants_and_faults_of_places()
     ensures as_a_reference { wanted Reference (Some (Ok (codes "a:b"))) ≡ record { cause = Reference; uri = codes "a:b" } ∷ [] }
     ensures as_a_meta_schema { wanted MetaSchema (Some (Ok (codes "a:b"))) ≡ record { cause = MetaSchema; uri = codes "a:b" } ∷ [] }
     ensures not_wanted { wanted Reference (Some (Err (unparsed (codes "a b")))) ≡ [] }
-    ensures a_fault { refused (Some (Err (unparsed (codes "a b")))) ≡ unparsed (codes "a b") ∷ [] }
-    ensures no_fault { refused (Some (Ok (codes "a:b"))) ≡ [] }
+    ensures a_fault { refusals_of (Some (Err (unparsed (codes "a b")))) ≡ unparsed (codes "a b") ∷ [] }
+    ensures no_fault { refusals_of (Some (Ok (codes "a:b"))) ≡ [] }
     ensures both_wants { wants_at (Ok (codes "http://a/r")) (two "$ref" (text "b") "$schema" (text "http://a/meta#")) ≡ record { cause = Reference; uri = codes "http://a/b" } ∷ record { cause = MetaSchema; uri = codes "http://a/meta" } ∷ [] }
     ensures no_reference_without_a_base { wants_at (Err (unparsed (codes "a b"))) (one "$ref" (text "b")) ≡ [] }
     ensures meta_schema_without_a_base { wants_at (Err (unparsed (codes "a b"))) (two "$ref" (text "b") "$schema" (text "http://a/meta#")) ≡ record { cause = MetaSchema; uri = codes "http://a/meta" } ∷ [] }

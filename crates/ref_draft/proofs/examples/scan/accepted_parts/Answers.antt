@@ -15,5 +15,9 @@ returns c = record {
   below_items_at_no_object = refused Draft7 yes _ refl;
   value_keyword = accepted Draft6 yes _ refl;
   dependencies = accepted Draft201909 empty _ refl;
-  defs_in_4 = refused Draft4 empty _ refl;
+  defs_in_4 = accepted Draft4 empty _ refl;
+  prefix_items_in_4 = accepted Draft4 empty _ refl;
+  boolean_or_schema_in_4 = accepted Draft4 empty _ refl;
+  const_in_4 = refused Draft4 empty _ refl;
+  defs_in_6 = refused Draft6 empty _ refl;
 }

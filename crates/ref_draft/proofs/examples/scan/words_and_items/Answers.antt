@@ -1,8 +1,7 @@
 use Rattle.std.proofs.Common.{refl}
-use Rattle.std.proofs.Common.{[], ◌∷◌, codes, inl, sym, ap, true≢false}
+use Rattle.std.proofs.Common.{[], ◌∷◌, codes, inl, sym, true≢false}
 use Rattle.ref_parts.specs.Path.{Index}
 use Rattle.ref_draft.specs.declared.draft.Draft.TheVariants.{Draft7, Draft202012}
-use Rattle.ref_draft.specs.Keywords.{is_one_of}
 use Rattle.ref_draft.specs.Scan.{AnIndex, AValue, AChild}
 use Rattle.ref_draft.specs.Rows.{empty, yes, key}
 use Rattle.ref_draft.proofs.Scanning.{accepted, refused}
@@ -19,10 +18,4 @@ returns c = record {
   no_object = λ p. true≢false (sym p.object);
   accepted_children = (λ there. accepted Draft202012 empty (key "not" ∷ []) refl, (λ there. accepted Draft202012 yes (key "$defs" ∷ key "a" ∷ []) refl, tt));
   no_children = tt;
-  walk_of_6 = refl;
-  walk_of_7 = refl;
-  walk_of_2019 = refl;
-  walk_of_2020 = refl;
-  walk_of_unknown = refl;
-  not_of_4 = λ reads. true≢false (sym (ap (λ row. is_one_of (codes "contains") row.values) reads));
 }

@@ -1,7 +1,7 @@
 use Rattle.std.proofs.Common.{◌≡◌, ◌++◌, map}
 use Rattle.serde_json.specs.View.{view, members_view}
 use Rattle.ref_draft.specs.Children.{AllStand, with_draft, below, children}
-use Rattle.ref_draft.specs.WalkSteps.{AreFoundIn, members_in}
+use Rattle.ref_draft.specs.inner.WalkSteps.{AreFoundIn, members_in}
 use Rattle.ref_draft.specs.Views.{walked_child}
 use Rattle.ref_draft.proofs.spec.walk.children.Given as goal
 

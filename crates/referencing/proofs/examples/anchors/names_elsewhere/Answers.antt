@@ -4,4 +4,18 @@ use Rattle.referencing.proofs.examples.anchors.names_elsewhere.Goals as goal
 
 pub returns : goal.returns
 unfolding referencing_on_literals
-returns c = record { no_such = refl; invalid = refl; by_the_identifier = refl; by_an_absolute_identifier = refl; without_identifier = refl; nothing_found = refl; found = refl; no_other_uri = refl; other_uri = refl; refused_uri = refl; under_the_uri = refl; under_no_uri = refl; of_no_document = refl }
+returns c = record {
+  no_such = refl;
+  invalid = refl;
+  by_the_base = refl;
+  by_an_absolute_identifier = refl;
+  by_a_fragment = refl;
+  without_identifier = refl;
+  by_a_refused_identifier = refl;
+  without_a_place = refl;
+  under_the_uri = refl;
+  under_the_base = refl;
+  under_the_uri_first = refl;
+  under_neither = refl;
+  of_no_document = refl;
+}

@@ -4,4 +4,4 @@ use Rattle.referencing.proofs.examples.fragments.fragments_of_resources.Goals as
 
 pub returns : goal.returns
 unfolding referencing_on_literals
-returns c = record { none = refl; pointer = refl; pointer_to_nowhere = refl; anchor = refl; undecoded_anchor = refl; by_a_pointer = refl; by_a_faulty_pointer = refl; by_a_plain_name = refl; by_no_name = refl; plain_name = refl; dynamic_name = refl }
+returns c = record { none = refl; pointer = refl; pointer_to_nowhere = refl; anchor = refl; undecoded_anchor = refl; by_a_pointer = refl; plain_name = refl; dynamic_name = refl; plain_name_with_identifier = refl }

@@ -4,4 +4,4 @@ use Rattle.referencing.proofs.examples.fragments.resolvers_in_subresources.Goals
 
 pub returns : goal.returns
 unfolding referencing_on_literals
-returns c = record { identifier = refl; no_identifier = refl; refused_identifier = refl; base_without_scheme = refl; at_another_base = refl; at_no_base = refl; entered = refl; beside_a_reference = refl }
+returns c = record { no_identifier = refl; refused_identifier = refl; base_without_scheme = refl; entered = refl; beside_a_reference = refl }

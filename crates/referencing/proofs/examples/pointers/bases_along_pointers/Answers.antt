@@ -4,4 +4,4 @@ use Rattle.referencing.proofs.examples.pointers.bases_along_pointers.Goals as go
 
 pub returns : goal.returns
 unfolding referencing_on_literals
-returns c = record { changed_base = refl; same_base = refl; refused_base = refl; no_identifier = refl; identifier = refl; accepted = refl; not_accepted = refl; below_items = refl; refused_identifier = refl }
+returns c = record { changed_base = refl; same_base = refl; no_identifier = refl; accepted = refl; not_accepted = refl; below_items = refl; refused_identifier = refl; identifier_of_the_base = refl }

@@ -4,4 +4,4 @@ use Rattle.referencing.proofs.examples.resources.last_entries.Goals as goal
 
 pub returns : goal.returns
 unfolding referencing_on_literals
-returns c = record { of_two = refl; of_one = refl; of_three = refl; under_a_uri = refl; under_no_uri = refl }
+returns c = record { under_a_uri = refl; under_no_uri = refl }

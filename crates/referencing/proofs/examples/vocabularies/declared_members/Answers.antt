@@ -4,4 +4,4 @@ use Rattle.referencing.proofs.examples.vocabularies.declared_members.Goals as go
 
 pub returns : goal.returns
 unfolding referencing_on_literals
-returns c = record { format_assertion = refl; another = refl; true_member = refl; false_member = refl; false_format_assertion = refl; refused_member = refl; refused_where_false = refl; two_members = refl; no_object = refl; no_members = refl; a_set = refl; a_refusal = refl }
+returns c = record { format_assertion = refl; another = refl; true_member = refl; false_member = refl; false_format_assertion = refl; refused_where_false = refl; two_members = refl; no_object = refl; no_members = refl; refused_members = refl }

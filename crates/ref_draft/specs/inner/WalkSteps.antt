@@ -1,4 +1,4 @@
--- That a child stands at its path, step by step, for private clauses.
+-- That a child stands at its path, step by step.
 use Rattle.std.specs.Prelude.{◌≡◌, Some, ⊤}
 use Rattle.serde_json.specs.Data.{Data, null, boolean, number, string, array, object, Members, no_members, member}
 use Rattle.serde_json.specs.Find.{get_member}
@@ -10,24 +10,24 @@ abbrev pub AreFoundIn : Members → Members → Type 0
 AreFoundIn all no_members = ⊤
 AreFoundIn all (member key d ms) = (get_member key all ≡ Some d) × AreFoundIn all ms
 
--- an object has each key once
-abbrev pub HasUniqueKeys : Data → Type 0
-HasUniqueKeys null = ⊤
-HasUniqueKeys (boolean b) = ⊤
-HasUniqueKeys (number n) = ⊤
-HasUniqueKeys (string s) = ⊤
-HasUniqueKeys (array ds) = ⊤
-HasUniqueKeys (object ms) = AreFoundIn ms ms
+-- an object finds each of its members under its key
+abbrev pub FindsMembers : Data → Type 0
+FindsMembers null = ⊤
+FindsMembers (boolean b) = ⊤
+FindsMembers (number n) = ⊤
+FindsMembers (string s) = ⊤
+FindsMembers (array ds) = ⊤
+FindsMembers (object ms) = AreFoundIn ms ms
 
--- where a keyword holds the members of its value as schemas, the value has each key once
-abbrev pub HasUniqueKeysWhere : Holding → Data → Type 0
-HasUniqueKeysWhere Whole value = ⊤
-HasUniqueKeysWhere WholeObject value = ⊤
-HasUniqueKeysWhere Elements value = ⊤
-HasUniqueKeysWhere EachMember value = HasUniqueKeys value
-HasUniqueKeysWhere ElementsOrWhole value = ⊤
-HasUniqueKeysWhere ObjectMembers value = HasUniqueKeys value
-HasUniqueKeysWhere Nothing value = ⊤
+-- where a keyword holds the members of its value as schemas, the value finds each of them under its key
+abbrev pub FindsMembersWhere : Holding → Data → Type 0
+FindsMembersWhere Whole value = ⊤
+FindsMembersWhere WholeObject value = ⊤
+FindsMembersWhere Elements value = ⊤
+FindsMembersWhere EachMember value = FindsMembers value
+FindsMembersWhere ElementsOrWhole value = ⊤
+FindsMembersWhere ObjectMembers value = FindsMembers value
+FindsMembersWhere Nothing value = ⊤
 
 -- the members of an object
 abbrev pub members_in : Data → Members
