@@ -12,6 +12,7 @@ pub mod laws;
 pub mod list;
 pub mod path;
 pub mod small_map;
+pub mod table;
 
 pub use encoded::{EncodedBuffer, EncodedString};
 pub use escape::{first_escape, unescape_segment, write_escaped_str, write_index};
@@ -19,6 +20,7 @@ pub use evaluate::{parse_index, pointer};
 pub use list::{Iter, List};
 pub use path::{JsonPointerNode, JsonPointerSegment};
 pub use small_map::{BorrowedKey, SmallMap};
+pub use table::SortedTable;
 
 #[cfg(test)]
 mod tests;
