@@ -11,6 +11,7 @@ pub mod evaluate;
 pub mod laws;
 pub mod list;
 pub mod path;
+mod scan;
 pub mod small_map;
 pub mod table;
 
