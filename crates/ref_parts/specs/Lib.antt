@@ -1,5 +1,6 @@
 pub mod Encoded
 pub mod FiniteMap
+pub mod inner
 pub mod Items
 pub mod Lent
 pub mod Link
@@ -7,3 +8,4 @@ pub mod Path
 pub mod Pointer
 pub mod Rows
 pub mod Segment
+pub mod Table

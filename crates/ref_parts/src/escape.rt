@@ -4,6 +4,7 @@ ghost use Rattle.std.specs.Cow.{cow_str_bytes};
 ghost use Rattle.percent_encoding.specs.Cow.{IsBorrowedStr};
 ghost use Rattle.ref_parts.specs.Pointer.{escape, unescape, first_escape as escape_position, is_escaped, tilde};
 
+use crate::scan::{first_in_rest, first_in_words};
 use std::alloc::{AllocError, Global};
 use std::borrow::CowStr;
 
@@ -13,7 +14,14 @@ use std::borrow::CowStr;
 pub fn first_escape(bytes: &[u8]) -> Option<usize>
     ensures value { result ≡ escape_position bytes.now }
 {
-    bytes.iter().position(|byte| *byte == b'~' || *byte == b'/')
+    let (words, rest) = bytes.as_chunks::<8>();
+    match first_in_words(words) {
+        Some(place) => Some(place),
+        None => match first_in_rest(rest) {
+            Some(place) => Some(words.len() * 8 + place),
+            None => None,
+        },
+    }
 }
 
 /// Appends the decimal text of an index.

@@ -11,7 +11,9 @@ pub mod evaluate;
 pub mod laws;
 pub mod list;
 pub mod path;
+mod scan;
 pub mod small_map;
+pub mod table;
 
 pub use encoded::{EncodedBuffer, EncodedString};
 pub use escape::{first_escape, unescape_segment, write_escaped_str, write_index};
@@ -19,6 +21,7 @@ pub use evaluate::{parse_index, pointer};
 pub use list::{Iter, List};
 pub use path::{JsonPointerNode, JsonPointerSegment};
 pub use small_map::{BorrowedKey, SmallMap};
+pub use table::SortedTable;
 
 #[cfg(test)]
 mod tests;

@@ -4,4 +4,5 @@
 mod lists;
 mod maps;
 mod paths;
+mod table;
 mod text;

@@ -65,15 +65,51 @@ fn indexes_are_written_and_read(rt: HostRuntime) -> Result<(), Fail> {
 
 #[test]
 fn the_first_escape_is_found(rt: HostRuntime) {
-    for (text, place) in [
-        ("/.abcdef", Some(0)),
-        (".abcdef/", Some(7)),
-        ("ab~/", Some(2)),
-        ("abcdefgh", None),
-        ("", None),
+    for (bytes, place) in [
+        (b"/.abcdef".as_slice(), Some(0)),
+        (b".abcdef/".as_slice(), Some(7)),
+        (b"ab~/".as_slice(), Some(2)),
+        (b"abcdefgh".as_slice(), None),
+        (b"".as_slice(), None),
+        (b"\x7e\x7f".as_slice(), Some(0)),
+        (b"\x7e\x7faaaaaa".as_slice(), Some(0)),
+        (b"aaaaaaaaaaaaaaa~".as_slice(), Some(15)),
+        (b"\xff\xff\xff\xff\xff\xff\xff\xff".as_slice(), None),
     ] {
-        assert_eq!(rt; first_escape(text.as_bytes()), place, "in {text}");
+        assert_eq!(rt; first_escape(bytes), place, "in {bytes:?}");
     }
+}
+
+// Whether the escape is found behind these many other bytes and before those many, 90 of which make more than a block.
+fn is_found(alloc: Global, escape: u8, before: usize, after: usize) -> Result<bool, AllocError> {
+    let mut bytes = Vec::new(alloc);
+    for _ in 0..before {
+        bytes.push(b'.')?;
+    }
+    let none = first_escape(bytes.as_slice());
+    bytes.push(escape)?;
+    for _ in 0..after {
+        bytes.push(b'/')?;
+    }
+    Ok(none.is_none() && first_escape(bytes.as_slice()) == Some(before))
+}
+
+#[test]
+fn an_escape_is_found_at_each_place(rt: HostRuntime) -> Result<(), Fail> {
+    for others in 0..25usize {
+        for before in 0..others {
+            let after = others.saturating_sub(before);
+            assert!(rt; is_found(rt.alloc(), b'~', before, after)?);
+            assert!(rt; is_found(rt.alloc(), b'/', before, after)?);
+        }
+        assert!(rt; is_found(rt.alloc(), b'~', others, 0)?);
+        assert!(rt; is_found(rt.alloc(), b'/', others, 0)?);
+    }
+    for before in 60..90usize {
+        assert!(rt; is_found(rt.alloc(), b'~', before, 9)?);
+        assert!(rt; is_found(rt.alloc(), b'/', before, 9)?);
+    }
+    Ok(())
 }
 
 // A token after the two replacements, one after the other.
