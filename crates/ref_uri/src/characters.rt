@@ -1,8 +1,9 @@
 //! Which characters may stand in which component, and runs of them (RFC 3986, 2 and 3).
 ghost use Rattle.std.specs.Prelude.{◌≡◌, ◌≤◌, take, drop, length, true, false, is_ok, IfOk, IfErr, ◌==◌};
 ghost use Rattle.std.specs.List.{before_first, position_or_len};
-ghost use Rattle.ref_uri.specs.Characters.{is_unreserved, is_sub_delim, is_scheme_character, begins_with_triple, is_encoded, begins_encoded};
-ghost use Rattle.ref_uri.specs.Class.{allows, ends};
+ghost use Rattle.ref_uri.specs.Characters.{is_unreserved, is_sub_delim, is_scheme_character, is_encoded};
+ghost use Rattle.ref_uri.specs.inner.Scans.{begins_with_triple, begins_encoded};
+ghost use Rattle.ref_uri.specs.inner.Class.{allows, ends};
 
 use crate::error::ParseError;
 

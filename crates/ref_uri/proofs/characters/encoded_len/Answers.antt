@@ -1,6 +1,6 @@
 use Rattle.std.proofs.Common.{◌≡◌, ◌∙◌, sym, true, drop, arith}
 use Rattle.std.proofs.lemmas.Grind.{common_steps}
-use Rattle.ref_uri.specs.Characters.{begins_with_triple}
+use Rattle.ref_uri.specs.inner.Scans.{begins_with_triple}
 use Rattle.ref_uri.proofs.EncodedLemmas.{character_more, triple_more}
 use Rattle.ref_uri.proofs.characters.encoded_len.Goals as goal
 

@@ -1,6 +1,6 @@
 use Rattle.std.proofs.Common.{length, ◌-◌, ◌≡◌, ◌≤◌, take, true}
 use Rattle.ref_uri.specs.Characters.{is_encoded}
-use Rattle.ref_uri.specs.Class.{allows}
+use Rattle.ref_uri.specs.inner.Class.{allows}
 use Rattle.ref_uri.proofs.characters.encoded_len.Given as goal
 
 -- what was passed is a text of the class

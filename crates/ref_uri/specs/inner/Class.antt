@@ -1,9 +1,13 @@
 -- The characters that the parts of a reference may hold beside triples.
-use Rattle.std.specs.Prelude.{ℕ, Bool, ◌==◌}
+use Rattle.std.specs.Prelude.{ℕ, Bool, ◌||◌, ◌==◌}
 use Rattle.ref_uri.specs.declared.characters.Class.{Class}
 use Rattle.ref_uri.specs.declared.characters.Class.TheVariants.{FirstSegment, Userinfo, Name, Path, Query}
-use Rattle.ref_uri.specs.Characters.{is_first_segment_character, is_userinfo_character, is_name_character, is_path_character, is_query_character}
+use Rattle.ref_uri.specs.Characters.{is_userinfo_character, is_name_character, is_path_character, is_query_character}
 use Rattle.ref_uri.specs.Components.{ends_scheme, ends_path, ends_query}
+
+-- the characters of a first segment with no colon, triples aside (segment-nz-nc, 3.3)
+abbrev pub is_first_segment_character : ℕ → Bool
+is_first_segment_character c = is_name_character c || (c == 64)
 
 -- the characters of a class
 abbrev pub allows : Class → ℕ → Bool

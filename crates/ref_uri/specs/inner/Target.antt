@@ -10,10 +10,10 @@ use Rattle.ref_uri.specs.declared.written.Form.TheVariants.{Given, Normal, Norma
 use Rattle.ref_uri.specs.Authority.{is_authority}
 use Rattle.ref_uri.specs.Components.{Components, if_there, is_scheme, is_path, is_query}
 use Rattle.ref_uri.specs.DotSegments.{remove_dot_segments}
-use Rattle.ref_uri.specs.Lengths.{the_lengths}
+use Rattle.ref_uri.specs.inner.Lengths.{the_lengths}
 use Rattle.ref_uri.specs.Normal.{guarded, normal_text}
-use Rattle.ref_uri.specs.Resolution.{merged, target_of_scheme}
-use Rattle.ref_uri.specs.Written.{written, written_scheme, written_authority}
+use Rattle.ref_uri.specs.Resolution.{merged, target_components}
+use Rattle.ref_uri.specs.inner.Written.{written, written_scheme, written_authority}
 
 -- a path as it is given
 abbrev pub given_path : PathOf → List ℕ
@@ -104,4 +104,4 @@ path_with_dots base reference =
 
 -- the target before the removal of its path's dot segments
 unfoldable pub target_with_dots : Components → Components → Components
-target_with_dots base reference = record (target_of_scheme base reference reference.scheme) { path = path_with_dots base reference }
+target_with_dots base reference = record (target_components base reference) { path = path_with_dots base reference }

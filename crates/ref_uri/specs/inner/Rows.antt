@@ -1,7 +1,7 @@
 -- Worked rows of the definitions that no public clause cites.
-use Rattle.std.specs.Prelude.{◌≡◌, ℕ, true, false, List, [], ◌∷◌, codes, Some, None}
+use Rattle.std.specs.Prelude.{◌≡◌, ℕ, true, false, List, [], ◌∷◌, codes, Some, None, String}
 use Rattle.std.specs.Borrow.{Bor}
-use Rattle.ref_uri.specs.declared.characters.Class.TheVariants.{FirstSegment, Userinfo, Path, Query}
+use Rattle.ref_uri.specs.declared.characters.Class.TheVariants as part
 use Rattle.ref_uri.specs.declared.lengths.Lengths.{Lengths}
 use Rattle.ref_uri.specs.declared.dots.Progress.TheVariants.{Front, Within, Dots}
 use Rattle.ref_uri.specs.declared.dots.Segment.TheVariants as removal
@@ -9,18 +9,35 @@ use Rattle.ref_uri.specs.declared.dots.Segment.TheVariants.{Dot, DotDot}
 use Rattle.ref_uri.specs.declared.target.PathOf.TheVariants.{Kept, OfBase, Removed, Merged}
 use Rattle.ref_uri.specs.declared.written.Case.TheVariants.{AsItIs, Lower}
 use Rattle.ref_uri.specs.declared.written.Form.TheVariants.{Given, Normal, NormalTarget}
-use Rattle.ref_uri.specs.Class.{allows, ends}
+use Rattle.std.specs.declared.alloc.AllocError.{AllocError}
+use Rattle.std.specs.declared.alloc.Global.{Global}
+use Rattle.ref_uri.specs.declared.error.UriError.TheVariants.{Parse}
+use Rattle.ref_uri.specs.declared.error.UriFault.TheVariants as uri_fault
+use Rattle.ref_uri.specs.declared.error.ParseError.TheVariants.{Syntax}
+use Rattle.ref_uri.specs.Characters.{is_name_character}
+use Rattle.ref_uri.specs.inner.Class.{is_first_segment_character, allows, ends}
+use Rattle.ref_uri.specs.inner.Scans.{begins_with_triple, begins_encoded, ends_authority_at}
+use Rattle.ref_uri.specs.inner.Faults.{IfInvalid}
 use Rattle.ref_uri.specs.Components.{components}
-use Rattle.ref_uri.specs.Lengths.{the_lengths, lengths_of, IsParsed, IsParsedUri}
-use Rattle.ref_uri.specs.Removal.{segment_of, first_written, next_written, first_progress, next_progress, path_then, progress_then, path_after, progress_after, slash_of, end_of, ended}
-use Rattle.ref_uri.specs.Target.{given_path, normal_path_of, written_path, written_components, lengths_of_components, AreParts, LacksEncodedDot, LosesSameDots, IsTarget, components_of, behind_directory, path_behind, path_with_dots, target_with_dots}
-use Rattle.ref_uri.specs.Written.{in_case, written, written_scheme, written_authority}
+use Rattle.ref_uri.specs.inner.Lengths.{the_lengths, lengths_of, IsParsed, IsParsedUri}
+use Rattle.ref_uri.specs.inner.Removal.{segment_of, first_written, next_written, first_progress, next_progress, path_then, progress_then, path_after, progress_after, slash_of, end_of, ended}
+use Rattle.ref_uri.specs.inner.Target.{given_path, normal_path_of, written_path, written_components, lengths_of_components, AreParts, LacksEncodedDot, LosesSameDots, IsTarget, components_of, behind_directory, path_behind, path_with_dots, target_with_dots}
+use Rattle.ref_uri.specs.inner.Written.{in_case, written, written_scheme, written_authority}
 
 pub record BodyRows : Type 0 where
-  pub class_of_first_segment : allows FirstSegment 58 ≡ false
-  pub class_of_query : allows Query 63 ≡ true
-  pub end_of_userinfo : ends Userinfo 64 ≡ true
-  pub end_of_path : ends Path 47 ≡ false
+  pub at_in_first_segment : is_first_segment_character 64 ≡ true
+  pub colon_not_in_first_segment : is_first_segment_character 58 ≡ false
+  pub triple_in_front : begins_with_triple (codes "%7Ea") ≡ true
+  pub triple_behind : begins_with_triple (codes "a%7E") ≡ false
+  pub begins_with_letter : begins_encoded is_name_character (codes "a%") ≡ true
+  pub begins_with_percent : begins_encoded is_name_character (codes "%%") ≡ false
+  pub authority_ends_here : ends_authority_at (codes "a/b") 1 ≡ true
+  pub authority_goes_on : ends_authority_at (codes "a/b") 0 ≡ false
+  pub authority_ends_the_text : ends_authority_at (codes "a") 1 ≡ true
+  pub class_of_first_segment : allows part.FirstSegment 58 ≡ false
+  pub class_of_query : allows part.Query 63 ≡ true
+  pub end_of_userinfo : ends part.Userinfo 64 ≡ true
+  pub end_of_path : ends part.Path 47 ≡ false
   pub some_lengths : the_lengths (Some 1) None 2 None ≡ record { scheme = Some 1; authority = None; path = 2; query = None }
   pub no_lengths : the_lengths None None 0 None ≡ record { scheme = None; authority = None; path = 0; query = None }
   pub lengths_of_uri : lengths_of (codes "http://a/b?c#d") ≡ the_lengths (Some 4) (Some 1) 2 (Some 1)
@@ -100,3 +117,5 @@ pub record BodyRows : Type 0 where
   pub dots_of_both : path_with_dots (components (codes "a:/b/./c")) (components (codes "../d")) ≡ codes "/b/./../d"
   pub target_keeps_dots : target_with_dots (components (codes "http://a/b/c?q")) (components (codes "../d")) ≡ components (codes "http://a/b/../d")
   pub target_of_a_fragment : target_with_dots (components (codes "http://a/./c?q")) (components (codes "#f")) ≡ components (codes "http://a/./c?q#f")
+  pub if_memory : (e : AllocError) → IfInvalid (uri_fault.Memory e) (true ≡ false)
+  pub if_invalid : (uri : String Global) → IfInvalid (uri_fault.Invalid (Parse uri true Syntax)) (true ≡ true)
