@@ -38,8 +38,8 @@ target_components base reference =
       scheme = option_or reference.scheme base.scheme;
       authority = if has_base_authority reference then base.authority else reference.authority;
       path =
-        if has_base_path reference then base.path
-        else (if has_base_authority reference then target_path base reference.path else remove_dot_segments reference.path);
+          if has_base_path reference then base.path
+          else (if has_base_authority reference then target_path base reference.path else remove_dot_segments reference.path);
       query = if has_base_path reference then query_or reference.query base.query else reference.query;
       fragment = reference.fragment;
     }

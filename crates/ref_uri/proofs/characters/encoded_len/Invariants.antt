@@ -1,14 +1,10 @@
-use Rattle.std.proofs.Common.{length, ◌-◌, ◌≡◌, ◌≤◌, take, true}
-use Rattle.ref_uri.specs.Characters.{is_encoded}
-use Rattle.ref_uri.specs.inner.Class.{allows}
+use Rattle.std.proofs.Common.{length, ◌-◌}
+use Rattle.ref_uri.proofs.RunLemmas.{RunBehind}
 use Rattle.ref_uri.proofs.characters.encoded_len.Given as goal
 
--- what was passed is a text of the class
-abbrev pub invariant-loop-at : goal.invariant-loop-at
-invariant-loop-at l = record {
-  within : l.at ≤ length l.bytes;
-  encoded : is_encoded (allows l.class) (take l.at l.bytes) ≡ true;
-}
+-- what was passed is a text of the class, behind which no character of the class follows
+abbrev pub invariant-triples : goal.invariant-triples
+invariant-triples l = RunBehind l.class l.bytes l.at
 
-abbrev pub decreases-loop-at : goal.decreases-loop-at
-decreases-loop-at l = length l.bytes - l.at
+abbrev pub decreases-triples : goal.decreases-triples
+decreases-triples l = length l.bytes - l.at
