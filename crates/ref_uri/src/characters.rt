@@ -156,7 +156,7 @@ pub fn begins_with_triple(bytes: &[u8]) -> bool
 
 const BLOCK: usize = 16;
 
-/// Whether the bytes of a block are letters, digits, `=`, `_` or of `&` to `;`: most paths and queries hold no others.
+/// Whether the bytes of a block are letters, `_` or of `&` to `;`, digits among these: most paths hold no others.
 #[inline(always)]
 fn is_plain_block(bytes: &[u8], at: usize) -> bool
     requires { at + BLOCK ≤ length bytes.now }
@@ -166,8 +166,7 @@ fn is_plain_block(bytes: &[u8], at: usize) -> bool
     let letters = (block | u8x16::splat(32)) - u8x16::splat(b'a');
     let others = block - u8x16::splat(b'&');
     let is_neither = letters.simd_gt(u8x16::splat(25)) & others.simd_gt(u8x16::splat(21));
-    let is_no_mark = block.simd_ne(u8x16::splat(b'=')) & block.simd_ne(u8x16::splat(b'_'));
-    (is_neither & is_no_mark).to_bitmask() == 0
+    (is_neither & block.simd_ne(u8x16::splat(b'_'))).to_bitmask() == 0
 }
 
 /// How many bytes at the front are characters of the class, one looked at behind another.
@@ -199,22 +198,50 @@ fn long_run_len(bytes: &[u8], class: Class) -> usize
     at + short_run_len(&bytes[at..], class)
 }
 
-/// How many bytes at the front are characters of the class.
+/// How many bytes at the front are characters of the class: by blocks, where that is wanted.
 #[inline(always)]
-fn run_len(bytes: &[u8], class: Class) -> usize
+fn run_len(bytes: &[u8], class: Class, by_blocks: bool) -> usize
     ensures value { result ≡ prefix_len (allows class) bytes.now }
     ensures within { result ≤ length bytes.now }
 {
     match class {
-        Class::Path => long_run_len(bytes, Class::Path),
-        Class::Query => long_run_len(bytes, Class::Query),
-        Class::FirstSegment | Class::Userinfo | Class::Name => short_run_len(bytes, class),
+        Class::Path if by_blocks => long_run_len(bytes, Class::Path),
+        Class::Query if by_blocks => long_run_len(bytes, Class::Query),
+        _ => short_run_len(bytes, class),
     }
+}
+
+/// What [`encoded_len`] answers.
+#[inline(always)]
+fn runs_and_triples_len(bytes: &[u8], read: usize, class: Class, by_blocks: bool) -> usize
+    requires read_within { read ≤ length bytes.now }
+    requires read_encoded { is_encoded (allows class) (take read bytes.now) ≡ true }
+    ensures within { result ≤ length bytes.now }
+    ensures encoded { is_encoded (allows class) (take result bytes.now) ≡ true }
+    ensures longest { begins_encoded (allows class) (drop result bytes.now) ≡ false }
+{
+    let mut at = read + run_len(&bytes[read..], class, by_blocks);
+    'triples: while begins_with_triple(&bytes[at..]) {
+        at = at + 3 + run_len(&bytes[at + 3..], class, by_blocks);
+    }
+    at
+}
+
+/// What [`encoded_len`] answers for a long text.
+#[inline(never)]
+fn long_encoded_len(bytes: &[u8], read: usize, class: Class) -> usize
+    requires read_within { read ≤ length bytes.now }
+    requires read_encoded { is_encoded (allows class) (take read bytes.now) ≡ true }
+    ensures within { result ≤ length bytes.now }
+    ensures encoded { is_encoded (allows class) (take result bytes.now) ≡ true }
+    ensures longest { begins_encoded (allows class) (drop result bytes.now) ≡ false }
+{
+    runs_and_triples_len(bytes, read, class, true)
 }
 
 /// How many bytes at the front are characters of the class or parts of triples: as many as can be. The first `read` of
 /// them are known to be, and aren't looked at again.
-#[inline]
+#[inline(always)]
 pub fn encoded_len(bytes: &[u8], read: usize, class: Class) -> usize
     requires read_within { read ≤ length bytes.now }
     requires read_encoded { is_encoded (allows class) (take read bytes.now) ≡ true }
@@ -222,11 +249,10 @@ pub fn encoded_len(bytes: &[u8], read: usize, class: Class) -> usize
     ensures encoded { is_encoded (allows class) (take result bytes.now) ≡ true }
     ensures longest { begins_encoded (allows class) (drop result bytes.now) ≡ false }
 {
-    let mut at = read + run_len(&bytes[read..], class);
-    'triples: while begins_with_triple(&bytes[at..]) {
-        at = at + 3 + run_len(&bytes[at + 3..], class);
+    if bytes.len() >= BLOCK {
+        return long_encoded_len(bytes, read, class);
     }
-    at
+    runs_and_triples_len(bytes, read, class, false)
 }
 
 /// How long the part at the front is, which goes up to the next character that ends it. The first `read` bytes are known to

@@ -16,5 +16,5 @@ returns c none =
     (zip2_of_maps {X = ℕ} {Y = ℕ} {Z = ℕ} _ _ _ v
     (zip2_of_maps {X = ℕ} {Y = ℕ} {Z = ℕ} (λ a b. cond (ltb a b) 255 0) _ _ v (splat_is_map v 16 25 long) (zip2_of_maps {X = ℕ} {Y = ℕ} {Z = ℕ} _ _ _ v (zip2_of_maps {X = ℕ} {Y = ℕ} {Z = ℕ} _ _ _ v whole (splat_is_map v 16 32 long)) (splat_is_map v 16 97 long)))
     (zip2_of_maps {X = ℕ} {Y = ℕ} {Z = ℕ} (λ a b. cond (ltb a b) 255 0) _ _ v (splat_is_map v 16 21 long) (zip2_of_maps {X = ℕ} {Y = ℕ} {Z = ℕ} _ _ _ v whole (splat_is_map v 16 38 long))))
-    (zip2_of_maps {X = ℕ} {Y = ℕ} {Z = ℕ} _ _ _ v (zip2_of_maps {X = ℕ} {Y = ℕ} {Z = ℕ} _ _ _ v whole (splat_is_map v 16 61 long)) (zip2_of_maps {X = ℕ} {Y = ℕ} {Z = ℕ} _ _ _ v whole (splat_is_map v 16 95 long))))
+    (zip2_of_maps {X = ℕ} {Y = ℕ} {Z = ℕ} _ _ _ v whole (splat_is_map v 16 95 long)))
     refl

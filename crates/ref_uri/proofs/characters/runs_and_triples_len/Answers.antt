@@ -5,7 +5,7 @@ use Rattle.ref_uri.specs.inner.Scans.{begins_with_triple}
 use Rattle.ref_uri.specs.inner.Class.{allows}
 use Rattle.ref_uri.proofs.EncodedLemmas.{triple_more}
 use Rattle.ref_uri.proofs.RunLemmas.{run_behind}
-use Rattle.ref_uri.proofs.characters.encoded_len.Goals as goal
+use Rattle.ref_uri.proofs.characters.runs_and_triples_len.Goals as goal
 
 pub triples-init : goal.triples-init
 triples-init c =
