@@ -143,12 +143,11 @@ authority_characters text h =
         let at = position_or_len (λ x. eqb x 64) text in
         let rest = drop (at + 1) text in
         let all = sym (is_authority-userinfo text lt) ∙ h in
-        let outer = and_parts (is_encoded is_userinfo_character (take at text) && is_host (take (host_len rest) rest)) (is_port_part (drop (host_len rest) rest)) all in
-        let inner = and_parts (is_encoded is_userinfo_character (take at text)) (is_host (take (host_len rest) rest)) outer.0 in
+        let both = and_parts (is_encoded is_userinfo_character (take at text)) (is_host_and_port rest) all in
         from_around is_authority_character at text lt
-        (encoded_characters is_userinfo_character is_authority_character (λ c k. grind (arith, nat_tests)) refl (take at text) inner.0)
+        (encoded_characters is_userinfo_character is_authority_character (λ c k. grind (arith, nat_tests)) refl (take at text) both.0)
         (ap is_authority_character (eqb-true (get_or text at 0) 64 (passes_at_first (λ x. eqb x 64) text lt)))
-        (all_wider rest (host_and_port_characters rest (and_from (is_host (take (host_len rest) rest)) (is_port_part (drop (host_len rest) rest)) inner.1 outer.1)))
+        (all_wider rest (host_and_port_characters rest both.1))
 
     without : length text ≤ position_or_len (λ x. eqb x 64) text → all_authority text ≡ true
     without le =

@@ -5,7 +5,7 @@ use Rattle.std.proofs.lemmas.Bool.{and_parts, and_from, or_cases, not-true, le-l
 use Rattle.std.proofs.lemmas.List.{append_assoc}
 use Rattle.std.proofs.lemmas.Bool.Decides.{nat_tests}
 use Rattle.ref_uri.specs.Characters.{has_whole_triples, is_encoded, is_name_character, is_userinfo_character}
-use Rattle.ref_uri.specs.Authority.{is_host, is_bracketed, is_authority, is_port_part, host_len}
+use Rattle.ref_uri.specs.Authority.{is_host, is_bracketed, is_authority, is_host_and_port, is_port_part, host_len}
 use Rattle.ref_uri.specs.Normal.{normal_authority, normal_text, normal_host, normal_port_part}
 use Rattle.ref_uri.proofs.EncodedLemmas.{any_is_found}
 use Rattle.ref_uri.proofs.AuthorityLemmas.{is_authority-userinfo}
@@ -37,12 +37,11 @@ with_userinfo text h lt =
     let at = position_or_len (λ x. eqb x 64) text in
     let rest = drop (at + 1) text in
     let all = sym (is_authority-userinfo text lt) ∙ h in
-    let outer = and_parts (is_encoded is_userinfo_character (take at text) && is_host (take (host_len rest) rest)) (is_port_part (drop (host_len rest) rest)) all in
-    let inner = and_parts (is_encoded is_userinfo_character (take at text)) (is_host (take (host_len rest) rest)) outer.0 in
+    let both = and_parts (is_encoded is_userinfo_character (take at text)) (is_host_and_port rest) all in
     let found : list_any (λ x. eqb x 64) text ≡ true = any_is_found (λ x. eqb x 64) text ∙ lt-ltb _ _ lt in
     record {
-      userinfo = (and_parts _ _ inner.0).1;
-      host = host_is_whole (take (host_len rest) rest) inner.1;
+      userinfo = (and_parts _ _ both.0).1;
+      host = host_is_whole (take (host_len rest) rest) (and_parts (is_host (take (host_len rest) rest)) (is_port_part (drop (host_len rest) rest)) both.1).0;
       normal = rw found (append_assoc (normal_text (take at text) ++ 64 ∷ []) (normal_host (take (host_len rest) rest)) (normal_port_part (drop (host_len rest) rest)));
     }
 

@@ -1,5 +1,5 @@
 -- The parts of an authority are those of the text that they make.
-use Rattle.std.proofs.Common.{◌≡◌, ℕ, suc, ◌+◌, ◌<◌, Bool, true, false, not, ◌&&◌, ◌||◌, List, [], ◌∷◌, ◌++◌, length, take, drop, get_or, eqb, refl, sym, ap, ◌∙◌, subst, arith, inl, inr, Option, Some, None, codes, append_assoc, append-nil, length-append}
+use Rattle.std.proofs.Common.{◌≡◌, ℕ, suc, ◌+◌, ◌<◌, Bool, true, false, not, ◌||◌, List, [], ◌∷◌, ◌++◌, length, take, drop, get_or, eqb, refl, sym, ap, ◌∙◌, subst, arith, inl, inr, Option, Some, None, codes, append_assoc, append-nil, length-append}
 use Rattle.std.specs.List.{list_any, list_all, position_or_len, before_first, after_first}
 use Rattle.std.specs.Char.{is_ascii_digit}
 use Rattle.std.proofs.lemmas.Bool.{cases_Bool, and_parts, and_from, or_cases, eqb-true, false≢true, lt-ltb, le-ltb}
@@ -7,7 +7,7 @@ use Rattle.std.proofs.lemmas.Bool.Decides.{nat_tests}
 use Rattle.std.proofs.lemmas.List.{take_at, drop_at}
 use Rattle.std.proofs.lemmas.List.Folds.{list_all-append}
 use Rattle.ref_uri.specs.Characters.{is_encoded, is_name_character, is_userinfo_character}
-use Rattle.ref_uri.specs.Authority.{is_authority, userinfo, host, port_part, host_and_port, host_len, is_host, is_bracketed, is_address_and_bracket, is_address, is_future_address, is_port_part}
+use Rattle.ref_uri.specs.Authority.{is_authority, userinfo, host, port_part, host_and_port, is_host_and_port, host_len, is_host, is_bracketed, is_address_and_bracket, is_address, is_future_address, is_port_part}
 use Rattle.ref_uri.specs.Components.{framed, if_there}
 use Rattle.ref_uri.proofs.EncodedLemmas.{any_is_found}
 use Rattle.ref_uri.proofs.AuthorityCharacters.{is_literal_character, literal_characters, list_all-wider}
@@ -123,11 +123,11 @@ parts_found (Some x) h p are =
 pub authority_of_parts : (u : Option (List ℕ)) (h p : List ℕ) → AreParts u h p → is_authority (text_of_parts u h p) ≡ true
 authority_of_parts u h p are =
     let found = parts_found u h p are in
-    and_from _ _ (and_from _ _ (ap (if_there (is_encoded is_userinfo_character)) found.userinfo_is ∙ are.userinfo_test) (ap is_host found.host_is ∙ are.host_test)) (ap is_port_part found.port_is ∙ are.port_test)
+    and_from _ _ (ap (if_there (is_encoded is_userinfo_character)) found.userinfo_is ∙ are.userinfo_test) (and_from _ _ (ap is_host found.host_is ∙ are.host_test) (ap is_port_part found.port_is ∙ are.port_test))
 
 -- the parts of an authority hold what they may
 pub parts_of_authority : (text : List ℕ) → is_authority text ≡ true → AreParts (userinfo text) (host text) (port_part text)
 parts_of_authority text h =
-    let outer = and_parts (if_there (is_encoded is_userinfo_character) (userinfo text) && is_host (host text)) (is_port_part (port_part text)) h in
-    let inner = and_parts (if_there (is_encoded is_userinfo_character) (userinfo text)) (is_host (host text)) outer.0 in
-    record { userinfo_test = inner.0; host_test = inner.1; port_test = outer.1 }
+    let outer = and_parts (if_there (is_encoded is_userinfo_character) (userinfo text)) (is_host_and_port (host_and_port text)) h in
+    let inner = and_parts (is_host (host text)) (is_port_part (port_part text)) outer.1 in
+    record { userinfo_test = outer.0; host_test = inner.0; port_test = inner.1 }

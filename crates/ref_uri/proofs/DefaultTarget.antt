@@ -6,11 +6,11 @@ use Rattle.ref_uri.specs.declared.lengths.Lengths.{Lengths}
 use Rattle.ref_uri.specs.Characters.{has_whole_triples, is_path_character}
 use Rattle.ref_uri.specs.Components.{Components, components, scheme, text_of}
 use Rattle.ref_uri.specs.DotSegments.{remove_dot_segments}
-use Rattle.ref_uri.specs.Lengths.{IsParsedUri}
+use Rattle.ref_uri.specs.inner.Lengths.{IsParsedUri}
 use Rattle.ref_uri.specs.Normal.{normal, normal_text, normal_authority, normal_form}
 use Rattle.ref_uri.specs.Reference.{is_uri_reference}
 use Rattle.ref_uri.specs.Resolution.{query_or, target_path, resolved, resolved_components}
-use Rattle.ref_uri.specs.Target.{lengths_of_components, path_behind, target_with_dots}
+use Rattle.ref_uri.specs.inner.Target.{lengths_of_components, path_behind, target_with_dots}
 use Rattle.ref_uri.specs.Targets.{default_base}
 use Rattle.ref_uri.proofs.Meanings.{default_is_reference, default_has_scheme}
 use Rattle.ref_uri.proofs.NormalLemmas.{normal_character}
@@ -36,7 +36,7 @@ default_parts None path q f whole = by_path (eqb (length path) 0) refl
         ap (λ x. the_components (Some (codes "json-schema")) (Some x) removed (option_map normal_text other) (option_map normal_text f)) (sym authority_settled)
         ∙ normal_parts_are (Some (codes "json-schema")) (Some []) given removed other f refl is
 
-    own_query : (q : Option (List ℕ)) → query_or None (option_map normal_text q) ≡ option_map normal_text (query_or None q)
+    own_query : (q : Option (List ℕ)) → query_or (option_map normal_text q) None ≡ option_map normal_text (query_or q None)
     own_query None = refl
     own_query (Some x) = refl
 
@@ -52,7 +52,7 @@ default_parts None path q f whole = by_path (eqb (length path) 0) refl
     by_path true e =
         resolved_of_base default_components n refl refl (none_in_front path whole ∙ e)
         ∙ ap (λ o. the_components (Some (codes "json-schema")) (Some []) (codes "/") o (option_map normal_text f)) (own_query q)
-        ∙ at_root (codes "/") (codes "/") (query_or None q) (sym root_is)
+        ∙ at_root (codes "/") (codes "/") (query_or q None) (sym root_is)
         ∙ ap normal (sym (dots_of_base default_components (the_components None None path q f) refl refl e))
     by_path false e =
         resolved_path default_components n refl refl (none_in_front path whole ∙ e)

@@ -8,8 +8,9 @@ use Rattle.std.proofs.lemmas.List.{take_more, take-append-drop, length-drop, len
 use Rattle.std.proofs.Math.Seq.{take-add, drop-cons, take-length}
 use Rattle.std.proofs.lemmas.List.Folds.{list_all-append}
 use Rattle.std.proofs.lemmas.List.Sums.{position_or_len_is, AllPass-from_list_all, prefix_len-le-length, prefix_len_stops}
-use Rattle.ref_uri.specs.Characters.{begins_with_hex_digits, has_whole_triples, is_encoded, begins_with_triple, begins_encoded}
-use Rattle.ref_uri.specs.Class.{allows, ends}
+use Rattle.ref_uri.specs.Characters.{begins_with_hex_digits, has_whole_triples, is_encoded}
+use Rattle.ref_uri.specs.inner.Scans.{begins_with_triple, begins_encoded}
+use Rattle.ref_uri.specs.inner.Class.{allows, ends}
 use Rattle.ref_uri.specs.declared.characters.Class.{Class}
 use Rattle.ref_uri.specs.declared.characters.Class.TheVariants.{FirstSegment, Userinfo, Name, Path, Query}
 

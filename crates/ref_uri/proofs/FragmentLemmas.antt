@@ -6,7 +6,7 @@ use Rattle.ref_uri.specs.Components.{Components, components, framed, are_compone
 use Rattle.ref_uri.specs.Authority.{is_authority}
 use Rattle.ref_uri.specs.Reference.{is_uri_reference, with_fragment}
 use Rattle.ref_uri.specs.declared.lengths.Lengths.{Lengths}
-use Rattle.ref_uri.specs.Lengths.{IsParsed, IsParsedUri, lengths_of, the_lengths}
+use Rattle.ref_uri.specs.inner.Lengths.{IsParsed, IsParsedUri, lengths_of, the_lengths}
 use Rattle.ref_uri.proofs.StructureLemmas.{text_of-components}
 use Rattle.ref_uri.proofs.UniqueLemmas.{components-text_of, tested}
 use Rattle.ref_uri.proofs.AsciiLemmas.{reference_ascii}

@@ -7,9 +7,12 @@ use Rattle.std.proofs.lemmas.Bool.Decides.{nat_tests}
 use Rattle.std.proofs.lemmas.List.{get_or_past, length-take-le, drop_more}
 use Rattle.std.proofs.lemmas.List.Sums.{prefix_len-le-length, prefix_len_passes, position_or_len_is, passes_at_first, fails_before_first}
 use Rattle.std.proofs.lemmas.List.Folds.{length-prefix_len}
-use Rattle.ref_uri.specs.Characters.{is_encoded, begins_encoded, begins_with_triple, is_scheme_character, is_name_character, is_segment_character, is_first_segment_character, is_path_character}
+use Rattle.ref_uri.specs.Characters.{is_encoded, is_scheme_character, is_name_character, is_segment_character, is_path_character}
+use Rattle.ref_uri.specs.inner.Scans.{begins_encoded, begins_with_triple}
+use Rattle.ref_uri.specs.inner.Class.{is_first_segment_character}
 use Rattle.ref_uri.specs.declared.characters.Class.TheVariants.{FirstSegment, Path}
-use Rattle.ref_uri.specs.Components.{scheme, authority, path, after_scheme, after_authority, begins_with_slashes, ends_scheme, ends_authority, ends_authority_at, ends_path, is_scheme, is_path}
+use Rattle.ref_uri.specs.Components.{scheme, authority, path, after_scheme, after_authority, begins_with_slashes, ends_scheme, ends_authority, ends_path, is_scheme, is_path}
+use Rattle.ref_uri.specs.inner.Scans.{ends_authority_at}
 use Rattle.ref_uri.specs.Reference.{is_uri_reference}
 use Rattle.ref_uri.proofs.EncodedLemmas.{part_is, ends_later, passes_in_front, not_encoded_past}
 use Rattle.ref_uri.proofs.PathLemmas.{scheme_test, no_scheme, no_path}
@@ -153,8 +156,8 @@ stops_too [] no_more colon slash = refl
 stops_too (c ∷ t) no_more colon slash =
     let both = or_parts (is_first_segment_character c) (begins_with_triple (c ∷ t)) no_more in
     let parts = or_parts (is_name_character c) (eqb c 64) both.0 in
-    let segment : is_segment_character c ≡ false = or_from (is_name_character c || eqb c 58) (eqb c 64) (or_from (is_name_character c) (eqb c 58) parts.0 colon) parts.1 in
-    or_from (is_path_character c) (begins_with_triple (c ∷ t)) (or_from (is_segment_character c) (eqb c 47) segment slash) both.1
+    let segment : is_segment_character c ≡ false = or_from (is_name_character c) (eqb c 58 || (eqb c 64 || false)) parts.0 (or_from (eqb c 58) (eqb c 64 || false) colon (or_from (eqb c 64) false parts.1 refl)) in
+    or_from (is_path_character c) (begins_with_triple (c ∷ t)) (or_from (is_segment_character c) (eqb c 47 || false) segment (or_from (eqb c 47) false slash refl)) both.1
 
 -- a first segment that stops before a `:`
 stopped_by_colon : (t : List ℕ) (n m : ℕ) → n ≡ prefix_len is_scheme_character t → get_or t n 0 ≢ 58 → m < length t → is_encoded is_first_segment_character (take m t) ≡ true → get_or t m 0 ≡ 58 → scheme_test t ≡ false

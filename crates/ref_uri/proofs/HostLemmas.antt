@@ -8,9 +8,11 @@ use Rattle.std.proofs.lemmas.List.{length-take-le, take-take, take_rest}
 use Rattle.std.proofs.lemmas.List.Sums.{prefix_len-le-length, fails_before_first, passes_at_first}
 use Rattle.std.proofs.lemmas.List.Folds.{length-prefix_len}
 use Rattle.std.proofs.Math.Seq.{drop-cons, take-add}
-use Rattle.ref_uri.specs.Characters.{is_encoded, begins_encoded, is_userinfo_character, is_name_character}
+use Rattle.ref_uri.specs.Characters.{is_encoded, is_userinfo_character, is_name_character}
+use Rattle.ref_uri.specs.inner.Scans.{begins_encoded}
 use Rattle.ref_uri.specs.Authority.{is_port_part, is_host, is_bracketed, is_address, is_future_address, is_address_and_bracket, is_host_and_port, host_len}
-use Rattle.ref_uri.specs.Components.{ends_authority, ends_authority_at}
+use Rattle.ref_uri.specs.Components.{ends_authority}
+use Rattle.ref_uri.specs.inner.Scans.{ends_authority_at}
 use Rattle.ref_uri.proofs.PathLemmas.{before_first-cons}
 use Rattle.ref_uri.specs.declared.characters.Class.TheVariants.{Name}
 use Rattle.ref_uri.proofs.EncodedLemmas.{passes_in_front, not_encoded_past, encoded-append}

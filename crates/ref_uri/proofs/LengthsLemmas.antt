@@ -6,7 +6,7 @@ use Rattle.std.proofs.lemmas.List.Folds.{length-prefix_len}
 use Rattle.std.proofs.lemmas.List.Sums.{prefix_len-le-length}
 use Rattle.ref_uri.specs.Components.{scheme, authority, path, query, fragment, behind, after_scheme, after_authority, after_path, after_query, authority_in_front, query_in_front, fragment_in_front, ends_path}
 use Rattle.ref_uri.specs.declared.lengths.Lengths.{Lengths}
-use Rattle.ref_uri.specs.Lengths.{IsParsed}
+use Rattle.ref_uri.specs.inner.Lengths.{IsParsed}
 use Rattle.ref_uri.proofs.RestLemmas.{scheme_gone, authority_gone, path_gone, query_gone, scheme_fits, authority_fits, query_fits, scheme_read, authority_read, query_read}
 
 scheme_len_is : (text : List ℕ) (l : Lengths) → IsParsed text l → l.scheme ≡ option_map length (scheme text)

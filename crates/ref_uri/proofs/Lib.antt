@@ -36,3 +36,6 @@ pub mod DefaultTarget
 pub mod PlainDots
 pub mod WrittenAtOnce
 pub mod PartLemmas
+pub mod RunLemmas
+pub mod LaneLemmas
+pub mod TableLemmas

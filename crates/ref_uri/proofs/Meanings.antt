@@ -3,8 +3,9 @@ use Rattle.std.proofs.Common.{◌≡◌, ℕ, true, false, ◌&&◌, List, Some,
 use Rattle.std.specs.List.{ends_with}
 use Rattle.std.specs.Result.{IfErr, IsErrAnd}
 use Rattle.ref_uri.specs.Components.{scheme}
-use Rattle.ref_uri.specs.Errors.{IsFaultOf, IfInvalid}
-use Rattle.ref_uri.specs.Lengths.{the_lengths, IsParsed}
+use Rattle.ref_uri.specs.Errors.{IsFaultOf}
+use Rattle.ref_uri.specs.inner.Faults.{IfInvalid}
+use Rattle.ref_uri.specs.inner.Lengths.{the_lengths, IsParsed}
 use Rattle.ref_uri.specs.Normal.{normal_form}
 use Rattle.ref_uri.specs.Reference.{is_uri_reference, with_fragment}
 use Rattle.ref_uri.specs.Resolution.{resolved}

@@ -1,23 +1,12 @@
 -- The normal form of an encoded text, by its runs and triples.
 use Rattle.std.proofs.Common.{◌≡◌, ◌≢◌, ℕ, suc, ◌+◌, add-one, append_assoc, append-nil, subst, ◌<◌, true, List, [], ◌∷◌, ◌++◌, length, get_or, drop, map, ◌≤◌, refl, sym, ap, ◌∙◌, arith}
-use Rattle.std.specs.List.{flat_map}
 use Rattle.std.specs.Char.{is_ascii_hexdigit}
 use Rattle.std.proofs.lemmas.Bool.{and_parts, ne_eqb, false≢true}
-use Rattle.std.proofs.lemmas.Bool.Decides.{nat_tests}
 use Rattle.std.proofs.lemmas.Str.{IsAscii-drop}
 use Rattle.std.specs.Str.{IsAscii}
 use Rattle.ref_uri.proofs.EncodedLemmas.{whole_at}
 use Rattle.ref_uri.specs.Characters.{begins_with_hex_digits, has_whole_triples}
-use Rattle.ref_uri.specs.Normal.{before_units, units, normal_triple, normal_unit, normal_encoded}
-
--- a character that is no `%` is a unit
-before_units-plain : (c : ℕ) (us : List (List ℕ)) → c ≢ 37 → before_units c us ≡ (c ∷ []) ∷ us
-before_units-plain c [] ne = refl
-before_units-plain c (u ∷ []) ne = refl
-before_units-plain c (u ∷ v ∷ us) ne = rw (ne_eqb c 37 ne) refl
-
-hex_is_no_percent : (c : ℕ) → is_ascii_hexdigit c ≡ true → c ≢ 37
-hex_is_no_percent c h = λ e. grind (arith, nat_tests)
+use Rattle.ref_uri.specs.Normal.{normal_triple, normal_encoded}
 
 pub normal_none : (fold : ℕ → ℕ) → normal_encoded fold [] ≡ []
 unfolding normal_encoded
@@ -26,7 +15,9 @@ normal_none fold = refl
 -- a character that is no `%` in front
 pub normal_character : (fold : ℕ → ℕ) (c : ℕ) (rest : List ℕ) → c ≢ 37 → normal_encoded fold (c ∷ rest) ≡ fold c ∷ normal_encoded fold rest
 unfolding normal_encoded
-normal_character fold c rest ne = ap (flat_map (normal_unit fold)) (before_units-plain c (units rest) ne)
+normal_character fold c [] ne = refl
+normal_character fold c (a ∷ []) ne = refl
+normal_character fold c (a ∷ b ∷ rest) ne = rw (ne_eqb c 37 ne, normal_encoded) refl
 
 -- a run without `%` in front
 pub normal_run : (fold : ℕ → ℕ) (run rest : List ℕ) → ((i : ℕ) → i < length run → get_or run i 0 ≢ 37) → normal_encoded fold (run ++ rest) ≡ map fold run ++ normal_encoded fold rest
@@ -42,9 +33,7 @@ normal_plain fold run none = ap (normal_encoded fold) (sym (append-nil run)) ∙
 -- a triple in front
 pub normal_triple_front : (fold : ℕ → ℕ) (high low : ℕ) (rest : List ℕ) → is_ascii_hexdigit high ≡ true → is_ascii_hexdigit low ≡ true → normal_encoded fold (37 ∷ high ∷ low ∷ rest) ≡ normal_triple fold high low ++ normal_encoded fold rest
 unfolding normal_encoded
-normal_triple_front fold high low rest h l =
-    ap (λ us. flat_map (normal_unit fold) (before_units 37 us))
-    (ap (before_units high) (before_units-plain low (units rest) (hex_is_no_percent low l)) ∙ before_units-plain high ((low ∷ []) ∷ units rest) (hex_is_no_percent high h))
+normal_triple_front fold high low rest h l = refl
 
 -- what follows in a text of whole triples
 pub whole_behind : (p q : List ℕ) → has_whole_triples (p ++ q) ≡ true → has_whole_triples q ≡ true

@@ -6,9 +6,8 @@ use Rattle.ref_uri.specs.Components.{Components}
 use Rattle.ref_uri.specs.DotSegments.{remove_dot_segments}
 use Rattle.ref_uri.specs.Normal.{guarded, normal, normal_text, normal_authority}
 use Rattle.ref_uri.specs.Resolution.{query_or}
-use Rattle.ref_uri.specs.Target.{path_behind, target_with_dots}
-use Rattle.ref_uri.proofs.TargetLemmas.{the_components}
-use Rattle.ref_uri.proofs.WrittenUri.{some_there}
+use Rattle.ref_uri.specs.inner.Target.{path_behind, target_with_dots}
+use Rattle.ref_uri.proofs.TargetLemmas.{the_components, some_there}
 
 -- components with a scheme, each in normal form
 pub normal_parts_are : (s a : Option (List ℕ)) (path p : List ℕ) (q f : Option (List ℕ)) → is_some s ≡ true → p ≡ remove_dot_segments (normal_text path) → the_components (option_map (map to_ascii_lowercase) s) (option_map normal_authority a) (guarded a p) (option_map normal_text q) (option_map normal_text f) ≡ normal (the_components s a path q f)
@@ -30,7 +29,7 @@ dots_with_authority base r none there =
     let authority : r.authority ≡ Some some.0 = some.1 in
     rw (none, authority) refl
 
-pub dots_of_base : (base r : Components) → r.scheme ≡ None → r.authority ≡ None → eqb (length r.path) 0 ≡ true → target_with_dots base r ≡ the_components base.scheme base.authority base.path (query_or base.query r.query) r.fragment
+pub dots_of_base : (base r : Components) → r.scheme ≡ None → r.authority ≡ None → eqb (length r.path) 0 ≡ true → target_with_dots base r ≡ the_components base.scheme base.authority base.path (query_or r.query base.query) r.fragment
 unfolding target_with_dots
 dots_of_base base r s a empty = rw (s, a, empty) refl
 

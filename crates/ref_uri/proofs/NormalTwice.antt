@@ -368,12 +368,16 @@ target_settles : (a : Option (List ℕ)) (path : List ℕ) (q f : Option (List �
 target_settles a path q f whole authority query fragment =
     each_same (normal (the_components (Some (codes "json-schema")) a (guarded a (remove_dot_segments (normal_text path))) q f)) (the_components (Some (codes "json-schema")) a (guarded a (remove_dot_segments (normal_text path))) q f) (ap (λ x. Some x) scheme_settled) authority (path_again a path whole) query fragment
 
+-- the path and the query of the one or of the other
+abbrev of_both : Bool → Components → Components → Components
+of_both empty kept behind = record kept { path = cond empty kept.path behind.path; query = cond empty kept.query behind.query }
+
 resolved_settles : (a : Option (List ℕ)) (path : List ℕ) (q f : Option (List ℕ)) → has_whole_triples path ≡ true → option_map normal_authority a ≡ a → option_map normal_text q ≡ q → option_map normal_text f ≡ f → normal (resolved_components default_components (the_components None a (normal_text path) q f)) ≡ resolved_components default_components (the_components None a (normal_text path) q f)
 resolved_settles (Some x) path q f whole authority query fragment = target_settles (Some x) path q f whole authority query fragment
 resolved_settles None path q f whole authority query fragment =
-    let kept = the_components (Some (codes "json-schema")) (Some []) (codes "/") (query_or None q) f in
+    let kept = the_components (Some (codes "json-schema")) (Some []) (codes "/") (query_or q None) f in
     let behind = the_components (Some (codes "json-schema")) (Some []) (target_path default_components (normal_text path)) q f in
-    elim (eqb (length (normal_text path)) 0) as (λ empty. normal (with_guard (cond empty kept behind)) ≡ with_guard (cond empty kept behind)) [
+    elim (eqb (length (normal_text path)) 0) as (λ empty. normal (with_guard (of_both empty kept behind)) ≡ with_guard (of_both empty kept behind)) [
       | true ↦
           subst (λ (o : Option (List ℕ)). normal (the_components (Some (codes "json-schema")) (Some []) (codes "/") o f) ≡ the_components (Some (codes "json-schema")) (Some []) (codes "/") o f) (sym (own_query q))
           (subst (λ (p : List ℕ). normal (the_components (Some (codes "json-schema")) (Some []) p q f) ≡ the_components (Some (codes "json-schema")) (Some []) p q f) root_is (target_settles (Some []) (codes "/") q f refl (ap (λ x. Some x) authority_settled) query fragment))
@@ -387,7 +391,7 @@ resolved_settles None path q f whole authority query fragment =
           ]
     ]
   where
-    own_query : (q : Option (List ℕ)) → query_or None q ≡ q
+    own_query : (q : Option (List ℕ)) → query_or q None ≡ q
     own_query None = refl
     own_query (Some x) = refl
 

@@ -44,22 +44,22 @@ colon_in_first_segment (c ∷ text) =
     by_cases rest (inl path_ends) b d =
         let ends : ends_scheme c ≡ true = grind (arith, nat_tests) in
         let other : eqb c 58 ≡ false = grind (arith, nat_tests) in
-        rw (path_ends, ends, other) refl
+        rw (ends, path_ends, other) refl
     by_cases rest (inr goes_on) (inl is_slash) d =
         let ends : ends_scheme c ≡ true = grind (arith, nat_tests) in
         let other : eqb c 58 ≡ false = grind (arith, nat_tests) in
         let slash : eqb c 47 ≡ true = eq-eqb c 47 is_slash in
-        rw (goes_on, ends, other, before_first-cons (λ x. eqb x 47) c (before_first ends_path text), slash) refl
+        rw (ends, goes_on, other, before_first-cons (λ x. eqb x 47) c (before_first ends_path text), slash) refl
     by_cases rest (inr goes_on) (inr no_slash) (inl is_colon) =
         let ends : ends_scheme c ≡ true = grind (arith, nat_tests) in
         let colon : eqb c 58 ≡ true = eq-eqb c 58 is_colon in
         let slash : eqb c 47 ≡ false = ne_eqb c 47 no_slash in
-        rw (goes_on, ends, before_first-cons (λ x. eqb x 47) c (before_first ends_path text), slash, colon) refl
+        rw (ends, goes_on, before_first-cons (λ x. eqb x 47) c (before_first ends_path text), slash, colon) refl
     by_cases rest (inr goes_on) (inr no_slash) (inr no_colon) =
         let ends : ends_scheme c ≡ false = grind (arith, nat_tests) in
         let colon : eqb c 58 ≡ false = ne_eqb c 58 no_colon in
         let slash : eqb c 47 ≡ false = ne_eqb c 47 no_slash in
-        rw (goes_on, ends, before_first-cons (λ x. eqb x 47) c (before_first ends_path text), slash, colon) rest
+        rw (ends, goes_on, before_first-cons (λ x. eqb x 47) c (before_first ends_path text), slash, colon) rest
 
 -- a front of a text begins with `//` only where the text does
 pub slashes_in_front : (k : ℕ) (text : List ℕ) → begins_with_slashes text ≡ false → begins_with_slashes (take k text) ≡ false

@@ -9,7 +9,7 @@ use Rattle.std.proofs.lemmas.Slice.Eq.{bytes_eq-Decides}
 use Rattle.ref_uri.specs.Characters.{has_whole_triples, is_unreserved}
 use Rattle.ref_uri.specs.DotSegments.{segments, behind_slashes, joined, is_dot, is_dot_dot, is_dot_segment, first_after, kept_after, remaining, ends_in_dots, without_dots, remove_dot_segments}
 use Rattle.ref_uri.specs.Normal.{hex_value, normal_triple, normal_text}
-use Rattle.ref_uri.specs.Target.{LacksEncodedDot}
+use Rattle.ref_uri.specs.inner.Target.{LacksEncodedDot}
 use Rattle.ref_uri.specs.declared.written.Form.TheVariants.{Normal}
 use Rattle.ref_uri.proofs.Induction.{by_units}
 use Rattle.ref_uri.proofs.NormalLemmas.{normal_none, normal_character, normal_triple_front}

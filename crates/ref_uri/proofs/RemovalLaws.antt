@@ -6,9 +6,9 @@ use Rattle.std.proofs.lemmas.List.{map-append, reverse-append, take_at, length-a
 use Rattle.std.proofs.lemmas.Slice.Eq.{bytes_eq-Decides}
 use Rattle.std.proofs.lemmas.List.Sums.{AllPass-from_list_all}
 use Rattle.ref_uri.specs.DotSegments.{segments, behind_slashes, joined, is_dot, is_dot_dot, is_dot_segment, kept_after, first_after, remaining, ends_in_dots, without_dots, remove_dot_segments}
-use Rattle.ref_uri.specs.Removal.{segment_of, next_written, next_progress, path_then, progress_then, path_after, progress_after, end_of, ended}
+use Rattle.ref_uri.specs.inner.Removal.{segment_of, next_written, next_progress, path_then, progress_then, path_after, progress_after, end_of, ended}
 use Rattle.ref_uri.specs.Characters.{has_whole_triples}
-use Rattle.ref_uri.specs.Written.{written}
+use Rattle.ref_uri.specs.inner.Written.{written}
 use Rattle.ref_uri.specs.declared.written.Form.{Form}
 use Rattle.ref_uri.proofs.EncodedLemmas.{whole-append}
 use Rattle.ref_uri.proofs.RemovalLemmas.{path_after-append, progress_after-append}

@@ -1,6 +1,6 @@
 -- A path that is written segment by segment.
 use Rattle.std.proofs.Common.{◌≡◌, List, ℕ, [], ◌∷◌, ◌++◌, refl}
-use Rattle.ref_uri.specs.Removal.{path_then, progress_then, path_after, progress_after}
+use Rattle.ref_uri.specs.inner.Removal.{path_then, progress_then, path_after, progress_after}
 use Rattle.ref_uri.specs.declared.dots.Progress.{Progress}
 
 -- one segment more

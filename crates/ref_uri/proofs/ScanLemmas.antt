@@ -6,7 +6,8 @@ use Rattle.std.proofs.lemmas.Bool.Decides.{nat_tests}
 use Rattle.std.proofs.lemmas.List.{length-take-le, drop-take}
 use Rattle.std.proofs.lemmas.List.Sums.{position_or_len_is, AllPass-from_list_all, prefix_len-le-length, fails_before_first, passes_at_first}
 use Rattle.ref_uri.specs.Characters.{is_encoded, has_whole_triples}
-use Rattle.ref_uri.specs.Components.{ends_authority, ends_authority_at}
+use Rattle.ref_uri.specs.Components.{ends_authority}
+use Rattle.ref_uri.specs.inner.Scans.{ends_authority_at}
 use Rattle.ref_uri.proofs.PathLemmas.{before_first-cons}
 use Rattle.ref_uri.proofs.AuthorityCharacters.{list_all-wider}
 

@@ -7,7 +7,7 @@ use Rattle.std.proofs.lemmas.Bool.{and_parts, not-true, cases_Bool, ne_eqb, fals
 use Rattle.std.proofs.lemmas.Bool.Decides.{nat_tests}
 use Rattle.ref_uri.specs.Characters.{has_whole_triples, is_unreserved}
 use Rattle.ref_uri.specs.Components.{Components, are_components, is_path_after, begins_with_slashes, if_there}
-use Rattle.ref_uri.specs.Resolution.{resolved_components, target_path, query_or}
+use Rattle.ref_uri.specs.Resolution.{resolved_components, target_components, target_path, with_guard, query_or}
 use Rattle.ref_uri.specs.DotSegments.{remove_dot_segments}
 use Rattle.ref_uri.specs.Normal.{guarded, normal_path, normal_text, normal_triple, hex_value}
 use Rattle.ref_uri.proofs.UniqueLemmas.{Tested, tested}
@@ -82,13 +82,45 @@ own_path c h path some none = by_scheme c.scheme refl
     by_scheme (Some x) is = ap (guarded c.authority) (some (ap is_some is))
     by_scheme None is = ap (guarded c.authority) (none is) ∙ unguarded c.authority is refl
 
--- the target of a reference that has no path
-pub resolved_of_base : (base reference : Components) → reference.scheme ≡ None → reference.authority ≡ None → eqb (length reference.path) 0 ≡ true → resolved_components base reference ≡ record { scheme = base.scheme; authority = base.authority; path = guarded base.authority base.path; query = query_or base.query reference.query; fragment = reference.fragment }
-resolved_of_base base reference s a empty = rw (s, a, empty) refl
+abbrev pub the_components : Option (List ℕ) → Option (List ℕ) → List ℕ → Option (List ℕ) → Option (List ℕ) → Components
+the_components s a p q f = record { scheme = s; authority = a; path = p; query = q; fragment = f }
 
--- the target of a reference that has a path alone
-pub resolved_path : (base reference : Components) → reference.scheme ≡ None → reference.authority ≡ None → eqb (length reference.path) 0 ≡ false → resolved_components base reference ≡ record { scheme = base.scheme; authority = base.authority; path = guarded base.authority (target_path base reference.path); query = reference.query; fragment = reference.fragment }
-resolved_path base reference s a some = rw (s, a, some) refl
+pub some_there : (o : Option (List ℕ)) → is_some o ≡ true → (x : List ℕ) × (o ≡ Some x)
+some_there None h = absurd (false≢true h)
+some_there (Some x) h = (x, refl)
+
+-- the target by the cases of the standard (5.2.2): with a scheme
+pub target_of_scheme : (base reference : Components) (s : List ℕ) → reference.scheme ≡ Some s → target_components base reference ≡ the_components (Some s) reference.authority (remove_dot_segments reference.path) reference.query reference.fragment
+target_of_scheme base reference s is = rw is refl
+
+-- with an authority
+pub target_of_authority : (base reference : Components) (a : List ℕ) → reference.scheme ≡ None → reference.authority ≡ Some a → target_components base reference ≡ the_components base.scheme (Some a) (remove_dot_segments reference.path) reference.query reference.fragment
+target_of_authority base reference a none is = rw (none, is) refl
+
+-- with no path
+pub target_of_base : (base reference : Components) → reference.scheme ≡ None → reference.authority ≡ None → eqb (length reference.path) 0 ≡ true → target_components base reference ≡ the_components base.scheme base.authority base.path (query_or reference.query base.query) reference.fragment
+target_of_base base reference s a empty = rw (s, a, empty) refl
+
+-- with a path alone
+pub target_of_path : (base reference : Components) → reference.scheme ≡ None → reference.authority ≡ None → eqb (length reference.path) 0 ≡ false → target_components base reference ≡ the_components base.scheme base.authority (target_path base reference.path) reference.query reference.fragment
+target_of_path base reference s a some = rw (s, a, some) refl
+
+-- the same, guarded
+pub resolved_of_base : (base reference : Components) → reference.scheme ≡ None → reference.authority ≡ None → eqb (length reference.path) 0 ≡ true → resolved_components base reference ≡ the_components base.scheme base.authority (guarded base.authority base.path) (query_or reference.query base.query) reference.fragment
+resolved_of_base base reference s a empty = ap with_guard (target_of_base base reference s a empty)
+
+pub resolved_path : (base reference : Components) → reference.scheme ≡ None → reference.authority ≡ None → eqb (length reference.path) 0 ≡ false → resolved_components base reference ≡ the_components base.scheme base.authority (guarded base.authority (target_path base reference.path)) reference.query reference.fragment
+resolved_path base reference s a some = ap with_guard (target_of_path base reference s a some)
+
+pub resolved_of_scheme : (base reference : Components) → is_some reference.scheme ≡ true → resolved_components base reference ≡ the_components reference.scheme reference.authority (guarded reference.authority (remove_dot_segments reference.path)) reference.query reference.fragment
+resolved_of_scheme base reference there =
+    let some = some_there reference.scheme there in
+    ap with_guard (target_of_scheme base reference some.0 some.1) ∙ ap (λ s. the_components s reference.authority (guarded reference.authority (remove_dot_segments reference.path)) reference.query reference.fragment) (sym some.1)
+
+pub resolved_of_authority : (base reference : Components) → reference.scheme ≡ None → is_some reference.authority ≡ true → resolved_components base reference ≡ the_components base.scheme reference.authority (guarded reference.authority (remove_dot_segments reference.path)) reference.query reference.fragment
+resolved_of_authority base reference none there =
+    let some = some_there reference.authority there in
+    ap with_guard (target_of_authority base reference some.0 none some.1) ∙ ap (λ a. the_components base.scheme a (guarded a (remove_dot_segments reference.path)) reference.query reference.fragment) (sym some.1)
 
 pub none_there : {X : Type 0} (o : Option (Bor X)) → is_some o ≡ false → option_copied o ≡ None
 none_there None h = refl
@@ -103,16 +135,13 @@ pub or_there : (test : List ℕ → Bool) (o other : Option (Bor (List ℕ))) �
 or_there test None other h k = k
 or_there test (Some x) other h k = h
 
-pub or_is_query_or : (o other : Option (Bor (List ℕ))) → option_copied (option_or o other) ≡ query_or (option_copied other) (option_copied o)
+pub or_is_query_or : (o other : Option (Bor (List ℕ))) → option_copied (option_or o other) ≡ query_or (option_copied o) (option_copied other)
 or_is_query_or None other = refl
 or_is_query_or (Some x) other = refl
 
 pub map_given : (o : Option (List ℕ)) → option_map (λ text. text) o ≡ o
 map_given None = refl
 map_given (Some text) = refl
-
-abbrev pub the_components : Option (List ℕ) → Option (List ℕ) → List ℕ → Option (List ℕ) → Option (List ℕ) → Components
-the_components s a p q f = record { scheme = s; authority = a; path = p; query = q; fragment = f }
 
 -- components that are written as they were given
 pub as_given : (s a : Option (List ℕ)) (p : List ℕ) (q f : Option (List ℕ)) → the_components (option_map (λ text. text) s) (option_map (λ text. text) a) p (option_map (λ text. text) q) (option_map (λ text. text) f) ≡ the_components s a p q f

@@ -1,14 +1,15 @@
 -- Lemmas on a scan of an authority, with userinfo or without.
-use Rattle.std.proofs.Common.{◌≡◌, ◌≢◌, ℕ, ◌+◌, ◌<◌, ◌≤◌, true, false, ◌&&◌, ◌||◌, not, List, [], ◌∷◌, length, take, drop, get_or, get_or-take, eqb, refl, sym, ap, ◌∙◌, subst, arith, inl, inr}
+use Rattle.std.proofs.Common.{◌≡◌, ◌≢◌, ℕ, ◌+◌, ◌<◌, ◌≤◌, true, false, ◌||◌, not, List, [], ◌∷◌, length, take, drop, get_or, get_or-take, eqb, refl, sym, ap, ◌∙◌, subst, arith, inl, inr}
 use Rattle.std.specs.List.{list_all, list_any, position_or_len, before_first}
 use Rattle.std.proofs.lemmas.Bool.{and_parts, and_left, or_from, false≢true, false_from_ne_true, cases_lt, cases_eq, cases_order, eqb-true, eq-eqb, le-ltb}
 use Rattle.std.proofs.lemmas.Bool.Decides.{nat_tests}
 use Rattle.std.proofs.lemmas.List.{take-take}
 use Rattle.std.proofs.lemmas.List.Sums.{prefix_len-le-length, position_or_len_is, passes_at_first}
 use Rattle.std.proofs.lemmas.List.Folds.{length-prefix_len}
-use Rattle.ref_uri.specs.Characters.{is_encoded, begins_encoded, is_userinfo_character}
+use Rattle.ref_uri.specs.Characters.{is_encoded, is_userinfo_character}
+use Rattle.ref_uri.specs.inner.Scans.{begins_encoded}
 use Rattle.ref_uri.specs.declared.characters.Class.TheVariants.{Userinfo}
-use Rattle.ref_uri.specs.Authority.{is_authority, is_host, is_port_part, is_host_and_port, host_len}
+use Rattle.ref_uri.specs.Authority.{is_authority, is_host_and_port}
 use Rattle.ref_uri.specs.Components.{ends_authority}
 use Rattle.ref_uri.proofs.EncodedLemmas.{any_is_found, passes_in_front, not_encoded_past}
 use Rattle.ref_uri.proofs.AuthorityLemmas.{is_authority-userinfo}
@@ -37,7 +38,7 @@ no_authority a front h =
     let at = position_or_len (λ x. eqb x 64) a in
     let rest = drop (at + 1) a in
     elim (cases_lt at (length a)) [
-      | inl lt ↦ is_authority-userinfo a lt ∙ and_left (is_encoded is_userinfo_character (take at a) && is_host (take (host_len rest) rest)) (is_port_part (drop (host_len rest) rest)) (and_left (is_encoded is_userinfo_character (take at a)) (is_host (take (host_len rest) rest)) (front lt))
+      | inl lt ↦ is_authority-userinfo a lt ∙ and_left (is_encoded is_userinfo_character (take at a)) (is_host_and_port rest) (front lt)
       | inr ge ↦ no_at_is a (any_is_found (λ x. eqb x 64) a ∙ le-ltb at (length a) ge) ∙ h
     ]
 

@@ -9,13 +9,13 @@ use Rattle.ref_uri.specs.Authority.{is_authority}
 use Rattle.ref_uri.specs.Components.{Components, are_components, if_there, is_scheme, is_path, is_query, is_path_after, begins_with_slashes}
 use Rattle.ref_uri.specs.DotSegments.{remove_dot_segments}
 use Rattle.ref_uri.specs.Normal.{guarded, normal, normal_path, normal_text, normal_triple, normal_authority}
-use Rattle.ref_uri.specs.Resolution.{merged, query_or, target_path, target_of_path, target_of_authority, target_of_scheme, with_guard, resolved_components, through_last_slash}
+use Rattle.ref_uri.specs.Resolution.{merged, query_or, target_path, with_guard, resolved_components, through_last_slash}
 use Rattle.ref_uri.proofs.Induction.{by_units}
 use Rattle.ref_uri.proofs.PathLemmas.{before_first-cons}
 use Rattle.ref_uri.proofs.NormalLemmas.{normal_none, normal_character, normal_triple_front}
 use Rattle.ref_uri.proofs.WrittenLemmas.{keeps_as_is, triple_passes}
 use Rattle.ref_uri.proofs.UniqueLemmas.{Tested, tested}
-use Rattle.ref_uri.proofs.TargetLemmas.{the_components, slash_in_front, slashes_in_front}
+use Rattle.ref_uri.proofs.TargetLemmas.{the_components, slash_in_front, slashes_in_front, target_of_scheme, resolved_of_base, resolved_path, resolved_of_authority}
 use Rattle.ref_uri.proofs.NormalValid.{normal_is_authority, lower_is_scheme, normal_is_path, normal_is_query}
 use Rattle.ref_uri.proofs.PathValid.{path-append, starts_path, StartsPath, removed_is_path, removed_starts, guarded_is_path, guarded_has_no_slashes, through_is_path, through_starts}
 
@@ -77,9 +77,9 @@ target_starts base path x is starts =
     or_true true = refl
     or_true false = refl
 
-query_or_test : (other q : Option (List ℕ)) → if_there is_query other ≡ true → if_there is_query q ≡ true → if_there is_query (query_or other q) ≡ true
-query_or_test other None h k = h
-query_or_test other (Some q) h k = k
+query_or_test : (q other : Option (List ℕ)) → if_there is_query q ≡ true → if_there is_query other ≡ true → if_there is_query (query_or q other) ≡ true
+query_or_test None other h k = k
+query_or_test (Some q) other h k = h
 
 -- the target of a reference against a base with a scheme
 pub resolved_is_valid : (base reference : Components) (s : List ℕ) → base.scheme ≡ Some s → are_components base ≡ true → are_components reference ≡ true → are_components (resolved_components base reference) ≡ true
@@ -94,29 +94,29 @@ resolved_is_valid base reference s is h k = by_scheme reference.scheme refl
     base_scheme : is_scheme s ≡ true
     base_scheme = ap (if_there is_scheme) (sym is) ∙ b.scheme_test
 
-    of_path : reference.authority ≡ None → are_components (with_guard (target_of_path base reference)) ≡ true
-    of_path none =
-        let kept = the_components base.scheme base.authority base.path (query_or base.query reference.query) reference.fragment in
-        let behind = the_components base.scheme base.authority (target_path base reference.path) reference.query reference.fragment in
-        elim (eqb (length reference.path) 0) as (λ empty. are_components (with_guard (cond empty kept behind)) ≡ true) [
-          | true ↦
-              subst (λ (o : Option (List ℕ)). are_components (the_components o base.authority (guarded base.authority base.path) (query_or base.query reference.query) reference.fragment) ≡ true) (sym is)
-              (valid_target s base.authority base.path (query_or base.query reference.query) reference.fragment base_scheme b.authority_test b.path_test (query_or_test base.query reference.query b.query_test r.query_test) r.fragment_test (place_of base b))
-          | false ↦
-              subst (λ (o : Option (List ℕ)). are_components (the_components o base.authority (guarded base.authority (target_path base reference.path)) reference.query reference.fragment) ≡ true) (sym is)
-              (valid_target s base.authority (target_path base reference.path) reference.query reference.fragment base_scheme b.authority_test (target_is_path base reference.path b.path_test r.path_test) r.query_test r.fragment_test (λ x same. target_starts base reference.path x same (place_of base b x same)))
-        ]
+    with_base : (a : Option (List ℕ)) (path : List ℕ) (q : Option (List ℕ)) → if_there is_authority a ≡ true → is_path path ≡ true → if_there is_query q ≡ true → ((x : List ℕ) → a ≡ Some x → StartsPath path) → are_components (the_components base.scheme a (guarded a path) q reference.fragment) ≡ true
+    with_base a path q authority is_path_of query place =
+        subst (λ (o : Option (List ℕ)). are_components (the_components o a (guarded a path) q reference.fragment) ≡ true) (sym is) (valid_target s a path q reference.fragment base_scheme authority is_path_of query r.fragment_test place)
 
-    by_authority : (a : Option (List ℕ)) → reference.authority ≡ a → are_components (with_guard (target_of_authority base reference a)) ≡ true
-    by_authority (Some x) e =
-        subst (λ (o : Option (List ℕ)). are_components (the_components o (Some x) (guarded (Some x) (remove_dot_segments reference.path)) reference.query reference.fragment) ≡ true) (sym is)
-        (valid_target s (Some x) (remove_dot_segments reference.path) reference.query reference.fragment base_scheme (ap (if_there is_authority) (sym e) ∙ r.authority_test) (removed_is_path reference.path r.path_test) r.query_test r.fragment_test (λ y same. removed_starts reference.path (place_of reference r x e)))
-    by_authority None e = of_path e
+    of_path : reference.scheme ≡ None → reference.authority ≡ None → (empty : Bool) → eqb (length reference.path) 0 ≡ empty → are_components (resolved_components base reference) ≡ true
+    of_path none no_authority true empty =
+        ap are_components (resolved_of_base base reference none no_authority empty)
+        ∙ with_base base.authority base.path (query_or reference.query base.query) b.authority_test b.path_test (query_or_test reference.query base.query r.query_test b.query_test) (place_of base b)
+    of_path none no_authority false some =
+        ap are_components (resolved_path base reference none no_authority some)
+        ∙ with_base base.authority (target_path base reference.path) reference.query b.authority_test (target_is_path base reference.path b.path_test r.path_test) r.query_test (λ x same. target_starts base reference.path x same (place_of base b x same))
 
-    by_scheme : (o : Option (List ℕ)) → reference.scheme ≡ o → are_components (with_guard (target_of_scheme base reference o)) ≡ true
+    by_authority : reference.scheme ≡ None → (a : Option (List ℕ)) → reference.authority ≡ a → are_components (resolved_components base reference) ≡ true
+    by_authority none (Some x) e =
+        ap are_components (resolved_of_authority base reference none (ap is_some e))
+        ∙ with_base reference.authority (remove_dot_segments reference.path) reference.query r.authority_test (removed_is_path reference.path r.path_test) r.query_test (λ y same. removed_starts reference.path (place_of reference r y same))
+    by_authority none None e = of_path none e (eqb (length reference.path) 0) refl
+
+    by_scheme : (o : Option (List ℕ)) → reference.scheme ≡ o → are_components (resolved_components base reference) ≡ true
     by_scheme (Some t) e =
-        valid_target t reference.authority (remove_dot_segments reference.path) reference.query reference.fragment (ap (if_there is_scheme) (sym e) ∙ r.scheme_test) r.authority_test (removed_is_path reference.path r.path_test) r.query_test r.fragment_test (λ x same. removed_starts reference.path (place_of reference r x same))
-    by_scheme None e = by_authority reference.authority refl
+        ap (λ c. are_components (with_guard c)) (target_of_scheme base reference t e)
+        ∙ valid_target t reference.authority (remove_dot_segments reference.path) reference.query reference.fragment (ap (if_there is_scheme) (sym e) ∙ r.scheme_test) r.authority_test (removed_is_path reference.path r.path_test) r.query_test r.fragment_test (λ x same. removed_starts reference.path (place_of reference r x same))
+    by_scheme None e = by_authority e reference.authority refl
 
 -- the first segment keeps its characters apart from `:`
 colons_in_front : (text : List ℕ) → has_whole_triples text ≡ true → list_any (λ c. eqb c 58) (before_first (λ c. eqb c 47) (normal_text text)) ≡ list_any (λ c. eqb c 58) (before_first (λ c. eqb c 47) text)

@@ -10,10 +10,10 @@ use Rattle.ref_uri.specs.declared.written.Form.TheVariants.{Given, Normal, Norma
 use Rattle.ref_uri.specs.Characters.{has_whole_triples, is_path_character}
 use Rattle.ref_uri.specs.Components.{Components, components, are_components, text_of, scheme, is_path}
 use Rattle.ref_uri.specs.DotSegments.{segments, remove_dot_segments}
-use Rattle.ref_uri.specs.Lengths.{IsParsedUri}
+use Rattle.ref_uri.specs.inner.Lengths.{IsParsedUri}
 use Rattle.ref_uri.specs.Normal.{guarded, normal, normal_text, normal_form}
 use Rattle.ref_uri.specs.Resolution.{resolved, resolved_components}
-use Rattle.ref_uri.specs.Target.{given_path, written_path, written_components, lengths_of_components, AreParts, LosesSameDots, IsTarget}
+use Rattle.ref_uri.specs.inner.Target.{given_path, written_path, written_components, lengths_of_components, AreParts, LosesSameDots, IsTarget}
 use Rattle.ref_uri.proofs.EncodedLemmas.{whole-append, encoded-append}
 use Rattle.ref_uri.proofs.NormalTargets.{normal_parts_are}
 use Rattle.ref_uri.proofs.NormalTwice.{removed_twice, guarded_removed}
@@ -23,7 +23,8 @@ use Rattle.ref_uri.proofs.SegmentLemmas.{segments-append}
 use Rattle.ref_uri.proofs.TargetLemmas.{as_given, map_given}
 use Rattle.ref_uri.proofs.UniqueLemmas.{components-text_of}
 use Rattle.ref_uri.proofs.ValidTargets.{resolved_is_valid}
-use Rattle.ref_uri.proofs.WrittenUri.{some_there, normal_text_of, resolved_text_of, normal_parsed, normal_scheme, target_has_scheme}
+use Rattle.ref_uri.proofs.TargetLemmas.{some_there}
+use Rattle.ref_uri.proofs.WrittenUri.{normal_text_of, resolved_text_of, normal_parsed, normal_scheme, target_has_scheme}
 
 whole_path : (path : List ℕ) → is_path path ≡ true → has_whole_triples path ≡ true
 whole_path path h = (and_parts (list_all (λ x. is_path_character x || eqb x 37) path) (has_whole_triples path) h).1

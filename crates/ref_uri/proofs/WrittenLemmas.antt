@@ -14,7 +14,7 @@ use Rattle.ref_uri.specs.DotSegments.{segments}
 use Rattle.ref_uri.proofs.EncodedLemmas.{whole-append}
 use Rattle.ref_uri.proofs.SegmentLemmas.{segments-slash, segments-other, segments-triple, segments-shape, segments-run}
 use Rattle.ref_uri.specs.Normal.{hex_value, normal_triple, normal_encoded, normal_text}
-use Rattle.ref_uri.specs.Written.{written}
+use Rattle.ref_uri.specs.inner.Written.{written}
 use Rattle.ref_uri.specs.declared.written.Form.{Form}
 use Rattle.ref_uri.specs.declared.written.Form.TheVariants.{Given, Normal, NormalTarget}
 use Rattle.ref_uri.proofs.NormalLemmas.{normal_character, normal_triple_front, normal_none}

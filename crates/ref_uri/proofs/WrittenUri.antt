@@ -1,15 +1,16 @@
 -- A text that is written from components with a scheme is a URI whose components are so long.
-use Rattle.std.proofs.Common.{◌≡◌, ℕ, Bool, true, false, cond, List, length, map, eqb, Option, Some, None, is_some, option_map, Result, Ok, Err, refl, ap, sym, ◌∙◌}
+use Rattle.std.proofs.Common.{◌≡◌, ℕ, true, List, map, Option, Some, None, is_some, option_map, Result, Ok, Err, refl, ap, sym, ◌∙◌}
 use Rattle.ref_uri.specs.declared.lengths.Lengths.{Lengths}
 use Rattle.ref_uri.specs.Components.{Components, components, are_components, text_of, scheme}
-use Rattle.ref_uri.specs.Lengths.{IsParsed, IsParsedUri}
+use Rattle.ref_uri.specs.inner.Lengths.{IsParsed, IsParsedUri}
 use Rattle.ref_uri.specs.Reference.{is_uri_reference}
 use Rattle.ref_uri.specs.Normal.{normal, normal_form}
-use Rattle.ref_uri.specs.Resolution.{resolved, resolved_components, with_guard, query_or, target_path, target_of_authority, target_of_scheme}
-use Rattle.ref_uri.specs.Target.{lengths_of_components}
+use Rattle.std.specs.Option.{option_or}
+use Rattle.ref_uri.specs.Resolution.{resolved, resolved_components}
+use Rattle.ref_uri.proofs.TargetLemmas.{some_there}
+use Rattle.ref_uri.specs.inner.Target.{lengths_of_components}
 use Rattle.std.specs.Result.{IfOk}
 use Rattle.std.specs.Char.{to_ascii_lowercase}
-use Rattle.std.proofs.lemmas.Bool.{false≢true}
 use Rattle.ref_uri.proofs.ValidTargets.{resolved_is_valid, normal_is_valid}
 use Rattle.ref_uri.proofs.AsciiLemmas.{reference_ascii}
 use Rattle.ref_uri.proofs.UniqueLemmas.{components-text_of}
@@ -47,26 +48,13 @@ pub resolved_text_of : (b r : Components) (base reference : List ℕ) → b ≡ 
 unfolding resolved
 resolved_text_of b r base reference is are = ap (λ d. text_of (resolved_components d r)) is ∙ ap (λ d. text_of (resolved_components (components base) d)) are
 
-pub some_there : (o : Option (List ℕ)) → is_some o ≡ true → (x : List ℕ) × (o ≡ Some x)
-some_there None h = absurd (false≢true h)
-some_there (Some x) h = (x, refl)
-
 -- a target has a scheme
 pub target_has_scheme : (base reference : Components) → is_some base.scheme ≡ true → is_some (resolved_components base reference).scheme ≡ true
 target_has_scheme base reference h = by_scheme reference.scheme
   where
-    by_path : (empty : Bool) (kept behind : Components) → is_some kept.scheme ≡ true → is_some behind.scheme ≡ true → is_some (with_guard (cond empty kept behind)).scheme ≡ true
-    by_path true kept behind k b = k
-    by_path false kept behind k b = b
-
-    by_authority : (a : Option (List ℕ)) → is_some (with_guard (target_of_authority base reference a)).scheme ≡ true
-    by_authority (Some x) = h
-    by_authority None =
-        by_path (eqb (length reference.path) 0) (record { scheme = base.scheme; authority = base.authority; path = base.path; query = query_or base.query reference.query; fragment = reference.fragment }) (record { scheme = base.scheme; authority = base.authority; path = target_path base reference.path; query = reference.query; fragment = reference.fragment }) h h
-
-    by_scheme : (s : Option (List ℕ)) → is_some (with_guard (target_of_scheme base reference s)).scheme ≡ true
+    by_scheme : (o : Option (List ℕ)) → is_some (option_or o base.scheme) ≡ true
     by_scheme (Some x) = refl
-    by_scheme None = by_authority reference.authority
+    by_scheme None = h
 
 -- the target of a reference, written, is a URI
 pub resolved_uri : (base reference : Components) (text : List ℕ) (lengths : Lengths) → is_some base.scheme ≡ true → are_components base ≡ true → are_components reference ≡ true → text ≡ text_of (resolved_components base reference) → lengths ≡ lengths_of_components (resolved_components base reference) → IsParsedUri text lengths

@@ -1,9 +1,9 @@
 -- The parts of an authority, `[userinfo "@"] host [":" port]` (RFC 3986, 3.2).
-use Rattle.std.specs.Prelude.{ℕ, ◌+◌, min, Bool, true, false, ◌||◌, ◌&&◌, List, [], ◌∷◌, length, take, drop, Option, Some, None, ◌==◌, nat_lt, if◌then◌else◌, slice_index}
+use Rattle.std.specs.Prelude.{ℕ, ◌+◌, min, Bool, true, false, ◌||◌, ◌&&◌, List, [], ◌∷◌, length, take, drop, codes, Option, Some, None, ◌==◌, nat_lt, if◌then◌else◌, slice_index}
 use Rattle.std.specs.List.{list_any, list_all, position_or_len, before_first, after_first}
 use Rattle.std.specs.Option.{option_map_or}
 use Rattle.std.specs.Char.{is_ascii_digit, is_ascii_hexdigit}
-use Rattle.ref_uri.specs.Characters.{is_encoded, is_name_character, is_userinfo_character}
+use Rattle.ref_uri.specs.Characters.{is_one_of, is_encoded, is_name_character, is_userinfo_character}
 
 -- what stands before the first such character, where there is one
 abbrev pub part_before : ℕ → List ℕ → Option (List ℕ)
@@ -37,7 +37,7 @@ port_part authority = drop (host_len (host_and_port authority)) (host_and_port a
 
 -- a hex digit, `:` or `.`
 abbrev pub is_address_character : ℕ → Bool
-is_address_character c = is_ascii_hexdigit c || (c == 58) || (c == 46)
+is_address_character c = is_ascii_hexdigit c || is_one_of (codes ":.") c
 
 -- a run of them that isn't empty: which of them are IPv6 addresses is not told (3.2.2)
 abbrev pub is_address : List ℕ → Bool
@@ -55,11 +55,14 @@ abbrev pub is_future_address : List ℕ → Bool
 is_future_address [] = false
 is_future_address (v ∷ rest) = ((v == 118) || (v == 86)) && is_version_and_address rest
 
--- an address, and then `]`
+-- an address of either kind
+abbrev pub is_either_address : List ℕ → Bool
+is_either_address text = is_address text || is_future_address text
+
+-- The first `]` ends the text, and an address stands before it.
 abbrev pub is_address_and_bracket : List ℕ → Bool
 is_address_and_bracket text =
-    (position_or_len (λ c. c == 93) text + 1 == length text)
-    && (is_address (before_first (λ c. c == 93) text) || is_future_address (before_first (λ c. c == 93) text))
+    (position_or_len (λ c. c == 93) text + 1 == length text) && is_either_address (before_first (λ c. c == 93) text)
 
 -- `[`, an address, `]` (IP-literal, 3.2.2)
 abbrev pub is_bracketed : List ℕ → Bool
@@ -79,7 +82,6 @@ is_port_part (c ∷ digits) = (c == 58) && list_all is_ascii_digit digits
 abbrev pub is_host_and_port : List ℕ → Bool
 is_host_and_port text = is_host (take (host_len text) text) && is_port_part (drop (host_len text) text)
 
--- the parts hold what they may
+-- userinfo that holds what it may, where there is any, and a host and a port
 abbrev pub is_authority : List ℕ → Bool
-is_authority text =
-    option_map_or (is_encoded is_userinfo_character) (userinfo text) true && is_host (host text) && is_port_part (port_part text)
+is_authority text = option_map_or (is_encoded is_userinfo_character) (userinfo text) true && is_host_and_port (host_and_port text)

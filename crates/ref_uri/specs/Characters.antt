@@ -1,23 +1,25 @@
 -- Characters and triples (RFC 3986, 2).
-use Rattle.std.specs.Prelude.{ℕ, Bool, true, false, ◌||◌, ◌&&◌, List, [], ◌∷◌, ◌==◌, if◌then◌else◌}
-use Rattle.std.specs.List.{list_all}
+use Rattle.std.specs.Prelude.{ℕ, Bool, true, false, ◌||◌, ◌&&◌, List, [], ◌∷◌, codes, ◌==◌, if◌then◌else◌}
+use Rattle.std.specs.List.{list_all, list_any}
 use Rattle.std.specs.Char.{is_ascii_alphanumeric, is_ascii_hexdigit}
 
 -- In these definitions 35 is `#`, 37 `%`, 47 `/`, 58 `:`, 63 `?`, 64 `@`, 91 `[` and 93 `]`.
 
--- unreserved: letters, digits and `-._~` (2.3)
-abbrev pub is_unreserved : ℕ → Bool
-is_unreserved c = is_ascii_alphanumeric c || (c == 45) || (c == 46) || (c == 95) || (c == 126)
+-- the character is one of these
+abbrev pub is_one_of : List ℕ → ℕ → Bool
+is_one_of these c = list_any (λ x. c == x) these
 
--- sub-delims: `!$&'()*+,;=` (2.2)
+-- unreserved (2.3)
+abbrev pub is_unreserved : ℕ → Bool
+is_unreserved c = is_ascii_alphanumeric c || is_one_of (codes "-._~") c
+
+-- sub-delims (2.2)
 abbrev pub is_sub_delim : ℕ → Bool
-is_sub_delim c =
-    (c == 33) || (c == 36) || (c == 38) || (c == 39) || (c == 40) || (c == 41) || (c == 42) || (c == 43) || (c == 44)
-    || (c == 59) || (c == 61)
+is_sub_delim c = is_one_of (codes "!$&'()*+,;=") c
 
 -- a scheme's characters after its first letter (3.1)
 abbrev pub is_scheme_character : ℕ → Bool
-is_scheme_character c = is_ascii_alphanumeric c || (c == 43) || (c == 45) || (c == 46)
+is_scheme_character c = is_ascii_alphanumeric c || is_one_of (codes "+-.") c
 
 -- what a registered name may hold, triples aside (3.2.2)
 abbrev pub is_name_character : ℕ → Bool
@@ -25,23 +27,19 @@ is_name_character c = is_unreserved c || is_sub_delim c
 
 -- what userinfo may hold, triples aside (3.2.1)
 abbrev pub is_userinfo_character : ℕ → Bool
-is_userinfo_character c = is_name_character c || (c == 58)
+is_userinfo_character c = is_name_character c || is_one_of (codes ":") c
 
 -- pchar, triples aside (3.3)
 abbrev pub is_segment_character : ℕ → Bool
-is_segment_character c = is_name_character c || (c == 58) || (c == 64)
-
--- the characters of a first segment with no colon, triples aside (segment-nz-nc, 3.3)
-abbrev pub is_first_segment_character : ℕ → Bool
-is_first_segment_character c = is_name_character c || (c == 64)
+is_segment_character c = is_name_character c || is_one_of (codes ":@") c
 
 -- the characters of a path (3.3)
 abbrev pub is_path_character : ℕ → Bool
-is_path_character c = is_segment_character c || (c == 47)
+is_path_character c = is_segment_character c || is_one_of (codes "/") c
 
 -- the characters of a query or a fragment (3.4, 3.5)
 abbrev pub is_query_character : ℕ → Bool
-is_query_character c = is_segment_character c || (c == 47) || (c == 63)
+is_query_character c = is_segment_character c || is_one_of (codes "/?") c
 
 -- the text begins with two hex digits
 abbrev pub begins_with_hex_digits : List ℕ → Bool
@@ -57,13 +55,3 @@ has_whole_triples (c ∷ rest) = (if c == 37 then begins_with_hex_digits rest el
 -- a text of characters that are allowed, hex digits among them, and of triples
 abbrev pub is_encoded : (ℕ → Bool) → List ℕ → Bool
 is_encoded allowed text = list_all (λ c. allowed c || (c == 37)) text && has_whole_triples text
-
--- the text begins with a triple (2.1)
-abbrev pub begins_with_triple : List ℕ → Bool
-begins_with_triple [] = false
-begins_with_triple (c ∷ rest) = (c == 37) && begins_with_hex_digits rest
-
--- the text begins with a character that is allowed, or with a triple
-abbrev pub begins_encoded : (ℕ → Bool) → List ℕ → Bool
-begins_encoded allowed [] = false
-begins_encoded allowed (c ∷ rest) = allowed c || begins_with_triple (c ∷ rest)

@@ -3,7 +3,7 @@ use Rattle.std.specs.Prelude.{ℕ, ◌+◌, Bool, true, false, ◌||◌, ◌&&�
 use Rattle.std.specs.List.{list_any, list_all, before_first, position_or_len}
 use Rattle.std.specs.Option.{option_map_or}
 use Rattle.std.specs.Char.{is_ascii_alphabetic}
-use Rattle.ref_uri.specs.Characters.{is_encoded, is_scheme_character, is_path_character, is_query_character}
+use Rattle.ref_uri.specs.Characters.{is_one_of, is_encoded, is_scheme_character, is_path_character, is_query_character}
 use Rattle.ref_uri.specs.Authority.{is_authority}
 
 -- `[scheme ":"] ["//" authority] path ["?" query] ["#" fragment]`: a component that is empty differs from one that is absent
@@ -25,21 +25,17 @@ text_of c =
     framed [] c.scheme (codes ":") ++ framed (codes "//") c.authority [] ++ c.path ++ framed (codes "?") c.query []
     ++ framed (codes "#") c.fragment []
 
--- `:`, `/`, `?` or `#`, which end a scheme
+-- what ends a scheme
 abbrev pub ends_scheme : ℕ → Bool
-ends_scheme c = (c == 58) || (c == 47) || (c == 63) || (c == 35)
+ends_scheme c = is_one_of (codes ":/?#") c
 
--- `/`, `?` or `#`, which end an authority
+-- what ends an authority
 abbrev pub ends_authority : ℕ → Bool
-ends_authority c = (c == 47) || (c == 63) || (c == 35)
+ends_authority c = is_one_of (codes "/?#") c
 
--- the text ends at this place, or what ends an authority stands there
-abbrev pub ends_authority_at : List ℕ → ℕ → Bool
-ends_authority_at text at = (at == length text) || ends_authority (slice_index text at)
-
--- `?` or `#`, which end a path
+-- what ends a path
 abbrev pub ends_path : ℕ → Bool
-ends_path c = (c == 63) || (c == 35)
+ends_path c = is_one_of (codes "?#") c
 
 -- `#`, which ends a query
 abbrev pub ends_query : ℕ → Bool

@@ -32,7 +32,8 @@ is_dot_segment segment = is_dot segment || is_dot_dot segment
 abbrev pub kept_after : List (List ℕ) → List ℕ → List (List ℕ)
 kept_after kept segment = if is_dot segment then kept else (if is_dot_dot segment then drop 1 kept else segment ∷ kept)
 
--- The first segment after one more: a `..` that finds nothing kept takes it away, and leaves an empty one, the root.
+-- The first segment after one more. It is what stands before the first `/`: a `..` that finds nothing kept takes it away, and
+-- what is left is the root, so that `b/../c` becomes `/c`.
 abbrev pub first_after : List ℕ → List (List ℕ) → List ℕ → List ℕ
 first_after first kept segment = if is_dot_dot segment && (length kept == 0) then [] else first
 

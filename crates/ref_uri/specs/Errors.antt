@@ -56,8 +56,3 @@ SaysRefusal (Resolve uri base error) (unresolved text against) = (string_bytes u
 abbrev pub IsFaultOf : Result (List ℕ) Refusal → UriFault → Type 0
 IsFaultOf meaning (uri_fault.Invalid error) = (refusal : Refusal) × (meaning ≡ Err refusal) × SaysRefusal error refusal
 IsFaultOf meaning (uri_fault.Memory error) = ⊤
-
--- P, unless memory ran out
-abbrev pub IfInvalid : UriFault → Type 0 → Type 0
-IfInvalid (uri_fault.Invalid error) P = P
-IfInvalid (uri_fault.Memory error) P = ⊤

@@ -1,15 +1,11 @@
 pub mod Characters
-pub mod Class
 pub mod Components
 pub mod Authority
 pub mod Reference
-pub mod Lengths
 pub mod Errors
 pub mod DotSegments
 pub mod Normal
 pub mod Resolution
 pub mod Targets
-pub mod Written
-pub mod Removal
-pub mod Target
 pub mod Rows
+pub mod inner

@@ -1,21 +1,10 @@
 -- The normal form of a reference (RFC 3986, 6.2.2 and 3.2.3). Which of the standard's steps apply is this project's choice.
-use Rattle.std.specs.Prelude.{ℕ, ◌+◌, ◌*◌, ◌-◌, ◌&&◌, List, [], ◌∷◌, ◌++◌, map, length, codes, Option, Some, None, option_map, is_none, ◌==◌, nat_lt, if◌then◌else◌}
-use Rattle.std.specs.List.{flat_map}
+use Rattle.std.specs.Prelude.{ℕ, true, false, ◌+◌, ◌*◌, ◌-◌, ◌&&◌, List, [], ◌∷◌, ◌++◌, map, length, codes, Option, Some, None, option_map, is_none, ◌==◌, nat_lt, if◌then◌else◌}
 use Rattle.std.specs.Char.{to_ascii_lowercase, to_ascii_uppercase}
 use Rattle.ref_uri.specs.Characters.{is_unreserved}
 use Rattle.ref_uri.specs.Authority.{userinfo, host, port_part}
 use Rattle.ref_uri.specs.Components.{Components, components, text_of, framed, begins_with_slashes}
 use Rattle.ref_uri.specs.DotSegments.{remove_dot_segments}
-
--- a character in front of units: `%` joins the next two
-abbrev pub before_units : ℕ → List (List ℕ) → List (List ℕ)
-before_units c (high ∷ low ∷ units) = if c == 37 then (c ∷ (high ++ low)) ∷ units else (c ∷ []) ∷ high ∷ low ∷ units
-before_units c units = (c ∷ []) ∷ units
-
--- the characters and the triples of an encoded text, each as a unit
-abbrev pub units : List ℕ → List (List ℕ)
-units [] = []
-units (c ∷ rest) = before_units c (units rest)
 
 -- the value of a hex digit
 abbrev pub hex_value : ℕ → ℕ
@@ -27,14 +16,15 @@ normal_triple fold high low =
     if is_unreserved (16 * hex_value high + hex_value low) then fold (16 * hex_value high + hex_value low) ∷ []
     else 37 ∷ to_ascii_uppercase high ∷ to_ascii_uppercase low ∷ []
 
--- a unit in normal form, where fold is what case a character gets
-abbrev pub normal_unit : (ℕ → ℕ) → List ℕ → List ℕ
-normal_unit fold (percent ∷ high ∷ low ∷ []) = normal_triple fold high low
-normal_unit fold unit = map fold unit
-
--- an encoded text in normal form
+-- An encoded text in normal form, where fold is what case a character gets: `%` and two digits are a normal triple.
 unfoldable pub normal_encoded : (ℕ → ℕ) → List ℕ → List ℕ
-normal_encoded fold text = flat_map (normal_unit fold) (units text)
+normal_encoded fold [] = []
+normal_encoded fold (c ∷ high ∷ low ∷ rest) =
+    elim (c == 37) [
+      | true ↦ normal_triple fold high low ++ normal_encoded fold rest
+      | false ↦ fold c ∷ normal_encoded fold (high ∷ low ∷ rest)
+    ]
+normal_encoded fold (c ∷ rest) = fold c ∷ normal_encoded fold rest
 
 -- characters stay as they are
 abbrev pub normal_text : List ℕ → List ℕ

@@ -1,6 +1,7 @@
 -- Resolution of a reference against a base (RFC 3986, 5.2, strict).
-use Rattle.std.specs.Prelude.{ℕ, ◌-◌, not, ◌&&◌, List, ◌∷◌, ◌++◌, length, take, Option, Some, None, is_some, ◌==◌, if◌then◌else◌, slice_index}
+use Rattle.std.specs.Prelude.{ℕ, ◌-◌, not, ◌&&◌, List, ◌∷◌, ◌++◌, length, take, Bool, Option, Some, None, is_some, is_none, ◌==◌, if◌then◌else◌, slice_index}
 use Rattle.std.specs.List.{suffix_len}
+use Rattle.std.specs.Option.{option_or}
 use Rattle.ref_uri.specs.Components.{Components, components, text_of}
 use Rattle.ref_uri.specs.DotSegments.{remove_dot_segments}
 use Rattle.ref_uri.specs.Normal.{guarded}
@@ -19,29 +20,29 @@ target_path base path = if slice_index path 0 == 47 then remove_dot_segments pat
 
 -- the reference's query, or the base's where it has none
 abbrev pub query_or : Option (List ℕ) → Option (List ℕ) → Option (List ℕ)
-query_or other None = other
-query_or other (Some query) = Some query
+query_or None of_base = of_base
+query_or (Some query) of_base = Some query
 
--- The target of a reference with neither scheme nor authority: with no path it is the base's path, and the base's query
--- where the reference has none (5.2.2).
-abbrev pub target_of_path : Components → Components → Components
-target_of_path base reference =
-    if length reference.path == 0 then
-    record { scheme = base.scheme; authority = base.authority; path = base.path; query = query_or base.query reference.query; fragment = reference.fragment }
-    else
-    record { scheme = base.scheme; authority = base.authority; path = target_path base reference.path; query = reference.query; fragment = reference.fragment }
+-- The reference has neither scheme nor authority: the target has the base's.
+abbrev pub has_base_authority : Components → Bool
+has_base_authority reference = is_none reference.scheme && is_none reference.authority
 
--- the target of a reference without scheme
-abbrev pub target_of_authority : Components → Components → Option (List ℕ) → Components
-target_of_authority base reference (Some authority) =
-    record { scheme = base.scheme; authority = Some authority; path = remove_dot_segments reference.path; query = reference.query; fragment = reference.fragment }
-target_of_authority base reference None = target_of_path base reference
+-- It has no path either: the target has the base's path, and the base's query where the reference has none.
+abbrev pub has_base_path : Components → Bool
+has_base_path reference = has_base_authority reference && (length reference.path == 0)
 
--- the target by the five cases (5.2.2)
-abbrev pub target_of_scheme : Components → Components → Option (List ℕ) → Components
-target_of_scheme base reference (Some scheme) =
-    record { scheme = Some scheme; authority = reference.authority; path = remove_dot_segments reference.path; query = reference.query; fragment = reference.fragment }
-target_of_scheme base reference None = target_of_authority base reference reference.authority
+-- the target, each component by its own cases (5.2.2)
+abbrev pub target_components : Components → Components → Components
+target_components base reference =
+    record {
+      scheme = option_or reference.scheme base.scheme;
+      authority = if has_base_authority reference then base.authority else reference.authority;
+      path =
+          if has_base_path reference then base.path
+          else (if has_base_authority reference then target_path base reference.path else remove_dot_segments reference.path);
+      query = if has_base_path reference then query_or reference.query base.query else reference.query;
+      fragment = reference.fragment;
+    }
 
 -- A target whose path would be taken for an authority has `/.` before it.
 abbrev pub with_guard : Components → Components
@@ -49,7 +50,7 @@ with_guard c = record c { path = guarded c.authority c.path }
 
 -- the target of a reference, guarded
 abbrev pub resolved_components : Components → Components → Components
-resolved_components base reference = with_guard (target_of_scheme base reference reference.scheme)
+resolved_components base reference = with_guard (target_components base reference)
 
 -- the text of the target
 unfoldable pub resolved : List ℕ → List ℕ → List ℕ

@@ -1,16 +1,15 @@
 -- Worked rows of URIs: what the definitions answer at literals, whole texts of the standard and the steps that lead to them.
 -- Each row is proved by computation. Sections are of RFC 3986.
-pub mod Bodies
 pub mod Errors
 use Rattle.std.specs.Prelude.{◌≡◌, true, false, [], ◌∷◌, codes, Some, None, Ok, Err}
 use Rattle.std.specs.Char.{to_ascii_lowercase}
-use Rattle.ref_uri.specs.Characters.{is_unreserved, is_sub_delim, is_scheme_character, is_name_character, is_userinfo_character, is_segment_character, is_first_segment_character, is_path_character, is_query_character, begins_with_hex_digits, has_whole_triples, is_encoded, begins_with_triple, begins_encoded}
+use Rattle.ref_uri.specs.Characters.{is_unreserved, is_sub_delim, is_scheme_character, is_name_character, is_userinfo_character, is_segment_character, is_path_character, is_query_character, begins_with_hex_digits, has_whole_triples, is_encoded}
 use Rattle.ref_uri.specs.Authority.{part_before, part_after, userinfo, host_and_port, host_len, host, port_part, is_address_character, is_address, is_version_and_address, is_future_address, is_address_and_bracket, is_bracketed, is_host, is_port_part, is_host_and_port, is_authority}
-use Rattle.ref_uri.specs.Components.{framed, text_of, ends_scheme, ends_authority, ends_authority_at, ends_path, ends_query, behind, after_scheme, begins_with_slashes, authority_in_front, after_authority, after_path, query_in_front, after_query, fragment_in_front, components, is_scheme, is_path, is_query, if_there, is_path_after, are_components}
+use Rattle.ref_uri.specs.Components.{framed, text_of, ends_scheme, ends_authority, ends_path, ends_query, behind, after_scheme, begins_with_slashes, authority_in_front, after_authority, after_path, query_in_front, after_query, fragment_in_front, components, is_scheme, is_path, is_query, if_there, is_path_after, are_components}
 use Rattle.ref_uri.specs.Reference.{is_uri, IsTextOfComponents, with_fragment}
 use Rattle.ref_uri.specs.DotSegments.{segments, behind_slashes, joined, is_dot, is_dot_dot, is_dot_segment, kept_after, first_after, remaining, ends_in_dots, without_dots}
-use Rattle.ref_uri.specs.Normal.{before_units, units, hex_value, normal_triple, normal_unit, normal_encoded, normal_text, normal_host, normal_port_part, normal_authority, normal_path, normal}
-use Rattle.ref_uri.specs.Resolution.{target_path, target_of_path, target_of_authority, target_of_scheme, with_guard, resolved_components}
+use Rattle.ref_uri.specs.Normal.{hex_value, normal_triple, normal_encoded, normal_text, normal_host, normal_port_part, normal_authority, normal_path, normal}
+use Rattle.ref_uri.specs.Resolution.{target_path, target_components, with_guard, resolved_components}
 use Rattle.ref_uri.specs.Targets.{unparsed, parsed, against, uri_part, fragment_part}
 
 -- characters of the parts of a reference (2.2, 2.3, 3.1 to 3.5)
@@ -27,8 +26,6 @@ pub record CharacterRows : Type 0 where
   pub at_not_in_userinfo : is_userinfo_character 64 ≡ false
   pub at_in_segment : is_segment_character 64 ≡ true
   pub slash_not_in_segment : is_segment_character 47 ≡ false
-  pub at_in_first_segment : is_first_segment_character 64 ≡ true
-  pub colon_not_in_first_segment : is_first_segment_character 58 ≡ false
   pub slash_in_path : is_path_character 47 ≡ true
   pub question_not_in_path : is_path_character 63 ≡ false
   pub question_in_query : is_query_character 63 ≡ true
@@ -41,10 +38,6 @@ pub record CharacterRows : Type 0 where
   pub triple_of_percent : has_whole_triples (codes "%%41") ≡ false
   pub encoded_name : is_encoded is_name_character (codes "a%7E!") ≡ true
   pub encoded_colon : is_encoded is_name_character (codes "a:") ≡ false
-  pub triple_in_front : begins_with_triple (codes "%7Ea") ≡ true
-  pub triple_behind : begins_with_triple (codes "a%7E") ≡ false
-  pub begins_with_letter : begins_encoded is_name_character (codes "a%") ≡ true
-  pub begins_with_percent : begins_encoded is_name_character (codes "%%") ≡ false
 
 -- authorities and their parts (3.2)
 pub record AuthorityRows : Type 0 where
@@ -102,9 +95,6 @@ pub record ComponentRows : Type 0 where
   pub dot_in_scheme : ends_scheme 46 ≡ false
   pub slash_ends_authority : ends_authority 47 ≡ true
   pub colon_in_authority : ends_authority 58 ≡ false
-  pub authority_ends_here : ends_authority_at (codes "a/b") 1 ≡ true
-  pub authority_goes_on : ends_authority_at (codes "a/b") 0 ≡ false
-  pub authority_ends_the_text : ends_authority_at (codes "a") 1 ≡ true
   pub question_ends_path : ends_path 63 ≡ true
   pub slash_in_path : ends_path 47 ≡ false
   pub hash_ends_query : ends_query 35 ≡ true
@@ -178,17 +168,15 @@ pub record SegmentRows : Type 0 where
 
 -- normal forms of parts (6.2.2 and 3.2.3)
 pub record NormalRows : Type 0 where
-  pub triple_joined : before_units 37 (codes "4" ∷ codes "1" ∷ []) ≡ codes "%41" ∷ []
-  pub letter_in_front : before_units 97 (codes "b" ∷ []) ≡ codes "a" ∷ codes "b" ∷ []
-  pub characters_and_triples : units (codes "a%41b") ≡ codes "a" ∷ codes "%41" ∷ codes "b" ∷ []
-  pub no_units : units [] ≡ []
   pub upper_digit : hex_value 65 ≡ 10
   pub lower_digit : hex_value 102 ≡ 15
   pub decimal_digit : hex_value 57 ≡ 9
   pub unreserved_triple : normal_triple (λ c. c) 55 101 ≡ codes "~"
   pub reserved_triple : normal_triple (λ c. c) 50 102 ≡ codes "%2F"
-  pub triple_unit : normal_unit (λ c. c) (codes "%7e") ≡ codes "~"
-  pub letter_unit : normal_unit to_ascii_lowercase (codes "A") ≡ codes "a"
+  pub no_text : normal_encoded (λ c. c) [] ≡ []
+  pub triple_alone : normal_encoded (λ c. c) (codes "%7e") ≡ codes "~"
+  pub letter_in_case : normal_encoded to_ascii_lowercase (codes "A") ≡ codes "a"
+  pub triple_between : normal_encoded (λ c. c) (codes "a%41b") ≡ codes "aAb"
   pub decoded_in_case : normal_encoded to_ascii_lowercase (codes "Ex%41") ≡ codes "exa"
   pub reserved_in_case : normal_encoded to_ascii_lowercase (codes "%2f") ≡ codes "%2F"
   pub decoded_text : normal_text (codes "%7efoo%2f") ≡ codes "~foo%2F"
@@ -208,12 +196,12 @@ pub record NormalRows : Type 0 where
 pub record ResolutionRows : Type 0 where
   pub relative_path : target_path (components (codes "http://a/b/c")) (codes "../g") ≡ codes "/g"
   pub absolute_path : target_path (components (codes "http://a/b/c")) (codes "/./g") ≡ codes "/g"
-  pub no_path : target_of_path (components (codes "http://a/b?q")) (components (codes "#s")) ≡ components (codes "http://a/b?q#s")
-  pub some_path : target_of_path (components (codes "http://a/b?q")) (components (codes "g")) ≡ components (codes "http://a/g")
-  pub authority : target_of_authority (components (codes "http://a/b?q")) (components (codes "//g/./h")) (Some (codes "g")) ≡ components (codes "http://g/h")
-  pub no_authority : target_of_authority (components (codes "http://a/b?q")) (components (codes "?y")) None ≡ components (codes "http://a/b?y")
-  pub scheme : target_of_scheme (components (codes "http://a/b?q")) (components (codes "s:./g")) (Some (codes "s")) ≡ components (codes "s:g")
-  pub no_scheme : target_of_scheme (components (codes "http://a/b?q")) (components (codes "//g")) None ≡ components (codes "http://g")
+  pub no_path : target_components (components (codes "http://a/b?q")) (components (codes "#s")) ≡ components (codes "http://a/b?q#s")
+  pub some_path : target_components (components (codes "http://a/b?q")) (components (codes "g")) ≡ components (codes "http://a/g")
+  pub authority : target_components (components (codes "http://a/b?q")) (components (codes "//g/./h")) ≡ components (codes "http://g/h")
+  pub no_authority : target_components (components (codes "http://a/b?q")) (components (codes "?y")) ≡ components (codes "http://a/b?y")
+  pub scheme : target_components (components (codes "http://a/b?q")) (components (codes "s:./g")) ≡ components (codes "s:g")
+  pub no_scheme : target_components (components (codes "http://a/b?q")) (components (codes "//g")) ≡ components (codes "http://g")
   pub guard_put : (with_guard (record { scheme = Some (codes "a"); authority = None; path = codes "//c"; query = None; fragment = None })).path ≡ codes "/.//c"
   pub no_guard : with_guard (components (codes "http://a//b")) ≡ components (codes "http://a//b")
   pub whole_target : resolved_components (components (codes "http://a/b")) (components (codes "c")) ≡ components (codes "http://a/c")

@@ -5,7 +5,8 @@ ghost use Rattle.std.specs.List.{before_first, position_or_len, prefix_len};
 ghost use Rattle.std.specs.Char.{is_ascii_digit, is_ascii_hexdigit};
 ghost use Rattle.ref_uri.specs.Characters.{is_encoded, is_userinfo_character};
 ghost use Rattle.ref_uri.specs.Authority.{is_address_character, is_version_and_address, is_address, is_future_address, is_address_and_bracket, is_port_part, is_host_and_port, is_authority};
-ghost use Rattle.ref_uri.specs.Components.{ends_authority, ends_authority_at};
+ghost use Rattle.ref_uri.specs.Components.{ends_authority};
+ghost use Rattle.ref_uri.specs.inner.Scans.{ends_authority_at};
 
 use crate::characters::{Class, encoded_len};
 use crate::error::ParseError;

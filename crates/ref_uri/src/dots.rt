@@ -3,8 +3,8 @@ ghost use Rattle.std.specs.Prelude.{◌≡◌, ◌≤◌, ◌++◌, List, [], �
 ghost use Rattle.std.specs.List.{before_last};
 ghost use Rattle.ref_uri.specs.Characters.{has_whole_triples};
 ghost use Rattle.ref_uri.specs.DotSegments.{segments, remove_dot_segments};
-ghost use Rattle.ref_uri.specs.Written.{written};
-ghost use Rattle.ref_uri.specs.Removal.{segment_of, first_written, first_progress, next_written, next_progress, slash_of, path_then, progress_then, path_after, progress_after, end_of, ended};
+ghost use Rattle.ref_uri.specs.inner.Written.{written};
+ghost use Rattle.ref_uri.specs.inner.Removal.{segment_of, first_written, first_progress, next_written, next_progress, slash_of, path_then, progress_then, path_after, progress_after, end_of, ended};
 
 use crate::written::Form;
 use std::alloc::AllocError;

@@ -98,8 +98,8 @@ pub fn targets()
 
 /// What resolution is made of (RFC 3986, 5.2.2 and 5.2.3).
 pub fn parts_of_resolution()
-    ensures query_of_the_base { query_or (Some (codes "q")) None ≡ Some (codes "q") }
-    ensures query_of_the_reference { query_or (Some (codes "q")) (Some []) ≡ Some [] }
+    ensures query_of_the_base { query_or None (Some (codes "q")) ≡ Some (codes "q") }
+    ensures query_of_the_reference { query_or (Some []) (Some (codes "q")) ≡ Some [] }
     ensures directory { through_last_slash (codes "/b/c/d;p") ≡ codes "/b/c/" }
     ensures no_directory { through_last_slash (codes "mid") ≡ [] }
     ensures merged_with_the_root { merged (components (codes "http://a")) (codes "g") ≡ codes "/g" }

@@ -5,7 +5,7 @@ ghost use Rattle.ref_uri.specs.Normal.{normal_form};
 ghost use Rattle.ref_uri.specs.Targets.{Refusal, refusal_text, parsed};
 ghost use Rattle.ref_uri.specs.Errors.{uri_error_text, SaysRefusal};
 ghost use Rattle.ref_uri.specs.Rows.{CharacterRows, AuthorityRows, ComponentRows, SegmentRows, NormalRows, ResolutionRows, MeaningRows};
-ghost use Rattle.ref_uri.specs.Rows.Bodies.{BodyRows};
+ghost use Rattle.ref_uri.specs.inner.Rows.{BodyRows};
 ghost use Rattle.ref_uri.specs.Rows.Errors.{ErrorRows};
 ghost use Rattle.ref_uri.specs.Reference.{is_uri_reference, is_uri, IsTextOfComponents, with_fragment};
 

@@ -78,7 +78,7 @@ pub struct Parts<'a> {
 }
 
 impl Lengths {
-    ghost use Rattle.ref_uri.specs.Lengths.{IsParsed};
+    ghost use Rattle.ref_uri.specs.inner.Lengths.{IsParsed};
 
     /// The components, each where it stands in the text.
     pub fn parts(self, text: &str) -> Parts<'_>

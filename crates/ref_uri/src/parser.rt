@@ -6,7 +6,7 @@ ghost use Rattle.std.specs.List.{before_first, position_or_len, prefix_len};
 ghost use Rattle.ref_uri.specs.Components.{scheme, is_scheme, if_there, ends_scheme, authority_in_front, query_in_front, fragment_in_front, is_query, behind, after_authority};
 ghost use Rattle.ref_uri.specs.Authority.{is_authority};
 ghost use Rattle.ref_uri.specs.Reference.{is_uri_reference};
-ghost use Rattle.ref_uri.specs.Lengths.{lengths_of};
+ghost use Rattle.ref_uri.specs.inner.Lengths.{lengths_of};
 ghost use Rattle.ref_uri.specs.Characters.{is_scheme_character, is_path_character, is_encoded};
 
 use crate::authority;

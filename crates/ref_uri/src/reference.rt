@@ -4,7 +4,7 @@ ghost use Rattle.ref_uri.specs.Components.{components, are_components, text_of, 
 ghost use Rattle.ref_uri.specs.Normal.{normal, normal_form};
 ghost use Rattle.ref_uri.specs.Reference.{is_uri_reference, with_fragment};
 ghost use Rattle.ref_uri.specs.Resolution.{resolved};
-ghost use Rattle.ref_uri.specs.Target.{components_of, lengths_of_components, target_with_dots};
+ghost use Rattle.ref_uri.specs.inner.Target.{components_of, lengths_of_components, target_with_dots};
 
 use crate::error::{ParseError, ResolveError, ResolveFault};
 use crate::lengths::{self, Lengths, Parts};
@@ -23,7 +23,7 @@ pub struct UriRef<'a> {
 
 impl<'a> Model for UriRef<'a> {
     ghost use Rattle.std.specs.Prelude.{List, ℕ};
-    ghost use Rattle.ref_uri.specs.Lengths.{IsParsed};
+    ghost use Rattle.ref_uri.specs.inner.Lengths.{IsParsed};
 
     ghost Value = { List ℕ };
 
@@ -33,7 +33,7 @@ impl<'a> Model for UriRef<'a> {
 }
 
 impl<'a> UriRef<'a> {
-    ghost use Rattle.ref_uri.specs.Lengths.{IsParsed, IsParsedUri};
+    ghost use Rattle.ref_uri.specs.inner.Lengths.{IsParsed, IsParsedUri};
 
     /// The reference that the text is. `Syntax` exactly where the text is no URI reference (RFC 3986, 4.1 and
     /// appendix A). One pass over the text; takes no memory and copies nothing.

@@ -5,8 +5,8 @@ ghost use Rattle.ref_uri.specs.Components.{Components, are_components, text_of, 
 ghost use Rattle.ref_uri.specs.DotSegments.{remove_dot_segments};
 ghost use Rattle.ref_uri.specs.Normal.{guarded, normal, normal_text};
 ghost use Rattle.ref_uri.specs.Resolution.{through_last_slash, merged, target_path, resolved_components};
-ghost use Rattle.ref_uri.specs.Written.{written, written_scheme, written_authority};
-ghost use Rattle.ref_uri.specs.Target.{given_path, normal_path_of, written_path, written_components, lengths_of_components, AreParts, LacksEncodedDot, LosesSameDots, IsTarget, components_of, behind_directory, path_behind, target_with_dots};
+ghost use Rattle.ref_uri.specs.inner.Written.{written, written_scheme, written_authority};
+ghost use Rattle.ref_uri.specs.inner.Target.{given_path, normal_path_of, written_path, written_components, lengths_of_components, AreParts, LacksEncodedDot, LosesSameDots, IsTarget, components_of, behind_directory, path_behind, target_with_dots};
 
 use crate::dots::{push_merged_without_dots, push_without_dots, remove_dots};
 use crate::lengths::{Lengths, Parts, head};

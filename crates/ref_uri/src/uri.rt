@@ -2,8 +2,9 @@
 ghost use Rattle.std.specs.Prelude.{◌≡◌, ◌↔◌, ◌==◌, ◌&&◌, nat_eq, slice_index, Some, None, Ok, Err, List, ℕ, false, true, string_bytes, is_ok, is_some, IsOk, IfOk, IfErr, OnOk, OnErr, IsErrOf, option_copied};
 ghost use Rattle.std.specs.List.{ends_with};
 ghost use Rattle.ref_uri.specs.Components.{scheme, authority, path, query, fragment, if_there, is_query};
-ghost use Rattle.ref_uri.specs.Errors.{IsFaultOf, IfInvalid};
-ghost use Rattle.ref_uri.specs.Lengths.{IsParsedUri};
+ghost use Rattle.ref_uri.specs.Errors.{IsFaultOf};
+ghost use Rattle.ref_uri.specs.inner.Faults.{IfInvalid};
+ghost use Rattle.ref_uri.specs.inner.Lengths.{IsParsedUri};
 ghost use Rattle.ref_uri.specs.Resolution.{resolved};
 ghost use Rattle.ref_uri.specs.Targets.{default_base, parsed, against, unparsed};
 ghost use Rattle.ref_uri.specs.Normal.{normal_form};
@@ -29,8 +30,9 @@ impl Model for Uri {
 
     ghost Value = { List ℕ };
 
-    ghost use Rattle.ref_uri.specs.Errors.{IsFaultOf, IfInvalid};
-    ghost use Rattle.ref_uri.specs.Lengths.{IsParsedUri};
+    ghost use Rattle.ref_uri.specs.Errors.{IsFaultOf};
+    ghost use Rattle.ref_uri.specs.inner.Faults.{IfInvalid};
+    ghost use Rattle.ref_uri.specs.inner.Lengths.{IsParsedUri};
     ghost use Rattle.ref_uri.specs.Resolution.{resolved};
     ghost use Rattle.ref_uri.specs.Targets.{default_base, parsed, against, unparsed};
 

@@ -5,7 +5,7 @@ ghost use Rattle.std.specs.Char.{is_ascii_hexdigit};
 ghost use Rattle.ref_uri.specs.Characters.{begins_with_hex_digits, has_whole_triples};
 ghost use Rattle.ref_uri.specs.Authority.{is_authority, host_len};
 ghost use Rattle.ref_uri.specs.Normal.{hex_value, normal_triple, normal_encoded, normal_text, normal_host, normal_port_part, normal_authority};
-ghost use Rattle.ref_uri.specs.Written.{in_case, written, written_scheme, written_authority};
+ghost use Rattle.ref_uri.specs.inner.Written.{in_case, written, written_scheme, written_authority};
 
 use crate::characters::is_unreserved;
 use crate::lengths::{head, tail};

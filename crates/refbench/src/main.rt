@@ -1,6 +1,6 @@
 //! Workloads by which the cost of this project's calls is measured: reads lines `CALL TEXT SIZE TIMES`, and prints for each
-//! how long the texts are that the calls answered, together. It prints the same on every run; `docs/DEVELOPING.md` says how
-//! it is run under `valgrind --tool=callgrind`, and what it showed.
+//! how long the texts are that the calls answered, together; `nothing` as the call measures the workload itself. It prints
+//! the same on every run; `docs/DEVELOPING.md` says how it is run under `valgrind --tool=callgrind`, and what it showed.
 #![tactic(auto)]
 
 use anyhow::Context;
@@ -26,23 +26,52 @@ fn text_of(alloc: Global, kind: &str, size: usize) -> Result<String, AllocError>
     Ok(text)
 }
 
-/// How long the text is that a call answers; nothing where it answers none.
-fn length_of(alloc: Global, call: &str, base: &str, text: &str) -> Option<usize> {
-    let base = UriRef::parse(base).ok()?;
+/// What is measured.
+#[derive(Clone, Copy)]
+enum Call {
+    /// The workload without a call.
+    Nothing,
+    Parse,
+    Normalize,
+    Resolve,
+    FromStr,
+    Against,
+}
+
+/// The call of a name.
+fn call_of(name: &str) -> Option<Call> {
+    match name {
+        "nothing" => Some(Call::Nothing),
+        "parse" => Some(Call::Parse),
+        "normalize" => Some(Call::Normalize),
+        "resolve" => Some(Call::Resolve),
+        "from_str" => Some(Call::FromStr),
+        "against" => Some(Call::Against),
+        _ => None,
+    }
+}
+
+/// How long the text is that a call answers; nothing where it answers none. A base is parsed where the call has one.
+fn length_of(alloc: Global, call: Call, base: &str, text: &str) -> Option<usize> {
     match call {
-        "parse" => Some(UriRef::parse(text).ok()?.as_str().len()),
-        "normalize" => Some(UriRef::parse(text).ok()?.normalize(alloc).ok()?.len()),
-        "resolve" => {
+        Call::Nothing => Some(text.len()),
+        Call::Parse => Some(UriRef::parse(text).ok()?.as_str().len()),
+        Call::Normalize => Some(UriRef::parse(text).ok()?.normalize(alloc).ok()?.len()),
+        Call::Resolve => {
+            let base = UriRef::parse(base).ok()?;
             let uri = UriRef::parse(text).ok()?.resolve_against(alloc, base).ok()?;
             Some(uri.as_str().len())
         }
-        "from_str" => Some(uri::from_str(alloc, text).ok()?.as_str().len()),
-        _ => Some(uri::resolve_against(alloc, base, text).ok()?.as_str().len()),
+        Call::FromStr => Some(uri::from_str(alloc, text).ok()?.as_str().len()),
+        Call::Against => {
+            let base = UriRef::parse(base).ok()?;
+            Some(uri::resolve_against(alloc, base, text).ok()?.as_str().len())
+        }
     }
 }
 
 /// How long the answers are together, where a call is made so many times.
-fn measured(alloc: Global, call: &str, text: &str, times: u32) -> u64 {
+fn measured(alloc: Global, call: Call, text: &str, times: u32) -> u64 {
     let mut sum: u64 = 0;
     for _ in 0..times {
         let length = length_of(alloc, call, "http://a/b/c/d;p?q", text);
@@ -54,7 +83,7 @@ fn measured(alloc: Global, call: &str, text: &str, times: u32) -> u64 {
 /// What a line's workload answers.
 fn answer(alloc: Global, line: &str) -> anyhow::Result<u64> {
     let mut words = line.split_whitespace();
-    let call = words.next().context("a call")?;
+    let call = words.next().and_then(call_of).context("a call")?;
     let kind = words.next().context("a kind of text")?;
     let size: usize = words.next().context("a size")?.parse()?;
     let times: u32 = words.next().context("how many times")?.parse()?;

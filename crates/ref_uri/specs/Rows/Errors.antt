@@ -3,7 +3,7 @@ use Rattle.std.specs.Prelude.{◌≡◌, true, false, codes, Ok, Err, String, st
 use Rattle.std.specs.declared.alloc.AllocError.{AllocError}
 use Rattle.std.specs.declared.alloc.Global.{Global}
 use Rattle.ref_uri.specs.Targets.{unparsed, unresolved}
-use Rattle.ref_uri.specs.Errors.{parse_error_text, uri_parse_fault_text, resolve_error_text, resolve_fault_text, uri_error_text, uri_fault_text, SaysRefusal, IsFaultOf, IfInvalid}
+use Rattle.ref_uri.specs.Errors.{parse_error_text, uri_parse_fault_text, resolve_error_text, resolve_fault_text, uri_error_text, uri_fault_text, SaysRefusal, IsFaultOf}
 use Rattle.ref_uri.specs.declared.error.UriError.TheVariants.{Parse, Resolve}
 use Rattle.ref_uri.specs.declared.error.UriFault.TheVariants as uri_fault
 use Rattle.ref_uri.specs.declared.error.ParseError.TheVariants.{Syntax, NoScheme}
@@ -28,5 +28,3 @@ pub record ErrorRows : Type 0 where
   pub says_no_other : (uri : String Global) → SaysRefusal (Parse uri true Syntax) (unresolved (codes "b") (codes "/a")) → ⊥
   pub memory_in_any_case : (e : AllocError) → IsFaultOf (Ok (codes "a:b")) (uri_fault.Memory e)
   pub fault_of_a_refusal : (uri : String Global) → string_bytes uri ≡ codes "a b" → IsFaultOf (Err (unparsed (codes "a b"))) (uri_fault.Invalid (Parse uri true Syntax))
-  pub if_memory : (e : AllocError) → IfInvalid (uri_fault.Memory e) (true ≡ false)
-  pub if_invalid : (uri : String Global) → IfInvalid (uri_fault.Invalid (Parse uri true Syntax)) (true ≡ true)

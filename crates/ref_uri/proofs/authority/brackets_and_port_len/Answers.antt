@@ -5,7 +5,8 @@ use Rattle.std.proofs.lemmas.List.{take_rest}
 use Rattle.std.proofs.lemmas.List.Sums.{prefix_len-le-length}
 use Rattle.ref_uri.specs.Characters.{is_encoded, is_userinfo_character}
 use Rattle.ref_uri.specs.Authority.{is_port_part, is_address_and_bracket, is_host_and_port}
-use Rattle.ref_uri.specs.Components.{ends_authority, ends_authority_at}
+use Rattle.ref_uri.specs.Components.{ends_authority}
+use Rattle.ref_uri.specs.inner.Scans.{ends_authority_at}
 use Rattle.ref_uri.proofs.HostLemmas.{brackets_accepted, brackets_inside, brackets_none, port_inside, port_behind}
 use Rattle.ref_uri.proofs.authority.brackets_and_port_len.Goals as goal
 

@@ -3,7 +3,8 @@ use Rattle.std.specs.List.{before_first}
 use Rattle.std.proofs.lemmas.List.{take_rest}
 use Rattle.ref_uri.specs.Characters.{is_encoded, is_userinfo_character}
 use Rattle.ref_uri.specs.Authority.{is_port_part}
-use Rattle.ref_uri.specs.Components.{ends_authority, ends_authority_at}
+use Rattle.ref_uri.specs.Components.{ends_authority}
+use Rattle.ref_uri.specs.inner.Scans.{ends_authority_at}
 use Rattle.ref_uri.proofs.HostLemmas.{name_accepted, name_is_userinfo, encoded_joined, encoded_inside, port_behind}
 use Rattle.ref_uri.proofs.authority.name_and_port_len.Goals as goal
 

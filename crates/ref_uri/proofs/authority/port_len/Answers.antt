@@ -3,7 +3,8 @@ use Rattle.std.specs.List.{prefix_len, before_first}
 use Rattle.std.specs.Char.{is_ascii_digit}
 use Rattle.ref_uri.specs.Characters.{is_encoded, is_userinfo_character}
 use Rattle.ref_uri.specs.Authority.{is_port_part}
-use Rattle.ref_uri.specs.Components.{ends_authority, ends_authority_at}
+use Rattle.ref_uri.specs.Components.{ends_authority}
+use Rattle.ref_uri.specs.inner.Scans.{ends_authority_at}
 use Rattle.ref_uri.proofs.HostLemmas.{rest_is, port_run, port_within, port_encoded, port_accepted}
 use Rattle.ref_uri.proofs.authority.port_len.Goals as goal
 

@@ -1,7 +1,7 @@
 use Rattle.std.proofs.Common.{◌≡◌, ◌∙◌, ℕ, sym, subst, true, take, arith}
 use Rattle.std.specs.List.{position_or_len}
 use Rattle.ref_uri.specs.Characters.{is_encoded}
-use Rattle.ref_uri.specs.Class.{allows, ends}
+use Rattle.ref_uri.specs.inner.Class.{allows, ends}
 use Rattle.ref_uri.proofs.EncodedLemmas.{part_is, part_is_not}
 use Rattle.ref_uri.proofs.characters.part_len.Goals as goal
 use Rattle.ref_uri.proofs.characters.part_len.Goals.{else-len-bytes-via-then-len-bytes+else-not-ends, else-len-bytes-via-else-len-bytes}

@@ -3,7 +3,7 @@ use Rattle.std.proofs.lemmas.List.{take_at, drop_at, drop-drop, length-drop}
 use Rattle.std.proofs.lemmas.Str.Pattern.{find_char}
 use Rattle.std.proofs.lemmas.Result.{on_ok_weaker}
 use Rattle.ref_uri.specs.DotSegments.{segments}
-use Rattle.ref_uri.specs.Removal.{path_then, progress_then, end_of, ended}
+use Rattle.ref_uri.specs.inner.Removal.{path_then, progress_then, end_of, ended}
 use Rattle.ref_uri.proofs.PartLemmas.{with_appended, left_of, front_of, only_segment, first_segment}
 use Rattle.ref_uri.proofs.RemovalLaws.{written_is_removed}
 use Rattle.ref_uri.proofs.dots.push_again.Goals as goal

@@ -1,7 +1,7 @@
 use Rattle.std.proofs.Common.{◌≡◌, ◌≤◌, ◌-◌, [], take, drop, length, string_bytes}
 use Rattle.std.specs.Str.{IsAscii}
 use Rattle.ref_uri.specs.DotSegments.{segments}
-use Rattle.ref_uri.specs.Removal.{ended}
+use Rattle.ref_uri.specs.inner.Removal.{ended}
 use Rattle.ref_uri.specs.declared.dots.Progress.TheVariants.{Front}
 use Rattle.ref_uri.proofs.dots.push_again.Given as goal
 

@@ -2,8 +2,8 @@ use Rattle.std.proofs.Common.{◌≡◌, ◌++◌, [], map, string_bytes, ap, sy
 use Rattle.std.proofs.lemmas.List.{append-nil}
 use Rattle.std.proofs.lemmas.Result.{on_ok_weaker}
 use Rattle.ref_uri.specs.DotSegments.{segments}
-use Rattle.ref_uri.specs.Written.{written}
-use Rattle.ref_uri.specs.Removal.{path_after, progress_after, ended}
+use Rattle.ref_uri.specs.inner.Written.{written}
+use Rattle.ref_uri.specs.inner.Removal.{path_after, progress_after, ended}
 use Rattle.ref_uri.specs.declared.dots.Progress.TheVariants.{Front}
 use Rattle.ref_uri.proofs.RemovalLaws.{merged_is_removed, parts_alike}
 use Rattle.ref_uri.proofs.dots.push_merged_without_dots.Goals as goal

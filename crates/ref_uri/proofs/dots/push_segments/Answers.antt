@@ -5,8 +5,8 @@ use Rattle.std.proofs.lemmas.Iterator.Splits.{YieldsList-from_str_split}
 use Rattle.std.proofs.lemmas.Iterator.Consumers.{YieldsList-turn, YieldsList-end, YieldsList-at}
 use Rattle.ref_uri.specs.Characters.{has_whole_triples}
 use Rattle.ref_uri.specs.DotSegments.{segments}
-use Rattle.ref_uri.specs.Written.{written}
-use Rattle.ref_uri.specs.Removal.{path_then, progress_then, path_after, progress_after}
+use Rattle.ref_uri.specs.inner.Written.{written}
+use Rattle.ref_uri.specs.inner.Removal.{path_then, progress_then, path_after, progress_after}
 use Rattle.ref_uri.proofs.SegmentLemmas.{segments_are_whole, segments_are_ascii, each_at}
 use Rattle.ref_uri.proofs.RemovalLemmas.{path_after-push, progress_after-push}
 use Rattle.ref_uri.proofs.dots.push_segments.Goals as goal

@@ -1,6 +1,6 @@
 use Rattle.std.proofs.Common.{◌≡◌, ℕ, List, ◌∷◌, ◌++◌, ◌+◌, length, drop, take, string_bytes, append_assoc, refl, ap, sym, ◌∙◌}
 use Rattle.std.proofs.lemmas.List.{take_at}
-use Rattle.ref_uri.specs.Removal.{segment_of}
+use Rattle.ref_uri.specs.inner.Removal.{segment_of}
 use Rattle.ref_uri.specs.declared.dots.Segment.{Segment}
 use Rattle.ref_uri.specs.declared.dots.Segment.TheVariants.{Name, Dot, DotDot}
 use Rattle.ref_uri.proofs.NormalLemmas.{drop_past}

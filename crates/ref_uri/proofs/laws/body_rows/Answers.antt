@@ -1,5 +1,5 @@
 use Rattle.std.proofs.Common.{codes, refl, ap, arith, [], ◌∷◌, ◌++◌, length, slice_index, length-append}
-use Rattle.ref_uri.specs.Target.{LacksEncodedDot, target_with_dots}
+use Rattle.ref_uri.specs.inner.Target.{LacksEncodedDot, target_with_dots}
 use Rattle.ref_uri.proofs.AsciiLemmas.{reference_ascii}
 use Rattle.ref_uri.proofs.OnLiterals.{ref_uri_on_literals}
 use Rattle.ref_uri.proofs.laws.body_rows.Goals as goal
@@ -17,6 +17,15 @@ pub returns : goal.returns
 unfolding ref_uri_on_literals target_with_dots
 returns c = record {
   rows = record {
+    at_in_first_segment = refl;
+    colon_not_in_first_segment = refl;
+    triple_in_front = refl;
+    triple_behind = refl;
+    begins_with_letter = refl;
+    begins_with_percent = refl;
+    authority_ends_here = refl;
+    authority_goes_on = refl;
+    authority_ends_the_text = refl;
     class_of_first_segment = refl;
     class_of_query = refl;
     end_of_userinfo = refl;
@@ -100,5 +109,7 @@ returns c = record {
     dots_of_both = refl;
     target_keeps_dots = refl;
     target_of_a_fragment = refl;
+    if_memory = λ e. tt;
+    if_invalid = λ uri. refl;
   };
 }

@@ -18,8 +18,6 @@ returns c = record {
     at_not_in_userinfo = refl;
     at_in_segment = refl;
     slash_not_in_segment = refl;
-    at_in_first_segment = refl;
-    colon_not_in_first_segment = refl;
     slash_in_path = refl;
     question_not_in_path = refl;
     question_in_query = refl;
@@ -32,9 +30,5 @@ returns c = record {
     triple_of_percent = refl;
     encoded_name = refl;
     encoded_colon = refl;
-    triple_in_front = refl;
-    triple_behind = refl;
-    begins_with_letter = refl;
-    begins_with_percent = refl;
   };
 }

@@ -21,7 +21,5 @@ returns c = record {
     says_no_other = λ uri says. says;
     memory_in_any_case = λ e. tt;
     fault_of_a_refusal = λ uri is. (unparsed (codes "a b"), refl, (is, refl, refl));
-    if_memory = λ e. tt;
-    if_invalid = λ uri. refl;
   };
 }

@@ -6,17 +6,15 @@ pub returns : goal.returns
 unfolding ref_uri_on_literals
 returns c = record {
   rows = record {
-    triple_joined = refl;
-    letter_in_front = refl;
-    characters_and_triples = refl;
-    no_units = refl;
     upper_digit = refl;
     lower_digit = refl;
     decimal_digit = refl;
     unreserved_triple = refl;
     reserved_triple = refl;
-    triple_unit = refl;
-    letter_unit = refl;
+    no_text = refl;
+    triple_alone = refl;
+    letter_in_case = refl;
+    triple_between = refl;
     decoded_in_case = refl;
     reserved_in_case = refl;
     decoded_text = refl;

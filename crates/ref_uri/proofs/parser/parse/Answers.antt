@@ -4,7 +4,7 @@ use Rattle.std.proofs.lemmas.List.Folds.{length-prefix_len}
 use Rattle.ref_uri.specs.Components.{scheme, authority, path, query, fragment, after_scheme, after_authority, after_path, after_query, authority_in_front, query_in_front, fragment_in_front, ends_path, is_path, is_query, if_there}
 use Rattle.ref_uri.specs.Characters.{is_encoded, is_path_character}
 use Rattle.ref_uri.specs.Authority.{is_authority}
-use Rattle.ref_uri.specs.Lengths.{the_lengths, lengths_of}
+use Rattle.ref_uri.specs.inner.Lengths.{the_lengths, lengths_of}
 use Rattle.ref_uri.proofs.PathLemmas.{no_authority, no_path, no_query, no_fragment, all_there, refusal}
 use Rattle.ref_uri.proofs.RestLemmas.{scheme_gone, authority_gone, path_gone, query_gone}
 use Rattle.ref_uri.proofs.parser.parse.Goals as goal

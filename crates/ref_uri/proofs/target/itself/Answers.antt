@@ -1,6 +1,6 @@
 use Rattle.std.proofs.Common.{ℕ, List, ap}
 use Rattle.ref_uri.specs.Normal.{normal}
-use Rattle.ref_uri.specs.Target.{components_of, written_path}
+use Rattle.ref_uri.specs.inner.Target.{components_of, written_path}
 use Rattle.ref_uri.specs.declared.written.Form.TheVariants.{Normal}
 use Rattle.ref_uri.proofs.UniqueLemmas.{tested}
 use Rattle.ref_uri.proofs.TargetLemmas.{own_path}

@@ -4,12 +4,12 @@ use Rattle.ref_uri.specs.Characters.{is_path_character}
 use Rattle.ref_uri.specs.Components.{is_query, if_there}
 use Rattle.ref_uri.specs.DotSegments.{remove_dot_segments}
 use Rattle.ref_uri.specs.Normal.{guarded, normal, normal_text}
-use Rattle.ref_uri.specs.Target.{components_of, written_path, path_behind}
+use Rattle.ref_uri.specs.inner.Target.{components_of, written_path, path_behind}
 use Rattle.ref_uri.specs.declared.written.Form.TheVariants.{Given, Normal}
 use Rattle.ref_uri.proofs.AsciiLemmas.{encoded_ascii, IsAscii-from_all_ascii}
 use Rattle.ref_uri.proofs.UniqueLemmas.{tested}
 use Rattle.ref_uri.proofs.NormalTargets.{normal_parts_are, dots_with_scheme, dots_with_authority, dots_of_base, dots_behind}
-use Rattle.ref_uri.proofs.TargetLemmas.{resolved_path, none_there, still_there, or_there, or_is_query_or, as_given, the_components}
+use Rattle.ref_uri.proofs.TargetLemmas.{resolved_of_scheme, resolved_of_authority, resolved_of_base, resolved_path, none_there, still_there, or_there, or_is_query_or, as_given, the_components}
 use Rattle.ref_uri.proofs.target.resolved.Goals as goal
 
 pub returns-then-is_some-clause-target : goal.returns-then-is_some-clause-target
@@ -51,6 +51,30 @@ returns-clause-target c =
       query_test = t.query_test;
       fragment_test = t.fragment_test;
     }
+
+pub returns-then-is_some-clause-value : goal.returns-then-is_some-clause-value
+returns-then-is_some-clause-value c =
+    let base = components_of c.args.base in
+    let r = components_of c.args.reference in
+    as_given r.scheme r.authority (guarded r.authority (remove_dot_segments r.path)) r.query r.fragment
+    ∙ sym (resolved_of_scheme base r (still_there c.args.reference.scheme (sym c.is_some.ensures ∙ c.if-is_some.true)))
+
+pub returns-then-is_some-2-clause-value : goal.returns-then-is_some-2-clause-value
+returns-then-is_some-2-clause-value c =
+    let base = components_of c.args.base in
+    let r = components_of c.args.reference in
+    as_given base.scheme r.authority (guarded r.authority (remove_dot_segments r.path)) r.query r.fragment
+    ∙ sym (resolved_of_authority base r (none_there c.args.reference.scheme (sym c.is_some.ensures ∙ c.if-is_some.false)) (still_there c.args.reference.authority (sym c.is_some-2.ensures ∙ c.if-is_some-2.true)))
+
+pub returns-then-is_empty-clause-value : goal.returns-then-is_empty-clause-value
+returns-then-is_empty-clause-value c =
+    let base = components_of c.args.base in
+    let r = components_of c.args.reference in
+    let scheme = none_there c.args.reference.scheme (sym c.is_some.ensures ∙ c.if-is_some.false) in
+    let authority = none_there c.args.reference.authority (sym c.is_some-2.ensures ∙ c.if-is_some-2.false) in
+    as_given base.scheme base.authority (guarded base.authority base.path) (option_copied c.or.result) r.fragment
+    ∙ ap (λ q. the_components base.scheme base.authority (guarded base.authority base.path) q r.fragment) (ap option_copied c.or.ensures ∙ or_is_query_or c.args.reference.query c.args.base.query)
+    ∙ sym (resolved_of_base base r scheme authority (sym c.is_empty.ensures ∙ c.if-is_empty.true))
 
 pub returns-clause-value : goal.returns-clause-value
 returns-clause-value c =

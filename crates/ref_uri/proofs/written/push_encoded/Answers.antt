@@ -1,7 +1,7 @@
 use Rattle.std.proofs.Common.{◌++◌, drop, get_or, length, string_bytes, ap, sym, ◌∙◌, arith, rules}
 use Rattle.std.proofs.lemmas.Str.Pattern.{split_parts}
 use Rattle.ref_uri.specs.Normal.{normal_encoded, normal_triple}
-use Rattle.ref_uri.specs.Written.{in_case}
+use Rattle.ref_uri.specs.inner.Written.{in_case}
 use Rattle.ref_uri.proofs.NormalLemmas.{behind_percent, normal_turn, normal_plain}
 use Rattle.ref_uri.proofs.written.push_encoded.Goals as goal
 

@@ -4,7 +4,7 @@ use denote.Text.{Utf8}
 use denote.Shadow.{shadow}
 use Rattle.ref_uri.specs.Characters.{has_whole_triples}
 use Rattle.ref_uri.specs.Normal.{normal_encoded}
-use Rattle.ref_uri.specs.Written.{in_case}
+use Rattle.ref_uri.specs.inner.Written.{in_case}
 use Rattle.ref_uri.proofs.written.push_encoded.Given as goal
 
 abbrev pub invariant-runs : goal.invariant-runs

@@ -1,10 +1,10 @@
 use Rattle.std.proofs.Common.{◌≡◌, ◌∙◌, String, Global, is_some, ap, string_bytes}
 use Rattle.std.proofs.lemmas.Result.{IfOk-weaker}
 use Rattle.ref_uri.specs.Components.{Components, scheme, text_of}
-use Rattle.ref_uri.specs.Lengths.{IsParsed}
+use Rattle.ref_uri.specs.inner.Lengths.{IsParsed}
 use Rattle.ref_uri.specs.declared.lengths.Lengths.{Lengths}
 use Rattle.ref_uri.specs.Normal.{normal_form}
-use Rattle.ref_uri.specs.Target.{components_of, written_components, lengths_of_components}
+use Rattle.ref_uri.specs.inner.Target.{components_of, written_components, lengths_of_components}
 use Rattle.ref_uri.specs.declared.written.Form.TheVariants.{Normal}
 use Rattle.ref_uri.proofs.WrittenUri.{normal_text_of, normal_parsed, normal_scheme, both_if_ok}
 use Rattle.ref_uri.proofs.reference.UriRef.normalized.Goals as goal

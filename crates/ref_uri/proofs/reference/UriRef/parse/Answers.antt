@@ -1,6 +1,6 @@
 use Rattle.std.proofs.Common.{◌≡◌, ◌∙◌, sym, ap, true}
 use Rattle.ref_uri.specs.Reference.{is_uri_reference}
-use Rattle.ref_uri.specs.Lengths.{lengths_of}
+use Rattle.ref_uri.specs.inner.Lengths.{lengths_of}
 use Rattle.ref_uri.proofs.AsciiLemmas.{reference_ascii}
 use Rattle.ref_uri.proofs.reference.UriRef.parse.Goals as goal
 

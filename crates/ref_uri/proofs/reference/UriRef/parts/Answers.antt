@@ -1,6 +1,6 @@
 use Rattle.std.proofs.Common.{◌≡◌, ap, ◌∙◌}
 use Rattle.ref_uri.specs.Components.{components, are_components}
-use Rattle.ref_uri.specs.Target.{components_of}
+use Rattle.ref_uri.specs.inner.Target.{components_of}
 use Rattle.ref_uri.proofs.TargetLemmas.{each_same}
 use Rattle.ref_uri.proofs.WrittenUri.{components_hold}
 use Rattle.ref_uri.proofs.reference.UriRef.parts.Goals as goal

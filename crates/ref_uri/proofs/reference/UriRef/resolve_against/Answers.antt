@@ -1,6 +1,6 @@
 use Rattle.std.proofs.Common.{◌≡◌, ◌∙◌, true, is_some, ap, sym, string_bytes}
 use Rattle.ref_uri.specs.Components.{Components, text_of}
-use Rattle.ref_uri.specs.Target.{components_of, lengths_of_components}
+use Rattle.ref_uri.specs.inner.Target.{components_of, lengths_of_components}
 use Rattle.ref_uri.proofs.WrittenUri.{resolved_text_of, resolved_uri}
 use Rattle.ref_uri.proofs.reference.UriRef.resolve_against.Goals as goal
 

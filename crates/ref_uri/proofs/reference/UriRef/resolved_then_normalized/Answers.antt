@@ -1,11 +1,11 @@
 use Rattle.std.proofs.Common.{◌≡◌, ◌∙◌, String, Global, ap, string_bytes}
 use Rattle.std.proofs.lemmas.Result.{IfOk-weaker}
 use Rattle.ref_uri.specs.Components.{text_of}
-use Rattle.ref_uri.specs.Lengths.{IsParsedUri}
+use Rattle.ref_uri.specs.inner.Lengths.{IsParsedUri}
 use Rattle.ref_uri.specs.declared.lengths.Lengths.{Lengths}
 use Rattle.ref_uri.specs.Normal.{normal, normal_form}
 use Rattle.ref_uri.specs.Resolution.{resolved, resolved_components}
-use Rattle.ref_uri.specs.Target.{components_of, written_components, lengths_of_components}
+use Rattle.ref_uri.specs.inner.Target.{components_of, written_components, lengths_of_components}
 use Rattle.ref_uri.proofs.WrittenAtOnce.{scheme_there, written_normal, normal_of_target, normal_target_uri}
 use Rattle.ref_uri.proofs.WrittenUri.{both_if_ok}
 use Rattle.ref_uri.proofs.reference.UriRef.resolved_then_normalized.Goals as goal

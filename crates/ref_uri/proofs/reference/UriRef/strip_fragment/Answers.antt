@@ -1,7 +1,7 @@
 use Rattle.std.proofs.Common.{◌≡◌, ◌∙◌, Some, None, List, ℕ, sym, ap, subst, refl, arith}
 use Rattle.ref_uri.specs.Components.{scheme, fragment}
 use Rattle.ref_uri.specs.Reference.{with_fragment}
-use Rattle.ref_uri.specs.Lengths.{IsParsed}
+use Rattle.ref_uri.specs.inner.Lengths.{IsParsed}
 use Rattle.ref_uri.proofs.FragmentLemmas.{fragment_fits, parsed-with_fragment, with_fragment-cut, with_fragment-none, scheme-with_fragment}
 use Rattle.ref_uri.proofs.reference.UriRef.strip_fragment.Goals as goal
 

@@ -1,7 +1,7 @@
 use Rattle.std.proofs.Common.{drop, string_bytes, ap, ◌∙◌, arith}
 use Rattle.std.proofs.lemmas.List.{drop_at}
 use Rattle.ref_uri.specs.Characters.{has_whole_triples}
-use Rattle.ref_uri.specs.Target.{given_path}
+use Rattle.ref_uri.specs.inner.Target.{given_path}
 use Rattle.ref_uri.proofs.WrittenAtOnce.{given_is_whole}
 use Rattle.ref_uri.proofs.target.PathOf.push_normal_target.Goals as goal
 

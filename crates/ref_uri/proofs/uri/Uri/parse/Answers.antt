@@ -4,7 +4,7 @@ use Rattle.std.proofs.lemmas.Grind.{common_steps}
 use Rattle.ref_uri.specs.Components.{scheme}
 use Rattle.ref_uri.specs.Reference.{is_uri_reference}
 use Rattle.ref_uri.specs.declared.lengths.Lengths.{Lengths}
-use Rattle.ref_uri.specs.Lengths.{lengths_of, IsParsedUri}
+use Rattle.ref_uri.specs.inner.Lengths.{lengths_of, IsParsedUri}
 use Rattle.ref_uri.proofs.AsciiLemmas.{reference_ascii}
 use Rattle.ref_uri.proofs.uri.Uri.parse.Goals as goal
 

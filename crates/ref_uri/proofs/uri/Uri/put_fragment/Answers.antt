@@ -1,7 +1,7 @@
 use Rattle.std.proofs.Common.{◌≡◌, ◌∙◌, List, ℕ, Bool, Some, None, sym, ap, subst, length, take, ◌++◌, ◌∷◌, [], string_bytes, true, cond, is_ok, arith}
 use Rattle.ref_uri.specs.Components.{is_query}
 use Rattle.ref_uri.specs.Reference.{with_fragment}
-use Rattle.ref_uri.specs.Lengths.{IsParsedUri}
+use Rattle.ref_uri.specs.inner.Lengths.{IsParsedUri}
 use Rattle.ref_uri.proofs.FragmentLemmas.{with_fragment-put, parsed_uri-with_fragment}
 use Rattle.ref_uri.proofs.uri.Uri.put_fragment.Goals as goal
 

@@ -1,7 +1,7 @@
 use Rattle.std.proofs.Common.{◌≡◌, ◌∙◌, List, ℕ, None, sym, ap, subst, length, take, string_bytes, refl}
 use Rattle.std.specs.Option.{option_copied}
 use Rattle.ref_uri.specs.Reference.{with_fragment}
-use Rattle.ref_uri.specs.Lengths.{IsParsedUri}
+use Rattle.ref_uri.specs.inner.Lengths.{IsParsedUri}
 use Rattle.ref_uri.proofs.FragmentLemmas.{with_fragment-dropped, parsed_uri-with_fragment}
 use Rattle.ref_uri.proofs.uri.Uri.set_fragment.Goals as goal
 

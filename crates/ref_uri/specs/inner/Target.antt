@@ -1,0 +1,107 @@
+-- The components of what is written, which are parts of other texts.
+use Rattle.std.specs.Prelude.{◌≡◌, ◌≢◌, ℕ, true, ⊤, ◌||◌, List, ◌∷◌, ◌++◌, length, codes, Option, Some, None, is_some, option_map, option_copied, ◌==◌, if◌then◌else◌, slice_index}
+use Rattle.ref_uri.specs.declared.lengths.Lengths.{Lengths}
+use Rattle.ref_uri.specs.declared.lengths.Parts.{Parts}
+use Rattle.ref_uri.specs.declared.target.PathOf.{PathOf}
+use Rattle.ref_uri.specs.declared.target.PathOf.TheVariants.{Kept, OfBase, Removed, Merged}
+use Rattle.ref_uri.specs.declared.target.Target.{Target}
+use Rattle.ref_uri.specs.declared.written.Form.{Form}
+use Rattle.ref_uri.specs.declared.written.Form.TheVariants.{Given, Normal, NormalTarget}
+use Rattle.ref_uri.specs.Authority.{is_authority}
+use Rattle.ref_uri.specs.Components.{Components, if_there, is_scheme, is_path, is_query}
+use Rattle.ref_uri.specs.DotSegments.{remove_dot_segments}
+use Rattle.ref_uri.specs.inner.Lengths.{the_lengths}
+use Rattle.ref_uri.specs.Normal.{guarded, normal_text}
+use Rattle.ref_uri.specs.Resolution.{merged, target_components}
+use Rattle.ref_uri.specs.inner.Written.{written, written_scheme, written_authority}
+
+-- a path as it is given
+abbrev pub given_path : PathOf → List ℕ
+given_path (Kept path) = path.now
+given_path (OfBase path) = path.now
+given_path (Removed path) = remove_dot_segments path.now
+given_path (Merged directory path) = remove_dot_segments (directory.now ++ 47 ∷ path.now)
+
+-- a path in normal form
+abbrev pub normal_path_of : PathOf → List ℕ
+normal_path_of (Kept path) = normal_text path.now
+normal_path_of (OfBase path) = remove_dot_segments (normal_text path.now)
+normal_path_of (Removed path) = remove_dot_segments (normal_text path.now)
+normal_path_of (Merged directory path) = remove_dot_segments (normal_text (directory.now ++ 47 ∷ path.now))
+
+-- A path as it is written: a target's loses its dot segments as it is given, and then those that it has in normal form.
+abbrev pub written_path : Form → PathOf → List ℕ
+written_path Given path = given_path path
+written_path Normal path = normal_path_of path
+written_path NormalTarget path = remove_dot_segments (normal_text (given_path path))
+
+-- the components as they are written
+abbrev pub written_components : Form → Target → Components
+written_components form target =
+    record {
+      scheme = option_map (written_scheme form) (option_copied target.scheme);
+      authority = option_map (written_authority form) (option_copied target.authority);
+      path = guarded (option_copied target.authority) (written_path form target.path);
+      query = option_map (written form) (option_copied target.query);
+      fragment = option_map (written form) (option_copied target.fragment);
+    }
+
+-- their lengths
+abbrev pub lengths_of_components : Components → Lengths
+lengths_of_components c = the_lengths (option_map length c.scheme) (option_map length c.authority) (length c.path) (option_map length c.query)
+
+-- the path's parts are paths
+abbrev pub AreParts : PathOf → Type 0
+AreParts (Kept path) = is_path path.now ≡ true
+AreParts (OfBase path) = is_path path.now ≡ true
+AreParts (Removed path) = is_path path.now ≡ true
+AreParts (Merged directory path) = (is_path directory.now ≡ true) × (is_path path.now ≡ true)
+
+-- no triple of `.` stands in the text (2.1)
+abbrev pub LacksEncodedDot : List ℕ → Type 0
+LacksEncodedDot text = (before after : List ℕ) → (text ≢ before ++ (codes "%2e" ++ after)) × (text ≢ before ++ (codes "%2E" ++ after))
+
+-- The path in normal form is the same, be its dot segments removed before triples are decoded and after, or after alone.
+abbrev pub LosesSameDots : PathOf → Type 0
+LosesSameDots (Kept path) = ⊥
+LosesSameDots (OfBase path) = ⊤
+LosesSameDots (Removed path) = LacksEncodedDot path.now
+LosesSameDots (Merged directory path) = LacksEncodedDot directory.now × LacksEncodedDot path.now
+
+-- each part holds what it may
+pub record IsTarget (target : Target) : Type 0 where
+  pub scheme_test : if_there is_scheme (option_copied target.scheme) ≡ true
+  pub authority_test : if_there is_authority (option_copied target.authority) ≡ true
+  pub path_test : AreParts target.path
+  pub query_test : if_there is_query (option_copied target.query) ≡ true
+  pub fragment_test : if_there is_query (option_copied target.fragment) ≡ true
+
+-- the components that stand in a text
+abbrev pub components_of : Parts → Components
+components_of parts =
+    record {
+      scheme = option_copied parts.scheme;
+      authority = option_copied parts.authority;
+      path = parts.path.now;
+      query = option_copied parts.query;
+      fragment = option_copied parts.fragment;
+    }
+
+-- a path, or a directory, a slash and the path
+abbrev pub behind_directory : Option (List ℕ) → List ℕ → List ℕ
+behind_directory None path = path
+behind_directory (Some directory) path = directory ++ 47 ∷ path
+
+-- a path behind the base's, unless it begins with `/` (5.2.2)
+abbrev pub path_behind : Components → List ℕ → List ℕ
+path_behind base path = if slice_index path 0 == 47 then path else merged base path
+
+-- a target's path with its dot segments: the reference's, the base's where there is none, or the one behind the other (5.2.2)
+abbrev pub path_with_dots : Components → Components → List ℕ
+path_with_dots base reference =
+    if is_some reference.scheme || is_some reference.authority then reference.path
+    else (if length reference.path == 0 then base.path else path_behind base reference.path)
+
+-- the target before the removal of its path's dot segments
+unfoldable pub target_with_dots : Components → Components → Components
+target_with_dots base reference = record (target_components base reference) { path = path_with_dots base reference }
