@@ -8,7 +8,7 @@ use Rattle.ref_uri.specs.declared.error.UriFault.TheVariants.{Invalid, Memory}
 use Rattle.referencing.specs.World.{Layer}
 use Rattle.referencing.specs.Places.{Place}
 use Rattle.referencing.specs.Anchors.{Named}
-use Rattle.referencing.specs.Wants.{Want, Reference, MetaSchema, wanted, refused, reference_at, schema_at, wants_at, faults_at}
+use Rattle.referencing.specs.Wants.{Want, Reference, MetaSchema, wanted, refusals_of, reference_at, schema_at, wants_at, faults_at}
 use Rattle.ref_index.specs.declared.found.Found.{Found}
 use Rattle.ref_index.specs.Found.{Holds}
 use Rattle.ref_index.specs.Visits.{IsFirstFault}
@@ -28,12 +28,12 @@ holds_same layer f rs rs' ns ns' ws ws' a b c held =
 -- ---- the first fault of a place
 
 pub first_of_base : (base : Result (List ℕ) Refusal) (value : Data) (fault : UriFault) → IsFaultOf base fault → IsFirstFault (faults_at base value) fault
-first_of_base base value (Invalid error) (refusal, is, says) = (refusal, refused (schema_at value), ap (λ b. faults_at b value) is, says)
+first_of_base base value (Invalid error) (refusal, is, says) = (refusal, refusals_of (schema_at value), ap (λ b. faults_at b value) is, says)
 first_of_base base value (Memory error) is = tt
 
-pub first_of_reference : (base : Result (List ℕ) Refusal) (uri : List ℕ) (value : Data) (fault : UriFault) → base ≡ Ok uri → IsFirstFault (refused (reference_at uri value)) fault → IsFirstFault (faults_at base value) fault
+pub first_of_reference : (base : Result (List ℕ) Refusal) (uri : List ℕ) (value : Data) (fault : UriFault) → base ≡ Ok uri → IsFirstFault (refusals_of (reference_at uri value)) fault → IsFirstFault (faults_at base value) fault
 first_of_reference base uri value (Invalid error) based (refusal, more, is, says) =
-    (refusal, more ++ refused (schema_at value), ap (λ b. faults_at b value) based ∙ ap (λ l. l ++ refused (schema_at value)) is, says)
+    (refusal, more ++ refusals_of (schema_at value), ap (λ b. faults_at b value) based ∙ ap (λ l. l ++ refusals_of (schema_at value)) is, says)
 first_of_reference base uri value (Memory error) based is = tt
 
 -- ---- what a place wants, where its base is known

@@ -1,22 +1,28 @@
 -- What one visited place adds, for private clauses.
-use Rattle.std.specs.Prelude.{◌≡◌, ℕ, List, [], ◌∷◌, ◌++◌, ◌≤◌, map, flat_map, take, drop, length, ⊤, slice_get, Option, Some, None}
+use Rattle.std.specs.Prelude.{◌≡◌, ℕ, List, [], ◌∷◌, ◌++◌, ◌≤◌, map, flat_map, take, drop, length, ⊤, slice_get, Option, Some, None, Result, Ok}
 use Rattle.serde_json.specs.View.{view}
 use Rattle.std.specs.List.{AllByRecursion}
 use Rattle.ref_parts.specs.Path.{value_at}
-use Rattle.ref_uri.specs.Targets.{Refusal}
+use Rattle.ref_uri.specs.Reference.{with_fragment}
+use Rattle.ref_uri.specs.Targets.{Refusal, parsed}
+use Rattle.referencing.specs.Results.{◌>>=◌}
 use Rattle.ref_uri.specs.Errors.{SaysRefusal}
 use Rattle.ref_uri.specs.declared.error.UriFault.{UriFault}
 use Rattle.ref_uri.specs.declared.error.UriFault.TheVariants.{Invalid, Memory}
 use Rattle.referencing.specs.World.{Document, Layer}
 use Rattle.referencing.specs.Places.{Place, root, children_of}
 use Rattle.referencing.specs.Resources.{resource_of}
-use Rattle.referencing.specs.Anchors.{Named, named_under, named_by}
+use Rattle.referencing.specs.Anchors.{Named, named_under, named_at}
 use Rattle.referencing.specs.Wants.{Want, wants_at, faults_at}
 use Rattle.ref_draft.specs.Children.{AllStand, walked}
 use Rattle.ref_index.specs.declared.found.Found.{Found}
 use Rattle.ref_index.specs.declared.queue.Visit.{Visit}
 use Rattle.ref_index.specs.Found.{Holds}
 use Rattle.ref_index.specs.Queue.{place_of, IsQueue}
+
+-- the URI that a text names a meta-schema by: its fragment takes no part
+abbrev pub meta_schema_uri : List ℕ → Result (List ℕ) Refusal
+meta_schema_uri text = parsed text >>= λ uri. Ok (with_fragment uri None)
 
 -- the first of these faults, or want of memory
 abbrev pub IsFirstFault : List Refusal → UriFault → Type 0
@@ -45,7 +51,7 @@ names_under (Some uri) p = named_under uri p
 
 -- the names of a place, those under a URI of its document first
 abbrev pub names_at : Option (List ℕ) → Place → List Named
-names_at under p = names_under under p ++ named_by p p.base
+names_at under p = names_under under p ++ named_at p
 
 -- the faults of a place
 abbrev pub faults_of : Place → List Refusal
@@ -57,7 +63,7 @@ wants_of p = wants_at p.base p.value
 
 -- its names under its base
 abbrev pub names_of : Place → List Named
-names_of p = named_by p p.base
+names_of p = named_at p
 
 -- A place was visited: what it is identified by, is named and wants was added, it has no fault, and its children came to the queue.
 pub record IsVisited (number : ℕ) (under : Option (List ℕ)) (v : Visit) (old new : Found) (queue after : List Visit) : Type 0 where

@@ -6,19 +6,18 @@ ghost use Rattle.ref_draft.specs.Schema.{identifier, text_under};
 ghost use Rattle.ref_draft.specs.Views.{resource_ref, tagged};
 ghost use Rattle.ref_draft.specs.Anchors.{anchors};
 ghost use Rattle.ref_draft.specs.Children.{AllStand, walked};
-ghost use Rattle.ref_uri.specs.Targets.{parsed};
 ghost use Rattle.ref_uri.specs.Errors.{IsFaultOf};
 ghost use Rattle.referencing.specs.World.{Layer};
 ghost use Rattle.referencing.specs.Places.{Place, base_within, child_place, root, places};
 ghost use Rattle.referencing.specs.Resources.{resource_of};
-ghost use Rattle.referencing.specs.Anchors.{Named, named_by};
-ghost use Rattle.referencing.specs.Wants.{Want as Wanted, Reference, MetaSchema, reference_at, schema_at, wanted, refused, wants_at, faults_at, without_fragment};
+ghost use Rattle.referencing.specs.Anchors.{Named, named_at};
+ghost use Rattle.referencing.specs.Wants.{Want as Wanted, Reference, MetaSchema, reference_at, schema_at, wanted, refusals_of, wants_at, faults_at};
 ghost use Rattle.ref_index.specs.Contents.{tree_of};
 ghost use Rattle.ref_index.specs.Found.{Holds, IsEntryOf};
 ghost use Rattle.ref_index.specs.Queue.{place_of};
 ghost use Rattle.ref_index.specs.declared.queue.Visit.{Visit};
 ghost use Rattle.ref_index.specs.Document.{document_of};
-ghost use Rattle.ref_index.specs.Visits.{IsFirstFault, StandsIn, IsVisited, IsWalked, faults_of, under_document, names_under, resources_at, names_at};
+ghost use Rattle.ref_index.specs.Visits.{meta_schema_uri, IsFirstFault, StandsIn, IsVisited, IsWalked, faults_of, under_document, names_under, resources_at, names_at};
 
 use crate::document::Document;
 use crate::entry::Entry;
@@ -110,7 +109,7 @@ fn add_by_base(
     ensures { (layer : Layer) (rs : List (List ℕ × Place)) (ns : List Named) (ws : List Wanted) (p : Place)
         → Holds layer found.old rs ns ws → IsEntryOf layer entry.now.value p → resource_ref resource.entry ≡ tagged p.draft p.value
         → p.base ≡ Ok base.now.value
-        → OnOk result (Holds layer found.new (rs ++ resource_of p) (ns ++ named_by p p.base) ws) }
+        → OnOk result (Holds layer found.new (rs ++ resource_of p) (ns ++ named_at p) ws) }
 {
     if resource.id().is_some() {
         found.add_resource(alloc, base.as_str(), entry)?;
@@ -151,8 +150,8 @@ fn add_reference(
     ensures added { (layer : Layer) (rs : List (List ℕ × Place)) (ns : List Named) (ws : List Wanted)
         → Holds layer found.old rs ns ws
         → OnOk result (Holds layer found.new rs ns (ws ++ wanted Reference (reference_at base.now.value (view value.now)))) }
-    ensures faultless { OnOk result (refused (reference_at base.now.value (view value.now)) ≡ []) }
-    ensures fault { IfErr result (IsFirstFault (refused (reference_at base.now.value (view value.now)))) }
+    ensures faultless { OnOk result (refusals_of (reference_at base.now.value (view value.now)) ≡ []) }
+    ensures fault { IfErr result (IsFirstFault (refusals_of (reference_at base.now.value (view value.now)))) }
 {
     let Some(reference) = value.get("$ref").and_then(Value::as_str) else {
         return Ok(());
@@ -164,8 +163,8 @@ fn add_reference(
 
 // The URI that a text names a meta-schema by, without its fragment.
 fn schema_uri(alloc: Global, text: &str) -> Result<Rc<Uri>, UriFault>
-    ensures ok { IfOk result (λ uri. without_fragment (parsed text.now) ≡ Ok uri.value) }
-    ensures fault { IfErr result (IsFaultOf (without_fragment (parsed text.now))) }
+    ensures ok { IfOk result (λ uri. meta_schema_uri text.now ≡ Ok uri.value) }
+    ensures fault { IfErr result (IsFaultOf (meta_schema_uri text.now)) }
 {
     let mut uri = from_str(alloc, text)?;
     if let Err(error) = uri.set_fragment(None) {
@@ -179,8 +178,8 @@ fn add_meta_schema(alloc: Global, found: &mut Found, value: &Value) -> Result<()
     ensures added { (layer : Layer) (rs : List (List ℕ × Place)) (ns : List Named) (ws : List Wanted)
         → Holds layer found.old rs ns ws
         → OnOk result (Holds layer found.new rs ns (ws ++ wanted MetaSchema (schema_at (view value.now)))) }
-    ensures faultless { OnOk result (refused (schema_at (view value.now)) ≡ []) }
-    ensures fault { IfErr result (IsFirstFault (refused (schema_at (view value.now)))) }
+    ensures faultless { OnOk result (refusals_of (schema_at (view value.now)) ≡ []) }
+    ensures fault { IfErr result (IsFirstFault (refusals_of (schema_at (view value.now)))) }
 {
     let Some(text) = value.get("$schema").and_then(Value::as_str) else {
         return Ok(());
