@@ -9,3 +9,4 @@ mod Requests
 mod Steps
 mod Floats
 mod Reports
+pub mod ReadsAgain

@@ -12,7 +12,7 @@ use Rattle.refwalk.specs.Registry.{prepared}
 use Rattle.refwalk.specs.declared.report.Report.{Report}
 use Rattle.refwalk.specs.declared.run.RunError.{RunError}
 use Rattle.refwalk.specs.declared.run.RunError.TheVariants.{NotYet}
-use Rattle.std.specs.Io.KnownBytes.{Appends}
+use Rattle.std.specs.Io.KnownBytes.{Appends, Consumes}
 use Rattle.refwalk.specs.declared.report.Status.{Status}
 use Rattle.refwalk.specs.Report as spec
 use Rattle.refwalk.specs.Run.{AnswersBytes, Reports}
@@ -51,10 +51,10 @@ unfolding is_answered report
 answer-report bytes r h = h
 
 -- a status that was answered, with what was written for it
-pub reports-by : (bytes : List ℕ) (r : Report) (given given' taken taken' : Option (List ℕ)) (ended : Type 0) (result : Result Status RunError) → ended → Appends given given' bytes → AnswersBytes bytes (Ok r)
-    → IfOk result (λ status. status ≡ r.status) → OnOk result (Appends taken taken' (string_bytes r.text)) → IfOk result (λ status. ended × Reports given given' taken taken' status)
-reports-by bytes r given given' taken taken' ended (Err e) end gave answer status took = tt
-reports-by bytes r given given' taken taken' ended (Ok s) end gave answer status took =
+pub reports-by : (bytes : List ℕ) (r : Report) (left left' taken taken' : Option (List ℕ)) (ended : Type 0) (result : Result Status RunError) → ended → Consumes left left' bytes → AnswersBytes bytes (Ok r)
+    → IfOk result (λ status. status ≡ r.status) → OnOk result (Appends taken taken' (string_bytes r.text)) → IfOk result (λ status. ended × Reports left left' taken taken' status)
+reports-by bytes r left left' taken taken' ended (Err e) end gave answer status took = tt
+reports-by bytes r left left' taken taken' ended (Ok s) end gave answer status took =
     let is = answer-report bytes r answer in (
       end,
       (

@@ -1,11 +1,11 @@
 -- A source over memory, as its place in the bytes tells it.
-use Rattle.std.specs.Prelude.{ℕ, Bool, List, Option, Some, length, take, ◌==◌}
+use Rattle.std.specs.Prelude.{ℕ, Bool, List, Option, Some, length, drop, ◌==◌}
 use Rattle.refwalk.specs.declared.source.MemorySource.{MemorySource}
 
--- the bytes given so far
-abbrev pub told : MemorySource → Option (List ℕ)
-told s = Some (take s.position s.bytes.now)
+-- the bytes that reads will give
+abbrev pub left : MemorySource → Option (List ℕ)
+left s = Some (drop s.position s.bytes.now)
 
--- all bytes were given
+-- none is left
 abbrev pub is_at_end : MemorySource → Bool
 is_at_end s = s.position == length s.bytes.now

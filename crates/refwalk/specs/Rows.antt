@@ -9,7 +9,10 @@ use Rattle.refwalk.specs.Pointer.{index_of, parts, step_into}
 use Rattle.refwalk.specs.Registry.{added, means}
 use Rattle.refwalk.specs.Report.{draft_name}
 use Rattle.refwalk.specs.Request.{draft_named, Lookup, Recursive, Enter}
+use Rattle.refwalk.specs.Run.{exit_status}
 use Rattle.refwalk.specs.Served.{is_served_step}
+use Rattle.refwalk.specs.declared.report.Status.TheVariants.{Done, Fault, BadRequest}
+use Rattle.refwalk.specs.declared.run.RunError.TheVariants.{Read, Write, Memory, NotYet}
 
 -- a leading 0 and a `+` are taken, a minus and a space are not, and a number past 64 bits is no index
 abbrev pub IndexRows : Type 0
@@ -63,3 +66,9 @@ DraftRows =
     (draft_named (draft_name Draft4) ≡ Some Draft4) × (draft_named (draft_name Draft6) ≡ Some Draft6) × (draft_named (draft_name Draft7) ≡ Some Draft7)
     × (draft_named (draft_name Draft201909) ≡ Some Draft201909) × (draft_named (draft_name Draft202012) ≡ Some Draft202012)
     × (draft_named (draft_name Unknown) ≡ None) × (draft_named (codes "5") ≡ None) × (draft_named [] ≡ None)
+
+-- the exit status of each status, and of each run without one
+abbrev pub ExitRows : Type 0
+ExitRows =
+    (exit_status (Ok Done) ≡ 0) × (exit_status (Ok Fault) ≡ 1) × (exit_status (Ok BadRequest) ≡ 2)
+    × (exit_status (Err Read) ≡ 3) × (exit_status (Err Write) ≡ 3) × (exit_status (Err Memory) ≡ 3) × (exit_status (Err NotYet) ≡ 3)

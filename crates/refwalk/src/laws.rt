@@ -1,5 +1,5 @@
 //! Rows of the definitions, as contracts of functions that do nothing.
-ghost use Rattle.refwalk.specs.Rows.{IndexRows, PartsRows, StepRows, ServedRows, FaultRows, MeansRows, ScopeRows, DraftRows};
+ghost use Rattle.refwalk.specs.Rows.{IndexRows, PartsRows, StepRows, ServedRows, FaultRows, MeansRows, ScopeRows, DraftRows, ExitRows};
 
 /// The parts of a pointer that are indexes of an array.
 pub fn index_rows()
@@ -39,4 +39,9 @@ pub fn scope_rows()
 /// The names of drafts.
 pub fn draft_rows()
     ensures rows { DraftRows }
+{}
+
+/// The program's exit status, of each status and of each run without one.
+pub fn exit_rows()
+    ensures rows { ExitRows }
 {}

@@ -21,22 +21,17 @@ mod stop;
 mod tests;
 mod uri;
 
-use run::run;
-use sink::StandardOutput;
-use source::StandardInput;
+use run::{exit_status, run};
+use sink::Output;
+use source::Input;
 use std::process::ExitCode;
 
-// The exit status where there is no report.
-const NO_REPORT: u8 = 3;
-
 fn main(rt: HostRuntime) -> ExitCode {
-    let mut reader = StandardInput::new(rt.stdin());
-    let mut writer = StandardOutput::new(rt.stdout());
-    match run(rt.alloc(), &mut reader, &mut writer) {
-        Ok(status) => ExitCode::from(status as u8),
-        Err(error) => {
-            let _ = eprintln!(rt; "refwalk: {error}");
-            ExitCode::from(NO_REPORT)
-        }
+    let mut reader = Input::new(rt.stdin());
+    let mut writer = Output::new(rt.stdout());
+    let answer = run(rt.alloc(), &mut reader, &mut writer);
+    if let Err(error) = &answer {
+        let _ = eprintln!(rt; "refwalk: {error}");
     }
+    ExitCode::from(exit_status(&answer))
 }

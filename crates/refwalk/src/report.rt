@@ -16,15 +16,15 @@ use ref_uri::Uri;
 use serde_json::Value;
 use std::alloc::{AllocError, Global};
 
-/// How a run ended. Its number is the program's exit status.
+/// How a run ended.
 #[derive(Clone, Copy, Debug, Drop, PartialEq, Eq)]
 pub enum Status {
     /// The report has no fault.
-    Done = 0,
+    Done,
     /// Documents can't be prepared, or a step can't be followed.
-    Fault = 1,
+    Fault,
     /// The request is bad.
-    BadRequest = 2,
+    BadRequest,
 }
 
 /// The lines that a run writes, and how it ended.

@@ -1,9 +1,9 @@
 //! One request from its bytes to its report.
 ghost use Rattle.std.specs.Prelude.{◌≡◌, ◌++◌, ◌<◌, Some, Ok, Err, IfOk, IfSome, OnOk, IfErr, option_map, ◌⊎◌, ◌≢◌, map, IsTrue, true, false, string_bytes};
-ghost use Rattle.std.specs.Io.KnownBytes.{Appends, Keeps};
+ghost use Rattle.std.specs.Io.KnownBytes.{Appends, Consumes};
 ghost use Rattle.serde_json.specs.View.{view};
 ghost use Rattle.refwalk.specs.Bytes.{HasFailed, counted};
-ghost use Rattle.refwalk.specs.Run.{AnswersBytes, AnswersRequest, Reports, IsUnanswered};
+ghost use Rattle.refwalk.specs.Run.{AnswersBytes, AnswersRequest, Reports, IsUnanswered, exit_status};
 ghost use Rattle.refwalk.specs.Floats.{HasNoFloat};
 ghost use Rattle.refwalk.specs.Follow.{followed};
 ghost use Rattle.refwalk.specs.Report as report;
@@ -68,10 +68,11 @@ impl fmt::Display for RunError {
 
 // Reads to the end. Each read before it lengthens the vector.
 fn read_to_end<R: Source>(alloc: Global, reader: &mut R) -> Result<Vec<u8>, RunError>
-    ensures bytes { IfOk result (λ v. Appends (R.given reader.old) (R.given reader.new) v.items) }
+    ensures bytes { IfOk result (λ v. Consumes (R.remaining reader.old) (R.remaining reader.new) v.items) }
     ensures end { OnOk result (IsTrue (R.ended reader.new)) }
     ensures error { IfErr result (λ e. (e ≡ RunError.Read) ⊎ (e ≡ RunError.Memory)) }
     ensures read { result ≡ Err RunError.Read → HasFailed (R.failures reader.old) (R.failures reader.new) }
+    ensures no_read_failed { result ≢ Err RunError.Read → R.failures reader.new ≡ R.failures reader.old }
 {
     let mut bytes = Vec::new(alloc);
     let mut buffer = [0u8; CHUNK];
@@ -104,7 +105,7 @@ fn tree_of(alloc: Global, bytes: &[u8]) -> Result<Option<Value>, AllocError>
 
 /// Reads one request to the end, makes its whole report, and writes it. The status is that of the report.
 ///
-/// `Read` only where a read failed, `Write` only where a write did, `NotYet` only where no report answers what was read,
+/// `Read` exactly where a read failed, `Write` only where a write did, `NotYet` only where no report answers what was read,
 /// `Memory` where a growth is refused. Where it answers neither a status nor `Write`, nothing was written; of what a failed
 /// write left nothing is said.
 ///
@@ -119,12 +120,13 @@ pub fn run<R: Source, W: Sink>(
     // Where there is a status, the source is at its end, what was written is the report of all that was read, and the
     // status is that of the report.
     ensures reported { IfOk result (λ status. IsTrue (R.ended reader.new)
-        × Reports (R.given reader.old) (R.given reader.new) (W.taken writer.old) (W.taken writer.new) status) }
+        × Reports (R.remaining reader.old) (R.remaining reader.new) (W.taken writer.old) (W.taken writer.new) status) }
     // "Not yet" comes only where no report answers what was read.
     ensures not_yet { result ≡ Err RunError.NotYet → IsTrue (R.ended reader.new)
-        × IsUnanswered (R.given reader.old) (R.given reader.new) }
-    // A read that failed, and a write that failed.
+        × IsUnanswered (R.remaining reader.old) (R.remaining reader.new) }
+    // A read that failed, and a write that failed: a failed read is never passed over.
     ensures read { result ≡ Err RunError.Read → HasFailed (R.failures reader.old) (R.failures reader.new) }
+    ensures no_read_failed { result ≢ Err RunError.Read → R.failures reader.new ≡ R.failures reader.old }
     ensures write { result ≡ Err RunError.Write → HasFailed (W.failures writer.old) (W.failures writer.new) }
     // Without a status and without a failed write nothing was written.
     ensures nothing_written { IfErr result (λ e. e ≢ RunError.Write → writer.new ≡ writer.old) }
@@ -146,6 +148,19 @@ fn write_report<W: Sink>(writer: &mut W, report: &Report) -> Result<Status, RunE
     match writer.write_all(report.text.as_bytes()) {
         Ok(()) => Ok(report.status),
         Err(_) => Err(RunError::Write),
+    }
+}
+
+/// The program's exit status: 0 for a report without fault, 1 for one with a fault, 2 for a bad request, and 3 where there is
+/// no report.
+pub fn exit_status(answer: &Result<Status, RunError>) -> u8
+    ensures value { result ≡ exit_status answer.now }
+{
+    match answer {
+        Ok(Status::Done) => 0,
+        Ok(Status::Fault) => 1,
+        Ok(Status::BadRequest) => 2,
+        Err(_) => 3,
     }
 }
 

@@ -5,7 +5,7 @@ ghost use Rattle.refwalk.specs.Bytes.{counted};
 
 use crate::source::Failed;
 use std::alloc::Global;
-use std::io::{Stdout, Write};
+use std::io::Write;
 
 /// What bytes are written to.
 pub trait Sink {
@@ -63,32 +63,33 @@ impl Sink for MemorySink {
     }
 }
 
-/// Standard output.
+/// The bytes of a writer of the library's, as those of standard output: it tells what was taken where the writer does.
 #[derive(Drop)]
-pub struct StandardOutput {
-    stdout: Stdout,
+pub struct Output<W: Drop> {
+    pub writer: W,
     pub failures: u64,
 }
 
-impl StandardOutput {
-    /// Standard output, of which no write has failed.
-    pub fn new(stdout: Stdout) -> StandardOutput
+impl<W: Drop> Output<W> {
+    /// The writer, of which no write has failed.
+    pub fn new(writer: W) -> Output<W>
+        ensures writer { result.writer ≡ writer }
         ensures count { result.failures ≡ 0 }
     {
-        StandardOutput {
-            stdout,
+        Output {
+            writer,
             failures: 0,
         }
     }
 }
 
-impl Sink for StandardOutput {
-    ghost taken = { λ _. None };
+impl<W: Write + Drop> Sink for Output<W> {
+    ghost taken = { λ s. W.contents s.writer };
 
     ghost failures = { λ s. s.failures };
 
     fn write_all(&mut self, bytes: &[u8]) -> Result<(), Failed> {
-        if self.stdout.write_all(bytes).is_ok() && self.stdout.flush().is_ok() {
+        if self.writer.write_all(bytes).is_ok() && self.writer.flush().is_ok() {
             return Ok(());
         }
         self.failures = self.failures.saturating_add(1);

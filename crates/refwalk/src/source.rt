@@ -1,9 +1,10 @@
 //! Where a request's bytes come from.
-ghost use Rattle.std.specs.Prelude.{◌≡◌, false, ◌+◌, ◌<◌, ◌≤◌, ℕ, List, Option, Some, None, Bool, IfOk, IsOk, IsTrue, length, take};
-ghost use Rattle.refwalk.specs.Bytes.{counted, Gives};
+ghost use Rattle.std.specs.Prelude.{◌≡◌, false, ◌<◌, ◌≤◌, ℕ, List, Option, Bool, IfOk, IsOk, IsTrue, length};
+ghost use Rattle.std.specs.Io.KnownBytes.{ReadConsumes};
+ghost use Rattle.refwalk.specs.Bytes.{counted};
 
 use std::io;
-use std::io::{ErrorKind, Read, Stdin};
+use std::io::{ErrorKind, Read};
 
 /// A read or a write that failed.
 #[derive(Clone, Copy, Debug, Drop, PartialEq, Eq)]
@@ -11,8 +12,8 @@ pub struct Failed;
 
 /// What bytes are read from.
 pub trait Source {
-    // The bytes given so far, where they are told.
-    ghost given: { Self → Option (List ℕ) };
+    // The bytes that reads will give from here on, where they are told.
+    ghost remaining: { Self → Option (List ℕ) };
 
     // Whether the end was reached.
     ghost ended: { Self → Bool };
@@ -24,7 +25,7 @@ pub trait Source {
     /// the end alone. A read that fails gives no bytes.
     fn read(&mut self, buffer: &mut [u8]) -> Result<usize, Failed>
         ensures within { IfOk result (λ n. n ≤ length buffer.new) }
-        ensures bytes { Gives (given self.old) (given self.new) result buffer.new }
+        ensures bytes { ReadConsumes (remaining self.old) (remaining self.new) result buffer.new }
         ensures end { result ≡ Ok 0 → 0 < length buffer.new → IsTrue (ended self.new) }
         ensures count { failures self.new ≡ counted result (failures self.old) };
 }
@@ -48,11 +49,12 @@ impl<'a> MemorySource<'a> {
 }
 
 impl Source for MemorySource<'_> {
-    ghost use Rattle.std.specs.Prelude.{◌≡◌, ◌<◌, ◌≤◌, ◌==◌, Some, IfOk, IsOk, IsTrue, length, take};
-    ghost use Rattle.refwalk.specs.Bytes.{counted, Gives};
-    ghost use Rattle.refwalk.specs.Memory.{told, is_at_end};
+    ghost use Rattle.std.specs.Prelude.{◌≡◌, ◌<◌, ◌≤◌, IfOk, IsOk, IsTrue, length};
+    ghost use Rattle.std.specs.Io.KnownBytes.{ReadConsumes};
+    ghost use Rattle.refwalk.specs.Bytes.{counted};
+    ghost use Rattle.refwalk.specs.Memory.{left, is_at_end};
 
-    ghost given = { told };
+    ghost remaining = { left };
 
     ghost ended = { is_at_end };
 
@@ -61,7 +63,7 @@ impl Source for MemorySource<'_> {
     fn read(&mut self, buffer: &mut [u8]) -> Result<usize, Failed>
         ensures succeeds { IsOk result }
         ensures within { IfOk result (λ n. n ≤ length buffer.new) }
-        ensures bytes { Gives (told self.old) (told self.new) result buffer.new }
+        ensures bytes { ReadConsumes (left self.old) (left self.new) result buffer.new }
         ensures end { result ≡ Ok 0 → 0 < length buffer.new → IsTrue (is_at_end self.new) }
         ensures count { 0 ≡ counted result 0 }
     {
@@ -73,37 +75,38 @@ impl Source for MemorySource<'_> {
     }
 }
 
-/// Standard input.
+/// The bytes of a reader of the library's, as those of standard input: it tells which bytes are left where the reader does.
 #[derive(Drop)]
-pub struct StandardInput {
-    stdin: Stdin,
+pub struct Input<R: Drop> {
+    reader: R,
     pub ended: bool,
     pub failures: u64,
 }
 
-impl StandardInput {
-    /// Standard input, of which no read has failed.
-    pub fn new(stdin: Stdin) -> StandardInput
+impl<R: Drop> Input<R> {
+    /// The reader, of which no read has failed.
+    pub fn new(reader: R) -> Input<R>
+        ensures reader { result.reader ≡ reader }
         ensures ended { result.ended ≡ false }
         ensures count { result.failures ≡ 0 }
     {
-        StandardInput {
-            stdin,
+        Input {
+            reader,
             ended: false,
             failures: 0,
         }
     }
 }
 
-impl Source for StandardInput {
-    ghost given = { λ _. None };
+impl<R: Read + Drop> Source for Input<R> {
+    ghost remaining = { λ s. R.remaining s.reader };
 
     ghost ended = { λ s. s.ended };
 
     ghost failures = { λ s. s.failures };
 
     fn read(&mut self, buffer: &mut [u8]) -> Result<usize, Failed> {
-        match read_uninterrupted(&mut self.stdin, buffer) {
+        match read_uninterrupted(&mut self.reader, buffer) {
             Ok(n) => {
                 self.ended = n == 0;
                 Ok(n)
@@ -117,11 +120,12 @@ impl Source for StandardInput {
 }
 
 // A read that a signal interrupted is made again.
-fn read_uninterrupted(stdin: &mut Stdin, buffer: &mut [u8]) -> io::Result<usize>
-    ensures { IfOk result (λ n. n ≤ length buffer.new) }
+fn read_uninterrupted<R: Read>(reader: &mut R, buffer: &mut [u8]) -> io::Result<usize>
+    ensures within { IfOk result (λ n. n ≤ length buffer.new) }
+    ensures bytes { ReadConsumes (R.remaining reader.old) (R.remaining reader.new) result buffer.new }
 {
     for _ in 0..u64::MAX {
-        match stdin.read(buffer) {
+        match reader.read(buffer) {
             Err(e) if e.kind() == ErrorKind::Interrupted => {}
             answer => return answer,
         }

@@ -4,8 +4,8 @@ ghost use Rattle.refwalk.specs.Memory.{is_at_end};
 
 use crate::report::Status;
 use crate::run::{RunError, run};
-use crate::sink::{MemorySink, Sink};
-use crate::source::{Failed, MemorySource, Source};
+use crate::sink::{MemorySink, Output, Sink};
+use crate::source::{Failed, Input, MemorySource, Source};
 use std::test::Fail;
 
 // A source that gives a byte at a time.
@@ -15,7 +15,7 @@ struct Slow<'a> {
 }
 
 impl Source for Slow<'_> {
-    ghost given = { λ _. None };
+    ghost remaining = { λ _. None };
 
     ghost ended = { λ s. is_at_end s.inner };
 
@@ -36,7 +36,7 @@ struct FailsAfter<'a> {
 }
 
 impl Source for FailsAfter<'_> {
-    ghost given = { λ _. None };
+    ghost remaining = { λ _. None };
 
     ghost ended = { λ s. is_at_end s.inner };
 
@@ -259,6 +259,18 @@ fn requests_have_their_reports(rt: HostRuntime) -> Result<(), Fail> {
         assert_eq!(rt; run(rt.alloc(), &mut reader, &mut writer), Ok(row.status));
         assert_eq!(rt; writer.bytes.as_slice(), row.report.as_bytes());
     }
+    Ok(())
+}
+
+#[test]
+fn readers_and_writers_carry_a_request(rt: HostRuntime) -> Result<(), Fail> {
+    let mut reader = Input::new(ROWS[0].request.as_bytes());
+    let mut writer = Output::new(Vec::new(rt.alloc()));
+    assert_eq!(rt;
+        run(rt.alloc(), &mut reader, &mut writer),
+        Ok(ROWS[0].status)
+    );
+    assert_eq!(rt; writer.writer.as_slice(), ROWS[0].report.as_bytes());
     Ok(())
 }
 

@@ -1,10 +1,10 @@
 use Rattle.std.proofs.Common.{◌≡◌, ◌-◌, length, vec_len}
-use Rattle.std.specs.Io.KnownBytes.{Appends}
+use Rattle.std.specs.Io.KnownBytes.{Consumes}
 use Rattle.refwalk.proofs.run.read_to_end.Given as goal
 
 abbrev pub invariant-loop-n : goal.invariant-loop-n
 invariant-loop-n g l =
-    Appends (g.R.Source.given l.initial.reader) (g.R.Source.given l.reader) l.bytes.items
+    Consumes (g.R.Source.remaining l.initial.reader) (g.R.Source.remaining l.reader) l.bytes.items
     × (g.R.Source.failures l.reader ≡ g.R.Source.failures l.initial.reader) × (length l.buffer ≡ 4096)
 
 abbrev pub decreases-loop-n : goal.decreases-loop-n

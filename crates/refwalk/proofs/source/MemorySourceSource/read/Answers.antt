@@ -1,13 +1,8 @@
-use Rattle.std.proofs.Common.{◌≡◌, ℕ, ◌+◌, ◌-◌, ◌≤◌, List, ◌++◌, length, take, drop, sym, ap, ◌∙◌, arith}
-use Rattle.std.proofs.lemmas.List.{take-append-drop, length-take-le, take-append-le, length-drop}
+use Rattle.std.proofs.Common.{◌≡◌, ℕ, ◌+◌, ◌-◌, List, ◌++◌, length, take, drop, sym, ap, ◌∙◌, arith}
+use Rattle.std.proofs.lemmas.List.{take-append-drop, take-append-le, length-drop, length-append, drop-drop, drop_all}
 use Rattle.std.proofs.lemmas.Grind.{common_steps}
-use Rattle.std.proofs.Math.Seq.{take-append-add, take-length}
+use Rattle.std.proofs.Math.Seq.{take-length}
 use Rattle.refwalk.proofs.source.MemorySourceSource.read.Goals as goal
-
-take-add : (p n : ℕ) (xs : List ℕ) → p ≤ length xs → take (p + n) xs ≡ take p xs ++ take n (drop p xs)
-take-add p n xs h =
-    let e : take (length (take p xs) + n) (take p xs ++ drop p xs) ≡ take p xs ++ take n (drop p xs) = take-append-add (take p xs) (drop p xs) n in
-    ap (λ ys. take (p + n) ys) (sym (take-append-drop p xs)) ∙ ap (λ k. take (k + n) (take p xs ++ drop p xs)) (sym (length-take-le p xs h)) ∙ e
 
 take-front : (n : ℕ) (ys zs : List ℕ) → length ys ≡ n → take n (ys ++ zs) ≡ ys
 take-front n ys zs h = take-append-le n ys zs (omega arith) ∙ ap (λ k. take k ys) (sym h) ∙ take-length ys
@@ -24,4 +19,7 @@ returns-clause-bytes c =
     let given : new ≡ take n (drop p xs) = c.copy_from_slice.ensures.after ∙ ap (λ ys. take n ys) (take-rest p xs) in
     let long : length new ≡ n = grind (arith, common_steps) in
     let front : take n (new ++ drop n c.args.buffer.now) ≡ take n (drop p xs) = take-front n new (drop n c.args.buffer.now) long ∙ given in
-    take-add p n xs c.args.self.now.within ∙ ap (λ ys. take p xs ++ ys) (sym front)
+    let split : drop p xs ≡ take n (drop p xs) ++ drop (p + n) xs = sym (take-append-drop n (drop p xs)) ∙ ap (λ ys. take n (drop p xs) ++ ys) (drop-drop n p xs) in (
+      split ∙ ap (λ ys. ys ++ drop (p + n) xs) (sym front),
+      λ none room. drop_all (p + n) xs (omega (arith, long, length-append new (drop n c.args.buffer.now), length-drop n c.args.buffer.now, length-drop p xs)),
+    )
