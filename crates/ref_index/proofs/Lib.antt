@@ -4,3 +4,4 @@ pub mod Holding
 pub mod Paths
 pub mod Visiting
 pub mod Walking
+pub mod Looking

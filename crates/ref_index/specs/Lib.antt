@@ -5,3 +5,4 @@ pub mod Document
 pub mod Found
 pub mod Queue
 pub mod Visits
+pub mod Index

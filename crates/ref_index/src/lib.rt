@@ -6,6 +6,7 @@
 pub mod document;
 pub mod entry;
 pub mod found;
+pub mod index;
 pub mod path;
 mod queue;
 pub mod reference;
@@ -14,4 +15,5 @@ pub mod walk;
 pub use document::{Contents, Document};
 pub use entry::{Entry, NamedEntry};
 pub use found::{Found, Want};
+pub use index::Index;
 pub use path::PathPart;

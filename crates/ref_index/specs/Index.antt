@@ -1,0 +1,34 @@
+-- That the tables of an index tell the places of its documents.
+use Rattle.std.specs.Prelude.{◌≡◌, ℕ, List, [], Option, Some}
+use Rattle.std.specs.List.{AllZip}
+use Rattle.std.specs.declared.alloc.Global.{Global}
+use Rattle.std.specs.declared.rc.Rc.{Rc}
+use Rattle.ref_parts.specs.Table as table
+use Rattle.referencing.specs.World.{Layer}
+use Rattle.referencing.specs.Places.{Place}
+use Rattle.referencing.specs.Resources.{resources}
+use Rattle.referencing.specs.Anchors.{Named, names}
+use Rattle.ref_index.specs.declared.entry.Entry.{Entry}
+use Rattle.ref_index.specs.declared.entry.NamedEntry.{NamedEntry}
+use Rattle.ref_index.specs.Found.{IsEntryOf, kind_of}
+
+-- an entry under a URI and the empty text is that of a resource
+abbrev pub IsResourceIn : Layer → table.Entry (Rc Entry Global) → List ℕ × Place → Type 0
+IsResourceIn layer e r = (e.0 ≡ r.0) × (e.1 ≡ []) × IsEntryOf layer e.2.value r.1
+
+-- an entry under a URI and a name is that of an anchor
+abbrev pub IsNameIn : Layer → table.Entry NamedEntry → Named → Type 0
+IsNameIn layer e n = (e.0 ≡ n.uri) × (e.1 ≡ n.name) × (kind_of e.2.is_dynamic ≡ n.kind) × IsEntryOf layer e.2.entry.value n.place
+
+-- the tables hold the resources and the names of the documents, in their order
+pub record IsIndexOf (layer : Layer) (by_uri : List (table.Entry (Rc Entry Global))) (by_name : List (table.Entry NamedEntry)) : Type 0 where
+  pub resource : AllZip (IsResourceIn layer) by_uri (resources layer)
+  pub name : AllZip (IsNameIn layer) by_name (names layer)
+
+-- an entry is that of the place that was found
+abbrev pub IsFoundAt : Layer → Entry → Option (List ℕ × Place) → Type 0
+IsFoundAt layer e found = (r : List ℕ × Place) × (found ≡ Some r) × IsEntryOf layer e r.1
+
+-- an entry is that of the name that was found
+abbrev pub IsNamedAt : Layer → NamedEntry → Option Named → Type 0
+IsNamedAt layer e found = (n : Named) × (found ≡ Some n) × (kind_of e.is_dynamic ≡ n.kind) × IsEntryOf layer e.entry.value n.place

@@ -1,0 +1,91 @@
+//! The documents of a registry with the index of their places.
+ghost use Rattle.std.specs.Prelude.{◌≡◌, ℕ, List, map, MatchOption, IfOk, option_map, Some, None};
+ghost use Rattle.serde_json.specs.View.{view};
+ghost use Rattle.referencing.specs.Places.{Place};
+ghost use Rattle.referencing.specs.Resources.{last_under, resources};
+ghost use Rattle.referencing.specs.Anchors.{last_named, names};
+ghost use Rattle.referencing.specs.Wants.{Want};
+ghost use Rattle.ref_index.specs.Document.{document_of};
+ghost use Rattle.ref_index.specs.Found.{Holds, IsEntryOf};
+ghost use Rattle.ref_index.specs.Index.{IsFoundAt, IsNamedAt};
+
+use crate::document::Document;
+use crate::entry::{Entry, NamedEntry};
+use crate::found::Found;
+use crate::path::value_at;
+use ref_parts::SortedTable;
+use serde_json::Value;
+use std::alloc::{AllocError, Global};
+use std::marker::Model;
+use std::rc::Rc;
+
+/// Documents, with a table of the URIs that identify their places, and one of the names that anchors give them. Contracts
+/// see the documents.
+#[derive(Drop)]
+pub struct Index<'a> {
+    documents: Vec<Document<'a>>,
+    by_uri: SortedTable<Rc<Entry>>,
+    by_name: SortedTable<NamedEntry>,
+}
+
+impl<'a> Model for Index<'a> {
+    ghost use Rattle.std.specs.Prelude.{List, map};
+    ghost use Rattle.referencing.specs.World.{Document as WorldDocument};
+    ghost use Rattle.ref_index.specs.Codes.{layer_code};
+
+    ghost Value = { List WorldDocument };
+
+    ghost coded = { layer_code };
+
+    ghost use Rattle.ref_index.specs.Document.{document_of};
+    ghost use Rattle.ref_index.specs.Index.{IsIndexOf};
+
+    ghost view = { λ i. map document_of i.documents.items };
+
+    ghost invariant = { λ i. IsIndexOf (map document_of i.documents.items) i.by_uri i.by_name };
+}
+
+impl<'a> Index<'a> {
+    /// The index of documents that were walked. Takes memory for the two tables, which are sorted once.
+    pub fn new(
+        alloc: Global,
+        documents: Vec<Document<'a>>,
+        found: Found,
+    ) -> Result<Index<'a>, AllocError>
+        requires { (wants : List Want) × Holds (map document_of documents.items) found (resources (map document_of documents.items)) (names (map document_of documents.items)) wants }
+        ensures value { IfOk result (λ index. index ≡ map document_of documents.entry.items) }
+    {
+        let by_uri = SortedTable::from_entries(alloc, found.resources)?;
+        let by_name = SortedTable::from_entries(alloc, found.names)?;
+        Ok(Index {
+            documents,
+            by_uri,
+            by_name,
+        })
+    }
+
+    /// The place that a URI means in these documents. A look-up; takes no memory.
+    pub fn resource(&self, uri: &str) -> Option<&Entry>
+        ensures value { MatchOption result (last_under uri.now (resources self.now) ≡ None)
+            (λ e. IsFoundAt self.now e.now (last_under uri.now (resources self.now))) }
+    {
+        let entry = self.by_uri.get(uri, "").0?;
+        Some(&**entry)
+    }
+
+    /// The place that an anchor names under a URI in these documents. A look-up; takes no memory.
+    pub fn named(&self, uri: &str, name: &str) -> Option<&NamedEntry>
+        ensures value { MatchOption result (last_named uri.now name.now (names self.now) ≡ None)
+            (λ e. IsNamedAt self.now e.now (last_named uri.now name.now (names self.now))) }
+    {
+        self.by_name.get(uri, name).0
+    }
+
+    /// The value of a place. A look-up for each part of its path; takes no memory.
+    pub fn value(&self, entry: &Entry) -> Option<&Value>
+        ensures value { (p : Place) → IsEntryOf self.now entry.now p → option_map (λ v. view v.now) result ≡ Some p.value }
+    {
+        let document = self.documents.get(entry.document)?;
+        value_at(document.contents.value(), entry.path.as_slice())
+    }
+}
