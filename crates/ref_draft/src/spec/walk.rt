@@ -6,7 +6,7 @@ ghost use Rattle.ref_draft.specs.Keywords.{holding};
 ghost use Rattle.ref_draft.specs.Children.{AllStand, InKeyOrder, walked, with_draft, held, elements_from, each_member, has_object};
 ghost use Rattle.ref_draft.specs.inner.WalkSteps.{AreFoundIn, FindsMembersWhere};
 ghost use Rattle.ref_draft.specs.inner.Added.{Adds};
-ghost use Rattle.ref_draft.specs.Views.{parts_of, walked_child};
+ghost use Rattle.ref_draft.specs.Views.{segment_parts, walked_child};
 
 use crate::draft::Draft;
 use crate::spec::Holding;
@@ -148,7 +148,7 @@ fn push_object<'a>(
     value: &'a Value,
 ) -> Result<(), AllocError>
     ensures { OnOk result
-        (Adds draft (filter has_object ((Key keyword.now ∷ parts_of segment.entry, view value.now) ∷ []))
+        (Adds draft (filter has_object ((Key keyword.now ∷ segment_parts segment.entry, view value.now) ∷ []))
         children.old.items children.new.items) }
 {
     if value.is_object() {
@@ -166,7 +166,7 @@ fn push<'a>(
     value: &'a Value,
 ) -> Result<(), AllocError>
     ensures { OnOk result
-        (Adds draft ((Key keyword.now ∷ parts_of segment.entry, view value.now) ∷ [])
+        (Adds draft ((Key keyword.now ∷ segment_parts segment.entry, view value.now) ∷ [])
         children.old.items children.new.items) }
 {
     let draft = draft.detect(value);

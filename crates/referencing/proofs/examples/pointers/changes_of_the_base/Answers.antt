@@ -1,5 +1,4 @@
-use Rattle.std.proofs.Common.{◌≡◌, ℕ, List, [], ◌∷◌, codes, None, Some, Ok, refl, sym, ap, ◌∙◌}
-use Rattle.serde_json.specs.Data.{Data}
+use Rattle.std.proofs.Common.{◌≡◌, List, [], ◌∷◌, codes, None, Some, refl}
 use Rattle.ref_parts.specs.Path.{Part, Key, Index, value_at}
 use Rattle.ref_draft.specs.declared.draft.Draft.TheVariants.{Draft7, Draft202012}
 use Rattle.ref_draft.proofs.Scanning.{accepted, refused}
