@@ -9,6 +9,7 @@ pub mod Scanning
 pub mod Depth
 pub mod Given
 pub mod Standing
+pub mod Order
 pub mod Unique
 pub mod Apart
 pub mod Agreement

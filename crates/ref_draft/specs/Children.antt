@@ -5,7 +5,10 @@ use Rattle.std.specs.Option.{option_map_or}
 use Rattle.serde_json.specs.Data.{Data, Items, no_items, item, Members, no_members, member}
 use Rattle.serde_json.specs.Find.{as_array, as_object}
 use Rattle.ref_parts.specs.Path.{Part, Key, Index, value_at}
+use Rattle.std.specs.Cmp.Lexicographic.{slice_cmp}
 use Rattle.std.specs.List.{AllByRecursion}
+use Rattle.std.specs.List.Sorted.{IsStrictlySortedBy}
+use Rattle.std.specs.Ordering.{nat_cmp}
 use Rattle.ref_draft.specs.declared.draft.Draft.{Draft}
 use Rattle.ref_draft.specs.declared.spec.Holding.{Holding}
 use Rattle.ref_draft.specs.declared.spec.Holding.TheVariants.{Whole, WholeObject, Elements, Members as EachMember, ElementsOrWhole, ObjectMembers, Nothing}
@@ -34,7 +37,7 @@ each_member keyword (member key d ms) = (Key keyword ∷ Key key ∷ [], d) ∷ 
 abbrev pub elements : List ℕ → Data → List Child
 elements keyword value = option_map_or (elements_from keyword 0) (as_array value) []
 
--- the members where the value is an object, in their order, which `serde_json` keeps by the bytes of the keys
+-- the members where the value is an object, in their order
 abbrev pub members : List ℕ → Data → List Child
 members keyword value = option_map_or (each_member keyword) (as_object value) []
 
@@ -56,15 +59,24 @@ held ElementsOrWhole keyword value = option_map_or (elements_from keyword 0) (as
 held ObjectMembers keyword value = filter has_object (members keyword value)
 held Nothing keyword value = []
 
--- the children under each of an object's keywords, in the order of the members, which `serde_json` keeps by the bytes of
--- the keys
+-- the children under each of an object's keywords, in the order of the members
 abbrev pub below : Draft → Members → List Child
 below d no_members = []
 below d (member keyword value ms) = held (holding d keyword) keyword value ++ below d ms
 
--- The children of a value: none where it is no object
+-- The children of a value, in the order of its members: none where it is no object. The members of a value of `serde_json`
+-- come in byte order of their keys (`InKeyOrder`), since its map keeps them so.
 abbrev pub children : Draft → Data → List Child
 children d value = option_map_or (below d) (as_object value) []
+
+-- the keys of members, in their order
+abbrev pub keys_of : Members → List (List ℕ)
+keys_of no_members = []
+keys_of (member key d ms) = key ∷ keys_of ms
+
+-- where a value is an object, its members come in byte order of their keys, each key once
+abbrev pub InKeyOrder : Data → Type 0
+InKeyOrder value = IsStrictlySortedBy (slice_cmp nat_cmp) (option_map_or keys_of (as_object value) [])
 
 -- a child with the draft that is detected on it
 pub record Walked : Type 0 where

@@ -74,13 +74,13 @@ part_of (segment.Key key) = path.Key (cow_str_bytes key)
 part_of (segment.Index i) = path.Index i
 
 -- the part of a child's segment, where it has one
-abbrev pub parts_of : Option JsonPointerSegment → List Part
-parts_of None = []
-parts_of (Some s) = pointer.part_of s ∷ []
+abbrev pub segment_parts : Option JsonPointerSegment → List Part
+segment_parts None = []
+segment_parts (Some s) = pointer.part_of s ∷ []
 
 -- a child of the walk: its path, value and draft
 abbrev pub walked_child : Child → Walked
-walked_child child = record { path = path.Key child.keyword.now ∷ parts_of child.segment; value = view child.value.now; draft = child.draft }
+walked_child child = record { path = path.Key child.keyword.now ∷ segment_parts child.segment; value = view child.value.now; draft = child.draft }
 
 -- of some values, those that are objects
 abbrev pub objects_of : List Value → List Data

@@ -1,9 +1,9 @@
 //! The versions of JSON Schema.
-ghost use Rattle.std.specs.Prelude.{◌≡◌, ◌↔◌, map, IfOk, IsTrue};
+ghost use Rattle.std.specs.Prelude.{◌≡◌, ◌↔◌, map, IfOk, OnOk, IsTrue};
 ghost use Rattle.serde_json.specs.View.{view};
 ghost use Rattle.ref_draft.specs.Keywords.{holding, id_keyword, is_known, is_before_2019};
 ghost use Rattle.ref_draft.specs.Schema.{from_schema_uri, draft_of_uri, detect, text_under};
-ghost use Rattle.ref_draft.specs.Children.{AllStand, subresources, walked};
+ghost use Rattle.ref_draft.specs.Children.{AllStand, InKeyOrder, subresources, walked};
 ghost use Rattle.ref_draft.specs.Anchors.{anchors};
 ghost use Rattle.ref_draft.specs.Scan.{IsAccepted};
 ghost use Rattle.ref_draft.specs.Views.{AllName, anchor_name, anchors_left, resource, resource_ref, tagged, values_left, walked_child};
@@ -123,6 +123,7 @@ impl Draft {
         contents: &'a Value,
     ) -> Result<Vec<Child<'a>>, AllocError>
         ensures children { IfOk result (λ v. map walked_child v.items ≡ walked self (view contents.now)) }
+        ensures order { OnOk result (InKeyOrder (view contents.now)) }
         ensures found { IfOk result (λ v. AllStand (view contents.now) (map walked_child v.items)) }
     {
         walk::children(alloc, self, contents)

@@ -7,5 +7,6 @@ pub mod References
 pub mod Levels
 pub mod Descent
 pub mod Changes
+pub mod OneBase
 pub mod Differ
 pub mod Pending

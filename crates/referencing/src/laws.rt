@@ -3,14 +3,14 @@ ghost use Rattle.std.specs.Prelude.{◌≡◌, ◌≤◌, ℕ, List, [], ◌∷�
 ghost use Rattle.std.specs.List.{AllByRecursion, AllPairs};
 ghost use Rattle.std.specs.Option.{option_or};
 ghost use Rattle.serde_json.specs.Data.{Data, depth};
-ghost use Rattle.ref_parts.specs.Path.{value_at};
+ghost use Rattle.ref_parts.specs.Path.{Part, value_at};
 ghost use Rattle.ref_draft.specs.declared.draft.Draft.{Draft};
 ghost use Rattle.ref_draft.specs.UniqueKeys.{HasUniqueKeys};
 ghost use Rattle.referencing.specs.World.{Document, Layer, World};
 ghost use Rattle.referencing.specs.Places.{Place, root, levels_below, places};
 ghost use Rattle.referencing.specs.Descent.{AreChildren};
 ghost use Rattle.referencing.specs.Bases.{Along};
-ghost use Rattle.referencing.specs.Changes.{LeadsAlong};
+ghost use Rattle.referencing.specs.Changes.{IsBaseAlong, LeadsAlong};
 ghost use Rattle.referencing.specs.Pointers.{pointed};
 ghost use Rattle.referencing.specs.Resources.{resources, last_under, means};
 ghost use Rattle.referencing.specs.Anchors.{Named, last_named, named, names};
@@ -51,8 +51,11 @@ pub fn later_entries_count()
         → last_named uri name (entries ++ more) ≡ option_or (last_named uri name more) (last_named uri name entries) }
 {}
 
-/// Where a pointer succeeds, what it finds stands at a path, and the base is that of the last change along this path.
+/// Where a pointer succeeds, what it finds stands at a path, and the base is that of the last change along this path: along a
+/// path there is one base.
 pub fn pointers_lead_along_paths()
+    ensures one_base { (draft : Draft) (start : List ℕ) (value : Data) (path : List Part) (along other : Along)
+        → IsBaseAlong draft start value path along → IsBaseAlong draft start value path other → along ≡ other }
     ensures law { (draft : Draft) (pointer start text : List ℕ) (value found : Data) (along : Along)
         → pointed draft pointer start value text ≡ Ok (found, along) → LeadsAlong draft start value found along }
 {}

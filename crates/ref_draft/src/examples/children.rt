@@ -4,7 +4,7 @@ ghost use Rattle.serde_json.specs.Data.{object, no_items, item, no_members, memb
 ghost use Rattle.ref_parts.specs.Path.{Index};
 ghost use Rattle.ref_draft.specs.declared.draft.Draft.TheVariants.{Draft4, Draft6, Draft7, Draft201909, Draft202012, Unknown};
 ghost use Rattle.ref_draft.specs.declared.spec.Holding.TheVariants.{Whole, WholeObject, Elements, Members, ElementsOrWhole, ObjectMembers, Nothing};
-ghost use Rattle.ref_draft.specs.Children.{AllStand, whole, elements_from, each_member, elements, members, is_object, has_object, held, below, children, with_draft, walked, keyword_of, is_given, subresources};
+ghost use Rattle.ref_draft.specs.Children.{AllStand, whole, elements_from, each_member, elements, members, is_object, has_object, held, below, children, keys_of, InKeyOrder, with_draft, walked, keyword_of, is_given, subresources};
 ghost use Rattle.ref_draft.specs.UniqueKeys.{KeysDiffer, HasUniqueKeys, ItemsHaveUniqueKeys, MembersHaveUniqueKeys};
 ghost use Rattle.ref_draft.specs.Rows.{empty, yes, text, one, two, list, pair, key, schema, paths, dependent};
 
@@ -20,6 +20,11 @@ pub fn children_of_drafts()
     ensures of_no_object { children Draft202012 (list (one "not" yes)) ≡ [] }
     ensures of_members { below Draft202012 (member (codes "const") empty (member (codes "not") yes no_members)) ≡ ((key "not" ∷ []), yes) ∷ [] }
     ensures of_no_members { below Draft202012 no_members ≡ [] }
+    ensures keys { keys_of (member (codes "b") yes (member (codes "a") yes no_members)) ≡ codes "b" ∷ codes "a" ∷ [] }
+    ensures in_order { InKeyOrder (two "B" yes "a" yes) }
+    ensures out_of_order { ¬ (InKeyOrder (two "a" yes "B" yes)) }
+    ensures one_key_twice { ¬ (InKeyOrder (two "a" yes "a" yes)) }
+    ensures no_object { InKeyOrder yes }
 {}
 
 /// What `subresources_of` gives beside the children.

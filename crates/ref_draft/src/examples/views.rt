@@ -20,7 +20,7 @@ ghost use Rattle.ref_draft.specs.declared.segments.Segment.TheVariants as segmen
 ghost use Rattle.ref_draft.specs.declared.spec.children.ChildIterInner.TheVariants as inner;
 ghost use Rattle.ref_draft.specs.declared.spec.Holding.TheVariants.{Whole, Members, ObjectMembers};
 ghost use Rattle.ref_draft.specs.Anchors.{Plain, Dynamic};
-ghost use Rattle.ref_draft.specs.Views.{tagged, resource, resource_ref, id_of, anchor_name, anchor_resource, AllName, anchors_left, part_of, parts_of, walked_child, objects_of, inner_left, values_left};
+ghost use Rattle.ref_draft.specs.Views.{tagged, resource, resource_ref, id_of, anchor_name, anchor_resource, AllName, anchors_left, part_of, segment_parts, walked_child, objects_of, inner_left, values_left};
 ghost use Rattle.ref_draft.specs.inner.Added.{Adds};
 ghost use Rattle.ref_draft.specs.inner.WalkSteps.{AreFoundIn, FindsMembers, FindsMembersWhere, members_in};
 ghost use Rattle.ref_draft.specs.Rows.{empty, yes, text, one, two, list, key};
@@ -52,8 +52,8 @@ pub fn views_of_anchors()
 pub fn views_of_segments()
     ensures index { part_of (segment.Index 3) ≡ Index 3 }
     ensures key { (text : CowStr Global) → part_of (segment.Key text) ≡ Key (cow_str_bytes text) }
-    ensures no_part { parts_of None ≡ [] }
-    ensures index_part { parts_of (Some (pointer.Index 3)) ≡ Index 3 ∷ [] }
+    ensures no_part { segment_parts None ≡ [] }
+    ensures index_part { segment_parts (Some (pointer.Index 3)) ≡ Index 3 ∷ [] }
     ensures child { (keyword : Bor (List ℕ)) (value : Bor Tree) → keyword.now ≡ codes "allOf" → view value.now ≡ empty
         → walked_child (record { keyword = keyword; segment = Some (pointer.Index 0); value = value; draft = Draft7 }) ≡ record { path = Key (codes "allOf") ∷ Index 0 ∷ []; value = empty; draft = Draft7 } }
     ensures child_of_a_value { (keyword : Bor (List ℕ)) (value : Bor Tree) → keyword.now ≡ codes "not" → view value.now ≡ yes

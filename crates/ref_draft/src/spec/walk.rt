@@ -3,10 +3,10 @@ ghost use Rattle.std.specs.Prelude.{◌≡◌, ◌++◌, ◌∷◌, [], map, fil
 ghost use Rattle.ref_parts.specs.Path.{Key};
 ghost use Rattle.serde_json.specs.View.{view, items_view, members_view};
 ghost use Rattle.ref_draft.specs.Keywords.{holding};
-ghost use Rattle.ref_draft.specs.Children.{AllStand, walked, with_draft, held, elements_from, each_member, has_object};
+ghost use Rattle.ref_draft.specs.Children.{AllStand, InKeyOrder, walked, with_draft, held, elements_from, each_member, has_object};
 ghost use Rattle.ref_draft.specs.inner.WalkSteps.{AreFoundIn, FindsMembersWhere};
 ghost use Rattle.ref_draft.specs.inner.Added.{Adds};
-ghost use Rattle.ref_draft.specs.Views.{parts_of, walked_child};
+ghost use Rattle.ref_draft.specs.Views.{segment_parts, walked_child};
 
 use crate::draft::Draft;
 use crate::spec::Holding;
@@ -28,12 +28,14 @@ pub struct Child<'a> {
 }
 
 // The children of a value in order.
+#[tactic(auto, using(crate::proofs::Order::ordered_other))]
 pub(crate) fn children<'a>(
     alloc: Global,
     draft: Draft,
     contents: &'a Value,
 ) -> Result<Vec<Child<'a>>, AllocError>
     ensures children { IfOk result (λ v. map walked_child v.items ≡ walked draft (view contents.now)) }
+    ensures order { OnOk result (InKeyOrder (view contents.now)) }
     ensures found { IfOk result (λ v. AllStand (view contents.now) (map walked_child v.items)) }
 {
     let mut children = Vec::new(alloc);
@@ -146,7 +148,7 @@ fn push_object<'a>(
     value: &'a Value,
 ) -> Result<(), AllocError>
     ensures { OnOk result
-        (Adds draft (filter has_object ((Key keyword.now ∷ parts_of segment.entry, view value.now) ∷ []))
+        (Adds draft (filter has_object ((Key keyword.now ∷ segment_parts segment.entry, view value.now) ∷ []))
         children.old.items children.new.items) }
 {
     if value.is_object() {
@@ -164,7 +166,7 @@ fn push<'a>(
     value: &'a Value,
 ) -> Result<(), AllocError>
     ensures { OnOk result
-        (Adds draft ((Key keyword.now ∷ parts_of segment.entry, view value.now) ∷ [])
+        (Adds draft ((Key keyword.now ∷ segment_parts segment.entry, view value.now) ∷ [])
         children.old.items children.new.items) }
 {
     let draft = draft.detect(value);

@@ -5,6 +5,7 @@ ghost use Rattle.ref_draft.specs.declared.draft.Draft.TheVariants.{Draft4, Draft
 ghost use Rattle.ref_draft.specs.Children.{walked};
 ghost use Rattle.ref_uri.specs.Targets.{unparsed};
 ghost use Rattle.referencing.specs.Places.{identifier_of, base_within, root, child_place, children_with, children_of, levels_below, places};
+ghost use Rattle.referencing.specs.Descent.{IsChildOfOne, AreChildren};
 ghost use Rattle.referencing.specs.Rows.{at, yes, empty, text, one, two, three, paths_and_bases};
 
 /// All places.
@@ -28,6 +29,14 @@ pub fn bases_of_places()
     ensures hidden_identifier { identifier_of (root (at Draft7 "http://a/r" (two "$id" (text "y") "$ref" (text "b")))) ≡ None }
     ensures of_a_child { (child_place (Key (codes "not") ∷ []) (codes "http://a/s/") (record { path = Key (codes "if") ∷ []; value = one "$id" (text "t"); draft = Draft202012 })).base ≡ Ok (codes "http://a/s/t") }
     ensures path_of_a_child { (child_place (Key (codes "not") ∷ []) (codes "http://a/s/") (record { path = Key (codes "allOf") ∷ Index 0 ∷ []; value = yes; draft = Draft202012 })).path ≡ Key (codes "not") ∷ Key (codes "allOf") ∷ Index 0 ∷ [] }
+{}
+
+/// How places follow from each other.
+pub fn places_behind_the_root()
+    ensures a_child { IsChildOfOne (root (at Draft202012 "http://a/r" (one "not" yes)) ∷ []) (record { path = Key (codes "not") ∷ []; value = yes; draft = Draft202012; base = Ok (codes "http://a/r") }) }
+    ensures no_child { ¬ (IsChildOfOne [] (root (at Draft202012 "http://a/r" yes))) }
+    ensures behind_the_root { AreChildren (root (at Draft202012 "http://a/r" (one "not" yes)) ∷ []) (record { path = Key (codes "not") ∷ []; value = yes; draft = Draft202012; base = Ok (codes "http://a/r") } ∷ []) }
+    ensures nothing_behind { AreChildren [] [] }
 {}
 
 /// Levels of places.

@@ -8,6 +8,7 @@ ghost use Rattle.ref_uri.specs.Targets.{unparsed};
 ghost use Rattle.referencing.specs.Results.{◌>>=◌ as in_turn};
 ghost use Rattle.referencing.specs.Fault.{PointerToNowhere, InvalidArrayIndex, InvalidPercentEncoding, InvalidUri, as_invalid_uri};
 ghost use Rattle.referencing.specs.Bases.{changed, along_part};
+ghost use Rattle.referencing.specs.Changes.{IsChange, Stays, IsBaseAlong, LeadsAlong};
 ghost use Rattle.referencing.specs.Pointers.{index_of, step_into, walked_along, pointed};
 ghost use Rattle.referencing.specs.Rows.{yes, empty, text, one, two, pair, along};
 
@@ -63,6 +64,18 @@ pub fn bases_along_pointers()
     ensures not_accepted { along_part Draft202012 (along "http://a/r" []) (Key (codes "const")) (one "$id" (text "z")) ≡ Ok (along "http://a/r" (Key (codes "const") ∷ [])) }
     ensures below_items { along_part Draft7 (along "http://a/r" (Key (codes "items") ∷ [])) (Key (codes "const")) (one "$id" (text "z")) ≡ Ok (along "http://a/z" []) }
     ensures refused_identifier { along_part Draft7 (along "http://a/r" (Key (codes "items") ∷ [])) (Key (codes "const")) (one "$id" (text "a b")) ≡ Err (unparsed (codes "a b")) }
+{}
+
+/// Where identifiers change the base, and where they don't.
+pub fn changes_of_the_base()
+    ensures at_the_start { IsBaseAlong Draft202012 (codes "http://a/r") yes [] (along "http://a/r" []) }
+    ensures a_change { IsChange Draft202012 (codes "http://a/r") (Key (codes "not") ∷ []) (one "$id" (text "s/")) (codes "http://a/s/") }
+    ensures no_change_of_the_base { ¬ (IsChange Draft202012 (codes "http://a/r") (Key (codes "not") ∷ []) (one "$id" (text "r")) (codes "http://a/r")) }
+    ensures no_change_at_no_schema { ¬ (IsChange Draft202012 (codes "http://a/r") (Key (codes "const") ∷ []) (one "$id" (text "z")) (codes "http://a/z")) }
+    ensures stays_at_no_schema { Stays Draft202012 (codes "http://a/r") (Key (codes "const") ∷ []) (one "$id" (text "z")) }
+    ensures stays_without_identifier { Stays Draft7 (codes "http://a/r") (Key (codes "not") ∷ []) empty }
+    ensures along_a_path { LeadsAlong Draft7 (codes "http://a/r") (one "items" (two "$id" (text "z") "const" (one "$id" (text "w")))) (one "$id" (text "w")) (along "http://a/z" (Key (codes "const") ∷ [])) }
+    ensures along_no_path { ¬ (LeadsAlong Draft7 (codes "http://a/r") yes empty (along "http://a/r" [])) }
 {}
 
 /// Answers one after another.

@@ -3,6 +3,7 @@ use Rattle.std.proofs.lemmas.Grind.{common_steps}
 use Rattle.serde_json.specs.View.{view, members_view}
 use Rattle.ref_draft.specs.Keywords.{holding}
 use Rattle.ref_draft.specs.Views.{walked_child}
+use Rattle.ref_draft.proofs.Order.{ordered_object}
 use Rattle.ref_draft.proofs.Standing.{are_found, members_in_is, step}
 use Rattle.ref_draft.proofs.spec.walk.children.Goals as goal
 
@@ -12,6 +13,7 @@ loop-keyword-init c =
       rw (c.new-children.ensures.items, entries.0, ← c.in-Some.ensures),
       rw c.new-children.ensures.items tt,
       rw (members_in_is (view c.args.contents.now) (members_view c.in-Some.schema.now.entries) c.in-Some.ensures, entries.0) (are_found c.in-Some.schema.now.entries entries.6),
+      ordered_object (view c.args.contents.now) c.in-Some.schema.now.entries c.in-Some.ensures entries.5,
     )
 
 pub loop-keyword-preserved : goal.loop-keyword-preserved
@@ -21,4 +23,5 @@ loop-keyword-preserved c =
       step c.args.draft (view c.args.contents.now) (holding c.args.draft c.as_str.result.now) c.as_str.result.now (view c.in-Some-2.value.now) (map walked_child c.loop-keyword.children.items)
           (map walked_child c.push_held.new.children.items) c.loop-keyword.invariant.1 (rw c.as_str.ensures.value found.0) c.push_held.ensures.unique c.in_ok-push_held.ensures.adds,
       found.1,
+      c.loop-keyword.invariant.3,
     )
