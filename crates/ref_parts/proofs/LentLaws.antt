@@ -8,8 +8,8 @@ use Rattle.arrayvec.specs.ArrayVec.{ArrayVec}
 use Rattle.std.proofs.lemmas.Bool.{true≢false, cond-true, cond-false, cond_both, cases_Bool, ltb-true}
 use Rattle.indexmap.specs.Layout.{set_value_at, length-set_value_at}
 use Rattle.indexmap.specs.IndexMap.{insert_entry}
-use Rattle.ref_parts.specs.FiniteMap.{pairs, AllHold, EachOnce, IsPlaceOf, IsAt, IsFormOf, entries_of}
-use Rattle.ref_parts.specs.Lent.{with_value, with_form_value}
+use Rattle.ref_parts.specs.inner.Slots.{pairs, AllHold, EachOnce, IsPlaceOf, IsAt, IsFormOf, entries_of}
+use Rattle.ref_parts.specs.inner.Places.{with_value, with_form_value}
 use Rattle.ref_parts.specs.declared.small_map.Form.{Form}
 use Rattle.ref_parts.specs.declared.small_map.Form.TheVariants.{Small, Large}
 use Rattle.ref_parts.proofs.MapLaws.{length-pairs, pairs-append, lookup-append_none, insert_at, insert_same, insert_again}

@@ -8,7 +8,8 @@ use Rattle.std.proofs.lemmas.Bool.{cond-true, cond-false, cases_Bool}
 use Rattle.std.proofs.lemmas.Map.Entries.{lookup_clone}
 use Rattle.std.proofs.lemmas.List.{take_more, drop_more, set_split, take_all, drop_all}
 use Rattle.indexmap.specs.IndexMap.{insert_entry}
-use Rattle.ref_parts.specs.FiniteMap.{Puts, pairs, AllHold, EachOnce, IsClone}
+use Rattle.ref_parts.specs.FiniteMap.{Puts, IsClone}
+use Rattle.ref_parts.specs.inner.Slots.{pairs, AllHold, EachOnce}
 
 -- ---- slots
 

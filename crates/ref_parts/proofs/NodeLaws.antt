@@ -1,23 +1,24 @@
 -- What a path with one more part is.
-use Rattle.std.proofs.Common.{◌≡◌, Bool, true, false, ◌&&◌, List, [], ◌∷◌, ◌++◌, Some, refl, ap, ◌∙◌}
+use Rattle.std.proofs.Common.{◌≡◌, Bool, true, false, ◌&&◌, List, [], ◌∷◌, ◌++◌, length, take, Option, Some, None, unwrap_or, refl, ap, ◌∙◌, length-append, add-one}
+use Rattle.std.specs.List.{last_or}
 use Rattle.std.specs.Cmp.Lexicographic.{pointwise}
-use Rattle.ref_parts.specs.Path.{Part, last_of, last_part, all_but_last, parent_path, part_eq, path_eq}
+use Rattle.ref_parts.specs.Path.{Part, Index, last_part, parent_path, part_eq, path_eq}
 
-last_of-push : (first : Part) (path : List Part) (part : Part) → last_of first (path ++ part ∷ []) ≡ part
-last_of-push first [] part = refl
-last_of-push first (next ∷ path) part = last_of-push next path part
+last_or-push : {X : Type 0} (o : Option X) (xs : List X) (x : X) → last_or o (xs ++ x ∷ []) ≡ Some x
+last_or-push o [] x = refl
+last_or-push o (y ∷ xs) x = last_or-push (Some y) xs x
 
 pub last_part-push : (path : List Part) (part : Part) → last_part (path ++ part ∷ []) ≡ part
-last_part-push [] part = refl
-last_part-push (first ∷ path) part = last_of-push first path part
+last_part-push path part = ap (λ o. unwrap_or o (Index 0)) (last_or-push None path part)
 
-all_but_last-push : (first : Part) (path : List Part) (part : Part) → all_but_last first (path ++ part ∷ []) ≡ first ∷ path
-all_but_last-push first [] part = refl
-all_but_last-push first (next ∷ path) part = ap (λ x. first ∷ x) (all_but_last-push next path part)
+front-push : {X : Type 0} (xs : List X) (x : X) → take (length xs) (xs ++ x ∷ []) ≡ xs
+front-push [] x = refl
+front-push (y ∷ xs) x = ap (λ l. y ∷ l) (front-push xs x)
 
 pub parent_path-push : (path : List Part) (part : Part) → parent_path (path ++ part ∷ []) ≡ Some path
 parent_path-push [] part = refl
-parent_path-push (first ∷ path) part = ap (λ x. Some x) (all_but_last-push first path part)
+parent_path-push (first ∷ path) part =
+    ap (λ n. Some (take n (first ∷ (path ++ part ∷ [])))) (length-append path (part ∷ []) ∙ add-one (length path)) ∙ ap (λ l. Some l) (front-push (first ∷ path) part)
 
 -- ---- equality of lists, from the back
 

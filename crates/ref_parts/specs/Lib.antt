@@ -1,9 +1,7 @@
 pub mod Encoded
 pub mod FiniteMap
 pub mod inner
-pub mod Items
 pub mod Lent
-pub mod Link
 pub mod Path
 pub mod Pointer
 pub mod Rows

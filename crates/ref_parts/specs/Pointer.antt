@@ -3,7 +3,7 @@ use Rattle.std.specs.Prelude.{ℕ, ◌^◌, Bool, false, not, ◌&&◌, ◌||◌
 use Rattle.std.specs.List.{slice_split}
 use Rattle.std.specs.Str.{all_ascii_digits}
 use Rattle.std.specs.Str.Parse.{digits_value}
-use Rattle.serde_json.specs.Data.{Data, null, boolean, number, string, array, object}
+use Rattle.serde_json.specs.Data.{Data, array, object}
 use Rattle.serde_json.specs.Find.{get_item, get_member}
 use Rattle.ref_parts.specs.Path.{Part, Key, Index}
 
@@ -72,12 +72,9 @@ tokens text = slice_split (λ b. b == slash) text
 
 -- one step: the unescaped token is an array's index or an object's key (section 4)
 abbrev pub step : Data → List ℕ → Option Data
-step null key = None
-step (boolean b) key = None
-step (number n) key = None
-step (string s) key = None
 step (array ds) key = option_and_then (λ i. get_item i ds) (parse_index key)
 step (object ms) key = get_member key ms
+step _ key = None
 
 -- the value that these reference tokens lead to (section 4)
 abbrev pub value_along : Data → List (List ℕ) → Option Data

@@ -3,6 +3,7 @@ pub mod Entries
 pub mod Escapes
 pub mod Maps
 pub mod Paths
+pub mod Tables
 use Rattle.std.specs.Prelude.{◌≡◌, true, false, [], ◌∷◌, codes, Some, None}
 use Rattle.serde_json.specs.Data.{Data, null, boolean, number, unsigned, string, array, object, no_items, item, no_members, member}
 use Rattle.ref_parts.specs.Path.{Key, Index, value_at}

@@ -1,16 +1,18 @@
 //! What holds of the definitions in `specs/`, for those who prove code above this crate. Each function does nothing:
 //! its clause is the law.
-ghost use Rattle.std.specs.Prelude.{◌≡◌, ◌↔◌, ◌<◌, ◌^◌, ℕ, List, [], ◌∷◌, Some, decimal, codes};
+ghost use Rattle.std.specs.Prelude.{◌≡◌, ◌==◌, ◌↔◌, ◌<◌, ◌^◌, ℕ, List, [], ◌∷◌, All, Some, decimal, codes, map};
+ghost use Rattle.std.specs.List.{after_first};
 ghost use Rattle.percent_encoding.specs.Percent.{percent_decode as decoded};
 ghost use Rattle.ref_parts.specs.Encoded.{encoded};
 ghost use Rattle.serde_json.specs.Data.{Data};
 ghost use Rattle.ref_parts.specs.Path.{Part, value_at, HasFittingIndexes};
-ghost use Rattle.ref_parts.specs.Pointer.{escape, unescape, pointer_text, evaluate, parse_index};
+ghost use Rattle.ref_parts.specs.Pointer.{slash, escape, unescape, part_text, pointer_text, tokens, evaluate, parse_index};
 ghost use Rattle.ref_parts.specs.Rows.{PointerRows, TokenRows, ExampleRows, FragmentRows};
 ghost use Rattle.ref_parts.specs.Rows.Entries.{EntryRows};
 ghost use Rattle.ref_parts.specs.Rows.Escapes.{EscapeRows};
 ghost use Rattle.ref_parts.specs.Rows.Maps.{MapRows};
 ghost use Rattle.ref_parts.specs.Rows.Paths.{PathRows, LinkRows};
+ghost use Rattle.ref_parts.specs.Rows.Tables.{TableRows};
 
 /// Unescaping an escaped key gives the key back.
 pub fn unescape_undoes_escape()
@@ -26,6 +28,13 @@ pub fn index_text_is_decimal()
 pub fn pointer_text_leads_where_its_path_does()
     ensures law { (document : Data) (path : List Part) (value : Data) → HasFittingIndexes path
         → value_at document path ≡ Some value → evaluate document (pointer_text path) ≡ Some value }
+{}
+
+/// Of a path's pointer text as a fragment holds it, what follows the first `/` is decoded to the escaped parts with a `/`
+/// between them, where the path isn't empty.
+pub fn fragment_has_the_escaped_parts()
+    ensures law { (part : Part) (path : List Part) → HasFittingIndexes (part ∷ path) → All (λ b. b < 256) (pointer_text (part ∷ path))
+        → tokens (decoded (after_first (λ b. b == slash) (encoded (pointer_text (part ∷ path))))) ≡ map part_text (part ∷ path) }
 {}
 
 /// The worked rows of the definitions of pointer text.
@@ -75,4 +84,9 @@ pub fn entry_rows()
 /// The worked rows of escapes in keys, and of a whole pointer (RFC 6901, sections 3 and 4).
 pub fn escape_rows()
     ensures rows { EscapeRows }
+{}
+
+/// The worked rows of sorted tables.
+pub fn table_rows()
+    ensures rows { TableRows }
 {}

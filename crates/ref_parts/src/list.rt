@@ -1,7 +1,7 @@
 //! A list whose tails are shared.
 
 ghost use Rattle.std.specs.Prelude.{◌≡◌, ◌≤◌, [], ◌∷◌, ◌==◌, IfOk, OnErr, length};
-ghost use Rattle.ref_parts.specs.Items.{items_of};
+ghost use Rattle.ref_parts.specs.inner.Items.{items_of};
 
 use std::alloc::{AllocError, Global};
 use std::fmt;
@@ -27,7 +27,7 @@ impl<T: Drop> Model for List<T> {
 
     ghost Value = { List T };
 
-    ghost use Rattle.ref_parts.specs.Items.{items_of};
+    ghost use Rattle.ref_parts.specs.inner.Items.{items_of};
 
     ghost view = { λ l. items_of l.head };
 
@@ -196,7 +196,7 @@ impl<T: Eq + Drop> Eq for List<T> {
 /// Feeds each item in order, so equal lists hash alike.
 impl<T: Hash + Drop> Hash for List<T> {
     ghost use Rattle.std.specs.Prelude.{flat_map};
-    ghost use Rattle.ref_parts.specs.Items.{feeds_alike};
+    ghost use Rattle.ref_parts.specs.inner.Alike.{feeds_alike};
 
     ghost hash_input = { flat_map T.hash_input };
 

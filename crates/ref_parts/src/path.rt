@@ -1,7 +1,7 @@
 //! Paths into JSON values: one part of a path, and paths that share their beginnings.
 ghost use Rattle.std.specs.Prelude.{◌≡◌, ◌∷◌, ◌++◌, [], IfOk, ◌≤◌, length, option_map};
 ghost use Rattle.ref_parts.specs.Segment.{part_of};
-ghost use Rattle.ref_parts.specs.Link.{path_of};
+ghost use Rattle.ref_parts.specs.inner.Link.{path_of};
 ghost use Rattle.ref_parts.specs.Path.{last_part, parent_path};
 ghost use Rattle.ref_parts.specs.declared.path.JsonPointerSegment.{JsonPointerSegment};
 
@@ -23,7 +23,8 @@ pub enum JsonPointerSegment<'a> {
 /// Keys are equal where their texts are, borrowed or owned, and indexes where they are one number.
 impl PartialEq for JsonPointerSegment<'_> {
     ghost use Rattle.std.specs.Cmp.{on_per, partial_equiv_from_equiv};
-    ghost use Rattle.ref_parts.specs.Path.{part_eq, part_equivalence};
+    ghost use Rattle.ref_parts.specs.Path.{part_eq};
+    ghost use Rattle.ref_parts.specs.inner.Alike.{part_equivalence};
     ghost use Rattle.ref_parts.specs.Segment.{part_of};
 
     ghost eq = { λ a b. part_eq (part_of a) (part_of b) };
@@ -41,7 +42,7 @@ impl PartialEq for JsonPointerSegment<'_> {
 
 impl Eq for JsonPointerSegment<'_> {
     ghost use Rattle.std.specs.Cmp.{on_equiv};
-    ghost use Rattle.ref_parts.specs.Path.{part_equivalence};
+    ghost use Rattle.ref_parts.specs.inner.Alike.{part_equivalence};
     ghost use Rattle.ref_parts.specs.Segment.{part_of};
 
     ghost laws = { on_equiv part_of part_equivalence };
@@ -138,7 +139,7 @@ impl<'a> Model for JsonPointerNode<'a> {
 
     ghost Value = { List Part };
 
-    ghost use Rattle.ref_parts.specs.Link.{path_of};
+    ghost use Rattle.ref_parts.specs.inner.Link.{path_of};
 
     ghost view = { λ n. path_of n.last };
 
@@ -273,7 +274,8 @@ impl Clone for JsonPointerNode<'_> {
 impl PartialEq for JsonPointerNode<'_> {
     ghost use Rattle.std.specs.Cmp.{partial_equiv_from_equiv};
     ghost use Rattle.std.specs.Cmp.Lexicographic.{lists_equiv};
-    ghost use Rattle.ref_parts.specs.Path.{path_eq, part_equivalence};
+    ghost use Rattle.ref_parts.specs.Path.{path_eq};
+    ghost use Rattle.ref_parts.specs.inner.Alike.{part_equivalence};
 
     ghost eq = { path_eq };
 
@@ -295,7 +297,7 @@ impl PartialEq for JsonPointerNode<'_> {
 
 impl Eq for JsonPointerNode<'_> {
     ghost use Rattle.std.specs.Cmp.Lexicographic.{lists_equiv};
-    ghost use Rattle.ref_parts.specs.Path.{part_equivalence};
+    ghost use Rattle.ref_parts.specs.inner.Alike.{part_equivalence};
 
     ghost laws = { lists_equiv part_equivalence };
 }

@@ -5,9 +5,10 @@ ghost use Rattle.std.specs.HashMap.{spare};
 ghost use Rattle.std.specs.Map.{lookup};
 ghost use Rattle.indexmap.specs.IndexMap.{insert_entry};
 ghost use Rattle.indexmap.specs.Lends.{lends_index};
-ghost use Rattle.ref_parts.specs.Lent.{lends_pair, lends_slot, lends_place};
+ghost use Rattle.ref_parts.specs.inner.Places.{lends_pair, lends_slot, lends_place};
 ghost use Rattle.std.specs.Option.{UnwrapsOrElse};
-ghost use Rattle.ref_parts.specs.FiniteMap.{pairs, Puts, EachOnce, IsPlaceOf, IsAt, IsClone, entries_of, IsFormOf};
+ghost use Rattle.ref_parts.specs.inner.Slots.{pairs, EachOnce, IsPlaceOf, IsAt, entries_of, IsFormOf};
+ghost use Rattle.ref_parts.specs.FiniteMap.{Puts, IsClone};
 
 use arrayvec::ArrayVec;
 use indexmap::IndexMap;
@@ -30,10 +31,15 @@ pub trait BorrowedKey<K: Eq + Hash>: Copy {
     /// The value in a hashed map at the key that it stands for: one look-up.
     fn find_in<'m, V>(&self, map: &'m IndexMap<K, V>) -> Option<&'m V>
         ensures value { option_copied result ≡ lookup (is_for self.now) map.now.entries };
+
+    /// What stands for a key stands for the keys that are equal to it, and for no other.
+    ghost respects_eq: { (q : Self) (x y : K) → IsTrue (is_for q x) → is_for q y ≡ K.eq x y };
 }
 
 impl<K: Eq + Hash> BorrowedKey<K> for &K {
     ghost is_for = { λ q. K.eq q.now };
+
+    ghost respects_eq = { λ q. K.Eq.laws.congr q.now };
 
     fn is_for(&self, key: &K) -> bool {
         (*self).eq(key)
@@ -46,8 +52,11 @@ impl<K: Eq + Hash> BorrowedKey<K> for &K {
 
 impl BorrowedKey<String> for &str {
     ghost use Rattle.std.specs.Prelude.{bytes_eq, string_bytes};
+    ghost use Rattle.std.specs.Cmp.Lexicographic.{nat_list_eq_equiv};
 
     ghost is_for = { λ q key. bytes_eq q.now (string_bytes key) };
+
+    ghost respects_eq = { λ q x y. nat_list_eq_equiv.congr q.now (string_bytes x) (string_bytes y) };
 
     fn is_for(&self, key: &String) -> bool {
         *self == key.as_str()
@@ -77,7 +86,7 @@ impl<K: Eq + Hash, V, const N: usize> Model for SmallMap<K, V, N> {
 
     ghost Value = { List (K × V) };
 
-    ghost use Rattle.ref_parts.specs.FiniteMap.{entries_of, IsFormOf};
+    ghost use Rattle.ref_parts.specs.inner.Slots.{entries_of, IsFormOf};
 
     ghost view = { λ m. entries_of m.form };
 

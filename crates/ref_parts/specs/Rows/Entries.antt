@@ -1,7 +1,7 @@
 -- Worked rows of the entries of small maps, inline and hashed, by their places, and of a value that is written at one.
 use Rattle.std.specs.Prelude.{◌≡◌, ℕ, nat_eq, [], ◌∷◌, Some, None}
-use Rattle.ref_parts.specs.FiniteMap.{IsAt, entries_of, IsFormOf}
-use Rattle.ref_parts.specs.Lent.{with_value, with_slot_value, with_form_value}
+use Rattle.ref_parts.specs.inner.Slots.{IsAt, entries_of, IsFormOf}
+use Rattle.ref_parts.specs.inner.Places.{with_value, with_slot_value, with_form_value}
 use Rattle.indexmap.specs.IndexMap.{IndexMap}
 use Rattle.std.specs.declared.hash.BuildHasherDefault.{BuildHasherDefault}
 use Rattle.std.specs.declared.hash.FoldHasher.{FoldHasher}

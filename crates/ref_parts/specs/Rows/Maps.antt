@@ -1,6 +1,7 @@
 -- Worked rows of small maps: what the definitions answer at literals.
 use Rattle.std.specs.Prelude.{◌≡◌, ℕ, nat_eq, List, [], ◌∷◌, Option, Some, None}
-use Rattle.ref_parts.specs.FiniteMap.{Puts, IsClone, pairs, AllHold, entries_of, EachOnce, IsFormOf, IsPlaceOf}
+use Rattle.ref_parts.specs.FiniteMap.{Puts, IsClone}
+use Rattle.ref_parts.specs.inner.Slots.{pairs, AllHold, entries_of, EachOnce, IsFormOf, IsPlaceOf}
 use Rattle.ref_parts.specs.declared.small_map.Form.{Form}
 use Rattle.ref_parts.specs.declared.small_map.Form.TheVariants.{Small}
 

@@ -5,9 +5,9 @@ use Rattle.std.specs.declared.alloc.Global.{Global}
 use Rattle.std.specs.declared.borrow.CowStr.TheVariants as cow
 use Rattle.std.specs.declared.rc.Rc.{Rc}
 use Rattle.serde_json.specs.Data.{string}
-use Rattle.ref_parts.specs.Path.{Key, Index, child_at, value_at, HasFittingIndexes, last_of, last_part, all_but_last, parent_path, part_eq, path_eq}
-use Rattle.ref_parts.specs.Items.{items_of}
-use Rattle.ref_parts.specs.Link.{path_of}
+use Rattle.ref_parts.specs.Path.{Key, Index, child_at, value_at, HasFittingIndexes, last_part, parent_path, part_eq, path_eq}
+use Rattle.ref_parts.specs.inner.Items.{items_of}
+use Rattle.ref_parts.specs.inner.Link.{path_of}
 use Rattle.ref_parts.specs.Segment.{part_of, OwnsNothing}
 use Rattle.ref_parts.specs.Rows.{example, foo}
 use Rattle.ref_parts.specs.declared.list.Node.{Node}
@@ -24,12 +24,8 @@ pub record PathRows : Type 0 where
   pub past_the_end : value_at example (Key (codes "foo") ∷ Index 2 ∷ []) ≡ None
   pub greatest_fits : HasFittingIndexes (Key [] ∷ Index 18446744073709551615 ∷ [])
   pub next_does_not : HasFittingIndexes (Key [] ∷ Index 18446744073709551616 ∷ []) → ⊥
-  pub last_alone : last_of (Key (codes "a")) [] ≡ Key (codes "a")
-  pub last_behind : last_of (Key (codes "a")) (Key (codes "b") ∷ Index 2 ∷ []) ≡ Index 2
   pub last_of_root : last_part [] ≡ Index 0
   pub last_of_two : last_part (Index 2 ∷ Key (codes "a") ∷ []) ≡ Key (codes "a")
-  pub none_before : all_but_last (Key (codes "a")) [] ≡ []
-  pub two_before : all_but_last (Key (codes "a")) (Key (codes "b") ∷ Index 2 ∷ []) ≡ Key (codes "a") ∷ Key (codes "b") ∷ []
   pub parent_of_root : parent_path [] ≡ None
   pub parent_of_one : parent_path (Key (codes "a") ∷ []) ≡ Some []
   pub parent_of_two : parent_path (Key (codes "a") ∷ Index 2 ∷ []) ≡ Some (Key (codes "a") ∷ [])

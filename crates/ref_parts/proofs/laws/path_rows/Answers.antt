@@ -16,12 +16,8 @@ returns c = record { paths = paths; links = record { no_link = refl; last_link =
       past_the_end = refl;
       greatest_fits = (omega arith, tt);
       next_does_not = λ h. omega (arith, h.0);
-      last_alone = refl;
-      last_behind = refl;
       last_of_root = refl;
       last_of_two = refl;
-      none_before = refl;
-      two_before = refl;
       parent_of_root = refl;
       parent_of_one = refl;
       parent_of_two = refl;

@@ -1,7 +1,8 @@
 use Rattle.std.proofs.Common.{None, Some, sym, ap, subst, arith}
 use Rattle.std.specs.List.{AllZip}
 use Rattle.std.proofs.lemmas.List.Elements.{length_all_zip}
-use Rattle.ref_parts.specs.FiniteMap.{IsClone, pairs, entries_of}
+use Rattle.ref_parts.specs.FiniteMap.{IsClone}
+use Rattle.ref_parts.specs.inner.Slots.{pairs, entries_of}
 use Rattle.ref_parts.proofs.MapLaws.{IsSlotClone, slots_cloned, pairs_cloned, AllHold_cloned, EachOnce_cloned}
 use Rattle.ref_parts.proofs.small_map.copied.Goals as goal
 

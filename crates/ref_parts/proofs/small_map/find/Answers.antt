@@ -1,5 +1,5 @@
 use Rattle.std.proofs.Common.{ap}
-use Rattle.ref_parts.specs.FiniteMap.{entries_of}
+use Rattle.ref_parts.specs.inner.Slots.{entries_of}
 use Rattle.ref_parts.proofs.LentLaws.{finds_slot, finds_entry}
 use Rattle.ref_parts.proofs.small_map.find.Goals as goal
 

@@ -2,7 +2,7 @@ use Rattle.std.proofs.Common.{◌≡◌, [], ◌∷◌, ◌++◌, length, revers
 use Rattle.std.proofs.lemmas.Bool.{false≢true}
 use Rattle.std.proofs.lemmas.List.{length-reverse, reverse-append, reverse-reverse}
 use Rattle.std.specs.List.{refill}
-use Rattle.ref_parts.specs.FiniteMap.{pairs, EachOnce}
+use Rattle.ref_parts.specs.inner.Slots.{pairs, EachOnce}
 use Rattle.ref_parts.proofs.MapLaws.{insert_missing, EachOnce-before, no_slots, refill_same}
 use Rattle.ref_parts.proofs.small_map.hashed.Goals as goal
 

@@ -1,6 +1,6 @@
 use Rattle.std.proofs.Common.{◌≡◌, ◌<◌, ◌++◌, length, reverse}
 use Rattle.std.specs.HashMap.{spare}
-use Rattle.ref_parts.specs.FiniteMap.{pairs}
+use Rattle.ref_parts.specs.inner.Slots.{pairs}
 use Rattle.ref_parts.proofs.small_map.hashed.Given as goal
 
 abbrev pub invariant-loop-slot : goal.invariant-loop-slot

@@ -1,7 +1,7 @@
 use Rattle.std.proofs.Common.{◌≡◌, ◌+◌, [], ◌∷◌, ◌++◌, take, drop, None, sym, ap, ◌∙◌}
 use Rattle.std.proofs.lemmas.Bool.{cond-false}
 use Rattle.std.specs.Map.{lookup}
-use Rattle.ref_parts.specs.FiniteMap.{pairs}
+use Rattle.ref_parts.specs.inner.Slots.{pairs}
 use Rattle.ref_parts.proofs.MapLaws.{split_read, place_turn}
 use Rattle.ref_parts.proofs.small_map.place_of.Goals as goal
 use Rattle.ref_parts.proofs.small_map.place_of.Goals.{in-Some+else-eq, in_default}

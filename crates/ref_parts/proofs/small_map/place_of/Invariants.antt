@@ -1,6 +1,6 @@
 use Rattle.std.proofs.Common.{◌≡◌, None, take}
 use Rattle.std.specs.Map.{lookup}
-use Rattle.ref_parts.specs.FiniteMap.{pairs}
+use Rattle.ref_parts.specs.inner.Slots.{pairs}
 use Rattle.ref_parts.proofs.small_map.place_of.Given as goal
 
 abbrev pub invariant-loop-place : goal.invariant-loop-place

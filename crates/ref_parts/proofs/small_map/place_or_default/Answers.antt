@@ -1,4 +1,4 @@
-use Rattle.ref_parts.specs.FiniteMap.{entries_of}
+use Rattle.ref_parts.specs.inner.Slots.{entries_of}
 use Rattle.ref_parts.proofs.LentLaws.{starts_as}
 use Rattle.ref_parts.proofs.small_map.place_or_default.Goals as goal
 

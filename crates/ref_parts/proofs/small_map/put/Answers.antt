@@ -1,7 +1,7 @@
 use Rattle.std.proofs.Common.{[], ◌∷◌, length, Some, refl, sym, ap, ◌∙◌, subst, arith, length-append}
 use Rattle.std.specs.Map.{lookup}
 use Rattle.indexmap.specs.IndexMap.{insert_entry}
-use Rattle.ref_parts.specs.FiniteMap.{pairs, AllHold, EachOnce, IsPlaceOf, entries_of}
+use Rattle.ref_parts.specs.inner.Slots.{pairs, AllHold, EachOnce, IsPlaceOf, entries_of}
 use Rattle.ref_parts.proofs.MapLaws.{pairs-append, length-pairs, AllHold-append, insert_missing, EachOnce-slot_push}
 use Rattle.ref_parts.proofs.LentLaws.{IsAt_slot, IsAt_written, IsAt_moved, IsAt_last, written_is_put, entries_written, form_written}
 use Rattle.ref_parts.specs.declared.small_map.Form.TheVariants.{Small}

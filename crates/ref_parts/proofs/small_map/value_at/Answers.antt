@@ -1,5 +1,5 @@
 use Rattle.std.proofs.Common.{rules, ◌≡◌, ◌<◌, length, None, Some, ap, ◌∙◌, refl, arith, slice_index_or, option_map}
-use Rattle.ref_parts.specs.FiniteMap.{entries_of}
+use Rattle.ref_parts.specs.inner.Slots.{entries_of}
 use Rattle.ref_parts.proofs.MapLaws.{length-pairs}
 use Rattle.ref_parts.proofs.LentLaws.{slot_pair, slot_holds}
 use Rattle.ref_parts.proofs.small_map.value_at.Goals as goal

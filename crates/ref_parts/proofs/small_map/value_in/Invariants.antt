@@ -1,6 +1,6 @@
 use Rattle.std.proofs.Common.{◌≡◌, drop}
 use Rattle.std.specs.Map.{lookup}
-use Rattle.ref_parts.specs.FiniteMap.{pairs}
+use Rattle.ref_parts.specs.inner.Slots.{pairs}
 use Rattle.ref_parts.proofs.small_map.value_in.Given as goal
 
 abbrev pub invariant-loop-slot : goal.invariant-loop-slot

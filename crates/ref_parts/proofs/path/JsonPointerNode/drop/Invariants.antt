@@ -1,5 +1,5 @@
 use Rattle.std.proofs.Common.{length}
-use Rattle.ref_parts.specs.Link.{path_of}
+use Rattle.ref_parts.specs.inner.Link.{path_of}
 use Rattle.ref_parts.proofs.path.JsonPointerNode.drop.Given as goal
 
 abbrev pub decreases-loop-rest : goal.decreases-loop-rest

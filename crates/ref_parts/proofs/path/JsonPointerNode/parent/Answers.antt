@@ -1,7 +1,7 @@
 use Rattle.std.proofs.Common.{◌≡◌, [], ◌∷◌, ◌++◌, Some, sym, ap, ◌∙◌}
 use Rattle.ref_parts.specs.Path.{parent_path}
 use Rattle.ref_parts.specs.Segment.{part_of}
-use Rattle.ref_parts.specs.Link.{path_of}
+use Rattle.ref_parts.specs.inner.Link.{path_of}
 use Rattle.ref_parts.specs.declared.path.Link.{Link}
 use Rattle.ref_parts.proofs.NodeLaws.{parent_path-push}
 use Rattle.ref_parts.proofs.path.JsonPointerNode.parent.Goals as goal

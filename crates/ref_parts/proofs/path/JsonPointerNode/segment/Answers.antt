@@ -1,7 +1,7 @@
 use Rattle.std.proofs.Common.{◌≡◌, [], ◌∷◌, ◌++◌, sym, ap, ◌∙◌}
 use Rattle.ref_parts.specs.Path.{last_part}
 use Rattle.ref_parts.specs.Segment.{part_of}
-use Rattle.ref_parts.specs.Link.{path_of}
+use Rattle.ref_parts.specs.inner.Link.{path_of}
 use Rattle.ref_parts.specs.declared.path.Link.{Link}
 use Rattle.ref_parts.proofs.NodeLaws.{last_part-push}
 use Rattle.ref_parts.proofs.path.JsonPointerNode.segment.Goals as goal

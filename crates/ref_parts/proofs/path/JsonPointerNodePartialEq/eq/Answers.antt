@@ -2,7 +2,7 @@ use Rattle.std.proofs.Common.{◌≡◌, [], ◌∷◌, ◌++◌, true, false, s
 use Rattle.std.proofs.lemmas.Bool.{not-true, not-false}
 use Rattle.ref_parts.specs.Path.{part_eq, path_eq}
 use Rattle.ref_parts.specs.Segment.{part_of}
-use Rattle.ref_parts.specs.Link.{path_of}
+use Rattle.ref_parts.specs.inner.Link.{path_of}
 use Rattle.ref_parts.specs.declared.path.Link.{Link}
 use Rattle.ref_parts.proofs.NodeLaws.{path_eq-push, and_false_right, and_true_right}
 use Rattle.ref_parts.proofs.path.JsonPointerNodePartialEq.eq.Goals as goal

@@ -4,7 +4,8 @@ use Rattle.std.specs.Option.{UnwrapsOrElse}
 use Rattle.std.proofs.lemmas.Bool.{cond-true}
 use Rattle.indexmap.specs.Layout.{set_value_at}
 use Rattle.indexmap.specs.IndexMap.{insert_entry}
-use Rattle.ref_parts.specs.FiniteMap.{Puts, IsAt, entries_of}
+use Rattle.ref_parts.specs.FiniteMap.{Puts}
+use Rattle.ref_parts.specs.inner.Slots.{IsAt, entries_of}
 use Rattle.ref_parts.proofs.MapLaws.{Puts-insert}
 use Rattle.ref_parts.proofs.LentLaws.{IsAt_within, IsAt_found, IsAt_got, put_and_written, entries_written, form_written}
 use Rattle.ref_parts.proofs.small_map.SmallMap.get_or_insert_default.Goals as goal

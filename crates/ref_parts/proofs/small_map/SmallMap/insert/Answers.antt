@@ -1,5 +1,6 @@
 use Rattle.std.proofs.Common.{sym, subst}
-use Rattle.ref_parts.specs.FiniteMap.{Puts, entries_of}
+use Rattle.ref_parts.specs.FiniteMap.{Puts}
+use Rattle.ref_parts.specs.inner.Slots.{entries_of}
 use Rattle.ref_parts.proofs.MapLaws.{Puts-insert}
 use Rattle.ref_parts.proofs.small_map.SmallMap.insert.Goals as goal
 

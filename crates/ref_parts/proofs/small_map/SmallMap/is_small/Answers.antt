@@ -1,5 +1,5 @@
 use Rattle.std.proofs.Common.{length, refl, sym, ap, ◌∙◌, arith}
-use Rattle.ref_parts.specs.FiniteMap.{entries_of}
+use Rattle.ref_parts.specs.inner.Slots.{entries_of}
 use Rattle.ref_parts.proofs.MapLaws.{length-pairs-le}
 use Rattle.ref_parts.proofs.small_map.SmallMap.is_small.Goals as goal
 
