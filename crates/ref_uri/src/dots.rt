@@ -6,9 +6,9 @@ ghost use Rattle.ref_uri.specs.DotSegments.{segments, remove_dot_segments};
 ghost use Rattle.ref_uri.specs.inner.Written.{written};
 ghost use Rattle.ref_uri.specs.inner.Removal.{segment_of, first_written, first_progress, next_written, next_progress, slash_of, path_then, progress_then, path_after, progress_after, end_of, ended, AreNames, IsInside};
 
+use crate::blocks::{BLOCK, block_holds};
 use crate::written::Form;
 use std::alloc::AllocError;
-use std::simd::prelude::*;
 
 /// How far a path is written behind a buffer's text.
 #[derive(Clone, Copy)]
@@ -32,18 +32,6 @@ pub enum Segment {
     DotDot,
 }
 
-const BLOCK: usize = 16;
-
-/// Whether a dot stands in a block.
-#[inline(always)]
-fn holds_dot(bytes: &[u8], at: usize) -> bool
-    requires { at + BLOCK ≤ length bytes.now }
-    ensures { IsFalse result → (k : ℕ) → at ≤ k → k < at + BLOCK → slice_index bytes.now k ≢ 46 }
-{
-    let block = u8x16::from_slice(&bytes[at..]);
-    block.simd_eq(u8x16::splat(b'.')).to_bitmask() != 0
-}
-
 /// Whether a segment that begins in this part of the path begins with a dot.
 #[inline(always)]
 fn dot_begins_segment(bytes: &[u8], from: usize, to: usize) -> bool
@@ -64,7 +52,7 @@ fn may_hold_dots(bytes: &[u8]) -> bool
 {
     let mut at = 0;
     while bytes.len() - at >= BLOCK {
-        if holds_dot(bytes, at) && dot_begins_segment(bytes, at, at + BLOCK) {
+        if block_holds(bytes, at, b'.') && dot_begins_segment(bytes, at, at + BLOCK) {
             return true;
         }
         at += BLOCK;
