@@ -37,5 +37,6 @@ pub mod PlainDots
 pub mod WrittenAtOnce
 pub mod PartLemmas
 pub mod RunLemmas
+pub mod NameLemmas
 pub mod LaneLemmas
 pub mod TableLemmas

@@ -6,6 +6,7 @@ ghost use Rattle.ref_uri.specs.Characters.{is_unreserved, is_scheme_character, i
 ghost use Rattle.ref_uri.specs.inner.Scans.{begins_with_triple, begins_encoded};
 ghost use Rattle.ref_uri.specs.inner.Class.{allows, ends};
 
+use crate::blocks::BLOCK;
 use crate::error::ParseError;
 use std::simd::prelude::*;
 
@@ -56,7 +57,7 @@ const SL: u8 = 192;
 // `?`.
 const QU: u8 = 128;
 
-// For each byte what holds of it, sixteen in a line.
+// For each byte what holds of it.
 static FLAGS: [u8; 256] = [
     NO, NO, NO, NO, NO, NO, NO, NO, NO, NO, NO, NO, NO, NO, NO, NO, NO, NO, NO, NO, NO, NO, NO, NO,
     NO, NO, NO, NO, NO, NO, NO, NO, NO, SD, NO, NO, SD, NO, SD, SD, SD, SD, SD, PL, SD, LE, LE, SL,
@@ -153,8 +154,6 @@ pub fn begins_with_triple(bytes: &[u8]) -> bool
         _ => false,
     }
 }
-
-const BLOCK: usize = 16;
 
 /// Whether the bytes of a block are letters, `_` or of `&` to `;`, digits among these: most paths hold no others.
 #[inline(always)]

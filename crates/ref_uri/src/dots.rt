@@ -1,11 +1,12 @@
 //! The removal of dot segments while a path is written (RFC 3986, 5.2.4).
-ghost use Rattle.std.specs.Prelude.{◌≡◌, ◌≤◌, ◌++◌, List, [], ℕ, true, map, length, slice_range, take, drop, ◌<◌, ◌+◌, string_bytes, IfOk, OnOk, IsAscii, ◌∷◌, ◌==◌};
+ghost use Rattle.std.specs.Prelude.{◌≡◌, ◌≢◌, IsFalse, slice_index, ◌≤◌, ◌++◌, List, [], ℕ, true, map, length, slice_range, take, drop, ◌<◌, ◌+◌, string_bytes, IfOk, OnOk, IsAscii, ◌∷◌, ◌==◌};
 ghost use Rattle.std.specs.List.{before_last};
 ghost use Rattle.ref_uri.specs.Characters.{has_whole_triples};
 ghost use Rattle.ref_uri.specs.DotSegments.{segments, remove_dot_segments};
 ghost use Rattle.ref_uri.specs.inner.Written.{written};
-ghost use Rattle.ref_uri.specs.inner.Removal.{segment_of, first_written, first_progress, next_written, next_progress, slash_of, path_then, progress_then, path_after, progress_after, end_of, ended};
+ghost use Rattle.ref_uri.specs.inner.Removal.{segment_of, first_written, first_progress, next_written, next_progress, slash_of, path_then, progress_then, path_after, progress_after, end_of, ended, AreNames, IsInside};
 
+use crate::blocks::{BLOCK, block_holds};
 use crate::written::Form;
 use std::alloc::AllocError;
 
@@ -29,6 +30,34 @@ pub enum Segment {
     Dot,
     /// `..`: to take away the segment to its left.
     DotDot,
+}
+
+/// Whether a segment that begins in this part of the path begins with a dot.
+#[inline(always)]
+fn dot_begins_segment(bytes: &[u8], from: usize, to: usize) -> bool
+    requires { to ≤ length bytes.now }
+    ensures { IsFalse result → (k : ℕ) → from ≤ k → k < to → IsInside bytes.now k }
+{
+    for at in from..to {
+        if bytes[at] == b'.' && (at == 0 || bytes[at - 1] == b'/') {
+            return true;
+        }
+    }
+    false
+}
+
+/// Whether a segment of the path may be a dot segment: none is, where none begins with a dot.
+fn may_hold_dots(bytes: &[u8]) -> bool
+    ensures { IsFalse result → AreNames (segments bytes.now) }
+{
+    let mut at = 0;
+    while bytes.len() - at >= BLOCK {
+        if block_holds(bytes, at, b'.') && dot_begins_segment(bytes, at, at + BLOCK) {
+            return true;
+        }
+        at += BLOCK;
+    }
+    dot_begins_segment(bytes, at, bytes.len())
 }
 
 fn segment_of(text: &str) -> Segment
@@ -172,8 +201,8 @@ fn push_part(
     Ok(settle(buffer, start, progress, end))
 }
 
-/// Writes more segments of the path that begins at `start`.
-fn push_segments(
+/// Writes more segments of the path that begins at `start`, one behind another.
+fn push_each_segment(
     buffer: &mut String,
     start: usize,
     progress: Progress,
@@ -194,6 +223,41 @@ fn push_segments(
         progress = push_segment(buffer, start, progress, segment, form)?;
     }
     Ok(progress)
+}
+
+/// Appends a path none of whose segments is a dot segment, behind a slash where other segments precede it.
+fn push_names(buffer: &mut String, progress: Progress, path: &str) -> Result<Progress, AllocError>
+    requires { IsAscii path.now }
+    ensures text { OnOk result (string_bytes buffer.new ≡ string_bytes buffer.old ++ (slash_of progress ++ path.now)) }
+    ensures progress { IfOk result (λ p. p ≡ Progress.Within) }
+    ensures ascii { OnOk result (IsAscii (string_bytes buffer.old) → IsAscii (string_bytes buffer.new)) }
+{
+    push_slash(buffer, progress)?;
+    buffer.push_str(path)?;
+    Ok(Progress::Within)
+}
+
+/// Writes more segments of the path that begins at `start`: all at once, where none is a dot segment.
+fn push_segments(
+    buffer: &mut String,
+    start: usize,
+    progress: Progress,
+    path: &str,
+    form: Form,
+) -> Result<Progress, AllocError>
+    requires buffer_ascii { IsAscii (string_bytes buffer.old) }
+    requires within { start ≤ length (string_bytes buffer.old) }
+    requires ascii { IsAscii path.now }
+    requires triples { has_whole_triples path.now ≡ true }
+    ensures text { (before written_path : List ℕ) → string_bytes buffer.old ≡ before ++ written_path → length before ≡ start → OnOk result (string_bytes buffer.new ≡ before ++ path_after progress written_path (map (written form) (segments path.now))) }
+    ensures progress { IfOk result (λ p. p ≡ progress_after progress (map (written form) (segments path.now))) }
+    ensures ascii { OnOk result (IsAscii (string_bytes buffer.new)) }
+    ensures start { OnOk result (start ≤ length (string_bytes buffer.new)) }
+{
+    match form {
+        Form::Given if !may_hold_dots(path.as_bytes()) => push_names(buffer, progress, path),
+        _ => push_each_segment(buffer, start, progress, path, form),
+    }
 }
 
 /// Appends the slash that a path ends in whose last segment was a dot segment.

@@ -5,6 +5,7 @@
 #![tactic(auto)]
 
 mod authority;
+mod blocks;
 mod characters;
 mod dots;
 mod error;

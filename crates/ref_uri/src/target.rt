@@ -8,6 +8,7 @@ ghost use Rattle.ref_uri.specs.Resolution.{through_last_slash, merged, target_pa
 ghost use Rattle.ref_uri.specs.inner.Written.{written, written_scheme, written_authority};
 ghost use Rattle.ref_uri.specs.inner.Target.{given_path, normal_path_of, written_path, written_components, lengths_of_components, AreParts, LacksEncodedDot, LosesSameDots, IsTarget, components_of, behind_directory, path_behind, target_with_dots};
 
+use crate::blocks::holds;
 use crate::dots::{push_merged_without_dots, push_without_dots, remove_dots};
 use crate::lengths::{Lengths, Parts, head};
 use crate::written::{Form, normalize_end};
@@ -242,7 +243,7 @@ fn guard(buffer: &mut String, start: usize, authority: Option<&str>) -> Result<(
 fn holds_encoded_dot(text: &str) -> bool
     ensures { (result ≡ false) ↔ LacksEncodedDot text.now }
 {
-    text.contains("%2e") || text.contains("%2E")
+    holds(text.as_bytes(), b'%') && (text.contains("%2e") || text.contains("%2E"))
 }
 
 impl<'a> PathOf<'a> {

@@ -7,6 +7,7 @@ ghost use Rattle.ref_uri.specs.Authority.{is_authority, host_len};
 ghost use Rattle.ref_uri.specs.Normal.{hex_value, normal_triple, normal_encoded, normal_text, normal_host, normal_port_part, normal_authority};
 ghost use Rattle.ref_uri.specs.inner.Written.{in_case, written, written_scheme, written_authority};
 
+use crate::blocks::holds;
 use crate::characters::is_unreserved;
 use crate::lengths::{head, tail};
 use std::alloc::AllocError;
@@ -115,6 +116,18 @@ fn push_encoded(buffer: &mut String, text: &str, case: Case) -> Result<(), Alloc
     case.push_run(buffer, rest)
 }
 
+/// Appends an encoded text in normal form, as it is where it holds no triple.
+fn push_normal_text(buffer: &mut String, text: &str) -> Result<(), AllocError>
+    requires ascii { IsAscii text.now }
+    requires triples { has_whole_triples text.now ≡ true }
+    ensures { OnOk result (string_bytes buffer.new ≡ string_bytes buffer.old ++ normal_text text.now) }
+{
+    if !holds(text.as_bytes(), b'%') {
+        return buffer.push_str(text);
+    }
+    push_encoded(buffer, text, Case::AsItIs)
+}
+
 /// Appends the triple that stands in the buffer's text at `percent`, as [`push_triple`] does.
 fn push_triple_again(buffer: &mut String, percent: usize) -> Result<(), AllocError>
     requires { begins_with_hex_digits (drop (percent + 1) (string_bytes buffer.old)) ≡ true }
@@ -221,7 +234,7 @@ impl Form {
     {
         match self {
             Form::Given => Form::Given,
-            Form::Normal | Form::NormalTarget if text.contains('%') => Form::Normal,
+            Form::Normal | Form::NormalTarget if holds(text.as_bytes(), b'%') => Form::Normal,
             Form::Normal | Form::NormalTarget => Form::Given,
         }
     }
@@ -235,7 +248,7 @@ impl Form {
     {
         match self {
             Form::Given => buffer.push_str(text),
-            Form::Normal | Form::NormalTarget => push_encoded(buffer, text, Case::AsItIs),
+            Form::Normal | Form::NormalTarget => push_normal_text(buffer, text),
         }
     }
 

@@ -1,7 +1,7 @@
 -- How a path is written without its dot segments, one segment behind another (RFC 3986, 5.2.4).
-use Rattle.std.specs.Prelude.{ℕ, List, [], ◌∷◌, ◌++◌, codes, ◌==◌, if◌then◌else◌}
-use Rattle.std.specs.List.{before_last}
-use Rattle.ref_uri.specs.DotSegments.{is_dot, is_dot_dot}
+use Rattle.std.specs.Prelude.{◌≡◌, ◌≢◌, ◌<◌, ◌-◌, false, slice_index, ℕ, List, [], ◌∷◌, ◌++◌, codes, ◌==◌, if◌then◌else◌}
+use Rattle.std.specs.List.{before_last, AllByRecursion}
+use Rattle.ref_uri.specs.DotSegments.{is_dot, is_dot_dot, is_dot_segment}
 use Rattle.ref_uri.specs.declared.dots.Progress.{Progress}
 use Rattle.ref_uri.specs.declared.dots.Progress.TheVariants.{Front, Within, Dots}
 use Rattle.ref_uri.specs.declared.dots.Segment.{Segment}
@@ -72,3 +72,11 @@ end_of Dots = codes "/"
 -- a path after its last segments
 abbrev pub ended : Progress → List ℕ → List (List ℕ) → List ℕ
 ended progress path segments = path_after progress path segments ++ end_of (progress_after progress segments)
+
+-- none of the segments is a dot segment
+abbrev pub AreNames : List (List ℕ) → Type 0
+AreNames segments = AllByRecursion (λ segment. is_dot_segment segment ≡ false) segments
+
+-- if a dot stands at this place, no segment begins there
+abbrev pub IsInside : List ℕ → ℕ → Type 0
+IsInside path at = slice_index path at ≡ 46 → (0 < at) × (slice_index path (at - 1) ≢ 47)

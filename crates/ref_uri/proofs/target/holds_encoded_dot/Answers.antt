@@ -1,4 +1,4 @@
-use Rattle.std.proofs.Common.{codes, sym, ◌∙◌}
+use Rattle.std.proofs.Common.{◌≡◌, ◌≢◌, ℕ, List, [], ◌∷◌, ◌++◌, ◌<◌, length, get_or, length-append, codes, refl, subst, ap, arith, sym, ◌∙◌}
 use Rattle.std.proofs.lemmas.Bool.{false≢true, false_from_ne_true}
 use Rattle.std.proofs.lemmas.Str.Pattern.{contains_text}
 use Rattle.ref_uri.proofs.target.holds_encoded_dot.Goals as goal
@@ -20,3 +20,19 @@ returns-else-contains c =
       ),
       λ lacks. false_from_ne_true c.contains-else-contains.result (λ h. let there = upper.0 h in (lacks there.0 there.1).1 there.2),
     )
+
+-- a text that holds no `%` holds no triple
+at_seam : (before rest : List ℕ) → get_or (before ++ 37 ∷ rest) (length before) 0 ≡ 37
+at_seam [] rest = refl
+at_seam (x ∷ before) rest = at_seam before rest
+
+no_triple : (text : List ℕ) → ((i : ℕ) → i < length text → get_or text i 0 ≢ 37) → (before rest : List ℕ) → text ≡ before ++ 37 ∷ rest → ⊥
+no_triple text none before rest e =
+    none (length before) (omega (arith, ap length e, length-append before (37 ∷ rest))) (ap (λ t. get_or t (length before) 0) e ∙ at_seam before rest)
+
+pub returns-else-holds : goal.returns-else-holds
+returns-else-holds c =
+    let text = c.args.text.now in
+    let none : (i : ℕ) → i < length text → get_or text i 0 ≢ 37 =
+    subst (λ (t : List ℕ). (i : ℕ) → i < length t → get_or t i 0 ≢ 37) c.as_bytes.ensures.value (c.holds.ensures c.if-holds.false) in
+    (λ _ before after. (no_triple text none before (codes "2e" ++ after), no_triple text none before (codes "2E" ++ after)), λ _. c.if-holds.false)

@@ -9,6 +9,6 @@ use Rattle.ref_uri.proofs.written.Form.push.Goals as goal
 
 pub returns-in-Normal-clause-ascii : goal.returns-in-Normal-clause-ascii
 returns-in-Normal-clause-ascii c =
-    on_ok_weaker c.push_encoded.result
+    on_ok_weaker c.push_normal_text.result
     (λ text before. subst IsAscii (sym text) (IsAscii-append (string_bytes c.args.buffer.now) (normal_text c.args.text.now) before (written_ascii Normal c.args.text.now c.requires.triples c.requires.ascii)))
-    c.push_encoded.ensures
+    c.push_normal_text.ensures

@@ -2,7 +2,7 @@ use Rattle.std.proofs.Common.{◌≡◌, ◌≤◌, ◌++◌, List, ℕ, map, le
 use Rattle.std.specs.Str.{IsAscii}
 use Rattle.ref_uri.specs.inner.Written.{written}
 use Rattle.ref_uri.specs.inner.Removal.{path_after, progress_after}
-use Rattle.ref_uri.proofs.dots.push_segments.Given as goal
+use Rattle.ref_uri.proofs.dots.push_each_segment.Given as goal
 
 abbrev pub invariant-loop-segment : goal.invariant-loop-segment
 invariant-loop-segment l =
