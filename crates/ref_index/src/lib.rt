@@ -10,6 +10,8 @@ pub mod index;
 pub mod path;
 mod queue;
 pub mod reference;
+#[cfg(test)]
+mod tests;
 pub mod walk;
 
 pub use document::{Contents, Document};
