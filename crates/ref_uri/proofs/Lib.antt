@@ -38,5 +38,6 @@ pub mod WrittenAtOnce
 pub mod PartLemmas
 pub mod RunLemmas
 pub mod NameLemmas
+pub mod GivenSegments
 pub mod LaneLemmas
 pub mod TableLemmas

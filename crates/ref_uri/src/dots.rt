@@ -4,10 +4,11 @@ ghost use Rattle.std.specs.List.{before_last};
 ghost use Rattle.ref_uri.specs.Characters.{has_whole_triples};
 ghost use Rattle.ref_uri.specs.DotSegments.{segments, remove_dot_segments};
 ghost use Rattle.ref_uri.specs.inner.Written.{written};
-ghost use Rattle.ref_uri.specs.inner.Removal.{segment_of, first_written, first_progress, next_written, next_progress, slash_of, path_then, progress_then, path_after, progress_after, end_of, ended, AreNames, IsInside};
+ghost use Rattle.ref_uri.specs.inner.Removal.{segment_of, first_written, first_progress, next_written, next_progress, slash_of, path_then, progress_then, path_after, progress_after, end_of, ended, dots_after, last_taken, AreNames, IsInside};
 
 use crate::blocks::{BLOCK, block_holds};
-use crate::written::Form;
+use crate::lengths::{head, tail};
+use crate::written::{Form, index_of};
 use std::alloc::AllocError;
 
 /// How far a path is written behind a buffer's text.
@@ -70,6 +71,23 @@ fn segment_of(text: &str) -> Segment
     }
 }
 
+/// Where what stands before the last slash of the path that begins at `start` ends.
+fn end_of_rest(bytes: &[u8], start: usize) -> usize
+    requires { start ≤ length bytes.now }
+    ensures value { take result bytes.now ≡ take start bytes.now ++ before_last (λ c. c == 47) (drop start bytes.now) }
+    ensures from { start ≤ result }
+    ensures within { result ≤ length bytes.now }
+{
+    let mut end = bytes.len();
+    while end > start {
+        end -= 1;
+        if bytes[end] == b'/' {
+            return end;
+        }
+    }
+    start
+}
+
 /// Takes away the last segment of the path that begins at `start`, with the slash before it.
 fn take_last(buffer: &mut String, start: usize)
     requires ascii { IsAscii (string_bytes buffer.old) }
@@ -78,10 +96,8 @@ fn take_last(buffer: &mut String, start: usize)
     ensures ascii { IsAscii (string_bytes buffer.new) }
     ensures start { start ≤ length (string_bytes buffer.new) }
 {
-    match buffer[start..].rfind('/') {
-        Some(slash) => buffer.truncate(start + slash),
-        None => buffer.truncate(start),
-    }
+    let end = end_of_rest(buffer.as_bytes(), start);
+    buffer.truncate(end);
 }
 
 /// Lets the segment that was appended at `end` stand as a path's first one, or takes a dot segment away.
@@ -155,8 +171,57 @@ fn settle(buffer: &mut String, start: usize, progress: Progress, end: usize) -> 
     }
 }
 
-/// Writes one more segment of the path that begins at `start`.
-fn push_segment(
+/// How far a path is after a dot segment.
+fn after_dots(progress: Progress) -> Progress
+    ensures { result ≡ dots_after progress }
+{
+    match progress {
+        Progress::Front => Progress::Front,
+        Progress::Within | Progress::Dots => Progress::Dots,
+    }
+}
+
+/// Takes away the last segment of the path that begins at `start`, unless no other precedes it.
+fn take_last_behind(buffer: &mut String, start: usize, progress: Progress)
+    requires ascii { IsAscii (string_bytes buffer.old) }
+    requires within { start ≤ length (string_bytes buffer.old) }
+    ensures text { (before path : List ℕ) → string_bytes buffer.old ≡ before ++ path → length before ≡ start → string_bytes buffer.new ≡ before ++ last_taken progress path }
+    ensures ascii { IsAscii (string_bytes buffer.new) }
+    ensures start { start ≤ length (string_bytes buffer.new) }
+{
+    match progress {
+        Progress::Front => {}
+        Progress::Within | Progress::Dots => take_last(buffer, start),
+    }
+}
+
+/// Writes one more segment of the path that begins at `start`, as it is given.
+fn push_given_segment(
+    buffer: &mut String,
+    start: usize,
+    progress: Progress,
+    segment: &str,
+) -> Result<Progress, AllocError>
+    requires buffer_ascii { IsAscii (string_bytes buffer.old) }
+    requires within { start ≤ length (string_bytes buffer.old) }
+    requires ascii { IsAscii segment.now }
+    ensures text { (before path : List ℕ) → string_bytes buffer.old ≡ before ++ path → length before ≡ start → OnOk result (string_bytes buffer.new ≡ before ++ path_then progress path segment.now) }
+    ensures progress { IfOk result (λ p. p ≡ progress_then progress segment.now) }
+    ensures ascii { OnOk result (IsAscii (string_bytes buffer.new)) }
+    ensures start { OnOk result (start ≤ length (string_bytes buffer.new)) }
+{
+    match segment_of(segment) {
+        Segment::Name => push_names(buffer, progress, segment),
+        Segment::Dot => Ok(after_dots(progress)),
+        Segment::DotDot => {
+            take_last_behind(buffer, start, progress);
+            Ok(after_dots(progress))
+        }
+    }
+}
+
+/// Writes one more segment of the path that begins at `start`, in normal form.
+fn push_normal_segment(
     buffer: &mut String,
     start: usize,
     progress: Progress,
@@ -176,6 +241,31 @@ fn push_segment(
     push_slash(buffer, progress)?;
     form.push(buffer, segment)?;
     Ok(settle(buffer, start, progress, end))
+}
+
+/// Writes one more segment of the path that begins at `start`.
+fn push_segment(
+    buffer: &mut String,
+    start: usize,
+    progress: Progress,
+    segment: &str,
+    form: Form,
+) -> Result<Progress, AllocError>
+    requires buffer_ascii { IsAscii (string_bytes buffer.old) }
+    requires within { start ≤ length (string_bytes buffer.old) }
+    requires ascii { IsAscii segment.now }
+    requires triples { has_whole_triples segment.now ≡ true }
+    ensures text { (before path : List ℕ) → string_bytes buffer.old ≡ before ++ path → length before ≡ start → OnOk result (string_bytes buffer.new ≡ before ++ path_then progress path (written form segment.now)) }
+    ensures progress { IfOk result (λ p. p ≡ progress_then progress (written form segment.now)) }
+    ensures ascii { OnOk result (IsAscii (string_bytes buffer.new)) }
+    ensures start { OnOk result (start ≤ length (string_bytes buffer.new)) }
+{
+    match form {
+        Form::Given => push_given_segment(buffer, start, progress, segment),
+        Form::Normal | Form::NormalTarget => {
+            push_normal_segment(buffer, start, progress, segment, form)
+        }
+    }
 }
 
 /// Writes one more segment of the path that begins at `start`: the part of the buffer's text from `from` to `to`.
@@ -219,10 +309,14 @@ fn push_each_segment(
     ensures start { OnOk result (start ≤ length (string_bytes buffer.new)) }
 {
     let mut progress = progress;
-    for segment in path.split('/') {
-        progress = push_segment(buffer, start, progress, segment, form)?;
+    let mut rest = path;
+    let mut len = index_of(rest.as_bytes(), b'/');
+    'segments: while len < rest.len() {
+        progress = push_segment(buffer, start, progress, head(rest, len), form)?;
+        rest = tail(rest, len + 1);
+        len = index_of(rest.as_bytes(), b'/');
     }
-    Ok(progress)
+    push_segment(buffer, start, progress, rest, form)
 }
 
 /// Appends a path none of whose segments is a dot segment, behind a slash where other segments precede it.

@@ -24,4 +24,6 @@ pub use reference::UriRef;
 pub use uri::Uri;
 
 #[cfg(test)]
+mod seams;
+#[cfg(test)]
 mod tests;

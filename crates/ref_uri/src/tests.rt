@@ -211,7 +211,7 @@ fn reads_authorities_and_triples(rt: HostRuntime) -> Result<(), Fail> {
 }
 
 /// The grammar of RFC 3986, written from the end of a text to its front, and each component by itself.
-mod grammar {
+pub mod grammar {
     /// Letters, digits, these characters, and triples.
     fn holds(part: &str, others: &str) -> bool {
         let mut digits_to_come = 0;

@@ -171,7 +171,8 @@ pub fn normalize_end(buffer: &mut String, start: usize) -> Result<(), AllocError
 }
 
 /// Where the character first stands, or the length.
-fn index_of(text: &[u8], c: u8) -> usize
+#[inline]
+pub fn index_of(text: &[u8], c: u8) -> usize
     ensures value { result ≡ position_or_len (λ x. x == c) text.now }
     ensures within { result ≤ length text.now }
 {

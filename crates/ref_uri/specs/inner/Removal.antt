@@ -73,6 +73,18 @@ end_of Dots = codes "/"
 abbrev pub ended : Progress → List ℕ → List (List ℕ) → List ℕ
 ended progress path segments = path_after progress path segments ++ end_of (progress_after progress segments)
 
+-- how far a path is after a dot segment
+abbrev pub dots_after : Progress → Progress
+dots_after Front = Front
+dots_after Within = Dots
+dots_after Dots = Dots
+
+-- a path after `..`
+abbrev pub last_taken : Progress → List ℕ → List ℕ
+last_taken Front path = path
+last_taken Within path = before_last (λ c. c == 47) path
+last_taken Dots path = before_last (λ c. c == 47) path
+
 -- none of the segments is a dot segment
 abbrev pub AreNames : List (List ℕ) → Type 0
 AreNames segments = AllByRecursion (λ segment. is_dot_segment segment ≡ false) segments
