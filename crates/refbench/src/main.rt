@@ -3,6 +3,8 @@
 //! it is run under `valgrind --tool=callgrind`, and what it showed.
 #![tactic(auto)]
 
+mod parts;
+
 use anyhow::Context;
 use ref_uri::{UriRef, uri};
 use std::alloc::{AllocError, Global};
@@ -53,6 +55,9 @@ fn measured(alloc: Global, call: &str, text: &str, times: u32) -> u64 {
 
 /// What a line's workload answers.
 fn answer(alloc: Global, line: &str) -> anyhow::Result<u64> {
+    if let Some(sum) = parts::answer(alloc, line)? {
+        return Ok(sum);
+    }
     let mut words = line.split_whitespace();
     let call = words.next().context("a call")?;
     let kind = words.next().context("a kind of text")?;
