@@ -3,6 +3,8 @@
 //! the same on every run; `docs/DEVELOPING.md` says how it is run under `valgrind --tool=callgrind`, and what it showed.
 #![tactic(auto)]
 
+mod parts;
+
 use anyhow::Context;
 use ref_uri::{UriRef, uri};
 use std::alloc::{AllocError, Global};
@@ -82,6 +84,9 @@ fn measured(alloc: Global, call: Call, text: &str, times: u32) -> u64 {
 
 /// What a line's workload answers.
 fn answer(alloc: Global, line: &str) -> anyhow::Result<u64> {
+    if let Some(sum) = parts::answer(alloc, line)? {
+        return Ok(sum);
+    }
     let mut words = line.split_whitespace();
     let call = words.next().and_then(call_of).context("a call")?;
     let kind = words.next().context("a kind of text")?;
