@@ -5,3 +5,4 @@ pub mod Paths
 pub mod Visiting
 pub mod Walking
 pub mod Looking
+pub mod Layers

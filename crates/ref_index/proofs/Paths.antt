@@ -1,11 +1,12 @@
 -- Paths, and the value that one leads to.
 use Rattle.std.proofs.Common.{◌≡◌, List, [], ◌∷◌, ◌++◌, Option, Some, None, map, reverse, refl, sym, ap, ◌∙◌}
 use Rattle.std.proofs.lemmas.List.{map-append, reverse-append}
-use Rattle.std.specs.Prelude.{option_and_then}
+use Rattle.std.specs.Prelude.{option_and_then, unwrap_or, take, length}
+use Rattle.std.specs.List.{last_or}
 use Rattle.serde_json.specs.Data.{Data}
-use Rattle.ref_parts.specs.Path.{Part, child_at, value_at, last_part, last_of, parent_path, all_but_last}
+use Rattle.ref_parts.specs.Path.{Part, child_at, value_at, Index, last_part, parent_path}
 
-last_behind : (part : Part) (path : List Part) → part ∷ path ≡ all_but_last part path ++ last_of part path ∷ []
+last_behind : (part : Part) (path : List Part) → part ∷ path ≡ take (length path) (part ∷ path) ++ unwrap_or (last_or (Some part) path) (Index 0) ∷ []
 last_behind part [] = refl
 last_behind part (next ∷ path) = ap (λ ps. part ∷ ps) (last_behind next path)
 
@@ -13,8 +14,8 @@ last_behind part (next ∷ path) = ap (λ ps. part ∷ ps) (last_behind next pat
 pub last_stands : (path before : List Part) → parent_path path ≡ Some before → path ≡ before ++ last_part path ∷ []
 last_stands [] before is = cc
 last_stands (part ∷ path) before is =
-    let same : all_but_last part path ≡ before = cc in
-    last_behind part path ∙ ap (λ ps. ps ++ last_of part path ∷ []) same
+    let same : take (length path) (part ∷ path) ≡ before = cc in
+    last_behind part path ∙ ap (λ ps. ps ++ last_part (part ∷ path) ∷ []) same
 
 -- one that has none is the root
 pub without_parent : (path : List Part) → parent_path path ≡ None → path ≡ []

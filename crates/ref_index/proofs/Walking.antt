@@ -6,7 +6,7 @@ use Rattle.std.proofs.lemmas.List.{take_more, drop_more, drop_all, take-append-l
 use Rattle.std.proofs.lemmas.Grind.{flat_map-append}
 use Rattle.serde_json.specs.Data.{Data}
 use Rattle.serde_json.specs.View.{view}
-use Rattle.ref_parts.specs.Path.{Part, child_at, value_at}
+use Rattle.ref_parts.specs.Path.{Part, value_at}
 use Rattle.ref_draft.specs.Children.{Walked, AllStand, walked}
 use Rattle.ref_uri.specs.Targets.{Refusal}
 use Rattle.ref_uri.specs.declared.error.UriFault.{UriFault}
@@ -14,6 +14,7 @@ use Rattle.ref_uri.specs.declared.error.UriFault.TheVariants.{Invalid, Memory}
 use Rattle.referencing.specs.World.{Document}
 use Rattle.referencing.specs.Places.{Place, root, child_place, children_with, children_of, places}
 use Rattle.referencing.specs.Resources.{resource_of}
+use Rattle.referencing.proofs.Changes.{value_at-append}
 use Rattle.referencing.specs.Anchors.{named_under}
 use Rattle.ref_index.specs.declared.found.Found.{Found}
 use Rattle.ref_index.specs.declared.queue.Visit.{Visit}
@@ -27,19 +28,10 @@ use Rattle.ref_index.proofs.Queues.{at_root, step, at_end, beginning}
 along : (p q : List Part) (next : Option Data) (d : Data) → next ≡ Some d → option_and_then (λ e. value_at e q) next ≡ value_at d q
 along p q next d is = ap (option_and_then (λ e. value_at e q)) is
 
-by_child : (p q : List Part) → ((e : Data) → value_at e (p ++ q) ≡ option_and_then (λ f. value_at f q) (value_at e p)) → (o : Option Data)
-    → option_and_then (λ e. value_at e (p ++ q)) o ≡ option_and_then (λ e. value_at e q) (option_and_then (λ e. value_at e p) o)
-by_child p q each None = refl
-by_child p q each (Some e) = each e
-
-behind : (t : Data) (p q : List Part) → value_at t (p ++ q) ≡ option_and_then (λ e. value_at e q) (value_at t p)
-behind t [] q = refl
-behind t (part ∷ p) q = by_child p q (λ e. behind e p q) (child_at t part)
-
 children_stand : (d : Document) (path : List Part) (base : List ℕ) (value : Data) (cs : List Walked) → value_at d.tree path ≡ Some value → AllStand value cs → AllStandIn d (map (child_place path base) cs)
 children_stand d path base value [] at all = tt
 children_stand d path base value (child ∷ cs) at all =
-    (behind d.tree path child.path ∙ along path child.path (value_at d.tree path) value at ∙ all.0, children_stand d path base value cs at all.1)
+    (value_at-append d.tree path child.path ∙ along path child.path (value_at d.tree path) value at ∙ all.0, children_stand d path base value cs at all.1)
 
 place_children_stand : (d : Document) (p : Place) (base : Result (List ℕ) Refusal) → value_at d.tree p.path ≡ Some p.value → AllStand p.value (walked p.draft p.value) → AllStandIn d (children_with base p)
 place_children_stand d p (Ok base) at all = children_stand d p.path base p.value (walked p.draft p.value) at all

@@ -11,9 +11,9 @@ use Rattle.ref_uri.specs.declared.error.UriFault.{UriFault}
 use Rattle.ref_uri.specs.declared.error.UriFault.TheVariants.{Invalid, Memory}
 use Rattle.referencing.specs.World.{Document, Layer}
 use Rattle.referencing.specs.Places.{Place, root, children_of}
-use Rattle.referencing.specs.Resources.{resource_of}
-use Rattle.referencing.specs.Anchors.{Named, named_under, named_at}
-use Rattle.referencing.specs.Wants.{Want, wants_at, faults_at}
+use Rattle.referencing.specs.Resources.{resource_of, resources}
+use Rattle.referencing.specs.Anchors.{Named, named_under, named_at, names}
+use Rattle.referencing.specs.Wants.{Want, wants_at, faults_at, wants, faults}
 use Rattle.ref_draft.specs.Children.{AllStand, walked}
 use Rattle.ref_index.specs.declared.found.Found.{Found}
 use Rattle.ref_index.specs.declared.queue.Visit.{Visit}
@@ -91,3 +91,8 @@ pub record IsAt (d : Document) (number : ℕ) (old new : Found) (queue : List Vi
   pub order : IsQueue d (map place_of (take head queue)) (map place_of (drop head queue))
   pub stand : AllStandIn d (map place_of queue)
   pub walk : IsWalked d number old new (map place_of (take head queue))
+
+-- What was found in documents is all that they have, and none has a fault.
+pub record IsFound (layer : Layer) (f : Found) : Type 0 where
+  pub held : Holds layer f (resources layer) (names layer) (wants layer)
+  pub faultless : faults layer ≡ []

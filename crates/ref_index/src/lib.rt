@@ -7,6 +7,7 @@ pub mod document;
 pub mod entry;
 pub mod found;
 pub mod index;
+pub mod layer;
 pub mod path;
 mod queue;
 pub mod reference;

@@ -1,0 +1,71 @@
+-- A document behind others.
+use Rattle.std.proofs.Common.{◌≡◌, ℕ, zero, suc, List, [], ◌∷◌, ◌++◌, flat_map, length, Some, refl, sym, ap, ◌∙◌, subst, append-nil}
+use Rattle.std.specs.Prelude.{slice_get}
+use Rattle.std.specs.List.{AllZip}
+use Rattle.std.proofs.lemmas.Grind.{flat_map-append}
+use Rattle.ref_uri.specs.declared.error.UriFault.{UriFault}
+use Rattle.referencing.specs.World.{Document, Layer}
+use Rattle.referencing.specs.Places.{Place, places}
+use Rattle.referencing.specs.Resources.{resources_in, resources}
+use Rattle.referencing.specs.Anchors.{Named, names_in, names}
+use Rattle.referencing.specs.Wants.{Want, wants, faults}
+use Rattle.ref_index.specs.declared.entry.Entry.{Entry}
+use Rattle.ref_index.specs.declared.found.Found.{Found}
+use Rattle.ref_index.specs.Found.{IsEntryOf, IsResourceOf, IsNameOf, Holds}
+use Rattle.ref_index.specs.Visits.{IsFirstFault, IsWalked, IsFound, faults_of, wants_of}
+use Rattle.ref_index.proofs.Visiting.{holds_same}
+
+-- ---- numbers of documents
+
+there_still : {X : Type 0} (xs ys : List X) (i : ℕ) (x : X) → slice_get xs i ≡ Some x → slice_get (xs ++ ys) i ≡ Some x
+there_still [] ys i x is = cc
+there_still (y ∷ xs) ys zero x is = is
+there_still (y ∷ xs) ys (suc i) x is = there_still xs ys i x is
+
+pub at_length : {X : Type 0} (xs : List X) (x : X) → slice_get (xs ++ x ∷ []) (length xs) ≡ Some x
+at_length [] x = refl
+at_length (y ∷ xs) x = at_length xs x
+
+-- ---- what was found stays
+
+entry_stays : (layer more : Layer) (e : Entry) (p : Place) → IsEntryOf layer e p → IsEntryOf (layer ++ more) e p
+entry_stays layer more e p is = record {
+  document = is.document;
+  numbered = there_still layer more e.document is.document is.numbered;
+  path = is.path;
+  value = is.value;
+  draft = is.draft;
+  base = is.base;
+}
+
+zip_weaker : {A B : Type 0} (R S : A → B → Type 0) → ((a : A) (b : B) → R a b → S a b) → (xs : List A) (ys : List B) → AllZip R xs ys → AllZip S xs ys
+zip_weaker R S each [] [] all = tt
+zip_weaker R S each [] (y ∷ ys) all = absurd all
+zip_weaker R S each (x ∷ xs) [] all = absurd all
+zip_weaker R S each (x ∷ xs) (y ∷ ys) all = (each x y all.0, zip_weaker R S each xs ys all.1)
+
+pub holds_stays : (layer more : Layer) (f : Found) (rs : List (List ℕ × Place)) (ns : List Named) (ws : List Want) → Holds layer f rs ns ws → Holds (layer ++ more) f rs ns ws
+holds_stays layer more f rs ns ws held = record {
+  by_uri = zip_weaker (IsResourceOf layer) (IsResourceOf (layer ++ more)) (λ t r is. (is.0, is.1, entry_stays layer more t.2.value r.1 is.2)) f.resources.items rs held.by_uri;
+  by_name = zip_weaker (IsNameOf layer) (IsNameOf (layer ++ more)) (λ t n is. (is.0, is.1, is.2, entry_stays layer more t.2.entry.value n.place is.3)) f.names.items ns held.by_name;
+  wanted = held.wanted;
+  known = held.known;
+}
+
+-- ---- lists of layers
+
+one_more : {A : Type 0} (f : Document → List A) (layer : Layer) (d : Document) → flat_map f layer ++ f d ≡ flat_map f (layer ++ d ∷ [])
+one_more f layer d = ap (λ l. flat_map f layer ++ l) (sym (append-nil (f d))) ∙ sym (flat_map-append f layer (d ∷ []))
+
+pub faults_more : (layer : Layer) (d : Document) → faults layer ≡ [] → flat_map faults_of (places d) ≡ faults (layer ++ d ∷ [])
+faults_more layer d none = ap (λ l. l ++ flat_map faults_of (places d)) (sym none) ∙ one_more (λ e. flat_map faults_of (places e)) layer d
+
+pub found_more : (layer : Layer) (d : Document) (old new : Found) → IsFound layer old → IsWalked d (length layer) old new (places d) → IsFound (layer ++ d ∷ []) new
+found_more layer d old new is walk = record {
+  held = holds_same (layer ++ d ∷ []) new _ _ _ _ _ _ (one_more resources_in layer d) (one_more names_in layer d) (one_more (λ e. flat_map wants_of (places e)) layer d)
+      (walk.added (layer ++ d ∷ []) (resources layer) (names layer) (wants layer) (at_length layer d) (holds_stays layer (d ∷ []) old (resources layer) (names layer) (wants layer) is.held));
+  faultless = sym (faults_more layer d is.faultless) ∙ walk.faultless;
+}
+
+pub first_of_layer : (layer : Layer) (d : Document) (fault : UriFault) → faults layer ≡ [] → IsFirstFault (flat_map faults_of (places d)) fault → IsFirstFault (faults (layer ++ d ∷ [])) fault
+first_of_layer layer d fault none first = subst (λ l. IsFirstFault l fault) (faults_more layer d none) first
