@@ -6,3 +6,4 @@ pub mod Visiting
 pub mod Walking
 pub mod Looking
 pub mod Layers
+pub mod Opening

@@ -8,6 +8,7 @@ pub mod entry;
 pub mod found;
 pub mod index;
 pub mod layer;
+pub mod open;
 pub mod path;
 mod queue;
 pub mod reference;

@@ -1,0 +1,53 @@
+-- Whether a URI means a place, by what was found and by parents.
+use Rattle.std.proofs.Common.{◌≡◌, ℕ, zero, suc, ◌+◌, ◌<◌, ◌≤◌, arith, subst, Bool, true, false, ◌||◌, cond, List, [], ◌∷◌, ◌++◌, map, take, drop, length, get_or, filter, Option, Some, None, is_some, refl, sym, ap, ◌∙◌, bytes_eq}
+use Rattle.std.specs.Prelude.{slice_get}
+use Rattle.std.specs.List.{list_any, last_or, AllByRecursion}
+use Rattle.std.proofs.lemmas.List.{map_more, take-map, drop-append-le, length-map, length-take-le}
+use Rattle.std.specs.Option.{option_map_or}
+use Rattle.referencing.specs.World.{Layer, World}
+use Rattle.referencing.specs.Places.{Place}
+use Rattle.referencing.specs.Resources.{last_under, resources, means}
+use Rattle.referencing.proofs.Last.{last_there}
+
+any_step : (r : List ℕ × Place) (rs : List (List ℕ × Place)) (test : List ℕ × Place → Bool) (here : Bool) → list_any test rs ≡ is_some (last_or None (filter test rs))
+    → (here || list_any test rs) ≡ is_some (last_or None (cond here (r ∷ filter test rs) (filter test rs)))
+any_step r rs test true rest = sym (last_there r (filter test rs))
+any_step r rs test false rest = rest
+
+any_last : (test : List ℕ × Place → Bool) (rs : List (List ℕ × Place)) → list_any test rs ≡ is_some (last_or None (filter test rs))
+any_last test [] = refl
+any_last test (r ∷ rs) = any_step r rs test (test r) (any_last test rs)
+
+one_or : (entry : Option (List ℕ × Place)) (behind : Option Place) → is_some (option_map_or (λ e. Some e.1) entry behind) ≡ (is_some entry || is_some behind)
+one_or None behind = refl
+one_or (Some e) behind = refl
+
+-- of the nearest layer, and of those behind it
+pub meaning_or : (layer : Layer) (parents : World) (uri : List ℕ) → is_some (means (layer ∷ parents) uri) ≡ (is_some (last_under uri (resources layer)) || is_some (means parents uri))
+meaning_or layer parents uri = one_or (last_under uri (resources layer)) (means parents uri)
+
+pub known_is : (uri : List ℕ) (rs : List (List ℕ × Place)) → list_any (λ (r : List ℕ × Place). bytes_eq r.0 uri) rs ≡ is_some (last_under uri rs)
+known_is uri rs = any_last (λ r. bytes_eq r.0 uri) rs
+
+-- ---- wants in turn
+
+all_push : {X : Type 0} (P : X → Type 0) (xs : List X) (x : X) → AllByRecursion P xs → P x → AllByRecursion P (xs ++ x ∷ [])
+all_push P [] x all here = (here, tt)
+all_push P (y ∷ xs) x all here = (all.0, all_push P xs x all.1 here)
+
+-- what holds of the wants from a number on, and of the next
+pub one_more_met : {W X : Type 0} (P : X → Type 0) (from i : ℕ) (items : List W) (xs : List X) (w : W) (f : W → X) → map f items ≡ xs → from ≤ i → i < length items → w ≡ get_or items i w → P (f w)
+    → AllByRecursion P (drop from (take i xs)) → AllByRecursion P (drop from (take (i + 1) xs))
+one_more_met P from i items xs w f is le within at here all =
+    let long : length xs ≡ length items = sym (ap length is) ∙ length-map items f in
+    let next : take (i + 1) xs ≡ take i xs ++ f w ∷ [] =
+    ap (take (i + 1)) (sym is) ∙ take-map f (i + 1) items ∙ map_more f items i w within ∙ ap (λ v. map f (take i items) ++ f v ∷ []) (sym at) ∙ ap (λ l. l ++ f w ∷ []) (sym (take-map f i items) ∙ ap (take i) is) in
+    let split : drop from (take (i + 1) xs) ≡ drop from (take i xs) ++ f w ∷ [] =
+    ap (drop from) next ∙ drop-append-le from (take i xs) (f w ∷ []) (omega (arith, long, length-take-le i xs (omega (arith, long)))) in
+    subst (AllByRecursion P) (sym split) (all_push P (drop from (take i xs)) (f w) all here)
+
+-- nothing stands past the end
+pub none_past : {X : Type 0} (xs : List X) (i : ℕ) (x : X) (Q : Type 0) → length xs ≤ i → slice_get xs i ≡ Some x → Q
+none_past [] i x Q le is = cc
+none_past (y ∷ xs) zero x Q le is = absurd (omega arith)
+none_past (y ∷ xs) (suc i) x Q le is = none_past xs i x Q (omega arith) is

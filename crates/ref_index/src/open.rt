@@ -1,0 +1,54 @@
+//! Which wants are open: those whose URIs mean no place, in the documents walked so far nor in a parent's.
+ghost use Rattle.std.specs.Prelude.{◌≡◌, ℕ, List, ◌∷◌, ◌<◌, ◌≤◌, ◌-◌, map, take, drop, vec_len, slice_get, is_some, Some, true, false, IfSome};
+ghost use Rattle.std.specs.List.{AllByRecursion};
+ghost use Rattle.referencing.specs.World.{Layer};
+ghost use Rattle.referencing.specs.Resources.{means, resources};
+ghost use Rattle.referencing.specs.Anchors.{Named};
+ghost use Rattle.referencing.specs.Wants.{Want as Wanted, is_open};
+ghost use Rattle.ref_index.specs.Found.{Holds};
+
+use crate::found::Found;
+use crate::index::Index;
+
+// Whether a URI means a place in a parent.
+fn is_known_above(parents: &[&Index<'_>], uri: &str) -> bool
+    ensures { result ≡ is_some (means (map (λ p. p.now) parents.now) uri.now) }
+{
+    for parent in parents {
+        if parent.resource(uri).is_some() {
+            return true;
+        }
+    }
+    false
+}
+
+/// Whether a URI means a place, in what was found so far or in a parent. A look-up in a hashed set, and then in each parent's
+/// table; takes no memory.
+pub fn has_meaning(found: &Found, parents: &[&Index<'_>], uri: &str) -> bool
+    ensures value { (layer : Layer) (names : List Named) (wants : List Wanted) → Holds layer found.now (resources layer) names wants
+        → result ≡ is_some (means (layer ∷ map (λ p. p.now) parents.now) uri.now) }
+{
+    found.identified.contains(uri) || is_known_above(parents, uri)
+}
+
+/// The number of the first want that is open, from a number on: of those before it none is. The number of wants where none
+/// is. A look-up for each want that it passes; takes no memory.
+pub fn first_open(found: &Found, parents: &[&Index<'_>], from: usize) -> usize
+    requires { from ≤ vec_len found.now.wants }
+    ensures from { from ≤ result }
+    ensures within { result ≤ vec_len found.now.wants }
+    ensures met { (layer : Layer) (names : List Named) (wants : List Wanted) → Holds layer found.now (resources layer) names wants
+        → AllByRecursion (λ w. is_open (layer ∷ map (λ p. p.now) parents.now) w ≡ false) (drop from (take result wants)) }
+    ensures open { (layer : Layer) (names : List Named) (wants : List Wanted) (w : Wanted) → Holds layer found.now (resources layer) names wants
+        → slice_get wants result ≡ Some w → is_open (layer ∷ map (λ p. p.now) parents.now) w ≡ true }
+{
+    let mut number = from;
+    while number < found.wants.len() {
+        let want = &found.wants[number];
+        if !has_meaning(found, parents, want.uri.as_str()) {
+            return number;
+        }
+        number += 1;
+    }
+    number
+}
