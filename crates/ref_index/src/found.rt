@@ -58,7 +58,7 @@ impl Found {
         }
     }
 
-    /// Adds that a URI identifies a place. Takes memory for the text of the URI, and is refusals_of where there is none.
+    /// Adds that a URI identifies a place. Takes memory for the text of the URI, and is refused where there is none.
     pub fn add_resource(
         &mut self,
         alloc: Global,

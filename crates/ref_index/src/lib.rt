@@ -1,6 +1,7 @@
 //! The walk over documents: the places where schemas stand, what identifies them, and what they want.
 //!
-//! A document's own text stays where it is. Read `specs/Views.antt` first, which says what contracts see of the types here.
+//! A document's own text stays where it is. Read `specs/Found.antt`, `specs/Visits.antt`
+//! and `specs/Index.antt` first.
 #![tactic(auto)]
 
 pub mod document;

@@ -45,9 +45,10 @@ impl<V: Drop> SortedTable<V> {
         let entered = Snapshot::of(&entries);
         // Sorting keeps the order of equal pairs, and of these the first stays.
         entries.reverse();
-        entries
-            .as_mut_slice()
-            .sort_by(alloc, |a, b| order(a, b.0.as_str(), b.1.as_str()))?;
+        entries.as_mut_slice().sort_by(
+            alloc,
+            |a, b| order(a.0.as_str(), a.1.as_str(), b.0.as_str(), b.1.as_str()),
+        )?;
         entries.dedup_by(|a, b| a.0 == b.0 && a.1 == b.1);
         Ok(SortedTable {
             kept: entries,
@@ -96,15 +97,15 @@ fn probe<V>(entry: &(String, String, V), first: &str, second: &str, probes: &mut
     ensures counted { probes.new ≡ probes.old + 1 }
 {
     *probes += 1;
-    order(entry, first, second)
+    order(entry.0.as_str(), entry.1.as_str(), first, second)
 }
 
-// The order of an entry and two texts: by the first, and by the second only where the first are equal.
-fn order<V>(entry: &(String, String, V), first: &str, second: &str) -> Ordering
-    ensures { result ≡ pair_cmp (pair_of entry.now) (first.now, second.now) }
+// The order of two pairs of texts: by the first of each, and by the second only where those are equal.
+fn order(first: &str, second: &str, other_first: &str, other_second: &str) -> Ordering
+    ensures { result ≡ pair_cmp (first.now, second.now) (other_first.now, other_second.now) }
 {
-    match entry.0.as_str().cmp(&first) {
-        Ordering::Equal => entry.1.as_str().cmp(&second),
+    match first.cmp(&other_first) {
+        Ordering::Equal => second.cmp(&other_second),
         unequal => unequal,
     }
 }

@@ -41,7 +41,7 @@ abbrev pub named : World → List ℕ → List ℕ → Option Named
 named [] uri name = None
 named (layer ∷ world) uri name = option_or (last_named uri name (names layer)) (named world uri name)
 
--- where a URI means a place that an identifier of its own identifies: the entry under the URI of that identifier
+-- where a URI means a place with an identifier: the entry of the name under that place's base
 abbrev pub named_by_identifier : World → List ℕ → List ℕ → Option Named
 named_by_identifier world uri name = option_and_then (λ own. named world own name) (option_and_then own_uri (means world uri))
 

@@ -1,6 +1,6 @@
 //! One request from its bytes to its report.
 ghost use Rattle.std.specs.Prelude.{◌≡◌, ◌++◌, ◌<◌, Some, Ok, Err, IfOk, IfSome, OnOk, IfErr, option_map, ◌⊎◌, ◌≢◌, map, IsTrue, true, false, string_bytes};
-ghost use Rattle.std.specs.Io.KnownBytes.{Appends, Consumes};
+ghost use Rattle.std.specs.Io.KnownBytes.{Appends, Consumes, IsAtEnd};
 ghost use Rattle.serde_json.specs.View.{view};
 ghost use Rattle.refwalk.specs.Bytes.{HasFailed, counted};
 ghost use Rattle.refwalk.specs.Run.{AnswersBytes, AnswersRequest, Reports, IsUnanswered, exit_status};
@@ -70,6 +70,7 @@ impl fmt::Display for RunError {
 fn read_to_end<R: Source>(alloc: Global, reader: &mut R) -> Result<Vec<u8>, RunError>
     ensures bytes { IfOk result (λ v. Consumes (R.remaining reader.old) (R.remaining reader.new) v.items) }
     ensures end { OnOk result (IsTrue (R.ended reader.new)) }
+    ensures rest { OnOk result (IsAtEnd (R.remaining reader.new)) }
     ensures error { IfErr result (λ e. (e ≡ RunError.Read) ⊎ (e ≡ RunError.Memory)) }
     ensures read { result ≡ Err RunError.Read → HasFailed (R.failures reader.old) (R.failures reader.new) }
     ensures no_read_failed { result ≢ Err RunError.Read → R.failures reader.new ≡ R.failures reader.old }
@@ -117,12 +118,12 @@ pub fn run<R: Source, W: Sink>(
     reader: &mut R,
     writer: &mut W,
 ) -> Result<Status, RunError>
-    // Where there is a status, the source is at its end, what was written is the report of all that was read, and the
+    // Where there is a status, the source is at its end and has no byte left, what was written is the report of all that was read, and the
     // status is that of the report.
-    ensures reported { IfOk result (λ status. IsTrue (R.ended reader.new)
+    ensures reported { IfOk result (λ status. (IsTrue (R.ended reader.new) × IsAtEnd (R.remaining reader.new))
         × Reports (R.remaining reader.old) (R.remaining reader.new) (W.taken writer.old) (W.taken writer.new) status) }
     // "Not yet" comes only where no report answers what was read.
-    ensures not_yet { result ≡ Err RunError.NotYet → IsTrue (R.ended reader.new)
+    ensures not_yet { result ≡ Err RunError.NotYet → (IsTrue (R.ended reader.new) × IsAtEnd (R.remaining reader.new))
         × IsUnanswered (R.remaining reader.old) (R.remaining reader.new) }
     // A read that failed, and a write that failed: a failed read is never passed over.
     ensures read { result ≡ Err RunError.Read → HasFailed (R.failures reader.old) (R.failures reader.new) }

@@ -63,7 +63,8 @@ impl Sink for MemorySink {
     }
 }
 
-/// The bytes of a writer of the library's, as those of standard output: it tells what was taken where the writer does.
+/// A writer of the library's: which bytes it took is told where the writer tells it, as one over memory does and standard
+/// output doesn't.
 #[derive(Drop)]
 pub struct Output<W: Drop> {
     pub writer: W,

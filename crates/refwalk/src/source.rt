@@ -75,10 +75,11 @@ impl Source for MemorySource<'_> {
     }
 }
 
-/// The bytes of a reader of the library's, as those of standard input: it tells which bytes are left where the reader does.
+/// A reader of the library's: which bytes are left is told where the reader tells it, as one over memory does and standard
+/// input doesn't.
 #[derive(Drop)]
 pub struct Input<R: Drop> {
-    reader: R,
+    pub reader: R,
     pub ended: bool,
     pub failures: u64,
 }
