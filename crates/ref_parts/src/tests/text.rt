@@ -80,8 +80,22 @@ fn the_first_escape_is_found(rt: HostRuntime) {
     }
 }
 
-// Whether the escape is found behind these many other bytes and before those many, 90 of which make more than a block.
+// Whether the escape is found behind these many other bytes and before those many, whatever these are: 90 of them make more
+// than a block.
 fn is_found(alloc: Global, escape: u8, before: usize, after: usize) -> Result<bool, AllocError> {
+    Ok(
+        is_found_before(alloc, escape, before, after, b'/')?
+            && is_found_before(alloc, escape, before, after, b'.')?,
+    )
+}
+
+fn is_found_before(
+    alloc: Global,
+    escape: u8,
+    before: usize,
+    after: usize,
+    behind: u8,
+) -> Result<bool, AllocError> {
     let mut bytes = Vec::new(alloc);
     for _ in 0..before {
         bytes.push(b'.')?;
@@ -89,7 +103,7 @@ fn is_found(alloc: Global, escape: u8, before: usize, after: usize) -> Result<bo
     let none = first_escape(bytes.as_slice());
     bytes.push(escape)?;
     for _ in 0..after {
-        bytes.push(b'/')?;
+        bytes.push(behind)?;
     }
     Ok(none.is_none() && first_escape(bytes.as_slice()) == Some(before))
 }
