@@ -32,7 +32,8 @@ pub struct Want {
     pub uri: Rc<Uri>,
 }
 
-/// What was found so far, in the order of documents and places.
+/// What was found so far, in the order of documents and places. Where a call on it is refused, nothing is said of it
+/// afterwards: it is to be let go.
 #[derive(Drop)]
 pub struct Found {
     /// The places that URIs identify, each under its URI and the empty text.

@@ -21,7 +21,8 @@ fn push<'a>(documents: &mut Vec<Document<'a>>, document: Document<'a>) -> Result
 /// Adds a document behind the others, and what its places are identified by, are named and want behind what was found in
 /// them. The document is moved, and its value never copied.
 ///
-/// Refuses for the first fault of the documents, which is then one of this document's; and for want of memory.
+/// Refuses for the first fault of the documents, which is then one of this document's; and for want of memory. Of what was
+/// found and of the documents nothing is said then: both are to be let go.
 pub fn append<'a>(
     alloc: Global,
     documents: &mut Vec<Document<'a>>,

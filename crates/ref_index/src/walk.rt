@@ -299,7 +299,7 @@ fn root_of<'w>(alloc: Global, document: &'w Document<'_>) -> Result<Visit<'w>, A
 /// Walks over the places of a document, whose number is given, and adds what they are identified by, are named and want.
 ///
 /// Refuses for the first fault of the document's places, level by level: an identifier, a reference or the name of a
-/// meta-schema that means no URI; and for want of memory.
+/// meta-schema that means no URI; and for want of memory. Of what was found nothing is said then: it is to be let go.
 pub fn walk(
     alloc: Global,
     found: &mut Found,
