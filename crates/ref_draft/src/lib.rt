@@ -11,8 +11,6 @@ pub mod laws;
 pub mod resource;
 pub mod segments;
 mod spec;
-#[cfg(test)]
-mod tests;
 
 pub use anchor::{Anchor, AnchorIter};
 pub use draft::Draft;

@@ -37,6 +37,14 @@ impl Resource {
         self.draft
     }
 
+    /// The draft and the document, moved out. It takes no memory.
+    pub fn into_inner(self) -> (Draft, Value)
+        ensures value { tagged result.0 (view result.1) ≡ resource self }
+    {
+        let Resource { contents, draft } = self;
+        (draft, contents)
+    }
+
     /// The document as a resource of the draft that 2020-12 detects on it. It takes no memory.
     pub fn from_contents(contents: Value) -> Resource
         ensures value { let tree = view contents in resource result ≡ tagged (detect Draft.Draft202012 tree) tree }

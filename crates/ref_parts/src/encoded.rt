@@ -74,9 +74,8 @@ impl EncodedBuffer {
     pub fn new(alloc: Global) -> Self
         ensures empty { result ≡ [] }
     {
-        EncodedBuffer {
-            text: String::new(alloc),
-        }
+        let text = String::new(alloc);
+        EncodedBuffer { text }
     }
 
     /// Appends a text, escaped.

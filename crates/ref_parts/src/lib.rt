@@ -22,6 +22,3 @@ pub use list::{Iter, List};
 pub use path::{JsonPointerNode, JsonPointerSegment};
 pub use small_map::{BorrowedKey, SmallMap};
 pub use table::SortedTable;
-
-#[cfg(test)]
-mod tests;

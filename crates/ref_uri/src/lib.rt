@@ -22,8 +22,3 @@ mod written;
 pub use error::{ParseError, ResolveError, ResolveFault, UriError, UriFault, UriParseFault};
 pub use reference::UriRef;
 pub use uri::Uri;
-
-#[cfg(test)]
-mod seams;
-#[cfg(test)]
-mod tests;

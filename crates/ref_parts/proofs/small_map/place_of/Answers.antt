@@ -15,7 +15,7 @@ returns-then-eq g c =
     record {
       within = c.loop-place-test.true;
       first = c.loop-place.invariant;
-      here = ((c.in-Some.k, c.in-Some.field-0-1), here, sym c.eq.ensures ∙ c.if-eq.true);
+      here = ((c.in-Some.k, c.in-Some.field-0-1), here, ◌∙◌ {a = g.K.PartialEq.eq c.args.key.now c.in-Some.k} (sym c.eq.ensures) c.if-eq.true);
     }
 
 pub loop-place-preserved : goal.loop-place-preserved

@@ -2,7 +2,8 @@
 ghost use Rattle.std.specs.Prelude.{◌≡◌, IfOk, option_copied};
 ghost use Rattle.ref_parts.specs.Table.{entries_of, last_value, pair_count};
 
-use crate::table::SortedTable;
+use crate::asserts::{same, same_at};
+use ref_parts::SortedTable;
 use std::alloc::{AllocError, Global};
 use std::test::Fail;
 
@@ -55,29 +56,56 @@ fn found(
 }
 
 #[test]
+fn an_empty_table_answers_nothing(rt: HostRuntime) -> Result<(), Fail> {
+    same(&rt, found(rt.alloc(), &[], "a", "")?, (0, None, 0));
+    Ok(())
+}
+
+#[test]
 fn a_table_answers_the_last_value_of_a_pair(rt: HostRuntime) -> Result<(), Fail> {
-    let three = [("b", "", 1), ("a", "", 2), ("b", "", 3)];
-    let seconds = [("a", "y", 1), ("a", "x", 2), ("a", "", 3), ("a", "y", 4)];
-    let beginnings = [("ab", "", 1), ("a", "b", 2), ("", "ab", 3), ("abc", "", 4)];
-    for (entries, first, second, count, value, at_most) in [
-        ([].as_slice(), "a", "", 0usize, None, 0usize),
-        (three.as_slice(), "b", "", 2, Some(3), 2),
-        (three.as_slice(), "a", "", 2, Some(2), 2),
-        (three.as_slice(), "c", "", 2, None, 2),
-        (three.as_slice(), "b", "b", 2, None, 2),
-        (seconds.as_slice(), "a", "", 3, Some(3), 2),
-        (seconds.as_slice(), "a", "x", 3, Some(2), 2),
-        (seconds.as_slice(), "a", "y", 3, Some(4), 2),
-        (seconds.as_slice(), "a", "z", 3, None, 2),
-        (beginnings.as_slice(), "a", "b", 4, Some(2), 3),
-        (beginnings.as_slice(), "ab", "", 4, Some(1), 3),
-        (beginnings.as_slice(), "", "ab", 4, Some(3), 3),
-        (beginnings.as_slice(), "abc", "", 4, Some(4), 3),
-        (beginnings.as_slice(), "a", "", 4, None, 3),
+    let entries = [("b", "", 1), ("a", "", 2), ("b", "", 3)];
+    for (first, second, value) in [
+        ("b", "", Some(3)),
+        ("a", "", Some(2)),
+        ("c", "", None),
+        ("b", "b", None),
     ] {
-        let (len, found, probes) = found(rt.alloc(), entries, first, second)?;
-        assert_eq!(rt; (len, found), (count, value), "under {first} and {second}");
-        assert!(rt; probes <= at_most);
+        let (len, found, probes) = found(rt.alloc(), &entries, first, second)?;
+        same_at(&rt, (len, found), (2, value), (first, second));
+        assert!(rt; probes <= 2);
+    }
+    Ok(())
+}
+
+#[test]
+fn second_texts_tell_pairs_apart(rt: HostRuntime) -> Result<(), Fail> {
+    let entries = [("a", "y", 1), ("a", "x", 2), ("a", "", 3), ("a", "y", 4)];
+    for (first, second, value) in [
+        ("a", "", Some(3)),
+        ("a", "x", Some(2)),
+        ("a", "y", Some(4)),
+        ("a", "z", None),
+    ] {
+        let (len, found, probes) = found(rt.alloc(), &entries, first, second)?;
+        same_at(&rt, (len, found), (3, value), (first, second));
+        assert!(rt; probes <= 2);
+    }
+    Ok(())
+}
+
+#[test]
+fn pairs_are_more_than_their_texts_together(rt: HostRuntime) -> Result<(), Fail> {
+    let entries = [("ab", "", 1), ("a", "b", 2), ("", "ab", 3), ("abc", "", 4)];
+    for (first, second, value) in [
+        ("a", "b", Some(2)),
+        ("ab", "", Some(1)),
+        ("", "ab", Some(3)),
+        ("abc", "", Some(4)),
+        ("a", "", None),
+    ] {
+        let (len, found, probes) = found(rt.alloc(), &entries, first, second)?;
+        same_at(&rt, (len, found), (4, value), (first, second));
+        assert!(rt; probes <= 3);
     }
     Ok(())
 }
@@ -136,40 +164,47 @@ fn equal_pairs(alloc: Global, count: u32) -> Result<(usize, Option<u32>, usize),
 
 #[test]
 fn of_equal_pairs_the_last_stays(rt: HostRuntime) -> Result<(), Fail> {
-    assert_eq!(rt; equal_pairs(rt.alloc(), 100_000)?, (1, Some(99_999), 1));
+    same(&rt, equal_pairs(rt.alloc(), 100_000)?, (1, Some(99_999), 1));
     Ok(())
 }
 
 // ---- tables of what owns and of what borrows
 
-// What tables of owned texts and of borrowed ones have under a pair.
-fn texts_found<'a>(
+// What a table of owned texts has under a pair.
+fn owned_text(alloc: Global, first: &str, value: &str) -> Result<Option<String>, AllocError> {
+    let mut entries = Vec::new(alloc);
+    let key = String::from_str(alloc, first)?;
+    let text = String::from_str(alloc, value)?;
+    entries.push((key, String::new(alloc), text))?;
+    let table = table_of(alloc, entries)?;
+    match value_at(&table, first, "") {
+        Some(text) => Ok(Some(text.clone()?)),
+        None => Ok(None),
+    }
+}
+
+// What a table of borrowed texts has under a pair.
+fn lent_text<'a>(
     alloc: Global,
     first: &str,
     value: &'a str,
-) -> Result<(String, Option<&'a str>), AllocError> {
-    let mut owned = Vec::new(alloc);
-    let mut borrowed = Vec::new(alloc);
-    owned.push((
-        String::from_str(alloc, first)?,
-        String::new(alloc),
-        String::from_str(alloc, value)?,
-    ))?;
-    borrowed.push((String::from_str(alloc, first)?, String::new(alloc), value))?;
-    let owned = table_of(alloc, owned)?;
-    let borrowed = table_of(alloc, borrowed)?;
-    let text = match value_at(&owned, first, "") {
-        Some(text) => text.clone()?,
-        None => String::new(alloc),
-    };
-    Ok((text, value_at(&borrowed, first, "").copied()))
+) -> Result<Option<&'a str>, AllocError> {
+    let mut entries = Vec::new(alloc);
+    let key = String::from_str(alloc, first)?;
+    entries.push((key, String::new(alloc), value))?;
+    let table = table_of(alloc, entries)?;
+    Ok(value_at(&table, first, "").copied())
 }
 
 #[test]
 fn a_table_lends_what_it_owns_and_what_it_borrows(rt: HostRuntime) -> Result<(), Fail> {
     let value = String::from_str(rt.alloc(), "value")?;
-    let (text, lent) = texts_found(rt.alloc(), "a", value.as_str())?;
-    assert_eq!(rt; text.as_str(), "value");
-    assert_eq!(rt; lent, Some("value"));
+    let owned = owned_text(rt.alloc(), "a", value.as_str())?;
+    same(&rt, owned.as_deref(), Some("value"));
+    same(
+        &rt,
+        lent_text(rt.alloc(), "a", value.as_str())?,
+        Some("value"),
+    );
     Ok(())
 }

@@ -1,7 +1,7 @@
 use Rattle.std.proofs.Common.{ap, bytes_eq, string_bytes}
 use Rattle.std.proofs.lemmas.Result.{IfOk-weaker}
 use Rattle.ref_parts.proofs.MapLaws.{lookup_cloned}
-use Rattle.ref_parts.proofs.tests.maps.text_copy.Goals as goal
+use Rattle.ref_parts_tests.proofs.map_copies.text_copy.Goals as goal
 
 pub returns : goal.returns
 returns c =

@@ -1,7 +1,8 @@
 //! The shared list.
 ghost use Rattle.std.specs.Prelude.{◌≡◌, [], ◌∷◌, IfOk, IsTrue};
 
-use crate::list::List;
+use crate::asserts::{same, same_at};
+use ref_parts::List;
 use std::alloc::{AllocError, Global};
 use std::fmt;
 use std::hash::{DefaultHasher, Hash, Hasher};
@@ -114,20 +115,21 @@ fn shown(alloc: Global, items: &[u32]) -> Result<String, AllocError> {
 
 #[test]
 fn a_list_has_its_items_in_order(rt: HostRuntime) -> Result<(), Fail> {
-    assert_eq!(rt;
+    same(
+        &rt,
         told_of_three(rt.alloc())?,
         [
             (true, None, None, [None, None, None, None], 0),
             (false, Some(2), Some(2), [Some(2), None, None, None], 2),
             (false, Some(1), Some(1), [Some(1), Some(2), None, None], 3),
-        ]
+        ],
     );
     for (items, text) in [
         ([].as_slice(), "[]"),
         ([2].as_slice(), "[2]"),
         ([1, 2].as_slice(), "[1, 2]"),
     ] {
-        assert_eq!(rt; shown(rt.alloc(), items)?.as_str(), text);
+        same(&rt, shown(rt.alloc(), items)?.as_str(), text);
     }
     Ok(())
 }
@@ -168,34 +170,49 @@ fn texts_shown(alloc: Global) -> Result<(String, String), AllocError> {
 #[test]
 fn a_list_of_texts_serves_generic_callers(rt: HostRuntime) -> Result<(), Fail> {
     let (front, count, are_equal, hash_alike) = texts_told(rt.alloc())?;
-    assert_eq!(rt; front.as_str(), "Some(\"a\")");
-    assert_eq!(rt; count, 2);
+    same(&rt, front.as_str(), "Some(\"a\")");
+    same(&rt, count, 2);
     assert!(rt; are_equal && hash_alike);
     let (copy, longer) = texts_shown(rt.alloc())?;
-    assert_eq!(rt; copy.as_str(), "[\"a\", \"b\"]");
-    assert_eq!(rt; longer.as_str(), "[\"a\", \"a\", \"b\"]");
+    same(&rt, copy.as_str(), "[\"a\", \"b\"]");
+    same(&rt, longer.as_str(), "[\"a\", \"a\", \"b\"]");
     Ok(())
 }
 
-// Whether a list of one number is like itself, and like one of two.
-fn likeness(alloc: Global) -> Result<(bool, bool), AllocError> {
-    let one = numbers(alloc, 1)?;
-    let two = numbers(alloc, 2)?;
-    Ok((are_alike(&one, &one), are_alike(&one, &two)))
+// Whether lists of so many numbers are equal, also by a call that only knows that they can be, and whether they hash alike
+// where they are.
+fn likeness(alloc: Global, count: u32, other: u32) -> Result<(bool, bool, bool), AllocError> {
+    let one = numbers(alloc, count)?;
+    let two = numbers(alloc, other)?;
+    let is_equal = one == two;
+    let hash_alike = hash_of(&one) == hash_of(&two);
+    Ok((is_equal, are_alike(&one, &two), !is_equal || hash_alike))
+}
+
+// Whether a list of so many numbers is equal to its copy.
+fn equals_its_copy(alloc: Global, count: u32) -> Result<bool, AllocError> {
+    let list = numbers(alloc, count)?;
+    Ok(list.clone()? == list)
+}
+
+// Whether a list of so many numbers and one with 7 in front of one fewer are equal.
+fn equals_with_seven(alloc: Global, count: u32) -> Result<bool, AllocError> {
+    let other = numbers(alloc, count.saturating_sub(1))?.push_front(alloc, Rc::new(alloc, 7)?)?;
+    Ok(numbers(alloc, count)? == other)
 }
 
 #[test]
 fn equal_lists_are_equal_and_hash_alike(rt: HostRuntime) -> Result<(), Fail> {
-    let alloc = rt.alloc();
-    assert_eq!(rt; likeness(alloc)?, (true, false));
-    let a = numbers(alloc, 3)?;
-    let b = numbers(alloc, 3)?;
-    assert!(rt; a == b);
-    assert!(rt; a.clone()? == b);
-    assert_eq!(rt; hash_of(&a), hash_of(&b));
-    assert!(rt; a != numbers(alloc, 2)?);
-    let other = numbers(alloc, 2)?.push_front(alloc, Rc::new(alloc, 7)?)?;
-    assert!(rt; a != other);
+    for (count, other, is_equal) in [(1, 1, true), (1, 2, false), (3, 3, true), (3, 2, false)] {
+        same_at(
+            &rt,
+            likeness(rt.alloc(), count, other)?,
+            (is_equal, is_equal, true),
+            (count, other),
+        );
+    }
+    assert!(rt; equals_its_copy(rt.alloc(), 3)?);
+    assert!(rt; !equals_with_seven(rt.alloc(), 3)?);
     Ok(())
 }
 
@@ -208,29 +225,36 @@ fn a_list_of_a_million_items_is_dropped(rt: HostRuntime) -> Result<(), Fail> {
         for number in 0..1_000u32 {
             longer = longer.push_front(alloc, Rc::new(alloc, number)?)?;
         }
-        assert_eq!(rt; longer.iter().next().copied(), Some(999));
+        same(&rt, longer.iter().next().copied(), Some(999));
     }
-    assert_eq!(rt; tail.iter().next().copied(), Some(999_999));
-    assert_eq!(rt; count_of(&tail), 1_000_000);
+    same(&rt, tail.iter().next().copied(), Some(999_999));
+    same(&rt, count_of(&tail), 1_000_000);
     Ok(())
 }
 
 // ---- want of memory
 
+// What a list tells that may want memory for an item in front: its first item and its count, and those of the longer one.
+fn lengthened(
+    alloc: Global,
+    list: &List<u32>,
+) -> Result<[Option<(Option<u32>, u32)>; 2], AllocError> {
+    let item = Rc::new(alloc, 7u32)?;
+    let longer = match list.push_front(alloc, item) {
+        Ok(longer) => Some((front_of(&longer).copied(), count_of(&longer))),
+        Err(_) => None,
+    };
+    Ok([Some((front_of(list).copied(), count_of(list))), longer])
+}
+
 // Whichever growth is refused, a list is copied, and an item that can't be put in front leaves the list as it was.
 #[test]
 fn a_refused_link_leaves_the_list(rt: HostRuntime) -> Result<(), Fail> {
-    let alloc = rt.alloc();
-    let list = numbers(alloc, 2)?;
-    let item = Rc::new(alloc, 7u32)?;
+    let list = numbers(rt.alloc(), 2)?;
     assert!(rt; list.clone().is_ok());
     assert!(rt; List::<u32>::new().clone().is_ok());
-    let longer = list.push_front(alloc, item);
-    assert_eq!(rt; list.iter().next().copied(), Some(1));
-    assert_eq!(rt; count_of(&list), 2);
-    if let Ok(longer) = longer {
-        assert_eq!(rt; longer.iter().next().copied(), Some(7));
-        assert_eq!(rt; count_of(&longer), 3);
-    }
+    let [shorter, longer] = lengthened(rt.alloc(), &list)?;
+    same(&rt, shorter, Some((Some(1), 2)));
+    same(&rt, longer.unwrap_or((Some(7), 3)), (Some(7), 3));
     Ok(())
 }

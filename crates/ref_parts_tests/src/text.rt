@@ -1,8 +1,10 @@
 //! Pointer text and text for a fragment.
 
-use crate::encoded::EncodedBuffer;
-use crate::escape::{first_escape, unescape_segment, write_escaped_str, write_index};
-use crate::evaluate::{parse_index, pointer};
+use crate::asserts::{same, same_at};
+use ref_parts::{
+    EncodedBuffer, first_escape, parse_index, pointer, unescape_segment, write_escaped_str,
+    write_index,
+};
 use serde_json::Value;
 use std::alloc::{AllocError, Global};
 use std::borrow::CowStr;
@@ -35,7 +37,7 @@ fn keys_are_escaped_behind_what_the_buffer_holds(rt: HostRuntime) -> Result<(), 
     ] {
         let mut buffer = String::from_str(rt.alloc(), "/")?;
         write_escaped_str(&mut buffer, key)?;
-        assert_eq!(rt; buffer.as_str(), token, "of the key {key}");
+        same_at(&rt, buffer.as_str(), token, key);
     }
     Ok(())
 }
@@ -44,7 +46,7 @@ fn keys_are_escaped_behind_what_the_buffer_holds(rt: HostRuntime) -> Result<(), 
 fn indexes_are_written_and_read(rt: HostRuntime) -> Result<(), Fail> {
     let mut buffer = String::from_str(rt.alloc(), "/")?;
     write_index(&mut buffer, 18446744073709551615)?;
-    assert_eq!(rt; buffer.as_str(), "/18446744073709551615");
+    same(&rt, buffer.as_str(), "/18446744073709551615");
     for (text, index) in [
         ("0", Some(0)),
         ("10", Some(10)),
@@ -58,7 +60,7 @@ fn indexes_are_written_and_read(rt: HostRuntime) -> Result<(), Fail> {
         ("one", None),
         ("1a", None),
     ] {
-        assert_eq!(rt; parse_index(text), index, "of {text}");
+        same_at(&rt, parse_index(text), index, text);
     }
     Ok(())
 }
@@ -76,7 +78,7 @@ fn the_first_escape_is_found(rt: HostRuntime) {
         (b"aaaaaaaaaaaaaaa~".as_slice(), Some(15)),
         (b"\xff\xff\xff\xff\xff\xff\xff\xff".as_slice(), None),
     ] {
-        assert_eq!(rt; first_escape(bytes), place, "in {bytes:?}");
+        same_at(&rt, first_escape(bytes), place, bytes);
     }
 }
 
@@ -171,10 +173,11 @@ fn tokens_are_unescaped_by_two_replacements(rt: HostRuntime) -> Result<(), Fail>
         "~~1",
         "~~0",
     ] {
-        assert_eq!(rt;
+        same_at(
+            &rt,
             unescaped(rt.alloc(), token)?.as_str(),
             replaced(rt.alloc(), token)?.as_str(),
-            "of {token}"
+            token,
         );
     }
     Ok(())
@@ -188,7 +191,7 @@ fn is_borrowed(alloc: Global, token: &str) -> Result<bool, AllocError> {
 #[test]
 fn tokens_are_unescaped_in_order(rt: HostRuntime) -> Result<(), Fail> {
     for (token, key) in [("~~1", "~/"), ("~~0", "~~"), ("~01", "~1"), ("~", "~")] {
-        assert_eq!(rt; unescaped(rt.alloc(), token)?.as_str(), key, "of {token}");
+        same_at(&rt, unescaped(rt.alloc(), token)?.as_str(), key, token);
     }
     assert!(rt; is_borrowed(rt.alloc(), "a/b")?);
     Ok(())
@@ -232,7 +235,7 @@ fn pointers_mean_values(rt: HostRuntime) -> Result<(), Fail> {
         (document, "//x", None),
     ] {
         let found = text_at(rt.alloc(), document, text)?;
-        assert_eq!(rt; found.as_deref(), value, "at {text}");
+        same_at(&rt, found.as_deref(), value, text);
     }
     Ok(())
 }
@@ -279,7 +282,7 @@ fn escaped_text_is_read_back(rt: HostRuntime) -> Result<(), Fail> {
         ),
     ] {
         let (held, read_again, is_same) = read_back(rt.alloc(), cleared, pushed)?;
-        assert_eq!(rt; (held.as_str(), read_again.as_str()), (text, read));
+        same(&rt, (held.as_str(), read_again.as_str()), (text, read));
         assert!(rt; is_same);
     }
     Ok(())

@@ -1,29 +1,32 @@
 //! Segments and nodes.
 
-use crate::path::{JsonPointerNode, JsonPointerSegment};
+use crate::asserts::same;
+use ref_parts::{JsonPointerNode, JsonPointerSegment};
 use std::alloc::{AllocError, Global};
 use std::borrow::CowStr;
 use std::test::Fail;
 
-#[test]
-fn segments_come_from_keys_and_indexes(rt: HostRuntime) -> Result<(), Fail> {
-    let name = String::from_str(rt.alloc(), "a")?;
+// Whether the segments of a text, a string and an owned one are equal, and one to its clone.
+fn key_segments_are_equal(alloc: Global) -> Result<bool, AllocError> {
+    let name = String::from_str(alloc, "a")?;
     let borrowed = JsonPointerSegment::from("a");
     let of_string = JsonPointerSegment::from(&name);
+    if borrowed != of_string {
+        return Ok(false);
+    }
     let of_cow = JsonPointerSegment::from(CowStr::Owned(name.clone()?));
+    Ok(of_string == of_cow && of_cow.clone()? == borrowed)
+}
+
+#[test]
+fn segments_come_from_keys_and_indexes(rt: HostRuntime) -> Result<(), Fail> {
+    assert!(rt; key_segments_are_equal(rt.alloc())?);
+    let key = JsonPointerSegment::from("a");
+    let copy = key.clone()?;
+    assert!(rt; matches!(copy, JsonPointerSegment::Key(CowStr::Borrowed("a"))));
     let index = JsonPointerSegment::from(3usize);
-    assert!(rt; borrowed == of_string);
-    assert!(rt; of_string == of_cow);
-    assert!(rt; of_cow.clone()? == borrowed);
-    assert!(rt;
-        matches!(
-            borrowed.clone()?,
-            JsonPointerSegment::Key(CowStr::Borrowed("a"))
-        )
-    );
-    assert!(rt; index == JsonPointerSegment::Index(3));
-    assert!(rt; index != borrowed);
-    assert!(rt; borrowed != JsonPointerSegment::from("b"));
+    assert!(rt; index == JsonPointerSegment::Index(3) && index != key);
+    assert!(rt; key != JsonPointerSegment::from("b"));
     Ok(())
 }
 
@@ -50,19 +53,50 @@ fn equal_to(alloc: Global) -> Result<(bool, bool, bool), AllocError> {
     ))
 }
 
+// Whether the node above one has this segment.
+fn stands_below(node: &JsonPointerNode<'_>, segment: &JsonPointerSegment<'_>) -> bool {
+    match node.parent() {
+        Some(parent) => *parent.segment() == *segment,
+        None => false,
+    }
+}
+
+// Whether a node is the root: without a node above it, at the index 0, and equal to the default.
+fn is_root(node: &JsonPointerNode<'_>) -> bool {
+    node.parent().is_none()
+        && *node.segment() == JsonPointerSegment::Index(0)
+        && *node == JsonPointerNode::default()
+}
+
+// Whether a node is the path of a key behind a root.
+fn is_first<'a>(
+    alloc: Global,
+    node: &JsonPointerNode<'a>,
+    key: &'a str,
+) -> Result<bool, AllocError> {
+    match node.parent() {
+        Some(root) => {
+            let path = root.push(alloc, key)?;
+            Ok(is_root(root) && path == *node)
+        }
+        None => Ok(false),
+    }
+}
+
+#[test]
+fn keys_are_pushed_and_nodes_compared(rt: HostRuntime) -> Result<(), Fail> {
+    assert!(rt; keys_are_pushed_alike(rt.alloc())?);
+    same(&rt, equal_to(rt.alloc())?, (true, true, false));
+    Ok(())
+}
+
 #[test]
 fn a_node_has_its_parts_and_its_parent(rt: HostRuntime) -> Result<(), Fail> {
-    assert!(rt; keys_are_pushed_alike(rt.alloc())?);
-    assert_eq!(rt; equal_to(rt.alloc())?, (true, true, false));
     let node = item(rt.alloc(), "a")?;
     assert!(rt; *node.segment() == JsonPointerSegment::Index(3));
+    assert!(rt; stands_below(&node, &JsonPointerSegment::from("a")));
     let parent = node.parent().ok_or("no parent")?;
-    assert!(rt; *parent.segment() == JsonPointerSegment::from("a"));
-    let first = parent.parent().ok_or("no parent")?;
-    assert!(rt; first.parent().is_none());
-    assert!(rt; *first.segment() == JsonPointerSegment::Index(0));
-    assert!(rt; *first == JsonPointerNode::default());
-    assert!(rt; first.push(rt.alloc(), "a")? == *parent);
+    assert!(rt; is_first(rt.alloc(), parent, "a")?);
     Ok(())
 }
 
