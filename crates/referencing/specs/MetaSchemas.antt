@@ -1,29 +1,27 @@
--- The URIs of the drafts' meta-schemas.
-use Rattle.std.specs.Prelude.{ℕ, List, [], ◌∷◌, ◌++◌, map, codes}
-use Rattle.ref_draft.specs.declared.draft.Draft.{Draft}
-use Rattle.ref_draft.specs.declared.draft.Draft.TheVariants.{Draft4, Draft6, Draft7, Draft201909, Draft202012, Unknown}
+-- Registries of meta-schemas.
+use Rattle.std.specs.Prelude.{ℕ, List, [], None, Result, Ok, Err}
+use Rattle.std.specs.Borrow.{Bor}
+use Rattle.serde_json.specs.View.{view}
+use Rattle.serde_json.specs.declared.value.Value.{Value}
+use Rattle.ref_uri.specs.Targets.{Refusal}
+use Rattle.ref_world.specs.Fault.{as_invalid_uri}
+use Rattle.ref_world.specs.Preparing.{Given}
+use Rattle.ref_world.specs.Retrievers.{default_retriever}
+use Rattle.ref_world.specs.Pending.{Addition, Pending, given_of_builder}
+use Rattle.ref_retrieve.specs.declared.error.Error.{Error}
+use Rattle.ref_retrieve.specs.Errors.{IsFaultOf}
+use Rattle.ref_index.specs.Retrieval.{IsFaultyOutcome}
+use Rattle.referencing.specs.Builder.{addition}
 
--- those of 2019-09: the schema's, then one for each vocabulary
-abbrev pub uris_of_2019 : List (List ℕ)
-uris_of_2019 =
-    map (λ part. codes "https://json-schema.org/draft/2019-09/" ++ part)
-    (map codes ("schema" ∷ "meta/applicator" ∷ "meta/content" ∷ "meta/core" ∷ "meta/format" ∷ "meta/meta-data" ∷ "meta/validation" ∷ []))
+-- a meta-schema under its text is added as a value, without a draft
+abbrev pub meta_addition : Bor (List ℕ) × Bor Value → Addition
+meta_addition pair = addition pair.0.now (view pair.1.now) None
 
--- those of 2020-12
-abbrev pub uris_of_2020 : List (List ℕ)
-uris_of_2020 =
-    map (λ part. codes "https://json-schema.org/draft/2020-12/" ++ part)
-    (map codes ("schema" ∷ "meta/core" ∷ "meta/applicator" ∷ "meta/unevaluated" ∷ "meta/validation" ∷ "meta/meta-data" ∷ "meta/format-annotation" ∷ "meta/format-assertion" ∷ "meta/content" ∷ []))
+-- they are prepared without a draft and parents, by the default retriever
+abbrev pub given_of_meta_schemas : List Pending → Given
+given_of_meta_schemas pending = given_of_builder default_retriever 10000 None [] pending
 
--- those of a draft; a custom meta-schema's are those of 2020-12
-abbrev pub uris_for_draft : Draft → List (List ℕ)
-uris_for_draft Draft4 = codes "http://json-schema.org/draft-04/schema#" ∷ []
-uris_for_draft Draft6 = codes "http://json-schema.org/draft-06/schema#" ∷ []
-uris_for_draft Draft7 = codes "http://json-schema.org/draft-07/schema#" ∷ []
-uris_for_draft Draft201909 = uris_of_2019
-uris_for_draft Draft202012 = uris_of_2020
-uris_for_draft Unknown = uris_of_2020
-
--- all of them, by draft
-abbrev pub uris : List (List ℕ)
-uris = uris_for_draft Draft4 ++ uris_for_draft Draft6 ++ uris_for_draft Draft7 ++ uris_of_2019 ++ uris_of_2020
+-- the error is that of the first text that means no URI, or, where all mean one, that of what is prepared
+abbrev pub IsMetaSchemaFault : Result (List Pending) Refusal → Error → Type 0
+IsMetaSchemaFault (Ok pending) error = IsFaultyOutcome (given_of_meta_schemas pending) error
+IsMetaSchemaFault (Err refusal) error = IsFaultOf {A = List Pending} (as_invalid_uri (Err refusal)) error

@@ -1,7 +1,41 @@
-//! The registry and resolver of JSON Schema references. So far the definitions stand: read `specs/World.antt`,
-//! `specs/Places.antt`, `specs/Resources.antt`, `specs/Preparing.antt`, `specs/Pending.antt`, `specs/Lookup.antt` and
-//! `specs/Follow.antt`, in this order; the calls come next.
+//! The registry and resolver of JSON Schema references.
+//!
+//! A [`RegistryBuilder`] takes documents and prepares a [`Registry`], which retrieves nothing from then on. Read
+//! `specs/Builder.antt` and `specs/Prepared.antt` first, upon `Pending.antt` and `Preparing.antt` of `ref_world`.
 #![tactic(auto)]
 
-pub mod examples;
+mod builder;
+mod input;
 pub mod laws;
+mod located;
+pub mod meta;
+mod pointed;
+mod prepare;
+mod registry;
+mod resolver;
+#[cfg(test)]
+mod tests;
+
+pub use builder::RegistryBuilder;
+pub use input::{IntoRegistryResource, PendingResource};
+pub use ref_draft::{
+    Anchor, AnchorIter, Child, ChildIter, ChildIterInner, Draft, Resource, ResourceRef, Segment,
+    Segments, trim_hashes,
+};
+pub use ref_index::Contents;
+pub use ref_parts::path::{JsonPointerNode, JsonPointerSegment};
+pub use ref_parts::{
+    BorrowedKey, Iter, List, SmallMap, SortedTable, first_escape, parse_index, pointer,
+    unescape_segment, write_escaped_str, write_index,
+};
+pub use ref_retrieve::{DefaultRetriever, Error, MapRetriever, Reason, Retrieve, RetrieveError};
+pub use ref_uri::{
+    ParseError, ResolveError, ResolveFault, Uri, UriError, UriFault, UriParseFault, UriRef,
+};
+pub use registry::Registry;
+
+/// The meaning of texts as URIs, and texts as they stand in fragments.
+pub mod uri {
+    pub use ref_parts::{EncodedBuffer, EncodedString};
+    pub use ref_uri::uri::{from_str, resolve_against};
+}

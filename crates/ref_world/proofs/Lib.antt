@@ -1,0 +1,12 @@
+pub mod OnLiterals
+pub mod Retrieval
+pub mod Last
+pub mod Appending
+pub mod Closure
+pub mod References
+pub mod Levels
+pub mod Descent
+pub mod Changes
+pub mod OneBase
+pub mod Differ
+pub mod Pending

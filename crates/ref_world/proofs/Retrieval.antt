@@ -1,0 +1,23 @@
+-- The runs that the rows of retrieval stand on.
+use Rattle.std.proofs.Common.{refl, [], ◌∷◌, codes, ℕ}
+use Rattle.ref_world.proofs.OnLiterals.{world_on_literals}
+use Rattle.ref_world.specs.Wants.{Want, Reference}
+use Rattle.ref_world.specs.Preparing.{IsRun, begun, retrieved}
+use Rattle.ref_world.specs.Rows.{given, given_with, has_b_and_c, one, text, yes, refers_to_b, b_refers_to_c, c_is_true}
+
+abbrev pub want_of_b : Want
+want_of_b = record { cause = Reference; uri = codes "http://a/b" }
+
+abbrev pub want_of_c : Want
+want_of_c = record { cause = Reference; uri = codes "http://a/c" }
+
+pub first_retrieved : (limit : ℕ) → IsRun (given_with limit) 1 (refers_to_b ∷ b_refers_to_c ∷ [])
+unfolding world_on_literals
+first_retrieved limit = retrieved 0 (refers_to_b ∷ []) want_of_b [] (one "$ref" (text "c")) begun refl refl refl
+
+pub second_retrieved : IsRun (given has_b_and_c 2 (refers_to_b ∷ [])) 2 (refers_to_b ∷ b_refers_to_c ∷ c_is_true ∷ [])
+unfolding world_on_literals
+second_retrieved =
+    retrieved 1 (refers_to_b ∷ b_refers_to_c ∷ []) want_of_c [] yes
+    (retrieved 0 (refers_to_b ∷ []) want_of_b [] (one "$ref" (text "c")) begun refl refl refl)
+    refl refl refl

@@ -1,0 +1,19 @@
+-- The retrievers that come with the library, by what they may answer and refuse.
+use Rattle.std.specs.Prelude.{◌≡◌, ℕ, List, codes, Some, None, option_map}
+use Rattle.serde_json.specs.Data.{Data}
+use Rattle.ref_world.specs.Resources.{last_under}
+use Rattle.ref_world.specs.Preparing.{Retriever}
+
+-- it always refuses
+abbrev pub default_retriever : Retriever
+default_retriever = record {
+  may_answer = λ uri tree. ⊥;
+  may_refuse = λ uri text. text ≡ codes "Default retriever does not fetch resources";
+}
+
+-- it answers the last value under a URI, and refuses the URIs that it lacks
+abbrev pub map_retriever : List (List ℕ × Data) → Retriever
+map_retriever pairs = record {
+  may_answer = λ uri tree. option_map (λ e. e.1) (last_under uri pairs) ≡ Some tree;
+  may_refuse = λ uri text. (last_under uri pairs ≡ None) × (text ≡ codes "no document under this URI");
+}

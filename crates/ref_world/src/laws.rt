@@ -1,0 +1,97 @@
+//! Laws of the definitions. Each function is empty: its contract states the law, and the check proves it.
+ghost use Rattle.std.specs.Prelude.{◌≡◌, ◌≤◌, ℕ, List, [], ◌∷◌, ◌++◌, drop, map, Some, None, Ok};
+ghost use Rattle.std.specs.List.{AllByRecursion, AllPairs};
+ghost use Rattle.std.specs.Option.{option_or};
+ghost use Rattle.serde_json.specs.Data.{Data, depth};
+ghost use Rattle.ref_parts.specs.Path.{Part, value_at};
+ghost use Rattle.ref_draft.specs.declared.draft.Draft.{Draft};
+ghost use Rattle.ref_draft.specs.UniqueKeys.{HasUniqueKeys};
+ghost use Rattle.ref_world.specs.World.{Document, Layer, World};
+ghost use Rattle.ref_world.specs.Places.{Place, root, levels_below, places};
+ghost use Rattle.ref_world.specs.Descent.{AreChildren};
+ghost use Rattle.ref_world.specs.Bases.{Along};
+ghost use Rattle.ref_world.specs.Changes.{IsBaseAlong, LeadsAlong};
+ghost use Rattle.ref_world.specs.Pointers.{pointed};
+ghost use Rattle.ref_world.specs.Resources.{resources, last_under, means};
+ghost use Rattle.ref_world.specs.Anchors.{Named, last_named, named, names};
+ghost use Rattle.ref_world.specs.Closure.{OutcomesOfRetrieval};
+ghost use Rattle.ref_world.specs.Pending.{Addition, Pending, extended};
+ghost use Rattle.ref_world.specs.References.{ReferencesAreRetrieved};
+ghost use Rattle.ref_world.specs.Appending.{MeaningsStay, MeaningsStayBelow, MetWantsStay, OpenWantsAfter};
+
+/// Pending documents stand under URIs that differ, whatever was added.
+pub fn pending_documents_differ()
+    ensures law { (additions : List Addition) (ps : List Pending) → extended [] additions ≡ Ok ps
+        → AllPairs (λ u v. ¬ (u ≡ v)) (map (λ p. p.uri) ps) }
+{}
+
+/// The levels of a document end at the depth of its tree: however many more are joined, they are its places.
+pub fn levels_end_at_the_depth()
+    ensures law { (d : Document) (n : ℕ) → depth d.tree ≤ n → root d ∷ levels_below n (root d ∷ []) ≡ places d }
+{}
+
+/// Where each object of a document has each key once, each place of it has its value at its path, and the paths of places
+/// differ.
+pub fn places_stand_at_their_paths()
+    ensures values { (d : Document) → HasUniqueKeys d.tree → AllByRecursion (λ p. value_at d.tree p.path ≡ Some p.value) (places d) }
+    ensures paths { (d : Document) → HasUniqueKeys d.tree → AllPairs (λ p q. ¬ (p ≡ q)) (map (λ p. p.path) (places d)) }
+{}
+
+/// Each place of a document but its root is a child of one that stands before it.
+pub fn places_descend_from_the_root()
+    ensures law { (d : Document) → AreChildren (root d ∷ []) (drop 1 (places d)) }
+{}
+
+/// Of entries to which more are added at the end, the last under a URI, and the last under a URI and a name, is the last of
+/// those that were added, or else the last of those that were there.
+pub fn later_entries_count()
+    ensures under_a_uri { (uri : List ℕ) (entries more : List (List ℕ × Place))
+        → last_under uri (entries ++ more) ≡ option_or (last_under uri more) (last_under uri entries) }
+    ensures under_a_name { (uri name : List ℕ) (entries more : List Named)
+        → last_named uri name (entries ++ more) ≡ option_or (last_named uri name more) (last_named uri name entries) }
+{}
+
+/// Where a pointer succeeds, what it finds stands at a path, and the base is that of the last change along this path: along a
+/// path there is one base.
+pub fn pointers_lead_along_paths()
+    ensures one_base { (draft : Draft) (start : List ℕ) (value : Data) (path : List Part) (along other : Along)
+        → IsBaseAlong draft start value path along → IsBaseAlong draft start value path other → along ≡ other }
+    ensures law { (draft : Draft) (pointer start text : List ℕ) (value found : Data) (along : Along)
+        → pointed draft pointer start value text ≡ Ok (found, along) → LeadsAlong draft start value found along }
+{}
+
+/// The nearest layer decides what a URI means, and what a name under it does: an entry there is the answer, and without one
+/// the parents' layers answer.
+pub fn nearest_layer_decides()
+    ensures near { (layer : Layer) (parents : World) (uri found : List ℕ) (place : Place)
+        → last_under uri (resources layer) ≡ Some (found, place) → means (layer ∷ parents) uri ≡ Some place }
+    ensures far { (layer : Layer) (parents : World) (uri : List ℕ)
+        → last_under uri (resources layer) ≡ None → means (layer ∷ parents) uri ≡ means parents uri }
+    ensures near_name { (layer : Layer) (parents : World) (uri name : List ℕ) (entry : Named)
+        → last_named uri name (names layer) ≡ Some entry → named (layer ∷ parents) uri name ≡ Some entry }
+    ensures far_name { (layer : Layer) (parents : World) (uri name : List ℕ)
+        → last_named uri name (names layer) ≡ None → named (layer ∷ parents) uri name ≡ named parents uri name }
+{}
+
+/// Documents that are appended to a layer leave each want met that was met, and so does a parent: a URI that means a place
+/// still means one, perhaps another. So the wants that are open afterwards are some of those that were open before, in their
+/// order, and behind them those of the documents that were appended.
+pub fn appended_documents_leave_wants_met()
+    ensures meanings { MeaningsStay }
+    ensures below { MeaningsStayBelow }
+    ensures wants { MetWantsStay }
+    ensures open_wants { OpenWantsAfter }
+{}
+
+/// What comes of documents and a retriever, whatever it answers: each retrieved document was wanted by one before it, under a
+/// URI that meant no place, so that their URIs differ; there are no more than the limit, and just as many where the limit is
+/// the answer; a layer that is ready has no fault and no open want. Documents without a fault and an open want are the one
+/// outcome, and so is the first fault of documents that have one.
+pub fn outcomes_of_retrieval()
+    ensures law { OutcomesOfRetrieval }
+{}
+
+/// Where no want is open, a reference at a place of the layer never leads to a URI that is not present.
+pub fn references_are_retrieved()
+    ensures law { ReferencesAreRetrieved }
+{}

@@ -1,5 +1,0 @@
-use Rattle.referencing.proofs.Differ.{places_stand, paths_differ}
-use Rattle.referencing.proofs.laws.places_stand_at_their_paths.Goals as goal
-
-pub returns : goal.returns
-returns c = record { values = places_stand; paths = paths_differ }

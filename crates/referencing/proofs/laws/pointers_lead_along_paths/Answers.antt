@@ -1,6 +1,0 @@
-use Rattle.referencing.proofs.Changes.{pointer_leads}
-use Rattle.referencing.proofs.OneBase.{one_base}
-use Rattle.referencing.proofs.laws.pointers_lead_along_paths.Goals as goal
-
-pub returns : goal.returns
-returns c = record { one_base = one_base; law = pointer_leads }
