@@ -1,0 +1,3 @@
+pub mod Views
+pub mod Dialects
+pub mod inner
