@@ -5,8 +5,8 @@ use Rattle.std.proofs.lemmas.Slice.Eq.{bytes_eq-Decides}
 use Rattle.std.proofs.lemmas.List.Folds.{list_any-append}
 use Rattle.ref_draft.specs.Anchors.{Kind, anchors}
 use Rattle.ref_draft.specs.Views.{Tagged, tagged}
-use Rattle.referencing.specs.Places.{Place}
-use Rattle.referencing.specs.Anchors.{Named, named_under}
+use Rattle.ref_world.specs.Places.{Place}
+use Rattle.ref_world.specs.Anchors.{Named, named_under}
 use Rattle.ref_index.specs.Found.{name_entry}
 
 -- a URI more among those that identify places

@@ -4,11 +4,12 @@ use Rattle.std.specs.Prelude.{slice_get}
 use Rattle.std.specs.List.{AllZip}
 use Rattle.std.proofs.lemmas.Grind.{flat_map-append}
 use Rattle.ref_uri.specs.declared.error.UriFault.{UriFault}
-use Rattle.referencing.specs.World.{Document, Layer}
-use Rattle.referencing.specs.Places.{Place, places}
-use Rattle.referencing.specs.Resources.{resources_in, resources}
-use Rattle.referencing.specs.Anchors.{Named, names_in, names}
-use Rattle.referencing.specs.Wants.{Want, wants, faults}
+use Rattle.ref_world.specs.World.{Document, Layer}
+use Rattle.ref_world.specs.Places.{Place, places}
+use Rattle.ref_world.specs.Resources.{resources_in, resources}
+use Rattle.ref_world.specs.Anchors.{Named, names_in, names}
+use Rattle.ref_world.specs.Cached.{Pair, pairs_at, pairs}
+use Rattle.ref_world.specs.Wants.{Want, wants, faults}
 use Rattle.ref_index.specs.declared.entry.Entry.{Entry}
 use Rattle.ref_index.specs.declared.found.Found.{Found}
 use Rattle.ref_index.specs.Found.{IsEntryOf, IsResourceOf, IsNameOf, Holds}
@@ -44,11 +45,12 @@ zip_weaker R S each [] (y ∷ ys) all = absurd all
 zip_weaker R S each (x ∷ xs) [] all = absurd all
 zip_weaker R S each (x ∷ xs) (y ∷ ys) all = (each x y all.0, zip_weaker R S each xs ys all.1)
 
-pub holds_stays : (layer more : Layer) (f : Found) (rs : List (List ℕ × Place)) (ns : List Named) (ws : List Want) → Holds layer f rs ns ws → Holds (layer ++ more) f rs ns ws
-holds_stays layer more f rs ns ws held = record {
+pub holds_stays : (layer more : Layer) (f : Found) (rs : List (List ℕ × Place)) (ns : List Named) (ws : List Want) (ps : List Pair) → Holds layer f rs ns ws ps → Holds (layer ++ more) f rs ns ws ps
+holds_stays layer more f rs ns ws ps held = record {
   by_uri = zip_weaker (IsResourceOf layer) (IsResourceOf (layer ++ more)) (λ t r is. (is.0, is.1, entry_stays layer more t.2.value r.1 is.2)) f.resources.items rs held.by_uri;
   by_name = zip_weaker (IsNameOf layer) (IsNameOf (layer ++ more)) (λ t n is. (is.0, is.1, is.2, entry_stays layer more t.2.entry.value n.place is.3)) f.names.items ns held.by_name;
   wanted = held.wanted;
+  by_pair = held.by_pair;
   known = held.known;
 }
 
@@ -62,8 +64,9 @@ faults_more layer d none = ap (λ l. l ++ flat_map faults_of (places d)) (sym no
 
 pub found_more : (layer : Layer) (d : Document) (old new : Found) → IsFound layer old → IsWalked d (length layer) old new (places d) → IsFound (layer ++ d ∷ []) new
 found_more layer d old new is walk = record {
-  held = holds_same (layer ++ d ∷ []) new _ _ _ _ _ _ (one_more resources_in layer d) (one_more names_in layer d) (one_more (λ e. flat_map wants_of (places e)) layer d)
-      (walk.added (layer ++ d ∷ []) (resources layer) (names layer) (wants layer) (at_length layer d) (holds_stays layer (d ∷ []) old (resources layer) (names layer) (wants layer) is.held));
+  held = holds_same (layer ++ d ∷ []) new _ _ _ _ _ _ _ _ (one_more resources_in layer d) (one_more names_in layer d) (one_more (λ e. flat_map wants_of (places e)) layer d)
+      (one_more (λ e. flat_map pairs_at (places e)) layer d)
+      (walk.added (layer ++ d ∷ []) (resources layer) (names layer) (wants layer) (pairs layer) (at_length layer d) (holds_stays layer (d ∷ []) old (resources layer) (names layer) (wants layer) (pairs layer) is.held));
   faultless = sym (faults_more layer d is.faultless) ∙ walk.faultless;
 }
 

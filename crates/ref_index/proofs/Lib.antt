@@ -7,3 +7,4 @@ pub mod Walking
 pub mod Looking
 pub mod Layers
 pub mod Opening
+pub mod Retrieving

@@ -1,19 +1,22 @@
 -- The last entry that a table has is that of the last place in the definition's list.
-use Rattle.std.proofs.Common.{◌≡◌, ℕ, Bool, true, false, ◌&&◌, cond, List, [], ◌∷◌, map, filter, Option, Some, None, option_map, option_copied, MatchOption, Bor, refl, sym, ap, ◌∙◌, subst, bytes_eq}
-use Rattle.std.specs.List.{AllZip, last_or}
+use Rattle.std.proofs.Common.{◌≡◌, ℕ, zero, suc, arith, Ok, Bool, true, false, ◌&&◌, cond, List, [], ◌∷◌, map, filter, Option, Some, None, option_map, option_copied, MatchOption, Bor, refl, sym, ap, ◌∙◌, subst, bytes_eq}
+use Rattle.std.specs.List.{AllZip, Contains, last_or}
 use Rattle.std.specs.declared.alloc.Global.{Global}
 use Rattle.std.specs.declared.rc.Rc.{Rc}
 use Rattle.std.proofs.Math.Bool.{and-true}
+use Rattle.std.proofs.lemmas.Slice.Eq.{bytes_eq-Decides}
+use Rattle.ref_uri.specs.Targets.{against}
 use Rattle.ref_parts.specs.Table as table
 use Rattle.ref_parts.specs.Table.{is_under, last_value}
-use Rattle.referencing.specs.World.{Layer}
-use Rattle.referencing.specs.Places.{Place}
-use Rattle.referencing.specs.Resources.{last_under}
-use Rattle.referencing.specs.Anchors.{Named, last_named}
+use Rattle.ref_world.specs.World.{Layer}
+use Rattle.ref_world.specs.Places.{Place}
+use Rattle.ref_world.specs.Resources.{last_under}
+use Rattle.ref_world.specs.Anchors.{Named, last_named}
+use Rattle.ref_world.specs.Cached.{Pair}
 use Rattle.ref_index.specs.declared.entry.Entry.{Entry}
 use Rattle.ref_index.specs.declared.entry.NamedEntry.{NamedEntry}
 use Rattle.ref_index.specs.Found.{IsEntryOf, kind_of}
-use Rattle.ref_index.specs.Index.{IsResourceIn, IsNameIn, IsFoundAt, IsNamedAt}
+use Rattle.ref_index.specs.Index.{IsResourceIn, IsNameIn, IsPairIn, IsFoundAt, IsNamedAt}
 
 -- ---- lists of the same places
 
@@ -71,6 +74,60 @@ name_both layer uri name es ns all =
     last_both (IsNameIn layer) (filter (is_under uri name) es) (filter (λ n. bytes_eq n.uri uri && bytes_eq n.name name) ns) None None
     (filtered (IsNameIn layer) (is_under uri name) (λ n. bytes_eq n.uri uri && bytes_eq n.name name) (name_test layer uri name) es ns all) tt
 
+pair_test : (base text : List ℕ) (e : table.Entry (Rc (List ℕ) Global)) (p : Pair) → IsPairIn e p → is_under base text e ≡ (bytes_eq p.0 base && bytes_eq p.1 text)
+pair_test base text e p (first, second, is) =
+    ap (λ k. bytes_eq k base && bytes_eq e.1 text) first ∙ ap (λ k. bytes_eq p.0 base && bytes_eq k text) second
+
+-- the last pair of these texts
+abbrev pub last_pair : List ℕ → List ℕ → List Pair → Option Pair
+last_pair base text ps = last_or None (filter (λ p. bytes_eq p.0 base && bytes_eq p.1 text) ps)
+
+pub pair_both : (base text : List ℕ) (es : List (table.Entry (Rc (List ℕ) Global))) (ps : List Pair) → AllZip IsPairIn es ps
+    → Both IsPairIn (last_or None (filter (is_under base text) es)) (last_pair base text ps)
+pair_both base text es ps all =
+    last_both IsPairIn (filter (is_under base text) es) (filter (λ p. bytes_eq p.0 base && bytes_eq p.1 text) ps) None None
+    (filtered IsPairIn (is_under base text) (λ p. bytes_eq p.0 base && bytes_eq p.1 text) (pair_test base text) es ps all) tt
+
+last_of_some : {A : Type 0} (a : A) (xs : List A) → ¬ (last_or None (a ∷ xs) ≡ None)
+last_of_some a [] none = cc
+last_of_some a (x ∷ xs) none = last_of_some x xs none
+
+none_in_rest : {A : Type 0} (b : Bool) (x : A) (xs : List A) → last_or None (cond b (x ∷ xs) xs) ≡ None → last_or None xs ≡ None
+none_in_rest true x xs none = absurd (last_of_some x xs none)
+none_in_rest false x xs none = none
+
+none_here : {A : Type 0} (b : Bool) (x : A) (xs : List A) → b ≡ true → ¬ (last_or None (cond b (x ∷ xs) xs) ≡ None)
+none_here true x xs same none = last_of_some x xs none
+none_here false x xs same none = cc
+
+-- where none was found, none is there
+pub not_there : {A : Type 0} (test : A → Bool) (xs : List A) (x : A) → test x ≡ true → last_or None (filter test xs) ≡ None → ¬ (Contains xs x)
+not_there test [] x holds none (i, within, is) = absurd (omega arith)
+not_there test (y ∷ xs) x holds none (zero, within, is) = none_here (test y) y (filter test xs) (ap test is ∙ holds) none
+not_there test (y ∷ xs) x holds none (suc i, within, is) = not_there test xs x holds (none_in_rest (test y) y (filter test xs) none) (i, omega arith, is)
+
+-- what was found passes the test
+pub last_passes : {A : Type 0} (test : A → Bool) (xs : List A) (o : Option A) → ((x : A) → o ≡ Some x → test x ≡ true) → (a : A) → last_or o (filter test xs) ≡ Some a → test a ≡ true
+last_passes test [] o all a is = all a is
+last_passes test (x ∷ xs) o all a is =
+    by_test test x (filter test xs) o a (test x) refl (λ passes. last_passes test xs (Some x) passes a) (last_passes test xs o all a) is
+  where
+    by_test : {A : Type 0} (test : A → Bool) (x : A) (xs : List A) (o : Option A) (a : A) (b : Bool) → test x ≡ b → (((y : A) → Some x ≡ Some y → test y ≡ true) → last_or (Some x) xs ≡ Some a → test a ≡ true)
+        → (last_or o xs ≡ Some a → test a ≡ true) → last_or o (cond b (x ∷ xs) xs) ≡ Some a → test a ≡ true
+    by_test test x xs o a true passed after rest found = after (λ y same. (let e : x ≡ y = cc in subst (λ z. test z ≡ true) e passed)) found
+    by_test test x xs o a false passed after rest found = rest found
+
+same_texts : (base text : List ℕ) (p : Pair) → (bytes_eq p.0 base && bytes_eq p.1 text) ≡ true → (p.0 ≡ base) × (p.1 ≡ text)
+same_texts base text p both = by_parts (bytes_eq p.0 base) (bytes_eq p.1 text) refl refl both
+  where
+    by_parts : (x y : Bool) → bytes_eq p.0 base ≡ x → bytes_eq p.1 text ≡ y → (x && y) ≡ true → (p.0 ≡ base) × (p.1 ≡ text)
+    by_parts true true first second is = ((bytes_eq-Decides p.0 base).0 first, (bytes_eq-Decides p.1 text).0 second)
+    by_parts true false first second is = cc
+    by_parts false y first second is = cc
+
+itself : (base text : List ℕ) → (bytes_eq base base && bytes_eq text text) ≡ true
+itself base text = ap (λ b. b && bytes_eq text text) ((bytes_eq-Decides base base).1 refl) ∙ (bytes_eq-Decides text text).1 refl
+
 -- ---- what was found
 
 pub none_found : {A B V : Type 0} (R : A → B → Type 0) (f : A → V) (o : Option A) (u : Option B) → Both R o u → option_map f o ≡ None → u ≡ None
@@ -94,3 +151,12 @@ pub resource_found : (layer : Layer) (o : Option (table.Entry (Rc Entry Global))
 resource_found layer o u v both is =
     let (r, found, a, same, at) = some_found (IsResourceIn layer) (λ e. e.2) o u v both is in
     (r, found, subst (λ w. IsEntryOf layer w.value r.1) same at.2)
+
+pub pair_found : (base text : List ℕ) (ps : List Pair) (o : Option (table.Entry (Rc (List ℕ) Global))) (result : Option (Bor (Rc (List ℕ) Global))) → Both IsPairIn o (last_pair base text ps) → option_copied result ≡ option_map (λ e. e.2) o
+    → MatchOption result (¬ (Contains ps (base, text))) (λ u. against base text ≡ Ok u.now.value)
+pair_found base text ps o None both is =
+    not_there (λ p. bytes_eq p.0 base && bytes_eq p.1 text) ps (base, text) (itself base text) (none_found IsPairIn (λ e. e.2) o (last_pair base text ps) both (sym is))
+pair_found base text ps o (Some u) both is =
+    let (p, found, e, same, at) = some_found IsPairIn (λ e. e.2) o (last_pair base text ps) u.now both (sym is) in
+    let texts = same_texts base text p (last_passes (λ q. bytes_eq q.0 base && bytes_eq q.1 text) ps None (λ x none. cc) p found) in
+    subst (λ b. against b text ≡ Ok u.now.value) texts.0 (subst (λ t. against p.0 t ≡ Ok u.now.value) texts.1 (subst (λ v. against p.0 p.1 ≡ Ok v.value) same at.2))

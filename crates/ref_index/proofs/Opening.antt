@@ -4,10 +4,10 @@ use Rattle.std.specs.Prelude.{slice_get}
 use Rattle.std.specs.List.{list_any, last_or, AllByRecursion}
 use Rattle.std.proofs.lemmas.List.{map_more, take-map, drop-append-le, length-map, length-take-le}
 use Rattle.std.specs.Option.{option_map_or}
-use Rattle.referencing.specs.World.{Layer, World}
-use Rattle.referencing.specs.Places.{Place}
-use Rattle.referencing.specs.Resources.{last_under, resources, means}
-use Rattle.referencing.proofs.Last.{last_there}
+use Rattle.ref_world.specs.World.{Layer, World}
+use Rattle.ref_world.specs.Places.{Place}
+use Rattle.ref_world.specs.Resources.{last_under, resources, means}
+use Rattle.ref_world.proofs.Last.{last_there}
 
 any_step : (r : List ℕ × Place) (rs : List (List ℕ × Place)) (test : List ℕ × Place → Bool) (here : Bool) → list_any test rs ≡ is_some (last_or None (filter test rs))
     → (here || list_any test rs) ≡ is_some (last_or None (cond here (r ∷ filter test rs) (filter test rs)))
@@ -51,3 +51,30 @@ pub none_past : {X : Type 0} (xs : List X) (i : ℕ) (x : X) (Q : Type 0) → le
 none_past [] i x Q le is = cc
 none_past (y ∷ xs) zero x Q le is = absurd (omega arith)
 none_past (y ∷ xs) (suc i) x Q le is = none_past xs i x Q (omega arith) is
+
+-- what holds before a number, and from it on up to another, holds up to that one
+pub all_up_to : {X : Type 0} (P : X → Type 0) (from n : ℕ) (xs : List X) → from ≤ n → AllByRecursion P (take from xs) → AllByRecursion P (drop from (take n xs)) → AllByRecursion P (take n xs)
+all_up_to P zero n xs le front rest = rest
+all_up_to P (suc k) zero xs le front rest = absurd (omega arith)
+all_up_to P (suc k) (suc n) [] le front rest = tt
+all_up_to P (suc k) (suc n) (x ∷ xs) le front rest = (front.0, all_up_to P k n xs (omega arith) front.1 rest)
+
+kept : {X : Type 0} (b : Bool) (x : X) (xs : List X) → b ≡ true → cond b (x ∷ xs) xs ≡ x ∷ xs
+kept true x xs is = refl
+kept false x xs is = cc
+
+left_out : {X : Type 0} (b : Bool) (x : X) (xs : List X) → b ≡ false → cond b (x ∷ xs) xs ≡ xs
+left_out true x xs is = cc
+left_out false x xs is = refl
+
+-- the first that passes a test: none before it does
+pub first_passes : {X : Type 0} (test : X → Bool) (n : ℕ) (xs : List X) (w : X) → AllByRecursion (λ x. test x ≡ false) (take n xs) → slice_get xs n ≡ Some w → test w ≡ true → filter test xs ≡ w ∷ filter test (drop (suc n) xs)
+first_passes test n [] w none there is = cc
+first_passes test zero (x ∷ xs) w none there is = (let same : x ≡ w = cc in kept (test x) x (filter test xs) (ap test same ∙ is) ∙ ap (λ y. y ∷ filter test xs) same)
+first_passes test (suc n) (x ∷ xs) w none there is = left_out (test x) x (filter test xs) none.0 ∙ first_passes test n xs w none.1 there is
+
+-- where none does up to the end, none is left
+pub none_passes : {X : Type 0} (test : X → Bool) (n : ℕ) (xs : List X) → AllByRecursion (λ x. test x ≡ false) (take n xs) → slice_get xs n ≡ None → filter test xs ≡ []
+none_passes test n [] none end = refl
+none_passes test zero (x ∷ xs) none end = cc
+none_passes test (suc n) (x ∷ xs) none end = left_out (test x) x (filter test xs) none.0 ∙ none_passes test n xs none.1 end

@@ -1,29 +1,34 @@
 -- What a visit adds, over plain values.
-use Rattle.std.proofs.Common.{◌≡◌, ℕ, List, ◌++◌, Result, Ok, OnOk, sym, ap, ◌∙◌, subst, append_assoc}
+use Rattle.std.proofs.Common.{◌≡◌, ℕ, List, [], ◌++◌, Result, Ok, OnOk, sym, ap, ◌∙◌, subst, append_assoc}
+use Rattle.std.specs.Option.{option_map_or}
+use Rattle.std.specs.Result.{result_ok}
 use Rattle.serde_json.specs.Data.{Data}
 use Rattle.ref_uri.specs.Targets.{Refusal}
 use Rattle.ref_uri.specs.Errors.{IsFaultOf}
 use Rattle.ref_uri.specs.declared.error.UriFault.{UriFault}
 use Rattle.ref_uri.specs.declared.error.UriFault.TheVariants.{Invalid, Memory}
-use Rattle.referencing.specs.World.{Layer}
-use Rattle.referencing.specs.Places.{Place}
-use Rattle.referencing.specs.Anchors.{Named}
-use Rattle.referencing.specs.Wants.{Want, Reference, MetaSchema, wanted, refusals_of, reference_at, schema_at, wants_at, faults_at}
+use Rattle.ref_world.specs.World.{Layer}
+use Rattle.ref_world.specs.Places.{Place}
+use Rattle.ref_world.specs.Anchors.{Named}
+use Rattle.ref_world.specs.Cached.{Pair, reference_pairs}
+use Rattle.ref_world.specs.Wants.{Want, Reference, MetaSchema, wanted, refusals_of, reference_at, schema_at, wants_at, faults_at}
 use Rattle.ref_index.specs.declared.found.Found.{Found}
 use Rattle.ref_index.specs.Found.{Holds}
 use Rattle.ref_index.specs.Visits.{IsFirstFault}
 
 -- ---- the same lists under other names
 
-pub on_same : {A E : Type 0} (r : Result A E) (layer : Layer) (f : Found) (rs rs' : List (List ℕ × Place)) (ns ns' : List Named) (ws ws' : List Want) → rs ≡ rs' → ns ≡ ns' → ws ≡ ws'
-    → OnOk r (Holds layer f rs ns ws) → OnOk r (Holds layer f rs' ns' ws')
-on_same r layer f rs rs' ns ns' ws ws' a b c held =
-    subst (λ x. OnOk r (Holds layer f x ns' ws')) a (subst (λ x. OnOk r (Holds layer f rs x ws')) b (subst (λ x. OnOk r (Holds layer f rs ns x)) c held))
+pub on_same : {A E : Type 0} (r : Result A E) (layer : Layer) (f : Found) (rs rs' : List (List ℕ × Place)) (ns ns' : List Named) (ws ws' : List Want) (ps ps' : List Pair) → rs ≡ rs' → ns ≡ ns' → ws ≡ ws' → ps ≡ ps'
+    → OnOk r (Holds layer f rs ns ws ps) → OnOk r (Holds layer f rs' ns' ws' ps')
+on_same r layer f rs rs' ns ns' ws ws' ps ps' a b c d held =
+    subst (λ x. OnOk r (Holds layer f x ns' ws' ps')) a
+    (subst (λ x. OnOk r (Holds layer f rs x ws' ps')) b (subst (λ x. OnOk r (Holds layer f rs ns x ps')) c (subst (λ x. OnOk r (Holds layer f rs ns ws x)) d held)))
 
-pub holds_same : (layer : Layer) (f : Found) (rs rs' : List (List ℕ × Place)) (ns ns' : List Named) (ws ws' : List Want) → rs ≡ rs' → ns ≡ ns' → ws ≡ ws'
-    → Holds layer f rs ns ws → Holds layer f rs' ns' ws'
-holds_same layer f rs rs' ns ns' ws ws' a b c held =
-    subst (λ x. Holds layer f x ns' ws') a (subst (λ x. Holds layer f rs x ws') b (subst (λ x. Holds layer f rs ns x) c held))
+pub holds_same : (layer : Layer) (f : Found) (rs rs' : List (List ℕ × Place)) (ns ns' : List Named) (ws ws' : List Want) (ps ps' : List Pair) → rs ≡ rs' → ns ≡ ns' → ws ≡ ws' → ps ≡ ps'
+    → Holds layer f rs ns ws ps → Holds layer f rs' ns' ws' ps'
+holds_same layer f rs rs' ns ns' ws ws' ps ps' a b c d held =
+    subst (λ x. Holds layer f x ns' ws' ps') a
+    (subst (λ x. Holds layer f rs x ws' ps') b (subst (λ x. Holds layer f rs ns x ps') c (subst (λ x. Holds layer f rs ns ws x) d held)))
 
 -- ---- the first fault of a place
 
@@ -42,3 +47,10 @@ pub wants_where : (base : Result (List ℕ) Refusal) (uri : List ℕ) (value : D
     → (ws ++ wanted Reference (reference_at uri value)) ++ wanted MetaSchema (schema_at value) ≡ ws ++ wants_at base value
 wants_where base uri value ws based =
     append_assoc ws (wanted Reference (reference_at uri value)) (wanted MetaSchema (schema_at value)) ∙ ap (λ b. ws ++ wants_at b value) (sym based)
+
+-- ---- what is resolved at a place, where its base is known
+
+pub pairs_where : (base : Result (List ℕ) Refusal) (uri : List ℕ) (value : Data) (front ps : List Pair) → base ≡ Ok uri
+    → (ps ++ front) ++ reference_pairs uri value ≡ ps ++ (front ++ option_map_or (λ b. reference_pairs b value) (result_ok base) [])
+pairs_where base uri value front ps based =
+    append_assoc ps front (reference_pairs uri value) ∙ ap (λ b. ps ++ (front ++ option_map_or (λ u. reference_pairs u value) (result_ok b) [])) (sym based)

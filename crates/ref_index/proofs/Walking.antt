@@ -11,11 +11,12 @@ use Rattle.ref_draft.specs.Children.{Walked, AllStand, walked}
 use Rattle.ref_uri.specs.Targets.{Refusal}
 use Rattle.ref_uri.specs.declared.error.UriFault.{UriFault}
 use Rattle.ref_uri.specs.declared.error.UriFault.TheVariants.{Invalid, Memory}
-use Rattle.referencing.specs.World.{Document}
-use Rattle.referencing.specs.Places.{Place, root, child_place, children_with, children_of, places}
-use Rattle.referencing.specs.Resources.{resource_of}
-use Rattle.referencing.proofs.Changes.{value_at-append}
-use Rattle.referencing.specs.Anchors.{named_under}
+use Rattle.ref_world.specs.World.{Document}
+use Rattle.ref_world.specs.Places.{Place, root, child_place, children_with, children_of, places}
+use Rattle.ref_world.specs.Resources.{resource_of}
+use Rattle.ref_world.proofs.Changes.{value_at-append}
+use Rattle.ref_world.specs.Anchors.{named_under}
+use Rattle.ref_world.specs.Cached.{pairs_at}
 use Rattle.ref_index.specs.declared.found.Found.{Found}
 use Rattle.ref_index.specs.declared.queue.Visit.{Visit}
 use Rattle.ref_index.specs.Queue.{place_of, IsQueue}
@@ -84,10 +85,10 @@ added_more f front x visited p =
 pub walked_more : (d : Document) (number : ℕ) (old new newer : Found) (visited : List Place) (v : Visit) (queue after : List Visit) → value_at d.tree (place_of v).path ≡ Some (place_of v).value
     → IsWalked d number old new visited → IsVisited number None v new newer queue after → IsWalked d number old newer (visited ++ place_of v ∷ [])
 walked_more d number old new newer visited v queue after at walk visit = record {
-  added = λ layer rs ns ws numbered held.
-      holds_same layer newer _ _ _ _ _ _ (added_more resource_of rs ((d.uri, root d) ∷ []) visited (place_of v))
+  added = λ layer rs ns ws ps numbered held.
+      holds_same layer newer _ _ _ _ _ _ _ _ (added_more resource_of rs ((d.uri, root d) ∷ []) visited (place_of v))
       (added_more names_of ns (named_under d.uri (root d)) visited (place_of v)) (added_more wants_of ws [] visited (place_of v))
-      (visit.added layer _ _ _ (walk.added layer rs ns ws numbered held) (record { document = d; numbered = numbered; value = at }));
+      (added_more pairs_at ps [] visited (place_of v)) (visit.added layer _ _ _ _ (walk.added layer rs ns ws ps numbered held) (record { document = d; numbered = numbered; value = at }));
   faultless = flat_map-append faults_of visited (place_of v ∷ []) ∙ ap (λ l. l ++ (faults_of (place_of v) ++ [])) walk.faultless ∙ append-nil (faults_of (place_of v)) ∙ visit.faultless;
 }
 
@@ -126,12 +127,12 @@ begin d number old new queue after v one is visit =
       order = order;
       stand = grown_stand d (v ∷ []) visit.more v at (at, tt) visit.children visit.stand;
       walk = record {
-        added = λ layer rs ns ws numbered held.
-            holds_same layer new _ _ _ _ _ _
+        added = λ layer rs ns ws ps numbered held.
+            holds_same layer new _ _ _ _ _ _ _ _
             (ap (λ p. rs ++ (d.uri, p) ∷ resource_of (place_of v)) is ∙ ap (λ l. rs ++ (d.uri, root d) ∷ l) (sym (append-nil (resource_of (place_of v)))))
             (ap (λ p. ns ++ (named_under d.uri p ++ names_of (place_of v))) is ∙ ap (λ l. ns ++ (named_under d.uri (root d) ++ l)) (sym (append-nil (names_of (place_of v)))))
-            (ap (λ l. ws ++ l) (sym (append-nil (wants_of (place_of v)))))
-            (visit.added layer rs ns ws held (record { document = d; numbered = numbered; value = at }));
+            (ap (λ l. ws ++ l) (sym (append-nil (wants_of (place_of v))))) (ap (λ l. ps ++ l) (sym (append-nil (pairs_at (place_of v)))))
+            (visit.added layer rs ns ws ps held (record { document = d; numbered = numbered; value = at }));
         faultless = append-nil (faults_of (place_of v)) ∙ visit.faultless;
       };
     } in

@@ -5,13 +5,15 @@ use Rattle.std.specs.Str.{bytes_eq}
 use Rattle.std.specs.HashSet.{contains_text}
 use Rattle.std.specs.declared.alloc.Global.{Global}
 use Rattle.std.specs.declared.rc.Rc.{Rc}
+use Rattle.ref_uri.specs.Targets.{against}
 use Rattle.ref_parts.specs.Path.{value_at}
 use Rattle.ref_draft.specs.Anchors.{Kind, Plain, Dynamic}
-use Rattle.referencing.specs.World.{Document, Layer}
-use Rattle.referencing.specs.Places.{Place}
-use Rattle.referencing.specs.Anchors.{Named}
-use Rattle.referencing.specs.Wants as wants
-use Rattle.referencing.specs.Wants.{Want as Wanted}
+use Rattle.ref_world.specs.World.{Document, Layer}
+use Rattle.ref_world.specs.Places.{Place}
+use Rattle.ref_world.specs.Anchors.{Named}
+use Rattle.ref_world.specs.Cached.{Pair}
+use Rattle.ref_world.specs.Wants as wants
+use Rattle.ref_world.specs.Wants.{Want as Wanted}
 use Rattle.ref_index.specs.declared.entry.Entry.{Entry}
 use Rattle.ref_index.specs.declared.entry.NamedEntry.{NamedEntry}
 use Rattle.ref_index.specs.declared.found.Found.{Found}
@@ -55,9 +57,15 @@ cause_of MetaSchema = wants.MetaSchema
 abbrev pub want_of : Want → Wanted
 want_of w = record { cause = cause_of w.cause; uri = w.uri.value }
 
--- What was found is these resources, names and wants, in their order; the set of URIs is that of the resources.
-pub record Holds (layer : Layer) (f : Found) (resources : List (List ℕ × Place)) (names : List Named) (wants : List Wanted) : Type 0 where
+-- an entry under a base and a text is the URI that the text means against the base
+abbrev pub IsPairOf : String Global × String Global × Rc (List ℕ) Global → Pair → Type 0
+IsPairOf t p = (string_bytes t.0 ≡ p.0) × (string_bytes t.1 ≡ p.1) × (against p.0 p.1 ≡ Ok t.2.value)
+
+-- What was found is these resources, names and wants, and the URIs of these pairs, in their order; the set of URIs is that of
+-- the resources.
+pub record Holds (layer : Layer) (f : Found) (resources : List (List ℕ × Place)) (names : List Named) (wants : List Wanted) (pairs : List Pair) : Type 0 where
   pub by_uri : AllZip (IsResourceOf layer) f.resources.items resources
   pub by_name : AllZip (IsNameOf layer) f.names.items names
   pub wanted : map want_of f.wants.items ≡ wants
+  pub by_pair : AllZip IsPairOf f.resolved.items pairs
   pub known : (uri : List ℕ) → contains_text f.identified uri ≡ list_any (λ r. bytes_eq r.0 uri) resources

@@ -1,13 +1,15 @@
 -- That the tables of an index tell the places of its documents.
-use Rattle.std.specs.Prelude.{◌≡◌, ℕ, List, [], Option, Some}
+use Rattle.std.specs.Prelude.{◌≡◌, ℕ, List, [], Option, Some, Ok}
 use Rattle.std.specs.List.{AllZip}
 use Rattle.std.specs.declared.alloc.Global.{Global}
 use Rattle.std.specs.declared.rc.Rc.{Rc}
+use Rattle.ref_uri.specs.Targets.{against}
 use Rattle.ref_parts.specs.Table as table
-use Rattle.referencing.specs.World.{Layer}
-use Rattle.referencing.specs.Places.{Place}
-use Rattle.referencing.specs.Resources.{resources}
-use Rattle.referencing.specs.Anchors.{Named, names}
+use Rattle.ref_world.specs.World.{Layer}
+use Rattle.ref_world.specs.Places.{Place}
+use Rattle.ref_world.specs.Resources.{resources}
+use Rattle.ref_world.specs.Anchors.{Named, names}
+use Rattle.ref_world.specs.Cached.{Pair, pairs}
 use Rattle.ref_index.specs.declared.entry.Entry.{Entry}
 use Rattle.ref_index.specs.declared.entry.NamedEntry.{NamedEntry}
 use Rattle.ref_index.specs.Found.{IsEntryOf, kind_of}
@@ -20,10 +22,15 @@ IsResourceIn layer e r = (e.0 ≡ r.0) × (e.1 ≡ []) × IsEntryOf layer e.2.va
 abbrev pub IsNameIn : Layer → table.Entry NamedEntry → Named → Type 0
 IsNameIn layer e n = (e.0 ≡ n.uri) × (e.1 ≡ n.name) × (kind_of e.2.is_dynamic ≡ n.kind) × IsEntryOf layer e.2.entry.value n.place
 
--- the tables hold the resources and the names of the documents, in their order
-pub record IsIndexOf (layer : Layer) (by_uri : List (table.Entry (Rc Entry Global))) (by_name : List (table.Entry NamedEntry)) : Type 0 where
+-- an entry under a base and a text is the URI that the text means against the base
+abbrev pub IsPairIn : table.Entry (Rc (List ℕ) Global) → Pair → Type 0
+IsPairIn e p = (e.0 ≡ p.0) × (e.1 ≡ p.1) × (against p.0 p.1 ≡ Ok e.2.value)
+
+-- the tables hold the resources and the names of the documents, and what is resolved of them, in their order
+pub record IsIndexOf (layer : Layer) (by_uri : List (table.Entry (Rc Entry Global))) (by_name : List (table.Entry NamedEntry)) (by_pair : List (table.Entry (Rc (List ℕ) Global))) : Type 0 where
   pub resource : AllZip (IsResourceIn layer) by_uri (resources layer)
   pub name : AllZip (IsNameIn layer) by_name (names layer)
+  pub pair : AllZip IsPairIn by_pair (pairs layer)
 
 -- an entry is that of the place that was found
 abbrev pub IsFoundAt : Layer → Entry → Option (List ℕ × Place) → Type 0

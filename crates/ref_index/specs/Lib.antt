@@ -6,3 +6,4 @@ pub mod Found
 pub mod Queue
 pub mod Visits
 pub mod Index
+pub mod Retrieval

@@ -3,8 +3,8 @@ use Rattle.std.specs.Prelude.{◌≡◌, ℕ, ◌≤◌, List, ◌++◌, flat_ma
 use Rattle.serde_json.specs.Data.{depth}
 use Rattle.serde_json.specs.View.{view}
 use Rattle.ref_draft.specs.Schema.{identifier}
-use Rattle.referencing.specs.World.{Document}
-use Rattle.referencing.specs.Places.{Place, base_within, children_of, levels_below, places}
+use Rattle.ref_world.specs.World.{Document}
+use Rattle.ref_world.specs.Places.{Place, base_within, children_of, levels_below, places}
 use Rattle.ref_index.specs.declared.queue.Visit.{Visit}
 
 -- the place of a visit
@@ -13,6 +13,7 @@ place_of v = record {
   path = v.path;
   value = view v.value.now;
   draft = v.draft;
+  outer = v.outer.value;
   base = base_within v.outer.value (identifier v.draft (view v.value.now));
 }
 

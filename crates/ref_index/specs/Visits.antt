@@ -5,15 +5,16 @@ use Rattle.std.specs.List.{AllByRecursion}
 use Rattle.ref_parts.specs.Path.{value_at}
 use Rattle.ref_uri.specs.Reference.{with_fragment}
 use Rattle.ref_uri.specs.Targets.{Refusal, parsed}
-use Rattle.referencing.specs.Results.{◌>>=◌}
+use Rattle.ref_world.specs.Results.{◌>>=◌}
 use Rattle.ref_uri.specs.Errors.{SaysRefusal}
 use Rattle.ref_uri.specs.declared.error.UriFault.{UriFault}
 use Rattle.ref_uri.specs.declared.error.UriFault.TheVariants.{Invalid, Memory}
-use Rattle.referencing.specs.World.{Document, Layer}
-use Rattle.referencing.specs.Places.{Place, root, children_of}
-use Rattle.referencing.specs.Resources.{resource_of, resources}
-use Rattle.referencing.specs.Anchors.{Named, named_under, named_at, names}
-use Rattle.referencing.specs.Wants.{Want, wants_at, faults_at, wants, faults}
+use Rattle.ref_world.specs.World.{Document, Layer}
+use Rattle.ref_world.specs.Places.{Place, root, children_of}
+use Rattle.ref_world.specs.Resources.{resource_of, resources}
+use Rattle.ref_world.specs.Anchors.{Named, named_under, named_at, names}
+use Rattle.ref_world.specs.Cached.{Pair, pairs_at, pairs}
+use Rattle.ref_world.specs.Wants.{Want, wants_at, faults_at, wants, faults}
 use Rattle.ref_draft.specs.Children.{AllStand, walked}
 use Rattle.ref_index.specs.declared.found.Found.{Found}
 use Rattle.ref_index.specs.declared.queue.Visit.{Visit}
@@ -67,8 +68,8 @@ names_of p = named_at p
 
 -- A place was visited: what it is identified by, is named and wants was added, it has no fault, and its children came to the queue.
 pub record IsVisited (number : ℕ) (under : Option (List ℕ)) (v : Visit) (old new : Found) (queue after : List Visit) : Type 0 where
-  pub added : (layer : Layer) (rs : List (List ℕ × Place)) (ns : List Named) (ws : List Want) → Holds layer old rs ns ws → StandsIn layer number (place_of v)
-      → Holds layer new (rs ++ resources_at under (place_of v)) (ns ++ names_at under (place_of v)) (ws ++ wants_of (place_of v))
+  pub added : (layer : Layer) (rs : List (List ℕ × Place)) (ns : List Named) (ws : List Want) (ps : List Pair) → Holds layer old rs ns ws ps → StandsIn layer number (place_of v)
+      → Holds layer new (rs ++ resources_at under (place_of v)) (ns ++ names_at under (place_of v)) (ws ++ wants_of (place_of v)) (ps ++ pairs_at (place_of v))
   pub faultless : faults_of (place_of v) ≡ []
   pub more : List Visit
   pub grown : after ≡ queue ++ more
@@ -77,8 +78,8 @@ pub record IsVisited (number : ℕ) (under : Option (List ℕ)) (v : Visit) (old
 
 -- Places of a document were visited from the root on: what they are identified by, are named and want was added, and none has a fault.
 pub record IsWalked (d : Document) (number : ℕ) (old new : Found) (visited : List Place) : Type 0 where
-  pub added : (layer : Layer) (rs : List (List ℕ × Place)) (ns : List Named) (ws : List Want) → slice_get layer number ≡ Some d → Holds layer old rs ns ws
-      → Holds layer new (rs ++ (d.uri, root d) ∷ flat_map resource_of visited) (ns ++ (named_under d.uri (root d) ++ flat_map names_of visited)) (ws ++ flat_map wants_of visited)
+  pub added : (layer : Layer) (rs : List (List ℕ × Place)) (ns : List Named) (ws : List Want) (ps : List Pair) → slice_get layer number ≡ Some d → Holds layer old rs ns ws ps
+      → Holds layer new (rs ++ (d.uri, root d) ∷ flat_map resource_of visited) (ns ++ (named_under d.uri (root d) ++ flat_map names_of visited)) (ws ++ flat_map wants_of visited) (ps ++ flat_map pairs_at visited)
   pub faultless : flat_map faults_of visited ≡ []
 
 -- each place's value stands at its path
@@ -94,5 +95,5 @@ pub record IsAt (d : Document) (number : ℕ) (old new : Found) (queue : List Vi
 
 -- What was found in documents is all that they have, and none has a fault.
 pub record IsFound (layer : Layer) (f : Found) : Type 0 where
-  pub held : Holds layer f (resources layer) (names layer) (wants layer)
+  pub held : Holds layer f (resources layer) (names layer) (wants layer) (pairs layer)
   pub faultless : faults layer ≡ []

@@ -1,12 +1,14 @@
 //! What the walk over documents has found: which URIs and names mean which places, and what is wanted.
-ghost use Rattle.std.specs.Prelude.{◌≡◌, ℕ, List, [], ◌∷◌, ◌++◌, OnOk, if◌then◌else◌, true};
+ghost use Rattle.std.specs.Prelude.{◌≡◌, ℕ, List, [], ◌∷◌, ◌++◌, OnOk, if◌then◌else◌, true, Ok};
 ghost use Rattle.std.specs.HashSet.{contains_text};
 ghost use Rattle.std.specs.Str.{bytes_eq};
 ghost use Rattle.ref_draft.specs.Views.{anchor_name, resource_ref, tagged};
-ghost use Rattle.referencing.specs.World.{Layer};
-ghost use Rattle.referencing.specs.Places.{Place};
-ghost use Rattle.referencing.specs.Anchors.{Named, named_under};
-ghost use Rattle.referencing.specs.Wants.{Want as Wanted};
+ghost use Rattle.ref_world.specs.World.{Layer};
+ghost use Rattle.ref_world.specs.Places.{Place};
+ghost use Rattle.ref_world.specs.Anchors.{Named, named_under};
+ghost use Rattle.ref_world.specs.Cached.{Pair};
+ghost use Rattle.ref_world.specs.Wants.{Want as Wanted};
+ghost use Rattle.ref_uri.specs.Targets.{against};
 ghost use Rattle.ref_index.specs.Found.{Holds, IsEntryOf, cause_of, kind_of, name_entry};
 
 use crate::entry::{Entry, NamedEntry};
@@ -42,6 +44,8 @@ pub struct Found {
     pub names: Vec<(String, String, NamedEntry)>,
     /// What is wanted.
     pub wants: Vec<Want>,
+    /// What was resolved: each URI under the base and the text that it was resolved from.
+    pub resolved: Vec<(String, String, Rc<Uri>)>,
     /// The URIs that identify places.
     pub identified: HashSet<String>,
 }
@@ -49,12 +53,13 @@ pub struct Found {
 impl Found {
     /// Nothing. Takes no memory.
     pub fn new(alloc: Global) -> Found
-        ensures empty { (layer : Layer) → Holds layer result [] [] [] }
+        ensures empty { (layer : Layer) → Holds layer result [] [] [] [] }
     {
         Found {
             resources: Vec::new(alloc),
             names: Vec::new(alloc),
             wants: Vec::new(alloc),
+            resolved: Vec::new(alloc),
             identified: HashSet::new(alloc),
         }
     }
@@ -66,9 +71,9 @@ impl Found {
         uri: &str,
         entry: &Rc<Entry>,
     ) -> Result<(), AllocError>
-        ensures added { (layer : Layer) (rs : List (List ℕ × Place)) (ns : List Named) (ws : List Wanted) (p : Place)
-            → Holds layer self.old rs ns ws → IsEntryOf layer entry.now.value p
-            → OnOk result (Holds layer self.new (rs ++ (uri.now, p) ∷ []) ns ws) }
+        ensures added { (layer : Layer) (rs : List (List ℕ × Place)) (ns : List Named) (ws : List Wanted) (ps : List Pair) (p : Place)
+            → Holds layer self.old rs ns ws ps → IsEntryOf layer entry.now.value p
+            → OnOk result (Holds layer self.new (rs ++ (uri.now, p) ∷ []) ns ws ps) }
     {
         identify(alloc, &mut self.identified, uri)?;
         let text = String::from_str(alloc, uri)?;
@@ -85,9 +90,9 @@ impl Found {
         entry: &Rc<Entry>,
         anchor: Anchor<'_>,
     ) -> Result<(), AllocError>
-        ensures { (layer : Layer) (rs : List (List ℕ × Place)) (ns : List Named) (ws : List Wanted) (p : Place)
-            → Holds layer self.old rs ns ws → IsEntryOf layer entry.now.value p
-            → OnOk result (Holds layer self.new rs (ns ++ name_entry uri.now p (anchor_name anchor.entry) ∷ []) ws) }
+        ensures { (layer : Layer) (rs : List (List ℕ × Place)) (ns : List Named) (ws : List Wanted) (ps : List Pair) (p : Place)
+            → Holds layer self.old rs ns ws ps → IsEntryOf layer entry.now.value p
+            → OnOk result (Holds layer self.new rs (ns ++ name_entry uri.now p (anchor_name anchor.entry) ∷ []) ws ps) }
     {
         let is_dynamic = is_dynamic(&anchor);
         let name = String::from_str(alloc, anchor.name())?;
@@ -106,9 +111,9 @@ impl Found {
         entry: &Rc<Entry>,
         resource: ResourceRef<'_>,
     ) -> Result<(), AllocError>
-        ensures added { (layer : Layer) (rs : List (List ℕ × Place)) (ns : List Named) (ws : List Wanted) (p : Place)
-            → Holds layer self.old rs ns ws → IsEntryOf layer entry.now.value p → resource_ref resource.entry ≡ tagged p.draft p.value
-            → OnOk result (Holds layer self.new rs (ns ++ named_under uri.now p) ws) }
+        ensures added { (layer : Layer) (rs : List (List ℕ × Place)) (ns : List Named) (ws : List Wanted) (ps : List Pair) (p : Place)
+            → Holds layer self.old rs ns ws ps → IsEntryOf layer entry.now.value p → resource_ref resource.entry ≡ tagged p.draft p.value
+            → OnOk result (Holds layer self.new rs (ns ++ named_under uri.now p) ws ps) }
     {
         match resource.draft().anchors(resource.contents()) {
             AnchorIter::Empty => Ok(()),
@@ -122,11 +127,30 @@ impl Found {
 
     /// Adds a want.
     pub fn add_want(&mut self, cause: Cause, uri: Rc<Uri>) -> Result<(), AllocError>
-        ensures added { (layer : Layer) (rs : List (List ℕ × Place)) (ns : List Named) (ws : List Wanted)
-            → Holds layer self.old rs ns ws
-            → OnOk result (Holds layer self.new rs ns (ws ++ record { cause = cause_of cause; uri = uri.value } ∷ [])) }
+        ensures added { (layer : Layer) (rs : List (List ℕ × Place)) (ns : List Named) (ws : List Wanted) (ps : List Pair)
+            → Holds layer self.old rs ns ws ps
+            → OnOk result (Holds layer self.new rs ns (ws ++ record { cause = cause_of cause; uri = uri.value } ∷ []) ps) }
     {
         self.wants.push(Want { cause, uri })?;
+        Ok(())
+    }
+
+    /// Adds what a text means against a base. Takes memory for both.
+    pub fn add_resolved(
+        &mut self,
+        alloc: Global,
+        base: &str,
+        text: &str,
+        uri: &Rc<Uri>,
+    ) -> Result<(), AllocError>
+        ensures added { (layer : Layer) (rs : List (List ℕ × Place)) (ns : List Named) (ws : List Wanted) (ps : List Pair)
+            → Holds layer self.old rs ns ws ps → against base.now text.now ≡ Ok uri.now.value
+            → OnOk result (Holds layer self.new rs ns ws (ps ++ (base.now, text.now) ∷ [])) }
+    {
+        let base = String::from_str(alloc, base)?;
+        let text = String::from_str(alloc, text)?;
+        let uri = uri.clone()?;
+        self.resolved.push((base, text, uri))?;
         Ok(())
     }
 }

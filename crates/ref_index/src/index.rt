@@ -1,10 +1,13 @@
 //! The documents of a registry with the index of their places.
-ghost use Rattle.std.specs.Prelude.{◌≡◌, ℕ, List, map, MatchOption, IfOk, option_map, Some, None};
+ghost use Rattle.std.specs.Prelude.{◌≡◌, ℕ, List, map, length, MatchOption, IfOk, option_map, Some, None, Ok};
+ghost use Rattle.std.specs.List.{Contains};
 ghost use Rattle.serde_json.specs.View.{view};
-ghost use Rattle.referencing.specs.Places.{Place};
-ghost use Rattle.referencing.specs.Resources.{last_under, resources};
-ghost use Rattle.referencing.specs.Anchors.{last_named, names};
-ghost use Rattle.referencing.specs.Wants.{Want};
+ghost use Rattle.ref_uri.specs.Targets.{against};
+ghost use Rattle.ref_world.specs.Places.{Place};
+ghost use Rattle.ref_world.specs.Resources.{last_under, resources};
+ghost use Rattle.ref_world.specs.Anchors.{last_named, names};
+ghost use Rattle.ref_world.specs.Cached.{pairs};
+ghost use Rattle.ref_world.specs.Wants.{Want};
 ghost use Rattle.ref_index.specs.Document.{document_of};
 ghost use Rattle.ref_index.specs.Found.{Holds, IsEntryOf};
 ghost use Rattle.ref_index.specs.Index.{IsFoundAt, IsNamedAt};
@@ -14,23 +17,25 @@ use crate::entry::{Entry, NamedEntry};
 use crate::found::Found;
 use crate::path::value_at;
 use ref_parts::SortedTable;
+use ref_uri::Uri;
 use serde_json::Value;
 use std::alloc::{AllocError, Global};
 use std::marker::Model;
 use std::rc::Rc;
 
-/// Documents, with a table of the URIs that identify their places, and one of the names that anchors give them. Contracts
-/// see the documents.
+/// Documents, with a table of the URIs that identify their places, one of the names that anchors give them, and one of the URIs
+/// that were resolved on the way. Contracts see the documents.
 #[derive(Drop)]
 pub struct Index<'a> {
     documents: Vec<Document<'a>>,
     by_uri: SortedTable<Rc<Entry>>,
     by_name: SortedTable<NamedEntry>,
+    by_pair: SortedTable<Rc<Uri>>,
 }
 
 impl<'a> Model for Index<'a> {
     ghost use Rattle.std.specs.Prelude.{List, map};
-    ghost use Rattle.referencing.specs.World.{Document as WorldDocument};
+    ghost use Rattle.ref_world.specs.World.{Document as WorldDocument};
     ghost use Rattle.ref_index.specs.Codes.{layer_code};
 
     ghost Value = { List WorldDocument };
@@ -42,26 +47,35 @@ impl<'a> Model for Index<'a> {
 
     ghost view = { λ i. map document_of i.documents.items };
 
-    ghost invariant = { λ i. IsIndexOf (map document_of i.documents.items) i.by_uri i.by_name };
+    ghost invariant = { λ i. IsIndexOf (map document_of i.documents.items) i.by_uri i.by_name i.by_pair };
 }
 
 impl<'a> Index<'a> {
-    /// The index of documents that were walked. Takes memory for the two tables, which are sorted once.
+    /// The index of documents that were walked. Takes memory for the three tables, which are sorted once.
     pub fn new(
         alloc: Global,
         documents: Vec<Document<'a>>,
         found: Found,
     ) -> Result<Index<'a>, AllocError>
-        requires { (wants : List Want) × Holds (map document_of documents.items) found (resources (map document_of documents.items)) (names (map document_of documents.items)) wants }
+        requires { (wants : List Want) × Holds (map document_of documents.items) found (resources (map document_of documents.items)) (names (map document_of documents.items)) wants (pairs (map document_of documents.items)) }
         ensures value { IfOk result (λ index. index ≡ map document_of documents.entry.items) }
     {
         let by_uri = SortedTable::from_entries(alloc, found.resources)?;
         let by_name = SortedTable::from_entries(alloc, found.names)?;
+        let by_pair = SortedTable::from_entries(alloc, found.resolved)?;
         Ok(Index {
             documents,
             by_uri,
             by_name,
+            by_pair,
         })
+    }
+
+    /// How many documents there are. Takes no memory.
+    pub fn document_count(&self) -> usize
+        ensures value { result ≡ length self.now }
+    {
+        self.documents.len()
     }
 
     /// The place that a URI means in these documents. A look-up; takes no memory.
@@ -79,6 +93,14 @@ impl<'a> Index<'a> {
             (λ e. IsNamedAt self.now e.now (last_named uri.now name.now (names self.now))) }
     {
         self.by_name.get(uri, name).0
+    }
+
+    /// The URI that a text means against a base, where that was resolved while the documents were walked. A look-up; takes no
+    /// memory.
+    pub fn resolved(&self, base: &str, text: &str) -> Option<&Rc<Uri>>
+        ensures value { MatchOption result (¬ (Contains (pairs self.now) (base.now, text.now))) (λ uri. against base.now text.now ≡ Ok uri.now.value) }
+    {
+        self.by_pair.get(base, text).0
     }
 
     /// The value of a place. A look-up for each part of its path; takes no memory.

@@ -1,10 +1,11 @@
 //! Which wants are open: those whose URIs mean no place, in the documents walked so far nor in a parent's.
 ghost use Rattle.std.specs.Prelude.{◌≡◌, ℕ, List, ◌∷◌, ◌<◌, ◌≤◌, ◌-◌, map, take, drop, vec_len, slice_get, is_some, Some, true, false, IfSome};
 ghost use Rattle.std.specs.List.{AllByRecursion};
-ghost use Rattle.referencing.specs.World.{Layer};
-ghost use Rattle.referencing.specs.Resources.{means, resources};
-ghost use Rattle.referencing.specs.Anchors.{Named};
-ghost use Rattle.referencing.specs.Wants.{Want as Wanted, is_open};
+ghost use Rattle.ref_world.specs.World.{Layer};
+ghost use Rattle.ref_world.specs.Resources.{means, resources};
+ghost use Rattle.ref_world.specs.Anchors.{Named};
+ghost use Rattle.ref_world.specs.Cached.{Pair};
+ghost use Rattle.ref_world.specs.Wants.{Want as Wanted, is_open};
 ghost use Rattle.ref_index.specs.Found.{Holds};
 
 use crate::found::Found;
@@ -25,7 +26,7 @@ fn is_known_above(parents: &[&Index<'_>], uri: &str) -> bool
 /// Whether a URI means a place, in what was found so far or in a parent. A look-up in a hashed set, and then in each parent's
 /// table; takes no memory.
 pub fn has_meaning(found: &Found, parents: &[&Index<'_>], uri: &str) -> bool
-    ensures value { (layer : Layer) (names : List Named) (wants : List Wanted) → Holds layer found.now (resources layer) names wants
+    ensures value { (layer : Layer) (names : List Named) (wants : List Wanted) (ps : List Pair) → Holds layer found.now (resources layer) names wants ps
         → result ≡ is_some (means (layer ∷ map (λ p. p.now) parents.now) uri.now) }
 {
     found.identified.contains(uri) || is_known_above(parents, uri)
@@ -37,9 +38,9 @@ pub fn first_open(found: &Found, parents: &[&Index<'_>], from: usize) -> usize
     requires { from ≤ vec_len found.now.wants }
     ensures from { from ≤ result }
     ensures within { result ≤ vec_len found.now.wants }
-    ensures met { (layer : Layer) (names : List Named) (wants : List Wanted) → Holds layer found.now (resources layer) names wants
+    ensures met { (layer : Layer) (names : List Named) (wants : List Wanted) (ps : List Pair) → Holds layer found.now (resources layer) names wants ps
         → AllByRecursion (λ w. is_open (layer ∷ map (λ p. p.now) parents.now) w ≡ false) (drop from (take result wants)) }
-    ensures open { (layer : Layer) (names : List Named) (wants : List Wanted) (w : Wanted) → Holds layer found.now (resources layer) names wants
+    ensures open { (layer : Layer) (names : List Named) (wants : List Wanted) (ps : List Pair) (w : Wanted) → Holds layer found.now (resources layer) names wants ps
         → slice_get wants result ≡ Some w → is_open (layer ∷ map (λ p. p.now) parents.now) w ≡ true }
 {
     let mut number = from;

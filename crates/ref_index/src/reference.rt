@@ -28,9 +28,9 @@ pub fn shared(alloc: Global, uri: Uri) -> Result<Rc<Uri>, AllocError>
     Ok(Rc::new(alloc, uri)?)
 }
 
-// What stands before the last `#`.
-fn uri_part(reference: &str) -> &str
-    ensures { result.now ≡ uri.uri_part reference.now }
+/// What stands before the last `#` of a reference.
+pub fn uri_part(reference: &str) -> &str
+    ensures value { result.now ≡ uri.uri_part reference.now }
 {
     match reference.rsplit_once('#') {
         Some((uri, _)) => uri,

@@ -7,11 +7,13 @@ ghost use Rattle.ref_draft.specs.Views.{resource_ref, tagged};
 ghost use Rattle.ref_draft.specs.Anchors.{anchors};
 ghost use Rattle.ref_draft.specs.Children.{AllStand, walked};
 ghost use Rattle.ref_uri.specs.Errors.{IsFaultOf};
-ghost use Rattle.referencing.specs.World.{Layer};
-ghost use Rattle.referencing.specs.Places.{Place, base_within, child_place, root, places};
-ghost use Rattle.referencing.specs.Resources.{resource_of};
-ghost use Rattle.referencing.specs.Anchors.{Named, named_at};
-ghost use Rattle.referencing.specs.Wants.{Want as Wanted, Reference, MetaSchema, reference_at, schema_at, wanted, refusals_of, wants_at, faults_at};
+ghost use Rattle.ref_uri.specs.Targets.{target as uri_target};
+ghost use Rattle.ref_world.specs.World.{Layer};
+ghost use Rattle.ref_world.specs.Places.{Place, base_within, child_place, root, places};
+ghost use Rattle.ref_world.specs.Resources.{resource_of};
+ghost use Rattle.ref_world.specs.Anchors.{Named, named_at};
+ghost use Rattle.ref_world.specs.Cached.{Pair, pairs_of_identifier, pairs_of_reference, reference_pairs, pairs_at};
+ghost use Rattle.ref_world.specs.Wants.{Want as Wanted, Reference, MetaSchema, reference_at, schema_at, wanted, refusals_of, wants_at, faults_at};
 ghost use Rattle.ref_index.specs.Contents.{tree_of};
 ghost use Rattle.ref_index.specs.Found.{Holds, IsEntryOf};
 ghost use Rattle.ref_index.specs.Queue.{place_of};
@@ -24,7 +26,7 @@ use crate::entry::Entry;
 use crate::found::{Cause, Found};
 use crate::path::owned;
 use crate::queue::Visit;
-use crate::reference::{shared, target};
+use crate::reference::{shared, target, uri_part};
 use ref_draft::{AnchorIter, Child, Draft, ResourceRef};
 use ref_parts::path::JsonPointerNode;
 use ref_uri::uri::{from_str, resolve_against};
@@ -86,10 +88,10 @@ fn add_under(
     entry: &Rc<Entry>,
     resource: ResourceRef<'_>,
 ) -> Result<(), AllocError>
-    ensures { (layer : Layer) (rs : List (List ℕ × Place)) (ns : List Named) (ws : List Wanted) (p : Place)
-        → Holds layer found.old rs ns ws → IsEntryOf layer entry.now.value p → resource_ref resource.entry ≡ tagged p.draft p.value
+    ensures { (layer : Layer) (rs : List (List ℕ × Place)) (ns : List Named) (ws : List Wanted) (ps : List Pair) (p : Place)
+        → Holds layer found.old rs ns ws ps → IsEntryOf layer entry.now.value p → resource_ref resource.entry ≡ tagged p.draft p.value
         → OnOk result (Holds layer found.new (rs ++ under_document (option_map (λ text. text.now) under.entry) p)
-        (ns ++ names_under (option_map (λ text. text.now) under.entry) p) ws) }
+        (ns ++ names_under (option_map (λ text. text.now) under.entry) p) ws ps) }
 {
     let Some(uri) = under else {
         return Ok(());
@@ -106,10 +108,10 @@ fn add_by_base(
     entry: &Rc<Entry>,
     resource: ResourceRef<'_>,
 ) -> Result<(), AllocError>
-    ensures { (layer : Layer) (rs : List (List ℕ × Place)) (ns : List Named) (ws : List Wanted) (p : Place)
-        → Holds layer found.old rs ns ws → IsEntryOf layer entry.now.value p → resource_ref resource.entry ≡ tagged p.draft p.value
+    ensures { (layer : Layer) (rs : List (List ℕ × Place)) (ns : List Named) (ws : List Wanted) (ps : List Pair) (p : Place)
+        → Holds layer found.old rs ns ws ps → IsEntryOf layer entry.now.value p → resource_ref resource.entry ≡ tagged p.draft p.value
         → p.base ≡ Ok base.now.value
-        → OnOk result (Holds layer found.new (rs ++ resource_of p) (ns ++ named_at p) ws) }
+        → OnOk result (Holds layer found.new (rs ++ resource_of p) (ns ++ named_at p) ws ps) }
 {
     if resource.id().is_some() {
         found.add_resource(alloc, base.as_str(), entry)?;
@@ -126,10 +128,10 @@ fn add_place(
     under: Option<&str>,
     base: &Rc<Uri>,
 ) -> Result<(), AllocError>
-    ensures { (layer : Layer) (rs : List (List ℕ × Place)) (ns : List Named) (ws : List Wanted)
-        → Holds layer found.old rs ns ws → StandsIn layer number (place_of place.now) → (place_of place.now).base ≡ Ok base.now.value
+    ensures { (layer : Layer) (rs : List (List ℕ × Place)) (ns : List Named) (ws : List Wanted) (ps : List Pair)
+        → Holds layer found.old rs ns ws ps → StandsIn layer number (place_of place.now) → (place_of place.now).base ≡ Ok base.now.value
         → OnOk result (Holds layer found.new (rs ++ resources_at (option_map (λ text. text.now) under.entry) (place_of place.now))
-        (ns ++ names_at (option_map (λ text. text.now) under.entry) (place_of place.now)) ws) }
+        (ns ++ names_at (option_map (λ text. text.now) under.entry) (place_of place.now)) ws ps) }
 {
     let resource = ResourceRef::new(place.value, place.draft);
     if under.is_none() && resource.id().is_none() && !has_anchors(resource) {
@@ -140,6 +142,42 @@ fn add_place(
     add_by_base(alloc, found, base, &entry, resource)
 }
 
+// Adds what the identifier of a place was resolved to, where it has one.
+fn add_base(
+    alloc: Global,
+    found: &mut Found,
+    outer: &Rc<Uri>,
+    id: Option<&str>,
+    base: &Rc<Uri>,
+) -> Result<(), AllocError>
+    ensures { (layer : Layer) (rs : List (List ℕ × Place)) (ns : List Named) (ws : List Wanted) (ps : List Pair)
+        → Holds layer found.old rs ns ws ps → base_within outer.now.value (option_map (λ text. text.now) id.entry) ≡ Ok base.now.value
+        → OnOk result (Holds layer found.new rs ns ws (ps ++ pairs_of_identifier outer.now.value (option_map (λ text. text.now) id.entry))) }
+{
+    let Some(id) = id else {
+        return Ok(());
+    };
+    found.add_resolved(alloc, outer.as_str(), id, base)
+}
+
+// Adds what the URI part of a reference was resolved to, where it has one.
+fn add_target(
+    alloc: Global,
+    found: &mut Found,
+    base: &Rc<Uri>,
+    reference: &str,
+    uri: &Rc<Uri>,
+) -> Result<(), AllocError>
+    ensures { (layer : Layer) (rs : List (List ℕ × Place)) (ns : List Named) (ws : List Wanted) (ps : List Pair)
+        → Holds layer found.old rs ns ws ps → uri_target base.now.value reference.now ≡ Ok uri.now.value
+        → OnOk result (Holds layer found.new rs ns ws (ps ++ pairs_of_reference base.now.value reference.now)) }
+{
+    if reference.starts_with('#') {
+        return Ok(());
+    }
+    found.add_resolved(alloc, base.as_str(), uri_part(reference), uri)
+}
+
 // Adds what a text under `$ref` refers to.
 fn add_reference(
     alloc: Global,
@@ -147,9 +185,10 @@ fn add_reference(
     value: &Value,
     base: &Rc<Uri>,
 ) -> Result<(), UriFault>
-    ensures added { (layer : Layer) (rs : List (List ℕ × Place)) (ns : List Named) (ws : List Wanted)
-        → Holds layer found.old rs ns ws
-        → OnOk result (Holds layer found.new rs ns (ws ++ wanted Reference (reference_at base.now.value (view value.now)))) }
+    ensures added { (layer : Layer) (rs : List (List ℕ × Place)) (ns : List Named) (ws : List Wanted) (ps : List Pair)
+        → Holds layer found.old rs ns ws ps
+        → OnOk result (Holds layer found.new rs ns (ws ++ wanted Reference (reference_at base.now.value (view value.now)))
+        (ps ++ reference_pairs base.now.value (view value.now))) }
     ensures faultless { OnOk result (refusals_of (reference_at base.now.value (view value.now)) ≡ []) }
     ensures fault { IfErr result (IsFirstFault (refusals_of (reference_at base.now.value (view value.now)))) }
 {
@@ -157,6 +196,7 @@ fn add_reference(
         return Ok(());
     };
     let uri = target(alloc, base, reference)?;
+    add_target(alloc, found, base, reference, &uri)?;
     found.add_want(Cause::Reference, uri)?;
     Ok(())
 }
@@ -175,9 +215,9 @@ fn schema_uri(alloc: Global, text: &str) -> Result<Rc<Uri>, UriFault>
 
 // Adds what a text under `$schema` names, where that is no known draft.
 fn add_meta_schema(alloc: Global, found: &mut Found, value: &Value) -> Result<(), UriFault>
-    ensures added { (layer : Layer) (rs : List (List ℕ × Place)) (ns : List Named) (ws : List Wanted)
-        → Holds layer found.old rs ns ws
-        → OnOk result (Holds layer found.new rs ns (ws ++ wanted MetaSchema (schema_at (view value.now)))) }
+    ensures added { (layer : Layer) (rs : List (List ℕ × Place)) (ns : List Named) (ws : List Wanted) (ps : List Pair)
+        → Holds layer found.old rs ns ws ps
+        → OnOk result (Holds layer found.new rs ns (ws ++ wanted MetaSchema (schema_at (view value.now))) ps) }
     ensures faultless { OnOk result (refusals_of (schema_at (view value.now)) ≡ []) }
     ensures fault { IfErr result (IsFirstFault (refusals_of (schema_at (view value.now)))) }
 {
@@ -201,16 +241,17 @@ fn settle(
     under: Option<&str>,
 ) -> Result<Rc<Uri>, UriFault>
     ensures base { IfOk result (λ base. (place_of place.now).base ≡ Ok base.value) }
-    ensures added { (layer : Layer) (rs : List (List ℕ × Place)) (ns : List Named) (ws : List Wanted)
-        → Holds layer found.old rs ns ws → StandsIn layer number (place_of place.now)
+    ensures added { (layer : Layer) (rs : List (List ℕ × Place)) (ns : List Named) (ws : List Wanted) (ps : List Pair)
+        → Holds layer found.old rs ns ws ps → StandsIn layer number (place_of place.now)
         → OnOk result (Holds layer found.new (rs ++ resources_at (option_map (λ text. text.now) under.entry) (place_of place.now))
         (ns ++ names_at (option_map (λ text. text.now) under.entry) (place_of place.now))
-        (ws ++ wants_at (place_of place.now).base (place_of place.now).value)) }
+        (ws ++ wants_at (place_of place.now).base (place_of place.now).value) (ps ++ pairs_at (place_of place.now))) }
     ensures faultless { OnOk result (faults_at (place_of place.now).base (place_of place.now).value ≡ []) }
     ensures fault { IfErr result (IsFirstFault (faults_at (place_of place.now).base (place_of place.now).value)) }
 {
     let id = ResourceRef::new(place.value, place.draft).id();
     let base = base_of(alloc, &place.outer, id)?;
+    add_base(alloc, found, &place.outer, id, &base)?;
     add_place(alloc, found, number, place, under, &base)?;
     add_reference(alloc, found, place.value, &base)?;
     add_meta_schema(alloc, found, place.value)?;

@@ -1,7 +1,7 @@
 use Rattle.std.proofs.Common.{◌≡◌, ◌<◌, ◌∙◌, sym, ap, map, length, ◌∷◌, true, false, not, is_some, arith, rules}
 use Rattle.std.proofs.lemmas.List.{length-map}
-use Rattle.referencing.specs.Resources.{means}
-use Rattle.referencing.specs.Wants.{is_open}
+use Rattle.ref_world.specs.Resources.{means}
+use Rattle.ref_world.specs.Wants.{is_open}
 use Rattle.ref_index.specs.Found.{want_of}
 use Rattle.ref_index.proofs.Opening.{one_more_met, none_past}
 use Rattle.ref_index.proofs.open.first_open.Goals as goal
@@ -13,17 +13,17 @@ loop-number-preserved c =
     let w = c.index-want.result.now in (
       omega arith,
       omega arith,
-      λ layer names wants held.
+      λ layer names wants ps held.
           let parents = map (λ p. p.now) c.args.parents.now in
           let within : i < length items = omega arith in
           let uri = c.as_str.result.now in
           let there : c.has_meaning.result ≡ true = search rules in
           let text : uri ≡ w.uri.value = c.as_str.ensures.value ∙ c.deref.ensures in
           let met : is_open (layer ∷ parents) (want_of w) ≡ false =
-          ap (λ u. not (is_some (means (layer ∷ parents) u))) (sym text) ∙ ap not (sym (c.has_meaning.ensures.value layer names wants held)) ∙ ap not there in
-          one_more_met (λ v. is_open (layer ∷ parents) v ≡ false) c.args.from i items wants w want_of held.wanted c.loop-number.invariant.0 within c.index-want.ensures met (c.loop-number.invariant.2 layer names wants held),
+          ap (λ u. not (is_some (means (layer ∷ parents) u))) (sym text) ∙ ap not (sym (c.has_meaning.ensures.value layer names wants ps held)) ∙ ap not there in
+          one_more_met (λ v. is_open (layer ∷ parents) v ≡ false) c.args.from i items wants w want_of held.wanted c.loop-number.invariant.0 within c.index-want.ensures met (c.loop-number.invariant.2 layer names wants ps held),
     )
 
 pub returns-clause-open : goal.returns-clause-open
-returns-clause-open c = λ layer names wants w held here.
+returns-clause-open c = λ layer names wants ps w held here.
     none_past wants c.loop-number.number w (is_open (layer ∷ map (λ p. p.now) c.args.parents.now) w ≡ true) (omega (arith, length-map c.args.found.now.wants.items want_of, ap length held.wanted)) here

@@ -1,16 +1,17 @@
 use Rattle.std.proofs.Common.{◌≡◌, ◌-◌, ◌≤◌, List, ◌∷◌, map, take, drop, vec_len, false}
 use Rattle.std.specs.List.{AllByRecursion}
-use Rattle.referencing.specs.World.{Layer}
-use Rattle.referencing.specs.Resources.{resources}
-use Rattle.referencing.specs.Anchors.{Named}
-use Rattle.referencing.specs.Wants.{Want, is_open}
+use Rattle.ref_world.specs.World.{Layer}
+use Rattle.ref_world.specs.Resources.{resources}
+use Rattle.ref_world.specs.Anchors.{Named}
+use Rattle.ref_world.specs.Cached.{Pair}
+use Rattle.ref_world.specs.Wants.{Want, is_open}
 use Rattle.ref_index.specs.Found.{Holds}
 use Rattle.ref_index.proofs.open.first_open.Given as goal
 
 abbrev pub invariant-loop-number : goal.invariant-loop-number
 invariant-loop-number l =
     (l.from ≤ l.number) × (l.number ≤ vec_len l.found.wants)
-    × ((layer : Layer) (names : List Named) (wants : List Want) → Holds layer l.found (resources layer) names wants
+    × ((layer : Layer) (names : List Named) (wants : List Want) (ps : List Pair) → Holds layer l.found (resources layer) names wants ps
     → AllByRecursion (λ w. is_open (layer ∷ map (λ p. p.now) l.parents) w ≡ false) (drop l.from (take l.number wants)))
 
 abbrev pub decreases-loop-number : goal.decreases-loop-number

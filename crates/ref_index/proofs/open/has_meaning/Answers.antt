@@ -1,11 +1,11 @@
 use Rattle.std.proofs.Common.{◌≡◌, ◌∙◌, sym, ap, map, is_some, ◌||◌}
-use Rattle.referencing.specs.Resources.{resources, last_under, means}
+use Rattle.ref_world.specs.Resources.{resources, last_under, means}
 use Rattle.ref_index.proofs.Opening.{meaning_or, known_is}
 use Rattle.ref_index.proofs.open.has_meaning.Goals as goal
 
 pub returns-then-contains : goal.returns-then-contains
 returns-then-contains c = record {
-  value = λ layer names wants held.
+  value = λ layer names wants ps held.
       let uri = c.args.uri.now in
       let parents = map (λ p. p.now) c.args.parents.now in
       let here : is_some (last_under uri (resources layer)) ≡ c.contains.result = sym (known_is uri (resources layer)) ∙ sym (held.known uri) ∙ sym c.contains.ensures in
@@ -14,7 +14,7 @@ returns-then-contains c = record {
 
 pub returns-else-contains : goal.returns-else-contains
 returns-else-contains c = record {
-  value = λ layer names wants held.
+  value = λ layer names wants ps held.
       let uri = c.args.uri.now in
       let parents = map (λ p. p.now) c.args.parents.now in
       let here : is_some (last_under uri (resources layer)) ≡ c.contains.result = sym (known_is uri (resources layer)) ∙ sym (held.known uri) ∙ sym c.contains.ensures in

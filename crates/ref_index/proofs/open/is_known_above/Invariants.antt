@@ -1,5 +1,5 @@
 use Rattle.std.proofs.Common.{◌≡◌, map, drop, is_some}
-use Rattle.referencing.specs.Resources.{means}
+use Rattle.ref_world.specs.Resources.{means}
 use Rattle.ref_index.proofs.open.is_known_above.Given as goal
 
 abbrev pub invariant-loop-parent : goal.invariant-loop-parent

@@ -4,7 +4,8 @@ use Rattle.ref_index.proofs.reference.uri_part.Goals as goal
 pub returns-in-Some : goal.returns-in-Some
 returns-in-Some c =
     let cut = rw c.in-Some.is at (hash_split c.args.reference.now c.rsplit_once.result c.rsplit_once.ensures.cases) in
-    uri_part-split c.args.reference.now c.in-Some.uri.now cut.0 cut.1
+    record { value = uri_part-split c.args.reference.now c.in-Some.uri.now cut.0 cut.1 }
 
 pub returns-in-None : goal.returns-in-None
-returns-in-None c = uri_part-whole c.args.reference.now (rw c.in-None.is at (hash_split c.args.reference.now c.rsplit_once.result c.rsplit_once.ensures.cases))
+returns-in-None c =
+    record { value = uri_part-whole c.args.reference.now (rw c.in-None.is at (hash_split c.args.reference.now c.rsplit_once.result c.rsplit_once.ensures.cases)) }

@@ -1,11 +1,13 @@
 use Rattle.std.proofs.Common.{◌≡◌, ◌++◌, refl, ap, ◌∙◌, option_map, Ok, rules, subst}
 use Rattle.ref_draft.specs.Views.{id_of}
 use Rattle.ref_uri.specs.Errors.{IsFaultOf}
-use Rattle.referencing.specs.Places.{base_within}
-use Rattle.referencing.specs.Wants.{Reference, wanted, reference_at}
+use Rattle.ref_world.specs.Places.{base_within, identifier_of}
+use Rattle.ref_world.specs.Cached.{pairs_of_identifier, reference_pairs}
+use Rattle.ref_world.specs.Wants.{Reference, wanted, reference_at}
+use Rattle.ref_index.specs.Found.{Holds}
 use Rattle.ref_index.specs.Queue.{place_of}
 use Rattle.ref_index.specs.Visits.{resources_at, names_at}
-use Rattle.ref_index.proofs.Visiting.{first_of_base, first_of_reference, wants_where, holds_same}
+use Rattle.ref_index.proofs.Visiting.{first_of_base, first_of_reference, wants_where, pairs_where, holds_same}
 use Rattle.ref_index.proofs.walk.settle.Goals as goal
 
 pub returns-in_err-base-clause-fault : goal.returns-in_err-base-clause-fault
@@ -23,14 +25,19 @@ returns-in_err-add_reference-clause-fault c =
     search rules
 
 pub returns-clause-added : goal.returns-clause-added
-returns-clause-added c = λ layer rs ns ws held stands.
+returns-clause-added c = λ layer rs ns ws ps held stands.
     let p = place_of c.args.place.now in
     let under = option_map (λ text. text.now) c.args.under in
     let base = c.in_ok-base.base.value in
     let based : p.base ≡ Ok base = search rules in
     let rs' = rs ++ resources_at under p in
     let ns' = ns ++ names_at under p in
-    let placed = c.in_ok-add_place.ensures layer rs ns ws held stands based in
-    let referred = c.in_ok-add_reference.ensures.added layer rs' ns' ws placed in
-    holds_same layer c.add_meta_schema.new.found rs' rs' ns' ns' _ _ refl refl (wants_where p.base base p.value ws based)
-    (c.in_ok-add_meta_schema.ensures.added layer rs' ns' (ws ++ wanted Reference (reference_at base p.value)) referred)
+    let outer = c.args.place.now.outer.value in
+    let own = pairs_of_identifier outer (identifier_of p) in
+    let same = c.id-id.ensures.value ∙ ap id_of c.new.ensures.value in
+    let based_on : base_within outer (option_map (λ text. text.now) c.id-id.result) ≡ Ok base = c.in_ok-base.ensures.ok in
+    let kept = subst (λ id. Holds layer c.add_base.new.found rs ns ws (ps ++ pairs_of_identifier outer id)) same (c.in_ok-add_base.ensures layer rs ns ws ps held based_on) in
+    let placed = c.in_ok-add_place.ensures layer rs ns ws (ps ++ own) kept stands based in
+    let referred = c.in_ok-add_reference.ensures.added layer rs' ns' ws (ps ++ own) placed in
+    holds_same layer c.add_meta_schema.new.found rs' rs' ns' ns' _ _ _ _ refl refl (wants_where p.base base p.value ws based) (pairs_where p.base base p.value own ps based)
+    (c.in_ok-add_meta_schema.ensures.added layer rs' ns' (ws ++ wanted Reference (reference_at base p.value)) ((ps ++ own) ++ reference_pairs base p.value) referred)

@@ -5,12 +5,13 @@ use Rattle.ref_index.proofs.found.Found.add_resource.Goals as goal
 
 pub returns : goal.returns
 returns c = record {
-  added = λ layer rs ns ws p held is.
+  added = λ layer rs ns ws ps p held is.
       let same : c.in_ok-entry.entry.value ≡ c.args.entry.now.value = search rules in
       record {
         by_uri = rw c.in_ok-push.ensures.items (zip_push (IsResourceOf layer) c.args.self.now.resources.items rs _ _ held.by_uri (c.in_ok-text.ensures.ok, c.new.ensures.bytes, subst (λ e. IsEntryOf layer e p) (sym same) is));
         by_name = held.by_name;
         wanted = held.wanted;
+        by_pair = held.by_pair;
         known = λ u. known_with u c.args.uri.now p rs _ _ (held.known u) (c.in_ok-identify.ensures u);
       };
 }

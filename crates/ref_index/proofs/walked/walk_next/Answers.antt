@@ -4,9 +4,9 @@ use Rattle.std.proofs.lemmas.List.{map-append, length-map}
 use Rattle.std.proofs.lemmas.Option.{get_or_from_slice_get}
 use Rattle.ref_index.specs.Document.{document_of}
 use Rattle.ref_index.specs.Visits.{IsFound, IsWalked}
-use Rattle.referencing.specs.Places.{places}
+use Rattle.ref_world.specs.Places.{places}
 use Rattle.ref_index.proofs.Layers.{at_length, found_more}
-use Rattle.ref_index.proofs.layer.append.Goals as goal
+use Rattle.ref_index.proofs.walked.walk_next.Goals as goal
 
 on_ok : {A E P Q : Type 0} (r : Result A E) → (P → Q) → OnOk r P → OnOk r Q
 on_ok (Ok x) then is = then is

@@ -1,0 +1,14 @@
+use Rattle.std.proofs.Common.{◌≡◌, ◌∷◌, map, false, subst}
+use Rattle.ref_world.specs.Anchors.{names}
+use Rattle.ref_world.specs.Cached.{pairs}
+use Rattle.ref_world.specs.Wants.{wants, is_open}
+use Rattle.ref_index.specs.Visits.{IsFound}
+use Rattle.ref_index.proofs.Opening.{all_up_to}
+use Rattle.ref_index.proofs.walked.Walked.first_open.Goals as goal
+
+pub returns-clause-met : goal.returns-clause-met
+returns-clause-met c = λ before.
+    let layer = c.args.self.now in
+    let found = subst (λ l. IsFound l c.self.inside.found) c.self.view_is c.self.invariant in
+    let rest = c.first_open.ensures.met layer (names layer) (wants layer) (pairs layer) found.held in
+    all_up_to (λ w. is_open (layer ∷ map (λ p. p.now) c.args.parents.now) w ≡ false) c.args.from c.first_open.result (wants layer) c.first_open.ensures.from before rest
