@@ -1,0 +1,47 @@
+-- What outcomes say of a registry and of the limit.
+use Rattle.std.proofs.Common.{◌≡◌, ℕ, List, Ok, sym, subst}
+use Rattle.serde_json.specs.Data.{Data}
+use Rattle.ref_draft.specs.declared.draft.Draft.{Draft}
+use Rattle.ref_world.specs.World.{Layer, World}
+use Rattle.ref_world.specs.Fault as fault
+use Rattle.ref_world.specs.Fault.{Fault}
+use Rattle.ref_world.specs.Preparing.{Given, IsOutcome}
+use Rattle.ref_world.specs.Closure.{IsReady, IsUsedUp}
+use Rattle.ref_world.proofs.Closure.{outcome_laws}
+use Rattle.ref_retrieve.specs.declared.error.Error.{Error}
+use Rattle.ref_retrieve.specs.declared.error.Error.TheVariants as error
+use Rattle.ref_index.specs.Retrieval.{given, IsFaultyOutcome}
+use Rattle.referencing.specs.Prepared.{LimitIsUsedUp}
+
+-- what is given, told otherwise
+pub same_given : (P : Given → Type 0) (may_answer : List ℕ → Data → Type 0) (may_refuse : List ℕ → List ℕ → Type 0) (limit : ℕ) (d d' : Draft) (ps ps' : World) (ds ds' : Layer) → d ≡ d' → ps ≡ ps' → ds ≡ ds'
+    → P (given may_answer may_refuse limit d ps ds) → P (given may_answer may_refuse limit d' ps' ds')
+same_given P may_answer may_refuse limit d d' ps ps' ds ds' draft parents documents is =
+    subst (λ x. P (given may_answer may_refuse limit d' ps' x)) documents
+    (subst (λ x. P (given may_answer may_refuse limit d' x ds)) parents (subst (λ x. P (given may_answer may_refuse limit x ps ds)) draft is))
+
+pub ready_of : (g : Given) (layer : Layer) → IsOutcome g (Ok layer) → IsReady g layer
+ready_of g layer outcome = (outcome_laws g).ready layer outcome
+
+pub limit_of : (g : Given) (e : Error) → IsFaultyOutcome g e → LimitIsUsedUp g e
+limit_of g (error.Unretrievable uri source) is = tt
+limit_of g (error.PointerToNowhere pointer) is = tt
+limit_of g (error.InvalidPercentEncoding pointer) is = tt
+limit_of g (error.InvalidArrayIndex pointer index) is = tt
+limit_of g (error.NoSuchAnchor anchor) is = tt
+limit_of g (error.InvalidAnchor anchor) is = tt
+limit_of g (error.InvalidUri uri) is = tt
+limit_of g (error.UnknownSpecification specification) is = tt
+limit_of g (error.CircularMetaschema uri) is = tt
+limit_of g (error.RetrievalLimit uri limit) (fault.RetrievalLimit wanted most, outcome, says) =
+    subst (λ u. IsUsedUp g u limit) (sym says.0) (subst (λ n. IsUsedUp g wanted n) (sym says.1) ((outcome_laws g).used_up wanted most outcome))
+limit_of g (error.RetrievalLimit uri limit) (fault.Unretrievable a b, outcome, says) = absurd says
+limit_of g (error.RetrievalLimit uri limit) (fault.PointerToNowhere a, outcome, says) = absurd says
+limit_of g (error.RetrievalLimit uri limit) (fault.InvalidPercentEncoding a, outcome, says) = absurd says
+limit_of g (error.RetrievalLimit uri limit) (fault.InvalidArrayIndex a b, outcome, says) = absurd says
+limit_of g (error.RetrievalLimit uri limit) (fault.NoSuchAnchor a, outcome, says) = absurd says
+limit_of g (error.RetrievalLimit uri limit) (fault.InvalidAnchor a, outcome, says) = absurd says
+limit_of g (error.RetrievalLimit uri limit) (fault.InvalidUri a, outcome, says) = absurd says
+limit_of g (error.RetrievalLimit uri limit) (fault.UnknownSpecification a, outcome, says) = absurd says
+limit_of g (error.RetrievalLimit uri limit) (fault.CircularMetaschema a, outcome, says) = absurd says
+limit_of g (error.Memory memory) is = tt

@@ -1,0 +1,44 @@
+-- What holds of every registry, and what it answers of URIs.
+use Rattle.std.specs.Prelude.{◌≡◌, ℕ, List, [], ◌∷◌, Bool, false, is_some, string_bytes, Ok, ⊤}
+use Rattle.serde_json.specs.Data.{Data}
+use Rattle.std.specs.Option.{option_map_or}
+use Rattle.std.specs.Result.{result_ok}
+use Rattle.ref_uri.specs.Targets.{parsed}
+use Rattle.ref_world.specs.World.{Layer, World}
+use Rattle.ref_world.specs.Resources.{means}
+use Rattle.ref_world.specs.Wants.{faults, open_wants}
+use Rattle.ref_world.specs.Preparing.{Given, IsOutcome}
+use Rattle.ref_world.specs.Closure.{IsReady, IsUsedUp}
+use Rattle.ref_world.specs.Pending.{given_of_builder}
+use Rattle.ref_retrieve.specs.declared.error.Error.{Error}
+use Rattle.ref_retrieve.specs.declared.error.Error.TheVariants as error
+use Rattle.ref_retrieve.specs.Retrieving.{retriever_of}
+use Rattle.referencing.specs.Builder.{Builder}
+
+-- the documents of the registry itself
+abbrev pub own : World → Layer
+own [] = []
+own (layer ∷ parents) = layer
+
+-- its own documents have no fault and no open want
+pub record IsPrepared (world : World) : Type 0 where
+  pub no_fault : faults (own world) ≡ []
+  pub no_want : open_wants world (own world) ≡ []
+
+-- whether a text is a URI that means a place
+abbrev pub contains_resource : World → List ℕ → Bool
+contains_resource world text = option_map_or (λ uri. is_some (means world uri)) (result_ok (parsed text)) false
+
+-- what preparing is given by a builder, whose retriever may answer and refuse so
+abbrev pub given_of : {R : Type 0} → (List ℕ → Data → Type 0) → (List ℕ → List ℕ → Type 0) → Builder R → Given
+given_of may_answer may_refuse b = given_of_builder (retriever_of may_answer may_refuse) b.limit b.draft b.parents b.pending
+
+-- a registry's world is that of an outcome, in front of the parents; so its own documents are those given and what was
+-- retrieved for them, and nothing in it is faulty or wanted
+abbrev pub IsPreparedOf : Given → World → Type 0
+IsPreparedOf given world = (layer : Layer) × IsOutcome given (Ok layer) × IsReady given layer × (world ≡ layer ∷ given.parents)
+
+-- where the error is the limit, it is used up
+abbrev pub LimitIsUsedUp : Given → Error → Type 0
+LimitIsUsedUp given (error.RetrievalLimit uri limit) = IsUsedUp given (string_bytes uri) limit
+LimitIsUsedUp given other = ⊤

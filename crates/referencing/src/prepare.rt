@@ -1,0 +1,98 @@
+//! From a builder to a registry.
+ghost use Rattle.std.specs.Prelude.{◌≡◌, ◌∷◌, ◌++◌, [], map, IfOk, IfErr, OnOk};
+ghost use Rattle.ref_world.specs.Pending as world;
+ghost use Rattle.ref_index.specs.Document.{document_of};
+ghost use Rattle.ref_index.specs.Retrieval.{IsFaultyOutcome};
+ghost use Rattle.referencing.specs.Builder.{pending_under, seen};
+ghost use Rattle.referencing.specs.Prepared.{given_of, IsPreparedOf, LimitIsUsedUp};
+
+use crate::builder::RegistryBuilder;
+use crate::input::PendingResource;
+use crate::registry::Registry;
+use indexmap::IndexMap;
+use ref_draft::Draft;
+use ref_index::Document;
+use ref_index::prepare::prepare;
+use ref_retrieve::{Error, Retrieve};
+use ref_uri::Uri;
+use std::alloc::{AllocError, Global};
+
+// A pending document, with the draft that it was given or that is detected on it.
+fn document<'a>(draft: Draft, uri: Uri, resource: PendingResource<'a>) -> Document<'a>
+    ensures { document_of result ≡ world.document_of draft (pending_under (uri, resource.entry)) }
+{
+    let PendingResource {
+        contents,
+        draft: given,
+    } = resource;
+    let draft = match given {
+        Some(draft) => draft,
+        None => draft.detect(contents.value()),
+    };
+    Document {
+        uri,
+        contents,
+        draft,
+    }
+}
+
+// Adds a document behind the others.
+fn push<'a>(documents: &mut Vec<Document<'a>>, document: Document<'a>) -> Result<(), AllocError>
+    ensures { OnOk result (documents.new.items ≡ documents.old.items ++ document.entry ∷ []) }
+{
+    documents.push(document)?;
+    Ok(())
+}
+
+// The pending documents, in their order.
+fn documents<'a>(
+    alloc: Global,
+    draft: Draft,
+    pending: IndexMap<Uri, PendingResource<'a>>,
+) -> Result<Vec<Document<'a>>, AllocError>
+    ensures { IfOk result (λ ds. map document_of ds.items ≡ map (world.document_of draft) (map pending_under pending.entry.entries)) }
+{
+    let mut documents = Vec::with_capacity(alloc, pending.len())?;
+    for (uri, resource) in pending {
+        push(&mut documents, document(draft, uri, resource))?;
+    }
+    Ok(documents)
+}
+
+impl<'a, R: Retrieve + Drop> RegistryBuilder<'a, R> {
+    /// The registry of the documents that were added and of those that they want: for the first URI that a `$ref` or an
+    /// unknown `$schema` names and that means no place, the retriever is asked, and its document is walked before the next;
+    /// at most as many as the limit. It stands above the builder's parents, whose places meet wants too. Nothing is
+    /// retrieved once it stands.
+    ///
+    /// Refuses as `InvalidUri` for the first identifier, `$ref` or `$schema` of the documents that means no URI; as
+    /// `RetrievalLimit` where a URI is wanted and as many documents were retrieved as may be; as `Unretrievable` for a `$ref`
+    /// and `UnknownSpecification` for a `$schema` whose URI the retriever refuses; and as `Memory` for want of memory, the
+    /// retriever's too. Each place is visited once; URIs, names and paths are copied for the tables, which are sorted once, and
+    /// no value is.
+    pub fn prepare(self) -> Result<Registry<'a>, Error>
+        ensures outcome { IfOk result (IsPreparedOf (given_of (R.may_answer (seen self.entry).retriever) (R.may_refuse (seen self.entry).retriever) (seen self.entry))) }
+        ensures fault { IfErr result (IsFaultyOutcome (given_of (R.may_answer (seen self.entry).retriever) (R.may_refuse (seen self.entry).retriever) (seen self.entry))) }
+        ensures limit { IfErr result (LimitIsUsedUp (given_of (R.may_answer (seen self.entry).retriever) (R.may_refuse (seen self.entry).retriever) (seen self.entry))) }
+    {
+        let RegistryBuilder {
+            alloc,
+            parents,
+            pending,
+            draft,
+            limit,
+            retriever,
+        } = self;
+        let draft = draft.unwrap_or(Draft::Draft202012);
+        let documents = documents(alloc, draft, pending)?;
+        let index = prepare(
+            alloc,
+            &retriever,
+            limit,
+            draft,
+            parents.as_slice(),
+            documents,
+        )?;
+        Ok(Registry::from_index(alloc, index, parents)?)
+    }
+}

@@ -1,0 +1,221 @@
+//! A registry: documents, and the places in them that references lead to.
+ghost use Rattle.std.specs.Prelude.{◌≡◌, ℕ, List, [], ◌∷◌, map, codes, IfOk, IfErr, IfSome, MatchOption, IsSome, None, Some, Ok, Err};
+ghost use Rattle.std.specs.Iterator.{Drains, Yields, IsFinite};
+ghost use Rattle.std.specs.List.{Contains};
+ghost use Rattle.ref_draft.specs.Schema.{text_under};
+ghost use Rattle.ref_uri.specs.Targets.{against};
+ghost use Rattle.ref_world.specs.World.{Document as WorldDocument};
+ghost use Rattle.ref_world.specs.Places.{Place, places};
+ghost use Rattle.ref_world.specs.Resources.{means};
+ghost use Rattle.ref_world.specs.Anchors.{named};
+ghost use Rattle.ref_world.specs.Cached.{pairs};
+ghost use Rattle.ref_world.specs.Fault.{Unretrievable, as_invalid_uri};
+ghost use Rattle.ref_world.specs.Wants.{faults, open_wants};
+ghost use Rattle.ref_world.specs.Lookup.{Resolver as WorldResolver, lookup};
+ghost use Rattle.ref_retrieve.specs.Errors.{IsFaultOf};
+ghost use Rattle.referencing.specs.Located.{IsMeant, IsNamed};
+ghost use Rattle.ref_world.specs.Pending.{added, extended};
+ghost use Rattle.referencing.specs.Builder.{seen, addition, Adds, new_builder};
+ghost use Rattle.referencing.specs.Prepared.{own, contains_resource};
+
+use crate::builder::{RegistryBuilder, above};
+use crate::input::IntoRegistryResource;
+use crate::located::{
+    Located, LocatedName, named_above, named_in, resolved_above, resource_above, resource_in,
+};
+use ref_index::Index;
+use ref_index::reference::shared;
+use ref_retrieve::Error;
+use ref_uri::uri::{from_str, resolve_against};
+use ref_uri::{Uri, UriFault, UriRef};
+use std::alloc::{AllocError, Global};
+use std::convert::AsStr;
+use std::fmt;
+use std::marker::Model;
+use std::rc::Rc;
+
+/// Documents whose references are resolved among them, and the registries that they were added to, nearest first. Nothing is
+/// retrieved once it stands. Contracts see the documents, layer by layer: its own first, then its parent's.
+#[derive(Drop)]
+pub struct Registry<'a> {
+    own: Rc<Index<'a>>,
+    parents: Vec<&'a Index<'a>>,
+}
+
+impl<'a> Model for Registry<'a> {
+    ghost use Rattle.std.specs.Prelude.{List, ◌∷◌, map};
+    ghost use Rattle.ref_world.specs.World.{Document as WorldDocument};
+    ghost use Rattle.ref_index.specs.Codes.{world_code};
+
+    ghost Value = { List (List WorldDocument) };
+
+    ghost coded = { world_code };
+
+    ghost use Rattle.referencing.specs.Prepared.{IsPrepared};
+
+    ghost view = { λ r. r.own.value ∷ map (λ p. p.now) r.parents.items };
+
+    ghost invariant = { λ r. IsPrepared (r.own.value ∷ map (λ p. p.now) r.parents.items) };
+}
+
+impl<'a> Registry<'a> {
+    /// A builder without documents, draft and parents, which retrieves nothing and would retrieve at most 10,000 documents.
+    /// Takes no memory.
+    pub fn new<'b>(alloc: Global) -> RegistryBuilder<'b>
+        ensures value { seen result ≡ new_builder (seen result).retriever [] [] }
+    {
+        RegistryBuilder::new(alloc, Vec::new(alloc))
+    }
+
+    /// A builder above this registry, with one document, which is added as [`RegistryBuilder::add`] does. The registry stays as
+    /// it is, and is borrowed: its places, and those of its parents, meet what the documents want. Takes memory for the list
+    /// of parents and the document's URI; the value is not copied.
+    pub fn add<'b, U: AsStr + Drop, T: IntoRegistryResource<'b>>(
+        &'b self,
+        alloc: Global,
+        uri: U,
+        resource: T,
+    ) -> Result<RegistryBuilder<'b>, Error>
+        ensures ok { IfOk result (λ b. Adds (added [] (addition (U.text uri) (T.tree resource) (T.given_draft resource))) (new_builder (seen b).retriever self.now []) (seen b)) }
+        ensures fault { IfErr result (IsFaultOf (as_invalid_uri (added [] (addition (U.text uri) (T.tree resource) (T.given_draft resource))))) }
+    {
+        let builder = RegistryBuilder::new(alloc, Vec::new(alloc)).add(uri, resource)?;
+        Ok(above(builder, self.indexes(alloc)?))
+    }
+
+    /// A builder above this registry, with documents, which are added as [`RegistryBuilder::extend`] does, up to the first that
+    /// is refused. The registry stays as it is, and is borrowed. Takes memory for the list of parents and the documents' URIs;
+    /// no value is copied.
+    pub fn extend<'b, U: AsStr + Drop, T: IntoRegistryResource<'b>, I: IntoIterator<Item = (U, T)>>(
+        &'b self,
+        alloc: Global,
+        pairs: I,
+    ) -> Result<RegistryBuilder<'b>, Error>
+        requires ends { (it : I.IntoIter) → I.into_iter_gives pairs it → I.IntoIter.can_next it × IsFinite (I.IntoIter.remaining it) }
+        ensures ok { IfOk result (λ b. (it : I.IntoIter) × (xs : List (U × T)) × I.into_iter_gives pairs it × Drains I.IntoIter.next_gives it xs
+            × Adds (extended [] (map (λ x. addition (U.text x.0) (T.tree x.1) (T.given_draft x.1)) xs)) (new_builder (seen b).retriever self.now []) (seen b)) }
+        ensures fault { IfErr result (λ error. (it : I.IntoIter) × (xs : List (U × T)) × I.into_iter_gives pairs it × ((rest : I.IntoIter) × Yields I.IntoIter.next_gives it xs rest)
+            × IsFaultOf (as_invalid_uri (extended [] (map (λ x. addition (U.text x.0) (T.tree x.1) (T.given_draft x.1)) xs))) error) }
+    {
+        let builder = RegistryBuilder::new(alloc, Vec::new(alloc)).extend(pairs)?;
+        Ok(above(builder, self.indexes(alloc)?))
+    }
+
+    // The indexes of this registry and of its parents, nearest first.
+    fn indexes<'b>(&'b self, alloc: Global) -> Result<Vec<&'b Index<'b>>, AllocError>
+        ensures { IfOk result (λ is. map (λ p. p.now) is.items ≡ self.now) }
+    {
+        let mut indexes: Vec<&'b Index<'b>> = Vec::with_capacity(alloc, self.parents.len() + 1)?;
+        indexes.push(&self.own)?;
+        for parent in &self.parents {
+            indexes.push(*parent)?;
+        }
+        Ok(indexes)
+    }
+
+    /// The registry of documents that are prepared. Takes memory for a handle.
+    pub(crate) fn from_index(
+        alloc: Global,
+        index: Index<'a>,
+        parents: Vec<&'a Index<'a>>,
+    ) -> Result<Registry<'a>, AllocError>
+        requires { (faults index ≡ []) × (open_wants (index ∷ map (λ p. p.now) parents.items) index ≡ []) }
+        ensures value { IfOk result (λ registry. registry ≡ index.entry ∷ map (λ p. p.now) parents.entry.items) }
+    {
+        Ok(Registry {
+            own: Rc::new(alloc, index)?,
+            parents,
+        })
+    }
+
+    /// The place that a URI means. A look-up in the tables of this registry and its parents; takes no memory.
+    pub(crate) fn resource<'r>(&'r self, uri: &str) -> Option<Located<'r>>
+        ensures value { MatchOption result (means self.now uri.now ≡ None) (IsMeant (means self.now uri.now)) }
+    {
+        match resource_in(&self.own, uri) {
+            Some(place) => Some(place),
+            None => resource_above(self.parents.as_slice(), uri),
+        }
+    }
+
+    /// The place that an anchor names under a URI. A look-up in the tables of this registry and its parents; takes no memory.
+    pub(crate) fn named<'r>(&'r self, uri: &str, name: &str) -> Option<LocatedName<'r>>
+        ensures value { MatchOption result (named self.now uri.now name.now ≡ None) (IsNamed (named self.now uri.now name.now)) }
+    {
+        match named_in(&self.own, uri, name) {
+            Some(place) => Some(place),
+            None => named_above(self.parents.as_slice(), uri, name),
+        }
+    }
+
+    /// Whether a text is a URI that means a place: one without a scheme is taken against `json-schema:///`, and its fragment
+    /// takes part. False for a text that is no URI reference. Takes memory for the URI, and is refused where there is none.
+    pub fn contains_resource(&self, alloc: Global, uri: &str) -> Result<bool, AllocError>
+        ensures value { IfOk result (λ found. found ≡ contains_resource self.now uri.now) }
+    {
+        match from_str(alloc, uri) {
+            Ok(uri) => Ok(self.resource(uri.as_str()).is_some()),
+            Err(UriFault::Invalid(_)) => Ok(false),
+            Err(UriFault::Memory(error)) => Err(error),
+        }
+    }
+
+    /// The URI that a text means against a base, where that was resolved when the documents were prepared: so it is for the
+    /// identifier of each own place with the base around it, and for what stands before the last `#` of each own place's `$ref`
+    /// with the place's base, unless it begins with `#`. A look-up in the tables of this registry and its parents; takes no
+    /// memory.
+    pub fn resolved_uri(&self, base: &UriRef<'_>, uri: &str) -> Option<&Rc<Uri>>
+        ensures held { Contains (pairs (own self.now)) (base.now, uri.now) → IsSome result }
+        ensures value { IfSome result (λ u. against base.now uri.now ≡ Ok u.now.value) }
+    {
+        match self.own.resolved(base.as_str(), uri) {
+            Some(uri) => Some(uri),
+            None => resolved_above(self.parents.as_slice(), base.as_str(), uri),
+        }
+    }
+
+    /// The URI that a text means against a base (RFC 3986, 5.2), in normal form, whatever was resolved before; without memory
+    /// where it was. Refuses as `InvalidUri` a base without a scheme and a text that is no URI reference, and as `Memory` where
+    /// there is none for the URI.
+    pub fn resolve_uri(&self, alloc: Global, base: UriRef<'_>, uri: &str) -> Result<Rc<Uri>, Error>
+        ensures ok { IfOk result (λ u. against base.entry uri.now ≡ Ok u.value) }
+        ensures fault { IfErr result (IsFaultOf (as_invalid_uri (against base.entry uri.now))) }
+    {
+        if let Some(uri) = self.resolved_uri(&base, uri) {
+            return Ok(uri.clone()?);
+        }
+        let uri = resolve_against(alloc, base, uri)?;
+        Ok(shared(alloc, uri)?)
+    }
+
+    /// No reference of an own place leads to a URI that is not present: from the place's base, with any dynamic scope, the
+    /// text under its `$ref` is never unretrievable. A law; the call does nothing.
+    pub fn references_are_retrieved(&self)
+        ensures law { (d : WorldDocument) (place : Place) (resolver : WorldResolver) (reference : List ℕ)
+            → Contains (own self.now) d → Contains (places d) place → place.base ≡ Ok resolver.base → text_under (codes "$ref") place.value ≡ Some reference
+            → (uri source : List ℕ) → ¬ (lookup self.now resolver reference ≡ Err (Unretrievable uri source)) }
+    {
+        let _ = &self.own;
+    }
+}
+
+impl<'a> Clone for Registry<'a> {
+    ghost is_clone = { λ registry copy. copy ≡ registry };
+
+    // The same documents and parents, which both have from then on: no value is copied. Takes memory for the list of parents.
+    fn clone(&self) -> Result<Registry<'a>, AllocError> {
+        let own = self.own.clone()?;
+        let parents = self.parents.clone()?;
+        Ok(Registry { own, parents })
+    }
+}
+
+impl fmt::Debug for Registry<'_> {
+    fn fmt<W: fmt::Write>(&self, f: &mut fmt::Formatter<W>) -> fmt::Result {
+        let (documents, parents) = (self.own.document_count(), self.parents.len());
+        write!(
+            f,
+            "Registry {{ documents: {documents}, parents: {parents} }}"
+        )
+    }
+}

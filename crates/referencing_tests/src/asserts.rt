@@ -1,0 +1,24 @@
+//! The assertions of the tests. One that is written out in a test is proved there once more, and is the dearest part of it.
+
+use std::fmt;
+use std::process::Abort;
+
+/// Ends the test where two values differ.
+pub fn same<T: PartialEq + fmt::Debug + Copy>(rt: &impl Abort, found: T, wanted: T) {
+    assert_eq!(rt; found, wanted);
+}
+
+/// Ends the test where two values differ, and says where in its table.
+pub fn same_at<T: PartialEq + fmt::Debug + Copy, P: fmt::Debug + Copy>(
+    rt: &impl Abort,
+    found: T,
+    wanted: T,
+    place: P,
+) {
+    assert_eq!(rt; found, wanted, "at {place:?}");
+}
+
+/// Ends the test where this is false, and says where in its table.
+pub fn holds_at<P: fmt::Debug + Copy>(rt: &impl Abort, is_so: bool, place: P) {
+    assert!(rt; is_so, "at {place:?}");
+}
