@@ -4,6 +4,7 @@
 #![tactic(auto)]
 
 mod parts;
+mod vocabularies;
 
 use anyhow::Context;
 use ref_uri::{UriRef, uri};
@@ -38,6 +39,7 @@ enum Call {
     Resolve,
     FromStr,
     Against,
+    FromText,
 }
 
 /// The call of a name.
@@ -49,6 +51,7 @@ fn call_of(name: &str) -> Option<Call> {
         "resolve" => Some(Call::Resolve),
         "from_str" => Some(Call::FromStr),
         "against" => Some(Call::Against),
+        "from_text" => Some(Call::FromText),
         _ => None,
     }
 }
@@ -69,6 +72,7 @@ fn length_of(alloc: Global, call: Call, base: &str, text: &str) -> Option<usize>
             let base = UriRef::parse(base).ok()?;
             Some(uri::resolve_against(alloc, base, text).ok()?.as_str().len())
         }
+        Call::FromText => vocabularies::length_of(alloc, text),
     }
 }
 
@@ -85,6 +89,9 @@ fn measured(alloc: Global, call: Call, text: &str, times: u32) -> u64 {
 /// What a line's workload answers.
 fn answer(alloc: Global, line: &str) -> anyhow::Result<u64> {
     if let Some(sum) = parts::answer(alloc, line)? {
+        return Ok(sum);
+    }
+    if let Some(sum) = vocabularies::answer(alloc, line)? {
         return Ok(sum);
     }
     let mut words = line.split_whitespace();
