@@ -7,3 +7,8 @@ pub mod Faults
 pub mod Numbers
 pub mod Pointing
 pub mod Cloning
+pub mod Scoping
+pub mod Naming
+pub mod Fragments
+pub mod Lookups
+pub mod Stepping

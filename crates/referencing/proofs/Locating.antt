@@ -69,3 +69,8 @@ pub anchor_nowhere : (world : World) (uri name : List ℕ) → named world uri n
 unfolding anchor
 anchor_nowhere world uri name none nothing =
     ap (λ o. ok_or o (not_named name)) (far_name_step (named world uri name) (named_by_identifier world uri name) none ∙ nothing)
+
+pub anchor_behind : (world : World) (uri name : List ℕ) (o : Option LocatedName) → named world uri name ≡ None → MatchOption o (named_by_identifier world uri name ≡ None) (IsNamed (named_by_identifier world uri name))
+    → MatchOption o (anchor world uri name ≡ Err (not_named name)) (IsNamed (result_ok (anchor world uri name)))
+anchor_behind world uri name None none nothing = anchor_nowhere world uri name none nothing
+anchor_behind world uri name (Some l) none meant = anchor_elsewhere world uri name l none meant

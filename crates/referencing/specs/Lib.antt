@@ -1,6 +1,9 @@
 pub mod Builder
 pub mod Located
+pub mod Layered
 pub mod Prepared
 pub mod Walking
 pub mod Resolving
+pub mod Scoped
+pub mod Following
 pub mod MetaSchemas

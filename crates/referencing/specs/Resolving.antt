@@ -5,9 +5,10 @@ use Rattle.serde_json.specs.View.{view}
 use Rattle.ref_draft.specs.declared.draft.Draft.{Draft}
 use Rattle.ref_world.specs.Results.{◌>>=◌}
 use Rattle.ref_world.specs.World.{World}
-use Rattle.ref_world.specs.Fault.{Fault}
+use Rattle.ref_world.specs.Fault.{Fault, as_invalid_uri}
 use Rattle.ref_world.specs.Pointers.{pointed}
 use Rattle.ref_world.specs.Lookup as world
+use Rattle.referencing.specs.Layered.{world_in}
 use Rattle.referencing.specs.declared.resolver.Resolver.{Resolver}
 use Rattle.referencing.specs.declared.resolver.Resolved.{Resolved}
 
@@ -17,7 +18,7 @@ resolver_of r = record { base = r.base.value; scope = r.scope }
 
 -- the world of its registry
 abbrev pub world_of : Resolver → World
-world_of r = r.registry.now
+world_of r = world_in r.layers
 
 -- what a lookup found: the value, its draft, and the resolver there
 abbrev pub found_of : Resolved → world.Found
@@ -30,3 +31,9 @@ world_found r = world_of r.resolver
 -- where a pointer leads in a resource of a draft that a resolver is at
 abbrev pub at_pointer : world.Resolver → Draft → List ℕ → Data → List ℕ → Result world.Found Fault
 at_pointer r draft pointer value text = pointed draft pointer r.base value text >>= λ to. Ok (world.pointer_found r draft to)
+
+-- a value of a draft that an anchor names under a URI: its identifier is resolved against that URI
+abbrev pub under_uri : world.Resolver → List ℕ → Draft → Data → Result world.Found Fault
+under_uri r uri draft value =
+    as_invalid_uri (world.in_subresource (record r { base = uri }) draft value)
+    >>= λ moved. Ok (record { value = value; draft = draft; resolver = moved })

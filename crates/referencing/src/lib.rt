@@ -5,14 +5,18 @@
 #![tactic(auto)]
 
 mod builder;
+mod fragment;
 mod input;
 pub mod laws;
+mod layers;
 mod located;
 pub mod meta;
 mod pointed;
 mod prepare;
+mod recursive;
 mod registry;
 mod resolver;
+pub mod steps;
 #[cfg(test)]
 mod tests;
 
@@ -33,6 +37,8 @@ pub use ref_uri::{
     ParseError, ResolveError, ResolveFault, Uri, UriError, UriFault, UriParseFault, UriRef,
 };
 pub use registry::Registry;
+pub use resolver::{Resolved, Resolver};
+pub use steps::{FollowError, Followed, Step, follow};
 
 /// The meaning of texts as URIs, and texts as they stand in fragments.
 pub mod uri {

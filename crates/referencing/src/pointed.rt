@@ -13,7 +13,7 @@ ghost use Rattle.ref_retrieve.specs.Errors.{IsFaultOf};
 ghost use Rattle.ref_index.specs.Retrieval.{SaysOrMemory};
 ghost use Rattle.referencing.specs.Walking.{along_of, stepped, leads_to, pointed_to};
 
-use crate::registry::Registry;
+use crate::layers::Layers;
 use percent_encoding::{DecodeError, percent_decode};
 use ref_draft::{Draft, ResourceRef, Segment, Segments};
 use ref_parts::escape::unescape_segment;
@@ -31,11 +31,11 @@ pub struct Along<'r, 't> {
     pub since: Segments<'t>,
 }
 
-/// How a pointer is walked: the registry whose resolved URIs serve, the draft of the resource, and the pointer's text, which
+/// How a pointer is walked: the documents whose resolved URIs serve, the draft of the resource, and the pointer's text, which
 /// faults tell.
 #[derive(Clone, Copy, Drop)]
 pub struct Walk<'r, 'w> {
-    pub registry: &'r Registry<'r>,
+    pub layers: Layers<'r>,
     pub draft: Draft,
     pub pointer: &'w str,
 }
@@ -137,7 +137,7 @@ fn base_at(
     ensures fault { IfErr result (IsFaultOf (as_invalid_uri (base_within base.now.value (if scan walk.entry.draft (is_object (view value.now)) since.now then identifier walk.entry.draft (view value.now) else None)))) }
 {
     match accepted_id(walk.draft, since, value) {
-        Some(id) => walk.registry.resolve_uri(alloc, base.borrow(), id),
+        Some(id) => walk.layers.resolve_uri(alloc, base.borrow(), id),
         None => Ok(base.clone()?),
     }
 }

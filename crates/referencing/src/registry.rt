@@ -1,32 +1,27 @@
 //! A registry: documents, and the places in them that references lead to.
-ghost use Rattle.std.specs.Prelude.{◌≡◌, ℕ, List, [], ◌∷◌, map, codes, IfOk, IfErr, IfSome, MatchOption, IsSome, None, Some, Ok, Err};
+ghost use Rattle.std.specs.Prelude.{◌≡◌, ℕ, List, [], ◌∷◌, map, codes, IfOk, IfErr, IfSome, IsSome, Some, Ok, Err};
 ghost use Rattle.std.specs.Iterator.{Drains, Yields, IsFinite};
 ghost use Rattle.std.specs.List.{Contains};
 ghost use Rattle.ref_draft.specs.Schema.{text_under};
 ghost use Rattle.ref_uri.specs.Targets.{against};
 ghost use Rattle.ref_world.specs.World.{Document as WorldDocument};
 ghost use Rattle.ref_world.specs.Places.{Place, places};
-ghost use Rattle.ref_world.specs.Resources.{means};
-ghost use Rattle.ref_world.specs.Anchors.{named};
 ghost use Rattle.ref_world.specs.Cached.{pairs};
 ghost use Rattle.ref_world.specs.Fault.{Unretrievable, as_invalid_uri};
 ghost use Rattle.ref_world.specs.Wants.{faults, open_wants};
 ghost use Rattle.ref_world.specs.Lookup.{Resolver as WorldResolver, lookup};
 ghost use Rattle.ref_retrieve.specs.Errors.{IsFaultOf};
-ghost use Rattle.referencing.specs.Located.{IsMeant, IsNamed};
 ghost use Rattle.ref_world.specs.Pending.{added, extended};
 ghost use Rattle.referencing.specs.Builder.{seen, addition, Adds, new_builder};
+ghost use Rattle.referencing.specs.Layered.{world_in};
 ghost use Rattle.referencing.specs.Prepared.{own, contains_resource};
 
 use crate::builder::{RegistryBuilder, above};
 use crate::input::IntoRegistryResource;
-use crate::located::{
-    Located, LocatedName, named_above, named_in, resolved_above, resource_above, resource_in,
-};
+use crate::layers::Layers;
 use ref_index::Index;
-use ref_index::reference::shared;
 use ref_retrieve::Error;
-use ref_uri::uri::{from_str, resolve_against};
+use ref_uri::uri::from_str;
 use ref_uri::{Uri, UriFault, UriRef};
 use std::alloc::{AllocError, Global};
 use std::convert::AsStr;
@@ -128,24 +123,11 @@ impl<'a> Registry<'a> {
         })
     }
 
-    /// The place that a URI means. A look-up in the tables of this registry and its parents; takes no memory.
-    pub(crate) fn resource<'r>(&'r self, uri: &str) -> Option<Located<'r>>
-        ensures value { MatchOption result (means self.now uri.now ≡ None) (IsMeant (means self.now uri.now)) }
+    // The indexes that resolvers borrow.
+    pub(crate) fn layers<'r>(&'r self) -> Layers<'r>
+        ensures value { world_in result ≡ self.now }
     {
-        match resource_in(&self.own, uri) {
-            Some(place) => Some(place),
-            None => resource_above(self.parents.as_slice(), uri),
-        }
-    }
-
-    /// The place that an anchor names under a URI. A look-up in the tables of this registry and its parents; takes no memory.
-    pub(crate) fn named<'r>(&'r self, uri: &str, name: &str) -> Option<LocatedName<'r>>
-        ensures value { MatchOption result (named self.now uri.now name.now ≡ None) (IsNamed (named self.now uri.now name.now)) }
-    {
-        match named_in(&self.own, uri, name) {
-            Some(place) => Some(place),
-            None => named_above(self.parents.as_slice(), uri, name),
-        }
+        Layers::new(&self.own, self.parents.as_slice())
     }
 
     /// Whether a text is a URI that means a place: one without a scheme is taken against `json-schema:///`, and its fragment
@@ -154,7 +136,7 @@ impl<'a> Registry<'a> {
         ensures value { IfOk result (λ found. found ≡ contains_resource self.now uri.now) }
     {
         match from_str(alloc, uri) {
-            Ok(uri) => Ok(self.resource(uri.as_str()).is_some()),
+            Ok(uri) => Ok(self.layers().resource(uri.as_str()).is_some()),
             Err(UriFault::Invalid(_)) => Ok(false),
             Err(UriFault::Memory(error)) => Err(error),
         }
@@ -168,10 +150,7 @@ impl<'a> Registry<'a> {
         ensures held { Contains (pairs (own self.now)) (base.now, uri.now) → IsSome result }
         ensures value { IfSome result (λ u. against base.now uri.now ≡ Ok u.now.value) }
     {
-        match self.own.resolved(base.as_str(), uri) {
-            Some(uri) => Some(uri),
-            None => resolved_above(self.parents.as_slice(), base.as_str(), uri),
-        }
+        self.layers().resolved_uri(base, uri)
     }
 
     /// The URI that a text means against a base (RFC 3986, 5.2), in normal form, whatever was resolved before; without memory
@@ -181,11 +160,7 @@ impl<'a> Registry<'a> {
         ensures ok { IfOk result (λ u. against base.entry uri.now ≡ Ok u.value) }
         ensures fault { IfErr result (IsFaultOf (as_invalid_uri (against base.entry uri.now))) }
     {
-        if let Some(uri) = self.resolved_uri(&base, uri) {
-            return Ok(uri.clone()?);
-        }
-        let uri = resolve_against(alloc, base, uri)?;
-        Ok(shared(alloc, uri)?)
+        self.layers().resolve_uri(alloc, base, uri)
     }
 
     /// No reference of an own place leads to a URI that is not present: from the place's base, with any dynamic scope, the

@@ -5,18 +5,14 @@ ghost use Rattle.serde_json.specs.View.{view};
 ghost use Rattle.ref_uri.specs.Targets.{against, target, fragment_part};
 ghost use Rattle.ref_world.specs.Fault.{as_invalid_uri};
 ghost use Rattle.ref_draft.specs.Views.{resource_ref};
-ghost use Rattle.ref_world.specs.Lookup.{moved, in_subresource};
+ghost use Rattle.ref_world.specs.Lookup.{moved, in_subresource, lookup};
 ghost use Rattle.ref_retrieve.specs.Errors.{IsFaultOf};
-ghost use Rattle.ref_world.specs.Anchors.{anchor, named_by_identifier, not_named};
-ghost use Rattle.ref_index.specs.Retrieval.{SaysOrMemory};
-ghost use Rattle.referencing.specs.Located.{IsNamed};
-ghost use Rattle.referencing.specs.Resolving.{resolver_of, world_of, found_of, world_found, at_pointer};
+ghost use Rattle.referencing.specs.Resolving.{resolver_of, world_of, found_of, world_found};
 
-use crate::located::{Located, LocatedName};
-use crate::pointed::{Pointed, Walk, follow_pointer};
-use crate::registry::Registry;
+use crate::fragment::{at_fragment, not_retrieved};
+use crate::layers::Layers;
 use ref_draft::{Draft, ResourceRef};
-use ref_index::reference::uri_part;
+use ref_index::reference::{fragment_part, uri_part};
 use ref_parts::list::List;
 use ref_retrieve::Error;
 use ref_uri::{Uri, UriRef};
@@ -28,28 +24,12 @@ use std::rc::Rc;
 /// (2020-12 Core, 7.1).
 #[derive(Drop)]
 pub struct Resolver<'r> {
-    registry: &'r Registry<'r>,
-    base: Rc<Uri>,
-    scope: List<Uri>,
+    pub(crate) layers: Layers<'r>,
+    pub(crate) base: Rc<Uri>,
+    pub(crate) scope: List<Uri>,
 }
 
 impl<'r> Resolver<'r> {
-    /// A resolver with an empty scope. Takes memory for a handle.
-    pub(crate) fn new(
-        alloc: Global,
-        registry: &'r Registry<'r>,
-        base: Uri,
-    ) -> Result<Resolver<'r>, AllocError>
-        ensures resolver { IfOk result (λ r. resolver_of r ≡ record { base = base; scope = [] }) }
-        ensures world { IfOk result (λ r. world_of r ≡ registry.entry.now) }
-    {
-        Ok(Resolver {
-            registry,
-            base: Rc::new(alloc, base)?,
-            scope: List::new(),
-        })
-    }
-
     /// The base URI. Takes no memory.
     pub fn base_uri(&self) -> &Rc<Uri>
         ensures value { result.now.value ≡ (resolver_of self.now).base }
@@ -74,7 +54,7 @@ impl<'r> Resolver<'r> {
         ensures ok { IfOk result (λ u. against base.entry uri.now ≡ Ok u.value) }
         ensures fault { IfErr result (IsFaultOf (as_invalid_uri (against base.entry uri.now))) }
     {
-        self.registry.resolve_uri(alloc, base, uri)
+        self.layers.resolve_uri(alloc, base, uri)
     }
 
     // The URI that a reference points into.
@@ -85,17 +65,17 @@ impl<'r> Resolver<'r> {
         if reference.starts_with('#') {
             return Ok(self.base.clone()?);
         }
-        self.registry
+        self.layers
             .resolve_uri(alloc, self.base.borrow(), uri_part(reference))
     }
 
     // This resolver with another base.
-    fn with_base(&self, base: Rc<Uri>) -> Result<Resolver<'r>, AllocError>
+    pub(crate) fn with_base(&self, base: Rc<Uri>) -> Result<Resolver<'r>, AllocError>
         ensures resolver { IfOk result (λ r. resolver_of r ≡ record (resolver_of self.now) { base = base.value }) }
         ensures world { IfOk result (λ r. world_of r ≡ world_of self.now) }
     {
         Ok(Resolver {
-            registry: self.registry,
+            layers: self.layers,
             base,
             scope: self.scope.clone()?,
         })
@@ -112,7 +92,7 @@ impl<'r> Resolver<'r> {
             self.scope.clone()?
         };
         Ok(Resolver {
-            registry: self.registry,
+            layers: self.layers,
             base: uri,
             scope,
         })
@@ -130,19 +110,41 @@ impl<'r> Resolver<'r> {
         ensures fault { IfErr result (IsFaultOf (as_invalid_uri (in_subresource (resolver_of self.now) (resource_ref subresource.entry).draft (resource_ref subresource.entry).contents))) }
     {
         let base = match subresource.id() {
-            Some(id) => self.registry.resolve_uri(alloc, self.base.borrow(), id)?,
+            Some(id) => self.layers.resolve_uri(alloc, self.base.borrow(), id)?,
             None => self.base.clone()?,
         };
         Ok(self.with_base(base)?)
+    }
+
+    /// Where a reference leads (2020-12 Core, 8.2.3): what stands before its last `#` means a place by its URI, against the
+    /// base, and what follows it means the resource there, what a pointer leads to in it, or what an anchor names, a dynamic
+    /// one by the dynamic scope. Nothing is retrieved.
+    ///
+    /// Refuses as `InvalidUri` for a text, or an identifier on the way, that means no URI; as `Unretrievable` for a URI that
+    /// means no place; as `InvalidPercentEncoding`, `InvalidArrayIndex` and `PointerToNowhere` for a pointer that leads
+    /// nowhere; as `NoSuchAnchor` and, where there is a `/` in it, `InvalidAnchor` for a name that nothing has; and as
+    /// `Memory`. Look-ups in tables, one for each part of a pointer, and for a dynamic anchor one for each URI of the scope;
+    /// no value is copied. `#` takes no memory where the scope isn't empty and the base means a place.
+    pub fn lookup(&self, alloc: Global, reference: &str) -> Result<Resolved<'r>, Error>
+        ensures ok { IfOk result (λ found. lookup (world_of self.now) (resolver_of self.now) reference.now ≡ Ok (found_of found)) }
+        ensures world { IfOk result (λ found. world_found found ≡ world_of self.now) }
+        ensures fault { IfErr result (IsFaultOf (lookup (world_of self.now) (resolver_of self.now) reference.now)) }
+    {
+        let uri = self.target(alloc, reference)?;
+        let Some(place) = self.layers.resource(uri.as_str()) else {
+            return Err(not_retrieved(alloc, &uri));
+        };
+        let resolver = self.moved(alloc, uri)?;
+        at_fragment(alloc, resolver, place, fragment_part(reference))
     }
 }
 
 /// What a reference leads to: the document's own value, its draft, and the resolver there.
 #[derive(Drop)]
 pub struct Resolved<'r> {
-    contents: &'r Value,
-    resolver: Resolver<'r>,
-    draft: Draft,
+    pub(crate) contents: &'r Value,
+    pub(crate) resolver: Resolver<'r>,
+    pub(crate) draft: Draft,
 }
 
 impl<'r> Resolved<'r> {
@@ -170,92 +172,4 @@ impl<'r> Resolved<'r> {
     {
         (self.contents, self.resolver, self.draft)
     }
-}
-
-// The fault of a name that nothing has: a name with `/` in it is none.
-fn not_named(alloc: Global, name: &str) -> Error
-    ensures { SaysOrMemory (not_named name.now) result }
-{
-    let anchor = match String::from_str(alloc, name) {
-        Ok(anchor) => anchor,
-        Err(error) => return Error::Memory(error),
-    };
-    if name.as_bytes().contains(&b'/') {
-        Error::InvalidAnchor { anchor }
-    } else {
-        Error::NoSuchAnchor { anchor }
-    }
-}
-
-// The entry of a name under the base of the place that a URI means, where that place has an identifier.
-fn named_by_identifier<'r>(
-    registry: &'r Registry<'r>,
-    uri: &str,
-    name: &str,
-) -> Option<LocatedName<'r>>
-    ensures { MatchOption result (named_by_identifier registry.now uri.now name.now ≡ None) (IsNamed (named_by_identifier registry.now uri.now name.now)) }
-{
-    let place = registry.resource(uri)?;
-    if ResourceRef::new(place.value, place.entry.draft).id().is_none() {
-        return None;
-    }
-    registry.named(place.entry.base.as_str(), name)
-}
-
-// The entry that a name under a URI means: the one there, or else the one under the base of the place there.
-fn anchor<'r>(
-    alloc: Global,
-    registry: &'r Registry<'r>,
-    uri: &str,
-    name: &str,
-) -> Result<LocatedName<'r>, Error>
-    ensures ok { IfOk result (λ n. IsNamed (result_ok (anchor registry.now uri.now name.now)) n) }
-    ensures fault { IfErr result (IsFaultOf (anchor registry.now uri.now name.now)) }
-{
-    if let Some(found) = registry.named(uri, name) {
-        return Ok(found);
-    }
-    match named_by_identifier(registry, uri, name) {
-        Some(found) => Ok(found),
-        None => Err(not_named(alloc, name)),
-    }
-}
-
-// A value of a resource that a resolver is at.
-fn at_value<'r>(
-    contents: &'r Value,
-    draft: Draft,
-    resolver: Resolver<'r>,
-) -> Resolved<'r>
-    ensures found { found_of result ≡ record { value = view contents.now; draft = draft; resolver = resolver_of resolver.entry } }
-    ensures world { world_found result ≡ world_of resolver.entry }
-{
-    Resolved {
-        contents,
-        resolver,
-        draft,
-    }
-}
-
-// What a pointer leads to in the resource at a place, where `text` is the fragment behind its first `/`.
-fn at_pointer<'r>(
-    alloc: Global,
-    resolver: &Resolver<'r>,
-    place: Located<'r>,
-    pointer: &str,
-    text: &str,
-) -> Result<Resolved<'r>, Error>
-    ensures ok { IfOk result (λ found. at_pointer (resolver_of resolver.now) place.entry.entry.now.draft pointer.now (view place.entry.value.now) text.now ≡ Ok (found_of found)) }
-    ensures world { IfOk result (λ found. world_found found ≡ world_of resolver.now) }
-    ensures fault { IfErr result (IsFaultOf (at_pointer (resolver_of resolver.now) place.entry.entry.now.draft pointer.now (view place.entry.value.now) text.now)) }
-{
-    let draft = place.entry.draft;
-    let walk = Walk {
-        registry: resolver.registry,
-        draft,
-        pointer,
-    };
-    let base = resolver.base.clone()?;
-    let Pointed { value, base } = follow_pointer(alloc, walk, base, place.value, text)?;
-    Ok(at_value(value, draft, resolver.with_base(base)?))
 }

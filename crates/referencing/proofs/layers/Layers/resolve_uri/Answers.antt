@@ -1,7 +1,7 @@
 use Rattle.std.proofs.Common.{rules}
 use Rattle.ref_uri.specs.Targets.{against}
 use Rattle.ref_retrieve.proofs.Saying.{refused_uri}
-use Rattle.referencing.proofs.registry.Registry.resolve_uri.Goals as goal
+use Rattle.referencing.proofs.layers.Layers.resolve_uri.Goals as goal
 
 pub returns-in_err-uri-clause-fault : goal.returns-in_err-uri-clause-fault
 returns-in_err-uri-clause-fault c =

@@ -1,0 +1,69 @@
+-- Steps that are followed one by one.
+use Rattle.std.proofs.Common.{◌≡◌, ℕ, zero, suc, arith, ◌+◌, ◌<◌, ◌≤◌, List, [], ◌∷◌, length, map, drop, get_or, None, Result, Ok, Err, refl, sym, ap, ◌∙◌, add-one}
+use Rattle.std.proofs.Math.Seq.{drop-cons}
+use Rattle.ref_world.specs.Results.{◌>>=◌}
+use Rattle.ref_world.specs.World.{World}
+use Rattle.ref_world.specs.Fault.{Fault}
+use Rattle.ref_world.specs.Lookup.{Resolver}
+use Rattle.ref_world.specs.Follow.{Followed, stepped, numbered, followed_from, followed}
+use Rattle.ref_retrieve.specs.declared.error.Error.{Error}
+use Rattle.ref_retrieve.specs.declared.error.Error.TheVariants as error
+use Rattle.ref_retrieve.specs.Errors.{IsFaultOf}
+use Rattle.referencing.specs.declared.steps.Step.{Step}
+use Rattle.referencing.specs.Following.{step_of, SaysStepFault}
+
+-- what is left of a list of which an item was read
+drop_read : {X : Type 0} (xs : List X) (i : ℕ) (x : X) → i < length xs → x ≡ get_or xs i x → drop i xs ≡ x ∷ drop (i + 1) xs
+drop_read xs i x h e =
+    let cut : drop i xs ≡ get_or xs i x ∷ drop (i + 1) xs = rw (add-one, drop-cons xs i x) in
+    cut ∙ ap (λ y. y ∷ drop (i + 1) xs) (sym e)
+
+one_step : (w : World) (n : ℕ) (f : Followed) (steps : List Step) (s : Step) → n < length steps → s ≡ get_or steps n s
+    → followed_from w n f (map step_of (drop n steps)) ≡ (numbered n (stepped w f (step_of s)) >>= λ g. followed_from w (n + 1) g (map step_of (drop (n + 1) steps)))
+one_step w n f steps s h e = ap (λ xs. followed_from w n f (map step_of xs)) (drop_read steps n s h e)
+
+-- a step that is followed
+pub followed_next : (w : World) (n : ℕ) (f g : Followed) (steps : List Step) (s : Step) → n < length steps → s ≡ get_or steps n s → stepped w f (step_of s) ≡ Ok g
+    → followed_from w n f (map step_of (drop n steps)) ≡ followed_from w (n + 1) g (map step_of (drop (n + 1) steps))
+followed_next w n f g steps s h e is =
+    one_step w n f steps s h e ∙ ap (λ r. numbered n r >>= λ g. followed_from w (n + 1) g (map step_of (drop (n + 1) steps))) is
+
+stops_at : (w : World) (n : ℕ) (f : Followed) (steps : List Step) (s : Step) (fault : Fault) → n < length steps → s ≡ get_or steps n s → stepped w f (step_of s) ≡ Err fault
+    → followed_from w n f (map step_of (drop n steps)) ≡ Err (n, fault)
+stops_at w n f steps s fault h e is =
+    one_step w n f steps s h e ∙ ap (λ r. numbered n r >>= λ g. followed_from w (n + 1) g (map step_of (drop (n + 1) steps))) is
+
+-- an error of a step, with its number
+numbered_as : (step : Result Followed Fault) (whole : Result Followed (ℕ × Fault)) (n : ℕ) (e : Error) → ((fault : Fault) → step ≡ Err fault → whole ≡ Err (n, fault)) → IsFaultOf step e → SaysStepFault whole n e
+numbered_as step whole n (error.Unretrievable uri source) then (fault, is, says) = (fault, then fault is, says)
+numbered_as step whole n (error.PointerToNowhere pointer) then (fault, is, says) = (fault, then fault is, says)
+numbered_as step whole n (error.InvalidPercentEncoding pointer) then (fault, is, says) = (fault, then fault is, says)
+numbered_as step whole n (error.InvalidArrayIndex pointer index) then (fault, is, says) = (fault, then fault is, says)
+numbered_as step whole n (error.NoSuchAnchor anchor) then (fault, is, says) = (fault, then fault is, says)
+numbered_as step whole n (error.InvalidAnchor anchor) then (fault, is, says) = (fault, then fault is, says)
+numbered_as step whole n (error.InvalidUri uri) then (fault, is, says) = (fault, then fault is, says)
+numbered_as step whole n (error.UnknownSpecification specification) then (fault, is, says) = (fault, then fault is, says)
+numbered_as step whole n (error.CircularMetaschema uri) then (fault, is, says) = (fault, then fault is, says)
+numbered_as step whole n (error.RetrievalLimit uri limit) then (fault, is, says) = (fault, then fault is, says)
+numbered_as step whole n (error.Memory memory) then is = tt
+
+-- a step that stops
+pub followed_stop : (w : World) (n : ℕ) (f : Followed) (steps : List Step) (s : Step) (e : Error) (whole : Result Followed (ℕ × Fault)) → n < length steps → s ≡ get_or steps n s
+    → whole ≡ followed_from w n f (map step_of (drop n steps)) → IsFaultOf (stepped w f (step_of s)) e → SaysStepFault whole n e
+followed_stop w n f steps s e whole h at same = numbered_as (stepped w f (step_of s)) whole n e (λ fault is. same ∙ stops_at w n f steps s fault h at is)
+
+drop_end : (steps : List Step) (n : ℕ) → length steps ≤ n → drop n steps ≡ []
+drop_end [] zero h = refl
+drop_end [] (suc n) h = refl
+drop_end (s ∷ ss) zero h = absurd (omega arith)
+drop_end (s ∷ ss) (suc n) h = drop_end ss n (omega arith)
+
+-- no step is left
+pub followed_end : (w : World) (n : ℕ) (f : Followed) (steps : List Step) → length steps ≤ n → followed_from w n f (map step_of (drop n steps)) ≡ Ok f
+followed_end w n f steps h = ap (λ xs. followed_from w n f (map step_of xs)) (drop_end steps n h)
+
+-- before the first step
+pub followed_start : (w : World) (base : List ℕ) (r : Resolver) (steps : List Step) → r ≡ record { base = base; scope = [] }
+    → followed w base (map step_of steps) ≡ followed_from w 0 (record { last = None; resolver = r }) (map step_of (drop 0 steps))
+unfolding followed
+followed_start w base r steps is = sym (ap (λ r. followed_from w 0 (record { last = None; resolver = r }) (map step_of steps)) is)

@@ -1,0 +1,10 @@
+use Rattle.std.proofs.Common.{◌≡◌, map, drop}
+use Rattle.ref_world.specs.Follow.{followed, followed_from}
+use Rattle.referencing.specs.Resolving.{world_of}
+use Rattle.referencing.specs.Following.{step_of, followed_of}
+use Rattle.referencing.proofs.steps.follow.Given as goal
+
+abbrev pub invariant-loop-number : goal.invariant-loop-number
+invariant-loop-number l =
+    (followed l.registry l.fn.base (map step_of l.steps) ≡ followed_from l.registry l.number (followed_of l.followed) (map step_of (drop l.number l.steps)))
+    × (world_of l.followed.resolver ≡ l.registry)

@@ -1,0 +1,32 @@
+-- Steps of the program, and where they lead, as the definitions have them.
+use Rattle.std.specs.Prelude.{◌≡◌, ℕ, option_map, Result, Err, ⊤}
+use Rattle.serde_json.specs.View.{view}
+use Rattle.ref_draft.specs.Views.{resource_ref}
+use Rattle.ref_world.specs.Fault.{Fault}
+use Rattle.ref_world.specs.Follow as world
+use Rattle.ref_retrieve.specs.declared.error.Error.{Error}
+use Rattle.ref_retrieve.specs.declared.error.Error.TheVariants as error
+use Rattle.ref_retrieve.specs.Errors.{SaysFault}
+use Rattle.referencing.specs.declared.steps.Step.{Step}
+use Rattle.referencing.specs.declared.steps.Step.TheVariants as step
+use Rattle.referencing.specs.declared.steps.Followed.{Followed}
+use Rattle.referencing.specs.declared.steps.FollowError.{FollowError}
+use Rattle.referencing.specs.Resolving.{resolver_of}
+
+-- a step
+abbrev pub step_of : Step → world.Step
+step_of (step.Lookup reference) = world.Lookup reference.now
+step_of step.Recursive = world.Recursive
+step_of (step.Enter resource) = world.Enter (resource_ref resource).draft (resource_ref resource).contents
+
+-- where steps lead
+abbrev pub followed_of : Followed → world.Followed
+followed_of f = record { last = option_map (λ found. (view found.0.now, found.1)) f.last; resolver = resolver_of f.resolver }
+
+-- the error says the fault that the answer is, with the number of its step, or is want of memory
+abbrev pub SaysStepFault : Result world.Followed (ℕ × Fault) → ℕ → Error → Type 0
+SaysStepFault answer number (error.Memory memory) = ⊤
+SaysStepFault answer number error = (fault : Fault) × (answer ≡ Err (number, fault)) × SaysFault error fault
+
+abbrev pub IsStepFaultOf : Result world.Followed (ℕ × Fault) → FollowError → Type 0
+IsStepFaultOf answer e = SaysStepFault answer e.step e.error

@@ -1,0 +1,113 @@
+//! Steps that are followed one after another from a base URI.
+ghost use Rattle.std.specs.Prelude.{◌≡◌, [], map, IfOk, IfErr, Ok};
+ghost use Rattle.ref_world.specs.Follow as world;
+ghost use Rattle.ref_retrieve.specs.Errors.{IsFaultOf};
+ghost use Rattle.referencing.specs.Resolving.{resolver_of, world_of, found_of, world_found};
+ghost use Rattle.referencing.specs.Following.{step_of, followed_of, IsStepFaultOf};
+
+use crate::registry::Registry;
+use crate::resolver::{Resolved, Resolver};
+use ref_draft::{Draft, ResourceRef};
+use ref_parts::list::List;
+use ref_retrieve::Error;
+use ref_uri::Uri;
+use serde_json::Value;
+use std::alloc::{AllocError, Global};
+use std::rc::Rc;
+
+/// A step: a reference that is looked up, a `$recursiveRef`, or a resource that is entered, whose identifier changes the base.
+#[derive(Clone, Copy, Drop)]
+pub enum Step<'s> {
+    Lookup(&'s str),
+    Recursive,
+    Enter(ResourceRef<'s>),
+}
+
+/// Where steps lead: the value that was looked up last with its draft, if one was, and the resolver there.
+#[derive(Drop)]
+pub struct Followed<'r> {
+    pub last: Option<(&'r Value, Draft)>,
+    pub resolver: Resolver<'r>,
+}
+
+/// Why a step leads nowhere: its number, from 0, and its fault.
+#[derive(Drop)]
+pub struct FollowError {
+    pub step: usize,
+    pub error: Error,
+}
+
+// What a lookup found.
+fn after_lookup<'r>(found: Resolved<'r>) -> Followed<'r>
+    ensures value { followed_of result ≡ world.after_lookup (found_of found.entry) }
+    ensures world { world_of result.resolver ≡ world_found found.entry }
+{
+    let (value, resolver, draft) = found.into_inner();
+    Followed {
+        last: Some((value, draft)),
+        resolver,
+    }
+}
+
+// One step further.
+fn stepped<'r>(alloc: Global, followed: Followed<'r>, step: &Step<'_>) -> Result<Followed<'r>, Error>
+    ensures ok { IfOk result (λ f. world.stepped (world_of followed.entry.resolver) (followed_of followed.entry) (step_of step.now) ≡ Ok (followed_of f)) }
+    ensures world { IfOk result (λ f. world_of f.resolver ≡ world_of followed.entry.resolver) }
+    ensures fault { IfErr result (IsFaultOf (world.stepped (world_of followed.entry.resolver) (followed_of followed.entry) (step_of step.now))) }
+{
+    let resolver = &followed.resolver;
+    match step {
+        Step::Lookup(reference) => Ok(after_lookup(resolver.lookup(alloc, reference)?)),
+        Step::Recursive => Ok(after_lookup(resolver.lookup_recursive_ref(alloc)?)),
+        Step::Enter(resource) => {
+            let resolver = resolver.in_subresource(alloc, *resource)?;
+            Ok(Followed {
+                last: followed.last,
+                resolver,
+            })
+        }
+    }
+}
+
+impl<'a> Registry<'a> {
+    /// A resolver at a base URI, with an empty dynamic scope. The URI need not mean a place. Takes memory for a handle.
+    pub fn resolver<'r>(&'r self, alloc: Global, base: Uri) -> Result<Resolver<'r>, AllocError>
+        ensures resolver { IfOk result (λ r. resolver_of r ≡ record { base = base; scope = [] }) }
+        ensures world { IfOk result (λ r. world_of r ≡ self.now) }
+    {
+        Ok(Resolver {
+            layers: self.layers(),
+            base: Rc::new(alloc, base)?,
+            scope: List::new(),
+        })
+    }
+}
+
+/// Where steps lead, one after another, from a base URI with an empty dynamic scope: each lookup starts from what the last one
+/// answered.
+///
+/// The first step that leads nowhere ends it, with its number and the fault of [`Resolver::lookup`],
+/// [`Resolver::lookup_recursive_ref`] or [`Resolver::in_subresource`]. Costs what the steps cost; no value is copied.
+pub fn follow<'r, 'a>(
+    alloc: Global,
+    registry: &'r Registry<'a>,
+    base: Uri,
+    steps: &[Step<'_>],
+) -> Result<Followed<'r>, FollowError>
+    ensures ok { IfOk result (λ f. world.followed registry.now base (map step_of steps.now) ≡ Ok (followed_of f)) }
+    ensures world { IfOk result (λ f. world_of f.resolver ≡ registry.now) }
+    ensures fault { IfErr result (IsStepFaultOf (world.followed registry.now base (map step_of steps.now))) }
+{
+    let resolver = match registry.resolver(alloc, base) {
+        Ok(resolver) => resolver,
+        Err(error) => return Err(FollowError { step: 0, error: error.into() }),
+    };
+    let mut followed = Followed { last: None, resolver };
+    for (number, step) in steps.iter().enumerate() {
+        followed = match stepped(alloc, followed, step) {
+            Ok(next) => next,
+            Err(error) => return Err(FollowError { step: number, error }),
+        };
+    }
+    Ok(followed)
+}
