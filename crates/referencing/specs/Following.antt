@@ -1,6 +1,10 @@
 -- Steps of the program, and where they lead, as the definitions have them.
-use Rattle.std.specs.Prelude.{◌≡◌, ℕ, option_map, Result, Err, ⊤}
+use Rattle.std.specs.Prelude.{◌≡◌, ℕ, Option, option_map, Result, Err, ⊤}
+use Rattle.std.specs.Borrow.{Bor}
+use Rattle.serde_json.specs.Data.{Data}
 use Rattle.serde_json.specs.View.{view}
+use Rattle.serde_json.specs.declared.value.Value.{Value}
+use Rattle.ref_draft.specs.declared.draft.Draft.{Draft}
 use Rattle.ref_draft.specs.Views.{resource_ref}
 use Rattle.ref_world.specs.Fault.{Fault}
 use Rattle.ref_world.specs.Follow as world
@@ -19,9 +23,13 @@ step_of (step.Lookup reference) = world.Lookup reference.now
 step_of step.Recursive = world.Recursive
 step_of (step.Enter resource) = world.Enter (resource_ref resource).draft (resource_ref resource).contents
 
+-- a document's own value, with its draft
+abbrev pub lent_last : Option (Bor Value × Draft) → Option (Data × Draft)
+lent_last last = option_map (λ found. (view found.0.now, found.1)) last
+
 -- where steps lead
 abbrev pub followed_of : Followed → world.Followed
-followed_of f = record { last = option_map (λ found. (view found.0.now, found.1)) f.last; resolver = resolver_of f.resolver }
+followed_of f = record { last = lent_last f.last; resolver = resolver_of f.resolver }
 
 -- the error says the fault that the answer is, with the number of its step, or is want of memory
 abbrev pub SaysStepFault : Result world.Followed (ℕ × Fault) → ℕ → Error → Type 0

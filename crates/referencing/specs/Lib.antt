@@ -6,4 +6,6 @@ pub mod Walking
 pub mod Resolving
 pub mod Scoped
 pub mod Following
+pub mod Answering
+pub mod Comparing
 pub mod MetaSchemas

@@ -4,6 +4,7 @@
 //! `specs/Builder.antt` and `specs/Prepared.antt` first, upon `Pending.antt` and `Preparing.antt` of `ref_world`.
 #![tactic(auto)]
 
+mod answer;
 mod builder;
 mod fragment;
 mod input;
@@ -20,6 +21,7 @@ pub mod steps;
 #[cfg(test)]
 mod tests;
 
+pub use answer::{Answer, AnswerError};
 pub use builder::RegistryBuilder;
 pub use input::{IntoRegistryResource, PendingResource};
 pub use ref_draft::{

@@ -173,3 +173,34 @@ impl<'r> Resolved<'r> {
         (self.contents, self.resolver, self.draft)
     }
 }
+
+/// The same registry, base and dynamic scope, shared: two handles more, and no memory. It is refused only where the URI or the
+/// scope has no count left for one more handle, which `std::rc::Rc` tells as want of memory.
+impl<'r> Clone for Resolver<'r> {
+    ghost is_clone = { λ resolver copy. (resolver_of copy ≡ resolver_of resolver) × (world_of copy ≡ world_of resolver) };
+
+    fn clone(&self) -> Result<Resolver<'r>, AllocError> {
+        Ok(self.with_base(self.base.clone()?)?)
+    }
+}
+
+/// Resolvers are equal where their bases are.
+impl<'r> PartialEq for Resolver<'r> {
+    ghost use Rattle.std.specs.Prelude.{bytes_eq};
+    ghost use Rattle.std.specs.Cmp.{partial_equiv_from_equiv};
+    ghost use Rattle.referencing.specs.Comparing.{by_base};
+
+    ghost eq = { λ a b. bytes_eq (resolver_of a).base (resolver_of b).base };
+
+    ghost laws = { partial_equiv_from_equiv by_base };
+
+    fn eq(&self, other: &Resolver<'r>) -> bool {
+        self.base.as_str() == other.base.as_str()
+    }
+}
+
+impl<'r> Eq for Resolver<'r> {
+    ghost use Rattle.referencing.specs.Comparing.{by_base};
+
+    ghost laws = { by_base };
+}

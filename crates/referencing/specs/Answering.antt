@@ -1,0 +1,33 @@
+-- What documents, a base and steps lead to: preparing, and then following.
+use Rattle.std.specs.Prelude.{◌≡◌, ℕ, List, Option, option_map, Result, Ok, ⊤}
+use Rattle.serde_json.specs.Data.{Data}
+use Rattle.serde_json.specs.View.{view}
+use Rattle.serde_json.specs.declared.value.Value.{Value}
+use Rattle.ref_draft.specs.declared.draft.Draft.{Draft}
+use Rattle.ref_world.specs.World.{World}
+use Rattle.ref_world.specs.Preparing.{Given}
+use Rattle.ref_world.specs.Follow.{Step, Followed, followed}
+use Rattle.ref_index.specs.Retrieval.{IsFaultyOutcome}
+use Rattle.referencing.specs.declared.answer.Answer.{Answer}
+use Rattle.referencing.specs.declared.answer.AnswerError.{AnswerError}
+use Rattle.referencing.specs.declared.answer.AnswerError.TheVariants as error
+use Rattle.referencing.specs.Prepared.{IsPreparedOf}
+use Rattle.referencing.specs.Following.{IsStepFaultOf}
+
+-- a value that was copied, with its draft
+abbrev pub copied_last : Option (Value × Draft) → Option (Data × Draft)
+copied_last last = option_map (λ found. (view found.0, found.1)) last
+
+-- an answer's value, draft, base and scope
+abbrev pub answer_of : Answer → Followed
+answer_of a = record { last = copied_last a.last; resolver = record { base = a.base.value; scope = a.scope } }
+
+-- an answer is what the steps lead to from the base, over a world that preparing may answer
+abbrev pub Answers : Given → List ℕ → List Step → Followed → Type 0
+Answers given base steps answer = (world : World) × IsPreparedOf given world × (followed world base steps ≡ Ok answer)
+
+-- an error is one of preparing, or says the fault of the first step that leads nowhere over such a world, or is want of memory
+abbrev pub IsFailureOf : Given → List ℕ → List Step → AnswerError → Type 0
+IsFailureOf given base steps (error.Prepare e) = IsFaultyOutcome given e
+IsFailureOf given base steps (error.Follow e) = (world : World) × IsPreparedOf given world × IsStepFaultOf (followed world base steps) e
+IsFailureOf given base steps (error.Memory memory) = ⊤

@@ -1,0 +1,85 @@
+//! From documents to what steps lead to, in one call.
+ghost use Rattle.std.specs.Prelude.{◌≡◌, map, IfOk, IfErr};
+ghost use Rattle.referencing.specs.Builder.{seen};
+ghost use Rattle.referencing.specs.Prepared.{given_of};
+ghost use Rattle.referencing.specs.Following.{step_of, lent_last, followed_of};
+ghost use Rattle.referencing.specs.Answering.{copied_last, answer_of, Answers, IsFailureOf};
+
+use crate::builder::RegistryBuilder;
+use crate::resolver::Resolver;
+use crate::steps::{FollowError, Followed, Step, follow};
+use ref_draft::Draft;
+use ref_parts::list::List;
+use ref_retrieve::{Error, Retrieve};
+use ref_uri::Uri;
+use serde_json::Value;
+use std::alloc::{AllocError, Global};
+use std::rc::Rc;
+
+/// What steps lead to, copied out of a registry: the value that was looked up last with its draft, if one was, the base URI
+/// there, and the dynamic scope, inner to outer.
+#[derive(Drop)]
+pub struct Answer {
+    pub last: Option<(Value, Draft)>,
+    pub base: Rc<Uri>,
+    pub scope: List<Uri>,
+}
+
+/// Why there is no answer: the documents could not be prepared, or a step leads nowhere.
+#[derive(Drop)]
+pub enum AnswerError {
+    Prepare(Error),
+    Follow(FollowError),
+    Memory(AllocError),
+}
+
+// The value, copied.
+fn copied(last: Option<(&Value, Draft)>) -> Result<Option<(Value, Draft)>, AllocError>
+    ensures { IfOk result (λ copy. copied_last copy ≡ lent_last last.entry) }
+{
+    match last {
+        Some((value, draft)) => Ok(Some((value.clone()?, draft))),
+        None => Ok(None),
+    }
+}
+
+// Where steps lead, copied.
+fn answered(followed: Followed<'_>) -> Result<Answer, AllocError>
+    ensures { IfOk result (λ answer. answer_of answer ≡ followed_of followed.entry) }
+{
+    let Followed { last, resolver } = followed;
+    let Resolver { base, scope, .. } = resolver;
+    Ok(Answer {
+        last: copied(last)?,
+        base,
+        scope,
+    })
+}
+
+impl<'a, R: Retrieve + Drop> RegistryBuilder<'a, R> {
+    /// Prepares the documents, follows steps from a base URI, and copies what they lead to out of the registry: one question
+    /// to documents that nothing else is asked of.
+    ///
+    /// The answer is what the steps lead to over documents that preparing may answer: those that were added and those that
+    /// were retrieved for them. `Prepare` tells a fault of the documents, a refusal of the retriever, or the limit, as
+    /// [`RegistryBuilder::prepare`] does; `Follow` the first step that leads nowhere, as [`follow`] does; `Memory` that there
+    /// is none for the copy.
+    pub fn prepare_and_follow(self, base: Uri, steps: &[Step<'_>]) -> Result<Answer, AnswerError>
+        ensures answer { IfOk result (λ answer. Answers (given_of (R.may_answer (seen self.entry).retriever) (R.may_refuse (seen self.entry).retriever) (seen self.entry)) base (map step_of steps.now) (answer_of answer)) }
+        ensures fault { IfErr result (IsFailureOf (given_of (R.may_answer (seen self.entry).retriever) (R.may_refuse (seen self.entry).retriever) (seen self.entry)) base (map step_of steps.now)) }
+    {
+        let alloc = self.alloc;
+        let registry = match self.prepare() {
+            Ok(registry) => registry,
+            Err(error) => return Err(AnswerError::Prepare(error)),
+        };
+        let followed = match follow(alloc, &registry, base, steps) {
+            Ok(followed) => followed,
+            Err(error) => return Err(AnswerError::Follow(error)),
+        };
+        match answered(followed) {
+            Ok(answer) => Ok(answer),
+            Err(error) => Err(AnswerError::Memory(error)),
+        }
+    }
+}
