@@ -45,7 +45,7 @@ stand_below tree (suc n) ps stand =
     let level = stand_level tree ps stand in
     all_append (Stands tree) (flat_map children_of ps) (levels_below n (flat_map children_of ps)) level (stand_below tree n (flat_map children_of ps) level)
 
-all_stand : (d : Document) → HasUniqueKeys d.tree → AllByRecursion (Stands d.tree) (places d)
+pub all_stand : (d : Document) → HasUniqueKeys d.tree → AllByRecursion (Stands d.tree) (places d)
 all_stand d unique =
     let first : Stands d.tree (root d) = record { there = refl; unique = unique } in (first, stand_below d.tree (depth d.tree) (root d ∷ []) (first, tt))
 
@@ -103,7 +103,7 @@ on_children path base draft [] parts = tt
 on_children path base draft (c ∷ cs) parts =
     (record { part = parts.0.0; rest = parts.0.1; is = ap (λ r. path ++ r) parts.0.2 }, on_children path base draft cs parts.1)
 
-on_with : (p : Place) (base : Result (List ℕ) Refusal) → AllByRecursion (λ q. GoesOn p.path q.path) (children_with base p)
+pub on_with : (p : Place) (base : Result (List ℕ) Refusal) → AllByRecursion (λ q. GoesOn p.path q.path) (children_with base p)
 on_with p (Ok base) = on_children p.path base p.draft (children p.draft p.value) (children_have_parts p.draft p.value)
 on_with p (Err refusal) = tt
 

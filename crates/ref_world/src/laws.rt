@@ -17,6 +17,7 @@ ghost use Rattle.ref_world.specs.Anchors.{Named, last_named, named, names};
 ghost use Rattle.ref_world.specs.Closure.{OutcomesOfRetrieval};
 ghost use Rattle.ref_world.specs.Pending.{Addition, Pending, extended};
 ghost use Rattle.ref_world.specs.References.{ReferencesAreRetrieved};
+ghost use Rattle.ref_world.specs.Agreement.{WalksAgree};
 ghost use Rattle.ref_world.specs.Appending.{MeaningsStay, MeaningsStayBelow, MetWantsStay, OpenWantsAfter};
 
 /// Pending documents stand under URIs that differ, whatever was added.
@@ -94,4 +95,11 @@ pub fn outcomes_of_retrieval()
 /// Where no want is open, a reference at a place of the layer never leads to a URI that is not present.
 pub fn references_are_retrieved()
     ensures law { ReferencesAreRetrieved }
+{}
+
+/// From a resource that has its URI for itself and one draft throughout, and before 2020-12 no map of subschemas that holds a
+/// text under the identifier's keyword, the pointer of a path leads to each place at or below the resource as the keywords of
+/// subschemas do: to the same value, of the same draft, with the same base.
+pub fn walks_agree()
+    ensures law { WalksAgree }
 {}
