@@ -13,11 +13,11 @@ use Rattle.ref_world.proofs.Last.{last_there}
 
 -- ---- elements
 
-first_or_later : {X : Type 0} (x : X) (xs : List X) (y : X) → Contains (x ∷ xs) y → (x ≡ y) ⊎ Contains xs y
+pub first_or_later : {X : Type 0} (x : X) (xs : List X) (y : X) → Contains (x ∷ xs) y → (x ≡ y) ⊎ Contains xs y
 first_or_later x xs y (zero, less, is) = inl is
 first_or_later x xs y (suc k, less, is) = inr (k, omega (arith, less), is)
 
-in_joined : {X A : Type 0} (f : X → List A) (xs : List X) (x : X) (y : A) → Contains xs x → Contains (f x) y → Contains (flat_map f xs) y
+pub in_joined : {X A : Type 0} (f : X → List A) (xs : List X) (x : X) (y : A) → Contains xs x → Contains (f x) y → Contains (flat_map f xs) y
 in_joined f [] x y there at = absurd (omega (arith, there.1))
 in_joined f (z ∷ xs) x y there at =
     ⊎_elim

@@ -115,7 +115,7 @@ base_above q p final itself is = (final, is)
 base_above q p final (below above child there under) is = base_of_parent p child p.base refl there
 
 -- the path of a place goes on from that of a place above it
-path_on : (q p : Place) → IsAtOrBelow q p → (more : List Part) × (q.path ≡ p.path ++ more)
+pub path_on : (q p : Place) → IsAtOrBelow q p → (more : List Part) × (q.path ≡ p.path ++ more)
 path_on q p itself = ([], sym (append-nil q.path))
 path_on q p (below above child there under) =
     let on = All-contains (λ c. GoesOn p.path c.path) (children_of p) child (All-from_recursion (λ c. GoesOn p.path c.path) (children_of p) (on_with p p.base)) there in

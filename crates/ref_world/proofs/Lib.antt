@@ -14,4 +14,5 @@ pub mod Agreement
 pub mod Below
 pub mod Alone
 pub mod Located
+pub mod AtOrBelow
 pub mod Pending

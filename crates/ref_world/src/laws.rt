@@ -1,6 +1,6 @@
 //! Laws of the definitions. Each function is empty: its contract states the law, and the check proves it.
 ghost use Rattle.std.specs.Prelude.{◌≡◌, ◌≤◌, ℕ, List, [], ◌∷◌, ◌++◌, drop, map, Some, None, Ok};
-ghost use Rattle.std.specs.List.{AllByRecursion, AllPairs};
+ghost use Rattle.std.specs.List.{AllByRecursion, AllPairs, Contains};
 ghost use Rattle.std.specs.Option.{option_or};
 ghost use Rattle.serde_json.specs.Data.{Data, depth};
 ghost use Rattle.ref_parts.specs.Path.{Part, value_at};
@@ -17,7 +17,8 @@ ghost use Rattle.ref_world.specs.Anchors.{Named, last_named, named, names};
 ghost use Rattle.ref_world.specs.Closure.{OutcomesOfRetrieval};
 ghost use Rattle.ref_world.specs.Pending.{Addition, Pending, extended};
 ghost use Rattle.ref_world.specs.References.{ReferencesAreRetrieved};
-ghost use Rattle.ref_world.specs.Agreement.{WalksAgree};
+ghost use Rattle.ref_world.specs.Wants.{faults};
+ghost use Rattle.ref_world.specs.Agreement.{IsAtOrBelow, WalksAgree};
 ghost use Rattle.ref_world.specs.Appending.{MeaningsStay, MeaningsStayBelow, MetWantsStay, OpenWantsAfter};
 
 /// Pending documents stand under URIs that differ, whatever was added.
@@ -102,4 +103,15 @@ pub fn references_are_retrieved()
 /// subschemas do: to the same value, of the same draft, with the same base.
 pub fn walks_agree()
     ensures law { WalksAgree }
+{}
+
+/// The places at or below a place of a document are those places of it whose paths go on from its path; this needs each object
+/// to have each key once. In a layer without a fault each of them has a base.
+pub fn places_below_go_on_by_their_paths()
+    ensures places { (d : Document) (p q : Place) → Contains (places d) p → IsAtOrBelow q p → Contains (places d) q }
+    ensures paths { (p q : Place) → IsAtOrBelow q p → (path : List Part) × (q.path ≡ p.path ++ path) }
+    ensures below { (d : Document) (p q : Place) (path : List Part) → HasUniqueKeys d.tree → Contains (places d) p → Contains (places d) q
+        → q.path ≡ p.path ++ path → IsAtOrBelow q p }
+    ensures bases { (layer : Layer) (d : Document) (p : Place) → faults layer ≡ [] → Contains layer d → Contains (places d) p
+        → (base : List ℕ) × (p.base ≡ Ok base) }
 {}
