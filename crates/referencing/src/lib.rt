@@ -9,6 +9,7 @@ mod input;
 pub mod laws;
 mod located;
 pub mod meta;
+mod places;
 mod pointed;
 mod prepare;
 mod registry;
