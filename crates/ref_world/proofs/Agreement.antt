@@ -149,9 +149,9 @@ lead draft pointer base value v here since begun part (more ∷ rest) uri fits a
     let next : Along = record { base = base; since = since ++ longer } in
     let step : along_part draft along part within.0 ≡ Ok next = still ∙ ap (λ s. Ok (record { base = base; since = s })) assoc in
     let further = lead draft pointer base value v within.0 since longer more rest uri (fits_behind part (more ∷ rest) fits) within.1
-        (subst (λ p. value_at value p ≡ Some v) (sym same) end)
-        (subst (QuietWithin draft since value) (sym same) quiet)
-        (λ is. subst (λ p. IsAccepted draft (since ++ p) v) (sym same) (ok is)) means in
+    (subst (λ p. value_at value p ≡ Some v) (sym same) end)
+    (subst (QuietWithin draft since value) (sym same) quiet)
+    (λ is. subst (λ p. IsAccepted draft (since ++ p) v) (sym same) (ok is)) means in
     record {
       next = further.next;
       is = λ tokens. walk_part draft pointer along next here within.0 part (more ∷ rest) (map part_text (more ∷ rest) ++ tokens) fits (child_there value here within.0 begun part at within.1) step ∙ further.is tokens;

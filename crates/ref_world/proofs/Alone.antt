@@ -80,8 +80,8 @@ entry_of_root d r uri same none base =
 entry_of_place : (d : Document) (r : Place) (uri id : List ℕ) → Contains (places d) r → identifier_of r ≡ Some id → r.base ≡ Ok uri → Contains (resources_in d) (uri, r)
 entry_of_place d r uri id there has base =
     let one : resource_of r ≡ (uri, r) ∷ [] =
-        ap (λ o. option_to_list (option_map (λ u. (u, r)) (option_and_then (λ i. result_ok r.base) o))) has
-        ∙ ap (λ b. option_to_list (option_map (λ u. (u, r)) (result_ok b))) base in
+    ap (λ o. option_to_list (option_map (λ u. (u, r)) (option_and_then (λ i. result_ok r.base) o))) has
+    ∙ ap (λ b. option_to_list (option_map (λ u. (u, r)) (result_ok b))) base in
     Contains-append_right ((d.uri, root d) ∷ []) (flat_map resource_of (places d)) (uri, r)
     (in_joined resource_of (places d) r (uri, r) there (subst (λ es. Contains es (uri, r)) (sym one) (0, omega arith, refl)))
 

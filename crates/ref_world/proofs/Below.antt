@@ -169,16 +169,16 @@ reach draft pointer q p (below above child there under) alike along base unique 
     let detected = ap (λ (c : Place). c.draft) known.is in
     let value = ap (λ (c : Place). c.value) known.is in
     let means : base_within along.base (identifier draft known.of.1) ≡ Ok uri.0 =
-        ap (λ d. base_within along.base (identifier d known.of.1)) (sym drafts ∙ detected) ∙ sym (ap (λ (c : Place). c.base) known.is) ∙ uri.1 in
+    ap (λ d. base_within along.base (identifier d known.of.1)) (sym drafts ∙ detected) ∙ sym (ap (λ (c : Place). c.base) known.is) ∙ uri.1 in
     let more = path_on q child under in
     let whole : path ≡ known.of.0 ++ more.0 =
-        append_cancel_left p.path path (known.of.0 ++ more.0)
-        (sym is ∙ more.1 ∙ ap (λ (c : Place). c.path ++ more.0) known.is ∙ append_assoc p.path known.of.0 more.0) in
+    append_cancel_left p.path path (known.of.0 ++ more.0)
+    (sym is ∙ more.1 ∙ ap (λ (c : Place). c.path ++ more.0) known.is ∙ append_assoc p.path known.of.0 more.0) in
     let all_fit = subst HasFittingIndexes whole fits in
     let first = lead_from draft pointer along p.value known.of.1 known.of.0 known.parts.0 known.parts.1 uri.0 known.parts.2 (fits_in_front known.of.0 more.0 all_fit) known.there
-        (quiet_between draft along.since known.of.0 p.value (λ before. alike.maps before p itself) known.alone known.ends) known.accepts means in
+    (quiet_between draft along.since known.of.0 p.value (λ before. alike.maps before p itself) known.alone known.ends) known.accepts means in
     let rest = reach draft pointer q child under (alike_child draft p child there alike) first.next (uri.1 ∙ ap (λ u. Ok u) (sym first.base)) (subst HasUniqueKeys (sym value) known.unique)
-        (subst (λ v. is_object v ≡ true → IsAccepted draft first.next.since v) (sym value) first.accepts) more.0 more.1 (fits_behind known.of.0 more.0 all_fit) final ends in
+    (subst (λ v. is_object v ≡ true → IsAccepted draft first.next.since v) (sym value) first.accepts) more.0 more.1 (fits_behind known.of.0 more.0 all_fit) final ends in
     record {
       end = rest.end;
       is = two_walks draft pointer along p.value known.of.1 path known.of.0 uri.0 more.0 (q.value, rest.end) whole first

@@ -58,5 +58,5 @@ leads_to layer parents d r q uri path unique alike under is texts final base =
     let stands = All-contains (Stands d.tree) (places d) r (All-from_recursion (Stands d.tree) (places d) (all_stand d unique)) alike.place in
     looked_up (layer ∷ parents) uri path r own
     ∙ in_resource (layer ∷ parents) m r q path final texts
-      (λ pointer. reach r.draft pointer q r under (record { drafts = alike.one_draft; maps = alike.plain_maps }) (record { base = uri; since = [] }) alike.base stands.unique (λ there. start_accepted r.draft r.value) path is texts.fits final base)
+    (λ pointer. reach r.draft pointer q r under (record { drafts = alike.one_draft; maps = alike.plain_maps }) (record { base = uri; since = [] }) alike.base stands.unique (λ there. start_accepted r.draft r.value) path is texts.fits final base)
     ∙ ap (λ d. Ok (record { value = q.value; draft = d; resolver = record { base = final; scope = uri ∷ [] } })) (sym (alike.one_draft q under))

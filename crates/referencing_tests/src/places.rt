@@ -8,7 +8,13 @@ use std::test::Fail;
 // The documents, what can be retrieved, the number of one, a path, with `|` before each part and `#` before an index, and the
 // value there.
 const ROWS: [(&str, &str, usize, &str, &str); 11] = [
-    (r#"[["http://a/r",{"not":true}]]"#, "[]", 0, "", r#"{"not":true}"#),
+    (
+        r#"[["http://a/r",{"not":true}]]"#,
+        "[]",
+        0,
+        "",
+        r#"{"not":true}"#,
+    ),
     (r#"[["http://a/r",{"not":true}]]"#, "[]", 1, "", "none"),
     (r#"[["http://a/r",{"not":true}]]"#, "[]", 0, "|not", "true"),
     (r#"[["http://a/r",{"not":true}]]"#, "[]", 0, "|if", "none"),
@@ -16,9 +22,21 @@ const ROWS: [(&str, &str, usize, &str, &str); 11] = [
     (r#"[["http://a/r",["a","b"]]]"#, "[]", 0, "|#1", r#""b""#),
     (r#"[["http://a/r",["a","b"]]]"#, "[]", 0, "|#2", "none"),
     (r#"[["http://a/r",["a","b"]]]"#, "[]", 0, "|1", "none"),
-    (r#"[["http://a/r",{"a/b%":{"":{"~":7}}}]]"#, "[]", 0, "|a/b%||~", "7"),
+    (
+        r#"[["http://a/r",{"a/b%":{"":{"~":7}}}]]"#,
+        "[]",
+        0,
+        "|a/b%||~",
+        "7",
+    ),
     (r#"[["http://a/r",1],["http://a/s",2]]"#, "[]", 1, "", "2"),
-    (r#"[["http://a/r",{"$ref":"b"}]]"#, r#"[["http://a/b",{"x":3}]]"#, 1, "|x", "3"),
+    (
+        r#"[["http://a/r",{"$ref":"b"}]]"#,
+        r#"[["http://a/b",{"x":3}]]"#,
+        1,
+        "|x",
+        "3",
+    ),
 ];
 
 // The path of a text.
