@@ -12,7 +12,7 @@ use Rattle.ref_draft.specs.Scan.{is_child_keyword, IsAccepted, SpellsWord}
 use Rattle.ref_draft.specs.Beginnings.{is_array, EndsWithin, AllEndWithin}
 use Rattle.ref_draft.proofs.Holdings.{Says, says_holding, HoldsItems}
 use Rattle.ref_draft.proofs.Scanning.{stops_within}
-use Rattle.ref_draft.proofs.Lists.{all_append, all_filter}
+use Rattle.ref_draft.proofs.Lists.{all_append, all_filter, all_map}
 
 -- since 2020-12 each keyword with a part behind it is a child keyword
 abbrev IsChildSince : Draft → List ℕ → Type 0
@@ -123,6 +123,18 @@ none_of_one k [] rest is some more = some refl
 none_of_one k (x ∷ []) [] is some more = more refl
 none_of_one k (x ∷ []) (y ∷ rest) is some more = cc
 none_of_one k (x ∷ y ∷ beginning) rest is some more = cc
+
+-- which is a keyword alone
+abbrev pub IsKeyAlone : List Part → Type 0
+IsKeyAlone path = (beginning rest : List Part) → path ≡ beginning ++ rest → beginning ≢ [] → rest ≢ [] → (k : List ℕ) × (beginning ≡ Key k ∷ [])
+
+key_alone : (d : Draft) (path : List Part) → Form d path → IsKeyAlone path
+key_alone d path (alone k) beginning rest is some more = absurd (none_of_one k beginning rest is some more)
+key_alone d path (element k i since) beginning rest is some more = (k, one_part k (Index i) beginning rest is some more)
+key_alone d path (of_map k l since in_map) beginning rest is some more = (k, one_part k (Key l) beginning rest is some more)
+
+pub begin_with_keys : (d : Draft) (value : Data) → AllByRecursion (λ child. IsKeyAlone child.0) (children d value)
+begin_with_keys d value = all_map (λ child. Form d child.0) (λ child. IsKeyAlone child.0) (children d value) (λ child form. key_alone d child.0 form) (all_have_form d value)
 
 ends_at : (d : Draft) (parts : List Part) (value v : Data) (path beginning rest : List Part) → IsAccepted d parts value → Form d path → value_at value path ≡ Some v
     → path ≡ beginning ++ rest → beginning ≢ [] → rest ≢ [] → EndsWithin d parts value beginning

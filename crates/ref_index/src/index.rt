@@ -1,5 +1,5 @@
 //! The documents of a registry with the index of their places.
-ghost use Rattle.std.specs.Prelude.{◌≡◌, ℕ, List, map, length, MatchOption, IfOk, option_map, Some, None, Ok};
+ghost use Rattle.std.specs.Prelude.{◌≡◌, ℕ, List, map, length, MatchOption, IfOk, option_map, slice_get, Some, None, Ok};
 ghost use Rattle.std.specs.List.{Contains};
 ghost use Rattle.serde_json.specs.View.{view};
 ghost use Rattle.ref_uri.specs.Targets.{against};
@@ -76,6 +76,15 @@ impl<'a> Index<'a> {
         ensures value { result ≡ length self.now }
     {
         self.documents.len()
+    }
+
+    /// The value of the document with a number, in the order in which they were added and retrieved, counted from 0. A look-up;
+    /// takes no memory.
+    pub fn tree(&self, document: usize) -> Option<&Value>
+        ensures value { option_map (λ v. view v.now) result ≡ option_map (λ d. d.tree) (slice_get self.now document) }
+    {
+        let document = self.documents.get(document)?;
+        Some(document.contents.value())
     }
 
     /// The place that a URI means in these documents. A look-up; takes no memory.

@@ -75,7 +75,7 @@ stays_there : (draft : Draft) (start : List ℕ) (value there : Data) (path : Li
     → Stays draft along.base (along.since ++ part ∷ []) there → record { base = along.base; since = along.since ++ part ∷ [] } ≡ next → Behind draft start value path part next
 stays_there draft start value there path part along next before at stays is = subst (Behind draft start value path part) is (stayed path part along there before at stays)
 
-same_base : (along : Along) → moved along along.base ≡ along
+pub same_base : (along : Along) → moved along along.base ≡ along
 same_base along = ap (λ b. cond b along (record { base = along.base; since = [] })) ((bytes_eq-Decides along.base along.base).1 refl)
 
 by_uri : (draft : Draft) (start : List ℕ) (value there : Data) (path : List Part) (part : Part) (along next : Along) (id uri : List ℕ) (b : Bool) → IsBaseAlong draft start value path along → value_at value (path ++ part ∷ []) ≡ Some there

@@ -30,7 +30,7 @@ stand_children tree path value base draft (c ∷ cs) there stand unique = (
   stand_children tree path value base draft cs there stand.1 unique.1,
 )
 
-stand_with : (tree : Data) (p : Place) (base : Result (List ℕ) Refusal) → Stands tree p → AllByRecursion (Stands tree) (children_with base p)
+pub stand_with : (tree : Data) (p : Place) (base : Result (List ℕ) Refusal) → Stands tree p → AllByRecursion (Stands tree) (children_with base p)
 stand_with tree p (Ok base) stands =
     stand_children tree p.path p.value base p.draft (children p.draft p.value) stands.there (children_stand p.draft p.value stands.unique) (unique_children p.draft p.value stands.unique)
 stand_with tree p (Err refusal) stands = tt
@@ -45,7 +45,7 @@ stand_below tree (suc n) ps stand =
     let level = stand_level tree ps stand in
     all_append (Stands tree) (flat_map children_of ps) (levels_below n (flat_map children_of ps)) level (stand_below tree n (flat_map children_of ps) level)
 
-all_stand : (d : Document) → HasUniqueKeys d.tree → AllByRecursion (Stands d.tree) (places d)
+pub all_stand : (d : Document) → HasUniqueKeys d.tree → AllByRecursion (Stands d.tree) (places d)
 all_stand d unique =
     let first : Stands d.tree (root d) = record { there = refl; unique = unique } in (first, stand_below d.tree (depth d.tree) (root d ∷ []) (first, tt))
 
@@ -68,7 +68,7 @@ goes_on_twice p q r first second =
       is = second.is ∙ ap (λ s. s ++ second.part ∷ second.rest) first.is ∙ append_assoc p (first.part ∷ first.rest) (second.part ∷ second.rest);
     }
 
-longer : (p : List Part) (part : Part) (rest : List Part) → ¬ (p ≡ p ++ part ∷ rest)
+pub longer : (p : List Part) (part : Part) (rest : List Part) → ¬ (p ≡ p ++ part ∷ rest)
 longer [] part rest same = cc
 longer (x ∷ p) part rest same = longer p part rest (let e : p ≡ p ++ part ∷ rest = cc in e)
 
@@ -76,7 +76,7 @@ goes_on_differs : (p q : List Part) → GoesOn p q → ¬ (p ≡ q)
 goes_on_differs p q on same = longer p on.part on.rest (same ∙ on.is)
 
 -- each path parts from those behind it
-abbrev Parted : List Place → Type 0
+abbrev pub Parted : List Place → Type 0
 Parted [] = Unit {0}
 Parted (p ∷ ps) = AllByRecursion (λ q. PartWays p.path q.path) ps × Parted ps
 
@@ -94,7 +94,7 @@ parted_children : (path : List Part) (base : List ℕ) (draft : Draft) (cs : Lis
 parted_children path base draft [] part = tt
 parted_children path base draft (c ∷ cs) part = (parted_from path base draft c cs part.0, parted_children path base draft cs part.1)
 
-parted_with : (p : Place) (base : Result (List ℕ) Refusal) → HasUniqueKeys p.value → Parted (children_with base p)
+pub parted_with : (p : Place) (base : Result (List ℕ) Refusal) → HasUniqueKeys p.value → Parted (children_with base p)
 parted_with p (Ok base) unique = parted_children p.path base p.draft (children p.draft p.value) (children_part p.draft p.value unique)
 parted_with p (Err refusal) unique = tt
 
@@ -103,7 +103,7 @@ on_children path base draft [] parts = tt
 on_children path base draft (c ∷ cs) parts =
     (record { part = parts.0.0; rest = parts.0.1; is = ap (λ r. path ++ r) parts.0.2 }, on_children path base draft cs parts.1)
 
-on_with : (p : Place) (base : Result (List ℕ) Refusal) → AllByRecursion (λ q. GoesOn p.path q.path) (children_with base p)
+pub on_with : (p : Place) (base : Result (List ℕ) Refusal) → AllByRecursion (λ q. GoesOn p.path q.path) (children_with base p)
 on_with p (Ok base) = on_children p.path base p.draft (children p.draft p.value) (children_have_parts p.draft p.value)
 on_with p (Err refusal) = tt
 

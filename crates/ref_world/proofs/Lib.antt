@@ -9,4 +9,10 @@ pub mod Descent
 pub mod Changes
 pub mod OneBase
 pub mod Differ
+pub mod Steps
+pub mod Agreement
+pub mod Below
+pub mod Alone
+pub mod Located
+pub mod AtOrBelow
 pub mod Pending

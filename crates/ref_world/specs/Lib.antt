@@ -19,6 +19,7 @@ pub mod Pointers
 pub mod Lookup
 pub mod Recursive
 pub mod Follow
+pub mod Agreement
 pub mod Vocabularies
 pub mod MetaSchemas
 pub mod Rows

@@ -1,8 +1,9 @@
 -- Literal documents for rows that compute.
 use Prim.Native.String.{String as Literal}
 use Rattle.std.specs.Prelude.{ℕ, true, List, [], ◌∷◌, map, codes, Option, Some, None, option_map, Result, Ok, Err}
+use Rattle.std.specs.List.{last_or}
 use Rattle.serde_json.specs.Data.{Data, boolean, number, unsigned, string, array, object, no_items, item, no_members, member}
-use Rattle.ref_parts.specs.Path.{Part}
+use Rattle.ref_parts.specs.Path.{Part, Key, Index}
 use Rattle.ref_draft.specs.declared.draft.Draft.{Draft}
 use Rattle.ref_draft.specs.declared.draft.Draft.TheVariants.{Draft202012}
 use Rattle.ref_draft.specs.Anchors.{Kind}
@@ -10,7 +11,7 @@ use Rattle.ref_uri.specs.Targets.{Refusal}
 use Rattle.ref_world.specs.Results.{◌>>=◌}
 use Rattle.ref_world.specs.Fault.{Fault}
 use Rattle.ref_world.specs.World.{Document, Layer, World, document}
-use Rattle.ref_world.specs.Places.{Place, root}
+use Rattle.ref_world.specs.Places.{Place, root, places}
 use Rattle.ref_world.specs.Anchors.{Named}
 use Rattle.ref_world.specs.Preparing.{Retriever, Given}
 use Rattle.ref_world.specs.Retrievers.{default_retriever, map_retriever}
@@ -159,3 +160,21 @@ path_of p = option_map (λ p. p.path) p
 abbrev pub value_of_answer : Answer → Option Data
 value_of_answer (answer value base scope) = value
 value_of_answer (refusal n fault) = None
+
+-- a schema within each kind of keyword that holds schemas before 2020-12, with an identifier under this keyword, and its path
+abbrev pub nested : Literal → Data
+nested id = one "not" (one "allOf" (list (one "properties" (one "p" (one "items" (list (one "dependencies" (one "d" (one "additionalItems" (one id (text "s")))))))))))
+
+abbrev pub nested_path : List Part
+nested_path = Key (codes "not") ∷ Key (codes "allOf") ∷ Index 0 ∷ Key (codes "properties") ∷ Key (codes "p") ∷ Key (codes "items") ∷ Index 0 ∷ Key (codes "dependencies") ∷ Key (codes "d") ∷ Key (codes "additionalItems") ∷ []
+
+-- the same of 2020-12
+abbrev pub nested_2020 : Data
+nested_2020 = one "not" (one "prefixItems" (list (one "$defs" (one "p" (one "items" (one "$id" (text "s")))))))
+
+abbrev pub nested_path_2020 : List Part
+nested_path_2020 = Key (codes "not") ∷ Key (codes "prefixItems") ∷ Index 0 ∷ Key (codes "$defs") ∷ Key (codes "p") ∷ Key (codes "items") ∷ []
+
+-- the last place of a document, with its path, base and draft
+abbrev pub last_place : Document → Option (List Part × Result (List ℕ) Refusal × Draft)
+last_place d = last_or None (map (λ p. (p.path, p.base, p.draft)) (places d))

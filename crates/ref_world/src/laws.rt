@@ -1,6 +1,6 @@
 //! Laws of the definitions. Each function is empty: its contract states the law, and the check proves it.
 ghost use Rattle.std.specs.Prelude.{◌≡◌, ◌≤◌, ℕ, List, [], ◌∷◌, ◌++◌, drop, map, Some, None, Ok};
-ghost use Rattle.std.specs.List.{AllByRecursion, AllPairs};
+ghost use Rattle.std.specs.List.{AllByRecursion, AllPairs, Contains};
 ghost use Rattle.std.specs.Option.{option_or};
 ghost use Rattle.serde_json.specs.Data.{Data, depth};
 ghost use Rattle.ref_parts.specs.Path.{Part, value_at};
@@ -17,6 +17,8 @@ ghost use Rattle.ref_world.specs.Anchors.{Named, last_named, named, names};
 ghost use Rattle.ref_world.specs.Closure.{OutcomesOfRetrieval};
 ghost use Rattle.ref_world.specs.Pending.{Addition, Pending, extended};
 ghost use Rattle.ref_world.specs.References.{ReferencesAreRetrieved};
+ghost use Rattle.ref_world.specs.Wants.{faults};
+ghost use Rattle.ref_world.specs.Agreement.{IsAtOrBelow, WalksAgree};
 ghost use Rattle.ref_world.specs.Appending.{MeaningsStay, MeaningsStayBelow, MetWantsStay, OpenWantsAfter};
 
 /// Pending documents stand under URIs that differ, whatever was added.
@@ -94,4 +96,22 @@ pub fn outcomes_of_retrieval()
 /// Where no want is open, a reference at a place of the layer never leads to a URI that is not present.
 pub fn references_are_retrieved()
     ensures law { ReferencesAreRetrieved }
+{}
+
+/// From a resource that has its URI for itself and one draft throughout, and before 2020-12 no map of subschemas that holds a
+/// text under the identifier's keyword, the pointer of a path leads to each place at or below the resource as the keywords of
+/// subschemas do: to the same value, of the same draft, with the same base.
+pub fn walks_agree()
+    ensures law { WalksAgree }
+{}
+
+/// The places at or below a place of a document are those places of it whose paths go on from its path; this needs each object
+/// to have each key once. In a layer without a fault each of them has a base.
+pub fn places_below_go_on_by_their_paths()
+    ensures places { (d : Document) (p q : Place) → Contains (places d) p → IsAtOrBelow q p → Contains (places d) q }
+    ensures paths { (p q : Place) → IsAtOrBelow q p → (path : List Part) × (q.path ≡ p.path ++ path) }
+    ensures below { (d : Document) (p q : Place) (path : List Part) → HasUniqueKeys d.tree → Contains (places d) p → Contains (places d) q
+        → q.path ≡ p.path ++ path → IsAtOrBelow q p }
+    ensures bases { (layer : Layer) (d : Document) (p : Place) → faults layer ≡ [] → Contains layer d → Contains (places d) p
+        → (base : List ℕ) × (p.base ≡ Ok base) }
 {}

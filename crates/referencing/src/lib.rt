@@ -12,6 +12,7 @@ pub mod laws;
 mod layers;
 mod located;
 pub mod meta;
+mod places;
 mod pointed;
 mod prepare;
 mod recursive;

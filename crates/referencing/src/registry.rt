@@ -1,7 +1,8 @@
 //! A registry: documents, and the places in them that references lead to.
-ghost use Rattle.std.specs.Prelude.{◌≡◌, ℕ, List, [], ◌∷◌, map, codes, IfOk, IfErr, IfSome, IsSome, Some, Ok, Err};
+ghost use Rattle.std.specs.Prelude.{◌≡◌, ℕ, List, [], ◌∷◌, map, codes, IfOk, IfErr, IfSome, IsSome, option_map, slice_get, Some, Ok, Err};
 ghost use Rattle.std.specs.Iterator.{Drains, Yields, IsFinite};
 ghost use Rattle.std.specs.List.{Contains};
+ghost use Rattle.serde_json.specs.View.{view};
 ghost use Rattle.ref_draft.specs.Schema.{text_under};
 ghost use Rattle.ref_uri.specs.Targets.{against};
 ghost use Rattle.ref_world.specs.World.{Document as WorldDocument};
@@ -23,6 +24,7 @@ use ref_index::Index;
 use ref_retrieve::Error;
 use ref_uri::uri::from_str;
 use ref_uri::{Uri, UriFault, UriRef};
+use serde_json::Value;
 use std::alloc::{AllocError, Global};
 use std::convert::AsStr;
 use std::fmt;
@@ -121,6 +123,13 @@ impl<'a> Registry<'a> {
             own: Rc::new(alloc, index)?,
             parents,
         })
+    }
+
+    /// The value of the own document with a number. A look-up; takes no memory.
+    pub(crate) fn tree(&self, document: usize) -> Option<&Value>
+        ensures value { option_map (λ v. view v.now) result ≡ option_map (λ d. d.tree) (slice_get (own self.now) document) }
+    {
+        self.own.tree(document)
     }
 
     // The indexes that resolvers borrow.

@@ -16,6 +16,8 @@ mod outcomes;
 #[cfg(test)]
 mod parents;
 #[cfg(test)]
+mod places;
+#[cfg(test)]
 mod resources;
 #[cfg(test)]
 mod retrieval;

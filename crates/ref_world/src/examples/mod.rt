@@ -1,6 +1,7 @@
 //! Rows of documents and references, computed from the definitions: the expected values are those of the standards, and of
 //! the Rust crate where it alone decides.
 
+pub mod agreement;
 pub mod anchors;
 pub mod cached;
 pub mod documents;

@@ -1,0 +1,61 @@
+//! Where the pointer of a path and the keywords of subschemas lead to one place with one base, and where they don't.
+ghost use Rattle.std.specs.Prelude.{◌≡◌, [], ◌∷◌, codes, Some, Ok, Err};
+ghost use Rattle.ref_parts.specs.Path.{Key};
+ghost use Rattle.ref_draft.specs.declared.draft.Draft.TheVariants.{Draft4, Draft6, Draft7, Draft201909, Draft202012};
+ghost use Rattle.ref_world.specs.Fault.{PointerToNowhere};
+ghost use Rattle.ref_world.specs.Places.{root};
+ghost use Rattle.ref_world.specs.Lookup.{located};
+ghost use Rattle.ref_world.specs.Agreement.{IsAtOrBelow, HasPlainMaps, IsPathOfTexts};
+ghost use Rattle.ref_world.specs.Rows.{at, world, yes, text, one, two, resolver, found, nested, nested_path, nested_2020, nested_path_2020, last_place};
+
+/// In each draft, within each kind of keyword, the keywords lead to this place.
+pub fn places_within_keywords()
+    ensures draft_4 { last_place (at Draft4 "http://a/r" (nested "id")) ≡ Some (nested_path, Ok (codes "http://a/s"), Draft4) }
+    ensures draft_6 { last_place (at Draft6 "http://a/r" (nested "$id")) ≡ Some (nested_path, Ok (codes "http://a/s"), Draft6) }
+    ensures draft_7 { last_place (at Draft7 "http://a/r" (nested "$id")) ≡ Some (nested_path, Ok (codes "http://a/s"), Draft7) }
+    ensures draft_2019 { last_place (at Draft201909 "http://a/r" (nested "$id")) ≡ Some (nested_path, Ok (codes "http://a/s"), Draft201909) }
+    ensures draft_2020 { last_place (at Draft202012 "http://a/r" nested_2020) ≡ Some (nested_path_2020, Ok (codes "http://a/s"), Draft202012) }
+{}
+
+/// And so does the pointer.
+pub fn pointers_within_keywords()
+    ensures draft_4 { located (world (at Draft4 "http://a/r" (nested "id") ∷ [])) (codes "http://a/r") nested_path ≡ Ok (found (one "id" (text "s")) Draft4 (resolver "http://a/s" (codes "http://a/r" ∷ []))) }
+    ensures draft_6 { located (world (at Draft6 "http://a/r" (nested "$id") ∷ [])) (codes "http://a/r") nested_path ≡ Ok (found (one "$id" (text "s")) Draft6 (resolver "http://a/s" (codes "http://a/r" ∷ []))) }
+    ensures draft_7 { located (world (at Draft7 "http://a/r" (nested "$id") ∷ [])) (codes "http://a/r") nested_path ≡ Ok (found (one "$id" (text "s")) Draft7 (resolver "http://a/s" (codes "http://a/r" ∷ []))) }
+    ensures draft_2019 { located (world (at Draft201909 "http://a/r" (nested "$id") ∷ [])) (codes "http://a/r") nested_path ≡ Ok (found (one "$id" (text "s")) Draft201909 (resolver "http://a/s" (codes "http://a/r" ∷ []))) }
+    ensures draft_2020 { located (world (at Draft202012 "http://a/r" nested_2020 ∷ [])) (codes "http://a/r") nested_path_2020 ≡ Ok (found (one "$id" (text "s")) Draft202012 (resolver "http://a/s" (codes "http://a/r" ∷ []))) }
+{}
+
+/// Where another place bears the URI, the pointer leads from that one; where a place bears none, from the resource around it.
+pub fn without_a_uri_of_its_own()
+    ensures place_in_the_first { last_place (at Draft202012 "http://a/r" (one "$defs" (two "a" (two "$id" (text "http://a/k") "not" yes) "b" (one "$id" (text "http://a/k"))))) ≡ Some (Key (codes "$defs") ∷ Key (codes "a") ∷ Key (codes "not") ∷ [], Ok (codes "http://a/k"), Draft202012) }
+    ensures pointer_in_the_last { located (world (at Draft202012 "http://a/r" (one "$defs" (two "a" (two "$id" (text "http://a/k") "not" yes) "b" (one "$id" (text "http://a/k")))) ∷ [])) (codes "http://a/k") (Key (codes "not") ∷ []) ≡ Err (PointerToNowhere (codes "/not")) }
+    ensures place_below_a_place { last_place (at Draft202012 "http://a/r" (one "not" (one "not" yes))) ≡ Some (Key (codes "not") ∷ Key (codes "not") ∷ [], Ok (codes "http://a/r"), Draft202012) }
+    ensures pointer_from_the_root { located (world (at Draft202012 "http://a/r" (one "not" (one "not" yes)) ∷ [])) (codes "http://a/r") (Key (codes "not") ∷ []) ≡ Ok (found (one "not" yes) Draft202012 (resolver "http://a/r" (codes "http://a/r" ∷ []))) }
+{}
+
+/// The pointer reads a place by the draft of the resource that it starts from.
+pub fn with_another_draft_below()
+    ensures place { last_place (at Draft202012 "http://a/r" (one "not" (two "$schema" (text "http://json-schema.org/draft-04/schema") "id" (text "s")))) ≡ Some (Key (codes "not") ∷ [], Ok (codes "http://a/s"), Draft4) }
+    ensures pointer { located (world (at Draft202012 "http://a/r" (one "not" (two "$schema" (text "http://json-schema.org/draft-04/schema") "id" (text "s"))) ∷ [])) (codes "http://a/r") (Key (codes "not") ∷ []) ≡ Ok (found (two "$schema" (text "http://json-schema.org/draft-04/schema") "id" (text "s")) Draft202012 (resolver "http://a/r" (codes "http://a/r" ∷ []))) }
+{}
+
+/// Before 2020-12, below `items` and `dependencies`, the pointer takes a map of subschemas with a text under the identifier's
+/// keyword for a schema with an identifier.
+pub fn with_a_map_that_has_an_identifier()
+    ensures place_in_a_map { last_place (at Draft7 "http://a/r" (one "items" (one "properties" (two "$id" (text "m/") "x" (one "$id" (text "s")))))) ≡ Some (Key (codes "items") ∷ Key (codes "properties") ∷ Key (codes "x") ∷ [], Ok (codes "http://a/s"), Draft7) }
+    ensures pointer_through_a_map { located (world (at Draft7 "http://a/r" (one "items" (one "properties" (two "$id" (text "m/") "x" (one "$id" (text "s"))))) ∷ [])) (codes "http://a/r") (Key (codes "items") ∷ Key (codes "properties") ∷ Key (codes "x") ∷ []) ≡ Ok (found (one "$id" (text "s")) Draft7 (resolver "http://a/m/" (codes "http://a/r" ∷ []))) }
+    ensures place_in_dependencies { last_place (at Draft4 "http://a/r" (one "dependencies" (two "id" (text "m/") "x" (one "id" (text "s"))))) ≡ Some (Key (codes "dependencies") ∷ Key (codes "x") ∷ [], Ok (codes "http://a/s"), Draft4) }
+    ensures pointer_through_dependencies { located (world (at Draft4 "http://a/r" (one "dependencies" (two "id" (text "m/") "x" (one "id" (text "s")))) ∷ [])) (codes "http://a/r") (Key (codes "dependencies") ∷ Key (codes "x") ∷ []) ≡ Ok (found (one "id" (text "s")) Draft4 (resolver "http://a/m/" (codes "http://a/r" ∷ []))) }
+{}
+
+/// Maps of subschemas with and without such a text, and places at and below another.
+pub fn maps_and_places_below()
+    ensures text_in_a_map { ¬ (HasPlainMaps Draft7 (one "properties" (one "$id" (text "m")))) }
+    ensures text_in_dependencies { ¬ (HasPlainMaps Draft201909 (one "dependencies" (one "$id" (text "m")))) }
+    ensures text_in_a_map_of_4 { ¬ (HasPlainMaps Draft4 (one "definitions" (one "id" (text "m")))) }
+    ensures schema_in_a_map { HasPlainMaps Draft7 (one "properties" (one "$id" yes)) }
+    ensures at_itself { IsAtOrBelow (root (at Draft7 "http://a/r" yes)) (root (at Draft7 "http://a/r" yes)) }
+    ensures below { IsAtOrBelow (record { path = Key (codes "not") ∷ []; value = yes; draft = Draft7; outer = codes "http://a/r"; base = Ok (codes "http://a/r") }) (root (at Draft7 "http://a/r" (one "not" yes))) }
+    ensures empty_path { IsPathOfTexts [] }
+{}
