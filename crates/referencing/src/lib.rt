@@ -5,6 +5,7 @@
 #![tactic(auto)]
 
 mod builder;
+mod dialects;
 mod input;
 pub mod laws;
 mod located;
@@ -32,10 +33,18 @@ pub use ref_retrieve::{DefaultRetriever, Error, MapRetriever, Reason, Retrieve, 
 pub use ref_uri::{
     ParseError, ResolveError, ResolveFault, Uri, UriError, UriFault, UriParseFault, UriRef,
 };
+pub use ref_vocabularies::{
+    CustomIter, Dialect, Vocabulary, VocabularySet, declared_or_default, default_vocabularies,
+};
 pub use registry::Registry;
 
 /// The meaning of texts as URIs, and texts as they stand in fragments.
 pub mod uri {
     pub use ref_parts::{EncodedBuffer, EncodedString};
     pub use ref_uri::uri::{from_str, resolve_against};
+}
+
+/// What a meta-schema declares under `$vocabulary`.
+pub mod vocabularies {
+    pub use ref_vocabularies::find;
 }

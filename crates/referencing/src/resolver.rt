@@ -28,9 +28,9 @@ use std::rc::Rc;
 /// (2020-12 Core, 7.1).
 #[derive(Drop)]
 pub struct Resolver<'r> {
-    registry: &'r Registry<'r>,
-    base: Rc<Uri>,
-    scope: List<Uri>,
+    pub(crate) registry: &'r Registry<'r>,
+    pub(crate) base: Rc<Uri>,
+    pub(crate) scope: List<Uri>,
 }
 
 impl<'r> Resolver<'r> {
