@@ -21,3 +21,5 @@ mod resources;
 mod retrieval;
 #[cfg(test)]
 mod settings;
+#[cfg(test)]
+mod vocabularies;
