@@ -7,7 +7,8 @@ use Rattle.ref_world.specs.Vocabularies as known
 use Rattle.ref_vocabularies.specs.declared.vocabulary.Vocabulary.{Vocabulary}
 use Rattle.ref_vocabularies.specs.declared.vocabulary.Vocabulary.TheVariants.{Core, Applicator, Unevaluated, Validation, Metadata, Format, FormatAnnotation, Content, FormatAssertion, Custom}
 
--- the vocabulary of a variant: this map is told here alone
+-- the vocabulary of a variant: this map is told here alone. The definition's `Custom` takes any text; in the program it is a
+-- URI's, and the law `custom_vocabularies_are_uris` says that a text names no other
 abbrev pub vocabulary_of : Vocabulary → known.Vocabulary
 vocabulary_of Core = known.Standard known.Core
 vocabulary_of Applicator = known.Standard known.Applicator

@@ -1,6 +1,7 @@
 //! Laws of vocabularies and their sets. Each function is empty: its contract states the law, and the check proves it.
-ghost use Rattle.std.specs.Prelude.{◌≡◌, ◌||◌, true};
-ghost use Rattle.ref_world.specs.Vocabularies.{Vocabulary as Defined, VocabularySet as DefinedSet, vocabulary_eq, set_eq, contains, with_vocabulary};
+ghost use Rattle.std.specs.Prelude.{◌≡◌, ◌||◌, ℕ, List, true, Ok};
+ghost use Rattle.ref_uri.specs.Targets.{parsed};
+ghost use Rattle.ref_world.specs.Vocabularies.{Vocabulary as Defined, VocabularySet as DefinedSet, vocabulary_eq, set_eq, contains, with_vocabulary, from_text, Custom};
 ghost use Rattle.ref_vocabularies.specs.declared.vocabulary.Vocabulary.{Vocabulary};
 ghost use Rattle.ref_vocabularies.specs.Views.{vocabulary_of};
 
@@ -24,4 +25,9 @@ pub fn sets_have_no_order_of_growth()
     ensures contains { (s : DefinedSet) (v w : Defined) → contains (with_vocabulary s v) w ≡ (contains s w || vocabulary_eq v w) }
     ensures order { (s : DefinedSet) (v w : Defined) → with_vocabulary (with_vocabulary s v) w ≡ with_vocabulary (with_vocabulary s w) v }
     ensures twice { (s : DefinedSet) (v : Defined) → with_vocabulary (with_vocabulary s v) v ≡ with_vocabulary s v }
+{}
+
+/// A vocabulary that a text names and that is not known is the URI that the text means.
+pub fn custom_vocabularies_are_uris()
+    ensures law { (text uri : List ℕ) → from_text text ≡ Ok (Custom uri) → parsed text ≡ Ok uri }
 {}

@@ -123,6 +123,51 @@ fn texts_name_vocabularies(rt: HostRuntime) -> Result<(), Fail> {
     Ok(())
 }
 
+// The last parts of known URIs, the vocabulary of each, and whether 2019-09 has it.
+const NAMES: [(&str, &str, bool); 9] = [
+    ("core", "Core", true),
+    ("applicator", "Applicator", true),
+    ("unevaluated", "Unevaluated", false),
+    ("validation", "Validation", true),
+    ("meta-data", "Metadata", true),
+    ("format", "Format", true),
+    ("format-annotation", "FormatAnnotation", false),
+    ("content", "Content", true),
+    ("format-assertion", "FormatAssertion", false),
+];
+
+// The vocabulary of a text, as it is displayed.
+fn debug_text(alloc: Global, text: &str) -> Result<String, Error> {
+    let vocabulary = Vocabulary::from_text(alloc, text)?;
+    Ok(format!(in alloc; "{vocabulary:?}")?)
+}
+
+// The vocabulary of a draft and a name, as it is displayed.
+fn debug_of(alloc: Global, draft: &str, name: &str) -> Result<String, Fail> {
+    let text = format!(in alloc; "https://json-schema.org/draft/{draft}/vocab/{name}")?;
+    match debug_text(alloc, text.as_str()) {
+        Ok(shown) => Ok(shown),
+        Err(Error::Memory(error)) => Err(error.into()),
+        Err(_) => Err("refused".into()),
+    }
+}
+
+#[test]
+fn names_are_displayed(rt: HostRuntime) -> Result<(), Fail> {
+    let alloc = rt.alloc();
+    for (name, wanted, is_in_2019) in NAMES {
+        assert_eq!(rt; debug_of(alloc, "2020-12", name)?.as_str(), wanted);
+        let older = debug_of(alloc, "2019-09", name)?;
+        assert_eq!(rt; older.as_str() == wanted, is_in_2019, "{older}");
+    }
+    let custom = debug_of(alloc, "2019-09", "x")?;
+    assert_eq!(rt;
+        custom.as_str(),
+        "Custom(Uri(\"https://json-schema.org/draft/2019-09/vocab/x\"))"
+    );
+    Ok(())
+}
+
 // Bits, and the set of them.
 const BITS: [(u16, &str); 6] = [
     (0, "[]"),

@@ -131,7 +131,13 @@ impl Eq for Vocabulary {
 /// The same vocabulary. That of a known one takes no memory and is not refused; another's URI is copied, and refused where
 /// there is no memory for its text.
 impl Clone for Vocabulary {
+    ghost use Rattle.std.specs.Prelude.{◌≡◌};
+    ghost use Rattle.ref_world.specs.Vocabularies.{Known, Standard};
+    ghost use Rattle.ref_vocabularies.specs.Views.{vocabulary_of};
+
     ghost is_clone = { λ vocabulary copy. copy ≡ vocabulary };
+
+    ghost is_infallible = { λ vocabulary. (k : Known) × (vocabulary_of vocabulary ≡ Standard k) };
 
     fn clone(&self) -> Result<Vocabulary, AllocError> {
         match self {

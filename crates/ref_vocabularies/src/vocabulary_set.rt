@@ -79,8 +79,8 @@ impl VocabularySet {
 
     /// Adds a vocabulary; one that is in the set already changes nothing.
     ///
-    /// Refused only for want of memory, which a custom one takes that isn't there; the set is then as it was. A custom one
-    /// is looked for by halving, and moves the URIs behind its place.
+    /// Refused only for want of memory, which a custom one takes that isn't there; the set is then as it was. A custom one is
+    /// looked for by binary search, and the URIs behind its place move by one.
     pub fn add(&mut self, alloc: Global, vocabulary: Vocabulary) -> Result<(), AllocError>
         ensures added { OnOk result (self.new ≡ with_vocabulary self.old (vocabulary_of vocabulary)) }
         ensures refused { OnErr result (self.new ≡ self.old) }
@@ -111,7 +111,7 @@ impl VocabularySet {
         }
     }
 
-    /// Whether a vocabulary is in the set. Takes no memory; a custom one is looked for by halving.
+    /// Whether a vocabulary is in the set. Takes no memory; a custom one is looked for by binary search.
     pub fn contains(&self, vocabulary: &Vocabulary) -> bool
         ensures value { result ≡ contains self.now (vocabulary_of vocabulary.now) }
     {
@@ -136,19 +136,28 @@ impl Default for VocabularySet {
 
 /// The same set. Refused only where there is no memory for the URIs of custom vocabularies; without such, it takes none.
 impl Clone for VocabularySet {
-    ghost use Rattle.std.specs.Prelude.{◌≡◌};
+    ghost use Rattle.std.specs.Prelude.{◌≡◌, []};
 
     ghost is_clone = { λ set copy. copy ≡ set };
 
+    ghost is_infallible = { λ set. set.customs ≡ [] };
+
     fn clone(&self) -> Result<VocabularySet, AllocError> {
-        let custom = match &self.custom {
-            Some(uris) => Some(uris.clone()?),
-            None => None,
+        let known = self.known;
+        let Some(uris) = &self.custom else {
+            return Ok(VocabularySet {
+                known,
+                custom: None,
+            });
         };
-        Ok(VocabularySet {
-            known: self.known,
-            custom,
-        })
+        if uris.is_empty() {
+            return Ok(VocabularySet {
+                known,
+                custom: None,
+            });
+        }
+        let custom = Some(uris.clone()?);
+        Ok(VocabularySet { known, custom })
     }
 }
 

@@ -6,6 +6,7 @@
 
 mod answer;
 mod builder;
+mod dialects;
 mod fragment;
 mod input;
 pub mod laws;
@@ -39,6 +40,9 @@ pub use ref_retrieve::{DefaultRetriever, Error, MapRetriever, Reason, Retrieve, 
 pub use ref_uri::{
     ParseError, ResolveError, ResolveFault, Uri, UriError, UriFault, UriParseFault, UriRef,
 };
+pub use ref_vocabularies::{
+    CustomIter, Dialect, Vocabulary, VocabularySet, declared_or_default, default_vocabularies,
+};
 pub use registry::Registry;
 pub use resolver::{Resolved, Resolver};
 pub use steps::{FollowError, Followed, Step, follow};
@@ -47,4 +51,9 @@ pub use steps::{FollowError, Followed, Step, follow};
 pub mod uri {
     pub use ref_parts::{EncodedBuffer, EncodedString};
     pub use ref_uri::uri::{from_str, resolve_against};
+}
+
+/// What a meta-schema declares under `$vocabulary`.
+pub mod vocabularies {
+    pub use ref_vocabularies::find;
 }

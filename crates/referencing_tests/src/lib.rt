@@ -23,3 +23,5 @@ mod resources;
 mod retrieval;
 #[cfg(test)]
 mod settings;
+#[cfg(test)]
+mod vocabularies;
