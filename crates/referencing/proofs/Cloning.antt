@@ -2,7 +2,6 @@
 use Rattle.std.proofs.Common.{◌≡◌, refl, ℕ, List, [], ◌∷◌, map}
 use Rattle.std.specs.List.{AllZip}
 use Rattle.ref_index.specs.Contents.{tree_of}
-use Rattle.ref_world.specs.Pending.{Pending}
 use Rattle.referencing.specs.declared.input.PendingResource.{PendingResource}
 use Rattle.referencing.specs.Builder.{pending_under}
 

@@ -1,11 +1,11 @@
 -- Which fault an error says, in a chain of answers.
-use Rattle.std.proofs.Common.{◌≡◌, Result, Ok, Err, sym, ap, ◌∙◌, subst}
+use Rattle.std.proofs.Common.{◌≡◌, Result, Ok, Err, sym, ap, subst}
 use Rattle.ref_uri.specs.Targets.{Refusal}
 use Rattle.ref_world.specs.Results.{◌>>=◌}
 use Rattle.ref_world.specs.Fault.{Fault, InvalidUri, as_invalid_uri}
 use Rattle.ref_retrieve.specs.declared.error.Error.{Error}
 use Rattle.ref_retrieve.specs.declared.error.Error.TheVariants as error
-use Rattle.ref_retrieve.specs.Errors.{SaysFault, IsFaultOf}
+use Rattle.ref_retrieve.specs.Errors.{IsFaultOf}
 use Rattle.ref_index.specs.Retrieval.{SaysOrMemory}
 
 -- an error that says the fault that an answer is

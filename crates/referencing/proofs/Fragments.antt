@@ -1,14 +1,13 @@
 -- What a fragment means, by its first character.
-use Rattle.std.proofs.Common.{◌≡◌, ℕ, Bool, true, false, arith, ◌<◌, length, eqb, List, [], ◌∷◌, Result, Ok, Err, refl, sym, ap, ◌∙◌}
+use Rattle.std.proofs.Common.{◌≡◌, ℕ, Bool, true, false, arith, ◌<◌, length, eqb, List, [], ◌∷◌, refl, sym, ap, ◌∙◌}
 use Rattle.std.proofs.lemmas.Bool.Decides.{Decides-eqb}
 use Rattle.serde_json.specs.View.{view}
-use Rattle.ref_draft.specs.Anchors.{Kind, Plain, Dynamic}
+use Rattle.ref_draft.specs.Anchors.{Dynamic}
 use Rattle.ref_world.specs.Results.{◌>>=◌}
 use Rattle.ref_world.specs.World.{World}
-use Rattle.ref_world.specs.Fault.{Fault}
 use Rattle.ref_world.specs.Places.{Place}
 use Rattle.ref_world.specs.Anchors.{Named, anchor}
-use Rattle.ref_world.specs.Lookup.{Resolver, Found, at_fragment, named_found, dynamically}
+use Rattle.ref_world.specs.Lookup.{Resolver, at_fragment, named_found, dynamically}
 use Rattle.referencing.specs.declared.located.Located.{Located}
 use Rattle.referencing.specs.Located.{IsLocated}
 use Rattle.referencing.specs.Resolving.{at_pointer}

@@ -1,5 +1,5 @@
 -- A lookup, by what its URI means; and the recursive one, URI by URI of the scope.
-use Rattle.std.proofs.Common.{◌≡◌, ℕ, suc, ◌+◌, arith, true, false, List, [], ◌∷◌, drop, take, codes, Option, Some, None, Result, Ok, Err, cond, refl, sym, ap, ◌∙◌}
+use Rattle.std.proofs.Common.{◌≡◌, ℕ, suc, ◌+◌, arith, true, false, List, [], ◌∷◌, drop, take, codes, Some, None, Result, Ok, Err, cond, refl, sym, ap, ◌∙◌}
 use Rattle.std.specs.List.{prefix_len, last_or}
 use Rattle.std.specs.Option.{ok_or, unwrap_or}
 use Rattle.ref_uri.specs.Targets.{target, fragment_part}

@@ -1,5 +1,5 @@
 -- The walk along a pointer, token by token, over plain values.
-use Rattle.std.proofs.Common.{◌≡◌, ◌↔◌, if◌then◌else◌, ℕ, Bool, true, false, cond, List, [], ◌∷◌, ◌++◌, Option, Some, None, Result, Ok, Err, eqb, refl, sym, ap, ◌∙◌, subst, bytes_eq, ok_or, All, IsUtf8}
+use Rattle.std.proofs.Common.{◌≡◌, ◌↔◌, if◌then◌else◌, ℕ, Bool, true, false, cond, List, [], ◌∷◌, ◌++◌, None, Result, Ok, Err, eqb, refl, sym, ap, ◌∙◌, All, IsUtf8}
 use Rattle.std.proofs.lemmas.Bool.{ne_eqb}
 use Rattle.std.proofs.lemmas.List.Elements.{All-from_get_or}
 use Rattle.std.proofs.lemmas.List.Splits.{slice_split_none, slice_split_at}
@@ -16,12 +16,11 @@ use Rattle.ref_draft.specs.Children.{is_object}
 use Rattle.ref_draft.specs.ScanSteps.{scan}
 use Rattle.ref_draft.specs.Scan.{IsAccepted}
 use Rattle.ref_draft.proofs.Scanning.{scan_accepts}
-use Rattle.ref_uri.specs.Targets.{Refusal}
 use Rattle.ref_world.specs.Results.{◌>>=◌}
 use Rattle.ref_world.specs.Places.{base_within}
 use Rattle.ref_world.specs.Fault.{Fault, InvalidPercentEncoding, as_invalid_uri}
 use Rattle.ref_world.specs.Bases.{Along, along_part, changed}
-use Rattle.ref_world.specs.Pointers.{index_of, step_into, walked_along}
+use Rattle.ref_world.specs.Pointers.{step_into, walked_along}
 use Rattle.ref_retrieve.specs.declared.error.Error.{Error}
 use Rattle.ref_retrieve.specs.Errors.{IsFaultOf}
 use Rattle.referencing.specs.Walking.{stepped, leads_to, pointed_to}
@@ -44,10 +43,10 @@ pub step_refused : (draft : Draft) (pointer : List ℕ) (along : Along) (value :
 step_refused draft pointer along value token s e is says =
     fault_as (as_invalid_uri (base_within along.base (if scan draft (is_object s.1) (along.since ++ s.0 ∷ []) then identifier draft s.1 else None))) (stepped draft pointer along value token) e
     (λ fault refused.
-        ap (λ a. a >>= λ t. as_invalid_uri (along_part draft along t.0 t.1) >>= λ next. Ok (t.1, next)) is
-        ∙ ap (λ a. a >>= λ next. Ok (s.1, next))
-          (refused_after (base_within along.base (if scan draft (is_object s.1) (along.since ++ s.0 ∷ []) then identifier draft s.1 else None))
-          (changed (record along { since = along.since ++ s.0 ∷ [] })) fault refused))
+    ap (λ a. a >>= λ t. as_invalid_uri (along_part draft along t.0 t.1) >>= λ next. Ok (t.1, next)) is
+    ∙ ap (λ a. a >>= λ next. Ok (s.1, next))
+    (refused_after (base_within along.base (if scan draft (is_object s.1) (along.since ++ s.0 ∷ []) then identifier draft s.1 else None))
+    (changed (record along { since = along.since ++ s.0 ∷ [] })) fault refused))
     says
 
 -- a base, which may be another

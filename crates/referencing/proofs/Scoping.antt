@@ -1,5 +1,5 @@
 -- A dynamic anchor, URI by URI of the dynamic scope.
-use Rattle.std.proofs.Common.{◌≡◌, ℕ, Bool, List, [], ◌∷◌, ◌++◌, filter, flat_map, Option, Some, None, Result, Ok, Err, refl, sym, ap, ◌∙◌}
+use Rattle.std.proofs.Common.{◌≡◌, ℕ, Bool, List, [], ◌∷◌, ◌++◌, filter, flat_map, Some, None, Result, Ok, Err, refl, sym, ap, ◌∙◌}
 use Rattle.std.specs.List.{last_or}
 use Rattle.std.specs.Option.{unwrap_or}
 use Rattle.std.proofs.lemmas.List.Elements.{filter-append}
@@ -41,7 +41,7 @@ goes_on r e m more es is =
     let (none, same) = no_fault (fault_of m) (filter dynamic (entry_of m)) es is in
     ap (λ faults. unless_fault (faults ++ flat_map fault_of more) (entry_found r (outermost e (entry_of m ++ flat_map entry_of more)))) none
     ∙ ap (λ xs. unless_fault (flat_map fault_of more) (entry_found r (unwrap_or (last_or None xs) e)))
-      (filter-append dynamic (entry_of m) (flat_map entry_of more) ∙ ap (λ xs. xs ++ filter dynamic (flat_map entry_of more)) same)
+    (filter-append dynamic (entry_of m) (flat_map entry_of more) ∙ ap (λ xs. xs ++ filter dynamic (flat_map entry_of more)) same)
 
 -- without a dynamic one the entry stays
 pub passed : (r : Resolver) (e : List ℕ × Named) (m : Meaning) (more : List Meaning) → dynamic_of m ≡ Ok [] → from_here r e (m ∷ more) ≡ from_here r e more

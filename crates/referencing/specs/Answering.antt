@@ -1,5 +1,5 @@
 -- What documents, a base and steps lead to: preparing, and then following.
-use Rattle.std.specs.Prelude.{◌≡◌, ℕ, List, Option, option_map, Result, Ok, ⊤}
+use Rattle.std.specs.Prelude.{◌≡◌, ℕ, List, Option, option_map, Ok, ⊤}
 use Rattle.serde_json.specs.Data.{Data}
 use Rattle.serde_json.specs.View.{view}
 use Rattle.serde_json.specs.declared.value.Value.{Value}

@@ -42,15 +42,14 @@ fn not_named(alloc: Global, name: &str) -> Error
 }
 
 // The entry of a name under the base of the place that a URI means, where that place has an identifier.
-fn named_by_identifier<'r>(
-    layers: &Layers<'r>,
-    uri: &str,
-    name: &str,
-) -> Option<LocatedName<'r>>
+fn named_by_identifier<'r>(layers: &Layers<'r>, uri: &str, name: &str) -> Option<LocatedName<'r>>
     ensures { MatchOption result (named_by_identifier (world_in layers.now) uri.now name.now ≡ None) (IsNamed (named_by_identifier (world_in layers.now) uri.now name.now)) }
 {
     let place = layers.resource(uri)?;
-    if ResourceRef::new(place.value, place.entry.draft).id().is_none() {
+    if ResourceRef::new(place.value, place.entry.draft)
+        .id()
+        .is_none()
+    {
         return None;
     }
     layers.named(place.entry.base.as_str(), name)
@@ -173,11 +172,7 @@ fn named_found<'r>(
 }
 
 // A value of a resource that a resolver is at.
-fn at_value<'r>(
-    contents: &'r Value,
-    draft: Draft,
-    resolver: Resolver<'r>,
-) -> Resolved<'r>
+fn at_value<'r>(contents: &'r Value, draft: Draft, resolver: Resolver<'r>) -> Resolved<'r>
     ensures found { found_of result ≡ record { value = view contents.now; draft = draft; resolver = resolver_of resolver.entry } }
     ensures world { world_found result ≡ world_of resolver.entry }
 {

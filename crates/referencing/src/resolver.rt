@@ -18,6 +18,7 @@ use ref_retrieve::Error;
 use ref_uri::{Uri, UriRef};
 use serde_json::Value;
 use std::alloc::{AllocError, Global};
+use std::fmt;
 use std::rc::Rc;
 
 /// Where a lookup starts from: a registry, a base URI, and the dynamic scope, which is the URIs passed so far, inner to outer
@@ -45,12 +46,7 @@ impl<'r> Resolver<'r> {
     }
 
     /// The URI that a text means against a base, as [`Registry::resolve_uri`] gives it.
-    pub fn resolve_uri(
-        &self,
-        alloc: Global,
-        base: UriRef<'_>,
-        uri: &str,
-    ) -> Result<Rc<Uri>, Error>
+    pub fn resolve_uri(&self, alloc: Global, base: UriRef<'_>, uri: &str) -> Result<Rc<Uri>, Error>
         ensures ok { IfOk result (λ u. against base.entry uri.now ≡ Ok u.value) }
         ensures fault { IfErr result (IsFaultOf (as_invalid_uri (against base.entry uri.now))) }
     {
@@ -203,4 +199,31 @@ impl<'r> Eq for Resolver<'r> {
     ghost use Rattle.referencing.specs.Comparing.{by_base};
 
     ghost laws = { by_base };
+}
+
+// Writes a URI, behind a separator where it is not the first.
+fn write_uri<W: fmt::Write>(f: &mut fmt::Formatter<W>, is_first: bool, uri: &str) -> fmt::Result {
+    let separator = if is_first { "" } else { ", " };
+    write!(f, "{separator}{uri}")
+}
+
+/// `Resolver { base_uri: "B", scopes: "[U, V]" }`, the scope from inner to outer.
+impl fmt::Debug for Resolver<'_> {
+    fn fmt<W: fmt::Write>(&self, f: &mut fmt::Formatter<W>) -> fmt::Result {
+        let base = self.base.as_str();
+        write!(f, "Resolver {{ base_uri: \"{base}\", scopes: \"[")?;
+        let mut is_first = true;
+        for uri in &self.scope {
+            write_uri(f, is_first, uri.as_str())?;
+            is_first = false;
+        }
+        write!(f, "]\" }}")
+    }
+}
+
+impl fmt::Debug for Resolved<'_> {
+    fn fmt<W: fmt::Write>(&self, f: &mut fmt::Formatter<W>) -> fmt::Result {
+        let (resolver, draft) = (&self.resolver, self.draft);
+        write!(f, "Resolved {{ resolver: {resolver:?}, draft: {draft:?} }}")
+    }
 }

@@ -50,7 +50,11 @@ fn after_lookup<'r>(found: Resolved<'r>) -> Followed<'r>
 }
 
 // One step further.
-fn stepped<'r>(alloc: Global, followed: Followed<'r>, step: &Step<'_>) -> Result<Followed<'r>, Error>
+fn stepped<'r>(
+    alloc: Global,
+    followed: Followed<'r>,
+    step: &Step<'_>,
+) -> Result<Followed<'r>, Error>
     ensures ok { IfOk result (λ f. world.stepped (world_of followed.entry.resolver) (followed_of followed.entry) (step_of step.now) ≡ Ok (followed_of f)) }
     ensures world { IfOk result (λ f. world_of f.resolver ≡ world_of followed.entry.resolver) }
     ensures fault { IfErr result (IsFaultOf (world.stepped (world_of followed.entry.resolver) (followed_of followed.entry) (step_of step.now))) }
@@ -100,13 +104,22 @@ pub fn follow<'r, 'a>(
 {
     let resolver = match registry.resolver(alloc, base) {
         Ok(resolver) => resolver,
-        Err(error) => return Err(FollowError { step: 0, error: error.into() }),
+        Err(error) => return Err(FollowError {
+            step: 0,
+            error: error.into(),
+        }),
     };
-    let mut followed = Followed { last: None, resolver };
+    let mut followed = Followed {
+        last: None,
+        resolver,
+    };
     for (number, step) in steps.iter().enumerate() {
         followed = match stepped(alloc, followed, step) {
             Ok(next) => next,
-            Err(error) => return Err(FollowError { step: number, error }),
+            Err(error) => return Err(FollowError {
+                step: number,
+                error,
+            }),
         };
     }
     Ok(followed)

@@ -1,11 +1,8 @@
-use Rattle.std.proofs.Common.{◌≡◌, ℕ, List, ◌∷◌, Result, IfOk, IfErr, Ok, lit<, arith, sym, ap, subst, ◌∙◌, rules}
+use Rattle.std.proofs.Common.{◌≡◌, IfOk, IfErr, Ok, lit<, arith, sym, subst, ◌∙◌, rules}
 use Rattle.std.proofs.lemmas.Str.Pattern.{strip_prefix_char}
 use Rattle.std.proofs.lemmas.Bool.Decides.{nat_tests}
-use Rattle.serde_json.specs.View.{view}
-use Rattle.ref_world.specs.Results.{◌>>=◌}
-use Rattle.ref_world.specs.Anchors.{Named, anchor}
-use Rattle.ref_world.specs.Fault.{Fault}
-use Rattle.ref_world.specs.Lookup.{at_fragment, named_found}
+use Rattle.ref_world.specs.Anchors.{anchor}
+use Rattle.ref_world.specs.Lookup.{named_found}
 use Rattle.ref_retrieve.specs.Errors.{IsFaultOf}
 use Rattle.referencing.specs.Resolving.{resolver_of, world_of, found_of}
 use Rattle.referencing.proofs.Faults.{fault_ends, goes_on}

@@ -1,8 +1,7 @@
-use Rattle.std.proofs.Common.{◌≡◌, IfErr, sym, ap, subst, ◌∙◌, rules}
+use Rattle.std.proofs.Common.{◌≡◌, IfErr, sym, ap, subst, ◌∙◌}
 use Rattle.ref_draft.specs.Anchors.{Dynamic}
 use Rattle.ref_world.specs.Lookup.{by_scope, in_scope}
 use Rattle.ref_retrieve.specs.Errors.{IsFaultOf}
-use Rattle.ref_index.specs.Found.{kind_of}
 use Rattle.referencing.specs.Resolving.{resolver_of, world_of}
 use Rattle.referencing.proofs.Fragments.{dynamic_there}
 use Rattle.referencing.proofs.fragment.named_found.Goals as goal

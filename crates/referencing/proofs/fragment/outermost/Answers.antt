@@ -1,10 +1,9 @@
-use Rattle.std.proofs.Common.{◌≡◌, ℕ, List, Result, [], ◌∷◌, IfOk, IfErr, Ok, sym, ap, subst, ◌∙◌, rules}
-use Rattle.serde_json.specs.View.{view}
+use Rattle.std.proofs.Common.{◌≡◌, ℕ, List, Result, [], IfOk, IfErr, Ok, sym, ap, subst, ◌∙◌, rules}
 use Rattle.ref_world.specs.Fault.{Fault}
 use Rattle.ref_world.specs.Anchors.{Named, anchor}
-use Rattle.ref_world.specs.Lookup.{by_scope, in_scope, entry_found}
+use Rattle.ref_world.specs.Lookup.{by_scope, in_scope}
 use Rattle.ref_retrieve.specs.Errors.{IsFaultOf}
-use Rattle.referencing.specs.Resolving.{resolver_of, world_of, found_of, under_uri}
+use Rattle.referencing.specs.Resolving.{resolver_of, world_of, found_of}
 use Rattle.referencing.specs.Scoped.{dynamic_under}
 use Rattle.referencing.proofs.Faults.{fault_as}
 use Rattle.referencing.proofs.Scoping.{from_here, passed, taken, ended, found_under}
@@ -25,35 +24,39 @@ returns-in_err-found-clause-fault c = λ n is.
     search rules
 
 pub loop-outer-preserved-in-Some-2 : goal.loop-outer-preserved-in-Some-2
-loop-outer-preserved-in-Some-2 c =
-    (λ n is.
-        let r = resolver_of c.args.resolver.now in
-        let w = world_of c.args.resolver.now in
-        let name = c.args.name.now in
-        let (m, same, at) = c.loop-outer.invariant.0 n is in
-        let e : List ℕ × Named = (c.loop-outer.uri.now, m) in
-        let here : List ℕ × Result Named Fault = (c.in-Some.outer.now, anchor w c.in-Some.outer.now name) in
-        let more = in_scope w name c.next.new.self in
-        let left = ap (λ xs. from_here r e (in_scope w name xs)) c.in-Some.ensures.steps in
-        let uri : c.as_str.result.now ≡ c.in-Some.outer.now = search rules in
-        let (d, dynamic, there) = rw (c.in-Some-2.is, uri) at c.in_ok-found.ensures.ok in
-        (d, same ∙ left ∙ taken r e (c.in-Some.outer.now, d) here more dynamic, there)
-    , tt, tt)
+loop-outer-preserved-in-Some-2 c = (
+  λ n is.
+      let r = resolver_of c.args.resolver.now in
+      let w = world_of c.args.resolver.now in
+      let name = c.args.name.now in
+      let (m, same, at) = c.loop-outer.invariant.0 n is in
+      let e : List ℕ × Named = (c.loop-outer.uri.now, m) in
+      let here : List ℕ × Result Named Fault = (c.in-Some.outer.now, anchor w c.in-Some.outer.now name) in
+      let more = in_scope w name c.next.new.self in
+      let left = ap (λ xs. from_here r e (in_scope w name xs)) c.in-Some.ensures.steps in
+      let uri : c.as_str.result.now ≡ c.in-Some.outer.now = search rules in
+      let (d, dynamic, there) = rw (c.in-Some-2.is, uri) at c.in_ok-found.ensures.ok in
+      (d, same ∙ left ∙ taken r e (c.in-Some.outer.now, d) here more dynamic, there),
+  tt,
+  tt,
+)
 
 pub loop-outer-preserved : goal.loop-outer-preserved
-loop-outer-preserved c =
-    (λ n is.
-        let r = resolver_of c.args.resolver.now in
-        let w = world_of c.args.resolver.now in
-        let name = c.args.name.now in
-        let (m, same, at) = c.loop-outer.invariant.0 n is in
-        let e : List ℕ × Named = (c.loop-outer.uri.now, m) in
-        let here : List ℕ × Result Named Fault = (c.in-Some.outer.now, anchor w c.in-Some.outer.now name) in
-        let more = in_scope w name c.next.new.self in
-        let left = ap (λ xs. from_here r e (in_scope w name xs)) c.in-Some.ensures.steps in
-        let none : dynamic_under w c.in-Some.outer.now name ≡ Ok [] = search rules in
-        (m, same ∙ left ∙ passed r e here more none, at)
-    , tt, tt)
+loop-outer-preserved c = (
+  λ n is.
+      let r = resolver_of c.args.resolver.now in
+      let w = world_of c.args.resolver.now in
+      let name = c.args.name.now in
+      let (m, same, at) = c.loop-outer.invariant.0 n is in
+      let e : List ℕ × Named = (c.loop-outer.uri.now, m) in
+      let here : List ℕ × Result Named Fault = (c.in-Some.outer.now, anchor w c.in-Some.outer.now name) in
+      let more = in_scope w name c.next.new.self in
+      let left = ap (λ xs. from_here r e (in_scope w name xs)) c.in-Some.ensures.steps in
+      let none : dynamic_under w c.in-Some.outer.now name ≡ Ok [] = search rules in
+      (m, same ∙ left ∙ passed r e here more none, at),
+  tt,
+  tt,
+)
 
 pub returns-clause-ok : goal.returns-clause-ok
 returns-clause-ok c = λ n is.

@@ -1,4 +1,4 @@
-use Rattle.std.proofs.Common.{◌≡◌, [], map, drop, None}
+use Rattle.std.proofs.Common.{◌≡◌, [], map, drop}
 use Rattle.ref_world.specs.Pending.{extended}
 use Rattle.referencing.specs.Builder.{seen, holding, new_builder}
 use Rattle.referencing.specs.MetaSchemas.{meta_addition}

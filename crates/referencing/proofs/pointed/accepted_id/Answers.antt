@@ -1,8 +1,6 @@
-use Rattle.std.proofs.Common.{◌≡◌, Some, None, true, false, cond, sym, ap, ◌∙◌, rules}
+use Rattle.std.proofs.Common.{◌≡◌, Some, None, cond, sym, ap, ◌∙◌, rules}
 use Rattle.serde_json.specs.View.{view}
 use Rattle.ref_draft.specs.Schema.{identifier}
-use Rattle.ref_draft.specs.Children.{is_object}
-use Rattle.ref_draft.specs.ScanSteps.{scan}
 use Rattle.referencing.proofs.Pointing.{scan_tells}
 use Rattle.referencing.proofs.pointed.accepted_id.Goals as goal
 

@@ -1,4 +1,4 @@
-use Rattle.std.proofs.Common.{◌≡◌, Ok, IfOk, IfErr, ap, sym, subst, ◌∙◌}
+use Rattle.std.proofs.Common.{◌≡◌, Ok, IfOk, IfErr, ap, subst, ◌∙◌}
 use Rattle.percent_encoding.specs.Percent.{percent_decode}
 use Rattle.percent_encoding.specs.Iter.{decoded_bytes}
 use Rattle.serde_json.specs.View.{view}

@@ -1,4 +1,4 @@
-use Rattle.std.proofs.Common.{◌≡◌, ◌∷◌, ◌++◌, [], None, if◌then◌else◌, Ok, rules, sym, ap, subst, ◌∙◌}
+use Rattle.std.proofs.Common.{◌≡◌, ◌∷◌, ◌++◌, [], None, if◌then◌else◌, rules, subst}
 use Rattle.serde_json.specs.View.{view}
 use Rattle.ref_draft.specs.Schema.{identifier}
 use Rattle.ref_draft.specs.Children.{is_object}
@@ -6,10 +6,9 @@ use Rattle.ref_draft.specs.ScanSteps.{scan}
 use Rattle.ref_draft.specs.Views.{part_of}
 use Rattle.ref_world.specs.Places.{base_within}
 use Rattle.ref_world.specs.Fault.{as_invalid_uri}
-use Rattle.ref_world.specs.Pointers.{step_into}
 use Rattle.ref_retrieve.specs.Errors.{IsFaultOf}
-use Rattle.referencing.specs.Walking.{along_of, stepped}
-use Rattle.referencing.proofs.Pointing.{step_refused, step_along}
+use Rattle.referencing.specs.Walking.{along_of}
+use Rattle.referencing.proofs.Pointing.{step_refused}
 use Rattle.referencing.proofs.pointed.step.Goals as goal
 
 pub returns-in_err-uri-clause-fault : goal.returns-in_err-uri-clause-fault

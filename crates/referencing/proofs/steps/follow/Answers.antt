@@ -1,4 +1,4 @@
-use Rattle.std.proofs.Common.{◌≡◌, map, sym, arith, ◌∙◌}
+use Rattle.std.proofs.Common.{map, arith, ◌∙◌}
 use Rattle.ref_world.specs.Follow.{followed}
 use Rattle.referencing.specs.Resolving.{resolver_of}
 use Rattle.referencing.specs.Following.{followed_of, step_of}
@@ -12,13 +12,13 @@ pub returns-in-Err-stepped-clause-fault : goal.returns-in-Err-stepped-clause-fau
 returns-in-Err-stepped-clause-fault c =
     let l = c.loop-number in
     followed_stop c.args.registry.now l.number (followed_of l.followed) c.args.steps.now c.index-steps-number.result c.in-Err-stepped.error (followed c.args.registry.now c.args.base (map step_of c.args.steps.now))
-        c.loop-number-test.true c.index-steps-number.is l.invariant.0 (rw l.invariant.1 at c.in-Err-stepped.ensures.fault)
+    c.loop-number-test.true c.index-steps-number.is l.invariant.0 (rw l.invariant.1 at c.in-Err-stepped.ensures.fault)
 
 pub loop-number-preserved : goal.loop-number-preserved
 loop-number-preserved c =
     let l = c.loop-number in
     let on = followed_next c.args.registry.now l.number (followed_of l.followed) (followed_of c.in-Ok-stepped.next) c.args.steps.now c.index-steps-number.result
-        c.loop-number-test.true c.index-steps-number.is (rw l.invariant.1 at c.in-Ok-stepped.ensures.ok) in
+    c.loop-number-test.true c.index-steps-number.is (rw l.invariant.1 at c.in-Ok-stepped.ensures.ok) in
     (l.invariant.0 ∙ on, c.in-Ok-stepped.ensures.world ∙ l.invariant.1)
 
 pub returns-clause-ok : goal.returns-clause-ok

@@ -1,8 +1,7 @@
 use Rattle.std.proofs.Common.{◌≡◌, ℕ, List, IfOk, IfErr, Ok, None, sym, ap, subst, ◌∙◌, rules}
-use Rattle.ref_uri.specs.Targets.{target}
 use Rattle.ref_world.specs.Fault.{not_retrieved}
 use Rattle.ref_world.specs.Resources.{means}
-use Rattle.ref_world.specs.Lookup.{lookup, moved, at_fragment}
+use Rattle.ref_world.specs.Lookup.{lookup}
 use Rattle.ref_retrieve.specs.Errors.{IsFaultOf}
 use Rattle.referencing.specs.Resolving.{resolver_of, world_of, found_of}
 use Rattle.referencing.proofs.Faults.{says_of}

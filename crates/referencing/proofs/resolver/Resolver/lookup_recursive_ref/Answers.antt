@@ -1,6 +1,5 @@
-use Rattle.std.proofs.Common.{◌≡◌, ◌∷◌, List, ℕ, map, Result, Ok, true, false, sym, ap, subst, ◌∙◌, rules}
-use Rattle.ref_world.specs.Fault.{Fault}
-use Rattle.ref_world.specs.Lookup.{Found, lookup}
+use Rattle.std.proofs.Common.{◌≡◌, map, Ok, true, false, sym, ap, subst, ◌∙◌, rules}
+use Rattle.ref_world.specs.Lookup.{lookup}
 use Rattle.ref_world.specs.Recursive.{is_marked, lookup_recursive, outermost_marked}
 use Rattle.ref_retrieve.specs.Errors.{IsFaultOf}
 use Rattle.referencing.specs.Resolving.{resolver_of, world_of, found_of}
@@ -31,13 +30,14 @@ loop-uri-preserved c =
     let first = found_of c.loop-uri.resolved in
     let marked : is_marked (found_of c.in_ok-outer.outer).value ≡ true = search rules in
     let text : c.as_str.result.now ≡ c.in-Some.uri.now = search rules in
-    let there : lookup w r c.in-Some.uri.now ≡ Ok (found_of c.in_ok-outer.outer) = ap (lookup w r) (sym text) ∙ c.in_ok-outer.ensures.ok in
-    ( c.loop-uri.invariant.0
-      ∙ ap (λ xs. outermost_marked (Ok first) (map (lookup w r) xs)) c.in-Some.ensures.steps
-      ∙ marked_turn first (found_of c.in_ok-outer.outer) (lookup w r c.in-Some.uri.now) (map (lookup w r) c.next.new.self) there marked
-    , search rules
-    , tt
-    , tt )
+    let there : lookup w r c.in-Some.uri.now ≡ Ok (found_of c.in_ok-outer.outer) = ap (lookup w r) (sym text) ∙ c.in_ok-outer.ensures.ok in (
+      c.loop-uri.invariant.0
+          ∙ ap (λ xs. outermost_marked (Ok first) (map (lookup w r) xs)) c.in-Some.ensures.steps
+          ∙ marked_turn first (found_of c.in_ok-outer.outer) (lookup w r c.in-Some.uri.now) (map (lookup w r) c.next.new.self) there marked,
+      search rules,
+      tt,
+      tt,
+    )
 
 pub returns-in_err-outer-clause-fault : goal.returns-in_err-outer-clause-fault
 returns-in_err-outer-clause-fault c =
@@ -47,8 +47,8 @@ returns-in_err-outer-clause-fault c =
     let text : c.as_str.result.now ≡ c.in-Some.uri.now = search rules in
     let left = c.loop-uri.invariant.0 ∙ ap (λ xs. outermost_marked (Ok first) (map (lookup w r) xs)) c.in-Some.ensures.steps in
     let fault = fault_as (lookup w r c.in-Some.uri.now) (lookup_recursive w r) c.in_err-outer.field-0.0
-        (λ f is. left ∙ fault_turn first f (lookup w r c.in-Some.uri.now) (map (lookup w r) c.next.new.self) is)
-        (subst (λ u. IsFaultOf (lookup w r u) c.in_err-outer.field-0.0) text c.in_err-outer.ensures.fault) in
+    (λ f is. left ∙ fault_turn first f (lookup w r c.in-Some.uri.now) (map (lookup w r) c.next.new.self) is)
+    (subst (λ u. IsFaultOf (lookup w r u) c.in_err-outer.field-0.0) text c.in_err-outer.ensures.fault) in
     search rules
 
 pub returns-then-not-is_marked-2-clause-ok : goal.returns-then-not-is_marked-2-clause-ok
