@@ -25,3 +25,5 @@ mod retrieval;
 mod settings;
 #[cfg(test)]
 mod vocabularies;
+#[cfg(test)]
+mod vocabularies_at_bases;
