@@ -10,6 +10,8 @@ mod documents;
 #[cfg(test)]
 mod kinds;
 #[cfg(test)]
+mod lookups;
+#[cfg(test)]
 mod meta_schemas;
 #[cfg(test)]
 mod outcomes;
