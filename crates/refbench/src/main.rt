@@ -3,7 +3,9 @@
 //! the same on every run; `docs/DEVELOPING.md` says how it is run under `valgrind --tool=callgrind`, and what it showed.
 #![tactic(auto)]
 
+mod indexes;
 mod parts;
+mod registries;
 mod vocabularies;
 
 use anyhow::Context;
@@ -92,6 +94,12 @@ fn answer(alloc: Global, line: &str) -> anyhow::Result<u64> {
         return Ok(sum);
     }
     if let Some(sum) = vocabularies::answer(alloc, line)? {
+        return Ok(sum);
+    }
+    if let Some(sum) = registries::answer(alloc, line)? {
+        return Ok(sum);
+    }
+    if let Some(sum) = indexes::answer(alloc, line)? {
         return Ok(sum);
     }
     let mut words = line.split_whitespace();

@@ -4,6 +4,8 @@
 #![tactic(auto)]
 
 #[cfg(test)]
+mod anchors;
+#[cfg(test)]
 mod asserts;
 #[cfg(test)]
 mod documents;
@@ -19,6 +21,8 @@ mod outcomes;
 mod parents;
 #[cfg(test)]
 mod places;
+#[cfg(test)]
+mod pointers;
 #[cfg(test)]
 mod resources;
 #[cfg(test)]

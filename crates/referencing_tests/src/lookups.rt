@@ -168,8 +168,8 @@ fn shown(alloc: Global, followed: &Followed<'_>) -> Result<String, Fail> {
     }
 }
 
-// Where steps lead, or the number and the text of a fault.
-fn led(
+/// Where steps lead, or the number and the text of a fault.
+pub fn led(
     alloc: Global,
     registry: &Registry<'_>,
     base: &str,
@@ -184,7 +184,8 @@ fn led(
     }
 }
 
-fn led_in(alloc: Global, row: &(Draft, &str, &str, &str, &str)) -> Result<String, Fail> {
+/// The same of a row: a draft, documents, a base, and steps with a bar between them.
+pub fn led_in(alloc: Global, row: &(Draft, &str, &str, &str, &str)) -> Result<String, Fail> {
     let builder = Registry::new(alloc).draft(row.0);
     let registry = prepared(builder, listed(alloc, row.1)?).map_err(failed)?;
     led(alloc, &registry, row.2, steps_of(alloc, row.3)?.as_slice())
