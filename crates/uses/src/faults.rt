@@ -10,7 +10,8 @@ pub fn step_text(alloc: Global, fault: &FollowError) -> Result<String, AllocErro
     ensures text { IfOk result (λ text. string_bytes text ≡ codes "step " ++ decimal fault.now.step ++ codes ": " ++ error_text fault.now.error) }
 {
     let (step, error) = (fault.step, &fault.error);
-    format!(in alloc; "step {step}: {error}")
+    let text = format!(in alloc; "step {step}: {error}")?;
+    Ok(text)
 }
 
 /// What is shown of a question: the text of its fault, with the number of the step where it is one of following, or `found`.

@@ -1,5 +1,4 @@
 //! Each use, run once.
-use crate::bundler::references;
 use crate::dialect::vocabularies_of;
 use crate::editor::value_and_base;
 use crate::faults::shown;
@@ -51,29 +50,6 @@ fn a_validator_follows_references(rt: HostRuntime) -> Result<(), Fail> {
     same(&rt, found.as_str(), r#"{"type":"string"}"#);
     let found = validated(alloc, document, r#"{"$ref":1}"#)?;
     same(&rt, found.as_str(), "none");
-    Ok(())
-}
-
-// The URIs that the subschemas of a schema refer to.
-fn bundled(alloc: Global, schema: &str) -> Result<String, Fail> {
-    let value = Value::from_str(alloc, "true")?;
-    let schema = Value::from_str(alloc, schema)?;
-    let registry = registry_of(alloc, "http://a/r", &value)?;
-    let resolver = registry.resolver(alloc, from_str(alloc, "http://a/r")?)?;
-    let uris = references(alloc, &resolver, Draft::Draft202012, &schema).map_err(failed)?;
-    let mut text = String::new(alloc);
-    for uri in uris.iter() {
-        text.push_str(uri.as_str())?;
-        text.push(' ')?;
-    }
-    Ok(text)
-}
-
-#[test]
-fn a_bundler_lists_references(rt: HostRuntime) -> Result<(), Fail> {
-    let schema = r#"{"items":{"$ref":"x"},"not":{"$id":"http://b/k/","$ref":"y"},"title":"no reference"}"#;
-    let found = bundled(rt.alloc(), schema)?;
-    same(&rt, found.as_str(), "http://a/x http://b/k/y ");
     Ok(())
 }
 
