@@ -1,7 +1,7 @@
 -- What `src/table.rt` rests on: what sorting and dropping repeats keep of the last entry that a test finds.
 use Rattle.std.proofs.Common.{◌≡◌, ℕ, zero, suc, ◌+◌, ◌<◌, Bool, true, false, not, ◌&&◌, ◌||◌, cond, eqb, map, String, string_bytes, bytes_eq, option_map, List, [], ◌∷◌, ◌++◌, length, get_or, take, drop, reverse, Option, Some, None, is_some, ◌⊎◌, inl, inr, ⊎_elim, refl, sym, ap, ◌∙◌, subst, append-nil, arith}
 use Rattle.std.proofs.lemmas.Bool.{false≢true, cond-false}
-use Rattle.std.proofs.lemmas.Cmp.{nat_list_cmp_total, then_total, on_total, eq_by_cmp_equiv}
+use Rattle.std.proofs.lemmas.Cmp.{nat_list_cmp_total, then_total, on_total, back_total, eq_by_cmp_equiv}
 use Rattle.std.proofs.lemmas.List.Kept.{IsStrictlySortedBy-dedup}
 use Rattle.std.proofs.lemmas.List.Sorted.{ranks_by}
 use Rattle.std.specs.Cmp.{IsTotalOrder, IsStrictWeakOrder, Equal-is, both_tied}
@@ -223,12 +223,12 @@ last_or-map f u o (t ∷ ts) =
 -- ---- keys
 
 pub key_total : IsTotalOrder key_cmp
-key_total = then_total (on_total (λ k. k.0) nat_cmp_total) (on_total (λ k. k.1) pair_total)
+key_total = back_total (then_total (on_total (λ k. k.0) nat_cmp_total) (on_total (λ k. k.1) pair_total))
 
 pub key_cmp-IsAntisymmetric : IsAntisymmetric key_cmp
 key_cmp-IsAntisymmetric p q e =
-    let parts = then_parts (nat_cmp p.0 q.0) (pair_cmp p.1 q.1) e in
-    λ i. (nat_cmp-IsAntisymmetric p.0 q.0 parts.0 i, pair_cmp-IsAntisymmetric p.1 q.1 parts.1 i)
+    let parts = then_parts (nat_cmp q.0 p.0) (pair_cmp q.1 p.1) e in
+    sym (λ i. (nat_cmp-IsAntisymmetric q.0 p.0 parts.0 i, pair_cmp-IsAntisymmetric q.1 p.1 parts.1 i))
 
 then_less : (o : Ordering) → is_eq (ordering_then o Less) ≡ false
 then_less Less = refl
@@ -243,11 +243,11 @@ then_greater Greater = refl
 -- a number that the first text tells doesn't tell equal pairs apart
 equal_keys : (shared w : ℕ) (p q : List ℕ × List ℕ) → w ≡ word_at shared p.0 → eq_by_cmp pair_cmp p q ≡ eq_by_cmp key_cmp (w, p) (word_at shared q.0, q)
 equal_keys shared w p q is =
-    let number : Ordering = nat_cmp w (word_at shared q.0) in
-    elim (pair_cmp p q) as (λ o. pair_cmp p q ≡ o → is_eq o ≡ is_eq (ordering_then number o)) [
+    let number : Ordering = nat_cmp (word_at shared q.0) w in
+    (eq_by_cmp_equiv pair_total).symm p q ∙ elim (pair_cmp q p) as (λ o. pair_cmp q p ≡ o → is_eq o ≡ is_eq (ordering_then number o)) [
       | Less ↦ λ _. sym (then_less number)
       | Equal ↦ λ e.
-          let same : number ≡ Equal = ap (λ k. nat_cmp k (word_at shared q.0)) (is ∙ ap (λ r. word_at shared r.0) (pair_cmp-IsAntisymmetric p q e)) ∙ tied_itself nat_cmp_total (word_at shared q.0) in
+          let same : number ≡ Equal = ap (nat_cmp (word_at shared q.0)) (is ∙ ap (λ r. word_at shared r.0) (sym (pair_cmp-IsAntisymmetric q p e))) ∙ tied_itself nat_cmp_total (word_at shared q.0) in
           sym (ap (λ n. is_eq (ordering_then n Equal)) same)
       | Greater ↦ λ _. sym (then_greater number)
     ] refl
@@ -349,7 +349,8 @@ module _ {V : Type 0} where
 
   same_is : (x y : Slot V) → same_slots x y ≡ eq_by_cmp key_cmp (key_of x) (key_of y)
   same_is x y =
-      both_tied (eqb x.word y.word) _ (nat_cmp x.word y.word) (pair_cmp (pair_of x.entry) (pair_of y.entry)) (unsigned_ties x.word y.word) (equal_pairs (string_bytes x.entry.0) (string_bytes x.entry.1) (string_bytes y.entry.0) (string_bytes y.entry.1))
+      both_tied (eqb x.word y.word) _ (nat_cmp y.word x.word) (pair_cmp (pair_of y.entry) (pair_of x.entry)) (unsigned_ties x.word y.word ∙ (eq_by_cmp_equiv nat_cmp_total).symm x.word y.word)
+      (equal_pairs (string_bytes x.entry.0) (string_bytes x.entry.1) (string_bytes y.entry.0) (string_bytes y.entry.1) ∙ (eq_by_cmp_equiv pair_total).symm (pair_of x.entry) (pair_of y.entry))
 
   pub keeps_last : (shared : ℕ) (entered : List (Tuple V)) (back sorted kept : List (Slot V)) → back ≡ map (slot_of shared) (reverse entered) → IsPermutation back sorted → IsSortedBy slot_lt sorted → IsStableBy slot_lt back sorted → kept ≡ dedup same_slots sorted → KeepsLast shared kept entered
   keeps_last shared entered back sorted kept turned moved ascends stable once =

@@ -8,9 +8,9 @@ use std::cmp::Ordering;
 use std::marker::Model;
 use std::snapshot::Snapshot;
 
-/// Values under pairs of texts, which are found by halving: they stand in byte order, by the first text and by the second
-/// where the first are equal, each pair once. Beside each stand eight bytes of its first text, behind the beginning that all
-/// first texts have in common, as a number: most comparisons are of two such numbers.
+/// Values under pairs of texts, which are found by halving: they stand in byte order, the greatest first, by the first text and
+/// by the second where the first are equal, each pair once. Beside each stand eight bytes of its first text, behind the beginning
+/// that all first texts have in common, as a number: most comparisons are of two such numbers.
 ///
 /// Contracts see the list of the entries that it was made from.
 #[derive(Drop)]
@@ -54,7 +54,8 @@ impl<V: Drop> SortedTable<V> {
     {
         let entered = Snapshot::of(&entries);
         let shared = shared_len(entries.as_slice());
-        // Sorting keeps the order of equal pairs, and of these the first stays.
+        // Sorting keeps the order of equal pairs, and of these the first stays. Entries that came in byte order fall now, and need
+        // only be passed.
         let mut kept = slots_backwards(alloc, entries, shared)?;
         kept.as_mut_slice().sort_by(
             alloc,
@@ -173,12 +174,13 @@ fn probe<V>(slot: &Slot<V>, word: u64, first: &str, second: &str, probes: &mut u
     order(slot, word, first, second)
 }
 
-// The order of an entry and two texts with the word of the first: by the words, and by the texts where those are equal.
+// Whether an entry stands before two texts with the word of the first: by the words, and by the texts where those are equal, the
+// greatest first.
 fn order<V>(slot: &Slot<V>, word: u64, first: &str, second: &str) -> Ordering
     ensures { result ≡ key_cmp (key_of slot.now) (word, (first.now, second.now)) }
 {
-    match slot.word.cmp(&word) {
-        Ordering::Equal => by_texts(slot.entry.0.as_str(), slot.entry.1.as_str(), first, second),
+    match word.cmp(&slot.word) {
+        Ordering::Equal => by_texts(first, second, slot.entry.0.as_str(), slot.entry.1.as_str()),
         unequal => unequal,
     }
 }

@@ -37,9 +37,9 @@ Key = ℕ × (List ℕ × List ℕ)
 abbrev pub key_of : {V : Type 0} → Slot V → Key
 key_of s = (s.word, pair_of s.entry)
 
--- the order of keys: by the numbers, and by the texts where those are equal
+-- the order of keys, the greatest first: by the numbers, and by the texts where those are equal
 abbrev pub key_cmp : Key → Key → Ordering
-key_cmp p q = ordering_then (nat_cmp p.0 q.0) (pair_cmp p.1 q.1)
+key_cmp p q = ordering_then (nat_cmp q.0 p.0) (pair_cmp q.1 p.1)
 
 -- the tuple with the number of its first text
 abbrev pub slot_of : {V : Type 0} → ℕ → String Global × String Global × V → Slot V
