@@ -5,7 +5,7 @@ use Rattle.std.specs.List.{Contains}
 use Rattle.std.proofs.lemmas.List.{drop_all, map-append}
 use Rattle.std.proofs.lemmas.List.Elements.{Contains-append_right}
 use Rattle.ref_world.specs.World.{Document}
-use Rattle.ref_world.specs.Places.{Place, root, children_of, places}
+use Rattle.ref_world.specs.Places.{root, children_of, places}
 use Rattle.ref_world.specs.Listing.{Listed, listed}
 use Rattle.ref_index.specs.declared.queue.Visit.{Visit}
 use Rattle.ref_index.specs.Queue.{place_of, IsQueue, IsListedTo}

@@ -33,10 +33,11 @@ pub fn levels_end_at_the_depth()
 {}
 
 /// Where each object of a document has each key once, each place of it has its value at its path, the paths of places differ,
-/// and each child of a place stands at its path there.
+/// and each child of a place stands at its path there. Where the children do, so do the places.
 pub fn places_stand_at_their_paths()
     ensures values { (d : Document) → HasUniqueKeys d.tree → AllByRecursion (λ p. value_at d.tree p.path ≡ Some p.value) (places d) }
     ensures children { (d : Document) → HasUniqueKeys d.tree → ChildrenStand d }
+    ensures standing { (d : Document) → ChildrenStand d → AllByRecursion (λ p. value_at d.tree p.path ≡ Some p.value) (places d) }
     ensures paths { (d : Document) → HasUniqueKeys d.tree → AllPairs (λ p q. ¬ (p ≡ q)) (map (λ p. p.path) (places d)) }
 {}
 

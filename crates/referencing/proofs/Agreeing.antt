@@ -1,9 +1,10 @@
 -- Paths from resources that the pointer and the keywords read alike.
-use Rattle.std.proofs.Common.{◌≡◌, ◌∙◌, ℕ, List, [], ◌∷◌, ◌++◌, Result, Ok, Err, IfOk, IfErr, sym, arith}
+use Rattle.std.proofs.Common.{◌≡◌, ◌∙◌, ℕ, List, [], ◌∷◌, ◌++◌, Some, Result, Ok, Err, IfOk, IfErr, sym, arith}
 use Rattle.std.specs.List.{Contains}
-use Rattle.ref_parts.specs.Path.{Part}
+use Rattle.std.proofs.lemmas.List.Elements.{All-contains, All-from_recursion}
+use Rattle.ref_parts.specs.Path.{Part, value_at}
 use Rattle.ref_world.specs.World.{Document, World}
-use Rattle.ref_world.specs.Places.{Place}
+use Rattle.ref_world.specs.Places.{Place, places}
 use Rattle.ref_world.specs.Wants.{faults}
 use Rattle.ref_world.specs.Fault.{Fault}
 use Rattle.ref_world.specs.Lookup as world
@@ -11,6 +12,7 @@ use Rattle.ref_world.specs.Lookup.{located}
 use Rattle.ref_world.specs.Agreement.{ChildrenStand, IsAtOrBelow, IsReadAlike, IsPathOfTexts}
 use Rattle.ref_world.proofs.AtOrBelow.{below_is_place, place_has_base}
 use Rattle.ref_world.proofs.Located.{leads_to}
+use Rattle.ref_world.proofs.Standing.{StandsAt, all_stand_where}
 use Rattle.ref_retrieve.specs.declared.error.Error.{Error}
 use Rattle.ref_retrieve.specs.declared.error.Error.TheVariants as error
 use Rattle.ref_retrieve.specs.Errors.{IsFaultOf}
@@ -18,6 +20,10 @@ use Rattle.referencing.specs.declared.resolver.Resolved.{Resolved}
 use Rattle.referencing.specs.Prepared.{own}
 use Rattle.referencing.specs.Resolving.{found_of}
 use Rattle.referencing.specs.Listed.{IsMemory, AnswersPlace}
+
+-- a place's value stands at its path, where the children of the document's places do
+pub value_there : (d : Document) (p : Place) → ChildrenStand d → Contains (places d) p → value_at d.tree p.path ≡ Some p.value
+value_there d p children there = All-contains (StandsAt d.tree) (places d) p (All-from_recursion (StandsAt d.tree) (places d) (all_stand_where d children)) there
 
 -- what is found at a place, looked up from a URI
 abbrev pub found_at : Place → List ℕ → List ℕ → world.Found

@@ -1,5 +1,5 @@
 -- Paths, written part by part.
-use Rattle.std.proofs.Common.{◌≡◌, List, [], ◌∷◌, ◌++◌, sym}
+use Rattle.std.proofs.Common.{◌≡◌, List, [], ◌∷◌, ◌++◌}
 use Rattle.std.proofs.lemmas.List.{flat_map_more}
 use Rattle.ref_parts.specs.Path.{Part, Key, Index, HasFittingIndexes}
 use Rattle.ref_parts.specs.Pointer.{slash, part_text, pointer_text}

@@ -1,8 +1,11 @@
 //! The places of a registry's own documents, and the values there, by paths.
 ghost use Rattle.std.specs.Prelude.{◌≡◌, map, option_map, option_and_then, slice_get, IfOk, IfErr, Ok};
+ghost use Rattle.std.specs.List.{Contains};
 ghost use Rattle.serde_json.specs.View.{view};
 ghost use Rattle.ref_parts.specs.Path.{child_at, value_at};
 ghost use Rattle.ref_parts.specs.Segment.{part_of};
+ghost use Rattle.ref_world.specs.World.{Document};
+ghost use Rattle.ref_world.specs.Places.{Place as WorldPlace, places};
 ghost use Rattle.ref_world.specs.Listing.{own_places};
 ghost use Rattle.ref_world.specs.Lookup.{located};
 ghost use Rattle.ref_retrieve.specs.Errors.{IsFaultOf};
@@ -55,9 +58,10 @@ impl<'a> Registry<'a> {
 
     /// The places where schemas stand in the own documents: document by document, in the order in which these were added, and
     /// behind them those retrieved; in each document the root, then its children by the keywords that hold subschemas, and so on
-    /// level by level. Refuses as `Memory` alone. Each place is visited once, and its path copied; keys are lent, and URIs shared.
+    /// level by level. [`Registry::value_at`] answers the value of each. Refuses as `Memory` alone. Each place is visited once, and its path copied; keys are lent, and URIs shared.
     pub fn places(&self, alloc: Global) -> Result<Vec<Place<'_>>, Error>
         ensures value { IfOk result (λ places. map listed_of places.items ≡ own_places (own self.now)) }
+        ensures stand { (d : Document) (p : WorldPlace) → Contains (own self.now) d → Contains (places d) p → value_at d.tree p.path ≡ Some p.value }
         ensures memory { IfErr result IsMemory }
     {
         Ok(self.own_index().places(alloc)?)

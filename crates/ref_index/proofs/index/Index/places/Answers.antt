@@ -1,4 +1,4 @@
-use Rattle.std.proofs.Common.{map, sym, subst}
+use Rattle.std.proofs.Common.{sym, subst}
 use Rattle.std.specs.List.{Contains}
 use Rattle.ref_world.proofs.AtOrBelow.{place_has_base}
 use Rattle.ref_index.specs.Document.{document_of}
