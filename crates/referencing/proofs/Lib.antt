@@ -12,3 +12,5 @@ pub mod Naming
 pub mod Fragments
 pub mod Lookups
 pub mod Stepping
+pub mod Writing
+pub mod Agreeing

@@ -33,3 +33,5 @@ mod settings;
 mod vocabularies;
 #[cfg(test)]
 mod vocabularies_at_bases;
+#[cfg(test)]
+mod walks;
