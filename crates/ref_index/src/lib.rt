@@ -14,8 +14,6 @@ pub mod places;
 pub mod prepare;
 mod queue;
 pub mod reference;
-#[cfg(test)]
-mod tests;
 pub mod walk;
 pub mod walked;
 

@@ -9,8 +9,6 @@ pub mod dialect;
 pub mod examples;
 pub mod laws;
 pub mod meta_schema;
-#[cfg(test)]
-mod tests;
 pub mod vocabulary;
 pub mod vocabulary_set;
 

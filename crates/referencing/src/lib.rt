@@ -20,8 +20,6 @@ mod recursive;
 mod registry;
 mod resolver;
 pub mod steps;
-#[cfg(test)]
-mod tests;
 mod written;
 
 pub use answer::{Answer, AnswerError};

@@ -8,6 +8,8 @@ mod anchors;
 #[cfg(test)]
 mod asserts;
 #[cfg(test)]
+mod builders;
+#[cfg(test)]
 mod documents;
 #[cfg(test)]
 mod kinds;

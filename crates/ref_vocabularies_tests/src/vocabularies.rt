@@ -1,7 +1,9 @@
 //! Vocabularies by their texts, sets of them, and what meta-schemas declare.
-use crate::{Dialect, Vocabulary, VocabularySet, declared_or_default, default_vocabularies, find};
 use ref_draft::Draft;
 use ref_retrieve::Error;
+use ref_vocabularies::{
+    Dialect, Vocabulary, VocabularySet, declared_or_default, default_vocabularies, find,
+};
 use serde_json::Value;
 use std::alloc::{AllocError, Global};
 use std::test::Fail;

@@ -1,8 +1,8 @@
 //! Documents walked: what identifies and names their places, what they want, and the first fault.
-use crate::document::{Contents, Document};
-use crate::found::{Cause, Found};
-use crate::walk::walk;
 use ref_draft::Draft;
+use ref_index::found::Cause;
+use ref_index::walk::walk;
+use ref_index::{Contents, Document, Found};
 use ref_uri::UriFault;
 use ref_uri::uri::from_str;
 use serde_json::Value;

@@ -1,0 +1,119 @@
+//! What a builder holds after documents were added, shown by the registry that is prepared of it, and what it refuses.
+use crate::asserts::same;
+use crate::documents::{failed, text_of};
+use ref_draft::{Draft, ResourceRef};
+use ref_retrieve::Error;
+use referencing::{Registry, RegistryBuilder};
+use serde_json::Value;
+use std::alloc::Global;
+use std::rc::Rc;
+use std::test::Fail;
+
+// The documents in their order: URI, value and draft.
+fn listing(alloc: Global, builder: RegistryBuilder<'_>) -> Result<String, Fail> {
+    let registry = builder.prepare().map_err(failed)?;
+    let mut text = String::new(alloc);
+    for place in registry.places(alloc).map_err(failed)? {
+        let value = registry.value_at(place.document, place.path.as_slice());
+        let value = value.ok_or("no value")?.to_string(alloc)?;
+        let (uri, draft) = (place.base.as_str(), place.draft);
+        let item = format!(in alloc; "{uri} {value} {draft:?}, ")?;
+        text.push_str(item.as_str())?;
+    }
+    Ok(text)
+}
+
+// The documents after one of each kind was added to a builder with a draft.
+fn of_each_kind(alloc: Global) -> Result<String, Fail> {
+    let lent = Value::from_str(alloc, "1")?;
+    let resource = Draft::Draft6.create_resource(Value::from_str(alloc, "2")?);
+    let owned = Draft::Draft4.create_resource(Value::from_str(alloc, "3")?);
+    let shared = Rc::new(alloc, Value::from_str(alloc, "4")?)?;
+    let builder = Registry::new(alloc).draft(Draft::Draft7);
+    let builder = builder.add("a:1", &lent).map_err(failed)?;
+    let builder = builder.add("a:2", &resource).map_err(failed)?;
+    let builder = builder.add("a:3", owned).map_err(failed)?;
+    let builder = builder.add("a:4", shared).map_err(failed)?;
+    let builder = builder.add("a:5", Value::Null).map_err(failed)?;
+    let last = ResourceRef::new(&lent, Draft::Unknown);
+    let builder = builder.add("a:6", last).map_err(failed)?;
+    listing(alloc, builder)
+}
+
+#[test]
+fn each_kind_is_added(rt: HostRuntime) -> Result<(), Fail> {
+    let text = of_each_kind(rt.alloc())?;
+    same(
+        &rt,
+        text.as_str(),
+        "a:1 1 Draft7, a:2 2 Draft6, a:3 3 Draft4, a:4 4 Draft7, a:5 null Draft7, a:6 1 Unknown, ",
+    );
+    Ok(())
+}
+
+// The documents after values were added under these texts, or the text of the refusal.
+fn added(alloc: Global, pairs: &[(&str, &str)]) -> Result<String, Fail> {
+    let mut all = Vec::new(alloc);
+    for (uri, value) in pairs {
+        all.push((*uri, Value::from_str(alloc, value)?))?;
+    }
+    match Registry::new(alloc).extend(all) {
+        Ok(builder) => listing(alloc, builder),
+        Err(error) => Ok(text_of(alloc, error)?),
+    }
+}
+
+// Texts with values, and what is held after they were added.
+const ROWS: [(&[(&str, &str)], &str); 5] = [
+    (&[], ""),
+    (
+        &[("urn:a", "1"), ("urn:b", "2"), ("urn:a", "3")],
+        "urn:a 3 Draft202012, urn:b 2 Draft202012, ",
+    ),
+    (
+        &[("urn:a##", "1"), ("HTTP://x/./y", "2")],
+        "urn:a 1 Draft202012, http://x/y 2 Draft202012, ",
+    ),
+    (
+        &[("schema.json", "1")],
+        "json-schema:///schema.json 1 Draft202012, ",
+    ),
+    (
+        &[("urn:a", "1"), ("a b", "2"), ("c d", "3")],
+        "Invalid URI reference 'a b': not a URI reference of RFC 3986",
+    ),
+];
+
+#[test]
+fn documents_stand_under_their_uris(rt: HostRuntime) -> Result<(), Fail> {
+    for (pairs, expected) in &ROWS {
+        let text = added(rt.alloc(), *pairs)?;
+        same(&rt, text.as_str(), *expected);
+    }
+    Ok(())
+}
+
+// A builder that borrows for long takes a value that is lent for less.
+fn with_lent<'a: 'b, 'b>(
+    builder: RegistryBuilder<'a>,
+    value: &'b Value,
+) -> Result<RegistryBuilder<'b>, Error> {
+    builder.add("urn:b", value)
+}
+
+#[test]
+fn values_may_be_lent_for_less(rt: HostRuntime) -> Result<(), Fail> {
+    let alloc = rt.alloc();
+    let builder = Registry::new(alloc)
+        .add("urn:a", Value::Null)
+        .map_err(failed)?;
+    let value = Value::Bool(true);
+    let builder = with_lent(builder, &value).map_err(failed)?;
+    let text = listing(alloc, builder)?;
+    same(
+        &rt,
+        text.as_str(),
+        "urn:a null Draft202012, urn:b true Draft202012, ",
+    );
+    Ok(())
+}
