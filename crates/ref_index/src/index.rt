@@ -81,7 +81,7 @@ impl<'a> Index<'a> {
         self.documents.len()
     }
 
-    /// The documents, in the order in which they were added and retrieved. Takes no memory.
+    /// The documents, in the order in which they were handed in, and behind them those retrieved. Takes no memory.
     pub fn documents(&self) -> &[Document<'a>]
         ensures value { map document_of result.now ≡ self.now }
     {
@@ -95,7 +95,7 @@ impl<'a> Index<'a> {
         let _ = &self.by_uri;
     }
 
-    /// The value of the document with a number, in the order in which they were added and retrieved, counted from 0. A look-up;
+    /// The value of the document with a number, in that order, counted from 0. A look-up;
     /// takes no memory.
     pub fn tree(&self, document: usize) -> Option<&Value>
         ensures value { option_map (λ v. view v.now) result ≡ option_map (λ d. d.tree) (slice_get self.now document) }

@@ -26,7 +26,8 @@ use std::rc::Rc;
 /// A place where a schema stands, in one of a registry's own documents.
 #[derive(Drop)]
 pub struct Place<'a> {
-    /// The number of its document, counted from 0 in the order in which they were added, and behind those retrieved.
+    /// The number of its document, counted from 0 in the order in which their URIs were first added, and behind them those
+    /// retrieved.
     pub document: usize,
     /// Its path in the document.
     pub path: Vec<JsonPointerSegment<'a>>,
@@ -158,7 +159,7 @@ fn list_document<'w>(
 
 impl<'a> Index<'a> {
     /// The places of these documents, document by document, and in each level by level, as they were walked. Each place is
-    /// visited once, and its path copied; keys are lent and URIs shared. Refused for want of memory.
+    /// visited once, and its path copied; keys are lent, and URIs shared but that of each document. Refused for want of memory.
     pub fn places(&self, alloc: Global) -> Result<Vec<Place<'_>>, AllocError>
         requires { faults self.now ≡ [] }
         ensures value { IfOk result (λ list. map listed_of list.items ≡ own_places self.now) }

@@ -12,5 +12,6 @@ pub mod Naming
 pub mod Fragments
 pub mod Lookups
 pub mod Stepping
+pub mod Showing
 pub mod Writing
 pub mod Agreeing

@@ -46,8 +46,8 @@ fn value_along<'v>(value: &'v Value, path: &[JsonPointerSegment<'_>]) -> Option<
 }
 
 impl<'a> Registry<'a> {
-    /// The value at a path of an own document, which is counted from 0 in the order in which they were added, and behind those
-    /// retrieved. `None` for a number without a document, and where a part leads nowhere: a key steps into an object alone, an
+    /// The value at a path of an own document, which is counted from 0 in the order in which their URIs were first added, and
+    /// behind them those retrieved. `None` for a number without a document, and where a part leads nowhere: a key steps into an object alone, an
     /// index into an array alone (RFC 6901, section 4). A look-up for each part; takes no memory.
     pub fn value_at(&self, document: usize, path: &[JsonPointerSegment<'_>]) -> Option<&Value>
         ensures value { option_map (λ v. view v.now) result ≡ option_and_then (λ d. value_at d.tree (map part_of path.now)) (slice_get (own self.now) document) }
@@ -56,9 +56,12 @@ impl<'a> Registry<'a> {
         value_along(tree, path)
     }
 
-    /// The places where schemas stand in the own documents: document by document, in the order in which these were added, and
-    /// behind them those retrieved; in each document the root, then its children by the keywords that hold subschemas, and so on
-    /// level by level. [`Registry::value_at`] answers the value of each. Refuses as `Memory` alone. Each place is visited once, and its path copied; keys are lent, and URIs shared.
+    /// The places where schemas stand in the own documents: document by document, in the order in which their URIs were first
+    /// added, and behind them those retrieved; in each document the root, then its children by the keywords that hold
+    /// subschemas, and so on level by level. [`Registry::value_at`] answers the value of each. Refuses as `Memory` alone.
+    ///
+    /// Each place is visited once, with a look-up where it has an identifier; its path is copied, and the URI of each document;
+    /// keys are lent, and the other URIs shared.
     pub fn places(&self, alloc: Global) -> Result<Vec<Place<'_>>, Error>
         ensures value { IfOk result (λ places. map listed_of places.items ≡ own_places (own self.now)) }
         ensures stand { (d : Document) (p : WorldPlace) → Contains (own self.now) d → Contains (places d) p → value_at d.tree p.path ≡ Some p.value }
@@ -75,8 +78,7 @@ impl<'a> Registry<'a> {
     /// place bears that base; the places below have the same draft, which is one of 4 to 2020-12; and before 2020-12 no object
     /// whose members are schemas holds a text under the keyword of identifiers, as a property named `$id` would.
     ///
-    /// Refuses as [`Resolver::lookup`] does, and as `Memory`. Linear in the path's keys, with a look-up for each part; no value
-    /// is copied.
+    /// Refuses as [`Resolver::lookup`] does, whose cost it has, and as `Memory`; no value is copied.
     ///
     /// [`Resolver::lookup`]: crate::Resolver::lookup
     pub fn locate(
@@ -90,6 +92,7 @@ impl<'a> Registry<'a> {
         ensures fault { IfErr result (IsFaultOf (located self.now base.now (map part_of path.now))) }
         ensures agrees { Agrees (own self.now) base.now (map part_of path.now) result }
     {
+        // that children of places stand at their paths
         let _ = self.own_index();
         let reference = reference_of(alloc, path)?;
         let resolver = self.resolver(alloc, base.clone()?)?;

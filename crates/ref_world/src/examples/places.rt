@@ -5,6 +5,7 @@ ghost use Rattle.ref_draft.specs.declared.draft.Draft.TheVariants.{Draft4, Draft
 ghost use Rattle.ref_draft.specs.Children.{walked};
 ghost use Rattle.ref_uri.specs.Targets.{unparsed};
 ghost use Rattle.ref_world.specs.Places.{identifier_of, base_within, root, child_place, children_with, children_of, levels_below, places};
+ghost use Rattle.ref_world.specs.Listing.{own_places};
 ghost use Rattle.ref_world.specs.Descent.{IsChildOfOne, AreChildren};
 ghost use Rattle.ref_world.specs.Rows.{at, yes, empty, text, one, two, three, paths_and_bases};
 
@@ -49,4 +50,10 @@ pub fn levels_of_places()
     ensures no_level { levels_below 0 (root (at Draft202012 "http://a/r" (one "not" yes)) ∷ []) ≡ [] }
     ensures one_level { paths_and_bases (levels_below 1 (root (at Draft202012 "http://a/r" (one "not" (one "not" yes))) ∷ [])) ≡ (Key (codes "not") ∷ [], Ok (codes "http://a/r")) ∷ [] }
     ensures two_levels { paths_and_bases (levels_below 2 (root (at Draft202012 "http://a/r" (one "not" (one "not" yes))) ∷ [])) ≡ (Key (codes "not") ∷ [], Ok (codes "http://a/r")) ∷ (Key (codes "not") ∷ Key (codes "not") ∷ [], Ok (codes "http://a/r")) ∷ [] }
+{}
+
+/// Places as a registry lists them.
+pub fn listed_places()
+    ensures of_two_documents { own_places (at Draft202012 "http://a/r" (one "not" (one "$id" (text "s"))) ∷ at Draft7 "http://a/t" yes ∷ []) ≡ record { document = 0; path = []; draft = Draft202012; base = Ok (codes "http://a/r") } ∷ record { document = 0; path = Key (codes "not") ∷ []; draft = Draft202012; base = Ok (codes "http://a/s") } ∷ record { document = 1; path = []; draft = Draft7; base = Ok (codes "http://a/t") } ∷ [] }
+    ensures of_none { own_places [] ≡ [] }
 {}
