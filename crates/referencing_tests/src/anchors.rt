@@ -8,7 +8,14 @@ use std::alloc::Global;
 use std::test::Fail;
 
 // The draft, the documents, the base, the steps, a bar between them and `*` for a recursive one, and where they lead.
-const ROWS: [(Draft, &str, &str, &str, &str); 9] = [
+const ROWS: [(Draft, &str, &str, &str, &str); 10] = [
+    (
+        Draft::Draft201909,
+        r#"[["http://example.com",{"$id":"http://example.com","$recursiveAnchor":true,"$defs":{"foo":{"$id":"foo","$recursiveAnchor":true,"$defs":{"bar":true,"baz":{"$recursiveAnchor":true,"$anchor":"fooAnchor"}}}}}],["http://example.com/foo/",true],["http://example.com/foo/bar",{"$id":"http://example.com","$recursiveAnchor":true,"$defs":{"foo":{"$id":"foo","$recursiveAnchor":true,"$defs":{"bar":true,"baz":{"$recursiveAnchor":true,"$anchor":"fooAnchor"}}}}}]]"#,
+        "http://example.com",
+        "|foo/|bar|*",
+        r#"{"$defs":{"foo":{"$defs":{"bar":true,"baz":{"$anchor":"fooAnchor","$recursiveAnchor":true}},"$id":"foo","$recursiveAnchor":true}},"$id":"http://example.com","$recursiveAnchor":true} Draft201909 Resolver { base_uri: "http://example.com/foo/bar", scopes: "[http://example.com/foo/, http://example.com, http://example.com]" }"#,
+    ),
     (
         Draft::Draft202012,
         r#"[["http://example.com",{"$dynamicAnchor":"foo"}]]"#,

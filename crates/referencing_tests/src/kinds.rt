@@ -3,6 +3,7 @@ use crate::asserts::same;
 use crate::documents::{failed, known, prepared, remote, values};
 use ref_draft::{Draft, Resource, ResourceRef};
 use ref_retrieve::Error;
+use ref_uri::uri::from_str;
 use referencing::{IntoRegistryResource, Registry};
 use serde_json::Value;
 use std::alloc::{AllocError, Global};
@@ -49,6 +50,52 @@ fn resources_are_read_by_their_own_drafts(rt: HostRuntime) -> Result<(), Fail> {
     let value = value(alloc)?;
     let viewed = mark(alloc, ResourceRef::new(&value, Draft::Draft202012)).map_err(failed)?;
     same(&rt, viewed.as_str(), "++");
+    Ok(())
+}
+
+// Two definitions with one identifier, of which the later one counts.
+const LATER: &str =
+    r#"{"$defs":{"a":{"$id":"http://a/k","title":"1"},"b":{"$id":"http://a/k","title":"2"}}}"#;
+
+// The title of what the identifier leads to.
+fn title<'a, T: IntoRegistryResource<'a>>(alloc: Global, document: T) -> Result<String, Error> {
+    let registry = Registry::new(alloc).add("http://a/r", document)?.prepare()?;
+    let resolver = registry.resolver(alloc, from_str(alloc, "http://a/r")?)?;
+    let found = resolver.lookup(alloc, "http://a/k")?;
+    let title = found.contents().get("title").and_then(Value::as_str);
+    Ok(String::from_str(alloc, title.unwrap_or("none"))?)
+}
+
+fn later(alloc: Global) -> Result<Value, Fail> {
+    Ok(Value::from_str(alloc, LATER)?)
+}
+
+fn later_resource(alloc: Global) -> Result<Resource, Fail> {
+    Ok(Draft::Draft202012.create_resource(later(alloc)?))
+}
+
+#[test]
+fn the_later_identifier_counts_in_values(rt: HostRuntime) -> Result<(), Fail> {
+    let alloc = rt.alloc();
+    let owned = title(alloc, later(alloc)?).map_err(failed)?;
+    same(&rt, owned.as_str(), "2");
+    let lent = title(alloc, &later(alloc)?).map_err(failed)?;
+    same(&rt, lent.as_str(), "2");
+    let shared = title(alloc, Rc::new(alloc, later(alloc)?)?).map_err(failed)?;
+    same(&rt, shared.as_str(), "2");
+    Ok(())
+}
+
+#[test]
+fn the_later_identifier_counts_in_resources(rt: HostRuntime) -> Result<(), Fail> {
+    let alloc = rt.alloc();
+    let owned = title(alloc, later_resource(alloc)?).map_err(failed)?;
+    same(&rt, owned.as_str(), "2");
+    let lent = title(alloc, &later_resource(alloc)?).map_err(failed)?;
+    same(&rt, lent.as_str(), "2");
+    let value = later(alloc)?;
+    let viewed = title(alloc, ResourceRef::new(&value, Draft::Draft202012)).map_err(failed)?;
+    same(&rt, viewed.as_str(), "2");
     Ok(())
 }
 

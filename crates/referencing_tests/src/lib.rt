@@ -14,6 +14,8 @@ mod documents;
 #[cfg(test)]
 mod kinds;
 #[cfg(test)]
+mod large;
+#[cfg(test)]
 mod lookups;
 #[cfg(test)]
 mod meta_schemas;
@@ -25,6 +27,8 @@ mod parents;
 mod places;
 #[cfg(test)]
 mod pointers;
+#[cfg(test)]
+mod resolvers;
 #[cfg(test)]
 mod resources;
 #[cfg(test)]

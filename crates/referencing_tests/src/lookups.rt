@@ -9,7 +9,28 @@ use std::alloc::{AllocError, Global};
 use std::test::Fail;
 
 // The draft, the documents, the base, the steps, a bar between them and `*` for a recursive one, and where they lead.
-const ROWS: [(Draft, &str, &str, &str, &str); 16] = [
+const ROWS: [(Draft, &str, &str, &str, &str); 19] = [
+    (
+        Draft::Draft202012,
+        r#"[["http://a/r",{"prefixItems":[{"title":"p"},{"title":"q"}]}]]"#,
+        "http://a/r",
+        "#/prefixItems/+1",
+        r#"{"title":"q"} Draft202012 Resolver { base_uri: "http://a/r", scopes: "[http://a/r]" }"#,
+    ),
+    (
+        Draft::Draft202012,
+        r#"[["http://a/m",{"title":"1"}],["http://a/m",{"title":"2"}]]"#,
+        "http://a/m",
+        "",
+        r#"{"title":"2"} Draft202012 Resolver { base_uri: "http://a/m", scopes: "[http://a/m]" }"#,
+    ),
+    (
+        Draft::Draft201909,
+        r#"[["http://a/x",{"$recursiveAnchor":true}]]"#,
+        "http://a/none",
+        "http://a/x|*",
+        "1: Resource 'http://a/none' is not present in a registry and retrieving it failed: Retrieving external resources is not supported once the registry is populated",
+    ),
     (
         Draft::Draft202012,
         r#"[["http://a/r",{"prefixItems":[{"title":"p"},{"title":"q"}]}]]"#,
@@ -125,7 +146,11 @@ const ROWS: [(Draft, &str, &str, &str, &str); 16] = [
 ];
 
 // References into one document, and the texts of their faults.
-const FAULTS: [(&str, &str); 5] = [
+const FAULTS: [(&str, &str); 6] = [
+    (
+        "#/properties/baz",
+        "0: Pointer '/properties/baz' does not exist",
+    ),
     (
         "#/%FF",
         "0: Invalid percent encoding in pointer '/%FF': the decoded bytes do not represent valid UTF-8",
@@ -169,7 +194,7 @@ fn shown(alloc: Global, followed: &Followed<'_>) -> Result<String, Fail> {
 }
 
 /// Where steps lead, or the number and the text of a fault.
-pub fn led(
+fn led_by_steps(
     alloc: Global,
     registry: &Registry<'_>,
     base: &str,
@@ -181,6 +206,55 @@ pub fn led(
             let text = text_of(alloc, error)?;
             Ok(format!(in alloc; "{step}: {text}")?)
         }
+    }
+}
+
+/// The same by calls on resolvers, each on the one that the last call answered.
+fn led_by_calls(
+    alloc: Global,
+    registry: &Registry<'_>,
+    base: &str,
+    steps: &[Step<'_>],
+) -> Result<String, Fail> {
+    let mut last = None;
+    let mut resolver = registry.resolver(alloc, from_str(alloc, base)?)?;
+    for (number, step) in steps.iter().enumerate() {
+        let found = match step {
+            Step::Lookup(reference) => resolver.lookup(alloc, reference),
+            Step::Recursive => resolver.lookup_recursive_ref(alloc),
+            Step::Enter(resource) => {
+                resolver = resolver.in_subresource(alloc, *resource).map_err(failed)?;
+                continue;
+            }
+        };
+        match found {
+            Ok(found) => {
+                let (value, inner, draft) = found.into_inner();
+                last = Some((value, draft));
+                resolver = inner;
+            }
+            Err(error) => {
+                let text = text_of(alloc, error)?;
+                return Ok(format!(in alloc; "{number}: {text}")?);
+            }
+        }
+    }
+    shown(alloc, &Followed { last, resolver })
+}
+
+/// Where steps lead, by `follow` and by calls on resolvers; both, where they differ.
+pub fn led(
+    alloc: Global,
+    registry: &Registry<'_>,
+    base: &str,
+    steps: &[Step<'_>],
+) -> Result<String, Fail> {
+    let found = led_by_steps(alloc, registry, base, steps)?;
+    let by_calls = led_by_calls(alloc, registry, base, steps)?;
+    if found.as_str() == by_calls.as_str() {
+        Ok(found)
+    } else {
+        Ok(format!(in alloc; "{found} by steps, {by_calls} by calls")?)
     }
 }
 

@@ -3,9 +3,10 @@ ghost use Rattle.std.specs.Prelude.{⊤};
 
 use crate::asserts::{same, same_at};
 use crate::documents::{failed, known, outcome, prepared, remote, text_of, values};
+use crate::lookups::led;
 use ref_retrieve::{Error, MapRetriever, Retrieve, RetrieveError};
 use ref_uri::Uri;
-use referencing::Registry;
+use referencing::{Registry, Step};
 use serde_json::Value;
 use std::alloc::{AllocError, Global};
 use std::cell::Cell;
@@ -76,6 +77,8 @@ fn an_answer_may_lack_what_a_fragment_names(rt: HostRuntime) -> Result<(), Fail>
     let registry = registry.map_err(failed)?;
     let found = known(alloc, &registry, &["http://a/b", "http://a/c"])?;
     same(&rt, found.as_str(), "+-");
+    let found = led(alloc, &registry, "http://a/r", &[Step::Lookup("b#/x")])?;
+    same(&rt, found.as_str(), "0: Pointer '/x' does not exist");
     Ok(())
 }
 
