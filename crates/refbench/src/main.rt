@@ -4,6 +4,8 @@
 #![tactic(auto)]
 
 mod indexes;
+mod kinds;
+mod lookups;
 mod parts;
 mod places;
 mod registries;
@@ -101,6 +103,12 @@ fn answer(alloc: Global, line: &str) -> anyhow::Result<u64> {
         return Ok(sum);
     }
     if let Some(sum) = indexes::answer(alloc, line)? {
+        return Ok(sum);
+    }
+    if let Some(sum) = lookups::answer(alloc, line)? {
+        return Ok(sum);
+    }
+    if let Some(sum) = kinds::answer(alloc, line)? {
         return Ok(sum);
     }
     if let Some(sum) = places::answer(alloc, line)? {
