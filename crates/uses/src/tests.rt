@@ -1,4 +1,5 @@
 //! Each use, run once.
+use crate::bundler::referred_documents;
 use crate::dialect::vocabularies_of;
 use crate::editor::value_and_base;
 use crate::faults::shown;
@@ -50,6 +51,33 @@ fn a_validator_follows_references(rt: HostRuntime) -> Result<(), Fail> {
     same(&rt, found.as_str(), r#"{"type":"string"}"#);
     let found = validated(alloc, document, r#"{"$ref":1}"#)?;
     same(&rt, found.as_str(), "none");
+    Ok(())
+}
+
+// What two documents refer to, in a line.
+fn bundled(alloc: Global, document: &str, other: &str) -> Result<String, Fail> {
+    let value = Value::from_str(alloc, document)?;
+    let other = Value::from_str(alloc, other)?;
+    let builder = Registry::new(alloc).add("http://a/r", &value);
+    let builder = builder.and_then(|builder| builder.add("http://a/b/s", &other));
+    let registry = builder.and_then(|builder| builder.prepare());
+    let registry = registry.map_err(failed)?;
+    let mut line = String::new(alloc);
+    for uri in referred_documents(alloc, &registry).map_err(failed)? {
+        line.push_str(uri.as_str())?;
+        line.push(' ')?;
+    }
+    Ok(line)
+}
+
+#[test]
+fn a_bundler_lists_references(rt: HostRuntime) -> Result<(), Fail> {
+    let found = bundled(
+        rt.alloc(),
+        r##"{"$ref":"b/s#/x","const":{"$ref":"c"},"not":{"$ref":"#/not"}}"##,
+        r#"{"items":{"$ref":"../r"}}"#,
+    )?;
+    same(&rt, found.as_str(), "http://a/b/s http://a/r http://a/r ");
     Ok(())
 }
 

@@ -1,0 +1,28 @@
+-- What a registry's own documents refer to.
+use Rattle.std.specs.Prelude.{ℕ, List, codes, Option, None, option_and_then, slice_get, Result, Ok}
+use Rattle.std.specs.List.{filter_map}
+use Rattle.std.specs.Result.{result_ok}
+use Rattle.serde_json.specs.Data.{Data}
+use Rattle.ref_parts.specs.Path.{value_at}
+use Rattle.ref_draft.specs.Schema.{text_under}
+use Rattle.ref_uri.specs.Reference.{with_fragment}
+use Rattle.ref_uri.specs.Targets.{Refusal, against}
+use Rattle.ref_world.specs.Results.{◌>>=◌}
+use Rattle.ref_world.specs.World.{Layer}
+use Rattle.ref_world.specs.Listing.{Listed, own_places}
+
+-- the value at a listed place
+abbrev pub value_there : Layer → Listed → Option Data
+value_there layer p = option_and_then (λ d. value_at d.tree p.path) (slice_get layer p.document)
+
+-- the URI that a reference at a base means, without its fragment
+abbrev pub uri_of : Result (List ℕ) Refusal → List ℕ → Option (List ℕ)
+uri_of base reference = result_ok (base >>= λ base. against base reference >>= λ uri. Ok (with_fragment uri None))
+
+-- the URI that the `$ref` of a listed place means, without its fragment, where it has one
+abbrev pub refers_to : Layer → Listed → Option (List ℕ)
+refers_to layer p = option_and_then (uri_of p.base) (option_and_then (text_under (codes "$ref")) (value_there layer p))
+
+-- those of all places, in order
+abbrev pub referred_by : Layer → List (List ℕ)
+referred_by layer = filter_map (refers_to layer) (own_places layer)

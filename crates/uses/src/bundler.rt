@@ -1,0 +1,67 @@
+//! A bundler that lists what the documents of a registry refer to.
+ghost use Rattle.std.specs.Prelude.{◌≡◌, ◌++◌, ◌∷◌, [], None, IfOk, IfErr, OnOk};
+ghost use Rattle.ref_uri.specs.Reference.{with_fragment};
+ghost use Rattle.ref_index.specs.Listing.{listed_of};
+ghost use Rattle.referencing.specs.Listed.{IsMemory};
+ghost use Rattle.referencing.specs.Prepared.{own};
+ghost use Rattle.uses.specs.Bundling.{refers_to, referred_by};
+
+use referencing::{Error, Place, Registry, Uri};
+use serde_json::Value;
+use std::alloc::{AllocError, Global};
+
+// A URI without its fragment.
+fn without_fragment(uri: &Uri) -> Result<Uri, AllocError>
+    ensures { IfOk result (λ u. u ≡ with_fragment uri.now None) }
+{
+    let mut uri = uri.clone()?;
+    let _ = uri.set_fragment(None);
+    Ok(uri)
+}
+
+// The URI that the `$ref` of a place means, without its fragment, where it has one.
+fn referred(
+    alloc: Global,
+    registry: &Registry<'_>,
+    place: &Place<'_>,
+) -> Result<Option<Uri>, AllocError>
+    ensures { IfOk result (λ uri. uri ≡ refers_to (own registry.now) (listed_of place.now)) }
+{
+    let Some(value) = registry.value_at(place.document, place.path.as_slice()) else {
+        return Ok(None);
+    };
+    let Some(reference) = value.get("$ref").and_then(Value::as_str) else {
+        return Ok(None);
+    };
+    match registry.resolve_uri(alloc, place.base.borrow(), reference) {
+        Ok(uri) => Ok(Some(without_fragment(&uri)?)),
+        Err(Error::Memory(error)) => Err(error),
+        Err(_) => Ok(None),
+    }
+}
+
+// Adds a URI behind the others.
+fn push(uris: &mut Vec<Uri>, uri: Uri) -> Result<(), AllocError>
+    ensures { OnOk result (uris.new.items ≡ uris.old.items ++ uri ∷ []) }
+{
+    uris.push(uri)?;
+    Ok(())
+}
+
+/// The URIs that the references of a registry's own documents mean, without their fragments: one for each place that has a text
+/// under `$ref`, in the order of the places, also where several mean the same. A bundler puts together what stands under them.
+///
+/// Refuses as `Memory` alone. Visits each place once, with a look-up of its value and of the URI.
+pub fn referred_documents(alloc: Global, registry: &Registry<'_>) -> Result<Vec<Uri>, Error>
+    ensures value { IfOk result (λ uris. uris.items ≡ referred_by (own registry.now)) }
+    ensures memory { IfErr result IsMemory }
+{
+    let mut uris = Vec::new(alloc);
+    let places = registry.places(alloc)?;
+    for place in places.iter() {
+        if let Some(uri) = referred(alloc, registry, place)? {
+            push(&mut uris, uri)?;
+        }
+    }
+    Ok(uris)
+}
