@@ -25,7 +25,7 @@ use Rattle.ref_index.proofs.Retrieving.{unless_memory}
 use Rattle.referencing.specs.Builder.{Builder, new_builder, holding, addition, Adds}
 use Rattle.referencing.specs.Prepared.{given_of, IsPreparedOf}
 use Rattle.referencing.specs.MetaSchemas.{given_of_meta_schemas, IsMetaSchemaFault}
-use Rattle.refwalk.specs.Worlds.{addition_of, pending_of, given_of_meta, IsWorld, AreParents}
+use Rattle.refwalk.specs.Worlds.{addition_of, pending_of, IsWorld, AreParents}
 use Rattle.refwalk.specs.inner.Builders.{Holds, retrieving}
 use Rattle.refwalk.specs.inner.Faults.{IsErrorOf}
 use Rattle.refwalk.specs.inner.View.{documents_view}
@@ -110,12 +110,12 @@ given_as P m pairs limit draft parents pending old b trees new is h =
 
 pub meta_prepared : (ds pairs : List Lent) (world : World) (pending : List Pending) → pairs ≡ ds → extended [] (map lent_addition pairs) ≡ Ok pending → IsPreparedOf (given_of_meta_schemas pending) world → AreParents (Some (documents_view ds)) (Ok world)
 meta_prepared ds pairs world pending same is prepared =
-    world_prepared given_of_meta (pending_of (documents_view ds)) pending world (sym (pending_lent ds) ∙ ap (λ ps. extended [] (map lent_addition ps)) (sym same) ∙ is) prepared
+    world_prepared given_of_meta_schemas (pending_of (documents_view ds)) pending world (sym (pending_lent ds) ∙ ap (λ ps. extended [] (map lent_addition ps)) (sym same) ∙ is) prepared
 
-meta_refused_by : (r : Result (List Pending) Refusal) (e : Error) → IsMetaSchemaFault r e → IsErrorOf (IsWorld given_of_meta r) e
-meta_refused_by (Ok pending) e is = world_refused given_of_meta (Ok pending) pending e refl is
-meta_refused_by (Err refusal) e is = text_refused given_of_meta (Err refusal) e is
+meta_refused_by : (r : Result (List Pending) Refusal) (e : Error) → IsMetaSchemaFault r e → IsErrorOf (IsWorld given_of_meta_schemas r) e
+meta_refused_by (Ok pending) e is = world_refused given_of_meta_schemas (Ok pending) pending e refl is
+meta_refused_by (Err refusal) e is = text_refused given_of_meta_schemas (Err refusal) e is
 
 pub meta_refused : (ds pairs : List Lent) (e : Error) → pairs ≡ ds → IsMetaSchemaFault (extended [] (map lent_addition pairs)) e → IsErrorOf (AreParents (Some (documents_view ds))) e
 meta_refused ds pairs e same is =
-    subst (λ r. IsErrorOf (IsWorld given_of_meta r) e) (ap (λ ps. extended [] (map lent_addition ps)) same ∙ pending_lent ds) (meta_refused_by (extended [] (map lent_addition pairs)) e is)
+    subst (λ r. IsErrorOf (IsWorld given_of_meta_schemas r) e) (ap (λ ps. extended [] (map lent_addition ps)) same ∙ pending_lent ds) (meta_refused_by (extended [] (map lent_addition pairs)) e is)

@@ -16,7 +16,8 @@ use Rattle.referencing.specs.Prepared.{IsPreparedOf}
 use Rattle.referencing.specs.Following.{SaysStepFault}
 use Rattle.refwalk.specs.declared.request.BadRequest.{BadRequest}
 use Rattle.refwalk.specs.Request.{Document, Request}
-use Rattle.refwalk.specs.Worlds.{pending_of, above, IsWorld, given_of_meta, AreParents, given_of_request}
+use Rattle.referencing.specs.MetaSchemas.{given_of_meta_schemas}
+use Rattle.refwalk.specs.Worlds.{pending_of, above, IsWorld, AreParents, given_of_request}
 use Rattle.refwalk.specs.Report.{Report, IsReportAbove, IsReadReport, world_report}
 use Rattle.refwalk.specs.inner.Faults.{IsErrorOf}
 use Rattle.refwalk.proofs.Outcomes.{IsDetermined, map_is_determined, default_is_determined, one_outcome}
@@ -30,7 +31,7 @@ one_world given (Err refusal) a b determined is is' = is ∙ sym is'
 
 one_parents : (meta : Option (List Document)) (a b : Result World Fault) → AreParents meta a → AreParents meta b → a ≡ b
 one_parents None a b is is' = is ∙ sym is'
-one_parents (Some ds) a b is is' = one_world given_of_meta (pending_of ds) a b (λ ps. default_is_determined) is is'
+one_parents (Some ds) a b is is' = one_world given_of_meta_schemas (pending_of ds) a b (λ ps. default_is_determined) is is'
 
 one_above : (r : Request) (parents : Result World Fault) (a b : Report) → IsReportAbove r parents a → IsReportAbove r parents b → a ≡ b
 one_above r (Ok parents) a b (one, first, is) (other, second, is') =

@@ -5,12 +5,14 @@ use Rattle.ref_world.specs.World.{Layer, World}
 use Rattle.ref_world.specs.Fault.{Fault, InvalidUri}
 use Rattle.ref_world.specs.Preparing.{Given, IsOutcome}
 use Rattle.ref_world.specs.Pending.{Addition, Pending, extended, given_of_builder}
-use Rattle.ref_world.specs.Retrievers.{default_retriever, map_retriever}
+use Rattle.ref_world.specs.Retrievers.{map_retriever}
+use Rattle.referencing.specs.Builder.{addition}
+use Rattle.referencing.specs.MetaSchemas.{given_of_meta_schemas}
 use Rattle.refwalk.specs.Request.{Document, Request}
 
 -- a document is added as a value: its draft is detected
 abbrev pub addition_of : Document → Addition
-addition_of d = record { text = d.uri; tree = d.tree; draft = None }
+addition_of d = addition d.uri d.tree None
 
 -- the pending documents of a list, or why the text of one means no URI
 abbrev pub pending_of : List Document → Result (List Pending) Refusal
@@ -26,14 +28,10 @@ abbrev pub IsWorld : (List Pending → Given) → Result (List Pending) Refusal 
 IsWorld given (Ok pending) world = (outcome : Result Layer Fault) × IsOutcome (given pending) outcome × (world ≡ above (given pending).parents outcome)
 IsWorld given (Err refusal) world = world ≡ Err (InvalidUri refusal)
 
--- meta-schemas are prepared without a draft and parents, and none is retrieved
-abbrev pub given_of_meta : List Pending → Given
-given_of_meta pending = given_of_builder default_retriever 10000 None [] pending
-
 -- the parents of a request's documents: its meta-schemas, where it has some
 abbrev pub AreParents : Option (List Document) → Result World Fault → Type 0
 AreParents None parents = parents ≡ Ok []
-AreParents (Some documents) parents = IsWorld given_of_meta (pending_of documents) parents
+AreParents (Some documents) parents = IsWorld given_of_meta_schemas (pending_of documents) parents
 
 -- A request's documents are prepared with its draft, and what they want is retrieved from its map, up to its limit.
 abbrev pub given_of_request : Request → World → List Pending → Given
