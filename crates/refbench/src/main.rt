@@ -4,6 +4,7 @@
 #![tactic(auto)]
 
 mod indexes;
+mod lookups;
 mod parts;
 mod registries;
 mod vocabularies;
@@ -100,6 +101,9 @@ fn answer(alloc: Global, line: &str) -> anyhow::Result<u64> {
         return Ok(sum);
     }
     if let Some(sum) = indexes::answer(alloc, line)? {
+        return Ok(sum);
+    }
+    if let Some(sum) = lookups::answer(alloc, line)? {
         return Ok(sum);
     }
     let mut words = line.split_whitespace();

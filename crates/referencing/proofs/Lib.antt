@@ -12,3 +12,4 @@ pub mod Naming
 pub mod Fragments
 pub mod Lookups
 pub mod Stepping
+pub mod Showing

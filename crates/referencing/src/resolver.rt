@@ -1,5 +1,7 @@
 //! Where references lead from a base URI.
-ghost use Rattle.std.specs.Prelude.{◌≡◌, [], IfOk, IfErr, MatchOption, Ok, None};
+ghost use Rattle.std.specs.Prelude.{◌≡◌, [], ◌++◌, codes, if◌then◌else◌, IfOk, IfErr, MatchOption, Ok, None};
+ghost use Rattle.std.specs.Fmt.{WritesOnOk};
+ghost use Rattle.std.specs.List.{join_by};
 ghost use Rattle.std.specs.Result.{result_ok};
 ghost use Rattle.serde_json.specs.View.{view};
 ghost use Rattle.ref_uri.specs.Targets.{against, target, fragment_part};
@@ -202,25 +204,42 @@ impl<'r> Eq for Resolver<'r> {
 }
 
 // Writes a URI, behind a separator where it is not the first.
-fn write_uri<W: fmt::Write>(f: &mut fmt::Formatter<W>, is_first: bool, uri: &str) -> fmt::Result {
+fn write_uri<W: fmt::Write>(f: &mut fmt::Formatter<W>, is_first: bool, uri: &str) -> fmt::Result
+    ensures { WritesOnOk W.write_str_gives f.old result ((if is_first then [] else codes ", ") ++ uri.now) f.new }
+{
     let separator = if is_first { "" } else { ", " };
     write!(f, "{separator}{uri}")
 }
 
+// Writes URIs, with a separator between them.
+fn write_scope<W: fmt::Write>(f: &mut fmt::Formatter<W>, scope: &List<Uri>) -> fmt::Result
+    ensures { WritesOnOk W.write_str_gives f.old result (join_by (λ uri. uri) (codes ", ") scope.now) f.new }
+{
+    let mut is_first = true;
+    for uri in scope {
+        write_uri(f, is_first, uri.as_str())?;
+        is_first = false;
+    }
+    Ok(())
+}
+
 /// `Resolver { base_uri: "B", scopes: "[U, V]" }`, the scope from inner to outer.
 impl fmt::Debug for Resolver<'_> {
+    ghost use Rattle.std.specs.Prelude.{Some};
+    ghost use Rattle.ref_world.specs.Lookup.{resolver_text};
+    ghost use Rattle.referencing.specs.Resolving.{resolver_of};
+
+    ghost debug_output = { λ r. Some (resolver_text (resolver_of r)) };
+
     fn fmt<W: fmt::Write>(&self, f: &mut fmt::Formatter<W>) -> fmt::Result {
         let base = self.base.as_str();
         write!(f, "Resolver {{ base_uri: \"{base}\", scopes: \"[")?;
-        let mut is_first = true;
-        for uri in &self.scope {
-            write_uri(f, is_first, uri.as_str())?;
-            is_first = false;
-        }
+        write_scope(f, &self.scope)?;
         write!(f, "]\" }}")
     }
 }
 
+/// `Resolved { resolver: R, draft: D }`.
 impl fmt::Debug for Resolved<'_> {
     fn fmt<W: fmt::Write>(&self, f: &mut fmt::Formatter<W>) -> fmt::Result {
         let (resolver, draft) = (&self.resolver, self.draft);

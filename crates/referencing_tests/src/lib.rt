@@ -12,11 +12,15 @@ mod documents;
 #[cfg(test)]
 mod kinds;
 #[cfg(test)]
+mod large;
+#[cfg(test)]
 mod lookups;
 #[cfg(test)]
 mod meta_schemas;
 #[cfg(test)]
 mod outcomes;
+#[cfg(test)]
+mod own_values;
 #[cfg(test)]
 mod parents;
 #[cfg(test)]

@@ -169,7 +169,7 @@ fn shown(alloc: Global, followed: &Followed<'_>) -> Result<String, Fail> {
 }
 
 /// Where steps lead, or the number and the text of a fault.
-pub fn led(
+fn led_by_steps(
     alloc: Global,
     registry: &Registry<'_>,
     base: &str,
@@ -181,6 +181,55 @@ pub fn led(
             let text = text_of(alloc, error)?;
             Ok(format!(in alloc; "{step}: {text}")?)
         }
+    }
+}
+
+/// The same by calls on resolvers, each on the one that the last call answered.
+fn led_by_calls(
+    alloc: Global,
+    registry: &Registry<'_>,
+    base: &str,
+    steps: &[Step<'_>],
+) -> Result<String, Fail> {
+    let mut last = None;
+    let mut resolver = registry.resolver(alloc, from_str(alloc, base)?)?;
+    for (number, step) in steps.iter().enumerate() {
+        let found = match step {
+            Step::Lookup(reference) => resolver.lookup(alloc, reference),
+            Step::Recursive => resolver.lookup_recursive_ref(alloc),
+            Step::Enter(resource) => {
+                resolver = resolver.in_subresource(alloc, *resource).map_err(failed)?;
+                continue;
+            }
+        };
+        match found {
+            Ok(found) => {
+                let (value, inner, draft) = found.into_inner();
+                last = Some((value, draft));
+                resolver = inner;
+            }
+            Err(error) => {
+                let text = text_of(alloc, error)?;
+                return Ok(format!(in alloc; "{number}: {text}")?);
+            }
+        }
+    }
+    shown(alloc, &Followed { last, resolver })
+}
+
+/// Where steps lead, by `follow` and by calls on resolvers; both, where they differ.
+pub fn led(
+    alloc: Global,
+    registry: &Registry<'_>,
+    base: &str,
+    steps: &[Step<'_>],
+) -> Result<String, Fail> {
+    let found = led_by_steps(alloc, registry, base, steps)?;
+    let by_calls = led_by_calls(alloc, registry, base, steps)?;
+    if found.as_str() == by_calls.as_str() {
+        Ok(found)
+    } else {
+        Ok(format!(in alloc; "{found} by steps, {by_calls} by calls")?)
     }
 }
 

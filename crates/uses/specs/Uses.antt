@@ -1,13 +1,26 @@
--- Where the text under `$ref` of a value leads, and what stands in files.
-use Rattle.std.specs.Prelude.{◌≡◌, ℕ, List, codes, Option, option_map, Result}
-use Rattle.std.specs.List.{Contains}
+-- What the uses answer.
+use Rattle.std.specs.Prelude.{◌≡◌, ℕ, ◌++◌, ◌⊎◌, Bool, false, List, [], ◌∷◌, bytes_eq, codes, decimal, Option, None, option_map, Result, Ok, ⊥}
+use Rattle.std.specs.List.{Contains, list_any}
 use Rattle.serde_json.specs.Data.{Data}
 use Rattle.serde_json.specs.declared.value.Value.{Value}
 use Rattle.ref_draft.specs.Schema.{text_under}
-use Rattle.ref_world.specs.World.{World}
-use Rattle.ref_world.specs.Fault.{Fault}
+use Rattle.ref_world.specs.World.{Layer, World}
+use Rattle.ref_world.specs.Fault.{Fault, as_invalid_uri}
 use Rattle.ref_world.specs.Lookup.{Resolver, Found, lookup}
+use Rattle.ref_world.specs.Follow.{Step, Followed}
+use Rattle.ref_world.specs.Pending.{Pending, added, given_of_builder}
+use Rattle.ref_world.specs.Preparing.{Given}
+use Rattle.ref_world.specs.Retrievers.{default_retriever}
+use Rattle.ref_retrieve.specs.declared.error.Error.{Error}
+use Rattle.ref_retrieve.specs.Errors.{IsFaultOf, error_text}
 use Rattle.ref_retrieve.specs.Retrieving.{trees_of}
+use Rattle.ref_index.specs.Retrieval.{IsFaultyOutcome}
+use Rattle.referencing.specs.declared.answer.AnswerError.{AnswerError}
+use Rattle.referencing.specs.declared.answer.AnswerError.TheVariants as failure
+use Rattle.referencing.specs.declared.steps.FollowError.{FollowError}
+use Rattle.referencing.specs.Builder.{addition}
+use Rattle.referencing.specs.Prepared.{IsPreparedOf}
+use Rattle.referencing.specs.Answering.{Answers, IsFailureOf}
 
 -- where a value's text under `$ref` leads from a resolver
 abbrev pub referred : World → Resolver → Data → Option (Result Found Fault)
@@ -17,6 +30,41 @@ referred world r value = option_map (lookup world r) (text_under (codes "$ref") 
 abbrev pub HasFile : List (List ℕ × Value) → List ℕ → Data → Type 0
 HasFile files uri tree = Contains (trees_of files) (uri, tree)
 
--- the text of a refusal for want of a file
-abbrev pub SaysNoFile : List ℕ → List ℕ → Type 0
-SaysNoFile uri text = text ≡ codes "no document under this URI"
+-- whether a file stands under a URI
+abbrev pub has_file : List (List ℕ × Value) → List ℕ → Bool
+has_file files uri = list_any (λ file. bytes_eq file.0 uri) files
+
+-- the text of a refusal for want of a file, where none stands under the URI
+abbrev pub SaysNoFile : List (List ℕ × Value) → List ℕ → List ℕ → Type 0
+SaysNoFile files uri text = (has_file files uri ≡ false) × (text ≡ codes "no document under this URI")
+
+-- a registry of one document above others, whose retriever fetches nothing
+abbrev pub given_above : World → List Pending → Given
+given_above parents pending = given_of_builder default_retriever 10000 None parents pending
+
+-- a world that may be prepared of one document above others
+abbrev pub IsPreparedAbove : World → List ℕ → Data → World → Type 0
+IsPreparedAbove parents uri tree world =
+    (pending : List Pending) × (added [] (addition uri tree None) ≡ Ok pending) × IsPreparedOf (given_above parents pending) world
+
+-- the error says that the document can't be added, or why it can't be prepared, or is want of memory
+abbrev pub IsRefusedAbove : World → List ℕ → Data → Error → Type 0
+IsRefusedAbove parents uri tree error =
+    IsFaultOf (as_invalid_uri (added [] (addition uri tree None))) error
+    ⊎ ((pending : List Pending) × (added [] (addition uri tree None) ≡ Ok pending) × IsFaultyOutcome (given_above parents pending) error)
+
+-- the number of the step that leads nowhere, and the text of its fault
+abbrev pub step_text : FollowError → List ℕ
+step_text fault = codes "step " ++ decimal fault.step ++ codes ": " ++ error_text fault.error
+
+-- what is shown of a failure; want of memory shows nothing
+abbrev pub ShowsFailure : AnswerError → List ℕ → Type 0
+ShowsFailure (failure.Prepare error) text = text ≡ error_text error
+ShowsFailure (failure.Follow fault) text = text ≡ step_text fault
+ShowsFailure (failure.Memory memory) text = ⊥
+
+-- what is shown of a question: `found` where it has an answer, or else a failure that it may have
+abbrev pub IsShown : Given → List ℕ → List Step → List ℕ → Type 0
+IsShown given base steps text =
+    ((answer : Followed) × Answers given base steps answer × (text ≡ codes "found"))
+    ⊎ ((error : AnswerError) × IsFailureOf given base steps error × ShowsFailure error text)

@@ -1,8 +1,9 @@
 //! A dialect whose meta-schema is in a parent.
-ghost use Rattle.std.specs.Prelude.{◌≡◌, ◌∷◌, IfOk};
+ghost use Rattle.std.specs.Prelude.{◌≡◌, IfOk, IfErr};
 ghost use Rattle.serde_json.specs.View.{view};
-ghost use Rattle.ref_world.specs.World.{Layer};
+ghost use Rattle.ref_world.specs.World.{World};
 ghost use Rattle.ref_world.specs.Vocabularies.{find_vocabularies};
+ghost use Rattle.uses.specs.Uses.{IsPreparedAbove, IsRefusedAbove};
 
 use referencing::{Draft, Error, Registry, VocabularySet};
 use serde_json::Value;
@@ -18,7 +19,8 @@ pub fn vocabularies_of(
     draft: Draft,
     schema: &Value,
 ) -> Result<VocabularySet, Error>
-    ensures value { IfOk result (λ set. (own : Layer) × (set ≡ find_vocabularies (own ∷ parent.now) draft (view schema.now))) }
+    ensures value { IfOk result (λ set. (world : World) × IsPreparedAbove parent.now uri.now (view schema.now) world × (set ≡ find_vocabularies world draft (view schema.now))) }
+    ensures fault { IfErr result (IsRefusedAbove parent.now uri.now (view schema.now)) }
 {
     let child = parent.add(alloc, uri, schema)?.prepare()?;
     let set = child.find_vocabularies(alloc, draft, schema)?;

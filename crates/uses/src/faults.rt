@@ -1,13 +1,16 @@
 //! A fault that is shown to a person.
-ghost use Rattle.std.specs.Prelude.{◌≡◌, ◌++◌, codes, decimal, string_bytes, IfOk};
-ghost use Rattle.ref_retrieve.specs.Errors.{error_text};
+ghost use Rattle.std.specs.Prelude.{◌≡◌, map, string_bytes, IfOk};
+ghost use Rattle.referencing.specs.Builder.{seen};
+ghost use Rattle.referencing.specs.Following.{step_of};
+ghost use Rattle.referencing.specs.Prepared.{given_of};
+ghost use Rattle.uses.specs.Uses.{step_text, IsShown};
 
 use referencing::{AnswerError, FollowError, RegistryBuilder, Retrieve, Step, Uri};
 use std::alloc::{AllocError, Global};
 
 /// The number of the step that leads nowhere, from 0, and the text of its fault. Takes memory for the text.
 pub fn step_text(alloc: Global, fault: &FollowError) -> Result<String, AllocError>
-    ensures text { IfOk result (λ text. string_bytes text ≡ codes "step " ++ decimal fault.now.step ++ codes ": " ++ error_text fault.now.error) }
+    ensures text { IfOk result (λ text. string_bytes text ≡ step_text fault.now) }
 {
     let (step, error) = (fault.step, &fault.error);
     let text = format!(in alloc; "step {step}: {error}")?;
@@ -20,7 +23,9 @@ pub fn shown<R: Retrieve + Drop>(
     builder: RegistryBuilder<'_, R>,
     base: Uri,
     steps: &[Step<'_>],
-) -> Result<String, AllocError> {
+) -> Result<String, AllocError>
+    ensures text { IfOk result (λ text. IsShown (given_of (R.may_answer (seen builder.entry).retriever) (R.may_refuse (seen builder.entry).retriever) (seen builder.entry)) base.entry (map step_of steps.now) (string_bytes text)) }
+{
     match builder.prepare_and_follow(base, steps) {
         Ok(_) => String::from_str(alloc, "found"),
         Err(AnswerError::Prepare(error)) => format!(in alloc; "{error}"),

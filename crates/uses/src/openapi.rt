@@ -15,7 +15,7 @@ pub struct Files {
     pub files: Vec<(Uri, Value)>,
 }
 
-/// It answers a file under the URI, and refuses where it finds none.
+/// It answers the first file under the URI, and refuses where there is none.
 impl Retrieve for Files {
     ghost use Rattle.std.specs.Prelude.{IfOk, IfErr};
     ghost use Rattle.serde_json.specs.View.{view};
@@ -24,11 +24,11 @@ impl Retrieve for Files {
 
     ghost may_answer = { λ f. HasFile f.files.items };
 
-    ghost may_refuse = { λ _. SaysNoFile };
+    ghost may_refuse = { λ f. SaysNoFile f.files.items };
 
     fn retrieve(&self, _alloc: Global, uri: &Uri) -> Result<Value, RetrieveError>
         ensures answer { IfOk result (λ value. HasFile self.now.files.items uri.now (view value)) }
-        ensures refusal { IfErr result (λ error. IfRefused error (SaysNoFile uri.now)) }
+        ensures refusal { IfErr result (λ error. IfRefused error (SaysNoFile self.now.files.items uri.now)) }
     {
         for (at, value) in self.files.iter() {
             if at.as_str() == uri.as_str() {
@@ -41,8 +41,8 @@ impl Retrieve for Files {
 
 /// The registry of what a builder holds, and of the files that it wants. Refuses as [`RegistryBuilder::prepare`] does.
 pub fn prepared<'a>(builder: RegistryBuilder<'a>, files: Files) -> Result<Registry<'a>, Error>
-    ensures outcome { IfOk result (IsPreparedOf (given_of (HasFile files.files.items) SaysNoFile (seen builder.entry))) }
-    ensures fault { IfErr result (IsFaultyOutcome (given_of (HasFile files.files.items) SaysNoFile (seen builder.entry))) }
+    ensures outcome { IfOk result (IsPreparedOf (given_of (HasFile files.files.items) (SaysNoFile files.files.items) (seen builder.entry))) }
+    ensures fault { IfErr result (IsFaultyOutcome (given_of (HasFile files.files.items) (SaysNoFile files.files.items) (seen builder.entry))) }
 {
     builder.retriever(files).prepare()
 }

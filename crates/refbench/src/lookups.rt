@@ -1,0 +1,215 @@
+//! Workloads of resolvers: look-ups in a registry of the documents of `registries`, and of a dynamic anchor in a long scope.
+//!
+//! `chain`, `chain-anchor` and `chain-ref` go on from what the last look-up answered: with the identifiers as absolute URIs, with
+//! an anchor behind each, and with the `$ref` of the last value. `flat` looks the identifiers up from one resolver. `pointer`,
+//! `pointer-type`, `pointer-plain` and `anchor` look a fragment up from resolvers at documents or identifiers.
+
+use crate::registries::{DEFINITIONS, documents_of};
+use anyhow::Context;
+use ref_retrieve::Error;
+use ref_uri::uri::from_str;
+use referencing::{Draft, Registry, Resolver};
+use serde_json::Value;
+use std::alloc::{AllocError, Global};
+
+/// The URI of a definition.
+fn definition_of(alloc: Global, number: usize) -> Result<String, AllocError> {
+    let (document, key) = (number / DEFINITIONS, number % DEFINITIONS);
+    format!(in alloc; "http://example.com/d{document}/k{key}")
+}
+
+/// What a kind of look-up refers to, one after another.
+fn references_of(alloc: Global, kind: &str, size: usize) -> Result<Vec<String>, AllocError> {
+    let mut references = Vec::new(alloc);
+    match kind {
+        "pointer" => references.push(String::from_str(alloc, "#/definitions/k7")?)?,
+        "pointer-type" => references.push(String::from_str(alloc, "#/definitions/k7/type")?)?,
+        "pointer-plain" => references.push(String::from_str(alloc, "#/definitions")?)?,
+        "anchor" => {
+            for key in 0..DEFINITIONS {
+                references.push(format!(in alloc; "#a{key}")?)?;
+            }
+        }
+        _ => {
+            for number in 0..size.saturating_mul(DEFINITIONS) {
+                let mut text = definition_of(alloc, number)?;
+                if kind == "chain-anchor" {
+                    let anchor = format!(in alloc; "#a{}", number % DEFINITIONS)?;
+                    text.push_str(anchor.as_str())?;
+                }
+                references.push(text)?;
+            }
+        }
+    }
+    Ok(references)
+}
+
+/// The resolvers from which a kind of look-up starts, one after another.
+fn resolvers_of<'r>(
+    alloc: Global,
+    registry: &'r Registry<'_>,
+    kind: &str,
+    size: usize,
+) -> Result<Vec<Resolver<'r>>, Error> {
+    let count = match kind {
+        "pointer" | "pointer-type" | "pointer-plain" => size,
+        "anchor" => size.saturating_mul(DEFINITIONS),
+        _ => 1,
+    };
+    let mut resolvers = Vec::with_capacity(alloc, count)?;
+    for number in 0..count {
+        let base = if kind == "anchor" {
+            definition_of(alloc, number)?
+        } else {
+            format!(in alloc; "http://example.com/d{number}/")?
+        };
+        let resolver = registry.resolver(alloc, from_str(alloc, base.as_str())?)?;
+        resolvers.push(resolver)?;
+    }
+    Ok(resolvers)
+}
+
+/// How many look-ups are answered that start from resolvers in turn.
+fn from_each(
+    alloc: Global,
+    resolvers: &[Resolver<'_>],
+    references: &[String],
+    times: u32,
+) -> Result<u64, Error> {
+    let mut sum: u64 = 0;
+    for turn in 0..times as usize {
+        let resolver = turn.checked_rem(resolvers.len());
+        let reference = turn.checked_rem(references.len());
+        if let (Some(resolver), Some(reference)) = (resolver, reference) {
+            resolvers[resolver].lookup(alloc, references[reference].as_str())?;
+            sum = sum.saturating_add(1);
+        }
+    }
+    Ok(sum)
+}
+
+/// How many look-ups are answered, each from the answer of the last.
+fn in_turn(
+    alloc: Global,
+    start: Resolver<'_>,
+    references: &[String],
+    times: u32,
+) -> Result<u64, Error> {
+    let mut resolver = start;
+    let mut sum: u64 = 0;
+    for turn in 0..times as usize {
+        if let Some(place) = turn.checked_rem(references.len()) {
+            let found = resolver.lookup(alloc, references[place].as_str())?;
+            resolver = found.into_inner().1;
+            sum = sum.saturating_add(1);
+        }
+    }
+    Ok(sum)
+}
+
+/// How many references are followed, each the `$ref` of the value that the last one led to.
+fn along_references(alloc: Global, start: Resolver<'_>, times: u32) -> Result<u64, Error> {
+    let mut resolver = start;
+    let mut reference = "../d0/k0";
+    let mut sum: u64 = 0;
+    for _ in 0..times {
+        let (value, inner, _) = resolver.lookup(alloc, reference)?.into_inner();
+        reference = value.get("$ref").and_then(Value::as_str).unwrap_or("");
+        resolver = inner;
+        sum = sum.saturating_add(1);
+    }
+    Ok(sum)
+}
+
+/// How many look-ups of a kind are answered in a registry.
+fn looked_up(
+    alloc: Global,
+    registry: &Registry<'_>,
+    kind: &str,
+    size: usize,
+    times: u32,
+) -> Result<u64, Error> {
+    let references = references_of(alloc, kind, size)?;
+    match kind {
+        "chain" | "chain-anchor" | "chain-ref" => {
+            let start = registry.resolver(alloc, from_str(alloc, "http://example.com/d0/k0")?)?;
+            if kind == "chain-ref" {
+                along_references(alloc, start, times)
+            } else {
+                in_turn(alloc, start, references.as_slice(), times)
+            }
+        }
+        _ => {
+            let resolvers = resolvers_of(alloc, registry, kind, size)?;
+            from_each(alloc, resolvers.as_slice(), references.as_slice(), times)
+        }
+    }
+}
+
+/// So many documents, each with the same dynamic anchor.
+fn nodes_of(alloc: Global, size: usize) -> anyhow::Result<Vec<(String, Value)>> {
+    let mut documents = Vec::with_capacity(alloc, size)?;
+    for number in 0..size {
+        let uri = format!(in alloc; "http://example.com/t{number}")?;
+        let text = format!(in alloc; "{{\"$id\":\"{uri}\",\"$dynamicAnchor\":\"node\"}}")?;
+        let value = Value::from_str(alloc, text.as_str())?;
+        documents.push((uri, value))?;
+    }
+    Ok(documents)
+}
+
+/// How many times a dynamic anchor is found in a scope of so many URIs that all have it.
+fn dynamically(
+    alloc: Global,
+    registry: &Registry<'_>,
+    size: usize,
+    times: u32,
+) -> Result<u64, Error> {
+    let mut resolver = registry.resolver(alloc, from_str(alloc, "http://example.com/t0")?)?;
+    for number in 0..size {
+        let uri = format!(in alloc; "http://example.com/t{number}")?;
+        resolver = resolver.lookup(alloc, uri.as_str())?.into_inner().1;
+    }
+    let mut sum: u64 = 0;
+    for _ in 0..times {
+        resolver.lookup(alloc, "#node")?;
+        sum = sum.saturating_add(1);
+    }
+    Ok(sum)
+}
+
+/// How many look-ups of a line are answered; nothing where one is refused.
+fn measured(alloc: Global, call: &str, kind: &str, size: usize, times: u32) -> anyhow::Result<u64> {
+    let is_dynamic = call == "dynamic";
+    let documents = if is_dynamic {
+        nodes_of(alloc, size)?
+    } else {
+        documents_of(alloc, size)?
+    };
+    let builder = Registry::new(alloc).draft(Draft::Draft202012);
+    let Ok(registry) = builder
+        .extend(documents)
+        .and_then(|builder| builder.prepare())
+    else {
+        return Ok(0);
+    };
+    let done = if is_dynamic {
+        dynamically(alloc, &registry, size, times)
+    } else {
+        looked_up(alloc, &registry, kind, size, times)
+    };
+    Ok(done.unwrap_or(0))
+}
+
+/// What a line's workload answers, where it is `lookup` or `dynamic`.
+pub fn answer(alloc: Global, line: &str) -> anyhow::Result<Option<u64>> {
+    let mut words = line.split_whitespace();
+    let call = words.next().context("a call")?;
+    if !matches!(call, "lookup" | "dynamic") {
+        return Ok(None);
+    }
+    let kind = words.next().context("a kind of look-up")?;
+    let size: usize = words.next().context("a size")?.parse()?;
+    let times: u32 = words.next().context("how many times")?.parse()?;
+    Ok(Some(measured(alloc, call, kind, size, times)?))
+}
