@@ -1,10 +1,10 @@
 -- What the uses answer.
-use Rattle.std.specs.Prelude.{◌≡◌, ℕ, ◌++◌, ◌⊎◌, Bool, false, List, [], ◌∷◌, bytes_eq, codes, decimal, Option, None, option_map, Result, Ok, ⊥}
+use Rattle.std.specs.Prelude.{◌≡◌, ℕ, ◌++◌, ◌⊎◌, Bool, false, List, [], bytes_eq, codes, decimal, Option, None, option_map, Result, Ok}
 use Rattle.std.specs.List.{Contains, list_any}
 use Rattle.serde_json.specs.Data.{Data}
 use Rattle.serde_json.specs.declared.value.Value.{Value}
 use Rattle.ref_draft.specs.Schema.{text_under}
-use Rattle.ref_world.specs.World.{Layer, World}
+use Rattle.ref_world.specs.World.{World}
 use Rattle.ref_world.specs.Fault.{Fault, as_invalid_uri}
 use Rattle.ref_world.specs.Lookup.{Resolver, Found, lookup}
 use Rattle.ref_world.specs.Follow.{Step, Followed}
@@ -13,7 +13,7 @@ use Rattle.ref_world.specs.Preparing.{Given}
 use Rattle.ref_world.specs.Retrievers.{default_retriever}
 use Rattle.ref_retrieve.specs.declared.error.Error.{Error}
 use Rattle.ref_retrieve.specs.Errors.{IsFaultOf, error_text}
-use Rattle.ref_retrieve.specs.Retrieving.{trees_of}
+use Rattle.ref_retrieve.specs.Retrieving.{retriever_of, trees_of}
 use Rattle.ref_index.specs.Retrieval.{IsFaultyOutcome}
 use Rattle.referencing.specs.declared.answer.AnswerError.{AnswerError}
 use Rattle.referencing.specs.declared.answer.AnswerError.TheVariants as failure
@@ -40,7 +40,8 @@ SaysNoFile files uri text = (has_file files uri ≡ false) × (text ≡ codes "n
 
 -- a registry of one document above others, whose retriever fetches nothing
 abbrev pub given_above : World → List Pending → Given
-given_above parents pending = given_of_builder default_retriever 10000 None parents pending
+given_above parents pending =
+    given_of_builder (retriever_of default_retriever.may_answer default_retriever.may_refuse) 10000 None parents pending
 
 -- a world that may be prepared of one document above others
 abbrev pub IsPreparedAbove : World → List ℕ → Data → World → Type 0

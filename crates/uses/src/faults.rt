@@ -24,12 +24,12 @@ pub fn shown<R: Retrieve + Drop>(
     base: Uri,
     steps: &[Step<'_>],
 ) -> Result<String, AllocError>
-    ensures text { IfOk result (λ text. IsShown (given_of (R.may_answer (seen builder.entry).retriever) (R.may_refuse (seen builder.entry).retriever) (seen builder.entry)) base.entry (map step_of steps.now) (string_bytes text)) }
+    ensures text { IfOk result (λ text. IsShown (given_of (R.may_answer (seen builder.entry).retriever) (R.may_refuse (seen builder.entry).retriever) (seen builder.entry)) base (map step_of steps.now) (string_bytes text)) }
 {
     match builder.prepare_and_follow(base, steps) {
-        Ok(_) => String::from_str(alloc, "found"),
-        Err(AnswerError::Prepare(error)) => format!(in alloc; "{error}"),
-        Err(AnswerError::Follow(fault)) => step_text(alloc, &fault),
+        Ok(_) => Ok(String::from_str(alloc, "found")?),
+        Err(AnswerError::Prepare(error)) => Ok(format!(in alloc; "{error}")?),
+        Err(AnswerError::Follow(fault)) => Ok(step_text(alloc, &fault)?),
         Err(AnswerError::Memory(error)) => Err(error),
     }
 }
