@@ -2,7 +2,8 @@
 //!
 //! `chain`, `chain-anchor` and `chain-ref` go on from what the last look-up answered: with the identifiers as absolute URIs, with
 //! an anchor behind each, and with the `$ref` of the last value. `flat` looks the identifiers up from one resolver. `pointer`,
-//! `pointer-type`, `pointer-plain` and `anchor` look a fragment up from resolvers at documents or identifiers.
+//! `pointer-type`, `pointer-plain` and `anchor` look a fragment up from resolvers at documents or identifiers. `here` looks `#` up
+//! where the scope isn't empty, and `resolved` resolves a `$ref` against the base at which it stands.
 
 use crate::registries::{DEFINITIONS, documents_of};
 use anyhow::Context;
@@ -64,9 +65,15 @@ fn resolvers_of<'r>(
             format!(in alloc; "http://example.com/d{number}/")?
         };
         let resolver = registry.resolver(alloc, from_str(alloc, base.as_str())?)?;
-        resolvers.push(resolver)?;
+        push(&mut resolvers, resolver)?;
     }
     Ok(resolvers)
+}
+
+/// Adds a resolver behind the others.
+fn push<'r>(resolvers: &mut Vec<Resolver<'r>>, resolver: Resolver<'r>) -> Result<(), AllocError> {
+    resolvers.push(resolver)?;
+    Ok(())
 }
 
 /// How many look-ups are answered that start from resolvers in turn.
@@ -121,6 +128,21 @@ fn along_references(alloc: Global, start: Resolver<'_>, times: u32) -> Result<u6
     Ok(sum)
 }
 
+/// How many times a resolver with a scope answers `#`, or resolves a `$ref` of its documents.
+fn here(alloc: Global, start: Resolver<'_>, is_lookup: bool, times: u32) -> Result<u64, Error> {
+    let resolver = start.lookup(alloc, "../d0/k0")?.into_inner().1;
+    let mut sum: u64 = 0;
+    for _ in 0..times {
+        if is_lookup {
+            resolver.lookup(alloc, "#")?;
+        } else {
+            resolver.resolve_uri(alloc, resolver.base_uri().borrow(), "../d1/k0")?;
+        }
+        sum = sum.saturating_add(1);
+    }
+    Ok(sum)
+}
+
 /// How many look-ups of a kind are answered in a registry.
 fn looked_up(
     alloc: Global,
@@ -131,12 +153,13 @@ fn looked_up(
 ) -> Result<u64, Error> {
     let references = references_of(alloc, kind, size)?;
     match kind {
-        "chain" | "chain-anchor" | "chain-ref" => {
+        "chain" | "chain-anchor" | "chain-ref" | "here" | "resolved" => {
             let start = registry.resolver(alloc, from_str(alloc, "http://example.com/d0/k0")?)?;
-            if kind == "chain-ref" {
-                along_references(alloc, start, times)
-            } else {
-                in_turn(alloc, start, references.as_slice(), times)
+            match kind {
+                "chain-ref" => along_references(alloc, start, times),
+                "here" => here(alloc, start, true, times),
+                "resolved" => here(alloc, start, false, times),
+                _ => in_turn(alloc, start, references.as_slice(), times),
             }
         }
         _ => {

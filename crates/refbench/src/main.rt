@@ -4,6 +4,7 @@
 #![tactic(auto)]
 
 mod indexes;
+mod kinds;
 mod lookups;
 mod parts;
 mod registries;
@@ -104,6 +105,9 @@ fn answer(alloc: Global, line: &str) -> anyhow::Result<u64> {
         return Ok(sum);
     }
     if let Some(sum) = lookups::answer(alloc, line)? {
+        return Ok(sum);
+    }
+    if let Some(sum) = kinds::answer(alloc, line)? {
         return Ok(sum);
     }
     let mut words = line.split_whitespace();

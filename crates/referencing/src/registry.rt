@@ -172,12 +172,13 @@ impl<'a> Registry<'a> {
         self.layers().resolve_uri(alloc, base, uri)
     }
 
-    /// No reference of an own place leads to a URI that is not present: from the place's base, with any dynamic scope, the
-    /// text under its `$ref` is never unretrievable. A law; the call does nothing.
+    /// Each own place has a base, and no reference of an own place leads to a URI that is not present: from the place's base,
+    /// with any dynamic scope, the text under its `$ref` is never unretrievable. A law; the call does nothing.
     pub fn references_are_retrieved(&self)
         ensures law { (d : WorldDocument) (place : Place) (resolver : WorldResolver) (reference : List ℕ)
             → Contains (own self.now) d → Contains (places d) place → place.base ≡ Ok resolver.base → text_under (codes "$ref") place.value ≡ Some reference
             → (uri source : List ℕ) → ¬ (lookup self.now resolver reference ≡ Err (Unretrievable uri source)) }
+        ensures bases { (d : WorldDocument) (place : Place) → Contains (own self.now) d → Contains (places d) place → (base : List ℕ) × (place.base ≡ Ok base) }
     {
         let _ = &self.own;
     }

@@ -1,5 +1,5 @@
 //! Steps that are followed one after another from a base URI.
-ghost use Rattle.std.specs.Prelude.{◌≡◌, [], map, IfOk, IfErr, Ok};
+ghost use Rattle.std.specs.Prelude.{◌≡◌, ◌≤◌, [], map, length, IfOk, IfErr, Ok};
 ghost use Rattle.ref_world.specs.Follow as world;
 ghost use Rattle.ref_retrieve.specs.Errors.{IsFaultOf};
 ghost use Rattle.referencing.specs.Resolving.{resolver_of, world_of, found_of, world_found};
@@ -91,7 +91,8 @@ impl<'a> Registry<'a> {
 /// answered.
 ///
 /// The first step that leads nowhere ends it, with its number and the fault of [`Resolver::lookup`],
-/// [`Resolver::lookup_recursive_ref`] or [`Resolver::in_subresource`]. Costs what the steps cost; no value is copied.
+/// [`Resolver::lookup_recursive_ref`] or [`Resolver::in_subresource`]; so does want of memory, with the number of the step that
+/// wanted it, or 0 before the first. Costs what the steps cost; no value is copied.
 pub fn follow<'r, 'a>(
     alloc: Global,
     registry: &'r Registry<'a>,
@@ -101,6 +102,7 @@ pub fn follow<'r, 'a>(
     ensures ok { IfOk result (λ f. world.followed registry.now base (map step_of steps.now) ≡ Ok (followed_of f)) }
     ensures world { IfOk result (λ f. world_of f.resolver ≡ registry.now) }
     ensures fault { IfErr result (IsStepFaultOf (world.followed registry.now base (map step_of steps.now))) }
+    ensures step { IfErr result (λ e. e.step ≤ length steps.now) }
 {
     let resolver = match registry.resolver(alloc, base) {
         Ok(resolver) => resolver,

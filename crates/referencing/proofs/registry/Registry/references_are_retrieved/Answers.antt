@@ -1,7 +1,11 @@
 use Rattle.std.proofs.Common.{subst}
-use Rattle.referencing.specs.Prepared.{IsPrepared}
+use Rattle.ref_world.proofs.AtOrBelow.{place_has_base}
+use Rattle.referencing.specs.Prepared.{own, IsPrepared}
 use Rattle.referencing.proofs.Retrieved.{retrieved_of}
 use Rattle.referencing.proofs.registry.Registry.references_are_retrieved.Goals as goal
 
 pub returns : goal.returns
-returns c = record { law = retrieved_of c.args.self.now (subst IsPrepared c.self.view_is c.self.invariant) }
+returns c = let prepared = subst IsPrepared c.self.view_is c.self.invariant in record {
+  law = retrieved_of c.args.self.now prepared;
+  bases = λ d place. place_has_base (own c.args.self.now) d place prepared.no_fault;
+}
