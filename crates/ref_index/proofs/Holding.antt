@@ -1,7 +1,6 @@
 -- One entry more in what was found.
 use Rattle.std.proofs.Common.{◌≡◌, ℕ, Bool, true, false, ◌||◌, cond, List, [], ◌∷◌, ◌++◌, map, refl, sym, ap, ◌∙◌, append_assoc, bytes_eq}
 use Rattle.std.specs.List.{list_any, AllZip}
-use Rattle.std.proofs.lemmas.Slice.Eq.{bytes_eq-Decides}
 use Rattle.std.proofs.lemmas.List.Folds.{list_any-append}
 use Rattle.ref_draft.specs.Anchors.{Kind, anchors}
 use Rattle.ref_draft.specs.Views.{Tagged, tagged}
@@ -21,17 +20,6 @@ pub known_with : (u uri : List ℕ) (p : Place) (rs : List (List ℕ × Place)) 
 known_with u uri p rs old new was is =
     is ∙ ap (λ b. cond (bytes_eq uri u) true b) was ∙ sym (known_more (list_any (λ (r : List ℕ × Place). bytes_eq r.0 u) rs) (bytes_eq uri u))
     ∙ sym (list_any-append (λ (r : List ℕ × Place). bytes_eq r.0 u) rs ((uri, p) ∷ []))
-
--- a URI that was known already
-pub already_known : (u uri : List ℕ) (knows : List ℕ → Bool) → knows uri ≡ true → knows u ≡ cond (bytes_eq uri u) true (knows u)
-already_known u uri knows there = by_test (bytes_eq uri u) (λ same. ap knows (sym (bytes_eq-same uri u same)) ∙ there)
-  where
-    bytes_eq-same : (xs ys : List ℕ) → bytes_eq xs ys ≡ true → xs ≡ ys
-    bytes_eq-same xs ys same = (bytes_eq-Decides xs ys).0 same
-
-    by_test : (b : Bool) → (b ≡ true → knows u ≡ true) → knows u ≡ cond b true (knows u)
-    by_test true here = here refl
-    by_test false here = refl
 
 -- one more at the end of each list
 pub zip_push : {A B : Type 0} (R : A → B → Type 0) (xs : List A) (ys : List B) (x : A) (y : B) → AllZip R xs ys → R x y → AllZip R (xs ++ x ∷ []) (ys ++ y ∷ [])

@@ -159,9 +159,6 @@ impl Found {
 fn identify(alloc: Global, identified: &mut HashSet<String>, uri: &str) -> Result<(), AllocError>
     ensures { (u : List ℕ) → OnOk result (contains_text identified.new u ≡ (if bytes_eq uri.now u then true else contains_text identified.old u)) }
 {
-    if identified.contains(uri) {
-        return Ok(());
-    }
     identified.insert(String::from_str(alloc, uri)?)?;
     Ok(())
 }

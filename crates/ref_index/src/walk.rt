@@ -104,16 +104,17 @@ fn add_under(
 fn add_by_base(
     alloc: Global,
     found: &mut Found,
+    id: Option<&str>,
     base: &Rc<Uri>,
     entry: &Rc<Entry>,
     resource: ResourceRef<'_>,
 ) -> Result<(), AllocError>
     ensures { (layer : Layer) (rs : List (List ℕ × Place)) (ns : List Named) (ws : List Wanted) (ps : List Pair) (p : Place)
         → Holds layer found.old rs ns ws ps → IsEntryOf layer entry.now.value p → resource_ref resource.entry ≡ tagged p.draft p.value
-        → p.base ≡ Ok base.now.value
+        → option_map (λ text. text.now) id.entry ≡ identifier p.draft p.value → p.base ≡ Ok base.now.value
         → OnOk result (Holds layer found.new (rs ++ resource_of p) (ns ++ named_at p) ws ps) }
 {
-    if resource.id().is_some() {
+    if id.is_some() {
         found.add_resource(alloc, base.as_str(), entry)?;
     }
     found.add_names(alloc, base.as_str(), entry, resource)
@@ -126,20 +127,23 @@ fn add_place(
     number: usize,
     place: &Visit<'_>,
     under: Option<&str>,
+    id: Option<&str>,
     base: &Rc<Uri>,
 ) -> Result<(), AllocError>
     ensures { (layer : Layer) (rs : List (List ℕ × Place)) (ns : List Named) (ws : List Wanted) (ps : List Pair)
-        → Holds layer found.old rs ns ws ps → StandsIn layer number (place_of place.now) → (place_of place.now).base ≡ Ok base.now.value
+        → Holds layer found.old rs ns ws ps → StandsIn layer number (place_of place.now)
+        → option_map (λ text. text.now) id.entry ≡ identifier (place_of place.now).draft (place_of place.now).value
+        → (place_of place.now).base ≡ Ok base.now.value
         → OnOk result (Holds layer found.new (rs ++ resources_at (option_map (λ text. text.now) under.entry) (place_of place.now))
         (ns ++ names_at (option_map (λ text. text.now) under.entry) (place_of place.now)) ws ps) }
 {
     let resource = ResourceRef::new(place.value, place.draft);
-    if under.is_none() && resource.id().is_none() && !has_anchors(resource) {
+    if under.is_none() && id.is_none() && !has_anchors(resource) {
         return Ok(());
     }
     let entry = entry_of(alloc, number, place, base)?;
     add_under(alloc, found, under, &entry, resource)?;
-    add_by_base(alloc, found, base, &entry, resource)
+    add_by_base(alloc, found, id, base, &entry, resource)
 }
 
 // Adds what the identifier of a place was resolved to, where it has one.
@@ -252,7 +256,7 @@ fn settle(
     let id = ResourceRef::new(place.value, place.draft).id();
     let base = base_of(alloc, &place.outer, id)?;
     add_base(alloc, found, &place.outer, id, &base)?;
-    add_place(alloc, found, number, place, under, &base)?;
+    add_place(alloc, found, number, place, under, id, &base)?;
     add_reference(alloc, found, place.value, &base)?;
     add_meta_schema(alloc, found, place.value)?;
     Ok(base)

@@ -1,7 +1,7 @@
 -- What `src/table.rt` rests on: what sorting and dropping repeats keep of the last entry that a test finds.
-use Rattle.std.proofs.Common.{◌≡◌, ℕ, zero, suc, ◌+◌, ◌<◌, Bool, true, false, not, ◌&&◌, ◌||◌, cond, map, String, string_bytes, bytes_eq, option_map, List, [], ◌∷◌, ◌++◌, length, get_or, take, drop, reverse, Option, Some, None, is_some, ◌⊎◌, inl, inr, ⊎_elim, refl, sym, ap, ◌∙◌, subst, append-nil, arith}
+use Rattle.std.proofs.Common.{◌≡◌, ℕ, zero, suc, ◌+◌, ◌<◌, Bool, true, false, not, ◌&&◌, ◌||◌, cond, eqb, map, String, string_bytes, bytes_eq, option_map, List, [], ◌∷◌, ◌++◌, length, get_or, take, drop, reverse, Option, Some, None, is_some, ◌⊎◌, inl, inr, ⊎_elim, refl, sym, ap, ◌∙◌, subst, append-nil, arith}
 use Rattle.std.proofs.lemmas.Bool.{false≢true, cond-false}
-use Rattle.std.proofs.lemmas.Cmp.{nat_list_cmp_total, then_total, on_total, eq_by_cmp_equiv}
+use Rattle.std.proofs.lemmas.Cmp.{nat_list_cmp_total, then_total, on_total, back_total, eq_by_cmp_equiv}
 use Rattle.std.proofs.lemmas.List.Kept.{IsStrictlySortedBy-dedup}
 use Rattle.std.proofs.lemmas.List.Sorted.{ranks_by}
 use Rattle.std.specs.Cmp.{IsTotalOrder, IsStrictWeakOrder, Equal-is, both_tied}
@@ -10,7 +10,16 @@ use Rattle.std.specs.FinSet as set
 use Rattle.std.specs.FinSet.{IsAntisymmetric, nat_cmp-IsAntisymmetric, slice_cmp-IsAntisymmetric, contains-from_list, len-insert, len-empty, same_set}
 use Rattle.std.specs.Ordering.{is_lt, is_eq, eq_by_cmp, ordering_reverse, ordering_then, nat_cmp}
 use Rattle.ref_parts.specs.Table.{Entry, entries_of, is_under, last_value, pair_count}
-use Rattle.ref_parts.specs.inner.SortedEntries.{pair_cmp, pair_of, KeepsLast}
+use Rattle.ref_parts.specs.inner.SortedEntries.{pair_cmp, pair_of, Key, key_cmp, key_of, word_at, slot_of, HasWord, tuples_of, KeepsLast}
+use Rattle.ref_parts.specs.declared.table.Slot.{Slot}
+use Rattle.std.specs.List.{All}
+use Rattle.std.specs.List.Sorted.{IsPermutation}
+use Rattle.std.specs.Cmp.{nat_cmp_total, unsigned_ties}
+use Rattle.std.proofs.lemmas.Cmp.{tied_itself}
+use Rattle.std.proofs.lemmas.List.{map-append}
+use Rattle.std.proofs.lemmas.List.Sorted.{All-permutation}
+use Rattle.std.proofs.lemmas.List.Elements.{All-head, All-tail, All-nil, All-cons, All-weaker}
+use Rattle.std.proofs.lemmas.List.Filters.{All-dedup}
 use Rattle.std.specs.declared.alloc.Global.{Global}
 use Rattle.std.specs.declared.cmp.Ordering.{Ordering}
 use Rattle.std.specs.declared.cmp.Ordering.TheVariants.{Less, Equal, Greater}
@@ -211,72 +220,152 @@ last_or-map f u o (t ∷ ts) =
       | false ↦ last_or-map f u o ts
     ]
 
+-- ---- keys
+
+pub key_total : IsTotalOrder key_cmp
+key_total = back_total (then_total (on_total (λ k. k.0) nat_cmp_total) (on_total (λ k. k.1) pair_total))
+
+pub key_cmp-IsAntisymmetric : IsAntisymmetric key_cmp
+key_cmp-IsAntisymmetric p q e =
+    let parts = then_parts (nat_cmp q.0 p.0) (pair_cmp q.1 p.1) e in
+    sym (λ i. (nat_cmp-IsAntisymmetric q.0 p.0 parts.0 i, pair_cmp-IsAntisymmetric q.1 p.1 parts.1 i))
+
+then_less : (o : Ordering) → is_eq (ordering_then o Less) ≡ false
+then_less Less = refl
+then_less Equal = refl
+then_less Greater = refl
+
+then_greater : (o : Ordering) → is_eq (ordering_then o Greater) ≡ false
+then_greater Less = refl
+then_greater Equal = refl
+then_greater Greater = refl
+
+-- a number that the first text tells doesn't tell equal pairs apart
+equal_keys : (shared w : ℕ) (p q : List ℕ × List ℕ) → w ≡ word_at shared p.0 → eq_by_cmp pair_cmp p q ≡ eq_by_cmp key_cmp (w, p) (word_at shared q.0, q)
+equal_keys shared w p q is =
+    let number : Ordering = nat_cmp (word_at shared q.0) w in
+    (eq_by_cmp_equiv pair_total).symm p q ∙ elim (pair_cmp q p) as (λ o. pair_cmp q p ≡ o → is_eq o ≡ is_eq (ordering_then number o)) [
+      | Less ↦ λ _. sym (then_less number)
+      | Equal ↦ λ e.
+          let same : number ≡ Equal = ap (nat_cmp (word_at shared q.0)) (is ∙ ap (λ r. word_at shared r.0) (sym (pair_cmp-IsAntisymmetric q p e))) ∙ tied_itself nat_cmp_total (word_at shared q.0) in
+          sym (ap (λ n. is_eq (ordering_then n Equal)) same)
+      | Greater ↦ λ _. sym (then_greater number)
+    ] refl
+
+filter_alike : {X : Type 0} (u v : X → Bool) (xs : List X) → All (λ x. u x ≡ v x) xs → filter u xs ≡ filter v xs
+filter_alike u v [] alike = refl
+filter_alike u v (x ∷ xs) alike =
+    let here : u x ≡ v x = All-head (λ x. u x ≡ v x) x xs alike in
+    let rest = filter_alike u v xs (All-tail (λ x. u x ≡ v x) x xs alike) in
+    λ i. cond (here i) (x ∷ rest i) (rest i)
+
+reverse_map : {X Y : Type 0} (f : X → Y) (xs : List X) → map f (reverse xs) ≡ reverse (map f xs)
+reverse_map f [] = refl
+reverse_map f (x ∷ xs) =
+    ap (map f) (reverse-append (x ∷ []) xs) ∙ map-append f (reverse xs) (x ∷ []) ∙ ap (λ l. l ++ f x ∷ []) (reverse_map f xs)
+    ∙ sym (reverse-append (f x ∷ []) (map f xs))
+
 module _ {V : Type 0} where
   value_of : (o : Option (Tuple V)) → option_map (λ e. e.2) (option_map {T = Tuple V} {U = Entry V} (λ t. (string_bytes t.0, string_bytes t.1, t.2)) o) ≡ option_map (λ t. t.2) o
   value_of None = refl
   value_of (Some t) = refl
 
+  value_in : (o : Option (Slot V)) → option_map (λ t. t.2) (option_map {T = Slot V} {U = Tuple V} (λ s. s.entry) o) ≡ option_map (λ s. s.entry.2) o
+  value_in None = refl
+  value_in (Some s) = refl
+
   -- the last value, by the order of pairs
-  pub last_value_by_order : (first second : List ℕ) (ts : List (Tuple V)) → last_value first second (entries_of ts) ≡ option_map (λ t. t.2) (last_or None (filter (λ t. eq_by_cmp pair_cmp (pair_of t) (first, second)) ts))
+  last_value_by_order : (first second : List ℕ) (ts : List (Tuple V)) → last_value first second (entries_of ts) ≡ option_map (λ t. t.2) (last_or None (filter (λ t. eq_by_cmp pair_cmp (pair_of t) (first, second)) ts))
   last_value_by_order first second ts =
       ap (option_map (λ e. e.2)) (last_or-map _ (is_under first second) None ts) ∙ value_of _
       ∙ ap (λ (u : Tuple V → Bool). option_map (λ t. t.2) (last_or None (filter u ts))) (λ i t. equal_pairs (string_bytes t.0) (string_bytes t.1) first second i)
 
+  -- the last value, by the order of keys
+  pub last_value_by_key : (shared : ℕ) (first second : List ℕ) (ss : List (Slot V)) → All (HasWord shared) ss
+      → last_value first second (entries_of (tuples_of ss)) ≡ option_map (λ s. s.entry.2) (last_or None (filter (λ s. eq_by_cmp key_cmp (key_of s) (word_at shared first, (first, second))) ss))
+  last_value_by_key shared first second ss words =
+      let by_pair : Tuple V → Bool = λ t. eq_by_cmp pair_cmp (pair_of t) (first, second) in
+      let by_key : Slot V → Bool = λ s. eq_by_cmp key_cmp (key_of s) (word_at shared first, (first, second)) in
+      last_value_by_order first second (tuples_of ss)
+      ∙ ap (option_map (λ t. t.2)) (last_or-map (λ s. s.entry) by_pair None ss) ∙ value_in _
+      ∙ ap (λ l. option_map (λ s. s.entry.2) (last_or None l)) (filter_alike (λ s. by_pair s.entry) by_key ss (All-weaker (HasWord shared) (λ s. by_pair s.entry ≡ by_key s) (λ s is. equal_keys shared s.word (pair_of s.entry) (first, second) is) ss words))
+
+  slots_have_words : (shared : ℕ) (ts : List (Tuple V)) → All (HasWord shared) (map (slot_of shared) ts)
+  slots_have_words shared [] = All-nil (HasWord shared)
+  slots_have_words shared (t ∷ ts) = All-cons (HasWord shared) (slot_of shared t) (map (slot_of shared) ts) refl (slots_have_words shared ts)
+
+  tuples_of_slots : (shared : ℕ) (ts : List (Tuple V)) → tuples_of (map (slot_of shared) ts) ≡ ts
+  tuples_of_slots shared [] = refl
+  tuples_of_slots shared (t ∷ ts) = ap (λ l. t ∷ l) (tuples_of_slots shared ts)
+
   -- ---- counts
 
-  abbrev key_of : Entry V → List ℕ × List ℕ
-  key_of e = (e.0, e.1)
+  abbrev texts_of : Entry V → List ℕ × List ℕ
+  texts_of e = (e.0, e.1)
 
-  any_alike : (first second : List ℕ) (es : List (Entry V)) → list_any (is_under first second) es ≡ list_any (eq_by_cmp pair_cmp (first, second)) (map key_of es)
+  any_alike : (first second : List ℕ) (es : List (Entry V)) → list_any (is_under first second) es ≡ list_any (eq_by_cmp pair_cmp (first, second)) (map texts_of es)
   any_alike first second [] = refl
   any_alike first second (e ∷ es) =
       let here = equal_pairs e.0 e.1 first second ∙ (eq_by_cmp_equiv pair_total).symm (e.0, e.1) (first, second) in
       λ i. here i || any_alike first second es i
 
-  found_is : (es : List (Entry V)) (first second : List ℕ) → is_some (last_value first second es) ≡ set.contains (set.from_list {R = pair_cmp} (map key_of es)) (first, second)
+  found_is : (es : List (Entry V)) (first second : List ℕ) → is_some (last_value first second es) ≡ set.contains (set.from_list {R = pair_cmp} (map texts_of es)) (first, second)
   found_is es first second =
-      is_some-map (λ e. e.2) _ ∙ is_some-last (is_under first second) None es ∙ any_alike first second es ∙ sym (contains-from_list pair_total (map key_of es) (first, second))
+      is_some-map (λ e. e.2) _ ∙ is_some-last (is_under first second) None es ∙ any_alike first second es ∙ sym (contains-from_list pair_total (map texts_of es) (first, second))
 
-  count_is : (es : List (Entry V)) → pair_count es ≡ set.len (set.from_list {R = pair_cmp} (map key_of es))
+  count_is : (es : List (Entry V)) → pair_count es ≡ set.len (set.from_list {R = pair_cmp} (map texts_of es))
   count_is [] = sym (len-empty pair_cmp)
   count_is (e ∷ es) =
       ap (λ b. cond b (pair_count es) (pair_count es + 1)) (found_is es e.0 e.1)
-      ∙ ap (λ n. cond (set.contains (set.from_list {R = pair_cmp} (map key_of es)) (key_of e)) n (n + 1)) (count_is es)
-      ∙ sym (len-insert pair_total (set.from_list (map key_of es)) (key_of e))
+      ∙ ap (λ n. cond (set.contains (set.from_list {R = pair_cmp} (map texts_of es)) (texts_of e)) n (n + 1)) (count_is es)
+      ∙ sym (len-insert pair_total (set.from_list (map texts_of es)) (texts_of e))
 
   count_same : (es ds : List (Entry V)) → ((first second : List ℕ) → last_value first second es ≡ last_value first second ds) → pair_count es ≡ pair_count ds
   count_same es ds same =
       count_is es ∙ ap set.len (same_set pair_total pair_cmp-IsAntisymmetric _ _ (λ q. sym (found_is es q.0 q.1) ∙ ap is_some (same q.0 q.1) ∙ found_is ds q.0 q.1)) ∙ sym (count_is ds)
 
   -- each pair that stands once counts
-  count_sorted : (ts : List (Tuple V)) → IsStrictlySortedBy (λ x y. pair_cmp (pair_of x) (pair_of y)) ts → pair_count (entries_of ts) ≡ length ts
+  count_sorted : (shared : ℕ) (ss : List (Slot V)) → IsStrictlySortedBy (λ x y. key_cmp (key_of x) (key_of y)) ss → All (HasWord shared) ss → pair_count (entries_of (tuples_of ss)) ≡ length ss
   unfolding IsStrictlySortedBy
-  count_sorted [] sorted = refl
-  count_sorted (t ∷ ts) sorted =
-      let later : last_value (string_bytes t.0) (string_bytes t.1) (entries_of ts) ≡ None =
-      last_value_by_order (string_bytes t.0) (string_bytes t.1) ts
-      ∙ ap (λ l. option_map (λ t. t.2) (last_or None l)) (none_behind {R = λ x y. pair_cmp (pair_of x) (pair_of y)} (λ x. eq_by_cmp pair_cmp (pair_of x) (pair_of t)) (apart_by_key pair_total pair_cmp-IsAntisymmetric pair_of (pair_of t)) t ts ((eq_by_cmp_equiv pair_total).refl (pair_of t)) sorted.0) in
-      ap (λ b. cond b (pair_count (entries_of ts)) (pair_count (entries_of ts) + 1)) (ap is_some later) ∙ ap (λ n. n + 1) (count_sorted ts sorted.1) ∙ omega arith
+  count_sorted shared [] sorted words = refl
+  count_sorted shared (s ∷ ss) sorted words =
+      let rest = All-tail (HasWord shared) s ss words in
+      let q : Key = (word_at shared (string_bytes s.entry.0), pair_of s.entry) in
+      let itself : eq_by_cmp key_cmp (key_of s) q ≡ true = ap (λ (w : ℕ). eq_by_cmp key_cmp (w, pair_of s.entry) q) (All-head (HasWord shared) s ss words) ∙ (eq_by_cmp_equiv key_total).refl q in
+      let later : last_value (string_bytes s.entry.0) (string_bytes s.entry.1) (entries_of (tuples_of ss)) ≡ None =
+      last_value_by_key shared (string_bytes s.entry.0) (string_bytes s.entry.1) ss rest
+      ∙ ap (λ l. option_map (λ t. t.entry.2) (last_or None l)) (none_behind {R = λ x y. key_cmp (key_of x) (key_of y)} (λ x. eq_by_cmp key_cmp (key_of x) q) (apart_by_key key_total key_cmp-IsAntisymmetric key_of q) s ss itself sorted.0) in
+      let n = pair_count (entries_of (tuples_of ss)) in
+      ap (λ b. cond b n (n + 1)) (ap is_some later) ∙ ap (λ n. n + 1) (count_sorted shared ss sorted.1 rest) ∙ omega arith
 
-  abbrev pub entry_lt : Tuple V → Tuple V → Bool
-  entry_lt x y = is_lt (pair_cmp (pair_of x) (pair_of y))
+  abbrev pub slot_lt : Slot V → Slot V → Bool
+  slot_lt x y = is_lt (key_cmp (key_of x) (key_of y))
 
-  pub entry_lt_ranks : IsStrictWeakOrder entry_lt
-  entry_lt_ranks = ranks_by pair_total pair_of
+  pub slot_lt_ranks : IsStrictWeakOrder slot_lt
+  slot_lt_ranks = ranks_by key_total key_of
 
-  abbrev pub same_texts : Tuple V → Tuple V → Bool
-  same_texts x y = bytes_eq (string_bytes x.0) (string_bytes y.0) && bytes_eq (string_bytes x.1) (string_bytes y.1)
+  abbrev pub same_slots : Slot V → Slot V → Bool
+  same_slots x y = eqb x.word y.word && (bytes_eq (string_bytes x.entry.0) (string_bytes y.entry.0) && bytes_eq (string_bytes x.entry.1) (string_bytes y.entry.1))
 
-  pub keeps_last : (entered back sorted kept : List (Tuple V)) → back ≡ reverse entered → IsSortedBy entry_lt sorted → IsStableBy entry_lt back sorted → kept ≡ dedup same_texts sorted → KeepsLast kept entered
-  keeps_last entered back sorted kept turned ascends stable once =
-      let same : (x y : Tuple V) → same_texts x y ≡ eq_by_cmp pair_cmp (pair_of x) (pair_of y) = λ x y. equal_pairs (string_bytes x.0) (string_bytes x.1) (string_bytes y.0) (string_bytes y.1) in
-      let strictly : IsStrictlySortedBy (λ x y. pair_cmp (pair_of x) (pair_of y)) kept = subst (IsStrictlySortedBy (λ x y. pair_cmp (pair_of x) (pair_of y))) (sym once) (IsStrictlySortedBy-dedup (on_total pair_of pair_total) same sorted ascends) in
-      let values : (first second : List ℕ) → last_value first second (entries_of kept) ≡ last_value first second (entries_of entered) = λ first second.
-      last_value_by_order first second kept
-      ∙ ap (option_map (λ t. t.2)) (last_kept pair_total pair_cmp-IsAntisymmetric pair_of (first, second) same_texts same entered back sorted kept turned ascends stable once strictly)
-      ∙ sym (last_value_by_order first second entered) in
+  same_is : (x y : Slot V) → same_slots x y ≡ eq_by_cmp key_cmp (key_of x) (key_of y)
+  same_is x y =
+      both_tied (eqb x.word y.word) _ (nat_cmp y.word x.word) (pair_cmp (pair_of y.entry) (pair_of x.entry)) (unsigned_ties x.word y.word ∙ (eq_by_cmp_equiv nat_cmp_total).symm x.word y.word)
+      (equal_pairs (string_bytes x.entry.0) (string_bytes x.entry.1) (string_bytes y.entry.0) (string_bytes y.entry.1) ∙ (eq_by_cmp_equiv pair_total).symm (pair_of x.entry) (pair_of y.entry))
+
+  pub keeps_last : (shared : ℕ) (entered : List (Tuple V)) (back sorted kept : List (Slot V)) → back ≡ map (slot_of shared) (reverse entered) → IsPermutation back sorted → IsSortedBy slot_lt sorted → IsStableBy slot_lt back sorted → kept ≡ dedup same_slots sorted → KeepsLast shared kept entered
+  keeps_last shared entered back sorted kept turned moved ascends stable once =
+      let slots = map (slot_of shared) entered in
+      let strictly : IsStrictlySortedBy (λ x y. key_cmp (key_of x) (key_of y)) kept = subst (IsStrictlySortedBy (λ x y. key_cmp (key_of x) (key_of y))) (sym once) (IsStrictlySortedBy-dedup (on_total key_of key_total) same_is sorted ascends) in
+      let words_back : All (HasWord shared) back = subst (All (HasWord shared)) (sym turned) (slots_have_words shared (reverse entered)) in
+      let words : All (HasWord shared) kept = subst (All (HasWord shared)) (sym once) (All-dedup same_slots (HasWord shared) sorted (All-permutation (HasWord shared) back sorted moved words_back)) in
+      let values : (first second : List ℕ) → last_value first second (entries_of (tuples_of kept)) ≡ last_value first second (entries_of entered) = λ first second.
+      last_value_by_key shared first second kept words
+      ∙ ap (option_map (λ s. s.entry.2)) (last_kept key_total key_cmp-IsAntisymmetric key_of (word_at shared first, (first, second)) same_slots same_is slots back sorted kept (turned ∙ reverse_map (slot_of shared) entered) ascends stable once strictly)
+      ∙ sym (last_value_by_key shared first second slots (slots_have_words shared entered))
+      ∙ ap (λ ts. last_value first second (entries_of ts)) (tuples_of_slots shared entered) in
       record {
         sorted = strictly;
+        words = words;
         values = values;
-        count = sym (count_sorted kept strictly) ∙ count_same (entries_of kept) (entries_of entered) values;
+        count = sym (count_sorted shared kept strictly words) ∙ count_same (entries_of (tuples_of kept)) (entries_of entered) values;
       }

@@ -1,21 +1,31 @@
 //! A table that is made once and then searched: from pairs of texts to values.
-ghost use Rattle.std.specs.Prelude.{◌≡◌, ℕ, ◌+◌, ◌^◌, ◌<◌, ◌≤◌, ◌&&◌, string_bytes, bytes_eq, option_copied, IfOk};
+ghost use Rattle.std.specs.Prelude.{◌≡◌, ℕ, ◌+◌, ◌^◌, ◌<◌, ◌≤◌, ◌&&◌, string_bytes, bytes_eq, option_copied, map, reverse, length, take, drop, ◌++◌, IfOk};
 ghost use Rattle.ref_parts.specs.Table.{entries_of, last_value, pair_count};
-ghost use Rattle.ref_parts.specs.inner.SortedEntries.{pair_cmp, pair_of};
+ghost use Rattle.ref_parts.specs.inner.SortedEntries.{pair_cmp, key_cmp, key_of, word_at, slot_of, zeros};
 
 use std::alloc::{AllocError, Global};
 use std::cmp::Ordering;
 use std::marker::Model;
 use std::snapshot::Snapshot;
 
-/// Values under pairs of texts, which are found by halving: they stand in byte order, by the first text and by the second
-/// where the first are equal, each pair once.
+/// Values under pairs of texts, which are found by halving: they stand in byte order, the greatest first, by the first text and
+/// by the second where the first are equal, each pair once. Beside each stand eight bytes of its first text, behind the beginning
+/// that all first texts have in common, as a number: most comparisons are of two such numbers.
 ///
 /// Contracts see the list of the entries that it was made from.
 #[derive(Drop)]
 pub struct SortedTable<V> {
-    kept: Vec<(String, String, V)>,
+    kept: Vec<Slot<V>>,
+    // How many bytes the first texts begin with alike.
+    shared: usize,
     entered: Snapshot<Vec<(String, String, V)>>,
+}
+
+// An entry, and the eight bytes of its first text behind what all of them share, as a number that decides most comparisons.
+#[derive(Drop)]
+struct Slot<V> {
+    word: u64,
+    entry: (String, String, V),
 }
 
 impl<V> Model for SortedTable<V> {
@@ -28,7 +38,7 @@ impl<V> Model for SortedTable<V> {
 
     ghost view = { λ t. entries_of t.entered.value.items };
 
-    ghost invariant = { λ t. KeepsLast t.kept.items t.entered.value.items };
+    ghost invariant = { λ t. KeepsLast t.shared t.kept.items t.entered.value.items };
 }
 
 impl<V: Drop> SortedTable<V> {
@@ -38,20 +48,23 @@ impl<V: Drop> SortedTable<V> {
     /// about `n * log2(n)` comparisons of two entries.
     pub fn from_entries(
         alloc: Global,
-        mut entries: Vec<(String, String, V)>,
+        entries: Vec<(String, String, V)>,
     ) -> Result<Self, AllocError>
         ensures entered { IfOk result (λ table. table ≡ entries_of entries.items) }
     {
         let entered = Snapshot::of(&entries);
-        // Sorting keeps the order of equal pairs, and of these the first stays.
-        entries.reverse();
-        entries.as_mut_slice().sort_by(
+        let shared = shared_len(entries.as_slice());
+        // Sorting keeps the order of equal pairs, and of these the first stays. Entries that came in byte order fall now, and need
+        // only be passed.
+        let mut kept = slots_backwards(alloc, entries, shared)?;
+        kept.as_mut_slice().sort_by(
             alloc,
-            |a, b| order(a.0.as_str(), a.1.as_str(), b.0.as_str(), b.1.as_str()),
+            |a, b| order(a, b.word, b.entry.0.as_str(), b.entry.1.as_str()),
         )?;
-        entries.dedup_by(|a, b| a.0 == b.0 && a.1 == b.1);
+        kept.dedup_by(|a, b| a.word == b.word && a.entry.0 == b.entry.0 && a.entry.1 == b.entry.1);
         Ok(SortedTable {
-            kept: entries,
+            kept,
+            shared,
             entered,
         })
     }
@@ -68,21 +81,22 @@ impl<V> SortedTable<V> {
     /// The value that was entered last under two texts, and how many entries were compared with them.
     ///
     /// No more entries are compared than the count of pairs has binary digits: where `len` is below 2^n, at most n. Takes no
-    /// memory. A comparison reads each byte of a beginning that texts share once, and second texts only where the first
-    /// are equal.
+    /// memory. A comparison reads texts only where eight bytes of the first, behind what all first texts have in common, are
+    /// equal; then each byte of a beginning that they share once, and second texts only where the first are equal.
     pub fn get(&self, first: &str, second: &str) -> (Option<&V>, usize)
         ensures value { option_copied result.0 ≡ last_value first.now second.now self.now }
         ensures probes { (digits : ℕ) → pair_count self.now < 2 ^ digits → result.1 ≤ digits }
     {
+        let word = word_at(first, self.shared);
         let mut probes = 0;
         let mut low = 0;
         let mut high = self.kept.len();
         while low < high {
             let middle = low + (high - low) / 2;
-            let entry = &self.kept[middle];
-            match probe(entry, first, second, &mut probes) {
+            let slot = &self.kept[middle];
+            match probe(slot, word, first, second, &mut probes) {
                 Ordering::Less => low = middle + 1,
-                Ordering::Equal => return (Some(&entry.2), probes),
+                Ordering::Equal => return (Some(&slot.entry.2), probes),
                 Ordering::Greater => high = middle,
             }
         }
@@ -90,18 +104,89 @@ impl<V> SortedTable<V> {
     }
 }
 
+// The entries from the last to the first, each with the word of its first text.
+fn slots_backwards<V: Drop>(
+    alloc: Global,
+    mut entries: Vec<(String, String, V)>,
+    shared: usize,
+) -> Result<Vec<Slot<V>>, AllocError>
+    ensures { IfOk result (λ slots. slots.items ≡ map (slot_of shared) (reverse entries.items)) }
+{
+    let mut slots = Vec::with_capacity(alloc, entries.len())?;
+    while let Some(entry) = entries.pop() {
+        let word = word_at(entry.0.as_str(), shared);
+        slots.push(Slot { word, entry })?;
+    }
+    Ok(slots)
+}
+
+// How many bytes the first texts of all entries begin with alike.
+fn shared_len<V>(entries: &[(String, String, V)]) -> usize {
+    let Some(entry) = entries.first() else {
+        return 0;
+    };
+    let mut shared = entry.0.as_bytes();
+    for entry in entries {
+        shared = shared_part(shared, entry.0.as_bytes());
+    }
+    shared.len()
+}
+
+// The beginning of a text that another one has too.
+fn shared_part<'t>(text: &'t [u8], other: &[u8]) -> &'t [u8] {
+    if other.starts_with(text) {
+        return text;
+    }
+    let len = text
+        .iter()
+        .zip(other)
+        .take_while(|(byte, also)| byte == also)
+        .count();
+    text.get(..len).unwrap_or(text)
+}
+
+// The eight bytes of a text from a place on as a number, the first one highest, with 0 for each that it hasn't.
+fn word_at(text: &str, from: usize) -> u64
+    ensures { result ≡ word_at from text.now }
+{
+    let bytes = text.as_bytes();
+    let rest = &bytes[from.min(bytes.len())..];
+    u64::from_be_bytes(first_eight(rest))
+}
+
+// The first eight bytes, with 0 for each that there is not.
+fn first_eight(bytes: &[u8]) -> [u8; 8]
+    ensures { result ≡ take 8 bytes.now ++ drop (length bytes.now) zeros }
+{
+    let len = bytes.len().min(8);
+    let mut first = [0; 8];
+    first[..len].copy_from_slice(&bytes[..len]);
+    first
+}
+
 // Compares an entry with two texts, and counts that it did.
-fn probe<V>(entry: &(String, String, V), first: &str, second: &str, probes: &mut usize) -> Ordering
+fn probe<V>(slot: &Slot<V>, word: u64, first: &str, second: &str, probes: &mut usize) -> Ordering
     requires { probes.old + 1 < 2 ^ 64 }
-    ensures order { result ≡ pair_cmp (pair_of entry.now) (first.now, second.now) }
+    ensures order { result ≡ key_cmp (key_of slot.now) (word, (first.now, second.now)) }
     ensures counted { probes.new ≡ probes.old + 1 }
 {
     *probes += 1;
-    order(entry.0.as_str(), entry.1.as_str(), first, second)
+    order(slot, word, first, second)
+}
+
+// Whether an entry stands before two texts with the word of the first: by the words, and by the texts where those are equal, the
+// greatest first.
+fn order<V>(slot: &Slot<V>, word: u64, first: &str, second: &str) -> Ordering
+    ensures { result ≡ key_cmp (key_of slot.now) (word, (first.now, second.now)) }
+{
+    match word.cmp(&slot.word) {
+        Ordering::Equal => by_texts(first, second, slot.entry.0.as_str(), slot.entry.1.as_str()),
+        unequal => unequal,
+    }
 }
 
 // The order of two pairs of texts: by the first of each, and by the second only where those are equal.
-fn order(first: &str, second: &str, other_first: &str, other_second: &str) -> Ordering
+fn by_texts(first: &str, second: &str, other_first: &str, other_second: &str) -> Ordering
     ensures { result ≡ pair_cmp (first.now, second.now) (other_first.now, other_second.now) }
 {
     match first.cmp(&other_first) {

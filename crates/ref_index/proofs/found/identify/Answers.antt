@@ -1,11 +1,7 @@
-use Rattle.std.proofs.Common.{◌∙◌, ap, cond, true, rules, bytes_eq, string_bytes}
+use Rattle.std.proofs.Common.{◌∙◌, ap, cond, true, bytes_eq, string_bytes}
 use Rattle.std.specs.HashSet.{contains_text}
 use Rattle.std.proofs.lemmas.Map.Text.{hash_set_updates_text}
-use Rattle.ref_index.proofs.Holding.{already_known}
 use Rattle.ref_index.proofs.found.identify.Goals as goal
-
-pub returns-then-contains : goal.returns-then-contains
-returns-then-contains c = λ u. already_known u c.args.uri.now (λ v. contains_text c.args.identified.now v) (search rules)
 
 pub returns : goal.returns
 returns c = λ u.

@@ -37,7 +37,7 @@ returns-clause-added c = λ layer rs ns ws ps held stands.
     let same = c.id-id.ensures.value ∙ ap id_of c.new.ensures.value in
     let based_on : base_within outer (option_map (λ text. text.now) c.id-id.result) ≡ Ok base = c.in_ok-base.ensures.ok in
     let kept = subst (λ id. Holds layer c.add_base.new.found rs ns ws (ps ++ pairs_of_identifier outer id)) same (c.in_ok-add_base.ensures layer rs ns ws ps held based_on) in
-    let placed = c.in_ok-add_place.ensures layer rs ns ws (ps ++ own) kept stands based in
+    let placed = c.in_ok-add_place.ensures layer rs ns ws (ps ++ own) kept stands same based in
     let referred = c.in_ok-add_reference.ensures.added layer rs' ns' ws (ps ++ own) placed in
     holds_same layer c.add_meta_schema.new.found rs' rs' ns' ns' _ _ _ _ refl refl (wants_where p.base base p.value ws based) (pairs_where p.base base p.value own ps based)
     (c.in_ok-add_meta_schema.ensures.added layer rs' ns' (ws ++ wanted Reference (reference_at base p.value)) ((ps ++ own) ++ reference_pairs base p.value) referred)

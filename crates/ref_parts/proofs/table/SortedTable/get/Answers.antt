@@ -1,8 +1,8 @@
 use Rattle.std.proofs.Common.{◌+◌, ◌-◌, ◌*◌, ◌/◌, ◌^◌, ◌<◌, ◌≤◌, length, sym, ap, ◌∙◌, subst, arith}
 use Rattle.ref_parts.specs.Table.{last_value, pair_count}
 use Rattle.ref_parts.proofs.ProbeLaws.{below_digits, halved, enough, below_middle, above_middle, found_at, found_nowhere}
-use Rattle.ref_parts.proofs.TableLaws.{pair_total}
-use Rattle.ref_parts.specs.inner.SortedEntries.{pair_of}
+use Rattle.ref_parts.proofs.TableLaws.{key_total}
+use Rattle.ref_parts.specs.inner.SortedEntries.{key_of}
 use Rattle.ref_parts.proofs.table.SortedTable.get.Goals as goal
 
 pub probe-requires : goal.probe-requires
@@ -15,7 +15,7 @@ probe-requires g c =
 
 pub returns-clause-value : goal.returns-clause-value
 returns-clause-value g c =
-    sym (ap (last_value c.args.first.now c.args.second.now) (sym c.self.view_is) ∙ found_nowhere c.self.inside.entered.value.items c.self.inside.kept.items c.self.invariant c.args.first.now c.args.second.now c.loop-low.low c.loop-low.high (omega arith) c.loop-low.invariant.below c.loop-low.invariant.above)
+    sym (ap (last_value c.args.first.now c.args.second.now) (sym c.self.view_is) ∙ found_nowhere c.self.inside.shared c.self.inside.entered.value.items c.self.inside.kept.items c.self.invariant c.args.first.now c.args.second.now _ c.word_at-word.ensures c.loop-low.low c.loop-low.high (omega arith) c.loop-low.invariant.below c.loop-low.invariant.above)
 
 pub returns-clause-probes : goal.returns-clause-probes
 returns-clause-probes g c = λ digits above. c.loop-low.invariant.spent digits (subst (λ n. n < 2 ^ digits) (ap pair_count (sym c.self.view_is) ∙ sym c.self.invariant.count) above)
@@ -30,7 +30,7 @@ returns-in-Equal-clause-probes g c = λ digits above.
 pub returns-in-Equal-clause-value : goal.returns-in-Equal-clause-value
 returns-in-Equal-clause-value g c =
     let kept = c.self.inside.kept.items in
-    sym (ap (last_value c.args.first.now c.args.second.now) (sym c.self.view_is) ∙ found_at c.self.inside.entered.value.items kept c.self.invariant c.args.first.now c.args.second.now (c.loop-low.low + (c.loop-low.high - c.loop-low.low) / 2) c.index-entry.result.now (omega arith) c.index-entry.ensures (sym c.in-Equal.ensures.order))
+    sym (ap (last_value c.args.first.now c.args.second.now) (sym c.self.view_is) ∙ found_at c.self.inside.shared c.self.inside.entered.value.items kept c.self.invariant c.args.first.now c.args.second.now _ c.word_at-word.ensures (c.loop-low.low + (c.loop-low.high - c.loop-low.low) / 2) c.index-slot.result.now (omega arith) c.index-slot.ensures (sym c.in-Equal.ensures.order))
 
 pub loop-low-preserved-in-Less : goal.loop-low-preserved-in-Less
 loop-low-preserved-in-Less g c =
@@ -40,7 +40,7 @@ loop-low-preserved-in-Less g c =
     let probes = c.loop-low.probes in
     record {
       within = (omega arith, c.loop-low.invariant.within.1);
-      below = below_middle pair_total pair_of (c.args.first.now, c.args.second.now) kept c.self.invariant.sorted middle c.index-entry.result.now (omega arith) c.index-entry.ensures (sym c.in-Less.ensures.order);
+      below = below_middle key_total key_of (c.word_at-word.result, (c.args.first.now, c.args.second.now)) kept c.self.invariant.sorted middle c.index-slot.result.now (omega arith) c.index-slot.ensures (sym c.in-Less.ensures.order);
       above = c.loop-low.invariant.above;
       spent = λ digits above. let few = below_digits probes (length kept) digits (enough _ probes (length kept) c.loop-low.invariant.left some) above in omega (arith, few, c.in-Less.ensures.counted);
       left = subst (λ p. (c.loop-low.high - (middle + 1)) * 2 ^ p ≤ length kept) (sym c.in-Less.ensures.counted) (halved (c.loop-low.high - c.loop-low.low) _ probes (length kept) c.loop-low.invariant.left (omega arith));
@@ -55,7 +55,7 @@ loop-low-preserved g c =
     record {
       within = (omega arith, omega arith);
       below = c.loop-low.invariant.below;
-      above = above_middle pair_total pair_of (c.args.first.now, c.args.second.now) kept c.self.invariant.sorted middle c.index-entry.result.now (omega arith) c.index-entry.ensures (sym c.in-Greater.ensures.order);
+      above = above_middle key_total key_of (c.word_at-word.result, (c.args.first.now, c.args.second.now)) kept c.self.invariant.sorted middle c.index-slot.result.now (omega arith) c.index-slot.ensures (sym c.in-Greater.ensures.order);
       spent = λ digits above. let few = below_digits probes (length kept) digits (enough _ probes (length kept) c.loop-low.invariant.left some) above in omega (arith, few, c.in-Greater.ensures.counted);
       left = subst (λ p. (middle - c.loop-low.low) * 2 ^ p ≤ length kept) (sym c.in-Greater.ensures.counted) (halved (c.loop-low.high - c.loop-low.low) _ probes (length kept) c.loop-low.invariant.left (omega arith));
     }
