@@ -1,7 +1,8 @@
 -- A document behind others.
-use Rattle.std.proofs.Common.{◌≡◌, ℕ, zero, suc, List, [], ◌∷◌, ◌++◌, flat_map, length, Some, refl, sym, ap, ◌∙◌, subst, append-nil}
+use Rattle.std.proofs.Common.{◌≡◌, ℕ, zero, suc, List, [], ◌∷◌, ◌++◌, flat_map, length, Some, ⊎_elim, refl, sym, ap, ◌∙◌, subst, append-nil}
 use Rattle.std.specs.Prelude.{slice_get}
-use Rattle.std.specs.List.{AllZip}
+use Rattle.std.specs.List.{AllZip, Contains}
+use Rattle.std.proofs.lemmas.List.Elements.{All-contains, All-from_recursion, Contains-push_cases}
 use Rattle.std.proofs.lemmas.Grind.{flat_map-append}
 use Rattle.ref_uri.specs.declared.error.UriFault.{UriFault}
 use Rattle.ref_world.specs.World.{Document, Layer}
@@ -13,7 +14,7 @@ use Rattle.ref_world.specs.Wants.{Want, wants, faults}
 use Rattle.ref_index.specs.declared.entry.Entry.{Entry}
 use Rattle.ref_index.specs.declared.found.Found.{Found}
 use Rattle.ref_index.specs.Found.{IsEntryOf, IsResourceOf, IsNameOf, Holds}
-use Rattle.ref_index.specs.Visits.{IsFirstFault, IsWalked, IsFound, faults_of, wants_of}
+use Rattle.ref_index.specs.Visits.{IsFirstFault, IsWalked, IsFound, ChildrenStandAt, faults_of, wants_of}
 use Rattle.ref_index.proofs.Visiting.{holds_same}
 
 -- ---- numbers of documents
@@ -68,6 +69,10 @@ found_more layer d old new is walk = record {
       (one_more (λ e. flat_map pairs_at (places e)) layer d)
       (walk.added (layer ++ d ∷ []) (resources layer) (names layer) (wants layer) (pairs layer) (at_length layer d) (holds_stays layer (d ∷ []) old (resources layer) (names layer) (wants layer) (pairs layer) is.held));
   faultless = sym (faults_more layer d is.faultless) ∙ walk.faultless;
+  children = λ e there.
+      ⊎_elim (λ own. is.children e own)
+      (λ same. λ p at. All-contains ChildrenStandAt (places d) p (All-from_recursion ChildrenStandAt (places d) walk.children) (subst (λ x. Contains (places x) p) (sym same) at))
+      (Contains-push_cases layer d e there);
 }
 
 pub first_of_layer : (layer : Layer) (d : Document) (fault : UriFault) → faults layer ≡ [] → IsFirstFault (flat_map faults_of (places d)) fault → IsFirstFault (faults (layer ++ d ∷ [])) fault

@@ -8,3 +8,4 @@ pub mod Looking
 pub mod Layers
 pub mod Opening
 pub mod Retrieving
+pub mod Listing

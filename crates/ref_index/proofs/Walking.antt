@@ -8,6 +8,7 @@ use Rattle.serde_json.specs.Data.{Data}
 use Rattle.serde_json.specs.View.{view}
 use Rattle.ref_parts.specs.Path.{Part, value_at}
 use Rattle.ref_draft.specs.Children.{Walked, AllStand, walked}
+use Rattle.ref_draft.proofs.Lists.{all_append}
 use Rattle.ref_uri.specs.Targets.{Refusal}
 use Rattle.ref_uri.specs.declared.error.UriFault.{UriFault}
 use Rattle.ref_uri.specs.declared.error.UriFault.TheVariants.{Invalid, Memory}
@@ -20,7 +21,7 @@ use Rattle.ref_world.specs.Cached.{pairs_at}
 use Rattle.ref_index.specs.declared.found.Found.{Found}
 use Rattle.ref_index.specs.declared.queue.Visit.{Visit}
 use Rattle.ref_index.specs.Queue.{place_of, IsQueue}
-use Rattle.ref_index.specs.Visits.{IsFirstFault, IsVisited, IsWalked, AllStandIn, IsAt, faults_of, names_of, wants_of}
+use Rattle.ref_index.specs.Visits.{IsFirstFault, IsVisited, IsWalked, AllStandIn, ChildrenStandAt, IsAt, faults_of, names_of, wants_of}
 use Rattle.ref_index.proofs.Visiting.{holds_same}
 use Rattle.ref_index.proofs.Queues.{at_root, step, at_end, beginning}
 
@@ -68,12 +69,12 @@ pub head_is : (vs : List Visit) (i : ℕ) (v : Visit) → i < length vs → slic
 head_is vs i v within at =
     ap (map place_of) (drop_more vs i v within ∙ ap (λ w. w ∷ drop (i + 1) vs) (get_or_from_slice_get vs i v v at))
 
-visited_is : (vs more : List Visit) (i : ℕ) (v : Visit) → i < length vs → slice_get vs i ≡ Some v → map place_of (take (i + 1) (vs ++ more)) ≡ map place_of (take i vs) ++ place_of v ∷ []
+pub visited_is : (vs more : List Visit) (i : ℕ) (v : Visit) → i < length vs → slice_get vs i ≡ Some v → map place_of (take (i + 1) (vs ++ more)) ≡ map place_of (take i vs) ++ place_of v ∷ []
 visited_is vs more i v within at =
     ap (map place_of) (take-append-le (i + 1) vs more (omega arith) ∙ take_more vs i v within ∙ ap (λ w. take i vs ++ w ∷ []) (get_or_from_slice_get vs i v v at))
     ∙ map-append place_of (take i vs) (v ∷ [])
 
-waiting_is : (vs more : List Visit) (i : ℕ) → i < length vs → map place_of (drop (i + 1) (vs ++ more)) ≡ map place_of (drop (i + 1) vs) ++ map place_of more
+pub waiting_is : (vs more : List Visit) (i : ℕ) → i < length vs → map place_of (drop (i + 1) (vs ++ more)) ≡ map place_of (drop (i + 1) vs) ++ map place_of more
 waiting_is vs more i within = ap (map place_of) (drop-append-le (i + 1) vs more (omega arith)) ∙ map-append place_of (drop (i + 1) vs) more
 
 -- ---- one place more
@@ -89,6 +90,7 @@ walked_more d number old new newer visited v queue after at walk visit = record 
       holds_same layer newer _ _ _ _ _ _ _ _ (added_more resource_of rs ((d.uri, root d) ∷ []) visited (place_of v))
       (added_more names_of ns (named_under d.uri (root d)) visited (place_of v)) (added_more wants_of ws [] visited (place_of v))
       (added_more pairs_at ps [] visited (place_of v)) (visit.added layer _ _ _ _ (walk.added layer rs ns ws ps numbered held) (record { document = d; numbered = numbered; value = at }));
+  children = all_append ChildrenStandAt visited (place_of v ∷ []) walk.children (visit.stand, tt);
   faultless = flat_map-append faults_of visited (place_of v ∷ []) ∙ ap (λ l. l ++ (faults_of (place_of v) ++ [])) walk.faultless ∙ append-nil (faults_of (place_of v)) ∙ visit.faultless;
 }
 
@@ -134,6 +136,7 @@ begin d number old new queue after v one is visit =
             (ap (λ l. ws ++ l) (sym (append-nil (wants_of (place_of v))))) (ap (λ l. ps ++ l) (sym (append-nil (pairs_at (place_of v)))))
             (visit.added layer rs ns ws ps held (record { document = d; numbered = numbered; value = at }));
         faultless = append-nil (faults_of (place_of v)) ∙ visit.faultless;
+        children = (visit.stand, tt);
       };
     } in
     subst (λ l. IsAt d number old new l 1) same result
@@ -145,8 +148,11 @@ finish d number old new queue head all is =
     subst (IsWalked d number old new)
     (sym (at_end d (map place_of (take head queue)) (subst (λ l. IsQueue d (map place_of (take head queue)) (map place_of l)) (drop_all head queue all) is.order))) is.walk
 
-pub left : (d : Document) (number : ℕ) (old new : Found) (queue : List Visit) (head : ℕ) (v : Visit) → head < length queue → slice_get queue head ≡ Some v → IsAt d number old new queue head → head < length (places d)
-left d number old new queue head v within here is =
-    let some = beginning d (map place_of (take head queue)) (place_of v ∷ map place_of (drop (head + 1) queue)) (subst (IsQueue d (map place_of (take head queue))) (head_is queue head v within here) is.order) in
+pub left_in : (d : Document) (queue : List Visit) (head : ℕ) (v : Visit) → head < length queue → slice_get queue head ≡ Some v → IsQueue d (map place_of (take head queue)) (map place_of (drop head queue)) → head < length (places d)
+left_in d queue head v within here order =
+    let some = beginning d (map place_of (take head queue)) (place_of v ∷ map place_of (drop (head + 1) queue)) (subst (IsQueue d (map place_of (take head queue))) (head_is queue head v within here) order) in
     let long : length (places d) ≡ length (map place_of (take head queue)) + suc (length (map place_of (drop (head + 1) queue) ++ some.0)) = ap length some.1 ∙ length-append (map place_of (take head queue)) _ in
     omega (arith, length-map (take head queue) place_of, length-take-le head queue (omega arith))
+
+pub left : (d : Document) (number : ℕ) (old new : Found) (queue : List Visit) (head : ℕ) (v : Visit) → head < length queue → slice_get queue head ≡ Some v → IsAt d number old new queue head → head < length (places d)
+left d number old new queue head v within here is = left_in d queue head v within here is.order

@@ -1,11 +1,12 @@
 -- That the tables of an index tell the places of its documents.
 use Rattle.std.specs.Prelude.{◌≡◌, ℕ, List, [], Option, Some, Ok}
-use Rattle.std.specs.List.{AllZip}
+use Rattle.std.specs.List.{AllZip, Contains}
 use Rattle.std.specs.declared.alloc.Global.{Global}
 use Rattle.std.specs.declared.rc.Rc.{Rc}
 use Rattle.ref_uri.specs.Targets.{against}
 use Rattle.ref_parts.specs.Table as table
-use Rattle.ref_world.specs.World.{Layer}
+use Rattle.ref_world.specs.World.{Document, Layer}
+use Rattle.ref_world.specs.Agreement.{ChildrenStand}
 use Rattle.ref_world.specs.Places.{Place}
 use Rattle.ref_world.specs.Resources.{resources}
 use Rattle.ref_world.specs.Anchors.{Named, names}
@@ -26,11 +27,13 @@ IsNameIn layer e n = (e.0 ≡ n.uri) × (e.1 ≡ n.name) × (kind_of e.2.is_dyna
 abbrev pub IsPairIn : table.Entry (Rc (List ℕ) Global) → Pair → Type 0
 IsPairIn e p = (e.0 ≡ p.0) × (e.1 ≡ p.1) × (against p.0 p.1 ≡ Ok e.2.value)
 
--- the tables hold the resources and the names of the documents, and what is resolved of them, in their order
+-- the tables hold the resources and the names of the documents, and what is resolved of them, in their order; and the children
+-- of the documents' places stand at their paths
 pub record IsIndexOf (layer : Layer) (by_uri : List (table.Entry (Rc Entry Global))) (by_name : List (table.Entry NamedEntry)) (by_pair : List (table.Entry (Rc (List ℕ) Global))) : Type 0 where
   pub resource : AllZip (IsResourceIn layer) by_uri (resources layer)
   pub name : AllZip (IsNameIn layer) by_name (names layer)
   pub pair : AllZip IsPairIn by_pair (pairs layer)
+  pub children : (d : Document) → Contains layer d → ChildrenStand d
 
 -- an entry is that of the place that was found
 abbrev pub IsFoundAt : Layer → Entry → Option (List ℕ × Place) → Type 0

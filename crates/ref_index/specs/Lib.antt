@@ -6,4 +6,5 @@ pub mod Found
 pub mod Queue
 pub mod Visits
 pub mod Index
+pub mod Listing
 pub mod Retrieval

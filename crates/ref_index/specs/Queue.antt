@@ -1,10 +1,11 @@
 -- The queue of the walk, for private clauses: what was found of a document's places is a beginning of them.
-use Rattle.std.specs.Prelude.{◌≡◌, ℕ, ◌≤◌, List, ◌++◌, flat_map}
+use Rattle.std.specs.Prelude.{◌≡◌, ℕ, ◌≤◌, List, ◌++◌, map, flat_map, take, drop, length}
 use Rattle.serde_json.specs.Data.{depth}
 use Rattle.serde_json.specs.View.{view}
 use Rattle.ref_draft.specs.Schema.{identifier}
 use Rattle.ref_world.specs.World.{Document}
 use Rattle.ref_world.specs.Places.{Place, base_within, children_of, levels_below, places}
+use Rattle.ref_world.specs.Listing.{Listed, listed}
 use Rattle.ref_index.specs.declared.queue.Visit.{Visit}
 
 -- the place of a visit
@@ -27,3 +28,9 @@ pub record IsQueue (d : Document) (visited waiting : List Place) : Type 0 where
   pub next : List Place
   pub split : waiting ≡ level ++ next
   pub whole : (m : ℕ) → depth d.tree ≤ m → places d ≡ visited ++ left_from m level next
+
+-- The places before the head of the queue were listed behind others.
+pub record IsListedTo (d : Document) (number : ℕ) (before after : List Listed) (queue : List Visit) (head : ℕ) : Type 0 where
+  pub within : head ≤ length queue
+  pub order : IsQueue d (map place_of (take head queue)) (map place_of (drop head queue))
+  pub list : after ≡ before ++ map (listed number) (map place_of (take head queue))

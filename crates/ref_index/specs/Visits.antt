@@ -1,7 +1,7 @@
 -- What one visited place adds, for private clauses.
 use Rattle.std.specs.Prelude.{◌≡◌, ℕ, List, [], ◌∷◌, ◌++◌, ◌≤◌, map, flat_map, take, drop, length, ⊤, slice_get, Option, Some, None, Result, Ok}
 use Rattle.serde_json.specs.View.{view}
-use Rattle.std.specs.List.{AllByRecursion}
+use Rattle.std.specs.List.{AllByRecursion, Contains}
 use Rattle.ref_parts.specs.Path.{value_at}
 use Rattle.ref_uri.specs.Reference.{with_fragment}
 use Rattle.ref_uri.specs.Targets.{Refusal, parsed}
@@ -15,6 +15,7 @@ use Rattle.ref_world.specs.Resources.{resource_of, resources}
 use Rattle.ref_world.specs.Anchors.{Named, named_under, named_at, names}
 use Rattle.ref_world.specs.Cached.{Pair, pairs_at, pairs}
 use Rattle.ref_world.specs.Wants.{Want, wants_at, faults_at, wants, faults}
+use Rattle.ref_world.specs.Agreement.{ChildrenStand}
 use Rattle.ref_draft.specs.Children.{AllStand, walked}
 use Rattle.ref_index.specs.declared.found.Found.{Found}
 use Rattle.ref_index.specs.declared.queue.Visit.{Visit}
@@ -76,11 +77,17 @@ pub record IsVisited (number : ℕ) (under : Option (List ℕ)) (v : Visit) (old
   pub children : map place_of more ≡ children_of (place_of v)
   pub stand : AllStand (view v.value.now) (walked v.draft (view v.value.now))
 
--- Places of a document were visited from the root on: what they are identified by, are named and want was added, and none has a fault.
+-- each child of a place stands at its path there
+abbrev pub ChildrenStandAt : Place → Type 0
+ChildrenStandAt p = AllStand p.value (walked p.draft p.value)
+
+-- Places of a document were visited from the root on: what they are identified by, are named and want was added, none has a
+-- fault, and their children stand at their paths.
 pub record IsWalked (d : Document) (number : ℕ) (old new : Found) (visited : List Place) : Type 0 where
   pub added : (layer : Layer) (rs : List (List ℕ × Place)) (ns : List Named) (ws : List Want) (ps : List Pair) → slice_get layer number ≡ Some d → Holds layer old rs ns ws ps
       → Holds layer new (rs ++ (d.uri, root d) ∷ flat_map resource_of visited) (ns ++ (named_under d.uri (root d) ++ flat_map names_of visited)) (ws ++ flat_map wants_of visited) (ps ++ flat_map pairs_at visited)
   pub faultless : flat_map faults_of visited ≡ []
+  pub children : AllByRecursion ChildrenStandAt visited
 
 -- each place's value stands at its path
 abbrev pub AllStandIn : Document → List Place → Type 0
@@ -93,7 +100,8 @@ pub record IsAt (d : Document) (number : ℕ) (old new : Found) (queue : List Vi
   pub stand : AllStandIn d (map place_of queue)
   pub walk : IsWalked d number old new (map place_of (take head queue))
 
--- What was found in documents is all that they have, and none has a fault.
+-- What was found in documents is all that they have, none has a fault, and the children of their places stand at their paths.
 pub record IsFound (layer : Layer) (f : Found) : Type 0 where
   pub held : Holds layer f (resources layer) (names layer) (wants layer) (pairs layer)
   pub faultless : faults layer ≡ []
+  pub children : (d : Document) → Contains layer d → ChildrenStand d

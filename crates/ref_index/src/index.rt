@@ -3,6 +3,8 @@ ghost use Rattle.std.specs.Prelude.{◌≡◌, ℕ, List, map, length, MatchOpti
 ghost use Rattle.std.specs.List.{Contains};
 ghost use Rattle.serde_json.specs.View.{view};
 ghost use Rattle.ref_uri.specs.Targets.{against};
+ghost use Rattle.ref_world.specs.World.{Document as WorldDocument};
+ghost use Rattle.ref_world.specs.Agreement.{ChildrenStand};
 ghost use Rattle.ref_world.specs.Places.{Place};
 ghost use Rattle.ref_world.specs.Resources.{last_under, resources};
 ghost use Rattle.ref_world.specs.Anchors.{last_named, names};
@@ -57,7 +59,8 @@ impl<'a> Index<'a> {
         documents: Vec<Document<'a>>,
         found: Found,
     ) -> Result<Index<'a>, AllocError>
-        requires { (wants : List Want) × Holds (map document_of documents.items) found (resources (map document_of documents.items)) (names (map document_of documents.items)) wants (pairs (map document_of documents.items)) }
+        requires held { (wants : List Want) × Holds (map document_of documents.items) found (resources (map document_of documents.items)) (names (map document_of documents.items)) wants (pairs (map document_of documents.items)) }
+        requires children { (d : WorldDocument) → Contains (map document_of documents.items) d → ChildrenStand d }
         ensures value { IfOk result (λ index. index ≡ map document_of documents.entry.items) }
     {
         let by_uri = SortedTable::from_entries(alloc, found.resources)?;
@@ -76,6 +79,20 @@ impl<'a> Index<'a> {
         ensures value { result ≡ length self.now }
     {
         self.documents.len()
+    }
+
+    /// The documents, in the order in which they were added and retrieved. Takes no memory.
+    pub fn documents(&self) -> &[Document<'a>]
+        ensures value { map document_of result.now ≡ self.now }
+    {
+        self.documents.as_slice()
+    }
+
+    /// Each child of a place of these documents stands at its path. A law; the call does nothing.
+    pub fn children_stand(&self)
+        ensures law { (d : WorldDocument) → Contains self.now d → ChildrenStand d }
+    {
+        let _ = &self.by_uri;
     }
 
     /// The value of the document with a number, in the order in which they were added and retrieved, counted from 0. A look-up;

@@ -262,8 +262,8 @@ fn settle(
     Ok(base)
 }
 
-// Adds the children of a place to the queue.
-fn push_children<'w>(
+/// Adds the children of a place to the queue.
+pub(crate) fn push_children<'w>(
     alloc: Global,
     queue: &mut Vec<Visit<'w>>,
     path: &JsonPointerNode<'w>,
@@ -298,8 +298,8 @@ fn push_children<'w>(
     Ok(())
 }
 
-// Adds a visit to the queue.
-fn push_visit<'w>(queue: &mut Vec<Visit<'w>>, visit: Visit<'w>) -> Result<(), AllocError>
+/// Adds a visit to the queue.
+pub(crate) fn push_visit<'w>(queue: &mut Vec<Visit<'w>>, visit: Visit<'w>) -> Result<(), AllocError>
     ensures { OnOk result (queue.new.items ≡ queue.old.items ++ visit.entry ∷ []) }
 {
     queue.push(visit)?;
@@ -328,8 +328,11 @@ fn visit<'w>(
     Ok(())
 }
 
-// The root of a document, to be visited first.
-fn root_of<'w>(alloc: Global, document: &'w Document<'_>) -> Result<Visit<'w>, AllocError>
+/// The root of a document, to be visited first.
+pub(crate) fn root_of<'w>(
+    alloc: Global,
+    document: &'w Document<'_>,
+) -> Result<Visit<'w>, AllocError>
     ensures { IfOk result (λ v. place_of v ≡ root (document_of document.now)) }
 {
     let uri = document.uri.clone()?;

@@ -13,11 +13,9 @@ use Rattle.ref_draft.specs.Children.{Child, children, is_object, keyword_of, wit
 use Rattle.ref_draft.specs.Scan.{IsAccepted, AcceptsChildren}
 use Rattle.ref_draft.specs.ScanSteps.{scan}
 use Rattle.ref_draft.specs.Beginnings.{EndsWithin, AllEndWithin, IsMapOfSchemas, is_array}
-use Rattle.ref_draft.specs.UniqueKeys.{HasUniqueKeys}
 use Rattle.ref_draft.proofs.Agreement.{accepts_children}
 use Rattle.ref_draft.proofs.Beginnings.{all_end_within, IsKeyAlone, begin_with_keys}
 use Rattle.ref_draft.proofs.Scanning.{accepted}
-use Rattle.ref_draft.proofs.Unique.{children_stand, unique_children}
 use Rattle.ref_draft.proofs.Apart.{HasParts, children_have_parts}
 use Rattle.ref_uri.specs.Targets.{Refusal}
 use Rattle.ref_world.specs.Places.{Place, base_within, child_place, children_with, children_of}
@@ -33,20 +31,19 @@ record IsChildThere (path : List Part) (base : List ℕ) (since : List Part) (dr
   of : Child
   is : child ≡ child_place path base (with_draft draft of)
   there : value_at value of.0 ≡ Some of.1
-  unique : HasUniqueKeys of.1
   parts : HasParts of
   alone : IsKeyAlone of.0
   accepts : is_object of.1 ≡ true → IsAccepted draft (since ++ of.0) of.1
   ends : (beginning rest : List Part) → of.0 ≡ beginning ++ rest → beginning ≢ [] → rest ≢ [] → EndsWithin draft since value beginning
 
 each_there : (path : List Part) (base : List ℕ) (since : List Part) (draft : Draft) (value : Data) (cs : List Child)
-    → AllStand value (map (with_draft draft) cs) → AllByRecursion (λ child. HasUniqueKeys child.1) cs → AllByRecursion HasParts cs
+    → AllStand value (map (with_draft draft) cs) → AllByRecursion HasParts cs
     → AllByRecursion (λ child. IsKeyAlone child.0) cs → AcceptsChildren draft since cs → AllEndWithin draft since value cs
     → AllByRecursion (IsChildThere path base since draft value) (map (child_place path base) (map (with_draft draft) cs))
-each_there path base since draft value [] stand unique parts alone accepts ends = tt
-each_there path base since draft value (c ∷ cs) stand unique parts alone accepts ends = (
-  record { of = c; is = refl; there = stand.0; unique = unique.0; parts = parts.0; alone = alone.0; accepts = accepts.0; ends = ends.0 },
-  each_there path base since draft value cs stand.1 unique.1 parts.1 alone.1 accepts.1 ends.1,
+each_there path base since draft value [] stand parts alone accepts ends = tt
+each_there path base since draft value (c ∷ cs) stand parts alone accepts ends = (
+  record { of = c; is = refl; there = stand.0; parts = parts.0; alone = alone.0; accepts = accepts.0; ends = ends.0 },
+  each_there path base since draft value cs stand.1 parts.1 alone.1 accepts.1 ends.1,
 )
 
 no_children : (draft : Draft) (value : Data) → is_object value ≡ false → children draft value ≡ []
@@ -57,13 +54,12 @@ no_children draft (string s) is = refl
 no_children draft (array ds) is = refl
 no_children draft (object ms) is = absurd (cc)
 
-all_there : (path : List Part) (base : List ℕ) (since : List Part) (draft : Draft) (value : Data) (b : Bool) → is_object value ≡ b → HasUniqueKeys value
+all_there : (path : List Part) (base : List ℕ) (since : List Part) (draft : Draft) (value : Data) (b : Bool) → is_object value ≡ b → AllStand value (walked draft value)
     → (is_object value ≡ true → IsAccepted draft since value) → AllByRecursion (IsChildThere path base since draft value) (map (child_place path base) (walked draft value))
-all_there path base since draft value true is unique ok =
-    let stand = children_stand draft value unique in
-    each_there path base since draft value (children draft value) stand (unique_children draft value unique) (children_have_parts draft value)
+all_there path base since draft value true is stand ok =
+    each_there path base since draft value (children draft value) stand (children_have_parts draft value)
     (begin_with_keys draft value) (accepts_children draft since value (ok is)) (all_end_within draft since value (ok is) stand)
-all_there path base since draft value false is unique ok =
+all_there path base since draft value false is stand ok =
     subst (λ cs. AllByRecursion (IsChildThere path base since draft value) (map (child_place path base) (map (with_draft draft) cs))) (sym (no_children draft value is)) tt
 
 -- ---- between a value and its child no identifier counts
@@ -127,11 +123,12 @@ path_on q p (below above child there under) =
 -- what is asked of a place and of those below it
 pub record AreAlike (draft : Draft) (p : Place) : Type 0 where
   pub drafts : (x : Place) → IsAtOrBelow x p → x.draft ≡ draft
+  pub stand : (x : Place) → IsAtOrBelow x p → AllStand x.value (walked draft x.value)
   pub maps : is_before_2020 draft ≡ true → (x : Place) → IsAtOrBelow x p → HasPlainMaps draft x.value
 
 alike_child : (draft : Draft) (p child : Place) → Contains (children_of p) child → AreAlike draft p → AreAlike draft child
 alike_child draft p child there alike =
-    record { drafts = λ x under. alike.drafts x (below p child there under); maps = λ before x under. alike.maps before x (below p child there under) }
+    record { drafts = λ x under. alike.drafts x (below p child there under); stand = λ x under. alike.stand x (below p child there under); maps = λ before x under. alike.maps before x (below p child there under) }
 
 -- the tokens of a path lead to a place
 pub record Reaches (draft : Draft) (pointer : List ℕ) (along : Along) (here : Data) (path : List Part) (q : Place) (uri : List ℕ) : Type 0 where
@@ -142,12 +139,12 @@ pub record Reaches (draft : Draft) (pointer : List ℕ) (along : Along) (here : 
 same_uri : (a b : List ℕ) (r : Result (List ℕ) Refusal) → r ≡ Ok a → r ≡ Ok b → a ≡ b
 same_uri a b r first second = let e : Ok a ≡ Ok b = sym first ∙ second in cc
 
-child_known : (draft : Draft) (along : Along) (p child : Place) → p.draft ≡ draft → p.base ≡ Ok along.base → HasUniqueKeys p.value
+child_known : (draft : Draft) (along : Along) (p child : Place) → p.draft ≡ draft → p.base ≡ Ok along.base → AllStand p.value (walked draft p.value)
     → (is_object p.value ≡ true → IsAccepted draft along.since p.value) → Contains (children_of p) child → IsChildThere p.path along.base along.since draft p.value child
-child_known draft along p child drafts base unique ok there =
+child_known draft along p child drafts base stand ok there =
     let all = map (child_place p.path along.base) (walked draft p.value) in
     All-contains (IsChildThere p.path along.base along.since draft p.value) all child
-    (All-from_recursion (IsChildThere p.path along.base along.since draft p.value) all (all_there p.path along.base along.since draft p.value (is_object p.value) refl unique ok))
+    (All-from_recursion (IsChildThere p.path along.base along.since draft p.value) all (all_there p.path along.base along.since draft p.value (is_object p.value) refl stand ok))
     (subst (λ d. Contains (map (child_place p.path along.base) (walked d p.value)) child) drafts (subst (λ b. Contains (children_with b p) child) base there))
 
 -- one walk after another
@@ -156,14 +153,14 @@ two_walks : (draft : Draft) (pointer : List ℕ) (along : Along) (here v : Data)
 two_walks draft pointer along here v path front uri more to whole first is =
     ap (λ ps. walked_along draft pointer along here (map part_text ps)) whole ∙ ap (walked_along draft pointer along here) (map-append part_text front more) ∙ first.is (map part_text more) ∙ is
 
-pub reach : (draft : Draft) (pointer : List ℕ) (q p : Place) → IsAtOrBelow q p → AreAlike draft p → (along : Along) → p.base ≡ Ok along.base → HasUniqueKeys p.value
+pub reach : (draft : Draft) (pointer : List ℕ) (q p : Place) → IsAtOrBelow q p → AreAlike draft p → (along : Along) → p.base ≡ Ok along.base
     → (is_object p.value ≡ true → IsAccepted draft along.since p.value) → (path : List Part) → q.path ≡ p.path ++ path → HasFittingIndexes path
     → (final : List ℕ) → q.base ≡ Ok final → Reaches draft pointer along p.value path q final
-reach draft pointer q p itself alike along base unique ok path is fits final ends =
+reach draft pointer q p itself alike along base ok path is fits final ends =
     let none : path ≡ [] = append_cancel_left q.path path [] (sym is ∙ sym (append-nil q.path)) in
     record { end = along; is = ap (λ ps. walked_along draft pointer along q.value (map part_text ps)) none; base = same_uri along.base final q.base base ends }
-reach draft pointer q p (below above child there under) alike along base unique ok path is fits final ends =
-    let known = child_known draft along p child (alike.drafts p itself) base unique ok there in
+reach draft pointer q p (below above child there under) alike along base ok path is fits final ends =
+    let known = child_known draft along p child (alike.drafts p itself) base (alike.stand p itself) ok there in
     let uri = base_above q child final under ends in
     let drafts : child.draft ≡ draft = alike.drafts child (below p child there itself) in
     let detected = ap (λ (c : Place). c.draft) known.is in
@@ -177,7 +174,7 @@ reach draft pointer q p (below above child there under) alike along base unique 
     let all_fit = subst HasFittingIndexes whole fits in
     let first = lead_from draft pointer along p.value known.of.1 known.of.0 known.parts.0 known.parts.1 uri.0 known.parts.2 (fits_in_front known.of.0 more.0 all_fit) known.there
     (quiet_between draft along.since known.of.0 p.value (λ before. alike.maps before p itself) known.alone known.ends) known.accepts means in
-    let rest = reach draft pointer q child under (alike_child draft p child there alike) first.next (uri.1 ∙ ap (λ u. Ok u) (sym first.base)) (subst HasUniqueKeys (sym value) known.unique)
+    let rest = reach draft pointer q child under (alike_child draft p child there alike) first.next (uri.1 ∙ ap (λ u. Ok u) (sym first.base))
     (subst (λ v. is_object v ≡ true → IsAccepted draft first.next.since v) (sym value) first.accepts) more.0 more.1 (fits_behind known.of.0 more.0 all_fit) final ends in
     record {
       end = rest.end;

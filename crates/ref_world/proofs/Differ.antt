@@ -2,6 +2,7 @@
 use Rattle.std.proofs.Common.{◌≡◌, ℕ, zero, suc, ◌<◌, List, [], ◌∷◌, ◌++◌, length, get_or, flat_map, map, Some, Result, Ok, Err, ◌⊎◌, inl, inr, option_and_then, refl, sym, ap, subst, ◌∙◌, append_assoc, arith}
 use Rattle.std.specs.List.{AllByRecursion, AllPairs}
 use Rattle.std.proofs.lemmas.List.{append-nil}
+use Rattle.std.proofs.lemmas.List.Elements.{All-contains, All-from_recursion}
 use Rattle.serde_json.specs.Data.{Data, depth}
 use Rattle.ref_parts.specs.Path.{Part, value_at}
 use Rattle.ref_draft.specs.declared.draft.Draft.{Draft}
@@ -13,6 +14,7 @@ use Rattle.ref_draft.proofs.Apart.{PartWays, ways_differ, ways_turned, ways_behi
 use Rattle.ref_uri.specs.Targets.{Refusal}
 use Rattle.ref_world.specs.World.{Document}
 use Rattle.ref_world.specs.Places.{Place, root, child_place, children_with, children_of, levels_below, places}
+use Rattle.ref_world.specs.Agreement.{ChildrenStand}
 use Rattle.ref_world.proofs.Changes.{value_at-append}
 
 -- ---- values at paths
@@ -51,6 +53,11 @@ all_stand d unique =
 
 pub places_stand : (d : Document) → HasUniqueKeys d.tree → AllByRecursion (λ p. value_at d.tree p.path ≡ Some p.value) (places d)
 places_stand d unique = all_map (Stands d.tree) (λ p. value_at d.tree p.path ≡ Some p.value) (places d) (λ p stands. stands.there) (all_stand d unique)
+
+pub places_children_stand : (d : Document) → HasUniqueKeys d.tree → ChildrenStand d
+places_children_stand d unique p there =
+    let stands = All-contains (Stands d.tree) (places d) p (All-from_recursion (Stands d.tree) (places d) (all_stand d unique)) there in
+    children_stand p.draft p.value stands.unique
 
 -- ---- paths of one level
 

@@ -16,3 +16,4 @@ pub mod Alone
 pub mod Located
 pub mod AtOrBelow
 pub mod Pending
+pub mod Standing

@@ -1,28 +1,28 @@
 -- The look-up of a path's pointer text from a resource that the pointer and the keywords read alike.
-use Rattle.std.proofs.Common.{◌≡◌, ℕ, ◌<◌, cond, List, [], ◌∷◌, ◌++◌, Some, Ok, Err, IsUtf8, sym, ap, ◌∙◌, arith}
+use Rattle.std.proofs.Common.{◌≡◌, ℕ, ◌<◌, cond, List, [], ◌∷◌, ◌++◌, Some, Ok, Err, IsUtf8, sym, ap, subst, ◌∙◌, arith}
 use Rattle.std.specs.Option.{ok_or}
 use Rattle.std.specs.Str.{is_utf8}
-use Rattle.std.proofs.lemmas.List.Elements.{All-contains, All-from_recursion, All-tail}
+use Rattle.std.proofs.lemmas.List.Elements.{All-tail}
 use Rattle.std.proofs.lemmas.Str.{IsUtf8-past_char, is_utf8-from_IsUtf8, encode_ascii}
 use Rattle.ref_parts.specs.Path.{Part}
 use Rattle.ref_parts.specs.Pointer.{slash, part_text, pointer_text, tokens}
 use Rattle.ref_parts.specs.Encoded.{encoded}
 use Rattle.ref_parts.proofs.EncodedLaws.{decoded_is}
 use Rattle.ref_parts.proofs.PathLaws.{tokens_of_path}
-use Rattle.ref_draft.specs.UniqueKeys.{HasUniqueKeys}
+use Rattle.ref_draft.specs.Children.{AllStand, walked}
 use Rattle.ref_world.specs.Results.{◌>>=◌}
 use Rattle.ref_world.specs.World.{Document, Layer, World}
-use Rattle.ref_world.specs.Places.{Place, places}
+use Rattle.ref_world.specs.Places.{Place}
 use Rattle.ref_world.specs.Resources.{means}
 use Rattle.ref_world.specs.Fault.{InvalidPercentEncoding, not_retrieved}
 use Rattle.ref_world.specs.Bases.{Along}
 use Rattle.ref_world.specs.Pointers.{walked_along}
 use Rattle.ref_world.specs.Lookup.{Resolver, pointer_found, at_fragment, lookup, located}
-use Rattle.ref_world.specs.Agreement.{IsAtOrBelow, IsReadAlike, IsPathOfTexts, LeadsTo}
+use Rattle.ref_world.specs.Agreement.{ChildrenStand, IsAtOrBelow, IsReadAlike, IsPathOfTexts, LeadsTo}
 use Rattle.ref_world.proofs.Alone.{means_alone, bears}
 use Rattle.ref_world.proofs.Agreement.{start_accepted}
 use Rattle.ref_world.proofs.Below.{Reaches, reach}
-use Rattle.ref_world.proofs.Differ.{Stands, all_stand}
+use Rattle.ref_world.proofs.AtOrBelow.{below_is_place}
 
 -- the fragment of a path in a resource leads where its tokens do
 in_resource : (world : World) (m : Resolver) (r q : Place) (path : List Part) (final : List ℕ) → IsPathOfTexts path
@@ -51,12 +51,13 @@ looked_up world uri path r is =
     ap (λ o. ok_or o (not_retrieved uri) >>= λ place. at_fragment world (record { base = uri; scope = uri ∷ [] }) place (encoded (pointer_text path))) is
 
 pub leads_to : (layer : Layer) (parents : World) (d : Document) (r q : Place) (uri : List ℕ) (path : List Part)
-    → HasUniqueKeys d.tree → IsReadAlike layer d r uri → IsAtOrBelow q r → q.path ≡ r.path ++ path → IsPathOfTexts path → LeadsTo (layer ∷ parents) uri path q
-leads_to layer parents d r q uri path unique alike under is texts final base =
+    → ChildrenStand d → IsReadAlike layer d r uri → IsAtOrBelow q r → q.path ≡ r.path ++ path → IsPathOfTexts path → LeadsTo (layer ∷ parents) uri path q
+leads_to layer parents d r q uri path stand alike under is texts final base =
     let m : Resolver = record { base = uri; scope = uri ∷ [] } in
     let own = means_alone layer parents uri r (bears layer d r uri alike.document alike.place alike.resource alike.base) alike.alone in
-    let stands = All-contains (Stands d.tree) (places d) r (All-from_recursion (Stands d.tree) (places d) (all_stand d unique)) alike.place in
+    let standing : (x : Place) → IsAtOrBelow x r → AllStand x.value (walked r.draft x.value) =
+    λ x over. subst (λ draft. AllStand x.value (walked draft x.value)) (alike.one_draft x over) (stand x (below_is_place d x r alike.place over)) in
     looked_up (layer ∷ parents) uri path r own
     ∙ in_resource (layer ∷ parents) m r q path final texts
-    (λ pointer. reach r.draft pointer q r under (record { drafts = alike.one_draft; maps = alike.plain_maps }) (record { base = uri; since = [] }) alike.base stands.unique (λ there. start_accepted r.draft r.value) path is texts.fits final base)
+    (λ pointer. reach r.draft pointer q r under (record { drafts = alike.one_draft; stand = standing; maps = alike.plain_maps }) (record { base = uri; since = [] }) alike.base (λ there. start_accepted r.draft r.value) path is texts.fits final base)
     ∙ ap (λ d. Ok (record { value = q.value; draft = d; resolver = record { base = final; scope = uri ∷ [] } })) (sym (alike.one_draft q under))

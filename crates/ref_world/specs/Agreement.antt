@@ -8,7 +8,7 @@ use Rattle.ref_parts.specs.Pointer.{pointer_text}
 use Rattle.ref_draft.specs.declared.draft.Draft.{Draft}
 use Rattle.ref_draft.specs.Keywords.{is_before_2020, is_map_keyword, id_keyword}
 use Rattle.ref_draft.specs.Schema.{text_under}
-use Rattle.ref_draft.specs.UniqueKeys.{HasUniqueKeys}
+use Rattle.ref_draft.specs.Children.{AllStand, walked}
 use Rattle.ref_world.specs.World.{Document, Layer, World}
 use Rattle.ref_world.specs.Places.{Place, root, children_of, places, identifier_of}
 use Rattle.ref_world.specs.Resources.{resources}
@@ -35,6 +35,10 @@ pub record IsReadAlike (layer : Layer) (d : Document) (r : Place) (uri : List �
   pub one_draft : (p : Place) → IsAtOrBelow p r → p.draft ≡ r.draft
   pub plain_maps : IsTrue (is_before_2020 r.draft) → (p : Place) → IsAtOrBelow p r → HasPlainMaps r.draft p.value
 
+-- each child of a place of the document stands at its path, as it does where objects have each key once
+abbrev pub ChildrenStand : Document → Type 0
+ChildrenStand d = (p : Place) → Contains (places d) p → AllStand p.value (walked p.draft p.value)
+
 -- a path as a program holds it: its keys are text, and its indexes fit 64 bits
 pub record IsPathOfTexts (path : List Part) : Type 0 where
   pub utf8 : IsUtf8 (pointer_text path)
@@ -47,10 +51,10 @@ LeadsTo world uri path q =
     (base : List ℕ) → q.base ≡ Ok base
     → located world uri path ≡ Ok (record { value = q.value; draft = q.draft; resolver = record { base = base; scope = uri ∷ [] } })
 
--- The two agree at each place at or below such a resource, by the path from there, in a document whose objects have each key
--- once.
+-- The two agree at each place at or below such a resource, by the path from there, in a document whose children stand at their
+-- paths.
 abbrev pub WalksAgree : Type 0
 WalksAgree =
     (layer : Layer) (parents : World) (d : Document) (r q : Place) (uri : List ℕ) (path : List Part)
-    → HasUniqueKeys d.tree → IsReadAlike layer d r uri → IsAtOrBelow q r → q.path ≡ r.path ++ path → IsPathOfTexts path
+    → ChildrenStand d → IsReadAlike layer d r uri → IsAtOrBelow q r → q.path ≡ r.path ++ path → IsPathOfTexts path
     → LeadsTo (layer ∷ parents) uri path q

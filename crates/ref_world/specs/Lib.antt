@@ -20,6 +20,7 @@ pub mod Lookup
 pub mod Recursive
 pub mod Follow
 pub mod Agreement
+pub mod Listing
 pub mod Vocabularies
 pub mod MetaSchemas
 pub mod Rows

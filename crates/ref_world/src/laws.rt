@@ -18,7 +18,7 @@ ghost use Rattle.ref_world.specs.Closure.{OutcomesOfRetrieval};
 ghost use Rattle.ref_world.specs.Pending.{Addition, Pending, extended};
 ghost use Rattle.ref_world.specs.References.{ReferencesAreRetrieved};
 ghost use Rattle.ref_world.specs.Wants.{faults};
-ghost use Rattle.ref_world.specs.Agreement.{IsAtOrBelow, WalksAgree};
+ghost use Rattle.ref_world.specs.Agreement.{ChildrenStand, IsAtOrBelow, WalksAgree};
 ghost use Rattle.ref_world.specs.Appending.{MeaningsStay, MeaningsStayBelow, MetWantsStay, OpenWantsAfter};
 
 /// Pending documents stand under URIs that differ, whatever was added.
@@ -32,10 +32,12 @@ pub fn levels_end_at_the_depth()
     ensures law { (d : Document) (n : ℕ) → depth d.tree ≤ n → root d ∷ levels_below n (root d ∷ []) ≡ places d }
 {}
 
-/// Where each object of a document has each key once, each place of it has its value at its path, and the paths of places
-/// differ.
+/// Where each object of a document has each key once, each place of it has its value at its path, the paths of places differ,
+/// and each child of a place stands at its path there. Where the children do, so do the places.
 pub fn places_stand_at_their_paths()
     ensures values { (d : Document) → HasUniqueKeys d.tree → AllByRecursion (λ p. value_at d.tree p.path ≡ Some p.value) (places d) }
+    ensures children { (d : Document) → HasUniqueKeys d.tree → ChildrenStand d }
+    ensures standing { (d : Document) → ChildrenStand d → AllByRecursion (λ p. value_at d.tree p.path ≡ Some p.value) (places d) }
     ensures paths { (d : Document) → HasUniqueKeys d.tree → AllPairs (λ p q. ¬ (p ≡ q)) (map (λ p. p.path) (places d)) }
 {}
 
@@ -100,7 +102,8 @@ pub fn references_are_retrieved()
 
 /// From a resource that has its URI for itself and one draft throughout, and before 2020-12 no map of subschemas that holds a
 /// text under the identifier's keyword, the pointer of a path leads to each place at or below the resource as the keywords of
-/// subschemas do: to the same value, of the same draft, with the same base.
+/// subschemas do: to the same value, of the same draft, with the same base. The children of places are to stand at their paths,
+/// as `places_stand_at_their_paths` says.
 pub fn walks_agree()
     ensures law { WalksAgree }
 {}

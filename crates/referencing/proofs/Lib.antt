@@ -13,3 +13,5 @@ pub mod Fragments
 pub mod Lookups
 pub mod Stepping
 pub mod Showing
+pub mod Writing
+pub mod Agreeing

@@ -9,3 +9,4 @@ pub mod Following
 pub mod Answering
 pub mod Comparing
 pub mod MetaSchemas
+pub mod Listed

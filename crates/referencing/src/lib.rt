@@ -22,6 +22,7 @@ mod resolver;
 pub mod steps;
 #[cfg(test)]
 mod tests;
+mod written;
 
 pub use answer::{Answer, AnswerError};
 pub use builder::RegistryBuilder;
@@ -30,7 +31,7 @@ pub use ref_draft::{
     Anchor, AnchorIter, Child, ChildIter, ChildIterInner, Draft, Resource, ResourceRef, Segment,
     Segments, trim_hashes,
 };
-pub use ref_index::Contents;
+pub use ref_index::{Contents, Place};
 pub use ref_parts::path::{JsonPointerNode, JsonPointerSegment};
 pub use ref_parts::{
     BorrowedKey, Iter, List, SmallMap, SortedTable, first_escape, parse_index, pointer,

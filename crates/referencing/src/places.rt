@@ -1,13 +1,28 @@
-//! Values of a registry's own documents, by paths.
-ghost use Rattle.std.specs.Prelude.{◌≡◌, map, option_map, option_and_then, slice_get};
+//! The places of a registry's own documents, and the values there, by paths.
+ghost use Rattle.std.specs.Prelude.{◌≡◌, map, option_map, option_and_then, slice_get, IfOk, IfErr, Ok};
+ghost use Rattle.std.specs.List.{Contains};
 ghost use Rattle.serde_json.specs.View.{view};
 ghost use Rattle.ref_parts.specs.Path.{child_at, value_at};
 ghost use Rattle.ref_parts.specs.Segment.{part_of};
+ghost use Rattle.ref_world.specs.World.{Document};
+ghost use Rattle.ref_world.specs.Places.{Place as WorldPlace, places};
+ghost use Rattle.ref_world.specs.Listing.{own_places};
+ghost use Rattle.ref_world.specs.Lookup.{located};
+ghost use Rattle.ref_retrieve.specs.Errors.{IsFaultOf};
+ghost use Rattle.ref_index.specs.Listing.{listed_of};
 ghost use Rattle.referencing.specs.Prepared.{own};
+ghost use Rattle.referencing.specs.Resolving.{found_of, world_found};
+ghost use Rattle.referencing.specs.Listed.{IsMemory, Agrees};
 
 use crate::registry::Registry;
+use crate::resolver::Resolved;
+use crate::written::reference_of;
+use ref_index::Place;
 use ref_parts::path::JsonPointerSegment;
+use ref_retrieve::Error;
+use ref_uri::Uri;
 use serde_json::Value;
+use std::alloc::Global;
 
 // The value that a segment leads to.
 fn child_at<'v>(value: &'v Value, segment: &JsonPointerSegment<'_>) -> Option<&'v Value>
@@ -39,5 +54,45 @@ impl<'a> Registry<'a> {
     {
         let tree = self.tree(document)?;
         value_along(tree, path)
+    }
+
+    /// The places where schemas stand in the own documents: document by document, in the order in which these were added, and
+    /// behind them those retrieved; in each document the root, then its children by the keywords that hold subschemas, and so on
+    /// level by level. [`Registry::value_at`] answers the value of each. Refuses as `Memory` alone. Each place is visited once, and its path copied; keys are lent, and URIs shared.
+    pub fn places(&self, alloc: Global) -> Result<Vec<Place<'_>>, Error>
+        ensures value { IfOk result (λ places. map listed_of places.items ≡ own_places (own self.now)) }
+        ensures stand { (d : Document) (p : WorldPlace) → Contains (own self.now) d → Contains (places d) p → value_at d.tree p.path ≡ Some p.value }
+        ensures memory { IfErr result IsMemory }
+    {
+        Ok(self.own_index().places(alloc)?)
+    }
+
+    /// Where a path leads from a base: the look-up, from a new resolver at the base, of `#` and the path's pointer text, as a
+    /// fragment holds it (RFC 6901, section 6).
+    ///
+    /// From an own place that is a root or has an identifier, by its base and the path from there, it answers each place at or
+    /// below it with the value, the draft and the base that the walk over subschemas gives it, where these hold: no other own
+    /// place bears that base; the places below have the same draft, which is one of 4 to 2020-12; and before 2020-12 no object
+    /// whose members are schemas holds a text under the keyword of identifiers, as a property named `$id` would.
+    ///
+    /// Refuses as [`Resolver::lookup`] does, and as `Memory`. Linear in the path's keys, with a look-up for each part; no value
+    /// is copied.
+    ///
+    /// [`Resolver::lookup`]: crate::Resolver::lookup
+    pub fn locate(
+        &self,
+        alloc: Global,
+        base: &Uri,
+        path: &[JsonPointerSegment<'_>],
+    ) -> Result<Resolved<'_>, Error>
+        ensures value { IfOk result (λ found. located self.now base.now (map part_of path.now) ≡ Ok (found_of found)) }
+        ensures world { IfOk result (λ found. world_found found ≡ self.now) }
+        ensures fault { IfErr result (IsFaultOf (located self.now base.now (map part_of path.now))) }
+        ensures agrees { Agrees (own self.now) base.now (map part_of path.now) result }
+    {
+        let _ = self.own_index();
+        let reference = reference_of(alloc, path)?;
+        let resolver = self.resolver(alloc, base.clone()?)?;
+        resolver.lookup(alloc, reference.as_str())
     }
 }

@@ -6,6 +6,7 @@ ghost use Rattle.serde_json.specs.View.{view};
 ghost use Rattle.ref_draft.specs.Schema.{text_under};
 ghost use Rattle.ref_uri.specs.Targets.{against};
 ghost use Rattle.ref_world.specs.World.{Document as WorldDocument};
+ghost use Rattle.ref_world.specs.Agreement.{ChildrenStand};
 ghost use Rattle.ref_world.specs.Places.{Place, places};
 ghost use Rattle.ref_world.specs.Cached.{pairs};
 ghost use Rattle.ref_world.specs.Fault.{Unretrievable, as_invalid_uri};
@@ -130,6 +131,16 @@ impl<'a> Registry<'a> {
         ensures value { option_map (λ v. view v.now) result ≡ option_map (λ d. d.tree) (slice_get (own self.now) document) }
     {
         self.own.tree(document)
+    }
+
+    /// The index of the own documents. Takes no memory.
+    pub(crate) fn own_index(&self) -> &Index<'a>
+        ensures value { result.now ≡ own self.now }
+        ensures no_fault { faults (own self.now) ≡ [] }
+        ensures children { (d : WorldDocument) → Contains (own self.now) d → ChildrenStand d }
+    {
+        self.own.children_stand();
+        &self.own
     }
 
     // The indexes that resolvers borrow.

@@ -37,3 +37,5 @@ mod settings;
 mod vocabularies;
 #[cfg(test)]
 mod vocabularies_at_bases;
+#[cfg(test)]
+mod walks;

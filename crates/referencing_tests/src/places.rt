@@ -39,8 +39,8 @@ const ROWS: [(&str, &str, usize, &str, &str); 11] = [
     ),
 ];
 
-// The path of a text.
-fn path_of(alloc: Global, text: &str) -> Result<Vec<JsonPointerSegment<'_>>, Fail> {
+/// The path of a text, with `|` before each part and `#` before an index.
+pub fn path_of(alloc: Global, text: &str) -> Result<Vec<JsonPointerSegment<'_>>, Fail> {
     let mut path = Vec::new(alloc);
     for part in text.split('|').skip(1) {
         let segment = match part.strip_prefix('#') {

@@ -1,0 +1,69 @@
+-- The places of documents, listed one by one.
+use Rattle.std.proofs.Common.{◌≡◌, ℕ, zero, suc, ◌+◌, ◌<◌, ◌≤◌, List, [], ◌∷◌, ◌++◌, map, take, drop, length, Some, Result, Ok, Err, OnOk, refl, sym, ap, ◌∙◌, subst, append_assoc, append-nil, arith, length-append}
+use Rattle.std.specs.Prelude.{slice_get}
+use Rattle.std.specs.List.{Contains}
+use Rattle.std.proofs.lemmas.List.{drop_all, map-append}
+use Rattle.std.proofs.lemmas.List.Elements.{Contains-append_right}
+use Rattle.ref_world.specs.World.{Document}
+use Rattle.ref_world.specs.Places.{root, children_of, places}
+use Rattle.ref_world.specs.Listing.{Listed, listed}
+use Rattle.ref_index.specs.declared.queue.Visit.{Visit}
+use Rattle.ref_index.specs.Queue.{place_of, IsQueue, IsListedTo}
+use Rattle.ref_index.proofs.Queues.{at_root, step, at_end, beginning}
+use Rattle.ref_index.proofs.Walking.{head_is, visited_is, waiting_is}
+
+pub on_ok : {A E P Q : Type 0} (r : Result A E) → (P → Q) → OnOk r P → OnOk r Q
+on_ok (Ok x) then is = then is
+on_ok (Err e) then is = tt
+
+pub in_mapped : {X Y : Type 0} (f : X → Y) (xs : List X) (x : X) → Contains xs x → Contains (map f xs) (f x)
+in_mapped f [] x there = absurd (omega (arith, there.1))
+in_mapped f (y ∷ xs) x (zero, less, is) = (0, omega arith, ap f is)
+in_mapped f (y ∷ xs) x (suc k, less, is) =
+    let later = in_mapped f xs x (k, omega (arith, less), is) in
+    (suc later.0, omega (arith, later.1), later.2)
+
+-- ---- the place at the head is one of the document's
+
+pub at_head : (d : Document) (queue : List Visit) (head : ℕ) (v : Visit) → head < length queue → slice_get queue head ≡ Some v → IsQueue d (map place_of (take head queue)) (map place_of (drop head queue))
+    → Contains (places d) (place_of v)
+at_head d queue head v within here order =
+    let waiting = map place_of (drop (head + 1) queue) in
+    let some = beginning d (map place_of (take head queue)) (place_of v ∷ waiting) (subst (IsQueue d (map place_of (take head queue))) (head_is queue head v within here) order) in
+    let first : Contains (place_of v ∷ (waiting ++ some.0)) (place_of v) = (0, omega arith, refl) in
+    subst (λ ps. Contains ps (place_of v)) (sym some.1) (Contains-append_right (map place_of (take head queue)) (place_of v ∷ (waiting ++ some.0)) (place_of v) first)
+
+-- ---- one place after another
+
+pub listing_begins : (d : Document) (number : ℕ) (before : List Listed) (queue : List Visit) (v : Visit) → queue ≡ v ∷ [] → place_of v ≡ root d → IsListedTo d number before before queue 0
+listing_begins d number before queue v one is =
+    let at_first : IsListedTo d number before before (v ∷ []) 0 = record {
+      within = omega arith;
+      order = subst (λ p. IsQueue d [] (p ∷ [])) (sym is) (at_root d);
+      list = sym (append-nil before);
+    } in
+    subst (λ l. IsListedTo d number before before l 0) (sym one) at_first
+
+pub listing_goes_on : (d : Document) (number : ℕ) (before now after : List Listed) (queue grown more : List Visit) (head : ℕ) (v : Visit) → head < length queue → slice_get queue head ≡ Some v
+    → IsListedTo d number before now queue head → after ≡ now ++ listed number (place_of v) ∷ [] → grown ≡ queue ++ more → map place_of more ≡ children_of (place_of v)
+    → IsListedTo d number before after grown (head + 1)
+listing_goes_on d number before now after queue grown more head v within here is one longer children =
+    let vs = queue ++ more in
+    let visited = map place_of (take head queue) in
+    let front = visited_is queue more head v within here in
+    let moved = step d visited (map place_of (drop (head + 1) queue)) (place_of v) (subst (IsQueue d visited) (head_is queue head v within here) is.order) in
+    let rest : map place_of (drop (head + 1) queue) ++ children_of (place_of v) ≡ map place_of (drop (head + 1) vs) =
+    sym (waiting_is queue more head within ∙ ap (λ l. map place_of (drop (head + 1) queue) ++ l) children) in
+    let result : IsListedTo d number before after vs (head + 1) = record {
+      within = omega (arith, length-append queue more);
+      order = subst (λ l. IsQueue d l (map place_of (drop (head + 1) vs))) (sym front) (subst (IsQueue d (visited ++ place_of v ∷ [])) rest moved);
+      list = one ∙ ap (λ l. l ++ listed number (place_of v) ∷ []) is.list ∙ append_assoc before (map (listed number) visited) (listed number (place_of v) ∷ [])
+          ∙ ap (λ l. before ++ l) (sym (map-append (listed number) visited (place_of v ∷ []))) ∙ ap (λ l. before ++ map (listed number) l) (sym front);
+    } in
+    subst (λ l. IsListedTo d number before after l (head + 1)) (sym longer) result
+
+pub listing_ends : (d : Document) (number : ℕ) (before after : List Listed) (queue : List Visit) (head : ℕ) → length queue ≤ head → IsListedTo d number before after queue head
+    → after ≡ before ++ map (listed number) (places d)
+listing_ends d number before after queue head all is =
+    is.list ∙ ap (λ ps. before ++ map (listed number) ps)
+    (sym (at_end d (map place_of (take head queue)) (subst (λ l. IsQueue d (map place_of (take head queue)) (map place_of l)) (drop_all head queue all) is.order)))

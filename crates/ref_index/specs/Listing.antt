@@ -1,0 +1,9 @@
+-- A place of the program as it is listed.
+use Rattle.std.specs.Prelude.{map, Ok}
+use Rattle.ref_parts.specs.Segment.{part_of}
+use Rattle.ref_world.specs.Listing.{Listed}
+use Rattle.ref_index.specs.declared.places.Place.{Place}
+
+-- the place
+abbrev pub listed_of : Place → Listed
+listed_of p = record { document = p.document; path = map part_of p.path.items; draft = p.draft; base = Ok p.base.value }

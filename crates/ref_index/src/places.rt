@@ -1,0 +1,175 @@
+//! The places of the documents of an index, as a list.
+ghost use Rattle.std.specs.Prelude.{◌≡◌, ℕ, List, [], ◌∷◌, ◌++◌, map, option_map, slice_get, Some, Ok, IfOk, OnOk, MatchOption};
+ghost use Rattle.std.specs.List.{Contains};
+ghost use Rattle.ref_parts.specs.Segment.{part_of};
+ghost use Rattle.ref_parts.specs.declared.path.JsonPointerSegment.{JsonPointerSegment};
+ghost use Rattle.ref_world.specs.Listing.{listed, own_places};
+ghost use Rattle.ref_world.specs.Places.{Place as WorldPlace, base_within, children_of, places};
+ghost use Rattle.ref_world.specs.Wants.{faults};
+ghost use Rattle.ref_index.specs.Document.{document_of};
+ghost use Rattle.ref_index.specs.Listing.{listed_of};
+ghost use Rattle.ref_index.specs.Queue.{place_of};
+ghost use Rattle.ref_index.specs.declared.queue.Visit.{Visit};
+
+use crate::document::Document;
+use crate::index::Index;
+use crate::queue::Visit;
+use crate::reference::shared;
+use crate::walk::{push_children, push_visit, root_of};
+use ref_draft::{Draft, ResourceRef};
+use ref_parts::path::{JsonPointerNode, JsonPointerSegment};
+use ref_uri::uri::resolve_against;
+use ref_uri::{Uri, UriFault};
+use std::alloc::{AllocError, Global};
+use std::rc::Rc;
+
+/// A place where a schema stands, in one of a registry's own documents.
+#[derive(Drop)]
+pub struct Place<'a> {
+    /// The number of its document, counted from 0 in the order in which they were added, and behind those retrieved.
+    pub document: usize,
+    /// Its path in the document.
+    pub path: Vec<JsonPointerSegment<'a>>,
+    /// Its base URI, which its own identifier changes.
+    pub base: Rc<Uri>,
+    /// Its draft.
+    pub draft: Draft,
+}
+
+// Adds a copy of the last segment of the path, and answers the path before it, where there is one.
+fn push_last<'n, 'w>(
+    segments: &mut Vec<JsonPointerSegment<'w>>,
+    path: &'n JsonPointerNode<'w>,
+) -> Result<Option<&'n JsonPointerNode<'w>>, AllocError>
+    ensures { IfOk result (λ rest. MatchOption rest ((path.now ≡ []) × (segments.new.items ≡ segments.old.items))
+        (λ before. (segment : JsonPointerSegment) × (segments.new.items ≡ segments.old.items ++ segment ∷ []) × (path.now ≡ before.now ++ part_of segment ∷ []))) }
+{
+    let Some(before) = path.parent() else {
+        return Ok(None);
+    };
+    let segment = path.segment().clone()?;
+    segments.push(segment)?;
+    Ok(Some(before))
+}
+
+// The segments of a path, from the root on.
+fn segments_of<'w>(
+    alloc: Global,
+    path: &JsonPointerNode<'w>,
+) -> Result<Vec<JsonPointerSegment<'w>>, AllocError>
+    ensures value { IfOk result (λ segments. map part_of segments.items ≡ path.now) }
+{
+    let mut segments = Vec::new(alloc);
+    let mut rest = Some(path);
+    while let Some(node) = rest {
+        rest = push_last(&mut segments, node)?;
+    }
+    segments.reverse();
+    Ok(segments)
+}
+
+// The base of a place, whose identifier means a URI: what was resolved while the documents were walked is shared.
+fn base_in(
+    alloc: Global,
+    index: &Index<'_>,
+    outer: &Rc<Uri>,
+    id: Option<&str>,
+) -> Result<Rc<Uri>, AllocError>
+    requires { (uri : List ℕ) × (base_within outer.now.value (option_map (λ text. text.now) id) ≡ Ok uri) }
+    ensures { IfOk result (λ base. base_within outer.now.value (option_map (λ text. text.now) id.entry) ≡ Ok base.value) }
+{
+    let Some(id) = id else {
+        return outer.clone();
+    };
+    if let Some(uri) = index.resolved(outer.as_str(), id) {
+        return uri.clone();
+    }
+    match resolve_against(alloc, outer.borrow(), id) {
+        Ok(uri) => shared(alloc, uri),
+        Err(UriFault::Memory(error)) => Err(error),
+        Err(UriFault::Invalid(error)) => unreachable!("{error}"),
+    }
+}
+
+// The place of a visit, whose base is known.
+fn place_at<'w>(
+    alloc: Global,
+    number: usize,
+    visit: &Visit<'w>,
+    base: &Rc<Uri>,
+) -> Result<Place<'w>, AllocError>
+    ensures { (place_of visit.now).base ≡ Ok base.now.value → IfOk result (λ place. listed_of place ≡ listed number (place_of visit.now)) }
+{
+    let path = segments_of(alloc, &visit.path)?;
+    let base = base.clone()?;
+    Ok(Place {
+        document: number,
+        path,
+        base,
+        draft: visit.draft,
+    })
+}
+
+// Adds the place at the head of the queue to the list, and its children to the queue.
+fn list_next<'w>(
+    alloc: Global,
+    index: &Index<'_>,
+    places: &mut Vec<Place<'w>>,
+    number: usize,
+    queue: &mut Vec<Visit<'w>>,
+    head: usize,
+) -> Result<(), AllocError>
+    requires { (v : Visit) × (uri : List ℕ) × (slice_get queue.old.items head ≡ Some v) × ((place_of v).base ≡ Ok uri) }
+    ensures { (v : Visit) → slice_get queue.old.items head ≡ Some v
+        → OnOk result ((map listed_of places.new.items ≡ map listed_of places.old.items ++ listed number (place_of v) ∷ [])
+        × ((more : List Visit) × (queue.new.items ≡ queue.old.items ++ more) × (map place_of more ≡ children_of (place_of v)))) }
+{
+    let visit = &queue[head];
+    let id = ResourceRef::new(visit.value, visit.draft).id();
+    let base = base_in(alloc, index, &visit.outer, id)?;
+    let place = place_at(alloc, number, visit, &base)?;
+    let path = visit.path.clone()?;
+    let (value, draft) = (visit.value, visit.draft);
+    places.push(place)?;
+    push_children(alloc, queue, &path, value, draft, &base)
+}
+
+// Adds the places of a document, whose number is given, to the list.
+fn list_document<'w>(
+    alloc: Global,
+    index: &Index<'_>,
+    list: &mut Vec<Place<'w>>,
+    number: usize,
+    document: &'w Document<'_>,
+) -> Result<(), AllocError>
+    requires { (p : WorldPlace) → Contains (places (document_of document.now)) p → (uri : List ℕ) × (p.base ≡ Ok uri) }
+    ensures { OnOk result (map listed_of list.new.items ≡ map listed_of list.old.items ++ map (listed number) (places (document_of document.now))) }
+{
+    let root = root_of(alloc, document)?;
+    let mut queue = Vec::new(alloc);
+    push_visit(&mut queue, root)?;
+    let mut head = 0;
+    while head < queue.len() {
+        list_next(alloc, index, list, number, &mut queue, head)?;
+        head += 1;
+    }
+    Ok(())
+}
+
+impl<'a> Index<'a> {
+    /// The places of these documents, document by document, and in each level by level, as they were walked. Each place is
+    /// visited once, and its path copied; keys are lent and URIs shared. Refused for want of memory.
+    pub fn places(&self, alloc: Global) -> Result<Vec<Place<'_>>, AllocError>
+        requires { faults self.now ≡ [] }
+        ensures value { IfOk result (λ list. map listed_of list.items ≡ own_places self.now) }
+    {
+        let documents = self.documents();
+        let mut list = Vec::new(alloc);
+        let mut number = 0;
+        while number < documents.len() {
+            list_document(alloc, self, &mut list, number, &documents[number])?;
+            number += 1;
+        }
+        Ok(list)
+    }
+}

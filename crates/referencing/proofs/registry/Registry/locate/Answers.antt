@@ -1,0 +1,17 @@
+use Rattle.std.proofs.Common.{◌≡◌, Ok, map, rules}
+use Rattle.std.specs.Prelude.{IfOk, IfErr}
+use Rattle.ref_parts.specs.Segment.{part_of}
+use Rattle.ref_world.specs.Lookup.{located}
+use Rattle.ref_retrieve.specs.Errors.{IsFaultOf}
+use Rattle.referencing.specs.Resolving.{found_of}
+use Rattle.referencing.proofs.Agreeing.{leads_here, answers_place}
+use Rattle.referencing.proofs.registry.Registry.locate.Goals as goal
+
+pub returns-clause-agrees : goal.returns-clause-agrees
+returns-clause-agrees c = λ d r q alike under is.
+    let path = map part_of c.args.path.now in
+    let answer = located c.args.self.now c.args.base.now path in
+    let ok : IfOk c.lookup.result (λ found. answer ≡ Ok (found_of found)) = search rules in
+    let fault : IfErr c.lookup.result (IsFaultOf answer) = search rules in
+    answers_place answer q c.args.base.now c.lookup.result
+    (leads_here c.args.self.now d r q c.args.base.now path c.own_index.ensures.children c.own_index.ensures.no_fault alike under is c.in_ok-reference.ensures.texts) ok fault
