@@ -1,12 +1,13 @@
+mod Options
 mod Texts
 mod Trees
 mod Scopes
-mod Walks
-mod Uris
-mod Hashes
-mod Registries
 mod Requests
-mod Steps
 mod Floats
+mod PlainWorlds
+mod PlainSteps
+mod Outcomes
+mod OneWorld
+mod Building
 mod Reports
 pub mod ReadsAgain

@@ -1,67 +1,69 @@
 -- What the reports are, once each part of them is known.
-use Rattle.std.proofs.Common.{◌≡◌, ℕ, List, Option, Some, None, option_map, Ok, Err, IfSome, ok_or, Bor, sym, ap, ◌∙◌, true, false, Result, IfOk, OnOk, string_bytes, subst}
+use Rattle.std.proofs.Common.{◌≡◌, ℕ, List, Option, Some, None, IfSome, Bor, Result, Ok, Err, IfOk, OnOk, codes, decimal, string_bytes, ok_or, sym, ap, subst, ◌∙◌, ◌++◌, append_assoc}
+use Rattle.std.specs.Io.KnownBytes.{Appends, Consumes}
 use Rattle.serde_json.specs.Data.{Data}
 use Rattle.serde_json.specs.View.{view}
-use Rattle.serde_json.specs.Written.{has_float}
 use Rattle.serde_json.specs.declared.value.Value.{Value}
-use Rattle.refwalk.specs.declared.request.BadRequest.TheVariants as bad
-use Rattle.refwalk.specs.Fault.{Fault}
-use Rattle.refwalk.specs.Follow.{followed}
-use Rattle.refwalk.specs.Outcome.{◌>>=◌}
-use Rattle.refwalk.specs.Registry.{prepared}
-use Rattle.refwalk.specs.declared.report.Report.{Report}
-use Rattle.refwalk.specs.declared.run.RunError.{RunError}
-use Rattle.refwalk.specs.declared.run.RunError.TheVariants.{NotYet}
-use Rattle.std.specs.Io.KnownBytes.{Appends, Consumes}
+use Rattle.ref_draft.specs.declared.draft.Draft.{Draft}
+use Rattle.ref_world.specs.Results.{◌>>=◌}
+use Rattle.ref_world.specs.World.{World}
+use Rattle.ref_world.specs.Follow.{Step, Followed, followed}
+use Rattle.ref_retrieve.specs.declared.error.Error.{Error}
+use Rattle.referencing.specs.Following.{lent_last, SaysStepFault}
+use Rattle.refwalk.specs.declared.report.Report as declared
 use Rattle.refwalk.specs.declared.report.Status.{Status}
-use Rattle.refwalk.specs.Report as spec
-use Rattle.refwalk.specs.Run.{AnswersBytes, Reports}
-use Rattle.refwalk.specs.View.{report_view}
-use Rattle.refwalk.specs.Report.{request_report, prepared_report, prepare_report, followed_report, draft_of_documents, is_answered, report}
-use Rattle.refwalk.specs.Request.{Document, Request, tree_of, request_of, read_request}
+use Rattle.refwalk.specs.declared.request.BadRequest.TheVariants as bad
+use Rattle.refwalk.specs.declared.run.RunError.{RunError}
+use Rattle.refwalk.specs.Report.{Report, line, done_report, followed_report, steps_of, IsRequestReport, IsReadReport, IsReport}
+use Rattle.refwalk.specs.Request.{Request, tree_of, request_of, read_request}
+use Rattle.refwalk.specs.Worlds.{AreParents, IsWorldAbove}
+use Rattle.refwalk.specs.Run.{Reports}
+use Rattle.refwalk.specs.inner.Faults.{IsErrorOf, IsReportOn}
+use Rattle.refwalk.specs.inner.Floats.{IsPlain}
+use Rattle.refwalk.specs.inner.View.{report_view}
+use Rattle.refwalk.proofs.OneWorld.{given_no_memory, unless_step}
 
-pub request_report-ok : (r : Request) (world : List Document) → prepared r.documents ≡ Ok world → request_report r ≡ followed_report (draft_of_documents r) (followed world r.base r.steps)
-unfolding request_report
-request_report-ok r world is = ap (prepared_report r) is
+pub report_of_tree : (bytes : List ℕ) (d : Data) (r : Report) → Some d ≡ tree_of bytes → IsReadReport (request_of d) r → IsReport bytes r
+unfolding IsReport read_request
+report_of_tree bytes d r is read = subst (λ o. IsReadReport (ok_or o bad.NotJson >>= request_of) r) is read
 
-pub request_report-err : (r : Request) (fault : Fault) → prepared r.documents ≡ Err fault → request_report r ≡ prepare_report fault
-unfolding request_report
-request_report-err r fault is = ap (prepared_report r) is
-
-pub read_request-tree : (bytes : List ℕ) (d : Data) → Some d ≡ tree_of bytes → read_request bytes ≡ request_of d
-unfolding read_request
-read_request-tree bytes d is = sym (ap (λ o. ok_or o bad.NotJson >>= request_of) is)
-
-pub read_request-none : (bytes : List ℕ) → None ≡ tree_of bytes → read_request bytes ≡ Err bad.NotJson
-unfolding read_request
-read_request-none bytes is = sym (ap (λ o. ok_or o bad.NotJson >>= request_of) is)
-
-pub last-no_float : (last : Option (Bor Value)) → IfSome (option_map (λ v. view v.now) last) (λ d. has_float d ≡ false) → IfSome last (λ v. has_float (view v.now) ≡ false)
-last-no_float None h = tt
-last-no_float (Some v) h = h
-
--- the answer is "not yet"
-pub answer-not_yet : (bytes : List ℕ) (e : RunError) → e ≡ NotYet → AnswersBytes bytes (Err e) → is_answered bytes ≡ false
-unfolding is_answered
-answer-not_yet bytes e is h = rw is at h
-
--- the answer is a report
-pub answer-report : (bytes : List ℕ) (r : Report) → AnswersBytes bytes (Ok r) → (is_answered bytes ≡ true) × (report_view r ≡ report bytes)
-unfolding is_answered report
-answer-report bytes r h = h
+pub report_of_none : (bytes : List ℕ) (r : Report) → None ≡ tree_of bytes → IsReadReport (Err bad.NotJson) r → IsReport bytes r
+unfolding IsReport read_request
+report_of_none bytes r is read = subst (λ o. IsReadReport (ok_or o bad.NotJson >>= request_of) r) is read
 
 -- a status that was answered, with what was written for it
-pub reports-by : (bytes : List ℕ) (r : Report) (left left' taken taken' : Option (List ℕ)) (ended : Type 0) (result : Result Status RunError) → ended → Consumes left left' bytes → AnswersBytes bytes (Ok r)
+pub reports_by : (bytes : List ℕ) (r : declared.Report) (left left' taken taken' : Option (List ℕ)) (ended : Type 0) (result : Result Status RunError) → ended → Consumes left left' bytes → IsReport bytes (report_view r)
     → IfOk result (λ status. status ≡ r.status) → OnOk result (Appends taken taken' (string_bytes r.text)) → IfOk result (λ status. ended × Reports left left' taken taken' status)
-reports-by bytes r left left' taken taken' ended (Err e) end gave answer status took = tt
-reports-by bytes r left left' taken taken' ended (Ok s) end gave answer status took =
-    let is = answer-report bytes r answer in (
-      end,
-      (
-        bytes,
-        gave,
-        is.0,
-        subst (λ text. Appends taken taken' text) (ap (λ (x : spec.Report). x.text) is.1) took,
-        status ∙ ap (λ (x : spec.Report). x.status) is.1,
-      ),
-    )
+reports_by bytes r left left' taken taken' ended (Err e) end gave is status took = tt
+reports_by bytes r left left' taken taken' ended (Ok s) end gave is status took = (end, (bytes, gave, report_view r, is, took, status))
+
+pub last_is_plain : (last : Option (Bor Value × Draft)) → IfSome (lent_last last) (λ found. IsPlain found.0) → IfSome last (λ v. IsPlain (view v.0.now))
+last_is_plain None h = tt
+last_is_plain (Some v) h = h
+
+-- ---- requests
+
+pub meta_reported : (r : Request) (e : Error) (report : Report) → IsErrorOf (AreParents r.meta) e → IsReportOn (codes "meta") e report → IsRequestReport r report
+meta_reported r e report refused is =
+    let said = given_no_memory e is.0 refused in
+    (Err said.0, said.1, is.1 said.0 said.2)
+
+pub prepare_reported : (r : Request) (parents : World) (e : Error) (report : Report) → AreParents r.meta (Ok parents) → IsErrorOf (IsWorldAbove r parents) e → IsReportOn (codes "prepare") e report → IsRequestReport r report
+prepare_reported r parents e report meta refused is =
+    let said = given_no_memory e is.0 refused in
+    (Ok parents, meta, (Err said.0, said.1, is.1 said.0 said.2))
+
+pub step_reported : (r : Request) (parents world : World) (ss : List Step) (n : ℕ) (e : Error) (report : Report) → AreParents r.meta (Ok parents) → IsWorldAbove r parents (Ok world) → ss ≡ steps_of r
+    → SaysStepFault (followed world r.base ss) n e → IsReportOn (decimal n) e report → IsRequestReport r report
+step_reported r parents world ss n e report meta above steps fault is =
+    let said = given_no_memory e is.0 (unless_step (followed world r.base ss) n e fault) in
+    (Ok parents, meta, (Ok world, above, is.1 said.0 said.2 ∙ ap followed_report (sym said.1) ∙ ap (λ s. followed_report (followed world r.base s)) steps))
+
+pub done_reported : (r : Request) (parents world : World) (ss : List Step) (f : Followed) (report : Report) → AreParents r.meta (Ok parents) → IsWorldAbove r parents (Ok world) → ss ≡ steps_of r
+    → followed world r.base ss ≡ Ok f → report ≡ done_report f → IsRequestReport r report
+done_reported r parents world ss f report meta above steps leads is =
+    (Ok parents, meta, (Ok world, above, is ∙ ap followed_report (sym leads) ∙ ap (λ s. followed_report (followed world r.base s)) steps))
+
+-- the line of a fault, as it is written from the front
+pub fault_line : (of text : List ℕ) → codes "fault " ++ (of ++ (codes " " ++ (text ++ codes "\n"))) ≡ line (codes "fault " ++ of ++ codes " " ++ text)
+fault_line of text = simp append_assoc

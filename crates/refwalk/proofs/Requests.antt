@@ -1,36 +1,26 @@
 -- What is known of a request that was read.
-use Rattle.std.proofs.Common.{◌≡◌, Bool, true, false, Option, Some, None, option_and_then, Result, Ok, Err, ok_or, codes, cond, refl, ap, ◌∙◌}
+use Rattle.std.proofs.Common.{◌≡◌, Bool, true, false, Result, Ok, Err, ok_or, codes, cond, refl, ap, ◌∙◌}
 use Rattle.serde_json.specs.Data.{Data}
 use Rattle.serde_json.specs.Find.{get, as_object}
 use Rattle.serde_json.specs.Written.{has_float}
+use Rattle.ref_world.specs.Results.{◌>>=◌}
 use Rattle.refwalk.specs.declared.request.BadRequest.TheVariants as bad
-use Rattle.refwalk.specs.Outcome.{◌>>=◌}
 use Rattle.refwalk.specs.Request.{Request, documents_of, base_of, steps_of, remote_of, draft_of, limit_of, required, optional, are_fields, fields_of, request_of}
 
--- ---- steps that gave something
-
-pub bind_is_ok : {A B E : Type 0} (r : Result A E) (f : A → Result B E) (y : B) → (r >>= f) ≡ Ok y → (x : A) × (r ≡ Ok x) × (f x ≡ Ok y)
+bind_is_ok : {A B E : Type 0} (r : Result A E) (f : A → Result B E) (y : B) → (r >>= f) ≡ Ok y → (x : A) × (r ≡ Ok x) × (f x ≡ Ok y)
 bind_is_ok (Ok x) f y h = (x, refl, h)
-bind_is_ok (Err e) f y h = cc
+bind_is_ok (Err e) f y h = absurd (cc)
 
-pub ok_or_is_ok : {A E : Type 0} (o : Option A) (e : E) (y : A) → ok_or o e ≡ Ok y → o ≡ Some y
-ok_or_is_ok None e y h = cc
-ok_or_is_ok (Some x) e y h = cc
-
-pub and_then_is_some : {A B : Type 0} (o : Option A) (f : A → Option B) (y : B) → option_and_then f o ≡ Some y → (x : A) × (o ≡ Some x) × (f x ≡ Some y)
-and_then_is_some None f y h = cc
-and_then_is_some (Some x) f y h = (x, refl, h)
-
-pub some_is : {A : Type 0} (x y : A) → Some x ≡ Some y → x ≡ y
-some_is x y h = cc
-
-pub ok_is : {A E : Type 0} (x y : A) → ◌≡◌ {A = Result A E} (Ok x) (Ok y) → x ≡ y
+ok_is : {A E : Type 0} (x y : A) → ◌≡◌ {A = Result A E} (Ok x) (Ok y) → x ≡ y
 ok_is x y h = cc
 
--- ---- a request that was read
+-- the fields that hold documents stand in the tree
+pub record AreRead (d : Data) (r : Request) : Type 0 where
+  pub documents : required bad.Documents documents_of (get (codes "documents") d) ≡ Ok r.documents
+  pub remote : optional bad.Remote remote_of (get (codes "remote") d) ≡ Ok r.remote
+  pub meta : optional bad.Meta documents_of (get (codes "meta") d) ≡ Ok r.meta
 
--- the documents stand in the tree
-pub fields-read : (d : Data) (r : Request) → fields_of d ≡ Ok r → required bad.Documents documents_of (get (codes "documents") d) ≡ Ok r.documents
+fields-read : (d : Data) (r : Request) → fields_of d ≡ Ok r → AreRead d r
 unfolding fields_of
 fields-read d r is =
     let documents = bind_is_ok (required bad.Documents documents_of (get (codes "documents") d)) _ r is in
@@ -40,16 +30,22 @@ fields-read d r is =
     let meta = bind_is_ok (optional bad.Meta documents_of (get (codes "meta") d)) _ r remote.2 in
     let draft = bind_is_ok (optional bad.Draft draft_of (get (codes "draft") d)) _ r meta.2 in
     let limit = bind_is_ok (optional bad.Limit limit_of (get (codes "limit") d)) _ r draft.2 in
-    documents.1 ∙ ap (λ (x : Request). Ok x.documents) (ok_is _ r limit.2)
+    let same = ok_is _ r limit.2 in
+    record {
+      documents = documents.1 ∙ ap (λ (x : Request). Ok x.documents) same;
+      remote = remote.1 ∙ ap (λ (x : Request). Ok x.remote) same;
+      meta = meta.1 ∙ ap (λ (x : Request). Ok x.meta) same;
+    }
 
 read_by : (b c : Bool) (d : Data) (r : Request) → has_float d ≡ b → cond b (Err bad.Float) (cond c (fields_of d) (Err bad.UnknownField)) ≡ Ok r → (has_float d ≡ false) × (fields_of d ≡ Ok r)
-read_by true c d r h is = cc
+read_by true c d r h is = absurd (cc)
 read_by false true d r h is = (h, is)
-read_by false false d r h is = cc
+read_by false false d r h is = absurd (cc)
 
 -- the tree has no float, and its fields are the request's
-pub request-read : (d : Data) (r : Request) → request_of d ≡ Ok r → (has_float d ≡ false) × (fields_of d ≡ Ok r)
+pub request-read : (d : Data) (r : Request) → request_of d ≡ Ok r → (has_float d ≡ false) × AreRead d r
 unfolding request_of
 request-read d r is =
     let members = bind_is_ok (ok_or (as_object d) bad.NotAnObject) _ r is in
-    read_by (has_float d) (are_fields members.0) d r refl members.2
+    let read = read_by (has_float d) (are_fields members.0) d r refl members.2 in
+    (read.0, fields-read d r read.1)

@@ -1,9 +1,12 @@
 -- Lists that are read item by item.
-use Rattle.std.proofs.Common.{◌≡◌, List, [], ◌∷◌, ◌++◌, Option, Some, None, option_map, option_and_then, refl, sym, ap, ◌∙◌, append_assoc, true, false, cond}
-use Rattle.std.specs.List.{list_all}
-use Rattle.ref_uri.specs.Reference.{is_uri_reference}
+use Rattle.std.proofs.Common.{◌≡◌, ℕ, ◌+◌, ◌<◌, List, [], ◌∷◌, ◌++◌, length, drop, get_or, Option, Some, None, option_map, option_and_then, refl, sym, ap, ◌∙◌, append_assoc, add-one}
+use Rattle.std.proofs.Math.Seq.{drop-cons}
+use Rattle.std.proofs.lemmas.List.{map-append}
 use Rattle.serde_json.specs.Data.{Data}
-use Rattle.refwalk.specs.Request.{Document, documents_of, remote_of, if_passes}
+use Rattle.serde_json.specs.View.{view}
+use Rattle.serde_json.specs.declared.value.Value.{Value}
+use Rattle.ref_retrieve.specs.Retrieving.{trees_of}
+use Rattle.refwalk.specs.Request.{retrievable_of}
 
 -- what is read so far, in front of what is left to read
 abbrev pub in_front : {B : Type 0} → List B → Option (List B) → Option (List B)
@@ -13,10 +16,16 @@ pub in_front_push : {B : Type 0} (done : List B) (y : B) (left : Option (List B)
 in_front_push done y None = refl
 in_front_push done y (Some ys) = ap Some (append_assoc done (y ∷ []) ys)
 
-pub remote_of-passes : (d : Data) (es : List Document) → Some es ≡ documents_of d → list_all (λ e. is_uri_reference e.uri) es ≡ true → Some es ≡ remote_of d
-unfolding remote_of
-remote_of-passes d es is h = sym (ap (option_and_then (if_passes (list_all (λ e. is_uri_reference e.uri)))) (sym is) ∙ ap (λ b. cond b (Some es) None) h)
+-- ---- a list that is read further
 
-pub remote_of-fails : (d : Data) (es : List Document) → Some es ≡ documents_of d → list_all (λ e. is_uri_reference e.uri) es ≡ false → None ≡ remote_of d
-unfolding remote_of
-remote_of-fails d es is h = sym (ap (option_and_then (if_passes (list_all (λ e. is_uri_reference e.uri)))) (sym is) ∙ ap (λ b. cond b (Some es) None) h)
+pub drop_read : {X : Type 0} (xs : List X) (i : ℕ) (x : X) → i < length xs → x ≡ get_or xs i x → drop i xs ≡ x ∷ drop (i + 1) xs
+drop_read xs i x h e =
+    let cut : drop i xs ≡ get_or xs i x ∷ drop (i + 1) xs = rw (add-one, drop-cons xs i x) in
+    cut ∙ ap (λ y. y ∷ drop (i + 1) xs) (sym e)
+
+pub retrievable_next : (done : List (List ℕ × Value)) (e : List ℕ × Value) (d : Data) (left : Option (List (List ℕ × Data))) → Some (e.0, view e.1) ≡ retrievable_of d
+    → in_front (trees_of (done ++ e ∷ [])) left ≡ in_front (trees_of done) (option_and_then (λ y. option_map (λ ys. y ∷ ys) left) (retrievable_of d))
+retrievable_next done e d left is =
+    ap (λ xs. in_front xs left) (map-append (λ (p : List ℕ × Value). (p.0, view p.1)) done (e ∷ []))
+    ∙ in_front_push (trees_of done) (e.0, view e.1) left
+    ∙ ap (λ o. in_front (trees_of done) (option_and_then (λ y. option_map (λ ys. y ∷ ys) left) o)) is

@@ -1,18 +1,21 @@
 -- The report on a request.
-use Rattle.std.specs.Prelude.{ℕ, Bool, true, List, [], ◌∷◌, ◌++◌, codes, decimal, flat_map, Option, Some, None, unwrap_or, Result, Ok, Err}
+use Rattle.std.specs.Prelude.{◌≡◌, ℕ, List, [], ◌∷◌, ◌++◌, codes, decimal, flat_map, map, Option, Some, None, Result, Ok, Err}
 use Rattle.serde_json.specs.Data.{Data}
 use Rattle.serde_json.specs.Written.{compact_text}
 use Rattle.ref_draft.specs.declared.draft.Draft.{Draft}
 use Rattle.ref_draft.specs.declared.draft.Draft.TheVariants.{Draft4, Draft6, Draft7, Draft201909, Draft202012, Unknown}
+use Rattle.ref_draft.specs.Schema.{detect}
+use Rattle.ref_world.specs.World.{World}
+use Rattle.ref_world.specs.Fault.{Fault, fault_text}
+use Rattle.ref_world.specs.Pending.{builder_draft}
+use Rattle.ref_world.specs.Follow as world
+use Rattle.ref_world.specs.Follow.{Followed, followed}
 use Rattle.refwalk.specs.declared.report.Status.{Status}
 use Rattle.refwalk.specs.declared.report.Status.TheVariants as status
 use Rattle.refwalk.specs.declared.request.BadRequest.{BadRequest}
 use Rattle.refwalk.specs.declared.request.BadRequest.TheVariants.{NotJson, NotAnObject, Float, UnknownField, Documents, Base, Steps, Remote, Meta, Draft as DraftField, Limit}
-use Rattle.refwalk.specs.Request.{Document, Request, read_request}
-use Rattle.refwalk.specs.Served.{is_served}
-use Rattle.refwalk.specs.Registry.{prepared}
-use Rattle.refwalk.specs.Fault.{Fault, fault_text}
-use Rattle.refwalk.specs.Follow.{Followed, followed}
+use Rattle.refwalk.specs.Request.{Step, Lookup, Recursive, Enter, Request, read_request}
+use Rattle.refwalk.specs.Worlds.{AreParents, IsWorldAbove}
 
 -- what is written, and how a run ends
 pub record Report : Type 0 where
@@ -41,13 +44,9 @@ reason Limit = codes "limit"
 abbrev pub bad_report : BadRequest → Report
 bad_report bad = record { status = status.BadRequest; text = line (codes "bad request " ++ reason bad) }
 
--- the report on documents that can't be prepared
-abbrev pub prepare_report : Fault → Report
-prepare_report fault = record { status = status.Fault; text = line (codes "fault prepare " ++ fault_text fault) }
-
--- the report on a step that can't be followed
-abbrev pub step_report : ℕ → Fault → Report
-step_report n fault = record { status = status.Fault; text = line (codes "fault " ++ (decimal n ++ (codes " " ++ fault_text fault))) }
+-- a fault, with what it is a fault of
+abbrev pub fault_report : List ℕ → Fault → Report
+fault_report of fault = record { status = status.Fault; text = line (codes "fault " ++ of ++ codes " " ++ fault_text fault) }
 
 -- the name of a draft
 abbrev pub draft_name : Draft → List ℕ
@@ -58,54 +57,56 @@ draft_name Draft201909 = codes "2019-09"
 draft_name Draft202012 = codes "2020-12"
 draft_name Unknown = codes "unknown"
 
--- a value and its draft
-abbrev pub value_lines : Draft → Option Data → List ℕ
-value_lines draft None = line (codes "no value")
-value_lines draft (Some d) = line (codes "value " ++ compact_text d) ++ line (codes "draft " ++ draft_name draft)
+-- the value found last and its draft
+abbrev pub value_lines : Option (Data × Draft) → List ℕ
+value_lines None = line (codes "no value")
+value_lines (Some (value, draft)) = line (codes "value " ++ compact_text value) ++ line (codes "draft " ++ draft_name draft)
 
 -- the line of the scope, inner to outer
 abbrev pub scope_line : List (List ℕ) → List ℕ
 scope_line scope = line (codes "scope" ++ flat_map (λ uri. codes " " ++ uri) scope)
 
 -- the report on steps that were all followed
-abbrev pub done_report : Draft → Followed → Report
-done_report draft f = record {
+abbrev pub done_report : Followed → Report
+done_report f = record {
   status = status.Done;
-  text = value_lines draft f.last ++ (line (codes "base " ++ f.resolver.base) ++ scope_line f.resolver.scope);
+  text = value_lines f.last ++ line (codes "base " ++ f.resolver.base) ++ scope_line f.resolver.scope;
 }
 
--- the report on where the steps lead
-abbrev pub followed_report : Draft → Result Followed (ℕ × Fault) → Report
-followed_report draft (Ok f) = done_report draft f
-followed_report draft (Err (n, fault)) = step_report n fault
+-- the report on where steps lead: a fault has the number of its step
+abbrev pub followed_report : Result Followed (ℕ × Fault) → Report
+followed_report (Ok f) = done_report f
+followed_report (Err (n, fault)) = fault_report (decimal n) fault
 
--- Every document has the draft of the request, or 2020-12 without one.
-abbrev pub draft_of_documents : Request → Draft
-draft_of_documents r = unwrap_or r.draft Draft202012
+-- a step of a request: an object is entered as a resource of the draft that this one detects on it
+abbrev pub step_in : Draft → Step → world.Step
+step_in draft (Lookup reference) = world.Lookup reference
+step_in draft Recursive = world.Recursive
+step_in draft (Enter value) = world.Enter (detect draft value) value
 
--- the report once the documents are prepared
-abbrev pub prepared_report : Request → Result (List Document) Fault → Report
-prepared_report r (Ok world) = followed_report (draft_of_documents r) (followed world r.base r.steps)
-prepared_report r (Err fault) = prepare_report fault
+-- the steps of a request, where its draft, or else 2020-12, is detected with
+abbrev pub steps_of : Request → List world.Step
+steps_of r = map (step_in (builder_draft r.draft)) r.steps
 
--- the report on a request that is served
-unfoldable pub request_report : Request → Report
-request_report r = prepared_report r (prepared r.documents)
+-- the report on a request, once its documents are prepared
+abbrev pub world_report : Request → Result World Fault → Report
+world_report r (Ok world) = followed_report (followed world r.base (steps_of r))
+world_report r (Err fault) = fault_report (codes "prepare") fault
+
+-- the report on a request, once its meta-schemas are prepared
+abbrev pub IsReportAbove : Request → Result World Fault → Report → Type 0
+IsReportAbove r (Ok parents) report = (world : Result World Fault) × IsWorldAbove r parents world × (report ≡ world_report r world)
+IsReportAbove r (Err fault) report = report ≡ fault_report (codes "meta") fault
+
+-- the report on a request
+abbrev pub IsRequestReport : Request → Report → Type 0
+IsRequestReport r report = (parents : Result World Fault) × AreParents r.meta parents × IsReportAbove r parents report
 
 -- the report on a request, bad or not
-abbrev pub read_report : Result Request BadRequest → Report
-read_report (Ok r) = request_report r
-read_report (Err bad) = bad_report bad
+abbrev pub IsReadReport : Result Request BadRequest → Report → Type 0
+IsReadReport (Ok r) report = IsRequestReport r report
+IsReadReport (Err bad) report = report ≡ bad_report bad
 
--- the report on the bytes of a request
-unfoldable pub report : List ℕ → Report
-report bytes = read_report (read_request bytes)
-
--- a bad request is answered by a report, and so is one that is served
-abbrev pub read_is_answered : Result Request BadRequest → Bool
-read_is_answered (Ok r) = is_served r
-read_is_answered (Err bad) = true
-
--- the bytes are answered by a report: a bad request is, and so is one that is served
-unfoldable pub is_answered : List ℕ → Bool
-is_answered bytes = read_is_answered (read_request bytes)
+-- The report on the bytes of a request. There is one alone, which is the law `reports_are_one`.
+unfoldable pub IsReport : List ℕ → Report → Type 0
+IsReport bytes report = IsReadReport (read_request bytes) report

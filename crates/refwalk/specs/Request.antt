@@ -1,19 +1,17 @@
 -- A request: the fields of one JSON object.
 use Rattle.std.specs.Prelude.{ℕ, Bool, true, ◌&&◌, ◌||◌, List, [], ◌∷◌, codes, Option, Some, None, option_map, option_and_then, Result, Ok, Err, ok_or, is_some, bytes_eq, if◌then◌else◌}
-use Rattle.std.specs.List.{list_all}
 use Rattle.std.specs.Result.{result_ok}
 use Rattle.std.specs.Str.{is_utf8}
 use Rattle.serde_json.specs.Data.{Data, null, boolean, number, string, array, object, Items, no_items, item, Members, no_members, member}
 use Rattle.serde_json.specs.Find.{get, at, as_str, as_array, as_object, as_number, as_u64}
 use Rattle.serde_json.specs.Read.{read}
 use Rattle.serde_json.specs.Written.{has_float}
-use Rattle.ref_uri.specs.Reference.{is_uri_reference}
 use Rattle.ref_uri.specs.Targets.{parsed}
 use Rattle.ref_draft.specs.declared.draft.Draft.{Draft}
 use Rattle.ref_draft.specs.declared.draft.Draft.TheVariants as draft
 use Rattle.refwalk.specs.declared.request.BadRequest.{BadRequest}
 use Rattle.refwalk.specs.declared.request.BadRequest.TheVariants as bad
-use Rattle.refwalk.specs.Outcome.{◌>>=◌}
+use Rattle.ref_world.specs.Results.{◌>>=◌}
 
 -- a document, and the text of the URI under which it is added
 pub record Document : Type 0 where
@@ -26,12 +24,12 @@ pub data Step : Type 0 where
   Recursive : Step
   Enter : Data → Step
 
--- the fields of a request
+-- the fields of a request; what can be retrieved stands under the URIs that its texts mean
 pub record Request : Type 0 where
   pub documents : List Document
   pub base : List ℕ
   pub steps : List Step
-  pub remote : Option (List Document)
+  pub remote : Option (List (List ℕ × Data))
   pub meta : Option (List Document)
   pub draft : Option Draft
   pub limit : Option ℕ
@@ -49,10 +47,6 @@ list_of f d = option_and_then (every f) (as_array d)
 
 -- ---- the fields
 
--- the value, if it passes the test
-abbrev pub if_passes : {A : Type 0} → (A → Bool) → A → Option A
-if_passes test x = if test x then Some x else None
-
 -- `[text, schema]`: a text, a second item, and no third
 abbrev pub document_of : Data → Option Document
 document_of d =
@@ -63,9 +57,13 @@ document_of d =
 unfoldable pub documents_of : Data → Option (List Document)
 documents_of d = list_of document_of d
 
--- the same, where each text is a URI reference
-unfoldable pub remote_of : Data → Option (List Document)
-remote_of d = option_and_then (if_passes (list_all (λ e. is_uri_reference e.uri))) (documents_of d)
+-- a tree under the URI that its text means
+abbrev pub retrievable_of : Data → Option (List ℕ × Data)
+retrievable_of d = option_and_then (λ e. option_map (λ uri. (uri, e.tree)) (result_ok (parsed e.uri))) (document_of d)
+
+-- a list of such
+unfoldable pub remote_of : Data → Option (List (List ℕ × Data))
+remote_of d = list_of retrievable_of d
 
 -- the URI that a text means
 unfoldable pub base_of : Data → Option (List ℕ)

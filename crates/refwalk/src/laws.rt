@@ -1,39 +1,11 @@
-//! Rows of the definitions, as contracts of functions that do nothing.
-ghost use Rattle.refwalk.specs.Rows.{IndexRows, PartsRows, StepRows, ServedRows, FaultRows, MeansRows, ScopeRows, DraftRows, ExitRows};
+//! Laws and rows of the definitions, as contracts of functions that do nothing.
+ghost use Rattle.std.specs.Prelude.{◌≡◌, ℕ, List};
+ghost use Rattle.refwalk.specs.Report.{Report, IsReport};
+ghost use Rattle.refwalk.specs.Rows.{DraftRows, ExitRows};
 
-/// The parts of a pointer that are indexes of an array.
-pub fn index_rows()
-    ensures rows { IndexRows }
-{}
-
-/// The parts of a pointer's text.
-pub fn parts_rows()
-    ensures rows { PartsRows }
-{}
-
-/// Steps into values.
-pub fn step_rows()
-    ensures rows { StepRows }
-{}
-
-/// Steps that are served.
-pub fn served_rows()
-    ensures rows { ServedRows }
-{}
-
-/// Texts that mean no URI.
-pub fn fault_rows()
-    ensures rows { FaultRows }
-{}
-
-/// What a URI means among documents.
-pub fn means_rows()
-    ensures rows { MeansRows }
-{}
-
-/// The scope after a lookup.
-pub fn scope_rows()
-    ensures rows { ScopeRows }
+/// The bytes of a request have one report alone: what can be retrieved is a map, so preparing has one outcome.
+pub fn reports_are_one()
+    ensures law { (bytes : List ℕ) (one other : Report) → IsReport bytes one → IsReport bytes other → one ≡ other }
 {}
 
 /// The names of drafts.

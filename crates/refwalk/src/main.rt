@@ -4,22 +4,18 @@
 //! whose contract says that it is what is written.
 #![tactic(auto)]
 
-mod fault;
-mod follow;
+mod answer;
 pub mod laws;
-mod pointer;
-mod registry;
 mod report;
 mod request;
 mod run;
 mod scan;
-mod served;
 mod sink;
 mod source;
 mod stop;
 #[cfg(test)]
 mod tests;
-mod uri;
+mod worlds;
 
 use run::{exit_status, run};
 use sink::Output;

@@ -1,18 +1,15 @@
 //! The report on a request.
-ghost use Rattle.std.specs.Prelude.{◌≡◌, ◌++◌, ◌∷◌, [], false, IfOk, OnOk, IfSome, codes, decimal, option_map, string_bytes};
+ghost use Rattle.std.specs.Prelude.{◌≡◌, ◌++◌, false, IfOk, OnOk, IfSome, codes, decimal, string_bytes};
 ghost use Rattle.serde_json.specs.View.{view};
 ghost use Rattle.serde_json.specs.Written.{has_float};
+ghost use Rattle.referencing.specs.Following.{lent_last, followed_of};
 ghost use Rattle.refwalk.specs.Report as spec;
-ghost use Rattle.refwalk.specs.FaultView.{fault_view};
-ghost use Rattle.refwalk.specs.View.{followed_view, report_view};
+ghost use Rattle.refwalk.specs.inner.Faults.{IsReportOn};
+ghost use Rattle.refwalk.specs.inner.View.{report_view};
 
-use crate::fault::Fault;
-use crate::follow::Followed;
 use crate::request::BadRequest;
-use ref_draft::Draft;
-use ref_parts::escape::write_index;
-use ref_parts::list::List;
-use ref_uri::Uri;
+use ref_retrieve::laws::errors_say_faults;
+use referencing::{Draft, Error, FollowError, Followed, List, Uri};
 use serde_json::Value;
 use std::alloc::{AllocError, Global};
 
@@ -63,39 +60,38 @@ fn reason(bad: BadRequest) -> &'static str
     }
 }
 
-/// The report on documents that can't be prepared.
-pub fn prepare_report(alloc: Global, fault: &Fault) -> Result<Report, AllocError>
-    ensures { IfOk result (λ r. report_view r ≡ spec.prepare_report (fault_view fault.now)) }
+/// The report on a fault, with what it is a fault of. Want of memory is none.
+pub fn fault_report(alloc: Global, of: &str, error: Error) -> Result<Report, AllocError>
+    ensures { IfOk result (λ r. IsReportOn of.now error (report_view r)) }
 {
+    if let Error::Memory(refused) = error {
+        return Err(refused);
+    }
+    errors_say_faults();
     Ok(Report {
         status: Status::Fault,
-        text: format!(in alloc; "fault prepare {fault}\n")?,
+        text: format!(in alloc; "fault {of} {error}\n")?,
     })
 }
 
-/// The report on a step that can't be followed.
-pub fn step_report(alloc: Global, step: usize, fault: &Fault) -> Result<Report, AllocError>
-    ensures { IfOk result (λ r. report_view r ≡ spec.step_report step (fault_view fault.now)) }
+/// The report on a step that leads nowhere.
+pub fn step_report(alloc: Global, fault: FollowError) -> Result<Report, AllocError>
+    ensures { IfOk result (λ r. IsReportOn (decimal fault.step) fault.error (report_view r)) }
 {
-    let mut text = String::new(alloc);
-    text.push_str("fault ")?;
-    write_index(&mut text, step)?;
-    write!(text, " {fault}\n")?;
-    Ok(Report {
-        status: Status::Fault,
-        text,
-    })
+    let FollowError { step, error } = fault;
+    let number = format!(in alloc; "{step}")?;
+    fault_report(alloc, number.as_str(), error)
 }
 
 /// The report on steps that were all followed.
-pub fn done_report(alloc: Global, draft: Draft, followed: &Followed) -> Result<Report, AllocError>
-    requires { IfSome followed.now.last (λ v. has_float (view v.now) ≡ false) }
-    ensures { IfOk result (λ r. report_view r ≡ spec.done_report draft (followed_view followed.now)) }
+pub fn done_report(alloc: Global, followed: &Followed) -> Result<Report, AllocError>
+    requires { IfSome followed.now.last (λ v. has_float (view v.0.now) ≡ false) }
+    ensures { IfOk result (λ r. report_view r ≡ spec.done_report (followed_of followed.now)) }
 {
     let mut text = String::new(alloc);
-    push_value(alloc, &mut text, draft, followed.last)?;
-    push_line(&mut text, "base ", followed.resolver.base.as_str())?;
-    push_scope(&mut text, &followed.resolver.scope)?;
+    push_value(alloc, &mut text, followed.last)?;
+    push_line(&mut text, "base ", followed.resolver.base_uri().as_str())?;
+    push_scope(&mut text, followed.resolver.dynamic_scope())?;
     Ok(Report {
         status: Status::Done,
         text,
@@ -119,14 +115,13 @@ fn draft_name(draft: Draft) -> &'static str
 fn push_value(
     alloc: Global,
     text: &mut String,
-    draft: Draft,
-    last: Option<&Value>,
+    last: Option<(&Value, Draft)>,
 ) -> Result<(), AllocError>
-    requires { IfSome last (λ v. has_float (view v.now) ≡ false) }
+    requires { IfSome last (λ v. has_float (view v.0.now) ≡ false) }
     ensures { OnOk result (string_bytes text.new
-        ≡ string_bytes text.old ++ spec.value_lines draft (option_map (λ v. view v.now) last.entry)) }
+        ≡ string_bytes text.old ++ spec.value_lines (lent_last last.entry)) }
 {
-    let Some(value) = last else {
+    let Some((value, draft)) = last else {
         return push_line(text, "no value", "");
     };
     let json = value.to_string(alloc)?;

@@ -1,31 +1,21 @@
 //! A request, read from one JSON object.
-ghost use Rattle.std.specs.Prelude.{◌≡◌, IfOk, IfErr, Ok, Some, Option, option_map, map, codes};
-ghost use Rattle.std.specs.List.{list_all};
+ghost use Rattle.std.specs.Prelude.{◌≡◌, IfOk, option_map, map};
 ghost use Rattle.serde_json.specs.View.{view, members_view};
-ghost use Rattle.serde_json.specs.Find.{get};
-ghost use Rattle.serde_json.specs.Written.{has_float};
-ghost use Rattle.ref_uri.specs.Reference.{is_uri_reference};
-ghost use Rattle.refwalk.specs.Outcome.{Answers};
+ghost use Rattle.ref_retrieve.specs.Retrieving.{trees_of};
 ghost use Rattle.refwalk.specs.Request as spec;
-ghost use Rattle.refwalk.specs.View.{document_view, step_view, request_view};
+ghost use Rattle.refwalk.specs.inner.Outcome.{Answers};
+ghost use Rattle.refwalk.specs.inner.View.{document_view, documents_view, step_view, request_view};
 ghost use Rattle.refwalk.specs.declared.request.BadRequest.TheVariants as bad;
 
 use crate::scan::has_float;
 use crate::stop::Stop;
-use crate::uri::is_reference;
-use ref_draft::Draft;
-use ref_uri::uri::from_str;
-use ref_uri::{Uri, UriFault};
+use referencing::uri::from_str;
+use referencing::{Draft, Uri, UriFault};
 use serde_json::{Map, Value};
 use std::alloc::{AllocError, Global};
-use std::rc::Rc;
 
-/// A document, and the text of the URI under which it is added.
-#[derive(Clone, Copy)]
-pub struct Document<'a> {
-    pub uri: &'a str,
-    pub tree: &'a Value,
-}
+/// A document: the text of the URI under which it is added, and its tree.
+pub type Document<'a> = (&'a str, &'a Value);
 
 /// A step: a text is looked up, null is a recursive lookup, an object is entered.
 #[derive(Clone, Copy)]
@@ -35,13 +25,14 @@ pub enum Step<'a> {
     Enter(&'a Value),
 }
 
-/// The fields of a request, each as the format wants it.
+/// The fields of a request, each as the format wants it. What can be retrieved stands under the URIs that its texts mean, and
+/// is copied, since a retriever owns it.
 #[derive(Drop)]
 pub struct Request<'a> {
     pub documents: Vec<Document<'a>>,
-    pub base: Rc<Uri>,
+    pub base: Uri,
     pub steps: Vec<Step<'a>>,
-    pub remote: Option<Vec<Document<'a>>>,
+    pub remote: Option<Vec<(Uri, Value)>>,
     pub meta: Option<Vec<Document<'a>>>,
     pub draft: Option<Draft>,
     pub limit: Option<u64>,
@@ -64,7 +55,7 @@ pub enum BadRequest {
     Base,
     /// `steps` is missing, or holds what is no text, null or object.
     Steps,
-    /// `remote` is no list of a URI reference and a schema each.
+    /// `remote` is no list of a text that means a URI and a schema each.
     Remote,
     /// `meta` is no list of a text and a schema each.
     Meta,
@@ -74,7 +65,8 @@ pub enum BadRequest {
     Limit,
 }
 
-/// The request that a tree is, or the first thing that is wrong with it. It takes memory for the lists.
+/// The request that a tree is, or the first thing that is wrong with it. It takes memory for the lists, and for
+/// a copy of what can be retrieved.
 #[tactic(auto, unfolding(crate::specs::Request::request_of))]
 pub fn request_of(alloc: Global, tree: &Value) -> Result<Request<'_>, Stop<BadRequest>>
     ensures { Answers request_view (λ e. e) result (spec.request_of (view tree.now)) }
@@ -137,15 +129,15 @@ fn required_documents(
     alloc: Global,
     found: Option<&Value>,
 ) -> Result<Vec<Document<'_>>, Stop<BadRequest>>
-    ensures { Answers (λ v. map document_view v.items) (λ e. e) result
+    ensures { Answers (λ v. documents_view v.items) (λ e. e) result
         (spec.required bad.Documents spec.documents_of (option_map (λ v. view v.now) found.entry)) }
 {
     let value = found.ok_or(Stop::Because(BadRequest::Documents))?;
     documents_of(alloc, value)?.ok_or(Stop::Because(BadRequest::Documents))
 }
 
-fn required_base(alloc: Global, found: Option<&Value>) -> Result<Rc<Uri>, Stop<BadRequest>>
-    ensures { Answers (λ u. u.value) (λ e. e) result
+fn required_base(alloc: Global, found: Option<&Value>) -> Result<Uri, Stop<BadRequest>>
+    ensures { Answers (λ u. u) (λ e. e) result
         (spec.required bad.Base spec.base_of (option_map (λ v. view v.now) found.entry)) }
 {
     let value = found.ok_or(Stop::Because(BadRequest::Base))?;
@@ -163,8 +155,8 @@ fn required_steps(alloc: Global, found: Option<&Value>) -> Result<Vec<Step<'_>>,
 fn optional_remote(
     alloc: Global,
     found: Option<&Value>,
-) -> Result<Option<Vec<Document<'_>>>, Stop<BadRequest>>
-    ensures { Answers (option_map (λ v. map document_view v.items)) (λ e. e) result
+) -> Result<Option<Vec<(Uri, Value)>>, Stop<BadRequest>>
+    ensures { Answers (option_map (λ v. trees_of v.items)) (λ e. e) result
         (spec.optional bad.Remote spec.remote_of (option_map (λ v. view v.now) found.entry)) }
 {
     let Some(value) = found else {
@@ -180,7 +172,7 @@ fn optional_meta(
     alloc: Global,
     found: Option<&Value>,
 ) -> Result<Option<Vec<Document<'_>>>, Stop<BadRequest>>
-    ensures { Answers (option_map (λ v. map document_view v.items)) (λ e. e) result
+    ensures { Answers (option_map (λ v. documents_view v.items)) (λ e. e) result
         (spec.optional bad.Meta spec.documents_of (option_map (λ v. view v.now) found.entry)) }
 {
     let Some(value) = found else {
@@ -220,7 +212,7 @@ fn optional_limit(found: Option<&Value>) -> Result<Option<u64>, Stop<BadRequest>
 
 #[tactic(auto, unfolding(crate::specs::Request::documents_of), using(crate::proofs::Trees::in_front_push))]
 fn documents_of(alloc: Global, value: &Value) -> Result<Option<Vec<Document<'_>>>, AllocError>
-    ensures { IfOk result (λ o. option_map (λ v. map document_view v.items) o
+    ensures { IfOk result (λ o. option_map (λ v. documents_view v.items) o
         ≡ spec.documents_of (view value.now)) }
 {
     let Some(items) = value.as_array() else {
@@ -244,39 +236,50 @@ fn document_of(value: &Value) -> Option<Document<'_>>
     }
     let uri = value.get(0usize)?.as_str()?;
     let tree = value.get(1usize)?;
-    Some(Document { uri, tree })
+    Some((uri, tree))
 }
 
-#[tactic(auto, unfolding(crate::specs::Request::remote_of))]
-fn remote_of(alloc: Global, value: &Value) -> Result<Option<Vec<Document<'_>>>, AllocError>
-    ensures { IfOk result (λ o. option_map (λ v. map document_view v.items) o
+#[tactic(auto, unfolding(crate::specs::Request::remote_of), using(crate::proofs::Trees::in_front_push))]
+fn remote_of(alloc: Global, value: &Value) -> Result<Option<Vec<(Uri, Value)>>, AllocError>
+    ensures { IfOk result (λ o. option_map (λ v. trees_of v.items) o
         ≡ spec.remote_of (view value.now)) }
 {
-    let Some(documents) = documents_of(alloc, value)? else {
+    let Some(items) = value.as_array() else {
         return Ok(None);
     };
-    if have_references(documents.as_slice()) {
-        Ok(Some(documents))
-    } else {
-        Ok(None)
+    let mut documents = Vec::with_capacity(alloc, items.len())?;
+    for item in items {
+        let Some(document) = retrievable_of(alloc, item)? else {
+            return Ok(None);
+        };
+        documents.push(document)?;
+    }
+    Ok(Some(documents))
+}
+
+fn retrievable_of(alloc: Global, value: &Value) -> Result<Option<(Uri, Value)>, AllocError>
+    ensures { IfOk result (λ o. option_map (λ e. (e.0, view e.1)) o
+        ≡ spec.retrievable_of (view value.now)) }
+{
+    let Some((uri, tree)) = document_of(value) else {
+        return Ok(None);
+    };
+    match from_str(alloc, uri) {
+        Ok(uri) => Ok(Some((uri, tree.clone()?))),
+        Err(UriFault::Memory(refused)) => Err(refused),
+        Err(UriFault::Invalid(_)) => Ok(None),
     }
 }
 
-fn have_references(documents: &[Document]) -> bool
-    ensures { result ≡ list_all (λ e. is_uri_reference e.uri.now) documents.now }
-{
-    documents.iter().all(|document| is_reference(document.uri))
-}
-
 #[tactic(auto, unfolding(crate::specs::Request::base_of))]
-fn base_of(alloc: Global, value: &Value) -> Result<Option<Rc<Uri>>, AllocError>
-    ensures { IfOk result (λ o. option_map (λ u. u.value) o ≡ spec.base_of (view value.now)) }
+fn base_of(alloc: Global, value: &Value) -> Result<Option<Uri>, AllocError>
+    ensures { IfOk result (λ o. o ≡ spec.base_of (view value.now)) }
 {
     let Some(text) = value.as_str() else {
         return Ok(None);
     };
     match from_str(alloc, text) {
-        Ok(uri) => Ok(Some(Rc::new(alloc, uri)?)),
+        Ok(uri) => Ok(Some(uri)),
         Err(UriFault::Memory(refused)) => Err(refused),
         Err(UriFault::Invalid(_)) => Ok(None),
     }

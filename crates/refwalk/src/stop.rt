@@ -2,8 +2,6 @@
 ghost use Rattle.std.specs.Prelude.{◌≡◌};
 ghost use Rattle.refwalk.specs.declared.stop.Stop.TheVariants.{Memory};
 
-use crate::fault::Fault;
-use ref_uri::UriFault;
 use std::alloc::{AllocError, AllocFailed};
 
 /// Memory was refused, or there is an error of the call's own.
@@ -28,18 +26,5 @@ impl<T: Drop, E> From<AllocFailed<T>> for Stop<E> {
 
     fn from(_refused: AllocFailed<T>) -> Stop<E> {
         Stop::Memory
-    }
-}
-
-impl From<UriFault> for Stop<Fault<'_>> {
-    ghost use Rattle.refwalk.specs.FaultView.{IsStopOf};
-
-    ghost from_gives = { IsStopOf };
-
-    fn from(fault: UriFault) -> Self {
-        match fault {
-            UriFault::Memory(_) => Stop::Memory,
-            UriFault::Invalid(error) => Stop::Because(Fault::InvalidUri(error)),
-        }
     }
 }

@@ -6,6 +6,7 @@ use crate::report::Status;
 use crate::run::{RunError, run};
 use crate::sink::{MemorySink, Output, Sink};
 use crate::source::{Failed, Input, MemorySource, Source};
+use std::alloc::{AllocError, Global};
 use std::test::Fail;
 
 // A source that gives a byte at a time.
@@ -77,7 +78,7 @@ struct Row {
     status: Status,
 }
 
-const ROWS: [Row; 32] = [
+const ROWS: [Row; 57] = [
     // What a user asks most often, a run without steps, and a pointer that leads nowhere.
     Row {
         request: r##"{"documents":[["http://a/r",{"properties":{"n":{"type":"string"}}}]],"base":"http://a/r","steps":["#/properties/n"]}"##,
@@ -249,6 +250,144 @@ const ROWS: [Row; 32] = [
         report: "fault 1 Pointer '/properties/bar/items/2' does not exist\n",
         status: Status::Fault,
     },
+    // Names that nothing has, and that no anchor has.
+    Row {
+        request: r##"{"documents":[["http://example.com",{"type":"object","properties":{"foo":{"type":"string"},"bar":{"type":"array","items":[{"type":"number"},{"type":"boolean"}]}}}]],"base":"http://example.com","steps":["#unknownAnchor"]}"##,
+        report: "fault 0 Anchor 'unknownAnchor' does not exist\n",
+        status: Status::Fault,
+    },
+    Row {
+        request: r##"{"documents":[["http://example.com",{"type":"object","properties":{"foo":{"type":"string"},"bar":{"type":"array","items":[{"type":"number"},{"type":"boolean"}]}}}]],"base":"http://example.com","steps":["#invalid/anchor"]}"##,
+        report: "fault 0 Anchor 'invalid/anchor' is invalid\n",
+        status: Status::Fault,
+    },
+    // Dynamic anchors, by the scope.
+    Row {
+        request: r##"{"documents":[["http://example.com",{"$id":"http://example.com","$dynamicAnchor":"fooAnchor","$defs":{"foo":{"$id":"foo","$dynamicAnchor":"fooAnchor","$defs":{"bar":true,"baz":{"$dynamicAnchor":"fooAnchor"}}}}}],["http://example.com/foo/",true],["http://example.com/foo/bar",{"$id":"http://example.com","$dynamicAnchor":"fooAnchor","$defs":{"foo":{"$id":"foo","$dynamicAnchor":"fooAnchor","$defs":{"bar":true,"baz":{"$dynamicAnchor":"fooAnchor"}}}}}]],"base":"http://example.com","steps":["","foo/","bar","#fooAnchor"]}"##,
+        report: "value {\"$defs\":{\"foo\":{\"$defs\":{\"bar\":true,\"baz\":{\"$dynamicAnchor\":\"fooAnchor\"}},\"$dynamicAnchor\":\"fooAnchor\",\"$id\":\"foo\"}},\"$dynamicAnchor\":\"fooAnchor\",\"$id\":\"http://example.com\"}\ndraft 2020-12\nbase http://example.com\nscope http://example.com/foo/ http://example.com http://example.com\n",
+        status: Status::Done,
+    },
+    Row {
+        request: r##"{"documents":[["http://a/t",{"$dynamicAnchor":"n/m"}],["http://a/r",true]],"base":"http://a/r","steps":["t#n/m"]}"##,
+        report: "fault 0 Anchor 'n/m' is invalid\n",
+        status: Status::Fault,
+    },
+    // Recursive references of 2019-09.
+    Row {
+        request: r##"{"documents":[["http://example.com",{"$recursiveAnchor":false}],["http://example.com/foo/",{"$id":"http://example.com","$recursiveAnchor":true,"$defs":{"foo":{"$id":"foo","$recursiveAnchor":true,"$defs":{"bar":true,"baz":{"$recursiveAnchor":true,"$anchor":"fooAnchor"}}}}}],["http://example.com/foo/bar",{"$recursiveAnchor":true}]],"base":"http://example.com","steps":["","foo/","bar",null],"draft":"2019-09"}"##,
+        report: "value {\"$defs\":{\"foo\":{\"$defs\":{\"bar\":true,\"baz\":{\"$anchor\":\"fooAnchor\",\"$recursiveAnchor\":true}},\"$id\":\"foo\",\"$recursiveAnchor\":true}},\"$id\":\"http://example.com\",\"$recursiveAnchor\":true}\ndraft 2019-09\nbase http://example.com\nscope http://example.com/foo/bar http://example.com/foo/ http://example.com http://example.com\n",
+        status: Status::Done,
+    },
+    // The base along a pointer, by the draft.
+    Row {
+        request: r##"{"documents":[["http://a/r",{"items":{"properties":{"x":{"$id":"s/"}}}}]],"base":"http://a/r","steps":["#/items/properties/x"],"draft":"7"}"##,
+        report: "value {\"$id\":\"s/\"}\ndraft 7\nbase http://a/s/\nscope http://a/r\n",
+        status: Status::Done,
+    },
+    Row {
+        request: r##"{"documents":[["http://a/r",{"items":{"const":{"$id":"z"}}}]],"base":"http://a/r","steps":["#/items/const","z"],"draft":"7"}"##,
+        report: "fault 1 Resource 'http://a/z' is not present in a registry and retrieving it failed: Retrieving external resources is not supported once the registry is populated\n",
+        status: Status::Fault,
+    },
+    Row {
+        request: r##"{"documents":[["http://a/r",{"const":{"$id":"z"}}]],"base":"http://a/r","steps":["#/const"]}"##,
+        report: "value {\"$id\":\"z\"}\ndraft 2020-12\nbase http://a/r\nscope http://a/r\n",
+        status: Status::Done,
+    },
+    // The limit, at each count.
+    Row {
+        request: r##"{"documents":[["http://a/r",{"$ref":"b"}]],"remote":[["http://a/b",{"$ref":"c"}]],"limit":0,"base":"http://a/r","steps":[]}"##,
+        report: "fault prepare Retrieval limit of 0 documents reached before 'http://a/b'\n",
+        status: Status::Fault,
+    },
+    Row {
+        request: r##"{"documents":[["http://a/r",{"$ref":"b"}]],"remote":[["http://a/b",{"$ref":"c"}]],"limit":2,"base":"http://a/r","steps":[]}"##,
+        report: "fault prepare Resource 'http://a/c' is not present in a registry and retrieving it failed: no document under this URI\n",
+        status: Status::Fault,
+    },
+    Row {
+        request: r##"{"documents":[["http://a/r",{"$ref":"b"}]],"remote":[["http://a/b",{"$ref":"c"}],["http://a/c",true]],"limit":18446744073709551615,"base":"http://a/r","steps":["c"]}"##,
+        report: "value true\ndraft 2020-12\nbase http://a/c\nscope http://a/r\n",
+        status: Status::Done,
+    },
+    // Identifiers that mean no URI.
+    Row {
+        request: r##"{"documents":[["http://a/r",{"properties":{"x":{"$id":"a b","$ref":"c d"}}}]],"base":"http://a/r","steps":[],"draft":"7"}"##,
+        report: "fault prepare Invalid URI reference 'c d': not a URI reference of RFC 3986\n",
+        status: Status::Fault,
+    },
+    Row {
+        request: r##"{"documents":[["http://a/r",{"items":{"const":{"$id":"a b"}}}]],"base":"http://a/r","steps":["#/items/const"],"draft":"7"}"##,
+        report: "fault 0 Invalid URI reference 'a b': not a URI reference of RFC 3986\n",
+        status: Status::Fault,
+    },
+    // A document's own URI stays beside its identifier, and anchors are found by both.
+    Row {
+        request: r##"{"documents":[["http://a/x",{"$id":"y","$defs":{"p":{"$anchor":"foo"}}}]],"base":"http://a/r","steps":["http://a/x#foo"]}"##,
+        report: "value {\"$anchor\":\"foo\"}\ndraft 2020-12\nbase http://a/x\nscope http://a/r\n",
+        status: Status::Done,
+    },
+    // A child's document stands before its parent's, and names of the parent's stay.
+    Row {
+        request: r##"{"meta":[["http://a/m",{"$anchor":"p","title":"parent"}]],"documents":[["http://a/m",{"title":"child"}]],"base":"http://a/m","steps":[""]}"##,
+        report: "value {\"title\":\"child\"}\ndraft 2020-12\nbase http://a/m\nscope http://a/m\n",
+        status: Status::Done,
+    },
+    Row {
+        request: r##"{"meta":[["http://a/m",{"$anchor":"p","title":"parent"}]],"documents":[["http://a/m",{"title":"child"}]],"base":"http://a/m","steps":["#p"]}"##,
+        report: "value {\"$anchor\":\"p\",\"title\":\"parent\"}\ndraft 2020-12\nbase http://a/m\nscope http://a/m\n",
+        status: Status::Done,
+    },
+    // The request's draft doesn't reach the meta-schemas, and meta-schemas retrieve nothing.
+    Row {
+        request: r##"{"meta":[["http://a/m",{"$anchor":"p"}]],"documents":[],"base":"http://a/m","steps":["#p"],"draft":"7"}"##,
+        report: "value {\"$anchor\":\"p\"}\ndraft 2020-12\nbase http://a/m\nscope http://a/m\n",
+        status: Status::Done,
+    },
+    Row {
+        request: r##"{"meta":[["http://a/m",{"$ref":"b"}]],"remote":[["http://a/b",true]],"documents":[],"base":"http://a/m","steps":[]}"##,
+        report: "fault meta Resource 'http://a/b' is not present in a registry and retrieving it failed: Default retriever does not fetch resources\n",
+        status: Status::Fault,
+    },
+    // A fault of meta-schemas comes before one of documents, and that before one of steps.
+    Row {
+        request: r##"{"meta":[["a b",true]],"documents":[["c d",true]],"base":"http://a/r","steps":["e f"]}"##,
+        report: "fault meta Invalid URI reference 'a b': not a URI reference of RFC 3986\n",
+        status: Status::Fault,
+    },
+    Row {
+        request: r##"{"meta":[],"documents":[["c d",true]],"base":"http://a/r","steps":["e f"]}"##,
+        report: "fault prepare Invalid URI reference 'c d': not a URI reference of RFC 3986\n",
+        status: Status::Fault,
+    },
+    // What is entered is read by the draft that the request's detects on it.
+    Row {
+        request: r##"{"documents":[["http://a/k/x",true]],"base":"http://a/r","steps":[{"$id":"k/","$ref":"y"},"x"],"draft":"7"}"##,
+        report: "fault 1 Resource 'http://a/x' is not present in a registry and retrieving it failed: Retrieving external resources is not supported once the registry is populated\n",
+        status: Status::Fault,
+    },
+    Row {
+        request: r##"{"documents":[["http://a/k/x",true]],"base":"http://a/r","steps":[{"id":"k/","$schema":"http://json-schema.org/draft-04/schema#"}],"draft":"7"}"##,
+        report: "no value\nbase http://a/k/\nscope\n",
+        status: Status::Done,
+    },
+    // What was retrieved last counts among equal identifiers.
+    Row {
+        request: r##"{"documents":[["http://a/k",{"$id":"http://a/k","title":"own"}],["http://a/r",{"$ref":"b"}]],"remote":[["http://a/b",{"$defs":{"z":{"$id":"http://a/k","title":"late"}}}]],"base":"http://a/r","steps":["k"]}"##,
+        report: "value {\"$id\":\"http://a/k\",\"title\":\"late\"}\ndraft 2020-12\nbase http://a/k\nscope http://a/r\n",
+        status: Status::Done,
+    },
+    // A reference whose pointer leads nowhere is prepared, and so is one to a URI that an identifier bears.
+    Row {
+        request: r##"{"documents":[["http://a/r",{"$ref":"b#/x"}]],"remote":[["http://a/b",true]],"base":"http://a/r","steps":["b#/x"]}"##,
+        report: "fault 0 Pointer '/x' does not exist\n",
+        status: Status::Fault,
+    },
+    Row {
+        request: r##"{"documents":[["http://a/r",{"$id":"#x","$ref":""}]],"base":"http://a/r","steps":[]}"##,
+        report: "no value\nbase http://a/r\nscope\n",
+        status: Status::Done,
+    },
 ];
 
 #[test]
@@ -335,36 +474,55 @@ fn pointers_are_decoded_whole(rt: HostRuntime) -> Result<(), Fail> {
     Ok(())
 }
 
-// Requests that are well formed and aren't answered yet.
-const NOT_YET: [&str; 15] = [
-    r##"{"documents":[["http://a/r",{"$ref":"#"}]],"base":"http://a/r","steps":["#"]}"##,
-    r##"{"documents":[["http://a/r",[{"a":{"$id":1}}]]],"base":"http://a/r","steps":["#"]}"##,
-    r##"{"documents":[["http://a/r",{"not":{"id":1}}]],"base":"http://a/r","steps":["#"]}"##,
-    r##"{"documents":[["http://a/r",{"$anchor":"a"}]],"base":"http://a/r","steps":["#"]}"##,
-    r##"{"documents":[["http://a/r",{"$ref":"#"}]],"base":"http://a/r","steps":["#/properties/n"]}"##,
-    r##"{"documents":[["http://a/r",{"$dynamicAnchor":"a"}]],"base":"http://a/r","steps":["#"]}"##,
-    r##"{"documents":[["http://a/r",{}]],"base":"http://a/r","steps":[{}]}"##,
-    r##"{"documents":[["http://a/r",{"$schema":"a"}]],"base":"http://a/r","steps":["#"]}"##,
-    r##"{"documents":[["http://a/r",{}]],"base":"http://a/r","steps":["r#a"]}"##,
-    r##"{"documents":[["http://a/r",{}]],"base":"http://a/r","steps":["a b#c"]}"##,
-    r##"{"documents":[["http://a/r",{}]],"base":"http://a/r","steps":["#a"]}"##,
-    r##"{"documents":[["http://a/r",{}]],"base":"http://a/r","steps":[null]}"##,
-    r##"{"documents":[["http://a/r",{}]],"base":"http://a/r","steps":["#"],"meta":[]}"##,
-    r##"{"documents":[["http://a/r",{}]],"base":"http://a/r","steps":["#"],"remote":[]}"##,
-    r##"{"documents":[["http://a/r",{}]],"base":"http://a/r","steps":["#"],"limit":0}"##,
-];
+// Whether the bytes are no JSON, by their report.
+fn is_no_json(alloc: Global, bytes: &[u8]) -> bool {
+    let mut reader = MemorySource::new(bytes);
+    let mut writer = MemorySink::new(alloc);
+    let status = run(alloc, &mut reader, &mut writer);
+    status == Ok(Status::BadRequest)
+        && writer.bytes.as_slice() == "bad request not JSON\n".as_bytes()
+}
 
 #[test]
-fn some_requests_are_not_answered_yet(rt: HostRuntime) -> Result<(), Fail> {
-    for request in &NOT_YET {
-        let mut reader = MemorySource::new(request.as_bytes());
-        let mut writer = MemorySink::new(rt.alloc());
-        assert_eq!(rt;
-            run(rt.alloc(), &mut reader, &mut writer),
-            Err(RunError::NotYet)
-        );
-        assert_eq!(rt; writer.bytes.len(), 0);
+fn a_part_of_a_request_is_no_json(rt: HostRuntime) -> Result<(), Fail> {
+    let request = ROWS[0].request.as_bytes();
+    for end in 0..request.len() {
+        assert!(rt; is_no_json(rt.alloc(), &request[..end]), "{end}");
     }
+    let mut longer = String::from_str(rt.alloc(), ROWS[0].request)?;
+    longer.push_str("x")?;
+    assert!(rt; is_no_json(rt.alloc(), longer.as_str().as_bytes()));
+    Ok(())
+}
+
+// A request whose document nests so deep, with a step down to its innermost value.
+fn nested(alloc: Global, levels: usize) -> Result<String, AllocError> {
+    let mut request = String::from_str(alloc, "{\"documents\":[[\"http://a/r\",")?;
+    for _ in 0..levels {
+        request.push_str("{\"not\":")?;
+    }
+    request.push_str("{}")?;
+    for _ in 0..levels {
+        request.push_str("}")?;
+    }
+    request.push_str("]],\"base\":\"http://a/r\",\"steps\":[\"#")?;
+    for _ in 0..levels {
+        request.push_str("/not")?;
+    }
+    request.push_str("\"]}")?;
+    Ok(request)
+}
+
+#[test]
+fn documents_nest_up_to_a_depth(rt: HostRuntime) -> Result<(), Fail> {
+    let alloc = rt.alloc();
+    let request = nested(alloc, 123)?;
+    let mut reader = MemorySource::new(request.as_str().as_bytes());
+    let mut writer = MemorySink::new(alloc);
+    assert_eq!(rt; run(alloc, &mut reader, &mut writer), Ok(Status::Done));
+    assert!(rt; writer.bytes.as_slice().starts_with("value {}\n".as_bytes()));
+    let request = nested(alloc, 124)?;
+    assert!(rt; is_no_json(alloc, request.as_str().as_bytes()));
     Ok(())
 }
 

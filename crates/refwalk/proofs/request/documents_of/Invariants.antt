@@ -1,7 +1,7 @@
 use Rattle.std.proofs.Common.{◌≡◌, map, drop}
 use Rattle.serde_json.specs.View.{items_view}
 use Rattle.refwalk.specs.Request.{every, document_of}
-use Rattle.refwalk.specs.View.{document_view}
+use Rattle.refwalk.specs.inner.View.{document_view}
 use Rattle.refwalk.proofs.Trees.{in_front}
 use Rattle.refwalk.proofs.request.documents_of.Given as goal
 

@@ -1,7 +1,7 @@
 use Rattle.std.proofs.Common.{◌≡◌, map, drop}
 use Rattle.serde_json.specs.View.{items_view}
 use Rattle.refwalk.specs.Request.{every, step_of}
-use Rattle.refwalk.specs.View.{step_view}
+use Rattle.refwalk.specs.inner.View.{step_view}
 use Rattle.refwalk.proofs.Trees.{in_front}
 use Rattle.refwalk.proofs.request.steps_of.Given as goal
 

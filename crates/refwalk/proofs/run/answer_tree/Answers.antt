@@ -1,7 +1,0 @@
-use Rattle.serde_json.specs.View.{view}
-use Rattle.refwalk.specs.View.{request_view}
-use Rattle.refwalk.proofs.Floats.{request-no_float}
-use Rattle.refwalk.proofs.run.answer_tree.Goals as goal
-
-pub answer_request-requires : goal.answer_request-requires
-answer_request-requires c = request-no_float (view c.args.tree.now) (request_view c.in-Ok.request) c.in-Ok.ensures
