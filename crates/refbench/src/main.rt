@@ -7,6 +7,7 @@ mod indexes;
 mod kinds;
 mod lookups;
 mod parts;
+mod places;
 mod registries;
 mod vocabularies;
 
@@ -108,6 +109,9 @@ fn answer(alloc: Global, line: &str) -> anyhow::Result<u64> {
         return Ok(sum);
     }
     if let Some(sum) = kinds::answer(alloc, line)? {
+        return Ok(sum);
+    }
+    if let Some(sum) = places::answer(alloc, line)? {
         return Ok(sum);
     }
     let mut words = line.split_whitespace();
