@@ -1,0 +1,3 @@
+pub mod Dangling
+pub mod Entries
+pub mod inner
