@@ -5,6 +5,7 @@
 #![tactic(auto)]
 
 mod entry;
+pub mod examples;
 mod search;
 #[cfg(test)]
 mod tests;
