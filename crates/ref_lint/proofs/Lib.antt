@@ -1,0 +1,3 @@
+pub mod Saying
+pub mod Numbering
+pub mod Retrieved

@@ -1,0 +1,47 @@
+-- What errors say of references that are looked up.
+use Rattle.std.proofs.Common.{◌≡◌, ℕ, List, [], ◌∷◌, Option, Some, Ok, Err, refl, ap, ◌∙◌}
+use Rattle.ref_parts.specs.Path.{Part}
+use Rattle.ref_world.specs.World.{World}
+use Rattle.ref_world.specs.Fault as fault
+use Rattle.ref_world.specs.Fault.{Fault}
+use Rattle.ref_world.specs.Lookup.{lookup}
+use Rattle.ref_retrieve.specs.declared.error.Error.{Error}
+use Rattle.ref_retrieve.specs.declared.error.Error.TheVariants as error
+use Rattle.ref_retrieve.specs.Errors.{SaysFault}
+use Rattle.ref_lint.specs.Dangling.{where_fault, dangling_from}
+use Rattle.ref_lint.specs.Entries.{IsUnretrievable}
+
+-- a fault that is said to be that a document could not be retrieved
+unretrieved_says : (e : Error) (f : Fault) → IsUnretrievable e → SaysFault e f → (uri : List ℕ) × (source : List ℕ) × (f ≡ fault.Unretrievable uri source)
+unretrieved_says (error.Unretrievable uri source) (fault.Unretrievable wanted text) is says = (wanted, text, refl)
+unretrieved_says (error.Unretrievable uri source) (fault.PointerToNowhere pointer) is says = absurd says
+unretrieved_says (error.Unretrievable uri source) (fault.InvalidPercentEncoding pointer) is says = absurd says
+unretrieved_says (error.Unretrievable uri source) (fault.InvalidArrayIndex pointer index) is says = absurd says
+unretrieved_says (error.Unretrievable uri source) (fault.NoSuchAnchor anchor) is says = absurd says
+unretrieved_says (error.Unretrievable uri source) (fault.InvalidAnchor anchor) is says = absurd says
+unretrieved_says (error.Unretrievable uri source) (fault.InvalidUri refusal) is says = absurd says
+unretrieved_says (error.Unretrievable uri source) (fault.UnknownSpecification specification) is says = absurd says
+unretrieved_says (error.Unretrievable uri source) (fault.CircularMetaschema at) is says = absurd says
+unretrieved_says (error.Unretrievable uri source) (fault.RetrievalLimit at limit) is says = absurd says
+unretrieved_says (error.PointerToNowhere pointer) f is says = absurd is
+unretrieved_says (error.InvalidPercentEncoding pointer) f is says = absurd is
+unretrieved_says (error.InvalidArrayIndex pointer index) f is says = absurd is
+unretrieved_says (error.NoSuchAnchor anchor) f is says = absurd is
+unretrieved_says (error.InvalidAnchor anchor) f is says = absurd is
+unretrieved_says (error.InvalidUri uri) f is says = absurd is
+unretrieved_says (error.UnknownSpecification specification) f is says = absurd is
+unretrieved_says (error.CircularMetaschema uri) f is says = absurd is
+unretrieved_says (error.RetrievalLimit uri limit) f is says = absurd is
+unretrieved_says (error.Memory memory) f is says = absurd is
+
+-- an error says no such fault where the fault is none
+pub says_another : (e : Error) (f : Fault) → ((uri source : List ℕ) → ¬ (f ≡ fault.Unretrievable uri source)) → SaysFault e f → ¬ (IsUnretrievable e)
+says_another e f other says is = let said = unretrieved_says e f is says in other said.0 said.1 said.2
+
+-- ---- the reference of a place
+
+pub leads_nowhere : (world : World) (number : ℕ) (path : List Part) (base reference : List ℕ) (text : Option (List ℕ)) (f : Fault) → text ≡ Some reference
+    → lookup world (record { base = base; scope = [] }) reference ≡ Err f
+    → dangling_from world number path (Ok base) text ≡ record { document = number; path = path; reference = reference; fault = f } ∷ []
+leads_nowhere world number path base reference text f is leads =
+    ap (dangling_from world number path (Ok base)) is ∙ ap (where_fault number path reference) leads

@@ -1,0 +1,42 @@
+-- The references of a registry's own documents that lead nowhere (2020-12 Core, 8.2.3.1).
+use Rattle.std.specs.Prelude.{ℕ, suc, List, [], ◌∷◌, ◌++◌, map, flat_map, codes, Option, Some, None, Result, Ok, Err}
+use Rattle.ref_parts.specs.Path.{Part}
+use Rattle.ref_draft.specs.Schema.{text_under}
+use Rattle.ref_uri.specs.Targets.{Refusal}
+use Rattle.ref_world.specs.World.{Layer, World}
+use Rattle.ref_world.specs.Places.{Place, places}
+use Rattle.ref_world.specs.Fault.{Fault}
+use Rattle.ref_world.specs.Lookup.{Found, lookup}
+use Rattle.referencing.specs.Prepared.{own}
+
+-- a reference that leads nowhere: the number of its document, the path of its place there, its text, and the fault
+pub record DanglingReference : Type 0 where
+  pub document : ℕ
+  pub path : List Part
+  pub reference : List ℕ
+  pub fault : Fault
+
+-- a reference of a place, by where it leads
+abbrev pub where_fault : ℕ → List Part → List ℕ → Result Found Fault → List DanglingReference
+where_fault number path reference (Ok found) = []
+where_fault number path reference (Err fault) = record { document = number; path = path; reference = reference; fault = fault } ∷ []
+
+-- the reference of a place, where there is one, looked up from the place's base with an empty dynamic scope; in a registry each
+-- own place has a base
+abbrev pub dangling_from : World → ℕ → List Part → Result (List ℕ) Refusal → Option (List ℕ) → List DanglingReference
+dangling_from world number path (Ok base) (Some reference) = where_fault number path reference (lookup world (record { base = base; scope = [] }) reference)
+dangling_from world number path (Ok base) None = []
+dangling_from world number path (Err refusal) reference = []
+
+-- the text under `$ref` of a place of the document with this number, where it leads nowhere
+abbrev pub dangling_at : World → ℕ × Place → List DanglingReference
+dangling_at world (number, p) = dangling_from world number p.path p.base (text_under (codes "$ref") p.value)
+
+-- the places of documents, one document after another, with the numbers of these, which are counted from this one on
+abbrev pub numbered_from : ℕ → Layer → List (ℕ × Place)
+numbered_from number [] = []
+numbered_from number (d ∷ ds) = map (λ p. (number, p)) (places d) ++ numbered_from (suc number) ds
+
+-- those of a registry's own places, in the order of the places
+abbrev pub dangling : World → List DanglingReference
+dangling world = flat_map (dangling_at world) (numbered_from 0 (own world))

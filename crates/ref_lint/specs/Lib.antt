@@ -1,0 +1,4 @@
+pub mod Dangling
+pub mod Entries
+pub mod Rows
+pub mod inner

@@ -1,0 +1,14 @@
+//! The references in a registry's documents that lead nowhere, for linters. It stands on the public calls of `referencing`
+//! alone.
+//!
+//! Read `specs/Dangling.antt` first: which references those are is told there over the plain documents.
+#![tactic(auto)]
+
+mod entry;
+pub mod examples;
+mod search;
+#[cfg(test)]
+mod tests;
+
+pub use entry::Dangling;
+pub use search::dangling;

@@ -1,0 +1,96 @@
+//! The look-up of each `$ref` of a registry's own documents.
+ghost use Rattle.std.specs.Prelude.{◌≡◌, [], ◌++◌, option_map, IfOk, IfErr, OnOk};
+ghost use Rattle.std.specs.List.{All, AllZip};
+ghost use Rattle.std.specs.Option.{option_to_list};
+ghost use Rattle.ref_world.specs.Lookup.{lookup};
+ghost use Rattle.ref_index.specs.Listing.{listed_of};
+ghost use Rattle.referencing.specs.Listed.{IsMemory};
+ghost use Rattle.ref_lint.specs.Dangling.{dangling};
+ghost use Rattle.ref_lint.specs.Entries.{IsEntryOf, IsUnretrievable};
+ghost use Rattle.ref_lint.specs.inner.Listed.{reference_of, dangling_listed, IsWhy, AreEntries};
+
+use crate::entry::Dangling;
+use referencing::{Error, Place, Registry, Uri};
+use serde_json::Value;
+use std::alloc::{AllocError, Global};
+
+// The text under `$ref` of the value at a place.
+fn reference_at<'r>(registry: &'r Registry<'_>, place: &Place<'_>) -> Option<&'r str>
+    ensures { option_map (λ text. text.now) result ≡ reference_of registry.now (listed_of place.now) }
+{
+    let value = registry.value_at(place.document, place.path.as_slice())?;
+    value.get("$ref").and_then(Value::as_str)
+}
+
+// Why a reference leads nowhere from a base with an empty dynamic scope, where it does.
+fn fault_at(
+    alloc: Global,
+    registry: &Registry<'_>,
+    base: &Uri,
+    reference: &str,
+) -> Result<Option<Error>, Error>
+    ensures fault { IfOk result (IsWhy (lookup registry.now (record { base = base.now; scope = [] }) reference.now)) }
+    ensures memory { IfErr result IsMemory }
+{
+    let resolver = registry.resolver(alloc, base.clone()?)?;
+    match resolver.lookup(alloc, reference) {
+        Ok(_) => Ok(None),
+        Err(Error::Memory(error)) => Err(Error::Memory(error)),
+        Err(error) => Ok(Some(error)),
+    }
+}
+
+// The entry of a place's reference, where that leads nowhere.
+fn entry_at<'r>(
+    alloc: Global,
+    registry: &'r Registry<'_>,
+    place: Place<'r>,
+) -> Result<Option<Dangling<'r>>, Error>
+    ensures entry { IfOk result (AreEntries (dangling_listed registry.now (listed_of place.entry))) }
+    ensures memory { IfErr result IsMemory }
+{
+    let Some(reference) = reference_at(registry, &place) else {
+        return Ok(None);
+    };
+    let Some(error) = fault_at(alloc, registry, &place.base, reference)? else {
+        return Ok(None);
+    };
+    Ok(Some(Dangling {
+        document: place.document,
+        path: place.path,
+        reference,
+        error,
+    }))
+}
+
+// Adds an entry to the list, where there is one.
+fn add<'r>(list: &mut Vec<Dangling<'r>>, entry: Option<Dangling<'r>>) -> Result<(), AllocError>
+    ensures { OnOk result (list.new.items ≡ list.old.items ++ option_to_list entry.entry) }
+{
+    if let Some(entry) = entry {
+        list.push(entry)?;
+    }
+    Ok(())
+}
+
+/// The references of a registry's own documents that lead nowhere: the texts under `$ref` of the places where schemas stand,
+/// which [`Registry::places`] lists, whose look-up from the place's base with an empty dynamic scope is a fault (2020-12 Core,
+/// 8.2.3.1). They come in the order of those places, each once, with that fault; what is under `$dynamicRef` or `$recursiveRef`
+/// is none of them, and those of parents aren't listed.
+///
+/// Refuses as `Memory` alone. Costs what [`Registry::places`] does, and for each `$ref` a look-up and a copy of the base; no value
+/// is copied.
+pub fn dangling<'r>(alloc: Global, registry: &'r Registry<'_>) -> Result<Vec<Dangling<'r>>, Error>
+    ensures value { IfOk result (λ list. AllZip IsEntryOf list.items (dangling registry.now)) }
+    ensures retrieved { IfOk result (λ list. All (λ entry. ¬ (IsUnretrievable entry.error)) list.items) }
+    ensures memory { IfErr result IsMemory }
+{
+    registry.references_are_retrieved();
+    let places = registry.places(alloc)?;
+    let mut list = Vec::new(alloc);
+    for place in places {
+        let entry = entry_at(alloc, registry, place)?;
+        add(&mut list, entry)?;
+    }
+    Ok(list)
+}
