@@ -2,7 +2,7 @@
 use Rattle.std.specs.Prelude.{◌≡◌, ℕ, List, [], map, string_bytes, slice_get, Bool, true, false, Some, Ok, String}
 use Rattle.std.specs.List.{AllZip, list_any}
 use Rattle.std.specs.Str.{bytes_eq}
-use Rattle.std.specs.HashSet.{contains_text}
+use Rattle.std.specs.HashSet.{contains}
 use Rattle.std.specs.declared.alloc.Global.{Global}
 use Rattle.std.specs.declared.rc.Rc.{Rc}
 use Rattle.ref_uri.specs.Targets.{against}
@@ -61,6 +61,10 @@ want_of w = record { cause = cause_of w.cause; uri = w.uri.value }
 abbrev pub IsPairOf : String Global × String Global × Rc (List ℕ) Global → Pair → Type 0
 IsPairOf t p = (string_bytes t.0 ≡ p.0) × (string_bytes t.1 ≡ p.1) × (against p.0 p.1 ≡ Ok t.2.value)
 
+-- the handles are of one URI
+abbrev pub is_same : Rc (List ℕ) Global → Rc (List ℕ) Global → Bool
+is_same u v = bytes_eq u.value v.value
+
 -- What was found is these resources, names and wants, and the URIs of these pairs, in their order; the set of URIs is that of
 -- the resources.
 pub record Holds (layer : Layer) (f : Found) (resources : List (List ℕ × Place)) (names : List Named) (wants : List Wanted) (pairs : List Pair) : Type 0 where
@@ -68,4 +72,4 @@ pub record Holds (layer : Layer) (f : Found) (resources : List (List ℕ × Plac
   pub by_name : AllZip (IsNameOf layer) f.names.items names
   pub wanted : map want_of f.wants.items ≡ wants
   pub by_pair : AllZip IsPairOf f.resolved.items pairs
-  pub known : (uri : List ℕ) → contains_text f.identified uri ≡ list_any (λ r. bytes_eq r.0 uri) resources
+  pub known : (uri : Rc (List ℕ) Global) → contains is_same f.identified uri ≡ list_any (λ r. bytes_eq r.0 uri.value) resources

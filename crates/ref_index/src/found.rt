@@ -1,7 +1,9 @@
 //! What the walk over documents has found: which URIs and names mean which places, and what is wanted.
 ghost use Rattle.std.specs.Prelude.{◌≡◌, ℕ, List, [], ◌∷◌, ◌++◌, OnOk, if◌then◌else◌, true, Ok};
-ghost use Rattle.std.specs.HashSet.{contains_text};
+ghost use Rattle.std.specs.HashSet.{contains};
 ghost use Rattle.std.specs.Str.{bytes_eq};
+ghost use Rattle.std.specs.declared.alloc.Global as global;
+ghost use Rattle.std.specs.declared.rc.Rc as rc;
 ghost use Rattle.ref_draft.specs.Views.{anchor_name, resource_ref, tagged};
 ghost use Rattle.ref_world.specs.World.{Layer};
 ghost use Rattle.ref_world.specs.Places.{Place};
@@ -9,7 +11,7 @@ ghost use Rattle.ref_world.specs.Anchors.{Named, named_under};
 ghost use Rattle.ref_world.specs.Cached.{Pair};
 ghost use Rattle.ref_world.specs.Wants.{Want as Wanted};
 ghost use Rattle.ref_uri.specs.Targets.{against};
-ghost use Rattle.ref_index.specs.Found.{Holds, IsEntryOf, cause_of, kind_of, name_entry};
+ghost use Rattle.ref_index.specs.Found.{Holds, IsEntryOf, cause_of, is_same, kind_of, name_entry};
 
 use crate::entry::{Entry, NamedEntry};
 use ref_draft::{Anchor, AnchorIter, ResourceRef};
@@ -47,7 +49,7 @@ pub struct Found {
     /// What was resolved: each URI under the base and the text that it was resolved from.
     pub resolved: Vec<(String, String, Rc<Uri>)>,
     /// The URIs that identify places.
-    pub identified: HashSet<String>,
+    pub identified: HashSet<Rc<Uri>>,
 }
 
 impl Found {
@@ -68,15 +70,15 @@ impl Found {
     pub fn add_resource(
         &mut self,
         alloc: Global,
-        uri: &str,
+        uri: &Rc<Uri>,
         entry: &Rc<Entry>,
     ) -> Result<(), AllocError>
         ensures added { (layer : Layer) (rs : List (List ℕ × Place)) (ns : List Named) (ws : List Wanted) (ps : List Pair) (p : Place)
             → Holds layer self.old rs ns ws ps → IsEntryOf layer entry.now.value p
-            → OnOk result (Holds layer self.new (rs ++ (uri.now, p) ∷ []) ns ws ps) }
+            → OnOk result (Holds layer self.new (rs ++ (uri.now.value, p) ∷ []) ns ws ps) }
     {
-        identify(alloc, &mut self.identified, uri)?;
-        let text = String::from_str(alloc, uri)?;
+        identify(&mut self.identified, uri)?;
+        let text = String::from_str(alloc, uri.as_str())?;
         let entry = entry.clone()?;
         self.resources.push((text, String::new(alloc), entry))?;
         Ok(())
@@ -155,11 +157,11 @@ impl Found {
     }
 }
 
-// Adds a URI to those that identify places.
-fn identify(alloc: Global, identified: &mut HashSet<String>, uri: &str) -> Result<(), AllocError>
-    ensures { (u : List ℕ) → OnOk result (contains_text identified.new u ≡ (if bytes_eq uri.now u then true else contains_text identified.old u)) }
+// Adds a URI to those that identify places. The handle is shared; no text is copied.
+fn identify(identified: &mut HashSet<Rc<Uri>>, uri: &Rc<Uri>) -> Result<(), AllocError>
+    ensures { (u : rc.Rc (List ℕ) global.Global) → OnOk result (contains is_same identified.new u ≡ (if bytes_eq uri.now.value u.value then true else contains is_same identified.old u)) }
 {
-    identified.insert(String::from_str(alloc, uri)?)?;
+    identified.insert(uri.clone()?)?;
     Ok(())
 }
 

@@ -63,6 +63,9 @@ impl<'a> Index<'a> {
         requires children { (d : WorldDocument) → Contains (map document_of documents.items) d → ChildrenStand d }
         ensures value { IfOk result (λ index. index ≡ map document_of documents.entry.items) }
     {
+        // (what was only for the walk is let go before the tables take memory)
+        drop(found.identified);
+        drop(found.wants);
         let by_uri = SortedTable::from_entries(alloc, found.resources)?;
         let by_name = SortedTable::from_entries(alloc, found.names)?;
         let by_pair = SortedTable::from_entries(alloc, found.resolved)?;

@@ -10,6 +10,8 @@ ghost use Rattle.ref_index.specs.Found.{Holds};
 
 use crate::found::Found;
 use crate::index::Index;
+use ref_uri::Uri;
+use std::rc::Rc;
 
 // Whether a URI means a place in a parent.
 fn is_known_above(parents: &[&Index<'_>], uri: &str) -> bool
@@ -25,11 +27,11 @@ fn is_known_above(parents: &[&Index<'_>], uri: &str) -> bool
 
 /// Whether a URI means a place, in what was found so far or in a parent. A look-up in a hashed set, and then in each parent's
 /// table; takes no memory.
-pub fn has_meaning(found: &Found, parents: &[&Index<'_>], uri: &str) -> bool
+pub fn has_meaning(found: &Found, parents: &[&Index<'_>], uri: &Rc<Uri>) -> bool
     ensures value { (layer : Layer) (names : List Named) (wants : List Wanted) (ps : List Pair) → Holds layer found.now (resources layer) names wants ps
-        → result ≡ is_some (means (layer ∷ map (λ p. p.now) parents.now) uri.now) }
+        → result ≡ is_some (means (layer ∷ map (λ p. p.now) parents.now) uri.now.value) }
 {
-    found.identified.contains(uri) || is_known_above(parents, uri)
+    found.identified.contains(uri) || is_known_above(parents, uri.as_str())
 }
 
 /// The number of the first want that is open, from a number on: of those before it none is. The number of wants where none
@@ -46,7 +48,7 @@ pub fn first_open(found: &Found, parents: &[&Index<'_>], from: usize) -> usize
     let mut number = from;
     while number < found.wants.len() {
         let want = &found.wants[number];
-        if !has_meaning(found, parents, want.uri.as_str()) {
+        if !has_meaning(found, parents, &want.uri) {
             return number;
         }
         number += 1;

@@ -26,7 +26,7 @@ use crate::entry::Entry;
 use crate::found::{Cause, Found};
 use crate::path::owned;
 use crate::queue::Visit;
-use crate::reference::{shared, target, uri_part};
+use crate::reference::{shared, uri_part};
 use ref_draft::{AnchorIter, Child, Draft, ResourceRef};
 use ref_parts::path::JsonPointerNode;
 use ref_uri::uri::{from_str, resolve_against};
@@ -84,20 +84,20 @@ fn has_anchors(resource: ResourceRef<'_>) -> bool
 fn add_under(
     alloc: Global,
     found: &mut Found,
-    under: Option<&str>,
+    under: Option<&Rc<Uri>>,
     entry: &Rc<Entry>,
     resource: ResourceRef<'_>,
 ) -> Result<(), AllocError>
     ensures { (layer : Layer) (rs : List (List ℕ × Place)) (ns : List Named) (ws : List Wanted) (ps : List Pair) (p : Place)
         → Holds layer found.old rs ns ws ps → IsEntryOf layer entry.now.value p → resource_ref resource.entry ≡ tagged p.draft p.value
-        → OnOk result (Holds layer found.new (rs ++ under_document (option_map (λ text. text.now) under.entry) p)
-        (ns ++ names_under (option_map (λ text. text.now) under.entry) p) ws ps) }
+        → OnOk result (Holds layer found.new (rs ++ under_document (option_map (λ u. u.now.value) under.entry) p)
+        (ns ++ names_under (option_map (λ u. u.now.value) under.entry) p) ws ps) }
 {
     let Some(uri) = under else {
         return Ok(());
     };
     found.add_resource(alloc, uri, entry)?;
-    found.add_names(alloc, uri, entry, resource)
+    found.add_names(alloc, uri.as_str(), entry, resource)
 }
 
 // Adds what identifies and names a place under its base.
@@ -115,7 +115,7 @@ fn add_by_base(
         → OnOk result (Holds layer found.new (rs ++ resource_of p) (ns ++ named_at p) ws ps) }
 {
     if id.is_some() {
-        found.add_resource(alloc, base.as_str(), entry)?;
+        found.add_resource(alloc, base, entry)?;
     }
     found.add_names(alloc, base.as_str(), entry, resource)
 }
@@ -126,7 +126,7 @@ fn add_place(
     found: &mut Found,
     number: usize,
     place: &Visit<'_>,
-    under: Option<&str>,
+    under: Option<&Rc<Uri>>,
     id: Option<&str>,
     base: &Rc<Uri>,
 ) -> Result<(), AllocError>
@@ -134,8 +134,8 @@ fn add_place(
         → Holds layer found.old rs ns ws ps → StandsIn layer number (place_of place.now)
         → option_map (λ text. text.now) id.entry ≡ identifier (place_of place.now).draft (place_of place.now).value
         → (place_of place.now).base ≡ Ok base.now.value
-        → OnOk result (Holds layer found.new (rs ++ resources_at (option_map (λ text. text.now) under.entry) (place_of place.now))
-        (ns ++ names_at (option_map (λ text. text.now) under.entry) (place_of place.now)) ws ps) }
+        → OnOk result (Holds layer found.new (rs ++ resources_at (option_map (λ u. u.now.value) under.entry) (place_of place.now))
+        (ns ++ names_at (option_map (λ u. u.now.value) under.entry) (place_of place.now)) ws ps) }
 {
     let resource = ResourceRef::new(place.value, place.draft);
     if under.is_none() && id.is_none() && !has_anchors(resource) {
@@ -164,22 +164,26 @@ fn add_base(
     found.add_resolved(alloc, outer.as_str(), id, base)
 }
 
-// Adds what the URI part of a reference was resolved to, where it has one.
-fn add_target(
+// The URI that a reference points into; what its URI part was resolved to is added, where it has one.
+fn referred(
     alloc: Global,
     found: &mut Found,
     base: &Rc<Uri>,
     reference: &str,
-    uri: &Rc<Uri>,
-) -> Result<(), AllocError>
-    ensures { (layer : Layer) (rs : List (List ℕ × Place)) (ns : List Named) (ws : List Wanted) (ps : List Pair)
-        → Holds layer found.old rs ns ws ps → uri_target base.now.value reference.now ≡ Ok uri.now.value
-        → OnOk result (Holds layer found.new rs ns ws (ps ++ pairs_of_reference base.now.value reference.now)) }
+) -> Result<Rc<Uri>, UriFault>
+    ensures ok { IfOk result (λ uri. uri_target base.now.value reference.now ≡ Ok uri.value) }
+    ensures added { (layer : Layer) (rs : List (List ℕ × Place)) (ns : List Named) (ws : List Wanted) (ps : List Pair)
+        → Holds layer found.old rs ns ws ps → OnOk result (Holds layer found.new rs ns ws (ps ++ pairs_of_reference base.now.value reference.now)) }
+    ensures fault { IfErr result (IsFaultOf (uri_target base.now.value reference.now)) }
 {
     if reference.starts_with('#') {
-        return Ok(());
+        return Ok(base.clone()?);
     }
-    found.add_resolved(alloc, base.as_str(), uri_part(reference), uri)
+    let text = uri_part(reference);
+    let target = resolve_against(alloc, base.borrow(), text)?;
+    let uri = shared(alloc, target)?;
+    found.add_resolved(alloc, base.as_str(), text, &uri)?;
+    Ok(uri)
 }
 
 // Adds what a text under `$ref` refers to.
@@ -199,8 +203,7 @@ fn add_reference(
     let Some(reference) = value.get("$ref").and_then(Value::as_str) else {
         return Ok(());
     };
-    let uri = target(alloc, base, reference)?;
-    add_target(alloc, found, base, reference, &uri)?;
+    let uri = referred(alloc, found, base, reference)?;
     found.add_want(Cause::Reference, uri)?;
     Ok(())
 }
@@ -242,13 +245,13 @@ fn settle(
     found: &mut Found,
     number: usize,
     place: &Visit<'_>,
-    under: Option<&str>,
+    under: Option<&Rc<Uri>>,
 ) -> Result<Rc<Uri>, UriFault>
     ensures base { IfOk result (λ base. (place_of place.now).base ≡ Ok base.value) }
     ensures added { (layer : Layer) (rs : List (List ℕ × Place)) (ns : List Named) (ws : List Wanted) (ps : List Pair)
         → Holds layer found.old rs ns ws ps → StandsIn layer number (place_of place.now)
-        → OnOk result (Holds layer found.new (rs ++ resources_at (option_map (λ text. text.now) under.entry) (place_of place.now))
-        (ns ++ names_at (option_map (λ text. text.now) under.entry) (place_of place.now))
+        → OnOk result (Holds layer found.new (rs ++ resources_at (option_map (λ u. u.now.value) under.entry) (place_of place.now))
+        (ns ++ names_at (option_map (λ u. u.now.value) under.entry) (place_of place.now))
         (ws ++ wants_at (place_of place.now).base (place_of place.now).value) (ps ++ pairs_at (place_of place.now))) }
     ensures faultless { OnOk result (faults_at (place_of place.now).base (place_of place.now).value ≡ []) }
     ensures fault { IfErr result (IsFirstFault (faults_at (place_of place.now).base (place_of place.now).value)) }
@@ -313,11 +316,11 @@ fn visit<'w>(
     number: usize,
     queue: &mut Vec<Visit<'w>>,
     head: usize,
-    under: Option<&str>,
+    under: Option<&Rc<Uri>>,
 ) -> Result<(), UriFault>
     requires { head < length queue.old.items }
     ensures ok { (v : Visit) → slice_get queue.old.items head ≡ Some v
-        → OnOk result (IsVisited number (option_map (λ text. text.now) under.entry) v found.old found.new queue.old.items queue.new.items) }
+        → OnOk result (IsVisited number (option_map (λ u. u.now.value) under.entry) v found.old found.new queue.old.items queue.new.items) }
     ensures fault { (v : Visit) → slice_get queue.old.items head ≡ Some v → IfErr result (IsFirstFault (faults_of (place_of v))) }
 {
     let place = &queue[head];
@@ -358,16 +361,10 @@ pub fn walk(
     ensures fault { IfErr result (IsFirstFault (flat_map faults_of (places (document_of document.now)))) }
 {
     let root = root_of(alloc, document)?;
+    let uri = root.outer.clone()?;
     let mut queue = Vec::new(alloc);
     push_visit(&mut queue, root)?;
-    visit(
-        alloc,
-        found,
-        number,
-        &mut queue,
-        0,
-        Some(document.uri.as_str()),
-    )?;
+    visit(alloc, found, number, &mut queue, 0, Some(&uri))?;
     let mut head = 1;
     while head < queue.len() {
         visit(alloc, found, number, &mut queue, head, None)?;

@@ -17,3 +17,4 @@ pub mod Located
 pub mod AtOrBelow
 pub mod Pending
 pub mod Standing
+pub mod Outcomes

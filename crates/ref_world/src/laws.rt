@@ -1,5 +1,5 @@
 //! Laws of the definitions. Each function is empty: its contract states the law, and the check proves it.
-ghost use Rattle.std.specs.Prelude.{◌≡◌, ◌≤◌, ℕ, List, [], ◌∷◌, ◌++◌, drop, map, Some, None, Ok};
+ghost use Rattle.std.specs.Prelude.{◌≡◌, ◌≤◌, ℕ, List, [], ◌∷◌, ◌++◌, drop, map, Some, None, Result, Ok};
 ghost use Rattle.std.specs.List.{AllByRecursion, AllPairs, Contains};
 ghost use Rattle.std.specs.Option.{option_or};
 ghost use Rattle.serde_json.specs.Data.{Data, depth};
@@ -17,6 +17,7 @@ ghost use Rattle.ref_world.specs.Anchors.{Named, last_named, named, names};
 ghost use Rattle.ref_world.specs.Closure.{OutcomesOfRetrieval};
 ghost use Rattle.ref_world.specs.Pending.{Addition, Pending, extended};
 ghost use Rattle.ref_world.specs.References.{ReferencesAreRetrieved};
+ghost use Rattle.ref_world.specs.Retrievers.{HasOneOutcome, default_retriever, function_retriever, map_retriever};
 ghost use Rattle.ref_world.specs.Wants.{faults};
 ghost use Rattle.ref_world.specs.Agreement.{ChildrenStand, IsAtOrBelow, WalksAgree};
 ghost use Rattle.ref_world.specs.Appending.{MeaningsStay, MeaningsStayBelow, MetWantsStay, OpenWantsAfter};
@@ -93,6 +94,18 @@ pub fn appended_documents_leave_wants_met()
 /// outcome, and so is the first fault of documents that have one.
 pub fn outcomes_of_retrieval()
     ensures law { OutcomesOfRetrieval }
+{}
+
+/// Where it is known for each URI what the retriever answers, or with which text it refuses, preparing has one outcome at most.
+/// An outcome speaks of URIs, trees and drafts, and not of who owns a document: so documents that are alike, borrowed, shared or
+/// owned, give registries that answer alike.
+pub fn known_answers_have_one_outcome()
+    ensures of_a_function { (answers : List ℕ → Result Data (List ℕ)) (limit : ℕ) (draft : Draft) (parents : World) (documents : Layer)
+        → HasOneOutcome (record { retriever = function_retriever answers; limit = limit; draft = draft; parents = parents; documents = documents }) }
+    ensures of_a_map { (pairs : List (List ℕ × Data)) (limit : ℕ) (draft : Draft) (parents : World) (documents : Layer)
+        → HasOneOutcome (record { retriever = map_retriever pairs; limit = limit; draft = draft; parents = parents; documents = documents }) }
+    ensures of_the_default { (limit : ℕ) (draft : Draft) (parents : World) (documents : Layer)
+        → HasOneOutcome (record { retriever = default_retriever; limit = limit; draft = draft; parents = parents; documents = documents }) }
 {}
 
 /// Where no want is open, a reference at a place of the layer never leads to a URI that is not present.

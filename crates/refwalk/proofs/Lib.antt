@@ -6,7 +6,6 @@ mod Requests
 mod Floats
 mod PlainWorlds
 mod PlainSteps
-mod Outcomes
 mod OneWorld
 mod Building
 mod Reports

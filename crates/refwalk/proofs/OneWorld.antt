@@ -20,7 +20,7 @@ use Rattle.referencing.specs.MetaSchemas.{given_of_meta_schemas}
 use Rattle.refwalk.specs.Worlds.{pending_of, above, IsWorld, AreParents, given_of_request}
 use Rattle.refwalk.specs.Report.{Report, IsReportAbove, IsReadReport, world_report}
 use Rattle.refwalk.specs.inner.Faults.{IsErrorOf}
-use Rattle.refwalk.proofs.Outcomes.{IsDetermined, map_is_determined, default_is_determined, one_outcome}
+use Rattle.ref_world.proofs.Outcomes.{IsDetermined, map_is_determined, default_is_determined, one_outcome}
 
 -- ---- there is one
 

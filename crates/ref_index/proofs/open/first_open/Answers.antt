@@ -1,6 +1,5 @@
-use Rattle.std.proofs.Common.{◌≡◌, ◌<◌, ◌∙◌, sym, ap, map, length, ◌∷◌, true, false, not, is_some, arith, rules}
+use Rattle.std.proofs.Common.{◌≡◌, ◌<◌, ◌∙◌, sym, ap, map, length, ◌∷◌, true, false, not, arith, rules}
 use Rattle.std.proofs.lemmas.List.{length-map}
-use Rattle.ref_world.specs.Resources.{means}
 use Rattle.ref_world.specs.Wants.{is_open}
 use Rattle.ref_index.specs.Found.{want_of}
 use Rattle.ref_index.proofs.Opening.{one_more_met, none_past}
@@ -16,11 +15,9 @@ loop-number-preserved c =
       λ layer names wants ps held.
           let parents = map (λ p. p.now) c.args.parents.now in
           let within : i < length items = omega arith in
-          let uri = c.as_str.result.now in
           let there : c.has_meaning.result ≡ true = search rules in
-          let text : uri ≡ w.uri.value = c.as_str.ensures.value ∙ c.deref.ensures in
           let met : is_open (layer ∷ parents) (want_of w) ≡ false =
-          ap (λ u. not (is_some (means (layer ∷ parents) u))) (sym text) ∙ ap not (sym (c.has_meaning.ensures.value layer names wants ps held)) ∙ ap not there in
+          ap not (sym (c.has_meaning.ensures.value layer names wants ps held)) ∙ ap not there in
           one_more_met (λ v. is_open (layer ∷ parents) v ≡ false) c.args.from i items wants w want_of held.wanted c.loop-number.invariant.0 within c.index-want.ensures met (c.loop-number.invariant.2 layer names wants ps held),
     )
 

@@ -14,4 +14,4 @@ returns-clause-added c = λ layer rs ns ws ps held.
     let kept : pairs_of_reference base c.in-Some.reference.now ≡ reference_pairs base (view c.args.value.now) = search rules in
     subst (λ more. Holds layer c.add_want.new.self rs ns (ws ++ more) (ps ++ reference_pairs base (view c.args.value.now))) (sym is)
     (c.in_ok-add_want.ensures.added layer rs ns ws (ps ++ reference_pairs base (view c.args.value.now))
-    (subst (λ l. Holds layer c.add_target.new.found rs ns ws (ps ++ l)) kept (c.in_ok-add_target.ensures layer rs ns ws ps held c.in_ok-uri.ensures.ok)))
+    (subst (λ l. Holds layer c.referred.new.found rs ns ws (ps ++ l)) kept (c.in_ok-uri.ensures.added layer rs ns ws ps held)))

@@ -27,7 +27,7 @@ returns-in_err-add_reference-clause-fault c =
 pub returns-clause-added : goal.returns-clause-added
 returns-clause-added c = λ layer rs ns ws ps held stands.
     let p = place_of c.args.place.now in
-    let under = option_map (λ text. text.now) c.args.under in
+    let under = option_map (λ u. u.now.value) c.args.under in
     let base = c.in_ok-base.base.value in
     let based : p.base ≡ Ok base = search rules in
     let rs' = rs ++ resources_at under p in

@@ -14,7 +14,7 @@ returns-clause-ok c = λ v at.
     let based : (place_of w).base ≡ Ok c.in_ok-base.base.value = c.in_ok-base.ensures.base in
     let path : c.in_ok-path.path ≡ w.path = search rules in
     let pushed = c.in_ok-push_children.ensures in
-    let visited : IsVisited c.args.number (option_map (λ text. text.now) c.args.under) w c.args.found.now c.settle.new.found c.args.queue.now.items c.push_children.new.queue.items = record {
+    let visited : IsVisited c.args.number (option_map (λ u. u.now.value) c.args.under) w c.args.found.now c.settle.new.found c.args.queue.now.items c.push_children.new.queue.items = record {
       added = c.in_ok-base.ensures.added;
       faultless = c.in_ok-base.ensures.faultless;
       more = pushed.0;
@@ -22,4 +22,4 @@ returns-clause-ok c = λ v at.
       children = pushed.2 ∙ ap (λ l. map (child_place l c.in_ok-base.base.value) (walked w.draft (view w.value.now))) path ∙ ap (λ b. children_with b (place_of w)) (sym based);
       stand = pushed.3;
     } in
-    subst (λ u. IsVisited c.args.number (option_map (λ text. text.now) c.args.under) u c.args.found.now c.settle.new.found c.args.queue.now.items c.push_children.new.queue.items) same visited
+    subst (λ u. IsVisited c.args.number (option_map (λ u. u.now.value) c.args.under) u c.args.found.now c.settle.new.found c.args.queue.now.items c.push_children.new.queue.items) same visited

@@ -25,8 +25,9 @@ loop-head-init c =
     let v = c.in_ok-root.root in
     let one = c.in_ok-push_visit.ensures ∙ ap (λ l. l ++ v ∷ []) c.new-queue.ensures.items in
     let here : slice_get c.push_visit.new.queue.items 0 ≡ Some v = ap (λ l. slice_get l 0) one in
+    let under : c.in_ok-uri.uri.value ≡ d.uri = c.in_ok-uri.ensures.cases ∙ ap (λ p. p.outer) c.in_ok-root.ensures in
     begin d c.args.number c.args.found.now c.visit.new.found c.push_visit.new.queue.items c.visit.new.queue.items v one c.in_ok-root.ensures
-    (subst (λ u. IsVisited c.args.number (Some u) v c.args.found.now c.visit.new.found c.push_visit.new.queue.items c.visit.new.queue.items) c.as_str.ensures.value (c.in_ok-visit.ensures.ok v here))
+    (subst (λ u. IsVisited c.args.number (Some u) v c.args.found.now c.visit.new.found c.push_visit.new.queue.items c.visit.new.queue.items) under (c.in_ok-visit.ensures.ok v here))
 
 pub returns-in_err-visit-2-clause-fault : goal.returns-in_err-visit-2-clause-fault
 returns-in_err-visit-2-clause-fault c =

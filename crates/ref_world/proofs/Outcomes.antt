@@ -7,7 +7,7 @@ use Rattle.ref_world.specs.World.{Layer, document}
 use Rattle.ref_world.specs.Fault.{Fault, InvalidUri, RetrievalLimit}
 use Rattle.ref_world.specs.Wants.{Want, faults, open_wants}
 use Rattle.ref_world.specs.Preparing.{Retriever, Given, IsRun, begun, retrieved, IsOutcome, faulty, limited, refused, ready, refusal_fault}
-use Rattle.ref_world.specs.Retrievers.{default_retriever, map_retriever}
+use Rattle.ref_world.specs.Retrievers.{default_retriever, map_retriever, function_retriever}
 
 -- one answer or one refusal for a URI, and not both
 pub record IsDetermined (r : Retriever) : Type 0 where
@@ -20,6 +20,13 @@ map_is_determined pairs = record {
   one_answer = λ uri t u one other. let same : Some t ≡ Some u = sym one ∙ other in cc;
   one_refusal = λ uri s t one other. one.1 ∙ sym other.1;
   not_both = λ uri tree text answer refusal. let same : None ≡ Some tree = ap (option_map (λ e. e.1)) (sym refusal.0) ∙ answer in cc;
+}
+
+pub function_is_determined : (answers : List ℕ → Result Data (List ℕ)) → IsDetermined (function_retriever answers)
+function_is_determined answers = record {
+  one_answer = λ uri t u one other. let same : Ok t ≡ Ok u = sym one ∙ other in cc;
+  one_refusal = λ uri s t one other. let same : Err s ≡ Err t = sym one ∙ other in cc;
+  not_both = λ uri tree text answer refusal. absurd (let same : Ok tree ≡ Err text = sym answer ∙ refusal in cc);
 }
 
 pub default_is_determined : IsDetermined default_retriever
