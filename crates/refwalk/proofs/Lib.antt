@@ -10,4 +10,5 @@ mod Outcomes
 mod OneWorld
 mod Building
 mod Reports
+mod Lines
 pub mod ReadsAgain
