@@ -9,4 +9,5 @@ mod PlainSteps
 mod OneWorld
 mod Building
 mod Reports
+mod Lines
 pub mod ReadsAgain

@@ -1,5 +1,5 @@
 -- What the reports are, once each part of them is known.
-use Rattle.std.proofs.Common.{◌≡◌, ℕ, List, Option, Some, None, IfSome, Bor, Result, Ok, Err, IfOk, OnOk, codes, decimal, string_bytes, ok_or, sym, ap, subst, ◌∙◌, ◌++◌, append_assoc}
+use Rattle.std.proofs.Common.{◌≡◌, ℕ, List, Option, Some, None, false, unwrap_or, IfSome, Bor, Result, Ok, Err, IfOk, OnOk, codes, decimal, string_bytes, ok_or, sym, ap, subst, ◌∙◌, ◌++◌, append_assoc}
 use Rattle.std.specs.Io.KnownBytes.{Appends, Consumes}
 use Rattle.serde_json.specs.Data.{Data}
 use Rattle.serde_json.specs.View.{view}
@@ -7,6 +7,7 @@ use Rattle.serde_json.specs.declared.value.Value.{Value}
 use Rattle.ref_draft.specs.declared.draft.Draft.{Draft}
 use Rattle.ref_world.specs.Results.{◌>>=◌}
 use Rattle.ref_world.specs.World.{World}
+use Rattle.ref_world.specs.Fault.{Fault}
 use Rattle.ref_world.specs.Follow.{Step, Followed, followed}
 use Rattle.ref_retrieve.specs.declared.error.Error.{Error}
 use Rattle.referencing.specs.Following.{lent_last, SaysStepFault}
@@ -14,7 +15,7 @@ use Rattle.refwalk.specs.declared.report.Report as declared
 use Rattle.refwalk.specs.declared.report.Status.{Status}
 use Rattle.refwalk.specs.declared.request.BadRequest.TheVariants as bad
 use Rattle.refwalk.specs.declared.run.RunError.{RunError}
-use Rattle.refwalk.specs.Report.{Report, line, done_report, followed_report, steps_of, IsRequestReport, IsReadReport, IsReport}
+use Rattle.refwalk.specs.Report.{Report, line, done_report, followed_report, lint_lines, with_lines, steps_of, IsRequestReport, IsReadReport, IsReport}
 use Rattle.refwalk.specs.Request.{Request, tree_of, request_of, read_request}
 use Rattle.refwalk.specs.Worlds.{AreParents, IsWorldAbove}
 use Rattle.refwalk.specs.Run.{Reports}
@@ -53,16 +54,20 @@ prepare_reported r parents e report meta refused is =
     let said = given_no_memory e is.0 refused in
     (Ok parents, meta, (Err said.0, said.1, is.1 said.0 said.2))
 
-pub step_reported : (r : Request) (parents world : World) (ss : List Step) (n : ℕ) (e : Error) (report : Report) → AreParents r.meta (Ok parents) → IsWorldAbove r parents (Ok world) → ss ≡ steps_of r
-    → SaysStepFault (followed world r.base ss) n e → IsReportOn (decimal n) e report → IsRequestReport r report
-step_reported r parents world ss n e report meta above steps fault is =
-    let said = given_no_memory e is.0 (unless_step (followed world r.base ss) n e fault) in
-    (Ok parents, meta, (Ok world, above, is.1 said.0 said.2 ∙ ap followed_report (sym said.1) ∙ ap (λ s. followed_report (followed world r.base s)) steps))
+-- the report on a step that faulted, and on steps that were all followed
+pub step_is : (answer : Result Followed (ℕ × Fault)) (n : ℕ) (e : Error) (report : Report) → SaysStepFault answer n e → IsReportOn (decimal n) e report → report ≡ followed_report answer
+step_is answer n e report fault is =
+    let said = given_no_memory e is.0 (unless_step answer n e fault) in
+    is.1 said.0 said.2 ∙ ap followed_report (sym said.1)
 
-pub done_reported : (r : Request) (parents world : World) (ss : List Step) (f : Followed) (report : Report) → AreParents r.meta (Ok parents) → IsWorldAbove r parents (Ok world) → ss ≡ steps_of r
-    → followed world r.base ss ≡ Ok f → report ≡ done_report f → IsRequestReport r report
-done_reported r parents world ss f report meta above steps leads is =
-    (Ok parents, meta, (Ok world, above, is ∙ ap followed_report (sym leads) ∙ ap (λ s. followed_report (followed world r.base s)) steps))
+pub done_is : (answer : Result Followed (ℕ × Fault)) (f : Followed) (report : Report) → answer ≡ Ok f → report ≡ done_report f → report ≡ followed_report answer
+done_is answer f report leads is = is ∙ ap followed_report (sym leads)
+
+pub world_reported : (r : Request) (parents world : World) (ss : List Step) (steps report : Report) → AreParents r.meta (Ok parents) → IsWorldAbove r parents (Ok world) → ss ≡ steps_of r
+    → steps ≡ followed_report (followed world r.base ss) → report ≡ with_lines (lint_lines (unwrap_or r.lint false) world) steps → IsRequestReport r report
+world_reported r parents world ss steps report meta above same leads is =
+    let lines = lint_lines (unwrap_or r.lint false) world in
+    (Ok parents, meta, (Ok world, above, is ∙ ap (with_lines lines) leads ∙ ap (λ s. with_lines lines (followed_report (followed world r.base s))) same))
 
 -- the line of a fault, as it is written from the front
 pub fault_line : (of text : List ℕ) → codes "fault " ++ (of ++ (codes " " ++ (text ++ codes "\n"))) ≡ line (codes "fault " ++ of ++ codes " " ++ text)

@@ -5,7 +5,7 @@ use Rattle.serde_json.specs.Find.{get, as_object}
 use Rattle.serde_json.specs.Written.{has_float}
 use Rattle.ref_world.specs.Results.{◌>>=◌}
 use Rattle.refwalk.specs.declared.request.BadRequest.TheVariants as bad
-use Rattle.refwalk.specs.Request.{Request, documents_of, base_of, steps_of, remote_of, draft_of, limit_of, required, optional, are_fields, fields_of, request_of}
+use Rattle.refwalk.specs.Request.{Request, documents_of, base_of, steps_of, remote_of, draft_of, limit_of, lint_of, required, optional, are_fields, fields_of, request_of}
 
 bind_is_ok : {A B E : Type 0} (r : Result A E) (f : A → Result B E) (y : B) → (r >>= f) ≡ Ok y → (x : A) × (r ≡ Ok x) × (f x ≡ Ok y)
 bind_is_ok (Ok x) f y h = (x, refl, h)
@@ -30,7 +30,8 @@ fields-read d r is =
     let meta = bind_is_ok (optional bad.Meta documents_of (get (codes "meta") d)) _ r remote.2 in
     let draft = bind_is_ok (optional bad.Draft draft_of (get (codes "draft") d)) _ r meta.2 in
     let limit = bind_is_ok (optional bad.Limit limit_of (get (codes "limit") d)) _ r draft.2 in
-    let same = ok_is _ r limit.2 in
+    let lint = bind_is_ok (optional bad.Lint lint_of (get (codes "lint") d)) _ r limit.2 in
+    let same = ok_is _ r lint.2 in
     record {
       documents = documents.1 ∙ ap (λ (x : Request). Ok x.documents) same;
       remote = remote.1 ∙ ap (λ (x : Request). Ok x.remote) same;

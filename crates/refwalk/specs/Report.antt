@@ -1,7 +1,8 @@
 -- The report on a request.
-use Rattle.std.specs.Prelude.{◌≡◌, ℕ, List, [], ◌∷◌, ◌++◌, codes, decimal, flat_map, map, Option, Some, None, Result, Ok, Err}
-use Rattle.serde_json.specs.Data.{Data}
+use Rattle.std.specs.Prelude.{◌≡◌, ℕ, Bool, false, List, [], ◌∷◌, ◌++◌, codes, decimal, flat_map, map, Option, Some, None, unwrap_or, Result, Ok, Err, if◌then◌else◌}
+use Rattle.serde_json.specs.Data.{Data, string}
 use Rattle.serde_json.specs.Written.{compact_text}
+use Rattle.ref_parts.specs.Pointer.{pointer_text}
 use Rattle.ref_draft.specs.declared.draft.Draft.{Draft}
 use Rattle.ref_draft.specs.declared.draft.Draft.TheVariants.{Draft4, Draft6, Draft7, Draft201909, Draft202012, Unknown}
 use Rattle.ref_draft.specs.Schema.{detect}
@@ -10,10 +11,11 @@ use Rattle.ref_world.specs.Fault.{Fault, fault_text}
 use Rattle.ref_world.specs.Pending.{builder_draft}
 use Rattle.ref_world.specs.Follow as world
 use Rattle.ref_world.specs.Follow.{Followed, followed}
+use Rattle.ref_lint.specs.Dangling.{DanglingReference, dangling}
 use Rattle.refwalk.specs.declared.report.Status.{Status}
 use Rattle.refwalk.specs.declared.report.Status.TheVariants as status
 use Rattle.refwalk.specs.declared.request.BadRequest.{BadRequest}
-use Rattle.refwalk.specs.declared.request.BadRequest.TheVariants.{NotJson, NotAnObject, Float, UnknownField, Documents, Base, Steps, Remote, Meta, Draft as DraftField, Limit}
+use Rattle.refwalk.specs.declared.request.BadRequest.TheVariants.{NotJson, NotAnObject, Float, UnknownField, Documents, Base, Steps, Remote, Meta, Draft as DraftField, Limit, Lint}
 use Rattle.refwalk.specs.Request.{Step, Lookup, Recursive, Enter, Request, read_request}
 use Rattle.refwalk.specs.Worlds.{AreParents, IsWorldAbove}
 
@@ -39,6 +41,7 @@ reason Remote = codes "remote"
 reason Meta = codes "meta"
 reason DraftField = codes "draft"
 reason Limit = codes "limit"
+reason Lint = codes "lint"
 
 -- the report on a bad request
 abbrev pub bad_report : BadRequest → Report
@@ -78,6 +81,23 @@ abbrev pub followed_report : Result Followed (ℕ × Fault) → Report
 followed_report (Ok f) = done_report f
 followed_report (Err (n, fault)) = fault_report (decimal n) fault
 
+-- the line of a reference that leads nowhere, with the pointer text of its place's path as a JSON string
+abbrev pub dangling_line : DanglingReference → List ℕ
+dangling_line r =
+    line (codes "dangling " ++ decimal r.document ++ codes " " ++ compact_text (string (pointer_text r.path)) ++ codes " " ++ fault_text r.fault)
+
+-- the lines of all of a world's own documents
+unfoldable pub dangling_lines : World → List ℕ
+dangling_lines world = flat_map dangling_line (dangling world)
+
+-- what stands behind the lines of the steps: those lines, where they are asked for
+abbrev pub lint_lines : Bool → World → List ℕ
+lint_lines lint world = if lint then dangling_lines world else []
+
+-- a report with more lines
+abbrev pub with_lines : List ℕ → Report → Report
+with_lines lines report = record { status = report.status; text = report.text ++ lines }
+
 -- a step of a request: an object is entered as a resource of the draft that this one detects on it
 abbrev pub step_in : Draft → Step → world.Step
 step_in draft (Lookup reference) = world.Lookup reference
@@ -90,7 +110,7 @@ steps_of r = map (step_in (builder_draft r.draft)) r.steps
 
 -- the report on a request, once its documents are prepared
 abbrev pub world_report : Request → Result World Fault → Report
-world_report r (Ok world) = followed_report (followed world r.base (steps_of r))
+world_report r (Ok world) = with_lines (lint_lines (unwrap_or r.lint false) world) (followed_report (followed world r.base (steps_of r)))
 world_report r (Err fault) = fault_report (codes "prepare") fault
 
 -- the report on a request, once its meta-schemas are prepared

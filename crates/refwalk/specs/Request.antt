@@ -3,7 +3,7 @@ use Rattle.std.specs.Prelude.{ℕ, Bool, true, ◌&&◌, ◌||◌, List, [], ◌
 use Rattle.std.specs.Result.{result_ok}
 use Rattle.std.specs.Str.{is_utf8}
 use Rattle.serde_json.specs.Data.{Data, null, boolean, number, string, array, object, Items, no_items, item, Members, no_members, member}
-use Rattle.serde_json.specs.Find.{get, at, as_str, as_array, as_object, as_number, as_u64}
+use Rattle.serde_json.specs.Find.{get, at, as_bool, as_str, as_array, as_object, as_number, as_u64}
 use Rattle.serde_json.specs.Read.{read}
 use Rattle.serde_json.specs.Written.{has_float}
 use Rattle.ref_uri.specs.Targets.{parsed}
@@ -33,6 +33,7 @@ pub record Request : Type 0 where
   pub meta : Option (List Document)
   pub draft : Option Draft
   pub limit : Option ℕ
+  pub lint : Option Bool
 
 -- ---- lists in JSON
 
@@ -99,6 +100,10 @@ draft_of d = option_and_then draft_named (as_str d)
 abbrev pub limit_of : Data → Option ℕ
 limit_of d = option_and_then as_u64 (as_number d)
 
+-- true or false
+abbrev pub lint_of : Data → Option Bool
+lint_of d = as_bool d
+
 -- a field that must be there
 abbrev pub required : {A : Type 0} → BadRequest → (Data → Option A) → Option Data → Result A BadRequest
 required bad f found = ok_or (option_and_then f found) bad
@@ -112,7 +117,7 @@ optional bad f (Some d) = ok_or (option_map Some (f d)) bad
 abbrev pub is_field : List ℕ → Bool
 is_field name =
     bytes_eq name (codes "documents") || bytes_eq name (codes "base") || bytes_eq name (codes "steps") || bytes_eq name (codes "remote")
-    || bytes_eq name (codes "meta") || bytes_eq name (codes "draft") || bytes_eq name (codes "limit")
+    || bytes_eq name (codes "meta") || bytes_eq name (codes "draft") || bytes_eq name (codes "limit") || bytes_eq name (codes "lint")
 
 -- each key names a field
 abbrev pub are_fields : Members → Bool
@@ -135,7 +140,8 @@ fields_of d = do
   meta ← optional bad.Meta documents_of (get (codes "meta") d)
   draft ← optional bad.Draft draft_of (get (codes "draft") d)
   limit ← optional bad.Limit limit_of (get (codes "limit") d)
-  Ok (record { documents = documents; base = base; steps = steps; remote = remote; meta = meta; draft = draft; limit = limit })
+  lint ← optional bad.Lint lint_of (get (codes "lint") d)
+  Ok (record { documents = documents; base = base; steps = steps; remote = remote; meta = meta; draft = draft; limit = limit; lint = lint })
 
 -- the request that a tree is, or why it is none
 unfoldable pub request_of : Data → Result Request BadRequest

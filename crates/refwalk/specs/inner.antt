@@ -4,3 +4,4 @@ pub mod View
 pub mod Builders
 pub mod Faults
 pub mod Floats
+pub mod Lines

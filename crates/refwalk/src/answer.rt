@@ -1,18 +1,20 @@
 //! From the bytes of a request to its report.
 ghost use Rattle.std.specs.Prelude.{◌≡◌, IfOk, Ok, map, option_map};
 ghost use Rattle.serde_json.specs.View.{view};
+ghost use Rattle.ref_world.specs.Follow.{followed};
 ghost use Rattle.ref_world.specs.Pending.{builder_draft};
 ghost use Rattle.referencing.specs.Following as following;
-ghost use Rattle.refwalk.specs.Report.{step_in, IsRequestReport, IsReadReport, IsReport};
+ghost use Rattle.refwalk.specs.Report.{step_in, followed_report, lint_lines, with_lines, IsRequestReport, IsReadReport, IsReport};
 ghost use Rattle.refwalk.specs.Request as spec;
-ghost use Rattle.refwalk.specs.inner.Floats.{HasNoFloat};
+ghost use Rattle.refwalk.specs.inner.Floats.{HasNoFloat, WorldIsPlain};
 ghost use Rattle.refwalk.specs.inner.View.{request_view, step_view, report_view};
 
+use crate::lint::push_dangling;
 use crate::report::{Report, bad_report, done_report, fault_report, step_report};
 use crate::request::{BadRequest, Request, Step, request_of};
 use crate::stop::Stop;
 use crate::worlds::{parent_of, world_of};
-use referencing::{Draft, follow};
+use referencing::{Draft, Registry, Uri, follow};
 use serde_json::Value;
 use std::alloc::{AllocError, Global};
 
@@ -66,6 +68,7 @@ fn answer_request(alloc: Global, request: Request<'_>) -> Result<Report, AllocEr
         meta,
         draft,
         limit,
+        lint,
     } = request;
     let parent = match parent_of(alloc, &meta) {
         Ok(parent) => parent,
@@ -77,10 +80,40 @@ fn answer_request(alloc: Global, request: Request<'_>) -> Result<Report, AllocEr
     };
     let draft = draft.unwrap_or(Draft::Draft202012);
     let steps = entered(alloc, draft, steps.as_slice())?;
-    match follow(alloc, &registry, base, steps.as_slice()) {
+    let report = followed_report(alloc, &registry, base, steps.as_slice())?;
+    linted(alloc, &registry, report, lint.unwrap_or(false))
+}
+
+// The report on where steps lead.
+fn followed_report(
+    alloc: Global,
+    registry: &Registry<'_>,
+    base: Uri,
+    steps: &[referencing::Step<'_>],
+) -> Result<Report, AllocError>
+    requires { WorldIsPlain registry.now }
+    ensures { IfOk result (λ r. report_view r ≡ followed_report (followed registry.now base (map following.step_of steps.now))) }
+{
+    match follow(alloc, registry, base, steps) {
         Ok(followed) => done_report(alloc, &followed),
         Err(fault) => step_report(alloc, fault),
     }
+}
+
+// The report, behind which the references that lead nowhere are told where that is asked for.
+fn linted(
+    alloc: Global,
+    registry: &Registry<'_>,
+    report: Report,
+    lint: bool,
+) -> Result<Report, AllocError>
+    ensures { IfOk result (λ r. report_view r ≡ with_lines (lint_lines lint registry.now) (report_view report)) }
+{
+    let Report { status, mut text } = report;
+    if lint {
+        push_dangling(alloc, &mut text, registry)?;
+    }
+    Ok(Report { status, text })
 }
 
 // The steps, where a draft is detected on what is entered.

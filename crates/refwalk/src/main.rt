@@ -6,6 +6,7 @@
 
 mod answer;
 pub mod laws;
+mod lint;
 mod report;
 mod request;
 mod run;

@@ -57,6 +57,7 @@ fn reason(bad: BadRequest) -> &'static str
         BadRequest::Meta => "meta",
         BadRequest::Draft => "draft",
         BadRequest::Limit => "limit",
+        BadRequest::Lint => "lint",
     }
 }
 

@@ -36,6 +36,7 @@ pub struct Request<'a> {
     pub meta: Option<Vec<Document<'a>>>,
     pub draft: Option<Draft>,
     pub limit: Option<u64>,
+    pub lint: Option<bool>,
 }
 
 /// What is wrong with a request, in the order in which it is tested.
@@ -63,6 +64,8 @@ pub enum BadRequest {
     Draft,
     /// `limit` is no whole number of 64 bits.
     Limit,
+    /// `lint` is neither true nor false.
+    Lint,
 }
 
 /// The request that a tree is, or the first thing that is wrong with it. It takes memory for the lists, and for
@@ -99,7 +102,7 @@ fn is_field(name: &str) -> bool
 {
     matches!(
         name,
-        "documents" | "base" | "steps" | "remote" | "meta" | "draft" | "limit"
+        "documents" | "base" | "steps" | "remote" | "meta" | "draft" | "limit" | "lint"
     )
 }
 
@@ -114,6 +117,7 @@ fn fields_of(alloc: Global, tree: &Value) -> Result<Request<'_>, Stop<BadRequest
     let meta = optional_meta(alloc, tree.get("meta"))?;
     let draft = optional_draft(tree.get("draft"))?;
     let limit = optional_limit(tree.get("limit"))?;
+    let lint = optional_lint(tree.get("lint"))?;
     Ok(Request {
         documents,
         base,
@@ -122,6 +126,7 @@ fn fields_of(alloc: Global, tree: &Value) -> Result<Request<'_>, Stop<BadRequest
         meta,
         draft,
         limit,
+        lint,
     })
 }
 
@@ -207,6 +212,19 @@ fn optional_limit(found: Option<&Value>) -> Result<Option<u64>, Stop<BadRequest>
     match value.as_u64() {
         Some(limit) => Ok(Some(limit)),
         None => Err(Stop::Because(BadRequest::Limit)),
+    }
+}
+
+fn optional_lint(found: Option<&Value>) -> Result<Option<bool>, Stop<BadRequest>>
+    ensures { Answers (λ b. b) (λ e. e) result
+        (spec.optional bad.Lint spec.lint_of (option_map (λ v. view v.now) found.entry)) }
+{
+    let Some(value) = found else {
+        return Ok(None);
+    };
+    match value.as_bool() {
+        Some(lint) => Ok(Some(lint)),
+        None => Err(Stop::Because(BadRequest::Lint)),
     }
 }
 

@@ -79,7 +79,8 @@ fn read_to_end<R: Source>(alloc: Global, reader: &mut R) -> Result<Vec<u8>, RunE
 ///
 /// Takes memory for the bytes, the tree, the request, what is prepared and followed, and the report; documents are lent, and
 /// what can be retrieved is copied. Reading ends over every source: each read before the end lengthens a vector. Costs what
-/// preparing and the steps' look-ups cost, and is linear in the bytes else.
+/// preparing and the steps' look-ups cost, and where `lint` asks for it what [`dangling`](ref_lint::dangling) does, and is
+/// linear in the bytes else.
 pub fn run<R: Source, W: Sink>(
     alloc: Global,
     reader: &mut R,

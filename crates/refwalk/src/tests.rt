@@ -7,6 +7,7 @@ use crate::run::{RunError, run};
 use crate::sink::{MemorySink, Output, Sink};
 use crate::source::{Failed, Input, MemorySource, Source};
 use std::alloc::{AllocError, Global};
+use std::process::Abort;
 use std::test::Fail;
 
 // A source that gives a byte at a time.
@@ -195,7 +196,7 @@ const ROWS: [Row; 57] = [
         status: Status::BadRequest,
     },
     Row {
-        request: r#"{"documents":[],"base":"http://a/r","steps":[],"lint":true}"#,
+        request: r#"{"documents":[],"base":"http://a/r","steps":[],"step":true}"#,
         report: "bad request unknown field\n",
         status: Status::BadRequest,
     },
@@ -390,13 +391,137 @@ const ROWS: [Row; 57] = [
     },
 ];
 
+// Requests that ask for the references that lead nowhere.
+const LINTED: [Row; 19] = [
+    // A reference that leads nowhere, by a pointer and by a name; behind the lines of the steps.
+    Row {
+        request: r##"{"documents":[["http://a/r",{"$ref":"#/x"}]],"base":"http://a/r","steps":[],"lint":true}"##,
+        report: "no value\nbase http://a/r\nscope\ndangling 0 \"\" Pointer '/x' does not exist\n",
+        status: Status::Done,
+    },
+    Row {
+        request: r##"{"documents":[["http://a/r",{"properties":{"a/b":{"$ref":"#nope"}}}]],"base":"http://a/r","steps":[],"lint":true}"##,
+        report: "no value\nbase http://a/r\nscope\ndangling 0 \"/properties/a~1b\" Anchor 'nope' does not exist\n",
+        status: Status::Done,
+    },
+    Row {
+        request: r##"{"documents":[["http://a/r",{"properties":{"a/b":{"$ref":"#nope"}}}]],"base":"http://a/r","steps":["#"],"lint":true}"##,
+        report: "value {\"properties\":{\"a/b\":{\"$ref\":\"#nope\"}}}\ndraft 2020-12\nbase http://a/r\nscope http://a/r\ndangling 0 \"/properties/a~1b\" Anchor 'nope' does not exist\n",
+        status: Status::Done,
+    },
+    // Behind the line of a step's fault, whose status stays.
+    Row {
+        request: r##"{"documents":[["http://a/r",{"properties":{"a/b":{"$ref":"#nope"}}}]],"base":"http://a/r","steps":["#/q"],"lint":true}"##,
+        report: "fault 0 Pointer '/q' does not exist\ndangling 0 \"/properties/a~1b\" Anchor 'nope' does not exist\n",
+        status: Status::Fault,
+    },
+    // One that leads to an anchor of Draft 7.
+    Row {
+        request: r##"{"documents":[["http://a/r",{"allOf":[{"$ref":"#f"}],"definitions":{"p":{"$id":"#f"}}}]],"base":"http://a/r","steps":[],"draft":"7","lint":true}"##,
+        report: "no value\nbase http://a/r\nscope\n",
+        status: Status::Done,
+    },
+    // Of a retrieved document too.
+    Row {
+        request: r##"{"documents":[["http://a/r",{"$ref":"b#/z"}]],"base":"http://a/r","steps":[],"remote":[["http://a/b",{"$ref":"#/y"}]],"lint":true}"##,
+        report: "no value\nbase http://a/r\nscope\ndangling 0 \"\" Pointer '/z' does not exist\ndangling 1 \"\" Pointer '/y' does not exist\n",
+        status: Status::Done,
+    },
+    // None of meta-schemas, and none where documents can't be prepared.
+    Row {
+        request: r##"{"meta":[["http://a/m",{"$ref":"#/x"}]],"documents":[["http://a/r",{"$ref":"m#/z"}]],"base":"http://a/r","steps":[],"lint":true}"##,
+        report: "no value\nbase http://a/r\nscope\ndangling 0 \"\" Pointer '/z' does not exist\n",
+        status: Status::Done,
+    },
+    Row {
+        request: r##"{"documents":[["http://a/r",{"$ref":"#/x","not":{"$ref":"b"}}]],"base":"http://a/r","steps":[],"lint":true}"##,
+        report: "fault prepare Resource 'http://a/b' is not present in a registry and retrieving it failed: no document under this URI\n",
+        status: Status::Fault,
+    },
+    Row {
+        request: r##"{"meta":[["a b",true]],"documents":[["http://a/r",{"$ref":"#/x"}]],"base":"http://a/r","steps":[],"lint":true}"##,
+        report: "fault meta Invalid URI reference 'a b': not a URI reference of RFC 3986\n",
+        status: Status::Fault,
+    },
+    // Of a document that another one replaced: the later one's.
+    Row {
+        request: r##"{"documents":[["http://a/r",{"$ref":"#/x"}],["http://a/s",{"$ref":"#/z"}],["http://a/r",{"$ref":"#/y"}]],"base":"http://a/r","steps":[],"lint":true}"##,
+        report: "no value\nbase http://a/r\nscope\ndangling 0 \"\" Pointer '/y' does not exist\ndangling 1 \"\" Pointer '/z' does not exist\n",
+        status: Status::Done,
+    },
+    // Of a place whose URI means a later document: it is looked up there.
+    Row {
+        request: r##"{"documents":[["http://a/r",{"$defs":{"a":{"$id":"s","$ref":"#/x","x":true},"b":{"$id":"s","$ref":"#/y"}}}],["http://a/s",{"y":true}]],"base":"http://a/r","steps":[],"lint":true}"##,
+        report: "no value\nbase http://a/r\nscope\ndangling 0 \"/$defs/a\" Pointer '/x' does not exist\n",
+        status: Status::Done,
+    },
+    // What is under `const` is no place, and `$dynamicRef` is no `$ref`.
+    Row {
+        request: r##"{"documents":[["http://a/r",{"const":{"$ref":"#/x"},"not":{"$dynamicRef":"#no","$ref":"#/y"}}]],"base":"http://a/r","steps":[],"lint":true}"##,
+        report: "no value\nbase http://a/r\nscope\ndangling 0 \"/not\" Pointer '/y' does not exist\n",
+        status: Status::Done,
+    },
+    // In the order of the places.
+    Row {
+        request: r##"{"documents":[["http://a/r",{"allOf":[{"$ref":"#p"},{"$ref":"#q"}]}]],"base":"http://a/r","steps":[],"lint":true}"##,
+        report: "no value\nbase http://a/r\nscope\ndangling 0 \"/allOf/0\" Anchor 'p' does not exist\ndangling 0 \"/allOf/1\" Anchor 'q' does not exist\n",
+        status: Status::Done,
+    },
+    // A path whose keys are escaped, in the pointer and then in JSON.
+    Row {
+        request: r##"{"documents":[["http://a/r",{"properties":{"a/b~\"\\\u0001\n":{"$ref":"#/x"}}}]],"base":"http://a/r","steps":[],"lint":true}"##,
+        report: "no value\nbase http://a/r\nscope\ndangling 0 \"/properties/a~1b~0\\\"\\\\\\u0001\\n\" Pointer '/x' does not exist\n",
+        status: Status::Done,
+    },
+    // Not asked for.
+    Row {
+        request: r##"{"documents":[["http://a/r",{"$ref":"#/x"}]],"base":"http://a/r","steps":[],"lint":false}"##,
+        report: "no value\nbase http://a/r\nscope\n",
+        status: Status::Done,
+    },
+    Row {
+        request: r##"{"documents":[["http://a/r",{"$ref":"#/x"}]],"base":"http://a/r","steps":[]}"##,
+        report: "no value\nbase http://a/r\nscope\n",
+        status: Status::Done,
+    },
+    // Neither true nor false, which is told last.
+    Row {
+        request: r##"{"documents":[["http://a/r",{"$ref":"#/x"}]],"base":"http://a/r","steps":[],"lint":1}"##,
+        report: "bad request lint\n",
+        status: Status::BadRequest,
+    },
+    Row {
+        request: r##"{"documents":[["http://a/r",{"$ref":"#/x"}]],"base":"http://a/r","steps":[],"lint":null}"##,
+        report: "bad request lint\n",
+        status: Status::BadRequest,
+    },
+    Row {
+        request: r##"{"documents":[["http://a/r",{"$ref":"#/x"}]],"base":"http://a/r","steps":[],"limit":-1,"lint":"true"}"##,
+        report: "bad request limit\n",
+        status: Status::BadRequest,
+    },
+];
+
+// Ends the test where a request doesn't have its report and status.
+fn reported(rt: &impl Abort, alloc: Global, row: &Row) {
+    let mut reader = MemorySource::new(row.request.as_bytes());
+    let mut writer = MemorySink::new(alloc);
+    assert_eq!(rt; run(alloc, &mut reader, &mut writer), Ok(row.status));
+    assert_eq!(rt; writer.bytes.as_slice(), row.report.as_bytes());
+}
+
 #[test]
 fn requests_have_their_reports(rt: HostRuntime) -> Result<(), Fail> {
     for row in &ROWS {
-        let mut reader = MemorySource::new(row.request.as_bytes());
-        let mut writer = MemorySink::new(rt.alloc());
-        assert_eq!(rt; run(rt.alloc(), &mut reader, &mut writer), Ok(row.status));
-        assert_eq!(rt; writer.bytes.as_slice(), row.report.as_bytes());
+        reported(&rt, rt.alloc(), row);
+    }
+    Ok(())
+}
+
+#[test]
+fn references_that_lead_nowhere_are_told(rt: HostRuntime) -> Result<(), Fail> {
+    for row in &LINTED {
+        reported(&rt, rt.alloc(), row);
     }
     Ok(())
 }

@@ -35,6 +35,7 @@ request_view r = record {
   meta = option_map (λ v. documents_view v.items) r.meta;
   draft = r.draft;
   limit = r.limit;
+  lint = r.lint;
 }
 
 -- of a report

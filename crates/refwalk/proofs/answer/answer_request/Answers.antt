@@ -1,12 +1,11 @@
 use Rattle.std.proofs.Common.{◌≡◌, [], map, unwrap_or, ap, ◌∙◌}
 use Rattle.ref_world.specs.Pending.{builder_draft}
-use Rattle.referencing.specs.Following.{step_of, followed_of}
-use Rattle.refwalk.specs.Report.{step_in, steps_of}
+use Rattle.referencing.specs.Following.{step_of}
+use Rattle.refwalk.specs.Report.{step_in, steps_of, lint_lines, with_lines}
 use Rattle.refwalk.specs.inner.View.{request_view, step_view, report_view}
 use Rattle.refwalk.proofs.Options.{if_so}
-use Rattle.refwalk.proofs.PlainSteps.{ends_plain}
 use Rattle.refwalk.proofs.PlainWorlds.{world_plain}
-use Rattle.refwalk.proofs.Reports.{last_is_plain, meta_reported, prepare_reported, step_reported, done_reported}
+use Rattle.refwalk.proofs.Reports.{meta_reported, prepare_reported, world_reported}
 use Rattle.refwalk.proofs.answer.answer_request.Goals as goal
 
 pub returns-in-Err : goal.returns-in-Err
@@ -19,23 +18,8 @@ returns-in-Err-world_of c =
     (λ r is. prepare_reported (request_view c.args.request) (unwrap_or c.in-Ok.parent []) c.in-Err-world_of.error (report_view r) c.in-Ok.ensures.ok c.in-Err-world_of.ensures.fault is)
     c.fault_report-in-Err-world_of.ensures
 
-pub done_report-requires : goal.done_report-requires
-done_report-requires c =
-    let r = request_view c.args.request in
-    let registry = c.in-Ok-world_of.registry in
-    let plain = world_plain r (unwrap_or c.in-Ok.parent []) registry c.requires c.in-Ok.ensures.ok c.in-Ok-world_of.ensures.ok in
-    last_is_plain c.in-Ok-follow.followed.last (ends_plain registry c.args.request.base (map step_of c.as_slice-2.result.now) (followed_of c.in-Ok-follow.followed) plain c.in-Ok-follow.ensures.ok)
-
-pub returns-in-Ok-follow : goal.returns-in-Ok-follow
-returns-in-Ok-follow c =
-    let r = request_view c.args.request in
-    let steps : map step_of c.as_slice-2.result.now ≡ steps_of r =
-    ap (map step_of) c.as_slice-2.ensures.value ∙ c.in_ok-steps.ensures
-    ∙ ap (λ d. map (step_in d) (map step_view c.as_slice.result.now)) c.unwrap_or-draft.ensures
-    ∙ ap (λ ss. map (step_in (builder_draft c.args.request.draft)) (map step_view ss)) c.as_slice.ensures.value in
-    if_so _ _ c.done_report.result
-    (λ report is. done_reported r (unwrap_or c.in-Ok.parent []) c.in-Ok-world_of.registry (map step_of c.as_slice-2.result.now) (followed_of c.in-Ok-follow.followed) (report_view report) c.in-Ok.ensures.ok c.in-Ok-world_of.ensures.ok steps c.in-Ok-follow.ensures.ok is)
-    c.done_report.ensures
+pub followed_report-requires : goal.followed_report-requires
+followed_report-requires c = world_plain (request_view c.args.request) (unwrap_or c.in-Ok.parent []) c.in-Ok-world_of.registry c.requires c.in-Ok.ensures.ok c.in-Ok-world_of.ensures.ok
 
 pub returns : goal.returns
 returns c =
@@ -44,7 +28,6 @@ returns c =
     ap (map step_of) c.as_slice-2.ensures.value ∙ c.in_ok-steps.ensures
     ∙ ap (λ d. map (step_in d) (map step_view c.as_slice.result.now)) c.unwrap_or-draft.ensures
     ∙ ap (λ ss. map (step_in (builder_draft c.args.request.draft)) (map step_view ss)) c.as_slice.ensures.value in
-    let fault = c.in-Err-follow.fault in
-    if_so _ _ c.step_report.result
-    (λ report is. step_reported r (unwrap_or c.in-Ok.parent []) c.in-Ok-world_of.registry (map step_of c.as_slice-2.result.now) fault.step fault.error (report_view report) c.in-Ok.ensures.ok c.in-Ok-world_of.ensures.ok steps c.in-Err-follow.ensures.fault is)
-    c.step_report.ensures
+    if_so _ _ c.linted.result
+    (λ report is. world_reported r (unwrap_or c.in-Ok.parent []) c.in-Ok-world_of.registry (map step_of c.as_slice-2.result.now) (report_view c.in_ok-report.report) (report_view report) c.in-Ok.ensures.ok c.in-Ok-world_of.ensures.ok steps c.in_ok-report.ensures (is ∙ ap (λ lint. with_lines (lint_lines lint c.in-Ok-world_of.registry) (report_view c.in_ok-report.report)) c.unwrap_or.ensures))
+    c.linted.ensures

@@ -1,0 +1,23 @@
+use Rattle.std.proofs.Common.{map}
+use Rattle.ref_world.specs.Follow.{followed}
+use Rattle.referencing.specs.Following.{step_of, followed_of}
+use Rattle.refwalk.specs.inner.View.{report_view}
+use Rattle.refwalk.proofs.Options.{if_so}
+use Rattle.refwalk.proofs.PlainSteps.{ends_plain}
+use Rattle.refwalk.proofs.Reports.{last_is_plain, step_is, done_is}
+use Rattle.refwalk.proofs.answer.followed_report.Goals as goal
+
+pub done_report-requires : goal.done_report-requires
+done_report-requires c =
+    last_is_plain c.in-Ok.followed.last (ends_plain c.args.registry.now c.args.base (map step_of c.args.steps.now) (followed_of c.in-Ok.followed) c.requires c.in-Ok.ensures.ok)
+
+pub returns-in-Ok : goal.returns-in-Ok
+returns-in-Ok c =
+    let answer = followed c.args.registry.now c.args.base (map step_of c.args.steps.now) in
+    if_so _ _ c.done_report.result (λ report is. done_is answer (followed_of c.in-Ok.followed) (report_view report) c.in-Ok.ensures.ok is) c.done_report.ensures
+
+pub returns-in-Err : goal.returns-in-Err
+returns-in-Err c =
+    let answer = followed c.args.registry.now c.args.base (map step_of c.args.steps.now) in
+    let fault = c.in-Err.fault in
+    if_so _ _ c.step_report.result (λ report is. step_is answer fault.step fault.error (report_view report) c.in-Err.ensures.fault is) c.step_report.ensures
