@@ -8,6 +8,7 @@ mod PlainWorlds
 mod PlainSteps
 mod Outcomes
 mod OneWorld
+mod SomeWorld
 mod Building
 mod Reports
 mod Lines
