@@ -4,8 +4,8 @@ mod Trees
 mod Scopes
 mod Requests
 mod Floats
-mod PlainWorlds
-mod PlainSteps
+mod WorldsWithoutFloats
+mod StepsWithoutFloats
 mod Outcomes
 mod OneWorld
 mod SomeWorld
