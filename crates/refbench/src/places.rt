@@ -1,7 +1,8 @@
-//! Workloads of the places of a registry: their list, and the look-up of their paths.
+//! Workloads of the places of a registry: their list, the look-up of their paths, and the references that lead nowhere.
 
 use crate::registries::documents_of;
 use anyhow::Context;
+use ref_lint::dangling;
 use ref_retrieve::Error;
 use ref_uri::Uri;
 use ref_uri::uri::from_str;
@@ -39,6 +40,16 @@ fn located(
     sum
 }
 
+/// How many of so many lists of the references that lead nowhere are empty: each reference of the documents leads somewhere.
+fn linted(alloc: Global, registry: &Registry<'_>, times: u32) -> Result<u64, Error> {
+    let mut sum: u64 = 0;
+    for _ in 0..times {
+        let is_empty = dangling(alloc, registry)?.is_empty();
+        sum = sum.saturating_add(is_empty as u64);
+    }
+    Ok(sum)
+}
+
 /// What so many calls answer together over so many documents; nothing where one is refused.
 fn measured(alloc: Global, call: &str, size: usize, times: u32) -> anyhow::Result<u64> {
     let Ok(registry) = registry_of(alloc, documents_of(alloc, size)?) else {
@@ -46,6 +57,9 @@ fn measured(alloc: Global, call: &str, size: usize, times: u32) -> anyhow::Resul
     };
     if call == "places" {
         return Ok(listed(alloc, &registry, times).unwrap_or(0));
+    }
+    if call == "dangling" {
+        return Ok(linted(alloc, &registry, times).unwrap_or(0));
     }
     let Ok(base) = from_str(alloc, "http://example.com/d0/") else {
         return Ok(0);
@@ -57,11 +71,11 @@ fn measured(alloc: Global, call: &str, size: usize, times: u32) -> anyhow::Resul
     Ok(located(alloc, &registry, &base, &path, times))
 }
 
-/// What a line's workload answers, where it is `places` or `locate`.
+/// What a line's workload answers, where it is `places`, `locate` or `dangling`.
 pub fn answer(alloc: Global, line: &str) -> anyhow::Result<Option<u64>> {
     let mut words = line.split_whitespace();
     let call = words.next().context("a call")?;
-    if !matches!(call, "places" | "locate") {
+    if !matches!(call, "places" | "locate" | "dangling") {
         return Ok(None);
     }
     let size: usize = words.nth(1).context("a size")?.parse()?;

@@ -4,9 +4,10 @@ mod Trees
 mod Scopes
 mod Requests
 mod Floats
-mod PlainWorlds
-mod PlainSteps
+mod WorldsWithoutFloats
+mod StepsWithoutFloats
 mod OneWorld
+mod SomeWorld
 mod Building
 mod Reports
 mod Lines

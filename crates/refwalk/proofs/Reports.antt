@@ -20,7 +20,7 @@ use Rattle.refwalk.specs.Request.{Request, tree_of, request_of, read_request}
 use Rattle.refwalk.specs.Worlds.{AreParents, IsWorldAbove}
 use Rattle.refwalk.specs.Run.{Reports}
 use Rattle.refwalk.specs.inner.Faults.{IsErrorOf, IsReportOn}
-use Rattle.refwalk.specs.inner.Floats.{IsPlain}
+use Rattle.refwalk.specs.inner.Floats.{HoldsNoFloat}
 use Rattle.refwalk.specs.inner.View.{report_view}
 use Rattle.refwalk.proofs.OneWorld.{given_no_memory, unless_step}
 
@@ -38,9 +38,9 @@ pub reports_by : (bytes : List ℕ) (r : declared.Report) (left left' taken take
 reports_by bytes r left left' taken taken' ended (Err e) end gave is status took = tt
 reports_by bytes r left left' taken taken' ended (Ok s) end gave is status took = (end, (bytes, gave, report_view r, is, took, status))
 
-pub last_is_plain : (last : Option (Bor Value × Draft)) → IfSome (lent_last last) (λ found. IsPlain found.0) → IfSome last (λ v. IsPlain (view v.0.now))
-last_is_plain None h = tt
-last_is_plain (Some v) h = h
+pub last_without_floats : (last : Option (Bor Value × Draft)) → IfSome (lent_last last) (λ found. HoldsNoFloat found.0) → IfSome last (λ v. HoldsNoFloat (view v.0.now))
+last_without_floats None h = tt
+last_without_floats (Some v) h = h
 
 -- ---- requests
 

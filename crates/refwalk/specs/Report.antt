@@ -127,6 +127,7 @@ abbrev pub IsReadReport : Result Request BadRequest → Report → Type 0
 IsReadReport (Ok r) report = IsRequestReport r report
 IsReadReport (Err bad) report = report ≡ bad_report bad
 
--- The report on the bytes of a request. There is one alone, which is the law `reports_are_one`.
+-- The report on the bytes of a request. There is one, which is the law `requests_have_reports`, and one alone, which is
+-- `reports_are_one`.
 unfoldable pub IsReport : List ℕ → Report → Type 0
 IsReport bytes report = IsReadReport (read_request bytes) report

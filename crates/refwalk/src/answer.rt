@@ -6,7 +6,7 @@ ghost use Rattle.ref_world.specs.Pending.{builder_draft};
 ghost use Rattle.referencing.specs.Following as following;
 ghost use Rattle.refwalk.specs.Report.{step_in, followed_report, lint_lines, with_lines, IsRequestReport, IsReadReport, IsReport};
 ghost use Rattle.refwalk.specs.Request as spec;
-ghost use Rattle.refwalk.specs.inner.Floats.{HasNoFloat, WorldIsPlain};
+ghost use Rattle.refwalk.specs.inner.Floats.{RequestHoldsNoFloat, WorldHoldsNoFloat};
 ghost use Rattle.refwalk.specs.inner.View.{request_view, step_view, report_view};
 
 use crate::lint::push_dangling;
@@ -57,7 +57,7 @@ fn answer_tree(alloc: Global, tree: &Value) -> Result<Report, AllocError>
 
 // The documents are lent to the registries, and values to the steps.
 fn answer_request(alloc: Global, request: Request<'_>) -> Result<Report, AllocError>
-    requires { HasNoFloat (request_view request) }
+    requires { RequestHoldsNoFloat (request_view request) }
     ensures { IfOk result (λ r. IsRequestReport (request_view request.entry) (report_view r)) }
 {
     let Request {
@@ -91,7 +91,7 @@ fn followed_report(
     base: Uri,
     steps: &[referencing::Step<'_>],
 ) -> Result<Report, AllocError>
-    requires { WorldIsPlain registry.now }
+    requires { WorldHoldsNoFloat registry.now }
     ensures { IfOk result (λ r. report_view r ≡ followed_report (followed registry.now base (map following.step_of steps.now))) }
 {
     match follow(alloc, registry, base, steps) {

@@ -8,6 +8,12 @@ pub fn reports_are_one()
     ensures law { (bytes : List ℕ) (one other : Report) → IsReport bytes one → IsReport bytes other → one ≡ other }
 {}
 
+/// All bytes have a report: a bad request has one, and what can be retrieved is a map, which answers or refuses each URI, so
+/// preparing has an outcome.
+pub fn requests_have_reports()
+    ensures law { (bytes : List ℕ) → (report : Report) × IsReport bytes report }
+{}
+
 /// The names of drafts.
 pub fn draft_rows()
     ensures rows { DraftRows }

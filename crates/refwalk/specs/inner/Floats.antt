@@ -7,23 +7,23 @@ use Rattle.ref_world.specs.World.{Layer, World}
 use Rattle.refwalk.specs.Request.{Document, Request}
 
 -- no number in the tree is another than a whole number of 64 bits
-abbrev pub IsPlain : Data → Type 0
-IsPlain d = has_float d ≡ false
+abbrev pub HoldsNoFloat : Data → Type 0
+HoldsNoFloat d = has_float d ≡ false
 
--- in no document
-abbrev pub ArePlain : List Document → Type 0
-ArePlain ds = AllByRecursion (λ d. IsPlain d.tree) ds
+-- nor is one in the trees of documents
+abbrev pub HoldNoFloats : List Document → Type 0
+HoldNoFloats ds = AllByRecursion (λ d. HoldsNoFloat d.tree) ds
 
--- in no document of a request
-pub record HasNoFloat (r : Request) : Type 0 where
-  pub documents : ArePlain r.documents
-  pub remote : AllByRecursion (λ e. IsPlain e.1) (unwrap_or r.remote [])
-  pub meta : ArePlain (unwrap_or r.meta [])
+-- nor in those of a request: its documents, what can be retrieved, and its meta-schemas
+pub record RequestHoldsNoFloat (r : Request) : Type 0 where
+  pub documents : HoldNoFloats r.documents
+  pub remote : AllByRecursion (λ e. HoldsNoFloat e.1) (unwrap_or r.remote [])
+  pub meta : HoldNoFloats (unwrap_or r.meta [])
 
--- in no document of a layer
-abbrev pub LayerIsPlain : Layer → Type 0
-LayerIsPlain layer = AllByRecursion (λ d. IsPlain d.tree) layer
+-- nor in those of a layer
+abbrev pub LayerHoldsNoFloat : Layer → Type 0
+LayerHoldsNoFloat layer = AllByRecursion (λ d. HoldsNoFloat d.tree) layer
 
--- in no document of a world
-abbrev pub WorldIsPlain : World → Type 0
-WorldIsPlain world = AllByRecursion LayerIsPlain world
+-- nor in those of a world
+abbrev pub WorldHoldsNoFloat : World → Type 0
+WorldHoldsNoFloat world = AllByRecursion LayerHoldsNoFloat world

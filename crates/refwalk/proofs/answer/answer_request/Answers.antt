@@ -4,7 +4,7 @@ use Rattle.referencing.specs.Following.{step_of}
 use Rattle.refwalk.specs.Report.{step_in, steps_of, lint_lines, with_lines}
 use Rattle.refwalk.specs.inner.View.{request_view, step_view, report_view}
 use Rattle.refwalk.proofs.Options.{if_so}
-use Rattle.refwalk.proofs.PlainWorlds.{world_plain}
+use Rattle.refwalk.proofs.WorldsWithoutFloats.{world_without_floats}
 use Rattle.refwalk.proofs.Reports.{meta_reported, prepare_reported, world_reported}
 use Rattle.refwalk.proofs.answer.answer_request.Goals as goal
 
@@ -19,7 +19,7 @@ returns-in-Err-world_of c =
     c.fault_report-in-Err-world_of.ensures
 
 pub followed_report-requires : goal.followed_report-requires
-followed_report-requires c = world_plain (request_view c.args.request) (unwrap_or c.in-Ok.parent []) c.in-Ok-world_of.registry c.requires c.in-Ok.ensures.ok c.in-Ok-world_of.ensures.ok
+followed_report-requires c = world_without_floats (request_view c.args.request) (unwrap_or c.in-Ok.parent []) c.in-Ok-world_of.registry c.requires c.in-Ok.ensures.ok c.in-Ok-world_of.ensures.ok
 
 pub returns : goal.returns
 returns c =

@@ -3,13 +3,13 @@ use Rattle.ref_world.specs.Follow.{followed}
 use Rattle.referencing.specs.Following.{step_of, followed_of}
 use Rattle.refwalk.specs.inner.View.{report_view}
 use Rattle.refwalk.proofs.Options.{if_so}
-use Rattle.refwalk.proofs.PlainSteps.{ends_plain}
-use Rattle.refwalk.proofs.Reports.{last_is_plain, step_is, done_is}
+use Rattle.refwalk.proofs.StepsWithoutFloats.{ends_without_floats}
+use Rattle.refwalk.proofs.Reports.{last_without_floats, step_is, done_is}
 use Rattle.refwalk.proofs.answer.followed_report.Goals as goal
 
 pub done_report-requires : goal.done_report-requires
 done_report-requires c =
-    last_is_plain c.in-Ok.followed.last (ends_plain c.args.registry.now c.args.base (map step_of c.args.steps.now) (followed_of c.in-Ok.followed) c.requires c.in-Ok.ensures.ok)
+    last_without_floats c.in-Ok.followed.last (ends_without_floats c.args.registry.now c.args.base (map step_of c.args.steps.now) (followed_of c.in-Ok.followed) c.requires c.in-Ok.ensures.ok)
 
 pub returns-in-Ok : goal.returns-in-Ok
 returns-in-Ok c =
