@@ -7,8 +7,8 @@ use serde_json::Value;
 use std::alloc::Global;
 use std::test::Fail;
 
-// The last value, its base and the length of the scope, or the fault.
-fn ended(
+/// The last value, its base and the length of the scope, or the fault.
+pub fn ended(
     alloc: Global,
     registry: &Registry<'_>,
     base: &str,
