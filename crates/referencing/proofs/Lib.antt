@@ -15,3 +15,5 @@ pub mod Stepping
 pub mod Showing
 pub mod Writing
 pub mod Agreeing
+pub mod Names
+pub mod Undecoded

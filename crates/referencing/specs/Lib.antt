@@ -10,3 +10,4 @@ pub mod Answering
 pub mod Comparing
 pub mod MetaSchemas
 pub mod Listed
+pub mod Names

@@ -12,6 +12,7 @@ ghost use Rattle.ref_index.specs.Retrieval.{SaysOrMemory};
 ghost use Rattle.referencing.specs.Layered.{world_in};
 ghost use Rattle.referencing.specs.Located.{IsLocated, IsNamed};
 ghost use Rattle.referencing.specs.Resolving.{resolver_of, world_of, found_of, world_found, at_pointer, under_uri};
+ghost use Rattle.referencing.specs.Names.{is_name, at_name};
 ghost use Rattle.referencing.specs.Scoped.{dynamic_under, IsDynamicUnder};
 
 use crate::layers::Layers;
@@ -186,24 +187,33 @@ fn at_value<'r>(contents: &'r Value, draft: Draft, resolver: Resolver<'r>) -> Re
 // What a pointer leads to in the resource at a place, where `text` is the fragment behind its first `/`.
 fn at_pointer<'r>(
     alloc: Global,
-    resolver: &Resolver<'r>,
+    resolver: Resolver<'r>,
     place: Located<'r>,
     pointer: &str,
     text: &str,
 ) -> Result<Resolved<'r>, Error>
-    ensures ok { IfOk result (λ found. at_pointer (resolver_of resolver.now) place.entry.entry.now.draft pointer.now (view place.entry.value.now) text.now ≡ Ok (found_of found)) }
-    ensures world { IfOk result (λ found. world_found found ≡ world_of resolver.now) }
-    ensures fault { IfErr result (IsFaultOf (at_pointer (resolver_of resolver.now) place.entry.entry.now.draft pointer.now (view place.entry.value.now) text.now)) }
+    ensures ok { IfOk result (λ found. at_pointer (resolver_of resolver.entry) place.entry.entry.now.draft pointer.now (view place.entry.value.now) text.now ≡ Ok (found_of found)) }
+    ensures world { IfOk result (λ found. world_found found ≡ world_of resolver.entry) }
+    ensures fault { IfErr result (IsFaultOf (at_pointer (resolver_of resolver.entry) place.entry.entry.now.draft pointer.now (view place.entry.value.now) text.now)) }
 {
     let draft = place.entry.draft;
+    let Resolver {
+        layers,
+        base,
+        scope,
+    } = resolver;
     let walk = Walk {
-        layers: resolver.layers,
+        layers,
         draft,
         pointer,
     };
-    let base = resolver.base.clone()?;
     let Pointed { value, base } = follow_pointer(alloc, walk, base, place.value, text)?;
-    Ok(at_value(value, draft, resolver.with_base(base)?))
+    let resolver = Resolver {
+        layers,
+        base,
+        scope,
+    };
+    Ok(at_value(value, draft, resolver))
 }
 
 // What a fragment means in the resource at a place that a resolver is at.
@@ -221,10 +231,30 @@ pub(crate) fn at_fragment<'r>(
         return Ok(at_value(place.value, place.entry.draft, resolver));
     }
     if let Some(text) = fragment.strip_prefix('/') {
-        return at_pointer(alloc, &resolver, place, fragment, text);
+        return at_pointer(alloc, resolver, place, fragment, text);
     }
-    let found = anchor(alloc, &resolver.layers, resolver.base.as_str(), fragment)?;
-    named_found(alloc, resolver, fragment, found)
+    at_name(alloc, resolver, fragment)
+}
+
+// Whether a fragment is a name.
+pub(crate) fn is_name(fragment: &str) -> bool
+    ensures { result ≡ is_name fragment.now }
+{
+    !matches!(fragment.as_bytes(), [] | [b'/', ..])
+}
+
+// What a name leads to in the resource that a resolver is at.
+pub(crate) fn at_name<'r>(
+    alloc: Global,
+    resolver: Resolver<'r>,
+    name: &str,
+) -> Result<Resolved<'r>, Error>
+    ensures ok { IfOk result (λ f. at_name (world_of resolver.entry) (resolver_of resolver.entry) name.now ≡ Ok (found_of f)) }
+    ensures world { IfOk result (λ f. world_found f ≡ world_of resolver.entry) }
+    ensures fault { IfErr result (IsFaultOf (at_name (world_of resolver.entry) (resolver_of resolver.entry) name.now)) }
+{
+    let found = anchor(alloc, &resolver.layers, resolver.base.as_str(), name)?;
+    named_found(alloc, resolver, name, found)
 }
 
 // The fault of a URI that means no place: nothing is retrieved any more.

@@ -1,5 +1,5 @@
 //! The documents that references lead into, layer by layer.
-ghost use Rattle.std.specs.Prelude.{◌≡◌, ◌∷◌, map, IfOk, IfErr, IfSome, MatchOption, IsSome, None, Ok};
+ghost use Rattle.std.specs.Prelude.{◌≡◌, ◌∷◌, map, IfOk, IfErr, IfSome, MatchOption, IsSome, is_some, None, Ok};
 ghost use Rattle.std.specs.List.{Contains};
 ghost use Rattle.ref_uri.specs.Targets.{against};
 ghost use Rattle.ref_world.specs.Resources.{means};
@@ -12,7 +12,8 @@ ghost use Rattle.referencing.specs.Prepared.{own};
 ghost use Rattle.referencing.specs.Layered.{world_in};
 
 use crate::located::{
-    Located, LocatedName, named_above, named_in, resolved_above, resource_above, resource_in,
+    Located, LocatedName, is_resource_above, named_above, named_in, resolved_above, resource_above,
+    resource_in,
 };
 use ref_index::Index;
 use ref_index::reference::shared;
@@ -45,6 +46,13 @@ impl<'r> Layers<'r> {
             Some(place) => Some(place),
             None => resource_above(self.parents, uri),
         }
+    }
+
+    /// Whether a URI means a place. A look-up for each layer, up to the first that has it; takes no memory.
+    pub(crate) fn has_resource(&self, uri: &str) -> bool
+        ensures value { result ≡ is_some (means (world_in self.now) uri.now) }
+    {
+        self.own.resource(uri).is_some() || is_resource_above(self.parents, uri)
     }
 
     /// The place that an anchor names under a URI. A look-up for each layer, up to the first that has it; takes no memory.

@@ -1,5 +1,5 @@
 //! Places that were looked up, with their values.
-ghost use Rattle.std.specs.Prelude.{◌≡◌, map, option_map, MatchOption, IfSome, None, Ok};
+ghost use Rattle.std.specs.Prelude.{◌≡◌, map, option_map, MatchOption, IfSome, is_some, None, Ok};
 ghost use Rattle.ref_uri.specs.Targets.{against};
 ghost use Rattle.ref_world.specs.Places.{Place};
 ghost use Rattle.ref_world.specs.Resources.{last_under, resources, means};
@@ -52,6 +52,18 @@ pub(crate) fn resource_above<'r>(parents: &'r [&'r Index<'r>], uri: &str) -> Opt
         }
     }
     None
+}
+
+/// Whether a URI means a place in the documents of parents. A look-up for each; takes no memory.
+pub(crate) fn is_resource_above(parents: &[&Index<'_>], uri: &str) -> bool
+    ensures value { result ≡ is_some (means (map (λ p. p.now) parents.now) uri.now) }
+{
+    for parent in parents {
+        if parent.resource(uri).is_some() {
+            return true;
+        }
+    }
+    false
 }
 
 /// The place that an anchor names under a URI in the documents of an index. A look-up; takes no memory.

@@ -243,6 +243,9 @@ pub(crate) fn follow_pointer<'r>(
     ensures ok { IfOk result (λ p. pointed_to walk.entry.draft walk.entry.pointer.now base.value (view value.now) text.now ≡ Ok (view p.value.now, p.base.value)) }
     ensures fault { IfErr result (IsFaultOf (pointed_to walk.entry.draft walk.entry.pointer.now base.value (view value.now) text.now)) }
 {
+    if !text.as_bytes().contains(&b'%') {
+        return walk_from(alloc, walk, base, value, text);
+    }
     match percent_decode(text.as_bytes()).decode_utf8(alloc) {
         Ok(decoded) => walk_from(alloc, walk, base, value, decoded.as_str()),
         Err(DecodeError::OutOfMemory) => Err(Error::Memory(AllocError)),

@@ -1,5 +1,5 @@
 //! Where references lead from a base URI.
-ghost use Rattle.std.specs.Prelude.{◌≡◌, [], ◌++◌, codes, if◌then◌else◌, IfOk, IfErr, MatchOption, Ok, None};
+ghost use Rattle.std.specs.Prelude.{◌≡◌, ℕ, List, true, [], ◌++◌, codes, if◌then◌else◌, IfOk, IfErr, MatchOption, Ok, None};
 ghost use Rattle.std.specs.Fmt.{WritesOnOk};
 ghost use Rattle.std.specs.List.{join_by};
 ghost use Rattle.std.specs.Result.{result_ok};
@@ -10,8 +10,9 @@ ghost use Rattle.ref_draft.specs.Views.{resource_ref};
 ghost use Rattle.ref_world.specs.Lookup.{moved, in_subresource, lookup};
 ghost use Rattle.ref_retrieve.specs.Errors.{IsFaultOf};
 ghost use Rattle.referencing.specs.Resolving.{resolver_of, world_of, found_of, world_found};
+ghost use Rattle.referencing.specs.Names.{is_name};
 
-use crate::fragment::{at_fragment, not_retrieved};
+use crate::fragment::{at_fragment, at_name, is_name, not_retrieved};
 use crate::layers::Layers;
 use ref_draft::{Draft, ResourceRef};
 use ref_index::reference::{fragment_part, uri_part};
@@ -129,11 +130,28 @@ impl<'r> Resolver<'r> {
         ensures fault { IfErr result (IsFaultOf (lookup (world_of self.now) (resolver_of self.now) reference.now)) }
     {
         let uri = self.target(alloc, reference)?;
+        let fragment = fragment_part(reference);
+        if is_name(fragment) {
+            return self.at_name(alloc, uri, fragment);
+        }
         let Some(place) = self.layers.resource(uri.as_str()) else {
             return Err(not_retrieved(alloc, &uri));
         };
         let resolver = self.moved(alloc, uri)?;
-        at_fragment(alloc, resolver, place, fragment_part(reference))
+        at_fragment(alloc, resolver, place, fragment)
+    }
+
+    // Where a name leads under a URI.
+    fn at_name(&self, alloc: Global, uri: Rc<Uri>, name: &str) -> Result<Resolved<'r>, Error>
+        ensures ok { (reference : List ℕ) → target (resolver_of self.now).base reference ≡ Ok uri.value → fragment_part reference ≡ name.now → is_name name.now ≡ true → IfOk result (λ found. lookup (world_of self.now) (resolver_of self.now) reference ≡ Ok (found_of found)) }
+        ensures world { IfOk result (λ found. world_found found ≡ world_of self.now) }
+        ensures fault { (reference : List ℕ) → target (resolver_of self.now).base reference ≡ Ok uri.value → fragment_part reference ≡ name.now → is_name name.now ≡ true → IfErr result (IsFaultOf (lookup (world_of self.now) (resolver_of self.now) reference)) }
+    {
+        if !self.layers.has_resource(uri.as_str()) {
+            return Err(not_retrieved(alloc, &uri));
+        }
+        let resolver = self.moved(alloc, uri)?;
+        at_name(alloc, resolver, name)
     }
 }
 

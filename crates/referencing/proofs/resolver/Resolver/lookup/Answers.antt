@@ -1,9 +1,10 @@
-use Rattle.std.proofs.Common.{◌≡◌, ℕ, List, IfOk, IfErr, Ok, None, sym, ap, subst, ◌∙◌, rules}
+use Rattle.std.proofs.Common.{◌≡◌, ℕ, List, IfOk, IfErr, Ok, None, true, sym, ap, subst, ◌∙◌, rules}
 use Rattle.ref_world.specs.Fault.{not_retrieved}
 use Rattle.ref_world.specs.Resources.{means}
 use Rattle.ref_world.specs.Lookup.{lookup}
 use Rattle.ref_retrieve.specs.Errors.{IsFaultOf}
 use Rattle.referencing.specs.Resolving.{resolver_of, world_of, found_of}
+use Rattle.referencing.specs.Names.{is_name}
 use Rattle.referencing.proofs.Faults.{says_of}
 use Rattle.referencing.proofs.Lookups.{lookup_refused, lookup_absent, lookup_present}
 use Rattle.referencing.proofs.resolver.Resolver.lookup.Goals as goal
@@ -30,7 +31,7 @@ returns-clause-ok c =
     let (p, is, at) = c.in-Some.ensures.value in
     let text : c.as_str.result.now ≡ uri = search rules in
     let same = lookup_present w r c.args.reference.now uri p c.in_ok-uri.ensures.ok (ap (means w) (sym text) ∙ is) in
-    let there = rw (c.fragment_part.ensures.value, c.in_ok-resolver.ensures.resolver, c.in_ok-resolver.ensures.world) at c.at_fragment.ensures.ok p at in
+    let there = rw (c.fragment_part-fragment.ensures.value, c.in_ok-resolver.ensures.resolver, c.in_ok-resolver.ensures.world) at c.at_fragment.ensures.ok p at in
     subst (λ a. IfOk c.at_fragment.result (λ f. a ≡ Ok (found_of f))) (sym same) there
 
 pub returns-clause-fault : goal.returns-clause-fault
@@ -41,5 +42,15 @@ returns-clause-fault c =
     let (p, is, at) = c.in-Some.ensures.value in
     let text : c.as_str.result.now ≡ uri = search rules in
     let same = lookup_present w r c.args.reference.now uri p c.in_ok-uri.ensures.ok (ap (means w) (sym text) ∙ is) in
-    let there = rw (c.fragment_part.ensures.value, c.in_ok-resolver.ensures.resolver, c.in_ok-resolver.ensures.world) at c.at_fragment.ensures.fault p at in
+    let there = rw (c.fragment_part-fragment.ensures.value, c.in_ok-resolver.ensures.resolver, c.in_ok-resolver.ensures.world) at c.at_fragment.ensures.fault p at in
     subst (λ a. IfErr c.at_fragment.result (IsFaultOf a)) (sym same) there
+
+pub returns-then-is_name-clause-ok : goal.returns-then-is_name-clause-ok
+returns-then-is_name-clause-ok c =
+    let name : is_name c.fragment_part-fragment.result.now ≡ true = sym c.is_name.ensures ∙ c.if-is_name.true in
+    c.at_name.ensures.ok c.args.reference.now c.in_ok-uri.ensures.ok (sym c.fragment_part-fragment.ensures.value) name
+
+pub returns-then-is_name-clause-fault : goal.returns-then-is_name-clause-fault
+returns-then-is_name-clause-fault c =
+    let name : is_name c.fragment_part-fragment.result.now ≡ true = sym c.is_name.ensures ∙ c.if-is_name.true in
+    c.at_name.ensures.fault c.args.reference.now c.in_ok-uri.ensures.ok (sym c.fragment_part-fragment.ensures.value) name
