@@ -57,6 +57,7 @@ fn named_by_identifier<'r>(layers: &Layers<'r>, uri: &str, name: &str) -> Option
 }
 
 // The entry that a name under a URI means: the one there, or else the one under the base of the place there.
+#[inline(always)]
 fn meaning<'r>(layers: &Layers<'r>, uri: &str, name: &str) -> Option<LocatedName<'r>>
     ensures { MatchOption result (anchor (world_in layers.now) uri.now name.now ≡ Err (not_named name.now)) (IsNamed (result_ok (anchor (world_in layers.now) uri.now name.now))) }
 {
@@ -84,6 +85,7 @@ fn anchor<'r>(
 
 // The place of a dynamic anchor of this name under a URI. None where the name means a plain one or nothing; a name with `/`
 // that means nothing is a fault.
+#[inline(always)]
 fn dynamic_under<'r>(
     alloc: Global,
     layers: &Layers<'r>,
@@ -185,6 +187,7 @@ fn at_value<'r>(contents: &'r Value, draft: Draft, resolver: Resolver<'r>) -> Re
 }
 
 // What a pointer leads to in the resource at a place, where `text` is the fragment behind its first `/`.
+#[inline(always)]
 fn at_pointer<'r>(
     alloc: Global,
     resolver: Resolver<'r>,
@@ -244,6 +247,7 @@ pub(crate) fn is_name(fragment: &str) -> bool
 }
 
 // What a name leads to in the resource that a resolver is at.
+#[inline(never)]
 pub(crate) fn at_name<'r>(
     alloc: Global,
     resolver: Resolver<'r>,

@@ -39,6 +39,7 @@ impl<'r> Layers<'r> {
     }
 
     /// The place that a URI means. A look-up for each layer, up to the first that has it; takes no memory.
+    #[inline(always)]
     pub(crate) fn resource(&self, uri: &str) -> Option<Located<'r>>
         ensures value { MatchOption result (means (world_in self.now) uri.now ≡ None) (IsMeant (means (world_in self.now) uri.now)) }
     {
@@ -56,6 +57,7 @@ impl<'r> Layers<'r> {
     }
 
     /// The place that an anchor names under a URI. A look-up for each layer, up to the first that has it; takes no memory.
+    #[inline(always)]
     pub(crate) fn named(&self, uri: &str, name: &str) -> Option<LocatedName<'r>>
         ensures value { MatchOption result (named (world_in self.now) uri.now name.now ≡ None) (IsNamed (named (world_in self.now) uri.now name.now)) }
     {
@@ -78,6 +80,7 @@ impl<'r> Layers<'r> {
     }
 
     /// The URI that a text means against a base, whatever was resolved before; without memory where it was.
+    #[inline(always)]
     pub(crate) fn resolve_uri(
         &self,
         alloc: Global,

@@ -27,6 +27,7 @@ pub struct LocatedName<'r> {
 }
 
 // The place of an entry.
+#[inline(always)]
 fn place_at<'r>(index: &'r Index<'r>, entry: &'r Entry) -> Option<Located<'r>>
     ensures { (p : Place) → IsEntryOf index.now entry.now p → MatchOption result ⊥ (λ l. IsLocated l p) }
 {
@@ -35,6 +36,7 @@ fn place_at<'r>(index: &'r Index<'r>, entry: &'r Entry) -> Option<Located<'r>>
 }
 
 /// The place that a URI means in the documents of an index. A look-up; takes no memory.
+#[inline(always)]
 pub(crate) fn resource_in<'r>(index: &'r Index<'r>, uri: &str) -> Option<Located<'r>>
     ensures value { MatchOption result (last_under uri.now (resources index.now) ≡ None) (IsMeant (option_map (λ e. e.1) (last_under uri.now (resources index.now)))) }
 {
@@ -67,6 +69,7 @@ pub(crate) fn is_resource_above(parents: &[&Index<'_>], uri: &str) -> bool
 }
 
 /// The place that an anchor names under a URI in the documents of an index. A look-up; takes no memory.
+#[inline(always)]
 pub(crate) fn named_in<'r>(index: &'r Index<'r>, uri: &str, name: &str) -> Option<LocatedName<'r>>
     ensures value { MatchOption result (last_named uri.now name.now (names index.now) ≡ None) (IsNamed (last_named uri.now name.now (names index.now))) }
 {

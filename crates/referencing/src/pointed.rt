@@ -171,6 +171,7 @@ fn step<'r, 't>(
 }
 
 // Token by token.
+#[inline(always)]
 fn walk_along<'r, 't>(
     alloc: Global,
     walk: Walk<'_, '_>,
@@ -198,6 +199,7 @@ pub struct Pointed<'r> {
 }
 
 // Token by token, from the value of a resource.
+#[inline(always)]
 fn walk_from<'r>(
     alloc: Global,
     walk: Walk<'_, '_>,
@@ -233,6 +235,7 @@ fn no_utf8(alloc: Global, pointer: &str) -> Error
 /// Refuses as `InvalidPercentEncoding` where the decoded bytes are no UTF-8, as `InvalidArrayIndex` and `PointerToNowhere` for
 /// the first part that leads nowhere, as `InvalidUri` for an identifier on the way that means no URI, and as `Memory`. Without a
 /// `%` no text is decoded.
+#[inline(always)]
 pub(crate) fn follow_pointer<'r>(
     alloc: Global,
     walk: Walk<'_, '_>,

@@ -81,6 +81,7 @@ impl<'r> Resolver<'r> {
     }
 
     // This resolver at a URI: the old base goes in front of the scope where the scope was empty or the base changes.
+    #[inline(always)]
     fn moved(&self, alloc: Global, uri: Rc<Uri>) -> Result<Resolver<'r>, AllocError>
         ensures resolver { IfOk result (λ r. resolver_of r ≡ moved (resolver_of self.now) uri.value) }
         ensures world { IfOk result (λ r. world_of r ≡ world_of self.now) }
