@@ -7,6 +7,7 @@ use crate::run::{RunError, run};
 use crate::sink::{MemorySink, Output, Sink};
 use crate::source::{Failed, Input, MemorySource, Source};
 use std::alloc::{AllocError, Global};
+use std::io::{self, ErrorKind, Read};
 use std::process::Abort;
 use std::test::Fail;
 
@@ -29,11 +30,12 @@ impl Source for Slow<'_> {
     }
 }
 
-// A source that fails once it gave so many bytes.
+// A source that gives a byte at a time, and fails once it gave so many: for ever, or once.
 #[derive(Drop)]
 struct FailsAfter<'a> {
     inner: MemorySource<'a>,
     left: usize,
+    is_for_ever: bool,
     failures: u64,
 }
 
@@ -46,13 +48,32 @@ impl Source for FailsAfter<'_> {
 
     fn read(&mut self, buffer: &mut [u8]) -> Result<usize, Failed> {
         if self.left == 0 {
+            self.left = if self.is_for_ever { 0 } else { usize::MAX };
             self.failures = self.failures.saturating_add(1);
             return Err(Failed);
         }
-        let room = buffer.len().min(self.left);
-        let n = self.inner.read(&mut buffer[..room])?;
-        self.left -= n.min(self.left);
-        Ok(n)
+        self.left -= 1;
+        let room = buffer.len().min(1);
+        self.inner.read(&mut buffer[..room])
+    }
+}
+
+// A reader that a signal interrupts before each read, the one at its end included.
+#[derive(Drop)]
+struct Pauses<'a> {
+    bytes: &'a [u8],
+    is_paused: bool,
+}
+
+impl Read for Pauses<'_> {
+    ghost remaining = { λ _. None };
+
+    fn read(&mut self, buffer: &mut [u8]) -> io::Result<usize> {
+        self.is_paused = !self.is_paused;
+        if self.is_paused {
+            return Err(io::Error::from(ErrorKind::Interrupted));
+        }
+        self.bytes.read(buffer)
     }
 }
 
@@ -842,20 +863,38 @@ fn reads_a_byte_at_a_time(rt: HostRuntime) -> Result<(), Fail> {
 }
 
 #[test]
-fn a_failed_read_writes_nothing(rt: HostRuntime) -> Result<(), Fail> {
-    for left in [0usize, 1, 20] {
-        let mut reader = FailsAfter {
-            inner: MemorySource::new(ROWS[0].request.as_bytes()),
-            left,
-            failures: 0,
-        };
+fn pauses_change_no_report(rt: HostRuntime) -> Result<(), Fail> {
+    for row in &ROWS[..4] {
+        let mut reader = Input::new(Pauses {
+            bytes: row.request.as_bytes(),
+            is_paused: false,
+        });
         let mut writer = MemorySink::new(rt.alloc());
-        assert_eq!(rt;
-            run(rt.alloc(), &mut reader, &mut writer),
-            Err(RunError::Read)
-        );
-        assert_eq!(rt; reader.failures, 1);
-        assert_eq!(rt; writer.bytes.len(), 0);
+        assert_eq!(rt; run(rt.alloc(), &mut reader, &mut writer), Ok(row.status));
+        assert_eq!(rt; writer.bytes.as_slice(), row.report.as_bytes());
+    }
+    Ok(())
+}
+
+// Whether a request, of which a read fails behind so many bytes, ends as one that failed, with nothing written and no other read.
+fn is_refused(alloc: Global, request: &str, left: usize, is_for_ever: bool) -> bool {
+    let mut reader = FailsAfter {
+        inner: MemorySource::new(request.as_bytes()),
+        left,
+        is_for_ever,
+        failures: 0,
+    };
+    let mut writer = MemorySink::new(alloc);
+    let answer = run(alloc, &mut reader, &mut writer);
+    answer == Err(RunError::Read) && reader.failures == 1 && writer.bytes.is_empty()
+}
+
+#[test]
+fn a_failed_read_writes_nothing(rt: HostRuntime) -> Result<(), Fail> {
+    let request = ROWS[0].request;
+    for left in 0..request.len() + 1 {
+        assert!(rt; is_refused(rt.alloc(), request, left, true));
+        assert!(rt; is_refused(rt.alloc(), request, left, false));
     }
     Ok(())
 }
