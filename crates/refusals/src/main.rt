@@ -8,6 +8,8 @@
 
 mod drafts;
 mod parts;
+mod registries;
+mod resolvers;
 mod stop;
 mod uris;
 mod vocabularies;
@@ -23,6 +25,7 @@ fn answer(alloc: Global, name: &str) -> Result<String, Stop> {
         Some(("parts", call)) => parts::answer(alloc, call),
         Some(("drafts", call)) => drafts::answer(alloc, call),
         Some(("vocabularies", call)) => vocabularies::answer(alloc, call),
+        Some(("registries", call)) => registries::answer(alloc, call),
         _ => Err(Stop::Wrong),
     }
 }

@@ -11,7 +11,7 @@ pub fn answer(alloc: Global, call: &str) -> Result<String, Stop> {
         "from_text" => named(alloc, "https://example.com/v"),
         "from_text known" => named(alloc, "https://json-schema.org/draft/2020-12/vocab/core"),
         "from_text invalid" => named(alloc, "a b"),
-        "add" => added(alloc, "https://example.com/w"),
+        "add" => added_first(alloc),
         "add known" => added(alloc, "https://json-schema.org/draft/2020-12/vocab/core"),
         "find" => found(alloc),
         _ => Err(Stop::Wrong),
@@ -47,6 +47,15 @@ fn is_one(set: &VocabularySet) -> bool {
         is_there = uri == "https://example.com/v";
     }
     count == 1 && is_there && !set.contains(&Vocabulary::Core)
+}
+
+fn added_first(alloc: Global) -> Result<String, Stop> {
+    let mut set = VocabularySet::new();
+    let vocabulary = before(Vocabulary::from_text(alloc, "https://example.com/v"))?;
+    match set.add(alloc, vocabulary) {
+        Ok(()) => after(format!(in alloc; "{set:?}")),
+        Err(error) => Err(refused(&error, set.custom().next().is_none())),
+    }
 }
 
 fn added(alloc: Global, text: &str) -> Result<String, Stop> {
