@@ -876,7 +876,7 @@ fn pauses_change_no_report(rt: HostRuntime) -> Result<(), Fail> {
     Ok(())
 }
 
-// Whether a request, of which a read fails behind so many bytes, ends as one that failed, with nothing written and no other read.
+// Whether a request, of which a read fails behind so many bytes, ends as one that failed, with nothing written and no other failure.
 fn is_refused(alloc: Global, request: &str, left: usize, is_for_ever: bool) -> bool {
     let mut reader = FailsAfter {
         inner: MemorySource::new(request.as_bytes()),
