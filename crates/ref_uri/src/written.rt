@@ -1,7 +1,7 @@
 //! The components of a reference, written as they are or in normal form (RFC 3986, 6.2.2 and 3.2.3).
-ghost use Rattle.std.specs.Prelude.{◌≡◌, ◌<◌, ◌∷◌, [], ◌++◌, true, map, take, drop, length, slice_index, ◌+◌, ◌≤◌, ◌==◌, string_bytes, OnOk, IsAscii};
+ghost use Rattle.std.specs.Prelude.{◌≡◌, ◌<◌, ◌∷◌, [], ◌++◌, true, false, map, take, drop, length, slice_index, ◌+◌, ◌≤◌, ◌==◌, string_bytes, OnOk, IsAscii};
 ghost use Rattle.std.specs.List.{position_or_len};
-ghost use Rattle.std.specs.Char.{is_ascii_hexdigit};
+ghost use Rattle.std.specs.Char.{is_ascii_hexdigit, to_ascii_lowercase};
 ghost use Rattle.ref_uri.specs.Characters.{begins_with_hex_digits, has_whole_triples};
 ghost use Rattle.ref_uri.specs.Authority.{is_authority, host_len};
 ghost use Rattle.ref_uri.specs.Normal.{hex_value, normal_triple, normal_encoded, normal_text, normal_host, normal_port_part, normal_authority};
@@ -61,11 +61,26 @@ fn push_ascii(buffer: &mut String, c: u8) -> Result<(), AllocError>
     buffer.push(char::from(c))
 }
 
-/// Appends a text in lower case.
+/// Whether a letter in upper case stands in a text.
+fn holds_upper(text: &[u8]) -> bool
+    ensures { result ≡ false → map to_ascii_lowercase text.now ≡ text.now }
+{
+    for c in text {
+        if c.is_ascii_uppercase() {
+            return true;
+        }
+    }
+    false
+}
+
+/// Appends a text in lower case: at once, where it is so already.
 fn push_lower(buffer: &mut String, run: &str) -> Result<(), AllocError>
     requires { IsAscii run.now }
     ensures { OnOk result (string_bytes buffer.new ≡ string_bytes buffer.old ++ map (in_case Case.Lower) run.now) }
 {
+    if !holds_upper(run.as_bytes()) {
+        return buffer.push_str(run);
+    }
     for c in run.as_bytes() {
         push_ascii(buffer, c.to_ascii_lowercase())?;
     }
