@@ -16,6 +16,7 @@ pub mod LawLemmas
 pub mod RestLemmas
 pub mod LengthsLemmas
 pub mod NormalLemmas
+pub mod PlainHost
 pub mod Induction
 pub mod AuthorityParts
 pub mod NormalTwice

@@ -1,11 +1,11 @@
 //! The components of a reference, written as they are or in normal form (RFC 3986, 6.2.2 and 3.2.3).
 ghost use Rattle.std.specs.Prelude.{◌≡◌, ◌<◌, ◌∷◌, [], ◌++◌, true, false, map, take, drop, length, slice_index, ◌+◌, ◌≤◌, ◌==◌, string_bytes, OnOk, IsAscii};
-ghost use Rattle.std.specs.List.{position_or_len};
+ghost use Rattle.std.specs.List.{list_all, position_or_len};
 ghost use Rattle.std.specs.Char.{is_ascii_hexdigit, to_ascii_lowercase};
 ghost use Rattle.ref_uri.specs.Characters.{begins_with_hex_digits, has_whole_triples};
 ghost use Rattle.ref_uri.specs.Authority.{is_authority, host_len};
 ghost use Rattle.ref_uri.specs.Normal.{hex_value, normal_triple, normal_encoded, normal_text, normal_host, normal_port_part, normal_authority};
-ghost use Rattle.ref_uri.specs.inner.Written.{in_case, written, written_scheme, written_authority};
+ghost use Rattle.ref_uri.specs.inner.Written.{in_case, is_plain_in_host, written, written_scheme, written_authority};
 
 use crate::blocks::holds;
 use crate::characters::is_unreserved;
@@ -216,12 +216,28 @@ fn push_port(buffer: &mut String, port: &str) -> Result<(), AllocError>
     buffer.push_str(port)
 }
 
-/// Appends `host [":" port]` in normal form: the host in lower case, and no `:` before an empty port.
+/// Whether a text is a host in normal form without a port, as far as its characters tell.
+fn is_plain_host(text: &[u8]) -> bool
+    ensures { result ≡ true → list_all is_plain_in_host text.now ≡ true }
+{
+    for c in text {
+        if matches!(*c, b'A'..=b'Z' | b'%' | b':' | b'[') {
+            return false;
+        }
+    }
+    true
+}
+
+/// Appends `host [":" port]` in normal form: the host in lower case, and no `:` before an empty port. A host that is so already is
+/// appended at once.
 fn push_host_and_port(buffer: &mut String, text: &str) -> Result<(), AllocError>
     requires ascii { IsAscii text.now }
     requires host { has_whole_triples (take (host_len text.now) text.now) ≡ true }
     ensures { OnOk result (string_bytes buffer.new ≡ string_bytes buffer.old ++ (normal_host (take (host_len text.now) text.now) ++ normal_port_part (drop (host_len text.now) text.now))) }
 {
+    if is_plain_host(text.as_bytes()) {
+        return buffer.push_str(text);
+    }
     let len = host_len(text.as_bytes());
     push_encoded(buffer, head(text, len), Case::Lower)?;
     push_port(buffer, tail(text, len))

@@ -1,6 +1,6 @@
 -- The text that stands for a component: the component itself, or its normal form.
-use Rattle.std.specs.Prelude.{ℕ, List, map}
-use Rattle.std.specs.Char.{to_ascii_lowercase}
+use Rattle.std.specs.Prelude.{ℕ, List, map, Bool, ◌||◌, not, ◌==◌}
+use Rattle.std.specs.Char.{is_ascii_uppercase, to_ascii_lowercase}
 use Rattle.ref_uri.specs.Normal.{normal_text, normal_authority}
 use Rattle.ref_uri.specs.declared.written.Case.{Case}
 use Rattle.ref_uri.specs.declared.written.Case.TheVariants.{AsItIs, Lower}
@@ -29,3 +29,7 @@ abbrev pub written_authority : Form → List ℕ → List ℕ
 written_authority Given = λ authority. authority
 written_authority Normal = normal_authority
 written_authority NormalTarget = normal_authority
+
+-- no letter in upper case, `%`, `:` or `[`
+abbrev pub is_plain_in_host : ℕ → Bool
+is_plain_in_host c = not (is_ascii_uppercase c || (c == 37) || (c == 58) || (c == 91))
