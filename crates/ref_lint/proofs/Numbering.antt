@@ -12,7 +12,7 @@ use Rattle.ref_world.specs.Places.{Place, places}
 use Rattle.ref_world.specs.Listing.{listed, listed_from, own_places}
 use Rattle.ref_index.specs.declared.places.Place.{Place as Listing}
 use Rattle.ref_index.specs.Listing.{listed_of}
-use Rattle.referencing.specs.Prepared.{own}
+use Rattle.ref_resolver.specs.Layered.{own}
 use Rattle.ref_lint.specs.declared.entry.Dangling.{Dangling}
 use Rattle.ref_lint.specs.Dangling.{dangling_from, dangling_at, numbered_from, dangling}
 use Rattle.ref_lint.specs.Entries.{IsEntryOf}

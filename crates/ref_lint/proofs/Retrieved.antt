@@ -9,7 +9,7 @@ use Rattle.ref_world.specs.World.{Document, Layer, World}
 use Rattle.ref_world.specs.Places.{Place, places}
 use Rattle.ref_world.specs.Fault.{Fault, Unretrievable}
 use Rattle.ref_world.specs.Lookup.{Resolver, Found, lookup}
-use Rattle.referencing.specs.Prepared.{own}
+use Rattle.ref_resolver.specs.Layered.{own}
 use Rattle.ref_lint.specs.declared.entry.Dangling.{Dangling}
 use Rattle.ref_lint.specs.Dangling.{DanglingReference, where_fault, dangling_from, dangling_at, numbered_from, dangling}
 use Rattle.ref_lint.specs.Entries.{IsEntryOf, IsUnretrievable}

@@ -7,7 +7,7 @@ use Rattle.ref_world.specs.World.{Layer, World}
 use Rattle.ref_world.specs.Places.{Place, places}
 use Rattle.ref_world.specs.Fault.{Fault}
 use Rattle.ref_world.specs.Lookup.{Found, lookup}
-use Rattle.referencing.specs.Prepared.{own}
+use Rattle.ref_resolver.specs.Layered.{own}
 
 -- a reference that leads nowhere: the number of its document, the path of its place there, its text, and the fault
 pub record DanglingReference : Type 0 where

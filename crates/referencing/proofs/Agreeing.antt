@@ -16,9 +16,9 @@ use Rattle.ref_world.proofs.Standing.{StandsAt, all_stand_where}
 use Rattle.ref_retrieve.specs.declared.error.Error.{Error}
 use Rattle.ref_retrieve.specs.declared.error.Error.TheVariants as error
 use Rattle.ref_retrieve.specs.Errors.{IsFaultOf}
-use Rattle.referencing.specs.declared.resolver.Resolved.{Resolved}
-use Rattle.referencing.specs.Prepared.{own}
-use Rattle.referencing.specs.Resolving.{found_of}
+use Rattle.ref_resolver.specs.declared.resolver.Resolved.{Resolved}
+use Rattle.ref_resolver.specs.Layered.{own}
+use Rattle.ref_resolver.specs.Resolving.{found_of}
 use Rattle.referencing.specs.Listed.{IsMemory, AnswersPlace}
 
 -- a place's value stands at its path, where the children of the document's places do

@@ -7,7 +7,8 @@ use Rattle.ref_world.specs.Places.{Place, places}
 use Rattle.ref_world.specs.Fault.{Unretrievable}
 use Rattle.ref_world.specs.Lookup.{Resolver, lookup}
 use Rattle.ref_world.proofs.References.{references_are_retrieved}
-use Rattle.referencing.specs.Prepared.{own, IsPrepared}
+use Rattle.ref_resolver.specs.Layered.{own}
+use Rattle.referencing.specs.Prepared.{IsPrepared}
 
 pub retrieved_of : (world : World) → IsPrepared world → (d : Document) (place : Place) (resolver : Resolver) (reference : List ℕ)
     → Contains (own world) d → Contains (places d) place → place.base ≡ Ok resolver.base → text_under (codes "$ref") place.value ≡ Some reference

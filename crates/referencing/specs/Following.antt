@@ -15,7 +15,7 @@ use Rattle.referencing.specs.declared.steps.Step.{Step}
 use Rattle.referencing.specs.declared.steps.Step.TheVariants as step
 use Rattle.referencing.specs.declared.steps.Followed.{Followed}
 use Rattle.referencing.specs.declared.steps.FollowError.{FollowError}
-use Rattle.referencing.specs.Resolving.{resolver_of}
+use Rattle.ref_resolver.specs.Resolving.{resolver_of}
 
 -- a step
 abbrev pub step_of : Step → world.Step

@@ -1,13 +1,6 @@
 pub mod Builder
-pub mod Located
-pub mod Layered
 pub mod Prepared
-pub mod Walking
-pub mod Resolving
-pub mod Scoped
 pub mod Following
 pub mod Answering
-pub mod Comparing
 pub mod MetaSchemas
 pub mod Listed
-pub mod Names

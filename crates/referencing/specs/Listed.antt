@@ -6,8 +6,8 @@ use Rattle.ref_world.specs.Places.{Place}
 use Rattle.ref_world.specs.Agreement.{IsAtOrBelow, IsReadAlike}
 use Rattle.ref_retrieve.specs.declared.error.Error.{Error}
 use Rattle.ref_retrieve.specs.declared.error.Error.TheVariants as error
-use Rattle.referencing.specs.declared.resolver.Resolved.{Resolved}
-use Rattle.referencing.specs.Resolving.{found_of}
+use Rattle.ref_resolver.specs.declared.resolver.Resolved.{Resolved}
+use Rattle.ref_resolver.specs.Resolving.{found_of}
 
 -- an error is want of memory
 abbrev pub IsMemory : Error → Type 0

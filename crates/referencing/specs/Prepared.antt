@@ -13,12 +13,8 @@ use Rattle.ref_world.specs.Pending.{given_of_builder}
 use Rattle.ref_retrieve.specs.declared.error.Error.{Error}
 use Rattle.ref_retrieve.specs.declared.error.Error.TheVariants as error
 use Rattle.ref_retrieve.specs.Retrieving.{retriever_of}
+use Rattle.ref_resolver.specs.Layered.{own}
 use Rattle.referencing.specs.Builder.{Builder}
-
--- the documents of the registry itself
-abbrev pub own : World → Layer
-own [] = []
-own (layer ∷ parents) = layer
 
 -- its own documents have no fault and no open want
 pub record IsPrepared (world : World) : Type 0 where

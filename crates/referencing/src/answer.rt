@@ -6,7 +6,6 @@ ghost use Rattle.referencing.specs.Following.{step_of, lent_last, followed_of};
 ghost use Rattle.referencing.specs.Answering.{copied_last, answer_of, Answers, IsFailureOf};
 
 use crate::builder::RegistryBuilder;
-use crate::resolver::Resolver;
 use crate::steps::{FollowError, Followed, Step, follow};
 use ref_draft::Draft;
 use ref_parts::list::List;
@@ -48,7 +47,7 @@ fn answered(followed: Followed<'_>) -> Result<Answer, AllocError>
     ensures { IfOk result (λ answer. answer_of answer ≡ followed_of followed.entry) }
 {
     let Followed { last, resolver } = followed;
-    let Resolver { base, scope, .. } = resolver;
+    let (base, scope) = resolver.into_parts();
     Ok(Answer {
         last: copied(last)?,
         base,

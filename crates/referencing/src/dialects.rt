@@ -1,43 +1,13 @@
 //! The vocabularies of schemas, by what their meta-schemas declare (2020-12 Core, 8.1.1 and 8.1.2).
-ghost use Rattle.std.specs.Prelude.{◌≡◌, IfOk, option_map};
+ghost use Rattle.std.specs.Prelude.{◌≡◌, IfOk};
 ghost use Rattle.serde_json.specs.View.{view};
-ghost use Rattle.ref_world.specs.Resources.{means};
-ghost use Rattle.ref_world.specs.Vocabularies.{find_vocabularies, find_vocabularies_at};
-ghost use Rattle.referencing.specs.Layered.{world_in};
-ghost use Rattle.referencing.specs.Resolving.{resolver_of, world_of};
+ghost use Rattle.ref_world.specs.Vocabularies.{find_vocabularies};
 
-use crate::layers::Layers;
 use crate::registry::Registry;
-use crate::resolver::Resolver;
 use ref_draft::Draft;
-use ref_vocabularies::{Dialect, VocabularySet, declared_or_default};
+use ref_vocabularies::VocabularySet;
 use serde_json::Value;
 use std::alloc::{AllocError, Global};
-
-impl<'r> Layers<'r> {
-    // The value that a URI means.
-    fn value_under(&self, uri: &str) -> Option<&'r Value>
-        ensures { option_map (λ v. view v.now) result ≡ option_map (λ p. p.value) (means (world_in self.now) uri.now) }
-    {
-        let place = self.resource(uri)?;
-        Some(place.value)
-    }
-
-    // The vocabularies of a schema that is read by a draft.
-    fn find_vocabularies(
-        &self,
-        alloc: Global,
-        draft: Draft,
-        contents: &Value,
-    ) -> Result<VocabularySet, AllocError>
-        ensures { IfOk result (λ set. set ≡ find_vocabularies (world_in self.now) draft (view contents.now)) }
-    {
-        match Dialect::of(alloc, draft, contents)? {
-            Dialect::Known(set) => Ok(set),
-            Dialect::MetaSchema(uri) => declared_or_default(alloc, self.value_under(uri.as_str())),
-        }
-    }
-}
 
 impl<'a> Registry<'a> {
     /// The vocabularies of a schema that is read by a draft (2020-12 Core, 8.1.1 and 8.1.2). The schema's own draft is that of
@@ -60,29 +30,5 @@ impl<'a> Registry<'a> {
         ensures value { IfOk result (λ set. set ≡ find_vocabularies self.now draft (view contents.now)) }
     {
         self.layers().find_vocabularies(alloc, draft, contents)
-    }
-}
-
-impl<'r> Resolver<'r> {
-    /// The vocabularies of a schema at this resolver's base, as [`Registry::find_vocabularies`] has them: those of the contents
-    /// where they are an object with a key `$schema`, of whatever value; else those of the value that the base means; and those
-    /// of the contents where it means none.
-    ///
-    /// Refused only for want of memory, which it takes as that call does; a look-up more.
-    pub fn find_vocabularies(
-        &self,
-        alloc: Global,
-        draft: Draft,
-        contents: &Value,
-    ) -> Result<VocabularySet, AllocError>
-        ensures value { IfOk result (λ set. set ≡ find_vocabularies_at (world_of self.now) (resolver_of self.now).base draft (view contents.now)) }
-    {
-        if contents.get("$schema").is_some() {
-            return self.layers.find_vocabularies(alloc, draft, contents);
-        }
-        match self.layers.value_under(self.base.as_str()) {
-            Some(value) => self.layers.find_vocabularies(alloc, draft, value),
-            None => self.layers.find_vocabularies(alloc, draft, contents),
-        }
     }
 }

@@ -7,18 +7,12 @@
 mod answer;
 mod builder;
 mod dialects;
-mod fragment;
 mod input;
 pub mod laws;
-mod layers;
-mod located;
 pub mod meta;
 mod places;
-mod pointed;
 mod prepare;
-mod recursive;
 mod registry;
-mod resolver;
 pub mod steps;
 mod written;
 
@@ -35,6 +29,7 @@ pub use ref_parts::{
     BorrowedKey, Iter, List, SmallMap, SortedTable, first_escape, parse_index, pointer,
     unescape_segment, write_escaped_str, write_index,
 };
+pub use ref_resolver::{Resolved, Resolver};
 pub use ref_retrieve::{DefaultRetriever, Error, MapRetriever, Reason, Retrieve, RetrieveError};
 pub use ref_uri::{
     ParseError, ResolveError, ResolveFault, Uri, UriError, UriFault, UriParseFault, UriRef,
@@ -43,7 +38,6 @@ pub use ref_vocabularies::{
     CustomIter, Dialect, Vocabulary, VocabularySet, declared_or_default, default_vocabularies,
 };
 pub use registry::Registry;
-pub use resolver::{Resolved, Resolver};
 pub use steps::{FollowError, Followed, Step, follow};
 
 /// The meaning of texts as URIs, and texts as they stand in fragments.

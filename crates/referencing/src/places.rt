@@ -10,15 +10,15 @@ ghost use Rattle.ref_world.specs.Listing.{own_places};
 ghost use Rattle.ref_world.specs.Lookup.{located};
 ghost use Rattle.ref_retrieve.specs.Errors.{IsFaultOf};
 ghost use Rattle.ref_index.specs.Listing.{listed_of};
-ghost use Rattle.referencing.specs.Prepared.{own};
-ghost use Rattle.referencing.specs.Resolving.{found_of, world_found};
+ghost use Rattle.ref_resolver.specs.Layered.{own};
+ghost use Rattle.ref_resolver.specs.Resolving.{found_of, world_found};
 ghost use Rattle.referencing.specs.Listed.{IsMemory, Agrees};
 
 use crate::registry::Registry;
-use crate::resolver::Resolved;
 use crate::written::reference_of;
 use ref_index::Place;
 use ref_parts::path::JsonPointerSegment;
+use ref_resolver::Resolved;
 use ref_retrieve::Error;
 use ref_uri::Uri;
 use serde_json::Value;

@@ -15,13 +15,13 @@ ghost use Rattle.ref_world.specs.Lookup.{Resolver as WorldResolver, lookup};
 ghost use Rattle.ref_retrieve.specs.Errors.{IsFaultOf};
 ghost use Rattle.ref_world.specs.Pending.{added, extended};
 ghost use Rattle.referencing.specs.Builder.{seen, addition, Adds, new_builder};
-ghost use Rattle.referencing.specs.Layered.{world_in};
-ghost use Rattle.referencing.specs.Prepared.{own, contains_resource};
+ghost use Rattle.ref_resolver.specs.Layered.{world_in, own};
+ghost use Rattle.referencing.specs.Prepared.{contains_resource};
 
 use crate::builder::{RegistryBuilder, above};
 use crate::input::IntoRegistryResource;
-use crate::layers::Layers;
 use ref_index::Index;
+use ref_resolver::Layers;
 use ref_retrieve::Error;
 use ref_uri::uri::from_str;
 use ref_uri::{Uri, UriFault, UriRef};
@@ -156,7 +156,7 @@ impl<'a> Registry<'a> {
         ensures value { IfOk result (λ found. found ≡ contains_resource self.now uri.now) }
     {
         match from_str(alloc, uri) {
-            Ok(uri) => Ok(self.layers().resource(uri.as_str()).is_some()),
+            Ok(uri) => Ok(self.layers().has_resource(uri.as_str())),
             Err(UriFault::Invalid(_)) => Ok(false),
             Err(UriFault::Memory(error)) => Err(error),
         }

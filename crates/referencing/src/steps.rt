@@ -2,18 +2,16 @@
 ghost use Rattle.std.specs.Prelude.{◌≡◌, ◌≤◌, [], map, length, IfOk, IfErr, Ok};
 ghost use Rattle.ref_world.specs.Follow as world;
 ghost use Rattle.ref_retrieve.specs.Errors.{IsFaultOf};
-ghost use Rattle.referencing.specs.Resolving.{resolver_of, world_of, found_of, world_found};
+ghost use Rattle.ref_resolver.specs.Resolving.{resolver_of, world_of, found_of, world_found};
 ghost use Rattle.referencing.specs.Following.{step_of, followed_of, IsStepFaultOf};
 
 use crate::registry::Registry;
-use crate::resolver::{Resolved, Resolver};
 use ref_draft::{Draft, ResourceRef};
-use ref_parts::list::List;
+use ref_resolver::{Resolved, Resolver};
 use ref_retrieve::Error;
 use ref_uri::Uri;
 use serde_json::Value;
 use std::alloc::{AllocError, Global};
-use std::rc::Rc;
 
 /// A step: a reference that is looked up, a `$recursiveRef`, or a resource that is entered, whose identifier changes the base.
 #[derive(Clone, Copy, Drop)]
@@ -79,11 +77,7 @@ impl<'a> Registry<'a> {
         ensures resolver { IfOk result (λ r. resolver_of r ≡ record { base = base; scope = [] }) }
         ensures world { IfOk result (λ r. world_of r ≡ self.now) }
     {
-        Ok(Resolver {
-            layers: self.layers(),
-            base: Rc::new(alloc, base)?,
-            scope: List::new(),
-        })
+        Resolver::new(alloc, self.layers(), base)
     }
 }
 

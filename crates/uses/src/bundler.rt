@@ -3,7 +3,7 @@ ghost use Rattle.std.specs.Prelude.{◌≡◌, ◌++◌, ◌∷◌, [], None, If
 ghost use Rattle.ref_uri.specs.Reference.{with_fragment};
 ghost use Rattle.ref_index.specs.Listing.{listed_of};
 ghost use Rattle.referencing.specs.Listed.{IsMemory};
-ghost use Rattle.referencing.specs.Prepared.{own};
+ghost use Rattle.ref_resolver.specs.Layered.{own};
 ghost use Rattle.uses.specs.Bundling.{refers_to, referred_by};
 
 use referencing::{Error, Place, Registry, Uri};

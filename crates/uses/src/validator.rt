@@ -4,7 +4,7 @@ ghost use Rattle.serde_json.specs.View.{view};
 ghost use Rattle.ref_world.specs.Fault.{Fault};
 ghost use Rattle.ref_world.specs.Lookup.{Found};
 ghost use Rattle.ref_retrieve.specs.Errors.{IsFaultOf};
-ghost use Rattle.referencing.specs.Resolving.{resolver_of, world_of, found_of, world_found};
+ghost use Rattle.ref_resolver.specs.Resolving.{resolver_of, world_of, found_of, world_found};
 ghost use Rattle.uses.specs.Uses.{referred};
 
 use referencing::{Error, Resolved, Resolver};

@@ -8,7 +8,7 @@ use Rattle.ref_world.specs.Lookup.{Found}
 use Rattle.ref_world.specs.Listing.{Listed}
 use Rattle.ref_retrieve.specs.declared.error.Error.{Error}
 use Rattle.ref_retrieve.specs.Errors.{SaysFault}
-use Rattle.referencing.specs.Prepared.{own}
+use Rattle.ref_resolver.specs.Layered.{own}
 use Rattle.ref_lint.specs.declared.entry.Dangling.{Dangling}
 use Rattle.ref_lint.specs.Dangling.{DanglingReference, dangling_from}
 use Rattle.ref_lint.specs.Entries.{IsEntryOf}

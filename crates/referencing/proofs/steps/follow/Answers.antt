@@ -1,6 +1,6 @@
 use Rattle.std.proofs.Common.{map, arith, ◌∙◌}
 use Rattle.ref_world.specs.Follow.{followed}
-use Rattle.referencing.specs.Resolving.{resolver_of}
+use Rattle.ref_resolver.specs.Resolving.{resolver_of}
 use Rattle.referencing.specs.Following.{followed_of, step_of}
 use Rattle.referencing.proofs.Stepping.{followed_start, followed_next, followed_stop, followed_end}
 use Rattle.referencing.proofs.steps.follow.Goals as goal

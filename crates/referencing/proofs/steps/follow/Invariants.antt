@@ -1,6 +1,6 @@
 use Rattle.std.proofs.Common.{◌≡◌, map, drop}
 use Rattle.ref_world.specs.Follow.{followed, followed_from}
-use Rattle.referencing.specs.Resolving.{world_of}
+use Rattle.ref_resolver.specs.Resolving.{world_of}
 use Rattle.referencing.specs.Following.{step_of, followed_of}
 use Rattle.referencing.proofs.steps.follow.Given as goal
 

@@ -3,7 +3,7 @@ use Rattle.std.proofs.lemmas.List.{take_more}
 use Rattle.std.specs.List.{filter_map}
 use Rattle.std.specs.Option.{option_to_list}
 use Rattle.ref_index.specs.Listing.{listed_of}
-use Rattle.referencing.specs.Prepared.{own}
+use Rattle.ref_resolver.specs.Layered.{own}
 use Rattle.uses.specs.Bundling.{refers_to}
 use Rattle.uses.proofs.Bundling.{one_more}
 use Rattle.uses.proofs.bundler.referred_documents.Goals as goal

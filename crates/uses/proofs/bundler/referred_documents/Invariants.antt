@@ -1,7 +1,7 @@
 use Rattle.std.proofs.Common.{◌≡◌, map, take}
 use Rattle.std.specs.List.{filter_map}
 use Rattle.ref_index.specs.Listing.{listed_of}
-use Rattle.referencing.specs.Prepared.{own}
+use Rattle.ref_resolver.specs.Layered.{own}
 use Rattle.uses.specs.Bundling.{refers_to}
 use Rattle.uses.proofs.bundler.referred_documents.Given as goal
 

@@ -3,7 +3,7 @@ use Rattle.std.specs.Prelude.{IfOk, IfErr}
 use Rattle.ref_parts.specs.Segment.{part_of}
 use Rattle.ref_world.specs.Lookup.{located}
 use Rattle.ref_retrieve.specs.Errors.{IsFaultOf}
-use Rattle.referencing.specs.Resolving.{found_of}
+use Rattle.ref_resolver.specs.Resolving.{found_of}
 use Rattle.referencing.proofs.Agreeing.{leads_here, answers_place}
 use Rattle.referencing.proofs.registry.Registry.locate.Goals as goal
 

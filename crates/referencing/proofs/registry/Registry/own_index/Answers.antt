@@ -2,7 +2,7 @@ use Rattle.std.proofs.Common.{◌∙◌, ap, subst}
 use Rattle.std.specs.List.{Contains}
 use Rattle.ref_world.specs.World.{Document}
 use Rattle.ref_world.specs.Agreement.{ChildrenStand}
-use Rattle.referencing.specs.Prepared.{own}
+use Rattle.ref_resolver.specs.Layered.{own}
 use Rattle.referencing.proofs.registry.Registry.own_index.Goals as goal
 
 pub returns-clause-children : goal.returns-clause-children

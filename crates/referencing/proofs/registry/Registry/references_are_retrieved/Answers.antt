@@ -1,6 +1,7 @@
 use Rattle.std.proofs.Common.{subst}
 use Rattle.ref_world.proofs.AtOrBelow.{place_has_base}
-use Rattle.referencing.specs.Prepared.{own, IsPrepared}
+use Rattle.ref_resolver.specs.Layered.{own}
+use Rattle.referencing.specs.Prepared.{IsPrepared}
 use Rattle.referencing.proofs.Retrieved.{retrieved_of}
 use Rattle.referencing.proofs.registry.Registry.references_are_retrieved.Goals as goal
 

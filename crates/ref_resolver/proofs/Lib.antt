@@ -1,0 +1,11 @@
+pub mod Locating
+pub mod Faults
+pub mod Numbers
+pub mod Pointing
+pub mod Scoping
+pub mod Naming
+pub mod Fragments
+pub mod Lookups
+pub mod Showing
+pub mod Names
+pub mod Undecoded

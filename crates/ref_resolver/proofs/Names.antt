@@ -1,0 +1,34 @@
+-- What a name leads to, by what its URI means.
+use Rattle.std.proofs.Common.{◌≡◌, ℕ, Bool, true, false, List, [], ◌∷◌, Option, Some, None, Ok, eqb, refl, ap, ◌∙◌}
+use Rattle.std.specs.Prelude.{not, is_some}
+use Rattle.ref_uri.specs.Targets.{target, fragment_part}
+use Rattle.ref_world.specs.World.{World}
+use Rattle.ref_world.specs.Places.{Place}
+use Rattle.ref_world.specs.Resources.{means}
+use Rattle.ref_world.specs.Lookup.{Resolver, lookup, at_fragment, moved}
+use Rattle.ref_resolver.specs.Names.{is_name, at_name}
+use Rattle.ref_resolver.proofs.Lookups.{lookup_present}
+
+named_by : (w : World) (r : Resolver) (p : Place) (c : ℕ) (text : List ℕ) (t : Bool) → eqb c 47 ≡ t → not t ≡ true → at_fragment w r p (c ∷ text) ≡ at_name w r (c ∷ text)
+named_by w r p c text false is name = rw is refl
+named_by w r p c text true is name = cc
+
+named_there : (w : World) (r : Resolver) (p : Place) (name : List ℕ) → is_name name ≡ true → at_fragment w r p name ≡ at_name w r name
+named_there w r p [] name = cc
+named_there w r p (c ∷ text) name = named_by w r p c text (eqb c 47) refl name
+
+-- a URI that means no place
+pub absent_of : (found : Option Place) → is_some found ≡ false → found ≡ None
+absent_of None is = refl
+absent_of (Some p) is = cc
+
+present_of : (found : Option Place) → is_some found ≡ true → (p : Place) × (found ≡ Some p)
+present_of None is = cc
+present_of (Some p) is = (p, refl)
+
+-- a name under one that means a place
+pub lookup_named : (w : World) (r : Resolver) (reference uri name : List ℕ) → target r.base reference ≡ Ok uri → is_some (means w uri) ≡ true → fragment_part reference ≡ name → is_name name ≡ true
+    → lookup w r reference ≡ at_name w (moved r uri) name
+lookup_named w r reference uri name is there fragment named =
+    let (p, some) = present_of (means w uri) there in
+    lookup_present w r reference uri p is some ∙ ap (at_fragment w (moved r uri) p) fragment ∙ named_there w (moved r uri) p name named

@@ -1,0 +1,62 @@
+-- A dynamic anchor, URI by URI of the dynamic scope.
+use Rattle.std.proofs.Common.{◌≡◌, ℕ, Bool, List, [], ◌∷◌, ◌++◌, filter, flat_map, Some, None, Result, Ok, Err, refl, sym, ap, ◌∙◌}
+use Rattle.std.specs.List.{last_or}
+use Rattle.std.specs.Option.{unwrap_or}
+use Rattle.std.proofs.lemmas.List.Elements.{filter-append}
+use Rattle.ref_world.specs.Fault.{Fault}
+use Rattle.ref_world.specs.Anchors.{Named}
+use Rattle.ref_world.specs.Lookup.{Resolver, Found, fault_of, entry_of, is_dynamic, unless_fault, entry_found, outermost}
+use Rattle.serde_json.specs.View.{view}
+use Rattle.ref_resolver.specs.declared.located.Located.{Located}
+use Rattle.ref_resolver.specs.Located.{IsLocated}
+use Rattle.ref_resolver.specs.Resolving.{under_uri}
+use Rattle.ref_resolver.specs.Scoped.{dynamic_of}
+
+abbrev Meaning : Type 0
+Meaning = List ℕ × Result Named Fault
+
+abbrev dynamic : List ℕ × Named → Bool
+dynamic e = is_dynamic e.1.kind
+
+-- the answer, where this entry was found last and these meanings are to come
+abbrev pub from_here : Resolver → List ℕ × Named → List Meaning → Result Found Fault
+from_here r e meanings = unless_fault (flat_map fault_of meanings) (entry_found r (outermost e (flat_map entry_of meanings)))
+
+last_from : {X : Type 0} (x e : X) (xs : List X) → unwrap_or (last_or (Some x) xs) e ≡ unwrap_or (last_or None xs) x
+last_from x e [] = refl
+last_from x e (y ∷ xs) = last_from y e xs ∙ sym (last_from y x xs)
+
+no_fault : {A : Type 0} (faults : List Fault) (x y : A) → unless_fault faults (Ok x) ≡ Ok y → (faults ≡ []) × (x ≡ y)
+no_fault [] x y is = (refl, cc)
+no_fault (f ∷ faults) x y is = cc
+
+first_fault : {A B : Type 0} (faults more : List Fault) (x : A) (answer : Result B Fault) (fault : Fault) → unless_fault faults (Ok x) ≡ Err fault → unless_fault (faults ++ more) answer ≡ Err fault
+first_fault [] more x answer fault is = cc
+first_fault (f ∷ faults) more x answer fault is = (let same : f ≡ fault = cc in ap (λ g. Err g) same)
+
+-- a meaning that is no fault: the entries go on with its dynamic one
+goes_on : (r : Resolver) (e : List ℕ × Named) (m : Meaning) (more : List Meaning) (es : List (List ℕ × Named)) → dynamic_of m ≡ Ok es
+    → from_here r e (m ∷ more) ≡ unless_fault (flat_map fault_of more) (entry_found r (unwrap_or (last_or None (es ++ filter dynamic (flat_map entry_of more))) e))
+goes_on r e m more es is =
+    let (none, same) = no_fault (fault_of m) (filter dynamic (entry_of m)) es is in
+    ap (λ faults. unless_fault (faults ++ flat_map fault_of more) (entry_found r (outermost e (entry_of m ++ flat_map entry_of more)))) none
+    ∙ ap (λ xs. unless_fault (flat_map fault_of more) (entry_found r (unwrap_or (last_or None xs) e)))
+    (filter-append dynamic (entry_of m) (flat_map entry_of more) ∙ ap (λ xs. xs ++ filter dynamic (flat_map entry_of more)) same)
+
+-- without a dynamic one the entry stays
+pub passed : (r : Resolver) (e : List ℕ × Named) (m : Meaning) (more : List Meaning) → dynamic_of m ≡ Ok [] → from_here r e (m ∷ more) ≡ from_here r e more
+passed r e m more is = goes_on r e m more [] is
+
+-- and with one it is taken
+pub taken : (r : Resolver) (e x : List ℕ × Named) (m : Meaning) (more : List Meaning) → dynamic_of m ≡ Ok (x ∷ []) → from_here r e (m ∷ more) ≡ from_here r x more
+taken r e x m more is =
+    goes_on r e m more (x ∷ []) is ∙ ap (λ y. unless_fault (flat_map fault_of more) (entry_found r y)) (last_from x e (filter dynamic (flat_map entry_of more)))
+
+-- a fault ends it
+pub ended : (r : Resolver) (e : List ℕ × Named) (m : Meaning) (more : List Meaning) (fault : Fault) → dynamic_of m ≡ Err fault → from_here r e (m ∷ more) ≡ Err fault
+ended r e m more fault is =
+    first_fault (fault_of m) (flat_map fault_of more) (filter dynamic (entry_of m)) (entry_found r (outermost e (entry_of m ++ flat_map entry_of more))) fault is
+
+-- the entry's place, as the code has it
+pub found_under : (r : Resolver) (uri : List ℕ) (n : Named) (l : Located) → IsLocated l n.place → entry_found r (uri, n) ≡ under_uri r uri l.entry.now.draft (view l.value.now)
+found_under r uri n l at = ap (λ d. under_uri r uri d n.place.value) (sym at.draft) ∙ ap (λ v. under_uri r uri l.entry.now.draft v) (sym at.value)

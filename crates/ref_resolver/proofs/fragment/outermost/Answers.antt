@@ -1,0 +1,75 @@
+use Rattle.std.proofs.Common.{◌≡◌, ℕ, List, Result, [], IfOk, IfErr, Ok, sym, ap, subst, ◌∙◌, rules}
+use Rattle.ref_world.specs.Fault.{Fault}
+use Rattle.ref_world.specs.Anchors.{Named, anchor}
+use Rattle.ref_world.specs.Lookup.{by_scope, in_scope}
+use Rattle.ref_retrieve.specs.Errors.{IsFaultOf}
+use Rattle.ref_resolver.specs.Resolving.{resolver_of, world_of, found_of}
+use Rattle.ref_resolver.specs.Scoped.{dynamic_under}
+use Rattle.ref_resolver.proofs.Faults.{fault_as}
+use Rattle.ref_resolver.proofs.Scoping.{from_here, passed, taken, ended, found_under}
+use Rattle.ref_resolver.proofs.fragment.outermost.Goals as goal
+
+pub returns-in_err-found-clause-fault : goal.returns-in_err-found-clause-fault
+returns-in_err-found-clause-fault c = λ n is.
+    let r = resolver_of c.args.resolver.now in
+    let w = world_of c.args.resolver.now in
+    let name = c.args.name.now in
+    let (m, same, at) = c.loop-outer.invariant.0 n is in
+    let e : List ℕ × Named = (c.loop-outer.uri.now, m) in
+    let here : List ℕ × Result Named Fault = (c.in-Some.outer.now, anchor w c.in-Some.outer.now name) in
+    let more = in_scope w name c.next.new.self in
+    let left = ap (λ xs. from_here r e (in_scope w name xs)) c.in-Some.ensures.steps in
+    let uri : c.as_str.result.now ≡ c.in-Some.outer.now = search rules in
+    let fault = fault_as (dynamic_under w c.in-Some.outer.now name) (by_scope r n (in_scope w name r.scope)) c.in_err-found.field-0.0 (λ f is. same ∙ left ∙ ended r e here more f is) (subst (λ u. IsFaultOf (dynamic_under w u name) c.in_err-found.field-0.0) uri c.in_err-found.ensures.fault) in
+    search rules
+
+pub loop-outer-preserved-in-Some-2 : goal.loop-outer-preserved-in-Some-2
+loop-outer-preserved-in-Some-2 c = (
+  λ n is.
+      let r = resolver_of c.args.resolver.now in
+      let w = world_of c.args.resolver.now in
+      let name = c.args.name.now in
+      let (m, same, at) = c.loop-outer.invariant.0 n is in
+      let e : List ℕ × Named = (c.loop-outer.uri.now, m) in
+      let here : List ℕ × Result Named Fault = (c.in-Some.outer.now, anchor w c.in-Some.outer.now name) in
+      let more = in_scope w name c.next.new.self in
+      let left = ap (λ xs. from_here r e (in_scope w name xs)) c.in-Some.ensures.steps in
+      let uri : c.as_str.result.now ≡ c.in-Some.outer.now = search rules in
+      let (d, dynamic, there) = rw (c.in-Some-2.is, uri) at c.in_ok-found.ensures.ok in
+      (d, same ∙ left ∙ taken r e (c.in-Some.outer.now, d) here more dynamic, there),
+  tt,
+  tt,
+)
+
+pub loop-outer-preserved : goal.loop-outer-preserved
+loop-outer-preserved c = (
+  λ n is.
+      let r = resolver_of c.args.resolver.now in
+      let w = world_of c.args.resolver.now in
+      let name = c.args.name.now in
+      let (m, same, at) = c.loop-outer.invariant.0 n is in
+      let e : List ℕ × Named = (c.loop-outer.uri.now, m) in
+      let here : List ℕ × Result Named Fault = (c.in-Some.outer.now, anchor w c.in-Some.outer.now name) in
+      let more = in_scope w name c.next.new.self in
+      let left = ap (λ xs. from_here r e (in_scope w name xs)) c.in-Some.ensures.steps in
+      let none : dynamic_under w c.in-Some.outer.now name ≡ Ok [] = search rules in
+      (m, same ∙ left ∙ passed r e here more none, at),
+  tt,
+  tt,
+)
+
+pub returns-clause-ok : goal.returns-clause-ok
+returns-clause-ok c = λ n is.
+    let r = resolver_of c.args.resolver.now in
+    let w = world_of c.args.resolver.now in
+    let (m, same, at) = c.loop-outer.invariant.0 n is in
+    let left = ap (λ xs. from_here r (c.loop-outer.uri.now, m) (in_scope w c.args.name.now xs)) c.in-None.ensures.steps.0 in
+    subst (λ a. IfOk c.under_uri.result (λ found. a ≡ Ok (found_of found))) (sym (same ∙ left ∙ found_under r c.loop-outer.uri.now m c.loop-outer.place at)) c.under_uri.ensures.ok
+
+pub returns-clause-fault : goal.returns-clause-fault
+returns-clause-fault c = λ n is.
+    let r = resolver_of c.args.resolver.now in
+    let w = world_of c.args.resolver.now in
+    let (m, same, at) = c.loop-outer.invariant.0 n is in
+    let left = ap (λ xs. from_here r (c.loop-outer.uri.now, m) (in_scope w c.args.name.now xs)) c.in-None.ensures.steps.0 in
+    subst (λ a. IfErr c.under_uri.result (IsFaultOf a)) (sym (same ∙ left ∙ found_under r c.loop-outer.uri.now m c.loop-outer.place at)) c.under_uri.ensures.fault

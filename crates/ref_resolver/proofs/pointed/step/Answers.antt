@@ -1,0 +1,22 @@
+use Rattle.std.proofs.Common.{◌≡◌, ◌∷◌, ◌++◌, [], None, if◌then◌else◌, rules, subst}
+use Rattle.serde_json.specs.View.{view}
+use Rattle.ref_draft.specs.Schema.{identifier}
+use Rattle.ref_draft.specs.Children.{is_object}
+use Rattle.ref_draft.specs.ScanSteps.{scan}
+use Rattle.ref_draft.specs.Views.{part_of}
+use Rattle.ref_world.specs.Places.{base_within}
+use Rattle.ref_world.specs.Fault.{as_invalid_uri}
+use Rattle.ref_retrieve.specs.Errors.{IsFaultOf}
+use Rattle.ref_resolver.specs.Walking.{along_of}
+use Rattle.ref_resolver.proofs.Pointing.{step_refused}
+use Rattle.ref_resolver.proofs.pointed.step.Goals as goal
+
+pub returns-in_err-uri-clause-fault : goal.returns-in_err-uri-clause-fault
+returns-in_err-uri-clause-fault c =
+    let along = along_of c.args.along in
+    let v = view c.in_ok-segment.value.now in
+    let part = part_of c.in_ok-segment.segment in
+    let since : c.push.new.self ≡ along.since ++ part ∷ [] = search rules in
+    let refused = subst (λ s. IsFaultOf (as_invalid_uri (base_within along.base (if scan c.args.walk.draft (is_object v) s then identifier c.args.walk.draft v else None))) c.in_err-uri.field-0.0) since c.in_err-uri.ensures.fault in
+    let fault = step_refused c.args.walk.draft c.args.walk.pointer.now along (view c.args.along.value.now) c.args.token.now (part, v) c.in_err-uri.field-0.0 c.in_ok-segment.ensures.ok refused in
+    search rules

@@ -1,0 +1,7 @@
+pub mod Located
+pub mod Layered
+pub mod Walking
+pub mod Resolving
+pub mod Scoped
+pub mod Comparing
+pub mod Names

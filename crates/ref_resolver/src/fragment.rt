@@ -1,0 +1,275 @@
+//! What a fragment means in the resource at a place: the resource, what a pointer leads to, or what an anchor names.
+ghost use Rattle.std.specs.Prelude.{◌≡◌, [], ◌∷◌, List, ℕ, IfOk, IfErr, MatchOption, None, Ok};
+ghost use Rattle.std.specs.Result.{result_ok};
+ghost use Rattle.serde_json.specs.View.{view};
+ghost use Rattle.ref_world.specs.Anchors.{Named, anchor, named_by_identifier, not_named};
+ghost use Rattle.ref_world.specs.Fault.{not_retrieved};
+ghost use Rattle.ref_world.specs.Lookup.{by_scope, in_scope, named_found, at_fragment};
+ghost use Rattle.ref_world.specs.Places.{Place};
+ghost use Rattle.ref_retrieve.specs.Errors.{IsFaultOf};
+ghost use Rattle.ref_index.specs.Found.{kind_of};
+ghost use Rattle.ref_index.specs.Retrieval.{SaysOrMemory};
+ghost use Rattle.ref_resolver.specs.Layered.{world_in};
+ghost use Rattle.ref_resolver.specs.Located.{IsLocated, IsNamed};
+ghost use Rattle.ref_resolver.specs.Resolving.{resolver_of, world_of, found_of, world_found, at_pointer, under_uri};
+ghost use Rattle.ref_resolver.specs.Names.{is_name, at_name};
+ghost use Rattle.ref_resolver.specs.Scoped.{dynamic_under, IsDynamicUnder};
+
+use crate::layers::Layers;
+use crate::located::{Located, LocatedName};
+use crate::pointed::{Pointed, Walk, follow_pointer};
+use crate::resolver::{Resolved, Resolver};
+use ref_draft::{Draft, ResourceRef};
+use ref_index::reference::shared;
+use ref_retrieve::{Error, Reason, RetrieveError};
+use ref_uri::Uri;
+use serde_json::Value;
+use std::alloc::{AllocError, Global};
+use std::rc::Rc;
+
+// The fault of a name that nothing has: a name with `/` in it is none.
+fn not_named(alloc: Global, name: &str) -> Error
+    ensures { SaysOrMemory (not_named name.now) result }
+{
+    let anchor = match String::from_str(alloc, name) {
+        Ok(anchor) => anchor,
+        Err(error) => return Error::Memory(error),
+    };
+    if name.as_bytes().contains(&b'/') {
+        Error::InvalidAnchor { anchor }
+    } else {
+        Error::NoSuchAnchor { anchor }
+    }
+}
+
+// The entry of a name under the base of the place that a URI means, where that place has an identifier.
+fn named_by_identifier<'r>(layers: &Layers<'r>, uri: &str, name: &str) -> Option<LocatedName<'r>>
+    ensures { MatchOption result (named_by_identifier (world_in layers.now) uri.now name.now ≡ None) (IsNamed (named_by_identifier (world_in layers.now) uri.now name.now)) }
+{
+    let place = layers.resource(uri)?;
+    if ResourceRef::new(place.value, place.entry.draft)
+        .id()
+        .is_none()
+    {
+        return None;
+    }
+    layers.named(place.entry.base.as_str(), name)
+}
+
+// The entry that a name under a URI means: the one there, or else the one under the base of the place there.
+#[inline(always)]
+fn meaning<'r>(layers: &Layers<'r>, uri: &str, name: &str) -> Option<LocatedName<'r>>
+    ensures { MatchOption result (anchor (world_in layers.now) uri.now name.now ≡ Err (not_named name.now)) (IsNamed (result_ok (anchor (world_in layers.now) uri.now name.now))) }
+{
+    match layers.named(uri, name) {
+        Some(found) => Some(found),
+        None => named_by_identifier(layers, uri, name),
+    }
+}
+
+// The same, or its fault.
+fn anchor<'r>(
+    alloc: Global,
+    layers: &Layers<'r>,
+    uri: &str,
+    name: &str,
+) -> Result<LocatedName<'r>, Error>
+    ensures ok { IfOk result (λ n. IsNamed (result_ok (anchor (world_in layers.now) uri.now name.now)) n) }
+    ensures fault { IfErr result (IsFaultOf (anchor (world_in layers.now) uri.now name.now)) }
+{
+    match meaning(layers, uri, name) {
+        Some(found) => Ok(found),
+        None => Err(not_named(alloc, name)),
+    }
+}
+
+// The place of a dynamic anchor of this name under a URI. None where the name means a plain one or nothing; a name with `/`
+// that means nothing is a fault.
+#[inline(always)]
+fn dynamic_under<'r>(
+    alloc: Global,
+    layers: &Layers<'r>,
+    uri: &str,
+    name: &str,
+) -> Result<Option<Located<'r>>, Error>
+    ensures ok { IfOk result (IsDynamicUnder (world_in layers.now) uri.now name.now) }
+    ensures fault { IfErr result (IsFaultOf (dynamic_under (world_in layers.now) uri.now name.now)) }
+{
+    match meaning(layers, uri, name) {
+        Some(found) if found.is_dynamic => Ok(Some(found.place)),
+        Some(_) => Ok(None),
+        None if name.as_bytes().contains(&b'/') => Err(not_named(alloc, name)),
+        None => Ok(None),
+    }
+}
+
+// A handle of a URI: of the other one where that is the same, and else of a copy.
+fn handle(alloc: Global, uri: &Uri, other: &Rc<Uri>) -> Result<Rc<Uri>, AllocError>
+    ensures { IfOk result (λ u. u.value ≡ uri.now) }
+{
+    if uri.as_str() == other.as_str() {
+        return Ok(other.clone()?);
+    }
+    shared(alloc, uri.clone()?)
+}
+
+// A place that an anchor names under a URI: the place's identifier is resolved against that URI.
+fn under_uri<'r>(
+    alloc: Global,
+    resolver: &Resolver<'r>,
+    uri: &Uri,
+    place: Located<'r>,
+) -> Result<Resolved<'r>, Error>
+    ensures ok { IfOk result (λ found. under_uri (resolver_of resolver.now) uri.now place.entry.entry.now.draft (view place.entry.value.now) ≡ Ok (found_of found)) }
+    ensures world { IfOk result (λ found. world_found found ≡ world_of resolver.now) }
+    ensures fault { IfErr result (IsFaultOf (under_uri (resolver_of resolver.now) uri.now place.entry.entry.now.draft (view place.entry.value.now))) }
+{
+    let draft = place.entry.draft;
+    let base = match ResourceRef::new(place.value, draft).id() {
+        Some(id) => resolver.layers.resolve_uri(alloc, uri.borrow(), id)?,
+        None => handle(alloc, uri, &place.entry.base)?,
+    };
+    Ok(at_value(place.value, draft, resolver.with_base(base)?))
+}
+
+// The place of the outermost dynamic anchor of a name in the dynamic scope, or else the place that was found first (2020-12
+// Core, 8.2.3.2). A look-up for each URI of the scope.
+fn outermost<'r>(
+    alloc: Global,
+    resolver: &Resolver<'r>,
+    name: &str,
+    first: Located<'r>,
+) -> Result<Resolved<'r>, Error>
+    ensures ok { (n : Named) → IsLocated first.entry n.place → IfOk result (λ found. by_scope (resolver_of resolver.now) n (in_scope (world_of resolver.now) name.now (resolver_of resolver.now).scope) ≡ Ok (found_of found)) }
+    ensures world { IfOk result (λ found. world_found found ≡ world_of resolver.now) }
+    ensures fault { (n : Named) → IsLocated first.entry n.place → IfErr result (IsFaultOf (by_scope (resolver_of resolver.now) n (in_scope (world_of resolver.now) name.now (resolver_of resolver.now).scope))) }
+{
+    let mut uri: &Uri = &resolver.base;
+    let mut place = first;
+    for outer in &resolver.scope {
+        if let Some(found) = dynamic_under(alloc, &resolver.layers, outer.as_str(), name)? {
+            uri = outer;
+            place = found;
+        }
+    }
+    under_uri(alloc, resolver, uri, place)
+}
+
+// What a name leads to that an anchor has: a plain one to its place, a dynamic one by the dynamic scope.
+fn named_found<'r>(
+    alloc: Global,
+    resolver: Resolver<'r>,
+    name: &str,
+    found: LocatedName<'r>,
+) -> Result<Resolved<'r>, Error>
+    ensures ok { (n : Named) → n.name ≡ name.now → kind_of found.entry.is_dynamic ≡ n.kind → IsLocated found.entry.place n.place → IfOk result (λ f. named_found (world_of resolver.entry) (resolver_of resolver.entry) n n.kind ≡ Ok (found_of f)) }
+    ensures world { IfOk result (λ f. world_found f ≡ world_of resolver.entry) }
+    ensures fault { (n : Named) → n.name ≡ name.now → kind_of found.entry.is_dynamic ≡ n.kind → IsLocated found.entry.place n.place → IfErr result (IsFaultOf (named_found (world_of resolver.entry) (resolver_of resolver.entry) n n.kind)) }
+{
+    let place = found.place;
+    if found.is_dynamic {
+        outermost(alloc, &resolver, name, place)
+    } else {
+        Ok(at_value(place.value, place.entry.draft, resolver))
+    }
+}
+
+// A value of a resource that a resolver is at.
+fn at_value<'r>(contents: &'r Value, draft: Draft, resolver: Resolver<'r>) -> Resolved<'r>
+    ensures found { found_of result ≡ record { value = view contents.now; draft = draft; resolver = resolver_of resolver.entry } }
+    ensures world { world_found result ≡ world_of resolver.entry }
+{
+    Resolved {
+        contents,
+        resolver,
+        draft,
+    }
+}
+
+// What a pointer leads to in the resource at a place, where `text` is the fragment behind its first `/`.
+#[inline(always)]
+fn at_pointer<'r>(
+    alloc: Global,
+    resolver: Resolver<'r>,
+    place: Located<'r>,
+    pointer: &str,
+    text: &str,
+) -> Result<Resolved<'r>, Error>
+    ensures ok { IfOk result (λ found. at_pointer (resolver_of resolver.entry) place.entry.entry.now.draft pointer.now (view place.entry.value.now) text.now ≡ Ok (found_of found)) }
+    ensures world { IfOk result (λ found. world_found found ≡ world_of resolver.entry) }
+    ensures fault { IfErr result (IsFaultOf (at_pointer (resolver_of resolver.entry) place.entry.entry.now.draft pointer.now (view place.entry.value.now) text.now)) }
+{
+    let draft = place.entry.draft;
+    let Resolver {
+        layers,
+        base,
+        scope,
+    } = resolver;
+    let walk = Walk {
+        layers,
+        draft,
+        pointer,
+    };
+    let Pointed { value, base } = follow_pointer(alloc, walk, base, place.value, text)?;
+    let resolver = Resolver {
+        layers,
+        base,
+        scope,
+    };
+    Ok(at_value(value, draft, resolver))
+}
+
+// What a fragment means in the resource at a place that a resolver is at.
+pub(crate) fn at_fragment<'r>(
+    alloc: Global,
+    resolver: Resolver<'r>,
+    place: Located<'r>,
+    fragment: &str,
+) -> Result<Resolved<'r>, Error>
+    ensures ok { (p : Place) → IsLocated place.entry p → IfOk result (λ f. at_fragment (world_of resolver.entry) (resolver_of resolver.entry) p fragment.now ≡ Ok (found_of f)) }
+    ensures world { IfOk result (λ f. world_found f ≡ world_of resolver.entry) }
+    ensures fault { (p : Place) → IsLocated place.entry p → IfErr result (IsFaultOf (at_fragment (world_of resolver.entry) (resolver_of resolver.entry) p fragment.now)) }
+{
+    if fragment.is_empty() {
+        return Ok(at_value(place.value, place.entry.draft, resolver));
+    }
+    if let Some(text) = fragment.strip_prefix('/') {
+        return at_pointer(alloc, resolver, place, fragment, text);
+    }
+    at_name(alloc, resolver, fragment)
+}
+
+// Whether a fragment is a name.
+pub(crate) fn is_name(fragment: &str) -> bool
+    ensures { result ≡ is_name fragment.now }
+{
+    !matches!(fragment.as_bytes(), [] | [b'/', ..])
+}
+
+// What a name leads to in the resource that a resolver is at.
+#[inline(never)]
+pub(crate) fn at_name<'r>(
+    alloc: Global,
+    resolver: Resolver<'r>,
+    name: &str,
+) -> Result<Resolved<'r>, Error>
+    ensures ok { IfOk result (λ f. at_name (world_of resolver.entry) (resolver_of resolver.entry) name.now ≡ Ok (found_of f)) }
+    ensures world { IfOk result (λ f. world_found f ≡ world_of resolver.entry) }
+    ensures fault { IfErr result (IsFaultOf (at_name (world_of resolver.entry) (resolver_of resolver.entry) name.now)) }
+{
+    let found = anchor(alloc, &resolver.layers, resolver.base.as_str(), name)?;
+    named_found(alloc, resolver, name, found)
+}
+
+// The fault of a URI that means no place: nothing is retrieved any more.
+pub(crate) fn not_retrieved(alloc: Global, uri: &Uri) -> Error
+    ensures { SaysOrMemory (not_retrieved uri.now) result }
+{
+    match String::from_str(alloc, uri.as_str()) {
+        Ok(uri) => Error::Unretrievable {
+            uri,
+            source: RetrieveError::Refused(Reason::NotSupported),
+        },
+        Err(error) => Error::Memory(error),
+    }
+}

@@ -1,0 +1,99 @@
+//! The documents that references lead into, layer by layer.
+ghost use Rattle.std.specs.Prelude.{◌≡◌, ◌∷◌, map, IfOk, IfErr, IfSome, MatchOption, IsSome, is_some, None, Ok};
+ghost use Rattle.std.specs.List.{Contains};
+ghost use Rattle.ref_uri.specs.Targets.{against};
+ghost use Rattle.ref_world.specs.Resources.{means};
+ghost use Rattle.ref_world.specs.Anchors.{named};
+ghost use Rattle.ref_world.specs.Cached.{pairs};
+ghost use Rattle.ref_world.specs.Fault.{as_invalid_uri};
+ghost use Rattle.ref_retrieve.specs.Errors.{IsFaultOf};
+ghost use Rattle.ref_resolver.specs.Located.{IsMeant, IsNamed};
+ghost use Rattle.ref_resolver.specs.Layered.{world_in, own};
+
+use crate::located::{
+    Located, LocatedName, is_resource_above, named_above, named_in, resolved_above, resource_above,
+    resource_in,
+};
+use ref_index::Index;
+use ref_index::reference::shared;
+use ref_retrieve::Error;
+use ref_uri::uri::resolve_against;
+use ref_uri::{Uri, UriRef};
+use std::alloc::Global;
+use std::rc::Rc;
+
+/// The indexes of a registry's own documents and of its parents', nearest first, which resolvers borrow.
+#[derive(Clone, Copy, Drop)]
+pub struct Layers<'r> {
+    own: &'r Index<'r>,
+    parents: &'r [&'r Index<'r>],
+}
+
+impl<'r> Layers<'r> {
+    /// An index in front of those of parents, of which the nearest stands first. Takes no memory.
+    pub fn new(own: &'r Index<'r>, parents: &'r [&'r Index<'r>]) -> Layers<'r>
+        ensures value { world_in result ≡ own.now ∷ map (λ p. p.now) parents.now }
+    {
+        Layers { own, parents }
+    }
+
+    /// The place that a URI means. A look-up for each layer, up to the first that has it; takes no memory.
+    #[inline(always)]
+    pub(crate) fn resource(&self, uri: &str) -> Option<Located<'r>>
+        ensures value { MatchOption result (means (world_in self.now) uri.now ≡ None) (IsMeant (means (world_in self.now) uri.now)) }
+    {
+        match resource_in(self.own, uri) {
+            Some(place) => Some(place),
+            None => resource_above(self.parents, uri),
+        }
+    }
+
+    /// Whether a URI means a place. A look-up for each layer, up to the first that has it; takes no memory.
+    pub fn has_resource(&self, uri: &str) -> bool
+        ensures value { result ≡ is_some (means (world_in self.now) uri.now) }
+    {
+        self.own.resource(uri).is_some() || is_resource_above(self.parents, uri)
+    }
+
+    /// The place that an anchor names under a URI. A look-up for each layer, up to the first that has it; takes no memory.
+    #[inline(always)]
+    pub(crate) fn named(&self, uri: &str, name: &str) -> Option<LocatedName<'r>>
+        ensures value { MatchOption result (named (world_in self.now) uri.now name.now ≡ None) (IsNamed (named (world_in self.now) uri.now name.now)) }
+    {
+        match named_in(self.own, uri, name) {
+            Some(place) => Some(place),
+            None => named_above(self.parents, uri, name),
+        }
+    }
+
+    /// The URI that a text means against a base, where that was resolved when the documents were prepared. A look-up for each
+    /// layer, up to the first that has it; takes no memory.
+    pub fn resolved_uri(&self, base: &UriRef<'_>, uri: &str) -> Option<&'r Rc<Uri>>
+        ensures held { Contains (pairs (own (world_in self.now))) (base.now, uri.now) → IsSome result }
+        ensures value { IfSome result (λ u. against base.now uri.now ≡ Ok u.now.value) }
+    {
+        match self.own.resolved(base.as_str(), uri) {
+            Some(uri) => Some(uri),
+            None => resolved_above(self.parents, base.as_str(), uri),
+        }
+    }
+
+    /// The URI that a text means against a base (RFC 3986, 5.2), in normal form, whatever was resolved before; without memory
+    /// where it was. Refuses as `InvalidUri` a base without a scheme and a text that is no URI reference, and as `Memory`.
+    #[inline(always)]
+    pub fn resolve_uri(
+        &self,
+        alloc: Global,
+        base: UriRef<'_>,
+        uri: &str,
+    ) -> Result<Rc<Uri>, Error>
+        ensures ok { IfOk result (λ u. against base.entry uri.now ≡ Ok u.value) }
+        ensures fault { IfErr result (IsFaultOf (as_invalid_uri (against base.entry uri.now))) }
+    {
+        if let Some(uri) = self.resolved_uri(&base, uri) {
+            return Ok(uri.clone()?);
+        }
+        let uri = resolve_against(alloc, base, uri)?;
+        Ok(shared(alloc, uri)?)
+    }
+}

@@ -1,0 +1,257 @@
+//! The walk along the pointer of a reference's fragment (RFC 6901), with the base URI along it.
+ghost use Rattle.std.specs.Prelude.{◌≡◌, ◌∷◌, ◌++◌, [], IfOk, IfErr, IfSome, option_map, ok_or, Ok, None, if◌then◌else◌};
+ghost use Rattle.serde_json.specs.View.{view};
+ghost use Rattle.ref_parts.specs.Pointer.{tokens};
+ghost use Rattle.ref_draft.specs.Views.{part_of};
+ghost use Rattle.ref_draft.specs.Schema.{identifier};
+ghost use Rattle.ref_draft.specs.Children.{is_object};
+ghost use Rattle.ref_draft.specs.ScanSteps.{scan};
+ghost use Rattle.ref_world.specs.Places.{base_within};
+ghost use Rattle.ref_world.specs.Pointers as world;
+ghost use Rattle.ref_world.specs.Fault.{PointerToNowhere, InvalidArrayIndex, InvalidPercentEncoding, as_invalid_uri};
+ghost use Rattle.ref_retrieve.specs.Errors.{IsFaultOf};
+ghost use Rattle.ref_index.specs.Retrieval.{SaysOrMemory};
+ghost use Rattle.ref_resolver.specs.Walking.{along_of, stepped, leads_to, pointed_to};
+
+use crate::layers::Layers;
+use percent_encoding::{DecodeError, percent_decode};
+use ref_draft::{Draft, ResourceRef, Segment, Segments};
+use ref_parts::escape::unescape_segment;
+use ref_retrieve::Error;
+use ref_uri::Uri;
+use serde_json::Value;
+use std::alloc::{AllocError, Global};
+use std::rc::Rc;
+
+/// A value on the way of a pointer, with the base there and the parts since it last changed.
+#[derive(Drop)]
+pub struct Along<'r, 't> {
+    pub value: &'r Value,
+    pub base: Rc<Uri>,
+    pub since: Segments<'t>,
+}
+
+/// How a pointer is walked: the documents whose resolved URIs serve, the draft of the resource, and the pointer's text, which
+/// faults tell.
+#[derive(Clone, Copy, Drop)]
+pub struct Walk<'r, 'w> {
+    pub layers: Layers<'r>,
+    pub draft: Draft,
+    pub pointer: &'w str,
+}
+
+// A fault with the text of the pointer.
+fn to_nowhere(alloc: Global, pointer: &str) -> Error
+    ensures { SaysOrMemory (PointerToNowhere pointer.now) result }
+{
+    match String::from_str(alloc, pointer) {
+        Ok(pointer) => Error::PointerToNowhere { pointer },
+        Err(error) => Error::Memory(error),
+    }
+}
+
+// A fault with the texts of the pointer and of the part that is no index.
+fn no_index(alloc: Global, pointer: &str, token: &str) -> Error
+    ensures { SaysOrMemory (InvalidArrayIndex pointer.now token.now) result }
+{
+    let pointer = match String::from_str(alloc, pointer) {
+        Ok(pointer) => pointer,
+        Err(error) => return Error::Memory(error),
+    };
+    match String::from_str(alloc, token) {
+        Ok(index) => Error::InvalidArrayIndex { pointer, index },
+        Err(error) => Error::Memory(error),
+    }
+}
+
+// Decimal digits, behind a `+` or not, of a number that a `usize` holds.
+fn index_of(part: &str) -> Option<usize>
+    ensures { result ≡ world.index_of part.now }
+{
+    part.parse::<usize>().ok()
+}
+
+// What a look-up found, or the fault of a pointer that leads nowhere.
+fn found<'r>(alloc: Global, pointer: &str, value: Option<&'r Value>) -> Result<&'r Value, Error>
+    ensures ok { IfOk result (λ v. ok_or (option_map (λ v. view v.now) value.entry) (PointerToNowhere pointer.now) ≡ Ok (view v.now)) }
+    ensures fault { IfErr result (IsFaultOf (ok_or (option_map (λ v. view v.now) value.entry) (PointerToNowhere pointer.now))) }
+{
+    match value {
+        Some(value) => Ok(value),
+        None => Err(to_nowhere(alloc, pointer)),
+    }
+}
+
+// The index that a token is in an array.
+fn index_in(alloc: Global, pointer: &str, token: &str) -> Result<usize, Error>
+    ensures ok { IfOk result (λ i. ok_or (world.index_of token.now) (InvalidArrayIndex pointer.now token.now) ≡ Ok i) }
+    ensures fault { IfErr result (IsFaultOf (ok_or (world.index_of token.now) (InvalidArrayIndex pointer.now token.now))) }
+{
+    match index_of(token) {
+        Some(index) => Ok(index),
+        None => Err(no_index(alloc, pointer, token)),
+    }
+}
+
+// The part of a path that a token is, and the value that it leads to.
+fn step_into<'r, 't>(
+    alloc: Global,
+    pointer: &str,
+    value: &'r Value,
+    token: &'t str,
+) -> Result<(Segment<'t>, &'r Value), Error>
+    ensures ok { IfOk result (λ s. world.step_into pointer.now (view value.now) token.now ≡ Ok (part_of s.0, view s.1.now)) }
+    ensures fault { IfErr result (IsFaultOf (world.step_into pointer.now (view value.now) token.now)) }
+{
+    if value.is_array() {
+        let index = index_in(alloc, pointer, token)?;
+        let item = found(alloc, pointer, value.get(index))?;
+        return Ok((Segment::Index(index), item));
+    }
+    let key = unescape_segment(alloc, token)?;
+    let member = found(alloc, pointer, value.get(key.as_str()))?;
+    Ok((Segment::Key(key), member))
+}
+
+// The identifier of a value, where the parts since the last change are accepted at it.
+fn accepted_id<'v>(draft: Draft, since: &Segments<'_>, value: &'v Value) -> Option<&'v str>
+    ensures { option_map (λ text. text.now) result ≡ (if scan draft (is_object (view value.now)) since.now then identifier draft (view value.now) else None) }
+{
+    let id = ResourceRef::new(value, draft).id()?;
+    if draft.rebases(since, value) {
+        Some(id)
+    } else {
+        None
+    }
+}
+
+// The base at a value: its identifier, where the parts since the last change are accepted at it, against the base.
+fn base_at(
+    alloc: Global,
+    walk: Walk<'_, '_>,
+    base: &Rc<Uri>,
+    since: &Segments<'_>,
+    value: &Value,
+) -> Result<Rc<Uri>, Error>
+    ensures ok { IfOk result (λ u. base_within base.now.value (if scan walk.entry.draft (is_object (view value.now)) since.now then identifier walk.entry.draft (view value.now) else None) ≡ Ok u.value) }
+    ensures fault { IfErr result (IsFaultOf (as_invalid_uri (base_within base.now.value (if scan walk.entry.draft (is_object (view value.now)) since.now then identifier walk.entry.draft (view value.now) else None)))) }
+{
+    match accepted_id(walk.draft, since, value) {
+        Some(id) => walk.layers.resolve_uri(alloc, base.borrow(), id),
+        None => Ok(base.clone()?),
+    }
+}
+
+// One token further.
+fn step<'r, 't>(
+    alloc: Global,
+    walk: Walk<'_, '_>,
+    along: Along<'r, 't>,
+    token: &'t str,
+) -> Result<Along<'r, 't>, Error>
+    ensures ok { IfOk result (λ a. stepped walk.entry.draft walk.entry.pointer.now (along_of along.entry) (view along.entry.value.now) token.now ≡ Ok (view a.value.now, along_of a)) }
+    ensures fault { IfErr result (IsFaultOf (stepped walk.entry.draft walk.entry.pointer.now (along_of along.entry) (view along.entry.value.now) token.now)) }
+{
+    let Along {
+        value,
+        base,
+        mut since,
+    } = along;
+    let (segment, value) = step_into(alloc, walk.pointer, value, token)?;
+    since.push(segment)?;
+    let uri = base_at(alloc, walk, &base, &since, value)?;
+    if uri.as_str() != base.as_str() {
+        since = Segments::new(alloc);
+    }
+    Ok(Along {
+        value,
+        base: uri,
+        since,
+    })
+}
+
+// Token by token.
+#[inline(always)]
+fn walk_along<'r, 't>(
+    alloc: Global,
+    walk: Walk<'_, '_>,
+    along: Along<'r, 't>,
+    text: &'t str,
+) -> Result<Along<'r, 't>, Error>
+    ensures ok { IfOk result (λ a. world.walked_along walk.entry.draft walk.entry.pointer.now (along_of along.entry) (view along.entry.value.now) (tokens text.now) ≡ Ok (view a.value.now, along_of a)) }
+    ensures fault { IfErr result (IsFaultOf (world.walked_along walk.entry.draft walk.entry.pointer.now (along_of along.entry) (view along.entry.value.now) (tokens text.now))) }
+{
+    let mut along = along;
+    let mut rest = text;
+    while let Some((token, more)) = rest.split_once('/') {
+        along = step(alloc, walk, along, token)?;
+        rest = more;
+    }
+    step(alloc, walk, along, rest)
+}
+
+/// The value that a pointer's text leads to from the value of a resource, with the base there: what stands behind the
+/// fragment's first `/` is percent-decoded as a whole, and then split (RFC 6901, 6).
+#[derive(Drop)]
+pub struct Pointed<'r> {
+    pub value: &'r Value,
+    pub base: Rc<Uri>,
+}
+
+// Token by token, from the value of a resource.
+#[inline(always)]
+fn walk_from<'r>(
+    alloc: Global,
+    walk: Walk<'_, '_>,
+    base: Rc<Uri>,
+    value: &'r Value,
+    text: &str,
+) -> Result<Pointed<'r>, Error>
+    ensures ok { IfOk result (λ p. leads_to walk.entry.draft walk.entry.pointer.now base.value (view value.now) (tokens text.now) ≡ Ok (view p.value.now, p.base.value)) }
+    ensures fault { IfErr result (IsFaultOf (leads_to walk.entry.draft walk.entry.pointer.now base.value (view value.now) (tokens text.now))) }
+{
+    let along = Along {
+        value,
+        base,
+        since: Segments::new(alloc),
+    };
+    let Along { value, base, .. } = walk_along(alloc, walk, along, text)?;
+    Ok(Pointed { value, base })
+}
+
+// The fault of a pointer whose triples make no UTF-8.
+fn no_utf8(alloc: Global, pointer: &str) -> Error
+    ensures { SaysOrMemory (InvalidPercentEncoding pointer.now) result }
+{
+    match String::from_str(alloc, pointer) {
+        Ok(pointer) => Error::InvalidPercentEncoding { pointer },
+        Err(error) => Error::Memory(error),
+    }
+}
+
+/// The value that a pointer leads to from the value of a resource, with the base there (RFC 6901, 3, 4 and 6): `text` is what
+/// stands behind the fragment's first `/`.
+///
+/// Refuses as `InvalidPercentEncoding` where the decoded bytes are no UTF-8, as `InvalidArrayIndex` and `PointerToNowhere` for
+/// the first part that leads nowhere, as `InvalidUri` for an identifier on the way that means no URI, and as `Memory`. Without a
+/// `%` no text is decoded.
+#[inline(always)]
+pub(crate) fn follow_pointer<'r>(
+    alloc: Global,
+    walk: Walk<'_, '_>,
+    base: Rc<Uri>,
+    value: &'r Value,
+    text: &str,
+) -> Result<Pointed<'r>, Error>
+    ensures ok { IfOk result (λ p. pointed_to walk.entry.draft walk.entry.pointer.now base.value (view value.now) text.now ≡ Ok (view p.value.now, p.base.value)) }
+    ensures fault { IfErr result (IsFaultOf (pointed_to walk.entry.draft walk.entry.pointer.now base.value (view value.now) text.now)) }
+{
+    if !text.as_bytes().contains(&b'%') {
+        return walk_from(alloc, walk, base, value, text);
+    }
+    match percent_decode(text.as_bytes()).decode_utf8(alloc) {
+        Ok(decoded) => walk_from(alloc, walk, base, value, decoded.as_str()),
+        Err(DecodeError::OutOfMemory) => Err(Error::Memory(AllocError)),
+        Err(DecodeError::Utf8(_)) => Err(no_utf8(alloc, walk.pointer)),
+    }
+}

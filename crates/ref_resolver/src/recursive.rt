@@ -1,0 +1,47 @@
+//! Recursive references (2019-09 Core, 8.2.4.2).
+ghost use Rattle.std.specs.Prelude.{◌≡◌, IfOk, IfErr, Ok};
+ghost use Rattle.serde_json.specs.View.{view};
+ghost use Rattle.ref_world.specs.Recursive.{is_marked, lookup_recursive};
+ghost use Rattle.ref_retrieve.specs.Errors.{IsFaultOf};
+ghost use Rattle.ref_resolver.specs.Resolving.{resolver_of, world_of, found_of, world_found};
+
+use crate::resolver::{Resolved, Resolver};
+use ref_retrieve::Error;
+use serde_json::Value;
+use std::alloc::Global;
+
+// Whether a value is an object whose `$recursiveAnchor` is true.
+fn is_marked(value: &Value) -> bool
+    ensures { result ≡ is_marked (view value.now) }
+{
+    match value.get("$recursiveAnchor") {
+        Some(mark) => mark.as_bool() == Some(true),
+        None => false,
+    }
+}
+
+impl<'r> Resolver<'r> {
+    /// Where `$recursiveRef` leads: to the resource that the base means, or, where `$recursiveAnchor` is true there, to the
+    /// outermost of the dynamic scope, inner to outer, up to which all have it (2019-09 Core, 8.2.4.2).
+    ///
+    /// Refuses as [`Resolver::lookup`] does for `#` and for the URIs of the scope, up to the first that means another resource.
+    /// A look-up for each URI of the scope; no value is copied.
+    pub fn lookup_recursive_ref(&self, alloc: Global) -> Result<Resolved<'r>, Error>
+        ensures ok { IfOk result (λ found. lookup_recursive (world_of self.now) (resolver_of self.now) ≡ Ok (found_of found)) }
+        ensures world { IfOk result (λ found. world_found found ≡ world_of self.now) }
+        ensures fault { IfErr result (IsFaultOf (lookup_recursive (world_of self.now) (resolver_of self.now))) }
+    {
+        let mut resolved = self.lookup(alloc, "#")?;
+        if !is_marked(resolved.contents()) {
+            return Ok(resolved);
+        }
+        for uri in &self.scope {
+            let outer = self.lookup(alloc, uri.as_str())?;
+            if !is_marked(outer.contents()) {
+                return Ok(resolved);
+            }
+            resolved = outer;
+        }
+        Ok(resolved)
+    }
+}

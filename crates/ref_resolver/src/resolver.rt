@@ -1,0 +1,288 @@
+//! Where references lead from a base URI.
+ghost use Rattle.std.specs.Prelude.{◌≡◌, ℕ, List, true, [], ◌++◌, codes, if◌then◌else◌, IfOk, IfErr, MatchOption, Ok, None};
+ghost use Rattle.std.specs.Fmt.{WritesOnOk};
+ghost use Rattle.std.specs.List.{join_by};
+ghost use Rattle.std.specs.Result.{result_ok};
+ghost use Rattle.serde_json.specs.View.{view};
+ghost use Rattle.ref_uri.specs.Targets.{against, target, fragment_part};
+ghost use Rattle.ref_world.specs.Fault.{as_invalid_uri};
+ghost use Rattle.ref_draft.specs.Views.{resource_ref};
+ghost use Rattle.ref_world.specs.Lookup.{moved, in_subresource, lookup};
+ghost use Rattle.ref_retrieve.specs.Errors.{IsFaultOf};
+ghost use Rattle.ref_resolver.specs.Layered.{world_in};
+ghost use Rattle.ref_resolver.specs.Resolving.{resolver_of, world_of, found_of, world_found};
+ghost use Rattle.ref_resolver.specs.Names.{is_name};
+
+use crate::fragment::{at_fragment, at_name, is_name, not_retrieved};
+use crate::layers::Layers;
+use ref_draft::{Draft, ResourceRef};
+use ref_index::reference::{fragment_part, uri_part};
+use ref_parts::list::List;
+use ref_retrieve::Error;
+use ref_uri::{Uri, UriRef};
+use serde_json::Value;
+use std::alloc::{AllocError, Global};
+use std::fmt;
+use std::rc::Rc;
+
+/// Where a lookup starts from: a registry, a base URI, and the dynamic scope, which is the URIs passed so far, inner to outer
+/// (2020-12 Core, 7.1).
+#[derive(Drop)]
+pub struct Resolver<'r> {
+    pub(crate) layers: Layers<'r>,
+    pub(crate) base: Rc<Uri>,
+    pub(crate) scope: List<Uri>,
+}
+
+impl<'r> Resolver<'r> {
+    /// A resolver over layers at a base URI, with an empty dynamic scope. The URI need not mean a place. Takes memory for a handle.
+    pub fn new(alloc: Global, layers: Layers<'r>, base: Uri) -> Result<Resolver<'r>, AllocError>
+        ensures resolver { IfOk result (λ r. resolver_of r ≡ record { base = base; scope = [] }) }
+        ensures world { IfOk result (λ r. world_of r ≡ world_in layers.entry) }
+    {
+        Ok(Resolver {
+            layers,
+            base: Rc::new(alloc, base)?,
+            scope: List::new(),
+        })
+    }
+
+    /// The base URI and the dynamic scope, inner to outer. Takes no memory.
+    pub fn into_parts(self) -> (Rc<Uri>, List<Uri>)
+        ensures base { result.0.value ≡ (resolver_of self.entry).base }
+        ensures scope { result.1 ≡ (resolver_of self.entry).scope }
+    {
+        (self.base, self.scope)
+    }
+
+    /// The base URI. Takes no memory.
+    pub fn base_uri(&self) -> &Rc<Uri>
+        ensures value { result.now.value ≡ (resolver_of self.now).base }
+    {
+        &self.base
+    }
+
+    /// The URIs passed so far, inner to outer. Takes no memory.
+    pub fn dynamic_scope(&self) -> &List<Uri>
+        ensures value { result.now ≡ (resolver_of self.now).scope }
+    {
+        &self.scope
+    }
+
+    /// The URI that a text means against a base, as [`Layers::resolve_uri`] gives it.
+    pub fn resolve_uri(&self, alloc: Global, base: UriRef<'_>, uri: &str) -> Result<Rc<Uri>, Error>
+        ensures ok { IfOk result (λ u. against base.entry uri.now ≡ Ok u.value) }
+        ensures fault { IfErr result (IsFaultOf (as_invalid_uri (against base.entry uri.now))) }
+    {
+        self.layers.resolve_uri(alloc, base, uri)
+    }
+
+    // The URI that a reference points into.
+    fn target(&self, alloc: Global, reference: &str) -> Result<Rc<Uri>, Error>
+        ensures ok { IfOk result (λ u. target (resolver_of self.now).base reference.now ≡ Ok u.value) }
+        ensures fault { IfErr result (IsFaultOf (as_invalid_uri (target (resolver_of self.now).base reference.now))) }
+    {
+        if reference.starts_with('#') {
+            return Ok(self.base.clone()?);
+        }
+        self.layers
+            .resolve_uri(alloc, self.base.borrow(), uri_part(reference))
+    }
+
+    // This resolver with another base.
+    pub(crate) fn with_base(&self, base: Rc<Uri>) -> Result<Resolver<'r>, AllocError>
+        ensures resolver { IfOk result (λ r. resolver_of r ≡ record (resolver_of self.now) { base = base.value }) }
+        ensures world { IfOk result (λ r. world_of r ≡ world_of self.now) }
+    {
+        Ok(Resolver {
+            layers: self.layers,
+            base,
+            scope: self.scope.clone()?,
+        })
+    }
+
+    // This resolver at a URI: the old base goes in front of the scope where the scope was empty or the base changes.
+    #[inline(always)]
+    fn moved(&self, alloc: Global, uri: Rc<Uri>) -> Result<Resolver<'r>, AllocError>
+        ensures resolver { IfOk result (λ r. resolver_of r ≡ moved (resolver_of self.now) uri.value) }
+        ensures world { IfOk result (λ r. world_of r ≡ world_of self.now) }
+    {
+        let scope = if self.scope.is_empty() || uri.as_str() != self.base.as_str() {
+            self.scope.push_front(alloc, self.base.clone()?)?
+        } else {
+            self.scope.clone()?
+        };
+        Ok(Resolver {
+            layers: self.layers,
+            base: uri,
+            scope,
+        })
+    }
+
+    /// The resolver in a resource: its identifier, where it has one, changes the base and nothing else (2020-12 Core, 8.2.1).
+    /// Refuses as `InvalidUri` for an identifier that means no URI, and as `Memory`.
+    pub fn in_subresource(
+        &self,
+        alloc: Global,
+        subresource: ResourceRef<'_>,
+    ) -> Result<Resolver<'r>, Error>
+        ensures ok { IfOk result (λ r. in_subresource (resolver_of self.now) (resource_ref subresource.entry).draft (resource_ref subresource.entry).contents ≡ Ok (resolver_of r)) }
+        ensures world { IfOk result (λ r. world_of r ≡ world_of self.now) }
+        ensures fault { IfErr result (IsFaultOf (as_invalid_uri (in_subresource (resolver_of self.now) (resource_ref subresource.entry).draft (resource_ref subresource.entry).contents))) }
+    {
+        let base = match subresource.id() {
+            Some(id) => self.layers.resolve_uri(alloc, self.base.borrow(), id)?,
+            None => self.base.clone()?,
+        };
+        Ok(self.with_base(base)?)
+    }
+
+    /// Where a reference leads (2020-12 Core, 8.2.3): what stands before its last `#` means a place by its URI, against the
+    /// base, and what follows it means the resource there, what a pointer leads to in it, or what an anchor names, a dynamic
+    /// one by the dynamic scope. Nothing is retrieved.
+    ///
+    /// Refuses as `InvalidUri` for a text, or an identifier on the way, that means no URI; as `Unretrievable` for a URI that
+    /// means no place; as `InvalidPercentEncoding`, `InvalidArrayIndex` and `PointerToNowhere` for a pointer that leads
+    /// nowhere; as `NoSuchAnchor` and, where there is a `/` in it, `InvalidAnchor` for a name that nothing has; and as
+    /// `Memory`. Look-ups in tables, one for each part of a pointer, and for a dynamic anchor one for each URI of the scope;
+    /// no value is copied. `#` takes no memory where the scope isn't empty and the base means a place.
+    pub fn lookup(&self, alloc: Global, reference: &str) -> Result<Resolved<'r>, Error>
+        ensures ok { IfOk result (λ found. lookup (world_of self.now) (resolver_of self.now) reference.now ≡ Ok (found_of found)) }
+        ensures world { IfOk result (λ found. world_found found ≡ world_of self.now) }
+        ensures fault { IfErr result (IsFaultOf (lookup (world_of self.now) (resolver_of self.now) reference.now)) }
+    {
+        let uri = self.target(alloc, reference)?;
+        let fragment = fragment_part(reference);
+        if is_name(fragment) {
+            return self.at_name(alloc, uri, fragment);
+        }
+        let Some(place) = self.layers.resource(uri.as_str()) else {
+            return Err(not_retrieved(alloc, &uri));
+        };
+        let resolver = self.moved(alloc, uri)?;
+        at_fragment(alloc, resolver, place, fragment)
+    }
+
+    // Where a name leads under a URI.
+    fn at_name(&self, alloc: Global, uri: Rc<Uri>, name: &str) -> Result<Resolved<'r>, Error>
+        ensures ok { (reference : List ℕ) → target (resolver_of self.now).base reference ≡ Ok uri.value → fragment_part reference ≡ name.now → is_name name.now ≡ true → IfOk result (λ found. lookup (world_of self.now) (resolver_of self.now) reference ≡ Ok (found_of found)) }
+        ensures world { IfOk result (λ found. world_found found ≡ world_of self.now) }
+        ensures fault { (reference : List ℕ) → target (resolver_of self.now).base reference ≡ Ok uri.value → fragment_part reference ≡ name.now → is_name name.now ≡ true → IfErr result (IsFaultOf (lookup (world_of self.now) (resolver_of self.now) reference)) }
+    {
+        if !self.layers.has_resource(uri.as_str()) {
+            return Err(not_retrieved(alloc, &uri));
+        }
+        let resolver = self.moved(alloc, uri)?;
+        at_name(alloc, resolver, name)
+    }
+}
+
+/// What a reference leads to: the document's own value, its draft, and the resolver there.
+#[derive(Drop)]
+pub struct Resolved<'r> {
+    pub(crate) contents: &'r Value,
+    pub(crate) resolver: Resolver<'r>,
+    pub(crate) draft: Draft,
+}
+
+impl<'r> Resolved<'r> {
+    /// The value, which is the document's own. Takes no memory.
+    pub fn contents(&self) -> &'r Value
+        ensures value { view result.now ≡ (found_of self.now).value }
+    {
+        self.contents
+    }
+
+    /// The resolver at the value. Takes no memory.
+    pub fn resolver(&self) -> &Resolver<'r>
+        ensures resolver { resolver_of result.now ≡ (found_of self.now).resolver }
+        ensures world { world_of result.now ≡ world_found self.now }
+    {
+        &self.resolver
+    }
+
+    /// The value, the resolver there, and the value's draft. Takes no memory.
+    pub fn into_inner(self) -> (&'r Value, Resolver<'r>, Draft)
+        ensures value { view result.0.now ≡ (found_of self.entry).value }
+        ensures resolver { resolver_of result.1 ≡ (found_of self.entry).resolver }
+        ensures draft { result.2 ≡ (found_of self.entry).draft }
+        ensures world { world_of result.1 ≡ world_found self.entry }
+    {
+        (self.contents, self.resolver, self.draft)
+    }
+}
+
+/// The same registry, base and dynamic scope, shared: two handles more, and no memory. It is refused only where the URI or the
+/// scope has no count left for one more handle, which `std::rc::Rc` tells as want of memory.
+impl<'r> Clone for Resolver<'r> {
+    ghost is_clone = { λ resolver copy. (resolver_of copy ≡ resolver_of resolver) × (world_of copy ≡ world_of resolver) };
+
+    fn clone(&self) -> Result<Resolver<'r>, AllocError> {
+        Ok(self.with_base(self.base.clone()?)?)
+    }
+}
+
+/// Resolvers are equal where their bases are.
+impl<'r> PartialEq for Resolver<'r> {
+    ghost use Rattle.std.specs.Prelude.{bytes_eq};
+    ghost use Rattle.std.specs.Cmp.{partial_equiv_from_equiv};
+    ghost use Rattle.ref_resolver.specs.Comparing.{by_base};
+
+    ghost eq = { λ a b. bytes_eq (resolver_of a).base (resolver_of b).base };
+
+    ghost laws = { partial_equiv_from_equiv by_base };
+
+    fn eq(&self, other: &Resolver<'r>) -> bool {
+        self.base.as_str() == other.base.as_str()
+    }
+}
+
+impl<'r> Eq for Resolver<'r> {
+    ghost use Rattle.ref_resolver.specs.Comparing.{by_base};
+
+    ghost laws = { by_base };
+}
+
+// Writes a URI, behind a separator where it is not the first.
+fn write_uri<W: fmt::Write>(f: &mut fmt::Formatter<W>, is_first: bool, uri: &str) -> fmt::Result
+    ensures { WritesOnOk W.write_str_gives f.old result ((if is_first then [] else codes ", ") ++ uri.now) f.new }
+{
+    let separator = if is_first { "" } else { ", " };
+    write!(f, "{separator}{uri}")
+}
+
+// Writes URIs, with a separator between them.
+fn write_scope<W: fmt::Write>(f: &mut fmt::Formatter<W>, scope: &List<Uri>) -> fmt::Result
+    ensures { WritesOnOk W.write_str_gives f.old result (join_by (λ uri. uri) (codes ", ") scope.now) f.new }
+{
+    let mut is_first = true;
+    for uri in scope {
+        write_uri(f, is_first, uri.as_str())?;
+        is_first = false;
+    }
+    Ok(())
+}
+
+/// `Resolver { base_uri: "B", scopes: "[U, V]" }`, the scope from inner to outer.
+impl fmt::Debug for Resolver<'_> {
+    ghost use Rattle.std.specs.Prelude.{Some};
+    ghost use Rattle.ref_world.specs.Lookup.{resolver_text};
+    ghost use Rattle.ref_resolver.specs.Resolving.{resolver_of};
+
+    ghost debug_output = { λ r. Some (resolver_text (resolver_of r)) };
+
+    fn fmt<W: fmt::Write>(&self, f: &mut fmt::Formatter<W>) -> fmt::Result {
+        let base = self.base.as_str();
+        write!(f, "Resolver {{ base_uri: \"{base}\", scopes: \"[")?;
+        write_scope(f, &self.scope)?;
+        write!(f, "]\" }}")
+    }
+}
+
+/// `Resolved { resolver: R, draft: D }`.
+impl fmt::Debug for Resolved<'_> {
+    fn fmt<W: fmt::Write>(&self, f: &mut fmt::Formatter<W>) -> fmt::Result {
+        let (resolver, draft) = (&self.resolver, self.draft);
+        write!(f, "Resolved {{ resolver: {resolver:?}, draft: {draft:?} }}")
+    }
+}

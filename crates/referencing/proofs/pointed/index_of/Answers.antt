@@ -1,6 +1,0 @@
-use Rattle.std.proofs.Common.{◌∙◌}
-use Rattle.referencing.proofs.Numbers.{index_parsed}
-use Rattle.referencing.proofs.pointed.index_of.Goals as goal
-
-pub returns : goal.returns
-returns c = c.ok.ensures.value ∙ index_parsed c.args.part.now c.parse.result c.parse.ensures.value.0
