@@ -1,26 +1,9 @@
-//! Follows references through JSON Schema documents: a JSON request on standard input, the report on standard output.
-//!
-//! Read `specs/Report.antt` first, which says what the report on the bytes of a request is, and then `run` in `src/run.rt`,
-//! whose contract says that it is what is written.
+//! Follows references through JSON Schema documents: a JSON request on standard input, the report on standard output. What the
+//! report is, and that it is what is written, stands in `ref_report`.
 #![tactic(auto)]
 
-mod answer;
-pub mod laws;
-mod lint;
-mod report;
-mod request;
-mod run;
-mod scan;
-mod sink;
-mod source;
-mod stop;
-#[cfg(test)]
-mod tests;
-mod worlds;
-
-use run::{exit_status, run};
-use sink::Output;
-use source::Input;
+use ref_report::run::{exit_status, run};
+use ref_report::{Input, Output};
 use std::process::ExitCode;
 
 fn main(rt: HostRuntime) -> ExitCode {

@@ -1,0 +1,102 @@
+-- Worlds of requests: there is one, and what calls of `referencing` answer is it.
+use Rattle.std.proofs.Common.{◌≡◌, ℕ, List, [], Option, Some, None, unwrap_or, Result, Ok, Err, refl, sym, ap, subst, ◌∙◌}
+use Rattle.std.specs.declared.alloc.AllocError.{AllocError}
+use Rattle.ref_uri.specs.Targets.{Refusal}
+use Rattle.ref_world.specs.World.{World}
+use Rattle.ref_world.specs.Fault.{Fault, InvalidUri, as_invalid_uri}
+use Rattle.ref_world.specs.Preparing.{Given}
+use Rattle.ref_world.specs.Pending.{Pending}
+use Rattle.ref_world.specs.Follow.{Followed}
+use Rattle.ref_retrieve.specs.declared.error.Error.{Error}
+use Rattle.ref_retrieve.specs.declared.error.Error.TheVariants as error
+use Rattle.ref_retrieve.specs.Errors.{SaysFault, IsFaultOf}
+use Rattle.ref_index.specs.Retrieval.{UnlessMemory, IsFaultyOutcome}
+use Rattle.ref_index.proofs.Retrieving.{unless_memory}
+use Rattle.referencing.specs.Prepared.{IsPreparedOf}
+use Rattle.referencing.specs.Following.{SaysStepFault}
+use Rattle.ref_report.specs.declared.request.BadRequest.{BadRequest}
+use Rattle.ref_report.specs.Request.{Document, Request}
+use Rattle.referencing.specs.MetaSchemas.{given_of_meta_schemas}
+use Rattle.ref_report.specs.Worlds.{pending_of, above, IsWorld, AreParents, given_of_request}
+use Rattle.ref_report.specs.Report.{Report, IsReportAbove, IsReadReport, world_report}
+use Rattle.ref_report.specs.inner.Faults.{IsErrorOf}
+use Rattle.ref_world.proofs.Outcomes.{IsDetermined, map_is_determined, default_is_determined, one_outcome}
+
+-- ---- there is one
+
+one_world : (given : List Pending → Given) (pending : Result (List Pending) Refusal) (a b : Result World Fault) → ((ps : List Pending) → IsDetermined (given ps).retriever) → IsWorld given pending a → IsWorld given pending b → a ≡ b
+one_world given (Ok ps) a b determined (one, first, is) (other, second, is') =
+    is ∙ ap (above (given ps).parents) (one_outcome (given ps) (determined ps) one other first second) ∙ sym is'
+one_world given (Err refusal) a b determined is is' = is ∙ sym is'
+
+one_parents : (meta : Option (List Document)) (a b : Result World Fault) → AreParents meta a → AreParents meta b → a ≡ b
+one_parents None a b is is' = is ∙ sym is'
+one_parents (Some ds) a b is is' = one_world given_of_meta_schemas (pending_of ds) a b (λ ps. default_is_determined) is is'
+
+one_above : (r : Request) (parents : Result World Fault) (a b : Report) → IsReportAbove r parents a → IsReportAbove r parents b → a ≡ b
+one_above r (Ok parents) a b (one, first, is) (other, second, is') =
+    is ∙ ap (world_report r) (one_world (given_of_request r parents) (pending_of r.documents) one other (λ ps. map_is_determined (unwrap_or r.remote [])) first second) ∙ sym is'
+one_above r (Err fault) a b is is' = is ∙ sym is'
+
+pub one_report : (read : Result Request BadRequest) (a b : Report) → IsReadReport read a → IsReadReport read b → a ≡ b
+one_report (Ok r) a b (one, first, is) (other, second, is') =
+    one_above r one a b is (subst (λ x. IsReportAbove r x b) (sym (one_parents r.meta one other first second)) is')
+one_report (Err bad) a b is is' = is ∙ sym is'
+
+-- ---- what errors say
+
+pub unless_fault : {A : Type 0} (r : Result A Fault) (e : Error) → IsFaultOf r e → UnlessMemory ((fault : Fault) × (r ≡ Err fault) × SaysFault e fault) e
+unless_fault r (error.Unretrievable uri source) is = is
+unless_fault r (error.PointerToNowhere pointer) is = is
+unless_fault r (error.InvalidPercentEncoding pointer) is = is
+unless_fault r (error.InvalidArrayIndex pointer index) is = is
+unless_fault r (error.NoSuchAnchor anchor) is = is
+unless_fault r (error.InvalidAnchor anchor) is = is
+unless_fault r (error.InvalidUri uri) is = is
+unless_fault r (error.UnknownSpecification specification) is = is
+unless_fault r (error.CircularMetaschema uri) is = is
+unless_fault r (error.RetrievalLimit uri limit) is = is
+unless_fault r (error.Memory memory) is = tt
+
+pub unless_step : (r : Result Followed (ℕ × Fault)) (n : ℕ) (e : Error) → SaysStepFault r n e → UnlessMemory ((fault : Fault) × (r ≡ Err (n, fault)) × SaysFault e fault) e
+unless_step r n (error.Unretrievable uri source) is = is
+unless_step r n (error.PointerToNowhere pointer) is = is
+unless_step r n (error.InvalidPercentEncoding pointer) is = is
+unless_step r n (error.InvalidArrayIndex pointer index) is = is
+unless_step r n (error.NoSuchAnchor anchor) is = is
+unless_step r n (error.InvalidAnchor anchor) is = is
+unless_step r n (error.InvalidUri uri) is = is
+unless_step r n (error.UnknownSpecification specification) is = is
+unless_step r n (error.CircularMetaschema uri) is = is
+unless_step r n (error.RetrievalLimit uri limit) is = is
+unless_step r n (error.Memory memory) is = tt
+
+pub given_no_memory : {P : Type 0} (e : Error) → ((memory : AllocError) → ¬ (e ≡ error.Memory memory)) → UnlessMemory P e → P
+given_no_memory (error.Unretrievable uri source) other is = is
+given_no_memory (error.PointerToNowhere pointer) other is = is
+given_no_memory (error.InvalidPercentEncoding pointer) other is = is
+given_no_memory (error.InvalidArrayIndex pointer index) other is = is
+given_no_memory (error.NoSuchAnchor anchor) other is = is
+given_no_memory (error.InvalidAnchor anchor) other is = is
+given_no_memory (error.InvalidUri uri) other is = is
+given_no_memory (error.UnknownSpecification specification) other is = is
+given_no_memory (error.CircularMetaschema uri) other is = is
+given_no_memory (error.RetrievalLimit uri limit) other is = is
+given_no_memory (error.Memory memory) other is = absurd (other memory refl)
+
+-- ---- what is prepared
+
+pub world_prepared : (given : List Pending → Given) (pending : Result (List Pending) Refusal) (ps : List Pending) (world : World) → pending ≡ Ok ps → IsPreparedOf (given ps) world → IsWorld given pending (Ok world)
+world_prepared given pending ps world is (layer, outcome, ready, same) = subst (λ p. IsWorld given p (Ok world)) (sym is) (Ok layer, outcome, ap Ok same)
+
+pub world_refused : (given : List Pending → Given) (pending : Result (List Pending) Refusal) (ps : List Pending) (e : Error) → pending ≡ Ok ps → IsFaultyOutcome (given ps) e → IsErrorOf (IsWorld given pending) e
+world_refused given pending ps e is faulty =
+    unless_memory e (λ said. (said.0, subst (λ p. IsWorld given p (Err said.0)) (sym is) (Err said.0, said.1, refl), said.2)) faulty
+
+refusal_world : (given : List Pending → Given) (pending : Result (List Pending) Refusal) (fault : Fault) → as_invalid_uri pending ≡ Err fault → IsWorld given pending (Err fault)
+refusal_world given (Ok ps) fault is = absurd (cc)
+refusal_world given (Err refusal) fault is = let same : InvalidUri refusal ≡ fault = cc in ap Err (sym same)
+
+pub text_refused : (given : List Pending → Given) (pending : Result (List Pending) Refusal) (e : Error) → IsFaultOf (as_invalid_uri pending) e → IsErrorOf (IsWorld given pending) e
+text_refused given pending e is =
+    unless_memory e (λ said. (said.0, refusal_world given pending said.0 said.1, said.2)) (unless_fault (as_invalid_uri pending) e is)

@@ -1,0 +1,11 @@
+-- A source over memory, as its place in the bytes tells it.
+use Rattle.std.specs.Prelude.{ℕ, Bool, List, Option, Some, length, drop, ◌==◌}
+use Rattle.ref_report.specs.declared.source.MemorySource.{MemorySource}
+
+-- the bytes that reads will give
+abbrev pub left : MemorySource → Option (List ℕ)
+left s = Some (drop s.position s.bytes.now)
+
+-- none is left
+abbrev pub is_at_end : MemorySource → Bool
+is_at_end s = s.position == length s.bytes.now

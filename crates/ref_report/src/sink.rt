@@ -1,0 +1,99 @@
+//! Where a report's bytes go.
+ghost use Rattle.std.specs.Prelude.{◌≡◌, ◌+◌, ◌<◌, ℕ, List, Option, Some, None, OnOk, OnErr, length, vec_len, vec_capacity, ◌++◌};
+ghost use Rattle.std.specs.Io.KnownBytes.{Appends};
+ghost use Rattle.ref_report.specs.Bytes.{counted};
+
+use crate::source::Failed;
+use std::alloc::Global;
+use std::io::Write;
+
+/// What bytes are written to.
+pub trait Sink {
+    // The bytes taken so far, where they are told.
+    ghost taken: { Self → Option (List ℕ) };
+
+    // How many writes failed. It stays at the greatest `u64`.
+    ghost failures: { Self → ℕ };
+
+    /// Writes all of the bytes. Of one that fails nothing is said of what was written.
+    fn write_all(&mut self, bytes: &[u8]) -> Result<(), Failed>
+        ensures bytes { OnOk result (Appends (taken self.old) (taken self.new) bytes.now) }
+        ensures count { failures self.new ≡ counted result (failures self.old) };
+}
+
+/// Bytes kept in memory. A write fails only where its growth is refused, and leaves the bytes as they were.
+#[derive(Drop)]
+pub struct MemorySink {
+    pub bytes: Vec<u8>,
+    pub failures: u64,
+}
+
+impl MemorySink {
+    /// No bytes, and no write has failed.
+    pub fn new(alloc: Global) -> MemorySink
+        ensures bytes { vec_len result.bytes ≡ 0 }
+        ensures count { result.failures ≡ 0 }
+    {
+        MemorySink {
+            bytes: Vec::new(alloc),
+            failures: 0,
+        }
+    }
+}
+
+impl Sink for MemorySink {
+    ghost taken = { λ s. Some s.bytes.items };
+
+    ghost failures = { λ s. s.failures };
+
+    fn write_all(&mut self, bytes: &[u8]) -> Result<(), Failed>
+        ensures bytes { OnOk result (self.new.bytes.items ≡ self.old.bytes.items ++ bytes.now) }
+        ensures count { self.new.failures ≡ counted result self.old.failures }
+        ensures refused { OnErr result (vec_capacity self.old.bytes
+            < vec_len self.old.bytes + length bytes.now) }
+        ensures unchanged { OnErr result (self.new.bytes.items ≡ self.old.bytes.items) }
+    {
+        match self.bytes.extend_from_slice(bytes) {
+            Ok(()) => Ok(()),
+            Err(_) => {
+                self.failures = self.failures.saturating_add(1);
+                Err(Failed)
+            }
+        }
+    }
+}
+
+/// A writer of the library's: which bytes it took is told where the writer tells it, as one over memory does and standard
+/// output doesn't.
+#[derive(Drop)]
+pub struct Output<W: Drop> {
+    pub writer: W,
+    pub failures: u64,
+}
+
+impl<W: Drop> Output<W> {
+    /// The writer, of which no write has failed.
+    pub fn new(writer: W) -> Output<W>
+        ensures writer { result.writer ≡ writer }
+        ensures count { result.failures ≡ 0 }
+    {
+        Output {
+            writer,
+            failures: 0,
+        }
+    }
+}
+
+impl<W: Write + Drop> Sink for Output<W> {
+    ghost taken = { λ s. W.contents s.writer };
+
+    ghost failures = { λ s. s.failures };
+
+    fn write_all(&mut self, bytes: &[u8]) -> Result<(), Failed> {
+        if self.writer.write_all(bytes).is_ok() && self.writer.flush().is_ok() {
+            return Ok(());
+        }
+        self.failures = self.failures.saturating_add(1);
+        Err(Failed)
+    }
+}

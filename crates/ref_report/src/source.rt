@@ -1,0 +1,135 @@
+//! Where a request's bytes come from.
+ghost use Rattle.std.specs.Prelude.{◌≡◌, false, ◌<◌, ◌≤◌, ℕ, List, Option, Bool, IfOk, IsOk, IsTrue, length};
+ghost use Rattle.std.specs.Io.KnownBytes.{ReadConsumes};
+ghost use Rattle.ref_report.specs.Bytes.{counted};
+
+use std::io;
+use std::io::{ErrorKind, Read};
+
+/// A read or a write that failed.
+#[derive(Clone, Copy, Debug, Drop, PartialEq, Eq)]
+pub struct Failed;
+
+/// What bytes are read from.
+pub trait Source {
+    // The bytes that reads will give from here on, where they are told.
+    ghost remaining: { Self → Option (List ℕ) };
+
+    // Whether the end was reached.
+    ghost ended: { Self → Bool };
+
+    // How many reads failed. It stays at the greatest `u64`.
+    ghost failures: { Self → ℕ };
+
+    /// Puts the next bytes at the front of the buffer, and answers how many. Into a buffer with room it answers 0 at
+    /// the end alone. A read that fails gives no bytes.
+    fn read(&mut self, buffer: &mut [u8]) -> Result<usize, Failed>
+        ensures within { IfOk result (λ n. n ≤ length buffer.new) }
+        ensures bytes { ReadConsumes (remaining self.old) (remaining self.new) result buffer.new }
+        ensures end { result ≡ Ok 0 → 0 < length buffer.new → IsTrue (ended self.new) }
+        ensures count { failures self.new ≡ counted result (failures self.old) };
+}
+
+/// Bytes in memory, of which no read fails.
+#[derive(Drop)]
+pub struct MemorySource<'a> {
+    pub bytes: &'a [u8],
+    pub position: usize,
+    pub ghost within: { position ≤ length bytes.now },
+}
+
+impl<'a> MemorySource<'a> {
+    /// The bytes from their beginning.
+    pub fn new(bytes: &'a [u8]) -> MemorySource<'a>
+        ensures start { result.position ≡ 0 }
+        ensures all { result.bytes.now ≡ bytes.now }
+    {
+        MemorySource { bytes, position: 0 }
+    }
+}
+
+impl Source for MemorySource<'_> {
+    ghost use Rattle.std.specs.Prelude.{◌≡◌, ◌<◌, ◌≤◌, IfOk, IsOk, IsTrue, length};
+    ghost use Rattle.std.specs.Io.KnownBytes.{ReadConsumes};
+    ghost use Rattle.ref_report.specs.Bytes.{counted};
+    ghost use Rattle.ref_report.specs.Memory.{left, is_at_end};
+
+    ghost remaining = { left };
+
+    ghost ended = { is_at_end };
+
+    ghost failures = { λ _. 0 };
+
+    fn read(&mut self, buffer: &mut [u8]) -> Result<usize, Failed>
+        ensures succeeds { IsOk result }
+        ensures within { IfOk result (λ n. n ≤ length buffer.new) }
+        ensures bytes { ReadConsumes (left self.old) (left self.new) result buffer.new }
+        ensures end { result ≡ Ok 0 → 0 < length buffer.new → IsTrue (is_at_end self.new) }
+        ensures count { 0 ≡ counted result 0 }
+    {
+        let left = &self.bytes[self.position..];
+        let n = left.len().min(buffer.len());
+        buffer[..n].copy_from_slice(&left[..n]);
+        self.position += n;
+        Ok(n)
+    }
+}
+
+/// A reader of the library's: which bytes are left is told where the reader tells it, as one over memory does and standard
+/// input doesn't.
+#[derive(Drop)]
+pub struct Input<R: Drop> {
+    pub reader: R,
+    pub ended: bool,
+    pub failures: u64,
+}
+
+impl<R: Drop> Input<R> {
+    /// The reader, of which no read has failed.
+    pub fn new(reader: R) -> Input<R>
+        ensures reader { result.reader ≡ reader }
+        ensures ended { result.ended ≡ false }
+        ensures count { result.failures ≡ 0 }
+    {
+        Input {
+            reader,
+            ended: false,
+            failures: 0,
+        }
+    }
+}
+
+impl<R: Read + Drop> Source for Input<R> {
+    ghost remaining = { λ s. R.remaining s.reader };
+
+    ghost ended = { λ s. s.ended };
+
+    ghost failures = { λ s. s.failures };
+
+    fn read(&mut self, buffer: &mut [u8]) -> Result<usize, Failed> {
+        match read_uninterrupted(&mut self.reader, buffer) {
+            Ok(n) => {
+                self.ended = n == 0;
+                Ok(n)
+            }
+            Err(_) => {
+                self.failures = self.failures.saturating_add(1);
+                Err(Failed)
+            }
+        }
+    }
+}
+
+// A read that a signal interrupted is made again.
+fn read_uninterrupted<R: Read>(reader: &mut R, buffer: &mut [u8]) -> io::Result<usize>
+    ensures within { IfOk result (λ n. n ≤ length buffer.new) }
+    ensures bytes { ReadConsumes (R.remaining reader.old) (R.remaining reader.new) result buffer.new }
+{
+    for _ in 0..u64::MAX {
+        match reader.read(buffer) {
+            Err(e) if e.kind() == ErrorKind::Interrupted => {}
+            answer => return answer,
+        }
+    }
+    Err(io::Error::from(ErrorKind::Interrupted))
+}

@@ -1,5 +1,0 @@
-use Rattle.std.proofs.Common.{refl}
-use Rattle.refwalk.proofs.laws.draft_rows.Goals as goal
-
-pub returns : goal.returns
-returns c = record { rows = (refl, refl, refl, refl, refl, refl, refl, refl) }
