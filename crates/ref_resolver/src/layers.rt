@@ -81,12 +81,7 @@ impl<'r> Layers<'r> {
     /// The URI that a text means against a base (RFC 3986, 5.2), in normal form, whatever was resolved before; without memory
     /// where it was. Refuses as `InvalidUri` a base without a scheme and a text that is no URI reference, and as `Memory`.
     #[inline(always)]
-    pub fn resolve_uri(
-        &self,
-        alloc: Global,
-        base: UriRef<'_>,
-        uri: &str,
-    ) -> Result<Rc<Uri>, Error>
+    pub fn resolve_uri(&self, alloc: Global, base: UriRef<'_>, uri: &str) -> Result<Rc<Uri>, Error>
         ensures ok { IfOk result (λ u. against base.entry uri.now ≡ Ok u.value) }
         ensures fault { IfErr result (IsFaultOf (as_invalid_uri (against base.entry uri.now))) }
     {

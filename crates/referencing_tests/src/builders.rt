@@ -1,7 +1,7 @@
 //! What a builder holds after documents were added, shown by the registry that is prepared of it, and what it refuses.
 use crate::asserts::same;
 use crate::documents::{failed, text_of};
-use ref_draft::{Draft, ResourceRef};
+use ref_draft::{Draft, Resource, ResourceRef};
 use ref_retrieve::Error;
 use referencing::{Registry, RegistryBuilder};
 use serde_json::Value;
@@ -23,20 +23,38 @@ fn listing(alloc: Global, builder: RegistryBuilder<'_>) -> Result<String, Fail> 
     Ok(text)
 }
 
+// The builder with a value that is lent, a resource that is lent, and one that is handed over.
+fn with_lent_and_owned<'b>(
+    builder: RegistryBuilder<'b>,
+    lent: &'b Value,
+    resource: &'b Resource,
+    owned: Resource,
+) -> Result<RegistryBuilder<'b>, Error> {
+    let builder = builder.add("a:1", lent)?;
+    let builder = builder.add("a:2", resource)?;
+    builder.add("a:3", owned)
+}
+
+// The builder with a value that is shared, one that is handed over, and a view of one as a resource.
+fn with_shared_and_viewed<'b>(
+    builder: RegistryBuilder<'b>,
+    shared: Rc<Value>,
+    lent: &'b Value,
+) -> Result<RegistryBuilder<'b>, Error> {
+    let builder = builder.add("a:4", shared)?;
+    let builder = builder.add("a:5", Value::Null)?;
+    builder.add("a:6", ResourceRef::new(lent, Draft::Unknown))
+}
+
 // The documents after one of each kind was added to a builder with a draft.
 fn of_each_kind(alloc: Global) -> Result<String, Fail> {
     let lent = Value::from_str(alloc, "1")?;
     let resource = Draft::Draft6.create_resource(Value::from_str(alloc, "2")?);
     let owned = Draft::Draft4.create_resource(Value::from_str(alloc, "3")?);
-    let shared = Rc::new(alloc, Value::from_str(alloc, "4")?)?;
     let builder = Registry::new(alloc).draft(Draft::Draft7);
-    let builder = builder.add("a:1", &lent).map_err(failed)?;
-    let builder = builder.add("a:2", &resource).map_err(failed)?;
-    let builder = builder.add("a:3", owned).map_err(failed)?;
-    let builder = builder.add("a:4", shared).map_err(failed)?;
-    let builder = builder.add("a:5", Value::Null).map_err(failed)?;
-    let last = ResourceRef::new(&lent, Draft::Unknown);
-    let builder = builder.add("a:6", last).map_err(failed)?;
+    let builder = with_lent_and_owned(builder, &lent, &resource, owned).map_err(failed)?;
+    let shared = Rc::new(alloc, Value::from_str(alloc, "4")?)?;
+    let builder = with_shared_and_viewed(builder, shared, &lent).map_err(failed)?;
     listing(alloc, builder)
 }
 

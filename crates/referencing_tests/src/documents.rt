@@ -73,6 +73,17 @@ pub fn prepared<'a, U: AsStr + Drop, R: Retrieve + Drop>(
     builder.extend(documents)?.prepare()
 }
 
+/// The registry of documents of JSON texts above another.
+pub fn child_of<'b>(
+    alloc: Global,
+    parent: &'b Registry<'_>,
+    pairs: &[(&str, &str)],
+) -> Result<Registry<'b>, Fail> {
+    let documents = values(alloc, pairs)?;
+    let builder = parent.extend(alloc, documents).map_err(failed)?;
+    builder.prepare().map_err(failed)
+}
+
 /// The text of the refusal, or `prepared`.
 pub fn outcome(alloc: Global, registry: Result<Registry<'_>, Error>) -> Result<String, AllocError> {
     match registry {

@@ -1,10 +1,10 @@
 //! Registries above registries: what a parent has meets what its children want.
 use crate::asserts::{same, same_at};
-use crate::documents::{failed, known, outcome, prepared, text_of, values};
+use crate::documents::{child_of, failed, known, outcome, prepared, text_of, values};
 use ref_retrieve::Error;
 use referencing::Registry;
 use serde_json::Value;
-use std::alloc::{AllocError, Global};
+use std::alloc::Global;
 use std::test::Fail;
 
 const URIS: [&str; 6] = [
@@ -17,38 +17,34 @@ const URIS: [&str; 6] = [
 ];
 
 // Which URIs are known to a registry, its child and the child's child.
-fn generations(alloc: Global) -> Result<String, Error> {
-    let parent = Registry::new(alloc)
-        .add(
-            "http://a/p",
-            Value::from_str(alloc, r#"{"$id":"k"}"#)
-                .ok()
-                .ok_or(AllocError)?,
-        )?
-        .prepare()?;
-    let wants_parent = Value::from_str(alloc, r#"{"$ref":"p"}"#)
-        .ok()
-        .ok_or(AllocError)?;
-    let child = parent
-        .add(alloc, "http://a/c", &wants_parent)?
-        .add("http://a/k", Value::Null)?
-        .prepare()?;
-    let wants_both = Value::from_str(alloc, r#"{"$ref":"k","$defs":{"x":{"$ref":"c"}}}"#)
-        .ok()
-        .ok_or(AllocError)?;
-    let grandchild = child.add(alloc, "http://a/g", &wants_both)?;
-    let grandchild = grandchild.add("http://a/m", &wants_parent)?.prepare()?;
-    let mut marks = known(alloc, &parent, &URIS)?;
-    marks.push(' ')?;
-    marks.push_str(known(alloc, &child, &URIS)?.as_str())?;
-    marks.push(' ')?;
-    marks.push_str(known(alloc, &grandchild, &URIS)?.as_str())?;
-    Ok(marks)
+fn generations(alloc: Global) -> Result<String, Fail> {
+    let parent = values(alloc, &[("http://a/p", r#"{"$id":"k"}"#)])?;
+    let parent = prepared(Registry::new(alloc), parent).map_err(failed)?;
+    let wants = r#"{"$ref":"p"}"#;
+    let child = [("http://a/c", wants), ("http://a/k", "null")];
+    let child = child_of(alloc, &parent, &child)?;
+    let both = r#"{"$ref":"k","$defs":{"x":{"$ref":"c"}}}"#;
+    let grandchild = [("http://a/g", both), ("http://a/m", wants)];
+    let grandchild = child_of(alloc, &child, &grandchild)?;
+    of_three(alloc, &parent, &child, &grandchild)
+}
+
+// The same of three registries.
+fn of_three(
+    alloc: Global,
+    parent: &Registry<'_>,
+    child: &Registry<'_>,
+    grandchild: &Registry<'_>,
+) -> Result<String, Fail> {
+    let parent = known(alloc, parent, &URIS)?;
+    let child = known(alloc, child, &URIS)?;
+    let grandchild = known(alloc, grandchild, &URIS)?;
+    Ok(format!(in alloc; "{parent} {child} {grandchild}")?)
 }
 
 #[test]
 fn parents_meet_wants(rt: HostRuntime) -> Result<(), Fail> {
-    let found = generations(rt.alloc()).map_err(failed)?;
+    let found = generations(rt.alloc())?;
     same(&rt, found.as_str(), "++---- +++--- +++++-");
     Ok(())
 }

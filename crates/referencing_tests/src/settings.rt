@@ -2,8 +2,8 @@
 use crate::asserts::same;
 use crate::documents::{failed, known, remote};
 use ref_draft::Draft;
-use ref_retrieve::Error;
-use referencing::Registry;
+use ref_retrieve::{Error, MapRetriever};
+use referencing::{Registry, RegistryBuilder};
 use serde_json::Value;
 use std::alloc::{AllocError, Global};
 use std::test::Fail;
@@ -30,19 +30,27 @@ fn a_builder_and_its_copy_are_shown(rt: HostRuntime) -> Result<(), Fail> {
 
 const URIS: [&str; 4] = ["http://a/r", "http://a/b", "http://a/c", "http://a/d"];
 
-// Which URIs are known to what a builder and its copy become, where another document is added to each.
+// Which URIs are known to what a builder becomes with another document.
+fn with_another(
+    alloc: Global,
+    builder: RegistryBuilder<'_, &MapRetriever>,
+    uri: &str,
+) -> Result<String, Fail> {
+    let builder = builder.add(uri, Value::Null).map_err(failed)?;
+    let registry = builder.prepare().map_err(failed)?;
+    Ok(known(alloc, &registry, &URIS)?)
+}
+
+// The same of a builder and its copy, each with a document of its own.
 fn copies(alloc: Global) -> Result<String, Fail> {
     let documents = remote(alloc, &[("http://a/b", "{}")])?;
     let owned = Value::from_str(alloc, r#"{"$ref":"b"}"#)?;
     let builder = Registry::new(alloc).retriever(&documents);
     let builder = builder.add("http://a/r", owned).map_err(failed)?;
     let copy = builder.clone()?;
-    let builder = builder.add("http://a/c", Value::Null).map_err(failed)?;
-    let copy = copy.add("http://a/d", Value::Null).map_err(failed)?;
-    let mut marks = known(alloc, &builder.prepare().map_err(failed)?, &URIS)?;
-    marks.push(' ')?;
-    marks.push_str(known(alloc, &copy.prepare().map_err(failed)?, &URIS)?.as_str())?;
-    Ok(marks)
+    let first = with_another(alloc, builder, "http://a/c")?;
+    let second = with_another(alloc, copy, "http://a/d")?;
+    Ok(format!(in alloc; "{first} {second}")?)
 }
 
 #[test]

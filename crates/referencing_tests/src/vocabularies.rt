@@ -5,6 +5,7 @@ use ref_draft::Draft;
 use referencing::{Registry, Vocabulary, vocabularies};
 use serde_json::Value;
 use std::alloc::Global;
+use std::process::Abort;
 use std::test::Fail;
 
 /// A registry's documents.
@@ -107,28 +108,26 @@ fn declared(
     Ok(format!(in alloc; "{set:?}")?)
 }
 
+// Ends the test where a registry has other vocabularies for one of the schemas.
+fn are_declared(rt: &impl Abort, alloc: Global, child: &Registry<'_>) -> Result<(), Fail> {
+    for (draft, schema, wanted) in SCHEMAS {
+        let found = declared(alloc, child, draft, schema)?;
+        same_at(rt, found.as_str(), wanted, schema);
+    }
+    Ok(())
+}
+
 #[test]
 fn meta_schemas_declare_vocabularies(rt: HostRuntime) -> Result<(), Fail> {
     let alloc = rt.alloc();
     let parent = prepared(Registry::new(alloc), listed(alloc, PARENT)?).map_err(failed)?;
     let child = parent.extend(alloc, listed(alloc, CHILD)?);
     let child = child.map_err(failed)?.prepare().map_err(failed)?;
-    for (draft, schema, wanted) in SCHEMAS {
-        let found = declared(alloc, &child, draft, schema)?;
-        same_at(&rt, found.as_str(), wanted, schema);
-    }
-    let found = declared(
-        alloc,
-        &parent,
-        Draft::Draft7,
-        r#"{"$schema":"http://a/both"}"#,
-    )?;
-    same_at(
-        &rt,
-        found.as_str(),
-        "[\"https://example.com/parent\"]",
-        "the parent",
-    );
+    are_declared(&rt, alloc, &child)?;
+    let schema = r#"{"$schema":"http://a/both"}"#;
+    let found = declared(alloc, &parent, Draft::Draft7, schema)?;
+    let wanted = "[\"https://example.com/parent\"]";
+    same_at(&rt, found.as_str(), wanted, "the parent");
     Ok(())
 }
 
