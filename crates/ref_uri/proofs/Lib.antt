@@ -17,6 +17,7 @@ pub mod RestLemmas
 pub mod LengthsLemmas
 pub mod NormalLemmas
 pub mod PlainHost
+pub mod Settled
 pub mod Induction
 pub mod AuthorityParts
 pub mod NormalTwice

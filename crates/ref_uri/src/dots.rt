@@ -48,7 +48,7 @@ fn dot_begins_segment(bytes: &[u8], from: usize, to: usize) -> bool
 }
 
 /// Whether a segment of the path may be a dot segment: none is, where none begins with a dot.
-fn may_hold_dots(bytes: &[u8]) -> bool
+pub fn may_hold_dots(bytes: &[u8]) -> bool
     ensures { IsFalse result → AreNames (segments bytes.now) }
 {
     let mut at = 0;

@@ -72,7 +72,11 @@ impl<'a> UriRef<'a> {
         ensures parsed { IfOk result (λ t. IsParsed (string_bytes t.0) t.1) }
         ensures scheme { IfOk result (λ t. is_some (scheme (string_bytes t.0)) ≡ is_some (scheme self.now)) }
     {
-        target::itself(self.parts()).write(alloc, Form::Normal)
+        let parts = self.parts();
+        if target::is_settled(parts) {
+            return Ok((String::from_str(alloc, self.text)?, self.lengths));
+        }
+        target::itself(parts).write(alloc, Form::Normal)
     }
 
     /// The normal form of the reference's text (RFC 3986, 6.2.2 and 3.2.3): scheme and host in lower case, triples of
@@ -135,7 +139,11 @@ impl<'a> UriRef<'a> {
         ensures text { IfOk result (λ t. string_bytes t.0 ≡ normal_form (resolved base.now self.now)) }
         ensures parsed { IfOk result (λ t. IsParsedUri (string_bytes t.0) t.1) }
     {
-        let target = target::resolved(base.parts(), self.parts());
+        let parts = self.parts();
+        if target::is_settled(parts) {
+            return Ok((String::from_str(alloc, self.text)?, self.lengths));
+        }
+        let target = target::resolved(base.parts(), parts);
         target.write(alloc, target.normal_form())
     }
 

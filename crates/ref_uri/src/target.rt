@@ -1,17 +1,18 @@
 //! What a target's text is composed of (RFC 3986, 5.2.2 and 5.3).
-ghost use Rattle.std.specs.Prelude.{◌≡◌, ◌↔◌, ◌≤◌, ◌++◌, ℕ, true, false, List, [], length, codes, Some, None, is_some, is_none, option_map, option_copied, string_bytes, IfOk, OnOk, IsAscii, ◌∷◌};
+ghost use Rattle.std.specs.Prelude.{◌≡◌, ◌↔◌, ◌≤◌, ◌++◌, ℕ, true, false, List, [], length, codes, Some, None, is_some, is_none, map, option_map, option_copied, string_bytes, IfOk, OnOk, IsAscii, ◌∷◌};
 ghost use Rattle.ref_uri.specs.Authority.{is_authority};
 ghost use Rattle.ref_uri.specs.Components.{Components, are_components, text_of, framed, if_there, is_scheme, is_path, is_query, begins_with_slashes};
 ghost use Rattle.ref_uri.specs.DotSegments.{remove_dot_segments};
-ghost use Rattle.ref_uri.specs.Normal.{guarded, normal, normal_text};
+ghost use Rattle.std.specs.Char.{to_ascii_lowercase};
+ghost use Rattle.ref_uri.specs.Normal.{guarded, normal, normal_text, normal_authority};
 ghost use Rattle.ref_uri.specs.Resolution.{through_last_slash, merged, target_path, resolved_components};
 ghost use Rattle.ref_uri.specs.inner.Written.{written, written_scheme, written_authority};
-ghost use Rattle.ref_uri.specs.inner.Target.{given_path, normal_path_of, written_path, written_components, lengths_of_components, AreParts, LacksEncodedDot, LosesSameDots, IsTarget, components_of, behind_directory, path_behind, target_with_dots};
+ghost use Rattle.ref_uri.specs.inner.Target.{given_path, normal_path_of, written_path, written_components, lengths_of_components, AreParts, LacksEncodedDot, LosesSameDots, IsTarget, IsSettled, components_of, behind_directory, path_behind, target_with_dots};
 
 use crate::blocks::holds;
-use crate::dots::{push_merged_without_dots, push_without_dots, remove_dots};
+use crate::dots::{may_hold_dots, push_merged_without_dots, push_without_dots, remove_dots};
 use crate::lengths::{Lengths, Parts, head};
-use crate::written::{Form, normalize_end};
+use crate::written::{Form, holds_upper, is_plain_host, normalize_end};
 use std::alloc::{AllocError, Global};
 
 /// Where a target's path comes from.
@@ -148,6 +149,56 @@ pub fn itself(reference: Parts<'_>) -> Target<'_>
         query: reference.query,
         fragment: reference.fragment,
     }
+}
+
+/// Whether a scheme is there, and is in lower case.
+fn is_lower(scheme: Option<&str>) -> bool
+    ensures there { result ≡ true → is_some (option_copied scheme.entry) ≡ true }
+    ensures lower { result ≡ true → option_map (map to_ascii_lowercase) (option_copied scheme.entry) ≡ option_copied scheme.entry }
+{
+    match scheme {
+        Some(scheme) => !holds_upper(scheme.as_bytes()),
+        None => false,
+    }
+}
+
+/// Whether an authority is a host in normal form, or absent.
+fn is_plain_authority(authority: Option<&str>) -> bool
+    ensures { result ≡ true → option_map normal_authority (option_copied authority.entry) ≡ option_copied authority.entry }
+{
+    match authority {
+        Some(authority) => is_plain_host(authority.as_bytes()),
+        None => true,
+    }
+}
+
+/// Whether a path holds no triple, and no segment that begins with a dot.
+fn is_plain_path(path: &str) -> bool
+    ensures removed { result ≡ true → remove_dot_segments path.now ≡ path.now }
+    ensures normal { result ≡ true → normal_text path.now ≡ path.now }
+{
+    !holds(path.as_bytes(), b'%') && !may_hold_dots(path.as_bytes())
+}
+
+/// Whether a query or a fragment holds no triple, or is absent.
+fn lacks_triples(component: Option<&str>) -> bool
+    ensures { result ≡ true → option_map normal_text (option_copied component.entry) ≡ option_copied component.entry }
+{
+    match component {
+        Some(component) => !holds(component.as_bytes(), b'%'),
+        None => true,
+    }
+}
+
+/// Whether a reference is a URI that is its own target and its own normal form, as far as its characters tell.
+pub fn is_settled(reference: Parts<'_>) -> bool
+    ensures { result ≡ true → IsSettled (components_of reference.entry) }
+{
+    is_lower(reference.scheme)
+        && is_plain_authority(reference.authority)
+        && is_plain_path(reference.path)
+        && lacks_triples(reference.query)
+        && lacks_triples(reference.fragment)
 }
 
 /// The room that a component and its marks take.

@@ -62,7 +62,7 @@ fn push_ascii(buffer: &mut String, c: u8) -> Result<(), AllocError>
 }
 
 /// Whether a letter in upper case stands in a text.
-fn holds_upper(text: &[u8]) -> bool
+pub fn holds_upper(text: &[u8]) -> bool
     ensures { result ≡ false → map to_ascii_lowercase text.now ≡ text.now }
 {
     for c in text {
@@ -216,12 +216,12 @@ fn push_port(buffer: &mut String, port: &str) -> Result<(), AllocError>
     buffer.push_str(port)
 }
 
-/// Whether a text is a host in normal form without a port, as far as its characters tell.
-fn is_plain_host(text: &[u8]) -> bool
+/// Whether a text is a host in normal form, without a port and a userinfo, as far as its characters tell.
+pub fn is_plain_host(text: &[u8]) -> bool
     ensures { result ≡ true → list_all is_plain_in_host text.now ≡ true }
 {
     for c in text {
-        if matches!(*c, b'A'..=b'Z' | b'%' | b':' | b'[') {
+        if matches!(*c, b'A'..=b'Z' | b'%' | b':' | b'@' | b'[') {
             return false;
         }
     }

@@ -1,5 +1,5 @@
 -- The components of what is written, which are parts of other texts.
-use Rattle.std.specs.Prelude.{◌≡◌, ◌≢◌, ℕ, true, ⊤, ◌||◌, List, ◌∷◌, ◌++◌, length, codes, Option, Some, None, is_some, option_map, option_copied, ◌==◌, if◌then◌else◌, slice_index}
+use Rattle.std.specs.Prelude.{◌≡◌, ◌≢◌, ℕ, true, ⊤, ◌||◌, List, ◌∷◌, ◌++◌, length, map, codes, Option, Some, None, is_some, option_map, option_copied, ◌==◌, if◌then◌else◌, slice_index}
 use Rattle.ref_uri.specs.declared.lengths.Lengths.{Lengths}
 use Rattle.ref_uri.specs.declared.lengths.Parts.{Parts}
 use Rattle.ref_uri.specs.declared.target.PathOf.{PathOf}
@@ -11,7 +11,8 @@ use Rattle.ref_uri.specs.Authority.{is_authority}
 use Rattle.ref_uri.specs.Components.{Components, if_there, is_scheme, is_path, is_query}
 use Rattle.ref_uri.specs.DotSegments.{remove_dot_segments}
 use Rattle.ref_uri.specs.inner.Lengths.{the_lengths}
-use Rattle.ref_uri.specs.Normal.{guarded, normal_text}
+use Rattle.std.specs.Char.{to_ascii_lowercase}
+use Rattle.ref_uri.specs.Normal.{guarded, normal_text, normal_authority}
 use Rattle.ref_uri.specs.Resolution.{merged, target_components}
 use Rattle.ref_uri.specs.inner.Written.{written, written_scheme, written_authority}
 
@@ -105,3 +106,13 @@ path_with_dots base reference =
 -- the target before the removal of its path's dot segments
 unfoldable pub target_with_dots : Components → Components → Components
 target_with_dots base reference = record (target_components base reference) { path = path_with_dots base reference }
+
+-- with a scheme, each component in normal form, and no dot segments to remove
+pub record IsSettled (c : Components) : Type 0 where
+  pub there : is_some c.scheme ≡ true
+  pub scheme : option_map (map to_ascii_lowercase) c.scheme ≡ c.scheme
+  pub authority : option_map normal_authority c.authority ≡ c.authority
+  pub removed : remove_dot_segments c.path ≡ c.path
+  pub path : normal_text c.path ≡ c.path
+  pub query : option_map normal_text c.query ≡ c.query
+  pub fragment : option_map normal_text c.fragment ≡ c.fragment

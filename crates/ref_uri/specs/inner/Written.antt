@@ -30,6 +30,6 @@ written_authority Given = λ authority. authority
 written_authority Normal = normal_authority
 written_authority NormalTarget = normal_authority
 
--- no letter in upper case, `%`, `:` or `[`
+-- no letter in upper case, `%`, `:`, `@` or `[`
 abbrev pub is_plain_in_host : ℕ → Bool
-is_plain_in_host c = not (is_ascii_uppercase c || (c == 37) || (c == 58) || (c == 91))
+is_plain_in_host c = not (is_ascii_uppercase c || (c == 37) || (c == 58) || (c == 64) || (c == 91))
