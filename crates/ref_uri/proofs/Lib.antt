@@ -43,3 +43,4 @@ pub mod NameLemmas
 pub mod GivenSegments
 pub mod LaneLemmas
 pub mod TableLemmas
+pub mod NormalFront

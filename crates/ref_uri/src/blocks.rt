@@ -1,5 +1,5 @@
 //! Looking for a byte sixteen bytes at a time.
-ghost use Rattle.std.specs.Prelude.{◌≢◌, ◌≤◌, ◌<◌, ◌+◌, ℕ, IsFalse, slice_index, length};
+ghost use Rattle.std.specs.Prelude.{◌≡◌, ◌≢◌, ◌≤◌, ◌<◌, ◌+◌, ℕ, IsFalse, slice_index, length};
 
 use std::simd::prelude::*;
 
@@ -34,4 +34,23 @@ pub fn holds(bytes: &[u8], byte: u8) -> bool
         }
     }
     false
+}
+
+/// Where the byte first stands from a place on, or the length.
+#[inline]
+pub fn first_from(bytes: &[u8], from: usize, byte: u8) -> usize
+    requires { from ≤ length bytes.now }
+    ensures from { from ≤ result }
+    ensures within { result ≤ length bytes.now }
+    ensures none { (k : ℕ) → from ≤ k → k < result → slice_index bytes.now k ≢ byte }
+    ensures found { result < length bytes.now → slice_index bytes.now result ≡ byte }
+{
+    let mut at = from;
+    'loads: while bytes.len() - at >= BLOCK && !block_holds(bytes, at, byte) {
+        at += BLOCK;
+    }
+    while at < bytes.len() && bytes[at] != byte {
+        at += 1;
+    }
+    at
 }

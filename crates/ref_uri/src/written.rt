@@ -5,9 +5,9 @@ ghost use Rattle.std.specs.Char.{is_ascii_hexdigit, to_ascii_lowercase};
 ghost use Rattle.ref_uri.specs.Characters.{begins_with_hex_digits, has_whole_triples};
 ghost use Rattle.ref_uri.specs.Authority.{is_authority, host_len};
 ghost use Rattle.ref_uri.specs.Normal.{hex_value, normal_triple, normal_encoded, normal_text, normal_host, normal_port_part, normal_authority};
-ghost use Rattle.ref_uri.specs.inner.Written.{in_case, is_plain_in_host, written, written_scheme, written_authority};
+ghost use Rattle.ref_uri.specs.inner.Written.{in_case, is_plain_in_host, written, written_scheme, written_authority, IsNormalUpTo};
 
-use crate::blocks::holds;
+use crate::blocks::{first_from, holds};
 use crate::characters::is_unreserved;
 use crate::lengths::{head, tail};
 use std::alloc::AllocError;
@@ -131,6 +131,49 @@ fn push_encoded(buffer: &mut String, text: &str, case: Case) -> Result<(), Alloc
     case.push_run(buffer, rest)
 }
 
+/// Whether a triple of these digits is in normal form.
+#[inline]
+fn is_normal_triple(high: u8, low: u8) -> bool
+    requires high { is_ascii_hexdigit high ≡ true }
+    requires low { is_ascii_hexdigit low ≡ true }
+    ensures { result ≡ true → normal_triple (λ c. c) high low ≡ 37 ∷ high ∷ low ∷ [] }
+{
+    if high.is_ascii_lowercase() || low.is_ascii_lowercase() {
+        return false;
+    }
+    !is_unreserved(16 * hex_value(high) + hex_value(low))
+}
+
+/// How far an encoded text is in normal form: up to the first triple that isn't, or to the end.
+fn normal_len(text: &[u8]) -> usize
+    requires { has_whole_triples text.now ≡ true }
+    ensures { IsNormalUpTo text.now result }
+{
+    let mut at = first_from(text, 0, b'%');
+    'triples: while at < text.len() && is_normal_triple(text[at + 1], text[at + 2]) {
+        at = first_from(text, at + 3, b'%');
+    }
+    at
+}
+
+/// Appends an encoded text in normal form: at once what is so already, and between that the triples that change.
+fn push_changed(buffer: &mut String, text: &str) -> Result<(), AllocError>
+    requires ascii { IsAscii text.now }
+    requires triples { has_whole_triples text.now ≡ true }
+    ensures { OnOk result (string_bytes buffer.new ≡ string_bytes buffer.old ++ normal_text text.now) }
+{
+    let mut rest = text;
+    let mut len = normal_len(rest.as_bytes());
+    'triples: while len < rest.len() {
+        buffer.push_str(head(rest, len))?;
+        let triple = tail(rest, len).as_bytes();
+        push_triple(buffer, triple[1], triple[2], Case::AsItIs)?;
+        rest = tail(rest, len + 3);
+        len = normal_len(rest.as_bytes());
+    }
+    buffer.push_str(rest)
+}
+
 /// Appends an encoded text in normal form, as it is where it holds no triple.
 fn push_normal_text(buffer: &mut String, text: &str) -> Result<(), AllocError>
     requires ascii { IsAscii text.now }
@@ -140,7 +183,7 @@ fn push_normal_text(buffer: &mut String, text: &str) -> Result<(), AllocError>
     if !holds(text.as_bytes(), b'%') {
         return buffer.push_str(text);
     }
-    push_encoded(buffer, text, Case::AsItIs)
+    push_changed(buffer, text)
 }
 
 /// Appends the triple that stands in the buffer's text at `percent`, as [`push_triple`] does.

@@ -1,7 +1,9 @@
 -- The text that stands for a component: the component itself, or its normal form.
-use Rattle.std.specs.Prelude.{ℕ, List, map, Bool, ◌||◌, not, ◌==◌}
+use Rattle.std.specs.Prelude.{ℕ, List, ◌≡◌, ◌≤◌, ◌<◌, ◌++◌, true, take, drop, length, map, Bool, ◌||◌, not, ◌==◌}
 use Rattle.std.specs.Char.{is_ascii_uppercase, to_ascii_lowercase}
+use Rattle.ref_uri.specs.Characters.{has_whole_triples}
 use Rattle.ref_uri.specs.Normal.{normal_text, normal_authority}
+use Rattle.ref_uri.specs.inner.Scans.{begins_with_triple}
 use Rattle.ref_uri.specs.declared.written.Case.{Case}
 use Rattle.ref_uri.specs.declared.written.Case.TheVariants.{AsItIs, Lower}
 use Rattle.ref_uri.specs.declared.written.Form.{Form}
@@ -33,3 +35,10 @@ written_authority NormalTarget = normal_authority
 -- no letter in upper case, `%`, `:`, `@` or `[`
 abbrev pub is_plain_in_host : ℕ → Bool
 is_plain_in_host c = not (is_ascii_uppercase c || (c == 37) || (c == 58) || (c == 64) || (c == 91))
+
+-- The text is in normal form up to this place, where it ends or where a triple begins.
+pub record IsNormalUpTo (text : List ℕ) (at : ℕ) : Type 0 where
+  pub within : at ≤ length text
+  pub front : normal_text text ≡ take at text ++ normal_text (drop at text)
+  pub behind : has_whole_triples (drop at text) ≡ true
+  pub triple : at < length text → begins_with_triple (drop at text) ≡ true
