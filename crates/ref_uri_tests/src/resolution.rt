@@ -157,6 +157,41 @@ fn answers_what_texts_mean_against_a_base(rt: HostRuntime) -> Result<(), Fail> {
     Ok(())
 }
 
+/// URIs that differ in one place from such as are in normal form, alone and against a base.
+#[test]
+fn a_uri_changes_only_where_it_is_not_in_normal_form(rt: HostRuntime) -> Result<(), Fail> {
+    for (text, meant) in [
+        ("http://a/b/c?d#e", "http://a/b/c?d#e"),
+        ("urn:a:B", "urn:a:B"),
+        ("a:", "a:"),
+        ("file:///b", "file:///b"),
+        ("hTtp://a/b", "http://a/b"),
+        ("http://aB/c", "http://ab/c"),
+        ("http://a:/b", "http://a/b"),
+        ("http://a:80/b", "http://a:80/b"),
+        ("http://u@a/b", "http://u@a/b"),
+        ("http://U@A/b", "http://U@a/b"),
+        ("http://[::A]/b", "http://[::a]/b"),
+        ("http://a%7E/b", "http://a~/b"),
+        ("http://a/%7Eb", "http://a/~b"),
+        ("http://a/%2Fb", "http://a/%2Fb"),
+        ("http://a/.b/..c/d.", "http://a/.b/..c/d."),
+        ("http://a/./b", "http://a/b"),
+        ("http://a/b/..", "http://a/"),
+        ("http://a/b?%7e", "http://a/b?~"),
+        ("http://a/b?../c", "http://a/b?../c"),
+        ("http://a/b#%2f", "http://a/b#%2F"),
+        ("http://a/b#./c", "http://a/b#./c"),
+    ] {
+        let (uri, is_normal) = meaning(rt.alloc(), text)?;
+        same_at(&rt, uri.as_str(), meant, text);
+        holds_at(&rt, is_normal, text);
+        let uri = meaning_against(rt.alloc(), "http://x/y?z", text)?;
+        same_at(&rt, uri.as_str(), meant, text);
+    }
+    Ok(())
+}
+
 /// Dot segments go from a path as it is given, and then those go that it has once its triples are decoded.
 #[test]
 fn removes_dot_segments_before_triples_are_decoded_and_after(rt: HostRuntime) -> Result<(), Fail> {
