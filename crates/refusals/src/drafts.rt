@@ -1,20 +1,56 @@
 //! Calls of `ref_draft`.
-use crate::stop::{Stop, after, before, refused};
-use ref_draft::{Child, Draft, Segment, Segments};
+use ref_draft::{Child, Draft, Resource, Segment, Segments};
 use ref_parts::path::JsonPointerSegment;
+use refusal_harness::{Calls, Stop, Trial, after, before, refused, tried};
 use serde_json::Value;
 use std::alloc::{AllocError, Global};
 use std::borrow::CowStr;
 
-/// What the call of a name answers.
-pub fn answer(alloc: Global, call: &str) -> Result<String, Stop> {
-    match call {
-        "walk_children" => children(alloc),
-        "segments.push" => pushed(alloc),
-        "resource.clone" => copied(alloc),
-        "readers" => read(alloc),
-        _ => Err(Stop::Wrong),
+const PARENT: &str = r#"{"dependencies":{"a":{},"b":["c"]},"items":[true,{}]}"#;
+
+/// A value with children, the segments 3 to 6, as many as stand without memory, and a resource with a title.
+#[derive(Drop)]
+struct Drafts {
+    parent: Value,
+    segments: Segments<'static>,
+    resource: Resource,
+}
+
+/// The row of a call.
+pub fn row(alloc: Global, call: &str) -> Result<Trial, Stop> {
+    let titled = before(Value::from_str(alloc, r#"{"title":"a"}"#))?;
+    let mut drafts = Drafts {
+        parent: before(Value::from_str(alloc, PARENT))?,
+        segments: four(alloc)?,
+        resource: Draft::Draft7.create_resource(titled),
+    };
+    tried(
+        alloc,
+        &mut drafts,
+        "drafts",
+        call,
+        &["walk_children", "resource.clone", "readers"],
+    )
+}
+
+impl Calls for Drafts {
+    fn answer(&mut self, alloc: Global, call: &str) -> Result<String, Stop> {
+        match call {
+            "walk_children" => children(alloc, &self.parent),
+            "segments.push" => pushed(alloc, &mut self.segments),
+            "resource.clone" => copied(alloc, &self.resource),
+            "readers" => read(alloc),
+            _ => Err(Stop::Wrong),
+        }
     }
+}
+
+fn four(alloc: Global) -> Result<Segments<'static>, Stop> {
+    let mut segments = Segments::new(alloc);
+    for index in 3..7usize {
+        before(segments.push(index))?;
+    }
+    Ok(segments)
 }
 
 /// The keywords of children with what stands behind them.
@@ -35,10 +71,8 @@ fn listing(alloc: Global, children: &[Child<'_>]) -> Result<String, AllocError> 
     Ok(text)
 }
 
-fn children(alloc: Global) -> Result<String, Stop> {
-    let text = r#"{"dependencies":{"a":{},"b":["c"]},"items":[true,{}]}"#;
-    let value = before(Value::from_str(alloc, text))?;
-    match Draft::Draft201909.walk_children(alloc, &value) {
+fn children(alloc: Global, parent: &Value) -> Result<String, Stop> {
+    match Draft::Draft201909.walk_children(alloc, parent) {
         Ok(children) => after(listing(alloc, children.as_slice())),
         Err(error) => Err(refused(&error, true)),
     }
@@ -57,36 +91,32 @@ fn told(segments: &Segments<'_>) -> (usize, bool) {
     (count, is_first)
 }
 
-fn pushed(alloc: Global) -> Result<String, Stop> {
-    let mut segments = Segments::new(alloc);
-    for index in 3..7usize {
-        before(segments.push(index))?;
-    }
+fn pushed(alloc: Global, segments: &mut Segments<'_>) -> Result<String, Stop> {
     match segments.push(CowStr::Borrowed("not")) {
         Ok(()) => {
-            let (count, is_first) = told(&segments);
+            let (count, is_first) = told(segments);
             after(format!(in alloc; "{count} {is_first}"))
         }
-        Err(error) => Err(refused(&error, told(&segments) == (4, true))),
+        Err(error) => Err(refused(&error, told(segments) == (4, true))),
     }
 }
 
-fn copied(alloc: Global) -> Result<String, Stop> {
-    let value = before(Value::from_str(alloc, r#"{"title":"a"}"#))?;
-    let resource = Draft::Draft7.create_resource(value);
+/// The draft and the title of a resource.
+fn titled(alloc: Global, resource: &Resource) -> Result<String, AllocError> {
+    let draft = resource.draft();
+    let title = resource.contents().get("title").and_then(Value::as_str);
+    let title = title.unwrap_or("none");
+    format!(in alloc; "{draft:?} {title}")
+}
+
+fn copied(alloc: Global, resource: &Resource) -> Result<String, Stop> {
     match resource.clone() {
-        Ok(copy) => {
-            let draft = copy.draft();
-            after(format!(in alloc; "{draft:?}"))
-        }
-        Err(error) => {
-            let title = resource.contents().get("title").and_then(Value::as_str);
-            Err(refused(&error, title == Some("a")))
-        }
+        Ok(copy) => after(titled(alloc, &copy)),
+        Err(error) => Err(refused(&error, true)),
     }
 }
 
-/// Whether an object has an identifier, an anchor and a child.
+/// The draft, the identifier, and the counts of children and anchors of an object.
 fn read(alloc: Global) -> Result<String, Stop> {
     let text = r#"{"$id":"a","$anchor":"b","not":true}"#;
     let value = before(Value::from_str(alloc, text))?;

@@ -1,57 +1,50 @@
-//! Public calls, each on values of its own: reads their names from standard input, a line each, and prints what each call answers.
+//! Public calls of the crates below registries, each on values of its own: reads their names from standard input, a line each, and
+//! prints what each call answers.
 //!
 //! `scripts/refusals` runs this for each name and each request for memory, with that request refused. Where the call wants memory,
-//! what stood before it is asked again. The exit status is 0 where every call has its answer, 3 where one wanted memory and what stood
-//! before answers as before, 4 where memory was refused before a call, 5 where it was refused once the call had answered, and 1 where
-//! there is no call of a name, a call is refused in another way, or something answers otherwise afterwards.
+//! it is made again, and behind it other calls on the same values. The exit status is 0 where every call has its answer, 3 where one
+//! wanted memory and these are the answers afterwards, 4 where memory was refused before a call, 5 where it was refused once the call
+//! had answered, and 1 where there is no call of a name, or something is not as it was.
 #![tactic(auto)]
 
 mod drafts;
-mod parts;
-mod registries;
-mod resolvers;
-mod stop;
+mod lists;
+mod maps;
+mod texts;
 mod uris;
 mod vocabularies;
 
+use refusal_harness::{Stop, Trial};
 use std::alloc::Global;
 use std::process::ExitCode;
-use stop::Stop;
 
-/// What the call of a name answers.
-fn answer(alloc: Global, name: &str) -> Result<String, Stop> {
+/// What the row of a name prints.
+fn row(alloc: Global, name: &str) -> Result<Trial, Stop> {
     match name.split_once(' ') {
-        Some(("uris", call)) => uris::answer(alloc, call),
-        Some(("parts", call)) => parts::answer(alloc, call),
-        Some(("drafts", call)) => drafts::answer(alloc, call),
-        Some(("vocabularies", call)) => vocabularies::answer(alloc, call),
-        Some(("registries", call)) => registries::answer(alloc, call),
+        Some(("uris", call)) => uris::row(alloc, call),
+        Some(("lists", call)) => lists::row(alloc, call),
+        Some(("maps", call)) => maps::row(alloc, call),
+        Some(("texts", call)) => texts::row(alloc, call),
+        Some(("drafts", call)) => drafts::row(alloc, call),
+        Some(("vocabularies", call)) => vocabularies::row(alloc, call),
         _ => Err(Stop::Wrong),
-    }
-}
-
-/// The status of a row without an answer.
-fn status_of(stop: Stop) -> u8 {
-    match stop {
-        Stop::Wrong => 1,
-        Stop::Refused => 3,
-        Stop::Before => 4,
-        Stop::After => 5,
     }
 }
 
 fn main(rt: HostRuntime) -> ExitCode {
     for line in rt.lines(rt.alloc()) {
         let Ok(name) = line else {
-            return ExitCode::from(status_of(Stop::Before));
+            return ExitCode::from(Stop::Before.status());
         };
-        match answer(rt.alloc(), name.as_str()) {
-            Ok(text) => {
-                if println!(rt; "{name}: {text}").is_err() {
-                    return ExitCode::from(status_of(Stop::After));
-                }
-            }
-            Err(stop) => return ExitCode::from(status_of(stop)),
+        let trial = match row(rt.alloc(), name.as_str()) {
+            Ok(trial) => trial,
+            Err(stop) => return ExitCode::from(stop.status()),
+        };
+        if println!(rt; "{}", trial.lines).is_err() {
+            return ExitCode::from(Stop::After.status());
+        }
+        if trial.is_refused {
+            return ExitCode::from(trial.status());
         }
     }
     ExitCode::from(0)

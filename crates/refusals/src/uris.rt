@@ -1,22 +1,66 @@
 //! Calls of `ref_uri`.
-use crate::stop::{Stop, after, before, refused};
 use ref_uri::uri::{from_str, resolve_against};
 use ref_uri::{Uri, UriRef};
+use refusal_harness::{Calls, Refusal, Stop, Trial, after, before, fault, refused, tried};
 use std::alloc::Global;
+use std::fmt;
 
-/// What the call of a name answers.
-pub fn answer(alloc: Global, call: &str) -> Result<String, Stop> {
-    match call {
-        "parse" => parsed(alloc),
-        "from_str" => meant(alloc),
-        "resolve_against" => meant_against(alloc),
-        "reference.resolve_against" => resolved(alloc),
-        "reference.normalize" => normal_text(alloc),
-        "normalize" => normal(alloc),
-        "set_fragment" => with_fragment(alloc, Some("/properties/name")),
-        "set_fragment none" => with_fragment(alloc, None),
-        "readers" => read(alloc),
-        _ => Err(Stop::Wrong),
+/// URIs that stand before a call.
+#[derive(Drop)]
+struct Uris {
+    /// `HTTP://A/./%7e`.
+    given: Uri,
+    /// `http://a:1/b?c#d`.
+    whole: Uri,
+    /// `http://a/r#x`, whose fragment is set.
+    set: Uri,
+}
+
+/// The row of a call.
+pub fn row(alloc: Global, call: &str) -> Result<Trial, Stop> {
+    let mut uris = Uris {
+        given: before(Uri::parse(alloc, "HTTP://A/./%7e"))?,
+        whole: before(Uri::parse(alloc, "http://a:1/b?c#d"))?,
+        set: before(Uri::parse(alloc, "http://a/r#x"))?,
+    };
+    tried(
+        alloc,
+        &mut uris,
+        "uris",
+        call,
+        &["normalize", "clone", "readers"],
+    )
+}
+
+impl Calls for Uris {
+    fn answer(&mut self, alloc: Global, call: &str) -> Result<String, Stop> {
+        match call {
+            "parse" => shown(alloc, Uri::parse(alloc, "http://a/r")),
+            "from_str" => shown(alloc, from_str(alloc, "HTTP://A/x/../%72")),
+            "from_str invalid" => shown(alloc, from_str(alloc, "a b")),
+            "resolve_against" => meant_against(alloc, "http://a/b/c/d;p?q", "../g"),
+            "resolve_against invalid" => meant_against(alloc, "http://a/b/c/d;p?q", "a b"),
+            "resolve_against without a scheme" => meant_against(alloc, "b", "../g"),
+            "reference.resolve_against" => resolved(alloc),
+            "reference.normalize" => normal_text(alloc),
+            "normalize" => shown(alloc, self.given.normalize(alloc)),
+            "clone" => shown(alloc, self.whole.clone()),
+            "set_fragment" => with_fragment(alloc, &mut self.set, Some("/properties/name")),
+            "set_fragment none" => with_fragment(alloc, &mut self.set, None),
+            "readers" => read(alloc, &self.whole),
+            _ => Err(Stop::Wrong),
+        }
+    }
+}
+
+/// The text of a URI, or of a fault.
+fn shown<E: Refusal + fmt::Display + Drop>(
+    alloc: Global,
+    uri: Result<Uri, E>,
+) -> Result<String, Stop> {
+    match uri {
+        Ok(uri) => after(String::from_str(alloc, uri.as_str())),
+        Err(error) => fault(alloc, &error),
     }
 }
 
@@ -25,62 +69,31 @@ fn reference(text: &str) -> Result<UriRef<'_>, Stop> {
     UriRef::parse(text).ok().ok_or(Stop::Wrong)
 }
 
-fn parsed(alloc: Global) -> Result<String, Stop> {
-    match Uri::parse(alloc, "http://a/r") {
-        Ok(uri) => after(String::from_str(alloc, uri.as_str())),
-        Err(fault) => Err(refused(&fault, true)),
-    }
-}
-
-fn meant(alloc: Global) -> Result<String, Stop> {
-    match from_str(alloc, "HTTP://A/x/../%72") {
-        Ok(uri) => after(String::from_str(alloc, uri.as_str())),
-        Err(fault) => Err(refused(&fault, true)),
-    }
-}
-
-fn meant_against(alloc: Global) -> Result<String, Stop> {
-    let base = reference("http://a/b/c/d;p?q")?;
-    match resolve_against(alloc, base, "../g") {
-        Ok(uri) => after(String::from_str(alloc, uri.as_str())),
-        Err(fault) => Err(refused(&fault, true)),
-    }
+fn meant_against(alloc: Global, base: &str, text: &str) -> Result<String, Stop> {
+    shown(alloc, resolve_against(alloc, reference(base)?, text))
 }
 
 fn resolved(alloc: Global) -> Result<String, Stop> {
     let base = reference("http://a/b/c/d;p?q")?;
-    match reference("g;x=1/../y")?.resolve_against(alloc, base) {
-        Ok(uri) => after(String::from_str(alloc, uri.as_str())),
-        Err(fault) => Err(refused(&fault, true)),
-    }
+    shown(alloc, reference("g;x=1/../y")?.resolve_against(alloc, base))
 }
 
 fn normal_text(alloc: Global) -> Result<String, Stop> {
     let given = reference("HTTP://A/./%7e")?;
     match given.normalize(alloc) {
         Ok(text) => Ok(text),
-        Err(fault) => Err(refused(&fault, given.as_str() == "HTTP://A/./%7e")),
+        Err(error) => Err(refused(&error, given.as_str() == "HTTP://A/./%7e")),
     }
 }
 
-fn normal(alloc: Global) -> Result<String, Stop> {
-    let given = before(Uri::parse(alloc, "HTTP://A/./%7e"))?;
-    match given.normalize(alloc) {
-        Ok(uri) => after(String::from_str(alloc, uri.as_str())),
-        Err(fault) => Err(refused(&fault, given.as_str() == "HTTP://A/./%7e")),
-    }
-}
-
-fn with_fragment(alloc: Global, fragment: Option<&str>) -> Result<String, Stop> {
-    let mut uri = before(Uri::parse(alloc, "http://a/r#x"))?;
+fn with_fragment(alloc: Global, uri: &mut Uri, fragment: Option<&str>) -> Result<String, Stop> {
     match uri.set_fragment(fragment) {
         Ok(()) => after(String::from_str(alloc, uri.as_str())),
-        Err(fault) => Err(refused(&fault, uri.as_str() == "http://a/r#x")),
+        Err(error) => Err(refused(&error, uri.as_str() == "http://a/r#x")),
     }
 }
 
-fn read(alloc: Global) -> Result<String, Stop> {
-    let uri = before(Uri::parse(alloc, "http://a:1/b?c#d"))?;
+fn read(alloc: Global, uri: &Uri) -> Result<String, Stop> {
     let (scheme, path) = (uri.scheme(), uri.path());
     let authority = uri.authority().unwrap_or("");
     let query = uri.query().unwrap_or("");

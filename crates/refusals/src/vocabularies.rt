@@ -1,86 +1,145 @@
 //! Calls of vocabularies.
-use crate::stop::{Stop, after, before, refused};
+use ref_draft::Draft;
 use ref_retrieve::Error;
-use ref_vocabularies::{Vocabulary, VocabularySet, find};
+use ref_vocabularies::{
+    Dialect, Vocabulary, VocabularySet, declared_or_default, default_vocabularies, find,
+};
+use refusal_harness::{Calls, Stop, Trial, after, before, fault, refused, tried};
 use serde_json::Value;
 use std::alloc::{AllocError, Global};
 
-/// What the call of a name answers.
-pub fn answer(alloc: Global, call: &str) -> Result<String, Stop> {
-    match call {
-        "from_text" => named(alloc, "https://example.com/v"),
-        "from_text known" => named(alloc, "https://json-schema.org/draft/2020-12/vocab/core"),
-        "from_text invalid" => named(alloc, "a b"),
-        "add" => added_first(alloc),
-        "add known" => added(alloc, "https://json-schema.org/draft/2020-12/vocab/core"),
-        "find" => found(alloc),
-        _ => Err(Stop::Wrong),
-    }
+const CORE: &str = "https://json-schema.org/draft/2020-12/vocab/core";
+
+const CUSTOM: &str = "https://example.com/v";
+
+const META: &str =
+    r#"{"$vocabulary":{"https://json-schema.org/draft/2020-12/vocab/core":true,"https://example.com/v":true,"https://example.com/w":false}}"#;
+
+/// An empty set, one of a vocabulary that isn't known, that vocabulary, and a meta-schema.
+#[derive(Drop)]
+struct Vocabularies {
+    empty: VocabularySet,
+    one: VocabularySet,
+    custom: Vocabulary,
+    meta: Value,
 }
 
-fn named(alloc: Global, text: &str) -> Result<String, Stop> {
-    match Vocabulary::from_text(alloc, text) {
-        Ok(Vocabulary::Custom(uri)) => after(String::from_str(alloc, uri.as_str())),
-        Ok(vocabulary) => {
-            let is_core = matches!(vocabulary, Vocabulary::Core);
-            after(format!(in alloc; "core {is_core}"))
+/// The row of a call.
+pub fn row(alloc: Global, call: &str) -> Result<Trial, Stop> {
+    let mut one = VocabularySet::new();
+    one.add(alloc, custom(alloc, CUSTOM)?)?;
+    let mut vocabularies = Vocabularies {
+        empty: VocabularySet::new(),
+        one,
+        custom: custom(alloc, CUSTOM)?,
+        meta: before(Value::from_str(alloc, META))?,
+    };
+    tried(
+        alloc,
+        &mut vocabularies,
+        "vocabularies",
+        call,
+        &["find", "vocabulary.clone", "dialect"],
+    )
+}
+
+fn custom(alloc: Global, text: &str) -> Result<Vocabulary, Stop> {
+    before(Vocabulary::from_text(alloc, text))
+}
+
+impl Calls for Vocabularies {
+    fn answer(&mut self, alloc: Global, call: &str) -> Result<String, Stop> {
+        match call {
+            "from_text" => shown(alloc, Vocabulary::from_text(alloc, CUSTOM)),
+            "from_text known" => shown(alloc, Vocabulary::from_text(alloc, CORE)),
+            "from_text invalid" => shown(alloc, Vocabulary::from_text(alloc, "a b")),
+            "vocabulary.clone" => copied(alloc, &self.custom),
+            "vocabulary.clone known" => copied(alloc, &Vocabulary::Core),
+            "set.add" => added(alloc, &mut self.empty, CUSTOM, 0),
+            "set.add known" => added(alloc, &mut self.one, CORE, 1),
+            "set.add again" => added(alloc, &mut self.one, CUSTOM, 1),
+            "set.clone" => set(alloc, self.one.clone()),
+            "set.clone known" => set(alloc, default_vocabularies(Draft::Draft7).clone()),
+            "find" => found(alloc, &self.meta),
+            "declared_or_default" => set(alloc, declared_or_default(alloc, Some(&self.meta))),
+            "dialect" => spoken(alloc),
+            _ => Err(Stop::Wrong),
         }
-        Err(Error::Memory(error)) => Err(refused(&error, true)),
-        Err(error) => after(format!(in alloc; "{error}")),
     }
 }
 
-/// A set of one vocabulary that isn't known.
-fn one(alloc: Global) -> Result<VocabularySet, Stop> {
-    let mut set = VocabularySet::new();
-    let vocabulary = before(Vocabulary::from_text(alloc, "https://example.com/v"))?;
-    set.add(alloc, vocabulary)?;
-    Ok(set)
-}
-
-/// Whether a set has that one alone.
-fn is_one(set: &VocabularySet) -> bool {
-    let mut count: usize = 0;
-    let mut is_there = false;
-    for uri in set.custom() {
-        count = count.saturating_add(1);
-        is_there = uri == "https://example.com/v";
+/// The text of a vocabulary, or of a fault.
+fn shown(alloc: Global, named: Result<Vocabulary, Error>) -> Result<String, Stop> {
+    match named {
+        Ok(vocabulary) => after(told(alloc, &vocabulary)),
+        Err(error) => fault(alloc, &error),
     }
-    count == 1 && is_there && !set.contains(&Vocabulary::Core)
 }
 
-fn added_first(alloc: Global) -> Result<String, Stop> {
-    let mut set = VocabularySet::new();
-    let vocabulary = before(Vocabulary::from_text(alloc, "https://example.com/v"))?;
+/// The URI of a vocabulary that isn't known, and whether another is `core`.
+fn told(alloc: Global, vocabulary: &Vocabulary) -> Result<String, AllocError> {
+    match vocabulary {
+        Vocabulary::Custom(uri) => String::from_str(alloc, uri.as_str()),
+        _ => {
+            let is_core = matches!(vocabulary, Vocabulary::Core);
+            format!(in alloc; "core {is_core}")
+        }
+    }
+}
+
+fn copied(alloc: Global, vocabulary: &Vocabulary) -> Result<String, Stop> {
+    match vocabulary.clone() {
+        Ok(copy) => after(told(alloc, &copy)),
+        Err(error) => Err(refused(&error, true)),
+    }
+}
+
+/// Whether a set has so many vocabularies that aren't known, and not `core`.
+fn has(set: &VocabularySet, count: usize) -> bool {
+    let mut customs: usize = 0;
+    for _ in set.custom() {
+        customs = customs.saturating_add(1);
+    }
+    customs == count && !set.contains(&Vocabulary::Core)
+}
+
+fn added(alloc: Global, set: &mut VocabularySet, text: &str, count: usize) -> Result<String, Stop> {
+    let vocabulary = custom(alloc, text)?;
     match set.add(alloc, vocabulary) {
         Ok(()) => after(format!(in alloc; "{set:?}")),
-        Err(error) => Err(refused(&error, set.custom().next().is_none())),
+        Err(error) => Err(refused(&error, has(set, count))),
     }
 }
 
-fn added(alloc: Global, text: &str) -> Result<String, Stop> {
-    let mut set = one(alloc)?;
-    let vocabulary = before(Vocabulary::from_text(alloc, text))?;
-    match set.add(alloc, vocabulary) {
-        Ok(()) => after(format!(in alloc; "{set:?}")),
-        Err(error) => Err(refused(&error, is_one(&set))),
+/// The text of a set.
+fn set(alloc: Global, set: Result<VocabularySet, AllocError>) -> Result<String, Stop> {
+    match set {
+        Ok(set) => after(format!(in alloc; "{set:?}")),
+        Err(error) => Err(refused(&error, true)),
     }
 }
 
 /// The text of a set, or that there is none.
-fn shown(alloc: Global, set: &Option<VocabularySet>) -> Result<String, AllocError> {
+fn listed(alloc: Global, set: &Option<VocabularySet>) -> Result<String, AllocError> {
     match set {
         Some(set) => format!(in alloc; "{set:?}"),
         None => String::from_str(alloc, "none"),
     }
 }
 
-fn found(alloc: Global) -> Result<String, Stop> {
-    let text =
-        r#"{"$vocabulary":{"https://json-schema.org/draft/2020-12/vocab/core":true,"https://example.com/v":true,"https://example.com/w":false}}"#;
-    let document = before(Value::from_str(alloc, text))?;
-    match find(alloc, &document) {
-        Ok(set) => after(shown(alloc, &set)),
-        Err(error) => Err(refused(&error, document.get("$vocabulary").is_some())),
+fn found(alloc: Global, meta: &Value) -> Result<String, Stop> {
+    match find(alloc, meta) {
+        Ok(set) => after(listed(alloc, &set)),
+        Err(error) => fault(alloc, &error),
+    }
+}
+
+/// The URI under which the vocabularies of a schema are declared.
+fn spoken(alloc: Global) -> Result<String, Stop> {
+    let schema = before(Value::from_str(alloc, r#"{"$schema":"http://a/m#"}"#))?;
+    match Dialect::of(alloc, Draft::Unknown, &schema) {
+        Ok(Dialect::MetaSchema(uri)) => after(String::from_str(alloc, uri.as_str())),
+        Ok(_) => Err(Stop::Wrong),
+        Err(error) => Err(refused(&error, true)),
     }
 }

@@ -3,19 +3,32 @@ ghost use Rattle.std.specs.Prelude.{⊤};
 
 use ref_retrieve::{Error, RetrieveError};
 use ref_uri::{ResolveFault, UriFault, UriParseFault};
-use std::alloc::AllocError;
+use std::alloc::{AllocError, Global};
+use std::fmt;
 
 /// Why a row has no answer.
 #[derive(Clone, Copy, Drop)]
 pub enum Stop {
     /// Memory was refused before the call.
     Before,
-    /// The call wanted memory, and what stood before it answers as before.
+    /// The call wanted memory, and what it was made on is as it was.
     Refused,
     /// Memory was refused once the call had answered.
     After,
-    /// There is no such row, the call was refused in another way, or something answers otherwise afterwards.
+    /// There is no such row, or what the call was made on is not as it was.
     Wrong,
+}
+
+impl Stop {
+    /// The status with which the program ends.
+    pub fn status(&self) -> u8 {
+        match self {
+            Stop::Wrong => 1,
+            Stop::Refused => 3,
+            Stop::Before => 4,
+            Stop::After => 5,
+        }
+    }
 }
 
 impl From<AllocError> for Stop {
@@ -70,13 +83,21 @@ impl Refusal for Error {
     }
 }
 
-/// Why a refused call has no answer: only want of memory is right, and only where what stood before answers as before.
+/// Why a refused call has no answer: only want of memory is right, and only where what it was made on is as it was.
 pub fn refused<E: Refusal>(refusal: &E, stands: bool) -> Stop {
     if refusal.is_memory() && stands {
         Stop::Refused
     } else {
         Stop::Wrong
     }
+}
+
+/// The text of a fault, which is the answer; want of memory is none.
+pub fn fault<E: Refusal + fmt::Display>(alloc: Global, error: &E) -> Result<String, Stop> {
+    if error.is_memory() {
+        return Err(Stop::Refused);
+    }
+    after(format!(in alloc; "{error}"))
 }
 
 /// A value that is made before the call.

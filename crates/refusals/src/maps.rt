@@ -1,0 +1,110 @@
+//! Calls of maps and tables of `ref_parts`.
+use ref_parts::small_map::SmallMap;
+use ref_parts::table::SortedTable;
+use refusal_harness::{Calls, Stop, Trial, after, refused, tried};
+use std::alloc::{AllocError, Global};
+
+/// A map of two pairs, as many as stand in it without memory, and one of three.
+#[derive(Drop)]
+struct Maps {
+    two: SmallMap<u32, u32, 2>,
+    three: SmallMap<u32, u32, 2>,
+}
+
+/// The row of a call.
+pub fn row(alloc: Global, call: &str) -> Result<Trial, Stop> {
+    let mut three = two_pairs(alloc)?;
+    three.insert(alloc, 3, 30)?;
+    let mut maps = Maps {
+        two: two_pairs(alloc)?,
+        three,
+    };
+    tried(
+        alloc,
+        &mut maps,
+        "maps",
+        call,
+        &["clone", "readers", "table.from_entries"],
+    )
+}
+
+impl Calls for Maps {
+    fn answer(&mut self, alloc: Global, call: &str) -> Result<String, Stop> {
+        match call {
+            "insert" => promoted(alloc, &mut self.two),
+            "get_or_insert_default" => promoted_by_default(alloc, &mut self.two),
+            "clone" => copied_map(alloc, &self.three),
+            "readers" => read(alloc, &self.three),
+            "table.from_entries" => table(alloc),
+            _ => Err(Stop::Wrong),
+        }
+    }
+}
+
+fn two_pairs(alloc: Global) -> Result<SmallMap<u32, u32, 2>, AllocError> {
+    let mut map: SmallMap<u32, u32, 2> = SmallMap::new();
+    map.insert(alloc, 1, 10)?;
+    map.insert(alloc, 2, 20)?;
+    Ok(map)
+}
+
+/// Whether a map has the two pairs, and none at 3.
+fn has_two(map: &SmallMap<u32, u32, 2>) -> bool {
+    map.is_small() && map.get(&1) == Some(&10) && map.get(&2) == Some(&20) && map.get(&3).is_none()
+}
+
+fn promoted(alloc: Global, map: &mut SmallMap<u32, u32, 2>) -> Result<String, Stop> {
+    match map.insert(alloc, 3, 30) {
+        Ok(()) => after(format!(in alloc; "{map:?}")),
+        Err(error) => Err(refused(&error, has_two(map))),
+    }
+}
+
+/// Writes at a key, with the default there first where it is new.
+fn write_at(map: &mut SmallMap<u32, u32, 2>, alloc: Global, key: u32) -> Result<(), AllocError> {
+    let value = map.get_or_insert_default(alloc, key)?;
+    *value = 5;
+    Ok(())
+}
+
+fn promoted_by_default(alloc: Global, map: &mut SmallMap<u32, u32, 2>) -> Result<String, Stop> {
+    match write_at(map, alloc, 3) {
+        Ok(()) => after(format!(in alloc; "{map:?}")),
+        Err(error) => Err(refused(&error, has_two(map))),
+    }
+}
+
+fn copied_map(alloc: Global, map: &SmallMap<u32, u32, 2>) -> Result<String, Stop> {
+    match map.clone() {
+        Ok(copy) => after(format!(in alloc; "{copy:?}")),
+        Err(error) => Err(refused(&error, true)),
+    }
+}
+
+fn read(alloc: Global, map: &SmallMap<u32, u32, 2>) -> Result<String, Stop> {
+    let third = map.get(&3).copied().unwrap_or(0);
+    let is_small = map.is_small();
+    after(format!(in alloc; "{third} {is_small}"))
+}
+
+/// Three entries, of which two stand under one pair of texts.
+fn entries(alloc: Global) -> Result<Vec<(String, String, u32)>, AllocError> {
+    let mut entries = Vec::with_capacity(alloc, 3)?;
+    for (first, number) in [("b", 1u32), ("a", 2), ("b", 3)] {
+        let entry = (String::from_str(alloc, first)?, String::new(alloc), number);
+        entries.push(entry)?;
+    }
+    Ok(entries)
+}
+
+fn table(alloc: Global) -> Result<String, Stop> {
+    let entries = entries(alloc)?;
+    match SortedTable::from_entries(alloc, entries) {
+        Ok(table) => {
+            let len = table.len();
+            let last = table.get("b", "").0.copied().unwrap_or(0);
+            after(format!(in alloc; "{len} {last}"))
+        }
+        Err(error) => Err(refused(&error, true)),
+    }
+}

@@ -1,0 +1,196 @@
+//! Calls of builders above a registry.
+use crate::documents::{DOCUMENT, META, retriever, title_of, uri, value};
+use ref_retrieve::{Error, Retrieve};
+use referencing::{AnswerError, Draft, Registry, RegistryBuilder, Step};
+use refusal_harness::{Calls, Stop, Trial, after, before, fault, refused, tried};
+use serde_json::Value;
+use std::alloc::{AllocError, Global};
+
+/// A registry of a meta-schema, and a builder above it with a document.
+#[derive(Drop)]
+struct Builders<'p, 'a> {
+    parent: &'p Registry<'a>,
+    builder: RegistryBuilder<'p>,
+}
+
+/// The row of a call.
+pub fn row(alloc: Global, call: &str) -> Result<Trial, Stop> {
+    let meta = value(alloc, META)?;
+    let pairs = [("http://a/m", &meta)];
+    let parent = before(Registry::from_meta_schemas(alloc, &pairs))?;
+    let mut builders = Builders {
+        parent: &parent,
+        builder: builder(alloc, &parent)?,
+    };
+    tried(
+        alloc,
+        &mut builders,
+        "builders",
+        call,
+        &[
+            "parent.contains_resource",
+            "parent.find_vocabularies",
+            "parent.lookup",
+            "clone",
+        ],
+    )
+}
+
+impl Calls for Builders<'_, '_> {
+    fn answer(&mut self, alloc: Global, call: &str) -> Result<String, Stop> {
+        match call.strip_prefix("parent.") {
+            Some(call) => above(alloc, self.parent, call),
+            None => built(alloc, self.parent, &self.builder, call),
+        }
+    }
+}
+
+/// A builder with a document above a registry.
+fn builder<'b>(alloc: Global, parent: &'b Registry<'_>) -> Result<RegistryBuilder<'b>, Stop> {
+    before(parent.add(alloc, "http://a/r", Value::Null))
+}
+
+fn pair() -> [(&'static str, Value); 1] {
+    [("http://a/y", Value::Null)]
+}
+
+fn above(alloc: Global, parent: &Registry<'_>, call: &str) -> Result<String, Stop> {
+    match call {
+        "add" => ready(alloc, parent.add(alloc, "http://a/r", Value::Null)),
+        "add invalid" => ready(alloc, parent.add(alloc, "a b", Value::Null)),
+        "extend" => ready(alloc, parent.extend(alloc, pair())),
+        "contains_resource" => known(alloc, parent),
+        "find_vocabularies" => declared(alloc, parent),
+        "lookup" => looked_up(alloc, parent),
+        _ => prepared(alloc, parent, call),
+    }
+}
+
+fn built(
+    alloc: Global,
+    parent: &Registry<'_>,
+    given: &RegistryBuilder<'_>,
+    call: &str,
+) -> Result<String, Stop> {
+    match call {
+        "from_meta_schemas" => meta_schemas(alloc, "http://a/m"),
+        "from_meta_schemas invalid" => meta_schemas(alloc, "a b"),
+        "add" => ready(
+            alloc,
+            builder(alloc, parent)?.add("http://a/x", Value::Null),
+        ),
+        "extend" => ready(alloc, builder(alloc, parent)?.extend(pair())),
+        "clone" => match given.clone() {
+            Ok(copy) => after(outcome(alloc, copy)),
+            Err(error) => Err(refused(&error, true)),
+        },
+        _ => Err(Stop::Wrong),
+    }
+}
+
+/// Which URIs are known to a registry, or that memory was wanted.
+pub fn known(alloc: Global, registry: &Registry<'_>) -> Result<String, Stop> {
+    match marks(alloc, registry) {
+        Ok(text) => Ok(text),
+        Err(error) => Err(refused(&error, true)),
+    }
+}
+
+/// A `+` for each of these URIs that is known to a registry, and a `-` for each that isn't.
+pub fn marks(alloc: Global, registry: &Registry<'_>) -> Result<String, AllocError> {
+    let mut text = String::with_capacity(alloc, 4)?;
+    for uri in ["http://a/m", "http://a/r", "http://a/x", "http://a/y"] {
+        let is_known = registry.contains_resource(alloc, uri)?;
+        text.push(if is_known { '+' } else { '-' })?;
+    }
+    Ok(text)
+}
+
+/// Which URIs are known once a builder is prepared.
+fn outcome<R: Retrieve + Drop>(
+    alloc: Global,
+    builder: RegistryBuilder<'_, R>,
+) -> Result<String, AllocError> {
+    match builder.prepare() {
+        Ok(registry) => marks(alloc, &registry),
+        Err(_) => Err(AllocError),
+    }
+}
+
+fn ready(alloc: Global, built: Result<RegistryBuilder<'_>, Error>) -> Result<String, Stop> {
+    match built {
+        Ok(builder) => after(outcome(alloc, builder)),
+        Err(error) => fault(alloc, &error),
+    }
+}
+
+/// The URIs of a registry that was made, or the fault.
+fn made(alloc: Global, made: Result<Registry<'_>, Error>) -> Result<String, Stop> {
+    match made {
+        Ok(registry) => after(marks(alloc, &registry)),
+        Err(error) => fault(alloc, &error),
+    }
+}
+
+fn meta_schemas(alloc: Global, uri: &str) -> Result<String, Stop> {
+    let meta = value(alloc, META)?;
+    let pairs = [(uri, &meta)];
+    made(alloc, Registry::from_meta_schemas(alloc, &pairs))
+}
+
+/// The vocabularies of a schema whose meta-schema is in a registry.
+fn declared(alloc: Global, registry: &Registry<'_>) -> Result<String, Stop> {
+    let schema = value(alloc, r#"{"$schema":"http://a/m"}"#)?;
+    match registry.find_vocabularies(alloc, Draft::Unknown, &schema) {
+        Ok(set) => after(format!(in alloc; "{set:?}")),
+        Err(error) => Err(refused(&error, true)),
+    }
+}
+
+/// The title of the meta-schema.
+fn looked_up(alloc: Global, registry: &Registry<'_>) -> Result<String, Stop> {
+    let resolver = before(registry.resolver(alloc, uri(alloc, "http://a/r")?))?;
+    match resolver.lookup(alloc, "m") {
+        Ok(found) => after(String::from_str(alloc, title_of(found.contents()))),
+        Err(error) => fault(alloc, &error),
+    }
+}
+
+fn prepared(alloc: Global, parent: &Registry<'_>, call: &str) -> Result<String, Stop> {
+    let document = value(alloc, DOCUMENT)?;
+    let builder = before(parent.add(alloc, "http://a/r", &document))?;
+    match call {
+        "prepare" => made(alloc, builder.retriever(retriever(alloc)?).prepare()),
+        "prepare without a retriever" => made(alloc, builder.prepare()),
+        "prepare without the document" => {
+            let builder = before(builder.add("http://a/z", value(alloc, r#"{"$ref":"w"}"#)?))?;
+            made(alloc, builder.retriever(retriever(alloc)?).prepare())
+        }
+        "prepare to the limit" => {
+            let builder = builder.retriever(retriever(alloc)?).retrieval_limit(0);
+            made(alloc, builder.prepare())
+        }
+        "prepare_and_follow" => answered(alloc, builder.retriever(retriever(alloc)?)),
+        _ => Err(Stop::Wrong),
+    }
+}
+
+fn answered<R: Retrieve + Drop>(
+    alloc: Global,
+    builder: RegistryBuilder<'_, R>,
+) -> Result<String, Stop> {
+    let base = uri(alloc, "http://a/r")?;
+    match builder.prepare_and_follow(base, &[Step::Lookup("x"), Step::Lookup("y")]) {
+        Ok(answer) => {
+            let title = match &answer.last {
+                Some((value, _)) => title_of(value),
+                None => "none",
+            };
+            let base = answer.base.as_str();
+            after(format!(in alloc; "{title} {base}"))
+        }
+        Err(AnswerError::Prepare(error)) => Err(refused(&error, true)),
+        Err(AnswerError::Follow(error)) => Err(refused(&error.error, true)),
+        Err(AnswerError::Memory(error)) => Err(refused(&error, true)),
+    }
+}

@@ -1,0 +1,76 @@
+//! The six kinds of input: a document with a list of no text or of a hundred is added, prepared, and looked up. No value is copied
+//! where both make as many requests.
+use crate::documents::value;
+use ref_draft::{Draft, Resource, ResourceRef};
+use ref_retrieve::Error;
+use ref_uri::uri::from_str;
+use referencing::{IntoRegistryResource, Registry};
+use refusal_harness::{Calls, Stop, Trial, after, fault, tried};
+use serde_json::Value;
+use std::alloc::{AllocError, Global};
+use std::rc::Rc;
+
+/// Nothing stands before these calls.
+#[derive(Drop)]
+struct Kinds;
+
+/// The row of a call.
+pub fn row(alloc: Global, call: &str) -> Result<Trial, Stop> {
+    tried(alloc, &mut Kinds, "kinds", call, &[])
+}
+
+impl Calls for Kinds {
+    fn answer(&mut self, alloc: Global, call: &str) -> Result<String, Stop> {
+        let Some((kind, size)) = call.split_once(' ') else {
+            return Err(Stop::Wrong);
+        };
+        let size = if size == "of 100" { 100 } else { 0 };
+        let document = document_of(alloc, size)?;
+        let value = value(alloc, document.as_str())?;
+        match found_of(alloc, kind, value) {
+            Ok(count) => after(format!(in alloc; "{count}")),
+            Err(error) => fault(alloc, &error),
+        }
+    }
+}
+
+/// The text of a document with a list of so many texts.
+fn document_of(alloc: Global, size: usize) -> Result<String, AllocError> {
+    let mut text = String::from_str(alloc, "{\"const\":[")?;
+    for number in 0..size {
+        text.push_str(if number > 0 { ",\"a\"" } else { "\"a\"" })?;
+    }
+    text.push_str("]}")?;
+    Ok(text)
+}
+
+/// Adds a document, prepares it, and looks its list up: how many items that has.
+fn found<'a, T: IntoRegistryResource<'a>>(alloc: Global, document: T) -> Result<usize, Error> {
+    let registry = Registry::new(alloc).add("http://a/r", document)?.prepare()?;
+    let resolver = registry.resolver(alloc, from_str(alloc, "http://a/r")?)?;
+    let found = resolver.lookup(alloc, "#/const")?;
+    match found.contents().as_array() {
+        Some(items) => Ok(items.len()),
+        None => Ok(0),
+    }
+}
+
+/// A value that is shared.
+fn shared(alloc: Global, value: Value) -> Result<Rc<Value>, AllocError> {
+    Ok(Rc::new(alloc, value)?)
+}
+
+/// The same of a document of a kind.
+fn found_of(alloc: Global, kind: &str, value: Value) -> Result<usize, Error> {
+    match kind {
+        "value" => found(alloc, value),
+        "lent" => found(alloc, &value),
+        "shared" => found(alloc, shared(alloc, value)?),
+        "resource" => found(alloc, Draft::Draft202012.create_resource(value)),
+        "lent-resource" => {
+            let resource: Resource = Draft::Draft202012.create_resource(value);
+            found(alloc, &resource)
+        }
+        _ => found(alloc, ResourceRef::new(&value, Draft::Draft202012)),
+    }
+}

@@ -1,0 +1,176 @@
+//! Calls of a registry of a document and of one that was retrieved, above one of a meta-schema; and of resolvers in it.
+use crate::builders::{known, marks};
+use crate::documents::{DOCUMENT, META, SUBRESOURCE, retriever, uri, value};
+use crate::resolvers::{found, resolver, set, steps};
+use ref_lint::{Dangling, dangling};
+use ref_retrieve::Error;
+use ref_uri::Uri;
+use referencing::{Draft, JsonPointerSegment, Registry, Resolver};
+use refusal_harness::{Calls, Stop, Trial, after, before, fault, refused, tried};
+use std::alloc::{AllocError, Global};
+use std::rc::Rc;
+
+/// A registry, a resolver at its document, and one that a reference of it leads to.
+#[derive(Drop)]
+struct Scene<'s, 'a, 'o, 'i> {
+    registry: &'s Registry<'a>,
+    outer: Resolver<'o>,
+    inner: Resolver<'i>,
+}
+
+/// The calls that are made again of the same registry and resolvers once one of them wanted memory: those that change nothing.
+const NEIGHBOURS: [&str; 32] = [
+    "contains_resource",
+    "resolve_uri",
+    "clone",
+    "places",
+    "locate",
+    "find_vocabularies",
+    "dangling",
+    "outer.lookup #",
+    "outer.lookup x",
+    "outer.lookup x#n",
+    "outer.lookup y",
+    "outer.lookup #/$defs/x/title",
+    "outer.lookup #/%24defs/x",
+    "outer.lookup http://a/m",
+    "outer.lookup http://a/none",
+    "outer.lookup a b",
+    "outer.lookup #none",
+    "outer.lookup #no/ne",
+    "outer.lookup #/none",
+    "outer.lookup #/enum/e",
+    "outer.lookup #/%FF",
+    "outer.resolve_uri",
+    "inner.lookup #",
+    "inner.lookup #d",
+    "inner.lookup_recursive_ref",
+    "inner.in_subresource",
+    "inner.clone",
+    "inner.find_vocabularies",
+    "inner.readers",
+    "resolver",
+    "follow",
+    "follow to a fault",
+];
+
+/// The row of a call.
+pub fn row(alloc: Global, call: &str) -> Result<Trial, Stop> {
+    let meta = value(alloc, META)?;
+    let pairs = [("http://a/m", &meta)];
+    let parent = before(Registry::from_meta_schemas(alloc, &pairs))?;
+    let document = value(alloc, DOCUMENT)?;
+    let builder = before(parent.add(alloc, "http://a/r", &document))?;
+    let registry = before(builder.retriever(retriever(alloc)?).prepare())?;
+    among(alloc, &registry, call)
+}
+
+fn among(alloc: Global, registry: &Registry<'_>, call: &str) -> Result<Trial, Stop> {
+    let outer = before(registry.resolver(alloc, uri(alloc, "http://a/r")?))?;
+    let (_, inner, _) = before(outer.lookup(alloc, "x"))?.into_inner();
+    let mut scene = Scene {
+        registry,
+        outer,
+        inner,
+    };
+    tried(alloc, &mut scene, "registries", call, &NEIGHBOURS)
+}
+
+impl Calls for Scene<'_, '_, '_, '_> {
+    fn answer(&mut self, alloc: Global, call: &str) -> Result<String, Stop> {
+        if let Some(call) = call.strip_prefix("outer.") {
+            return resolver(alloc, &self.outer, call);
+        }
+        match call.strip_prefix("inner.") {
+            Some(call) => resolver(alloc, &self.inner, call),
+            None => registry(alloc, self.registry, call),
+        }
+    }
+}
+
+fn registry(alloc: Global, registry: &Registry<'_>, call: &str) -> Result<String, Stop> {
+    match call {
+        "contains_resource" => contained(alloc, registry, "HTTP://a/%78"),
+        "contains_resource none" => contained(alloc, registry, "http://a/none"),
+        "contains_resource each" => known(alloc, registry),
+        "resolve_uri" => at(alloc, &uri(alloc, "http://a/r")?, registry, "z"),
+        "resolve_uri cached" => at(alloc, &uri(alloc, "http://a/r")?, registry, "x"),
+        "resolve_uri invalid" => at(alloc, &uri(alloc, "http://a/r")?, registry, "a b"),
+        "clone" => cloned(alloc, registry),
+        "places" => listed(alloc, registry),
+        "locate" => located(alloc, registry, "x"),
+        "locate nothing" => located(alloc, registry, "z"),
+        "dangling" => leading_nowhere(alloc, registry),
+        "find_vocabularies" => {
+            let schema = value(alloc, SUBRESOURCE)?;
+            set(
+                alloc,
+                registry.find_vocabularies(alloc, Draft::Unknown, &schema),
+            )
+        }
+        _ => steps(alloc, registry, call),
+    }
+}
+
+fn contained(alloc: Global, registry: &Registry<'_>, uri: &str) -> Result<String, Stop> {
+    match registry.contains_resource(alloc, uri) {
+        Ok(is_contained) => after(format!(in alloc; "{is_contained}")),
+        Err(error) => Err(refused(&error, true)),
+    }
+}
+
+/// The text of a URI that was resolved, or the fault.
+pub fn resolved(alloc: Global, resolved: Result<Rc<Uri>, Error>) -> Result<String, Stop> {
+    match resolved {
+        Ok(uri) => after(String::from_str(alloc, uri.as_str())),
+        Err(error) => fault(alloc, &error),
+    }
+}
+
+fn at(alloc: Global, base: &Uri, registry: &Registry<'_>, text: &str) -> Result<String, Stop> {
+    resolved(alloc, registry.resolve_uri(alloc, base.borrow(), text))
+}
+
+fn cloned(alloc: Global, registry: &Registry<'_>) -> Result<String, Stop> {
+    match registry.clone() {
+        Ok(copy) => after(marks(alloc, &copy)),
+        Err(error) => Err(refused(&error, true)),
+    }
+}
+
+fn listed(alloc: Global, registry: &Registry<'_>) -> Result<String, Stop> {
+    match registry.places(alloc) {
+        Ok(places) => {
+            let count = places.len();
+            after(format!(in alloc; "{count}"))
+        }
+        Err(error) => fault(alloc, &error),
+    }
+}
+
+fn located(alloc: Global, registry: &Registry<'_>, key: &str) -> Result<String, Stop> {
+    let base = uri(alloc, "http://a/r")?;
+    let path = [
+        JsonPointerSegment::from("$defs"),
+        JsonPointerSegment::from(key),
+    ];
+    found(alloc, registry.locate(alloc, &base, &path))
+}
+
+/// The references that lead nowhere, each with its document and its fault.
+fn entries(alloc: Global, dangling: &[Dangling<'_>]) -> Result<String, AllocError> {
+    let mut text = String::new(alloc);
+    for entry in dangling {
+        let (document, reference, error) = (entry.document, entry.reference, &entry.error);
+        let entry = format!(in alloc; "{document} {reference} {error};")?;
+        text.push_str(entry.as_str())?;
+    }
+    Ok(text)
+}
+
+fn leading_nowhere(alloc: Global, registry: &Registry<'_>) -> Result<String, Stop> {
+    match dangling(alloc, registry) {
+        Ok(dangling) => after(entries(alloc, dangling.as_slice())),
+        Err(error) => fault(alloc, &error),
+    }
+}

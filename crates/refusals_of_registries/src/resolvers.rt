@@ -1,0 +1,119 @@
+//! Calls of resolvers, and steps.
+use crate::documents::{SUBRESOURCE, title_of, uri, value};
+use crate::registries::resolved;
+use ref_retrieve::Error;
+use ref_uri::Uri;
+use ref_vocabularies::VocabularySet;
+use referencing::{Draft, FollowError, Registry, Resolved, Resolver, ResourceRef, Step, follow};
+use refusal_harness::{Refusal, Stop, after, fault, refused};
+use std::alloc::{AllocError, Global};
+
+/// What a call of a resolver answers.
+pub fn resolver(alloc: Global, resolver: &Resolver<'_>, call: &str) -> Result<String, Stop> {
+    if let Some(reference) = call.strip_prefix("lookup ") {
+        return found(alloc, resolver.lookup(alloc, reference));
+    }
+    match call {
+        "resolve_uri" => at(alloc, resolver, "z"),
+        "resolve_uri cached" => at(alloc, resolver, "x"),
+        "resolve_uri invalid" => at(alloc, resolver, "a b"),
+        "lookup_recursive_ref" => found(alloc, resolver.lookup_recursive_ref(alloc)),
+        "in_subresource" => entered(alloc, resolver),
+        "clone" => shown(alloc, resolver.clone()),
+        "find_vocabularies" => {
+            let schema = value(alloc, SUBRESOURCE)?;
+            set(
+                alloc,
+                resolver.find_vocabularies(alloc, Draft::Unknown, &schema),
+            )
+        }
+        "readers" => after(format!(in alloc; "{resolver:?}")),
+        _ => Err(Stop::Wrong),
+    }
+}
+
+fn at(alloc: Global, resolver: &Resolver<'_>, text: &str) -> Result<String, Stop> {
+    let base = uri(alloc, "http://a/r")?;
+    resolved(alloc, resolver.resolve_uri(alloc, base.borrow(), text))
+}
+
+/// The title of what was looked up with the resolver there, or the fault.
+pub fn found(alloc: Global, looked_up: Result<Resolved<'_>, Error>) -> Result<String, Stop> {
+    match looked_up {
+        Ok(found) => {
+            let title = title_of(found.contents());
+            let resolver = found.resolver();
+            after(format!(in alloc; "{title} {resolver:?}"))
+        }
+        Err(error) => fault(alloc, &error),
+    }
+}
+
+/// A resolver, or that memory was wanted.
+fn shown(alloc: Global, resolver: Result<Resolver<'_>, AllocError>) -> Result<String, Stop> {
+    match resolver {
+        Ok(resolver) => after(format!(in alloc; "{resolver:?}")),
+        Err(error) => Err(refused(&error, true)),
+    }
+}
+
+fn entered(alloc: Global, resolver: &Resolver<'_>) -> Result<String, Stop> {
+    let schema = value(alloc, SUBRESOURCE)?;
+    match resolver.in_subresource(alloc, ResourceRef::new(&schema, Draft::Draft202012)) {
+        Ok(resolver) => after(format!(in alloc; "{resolver:?}")),
+        Err(error) => fault(alloc, &error),
+    }
+}
+
+/// The text of a set that was found.
+pub fn set(alloc: Global, found: Result<VocabularySet, AllocError>) -> Result<String, Stop> {
+    match found {
+        Ok(set) => after(format!(in alloc; "{set:?}")),
+        Err(error) => Err(refused(&error, true)),
+    }
+}
+
+/// What steps answer, and a new resolver.
+pub fn steps(alloc: Global, registry: &Registry<'_>, call: &str) -> Result<String, Stop> {
+    let base = uri(alloc, "http://a/r")?;
+    match call {
+        "resolver" => shown(alloc, registry.resolver(alloc, base)),
+        "follow" => followed(alloc, registry, base),
+        "follow to a fault" => followed_to_fault(alloc, registry, base),
+        _ => Err(Stop::Wrong),
+    }
+}
+
+fn followed(alloc: Global, registry: &Registry<'_>, base: Uri) -> Result<String, Stop> {
+    let schema = value(alloc, SUBRESOURCE)?;
+    let steps = [
+        Step::Lookup("x"),
+        Step::Recursive,
+        Step::Lookup("y"),
+        Step::Enter(ResourceRef::new(&schema, Draft::Draft202012)),
+    ];
+    match follow(alloc, registry, base, &steps) {
+        Ok(followed) => {
+            let resolver = &followed.resolver;
+            after(format!(in alloc; "{resolver:?}"))
+        }
+        Err(ended) => fault(alloc, &ended.error),
+    }
+}
+
+fn followed_to_fault(alloc: Global, registry: &Registry<'_>, base: Uri) -> Result<String, Stop> {
+    let steps = [Step::Lookup("x"), Step::Lookup("#none")];
+    match follow(alloc, registry, base, &steps) {
+        Ok(_followed) => Err(Stop::Wrong),
+        Err(ended) => told(alloc, &ended),
+    }
+}
+
+/// The number of the step that leads nowhere, with its fault.
+fn told(alloc: Global, ended: &FollowError) -> Result<String, Stop> {
+    let (step, error) = (ended.step, &ended.error);
+    if error.is_memory() {
+        return Err(Stop::Refused);
+    }
+    after(format!(in alloc; "{step}: {error}"))
+}

@@ -1,0 +1,64 @@
+//! Calls of retrievers.
+use crate::documents::{pairs, retriever, title_of, uri};
+use ref_retrieve::{DefaultRetriever, MapRetriever, Retrieve};
+use ref_uri::Uri;
+use refusal_harness::{Calls, Stop, Trial, after, fault, refused, tried};
+use std::alloc::Global;
+
+/// A retriever of one document, its URI, and another.
+#[derive(Drop)]
+struct Retrievers {
+    map: MapRetriever,
+    there: Uri,
+    missing: Uri,
+}
+
+/// The row of a call.
+pub fn row(alloc: Global, call: &str) -> Result<Trial, Stop> {
+    let mut retrievers = Retrievers {
+        map: retriever(alloc)?,
+        there: uri(alloc, "http://a/y")?,
+        missing: uri(alloc, "http://a/z")?,
+    };
+    tried(
+        alloc,
+        &mut retrievers,
+        "retrievers",
+        call,
+        &["map", "map without the document", "default"],
+    )
+}
+
+impl Calls for Retrievers {
+    fn answer(&mut self, alloc: Global, call: &str) -> Result<String, Stop> {
+        match call {
+            "from_pairs" => {
+                let pairs = pairs(alloc)?;
+                match MapRetriever::from_pairs(alloc, pairs) {
+                    Ok(map) => after_retrieval(retrieved(alloc, &map, &self.there)),
+                    Err(error) => Err(refused(&error, true)),
+                }
+            }
+            "map" => retrieved(alloc, &self.map, &self.there),
+            "map without the document" => retrieved(alloc, &self.map, &self.missing),
+            "default" => retrieved(alloc, &DefaultRetriever, &self.there),
+            _ => Err(Stop::Wrong),
+        }
+    }
+}
+
+/// The title of what is retrieved, or the fault.
+fn retrieved<R: Retrieve>(alloc: Global, retriever: &R, uri: &Uri) -> Result<String, Stop> {
+    match retriever.retrieve(alloc, uri) {
+        Ok(value) => after(String::from_str(alloc, title_of(&value))),
+        Err(error) => fault(alloc, &error),
+    }
+}
+
+/// What is retrieved once a call has answered.
+fn after_retrieval(retrieved: Result<String, Stop>) -> Result<String, Stop> {
+    match retrieved {
+        Err(Stop::Refused) => Err(Stop::After),
+        other => other,
+    }
+}
