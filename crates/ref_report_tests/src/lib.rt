@@ -5,3 +5,5 @@
 
 #[cfg(test)]
 mod requests;
+#[cfg(test)]
+mod writers;
