@@ -4,7 +4,7 @@ ghost use Rattle.std.specs.Prelude.{⊤};
 
 use crate::asserts::{same, same_at};
 use crate::documents::{failed, listed, outcome, prepared, values};
-use crate::large::ended;
+use crate::large::{ended, in_turn, looked_up, numbered};
 use ref_retrieve::{Retrieve, RetrieveError};
 use ref_uri::Uri;
 use referencing::{Registry, Step};
@@ -133,10 +133,7 @@ fn around(alloc: Global, size: usize) -> Result<String, Fail> {
     for number in 1..size {
         references.push(format!(in alloc; "{number}")?)?;
     }
-    let mut steps = Vec::with_capacity(alloc, size)?;
-    for reference in references.iter() {
-        steps.push(Step::Lookup(reference.as_str()))?;
-    }
+    let mut steps = looked_up(alloc, references.as_slice())?;
     steps.push(Step::Lookup("0"))?;
     ended(alloc, &registry, "http://a/0", steps.as_slice())
 }
@@ -261,10 +258,7 @@ fn below_scope(alloc: Global, times: usize, last: &str) -> Result<String, Fail> 
         r#"[["http://a/x",true],["http://a/y",true],["http://a/z",{"$dynamicAnchor":"node"}]]"#,
     )?;
     let registry = prepared(Registry::new(alloc), documents).map_err(failed)?;
-    let mut steps = Vec::with_capacity(alloc, times)?;
-    for number in 0..times {
-        steps.push(Step::Lookup(if number % 2 == 0 { "y" } else { "x" }))?;
-    }
+    let mut steps = in_turn(alloc, times)?;
     steps.push(Step::Lookup("z"))?;
     steps.push(Step::Lookup(last))?;
     ended(alloc, &registry, "http://a/x", steps.as_slice())
@@ -278,6 +272,34 @@ fn a_dynamic_anchor_is_sought_in_a_long_scope(rt: HostRuntime) -> Result<(), Fai
         ("#none", "100001: Anchor 'none' does not exist"),
     ] {
         let found = below_scope(rt.alloc(), 100_000, last)?;
+        same_at(&rt, found.as_str(), wanted, last);
+    }
+    Ok(())
+}
+
+// Where a last step leads behind so many resources, each with a URI of its own, none of which has an anchor.
+fn below_resources(alloc: Global, size: usize, last: &str) -> Result<String, Fail> {
+    let (document, numbers) = numbered(alloc, size)?;
+    let anchored = Value::from_str(alloc, r#"{"$dynamicAnchor":"node"}"#)?;
+    let builder = Registry::new(alloc)
+        .add("http://a/r", &document)
+        .map_err(failed)?;
+    let builder = builder.add("http://a/z", &anchored).map_err(failed)?;
+    let registry = builder.prepare().map_err(failed)?;
+    let mut steps = looked_up(alloc, numbers.as_slice())?;
+    steps.push(Step::Lookup("z"))?;
+    steps.push(Step::Lookup(last))?;
+    ended(alloc, &registry, "http://a/r", steps.as_slice())
+}
+
+// All URIs of the scope differ, so each has a look-up of its own.
+#[test]
+fn a_dynamic_anchor_is_sought_under_different_uris(rt: HostRuntime) -> Result<(), Fail> {
+    for (last, wanted) in [
+        ("#node", r#"{"$dynamicAnchor":"node"} http://a/z 100001"#),
+        ("#none", "100001: Anchor 'none' does not exist"),
+    ] {
+        let found = below_resources(rt.alloc(), 100_000, last)?;
         same_at(&rt, found.as_str(), wanted, last);
     }
     Ok(())

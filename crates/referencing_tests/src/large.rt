@@ -4,7 +4,7 @@ use crate::documents::{failed, listed, prepared, text_of};
 use ref_uri::uri::from_str;
 use referencing::{FollowError, Followed, Registry, Step, follow};
 use serde_json::Value;
-use std::alloc::Global;
+use std::alloc::{AllocError, Global};
 use std::test::Fail;
 
 /// The last value, its base and the length of the scope, or the fault.
@@ -35,14 +35,29 @@ pub fn ended(
     }
 }
 
-// From one of two documents to the other, so many times.
-fn to_and_fro(alloc: Global, times: usize) -> Result<String, Fail> {
-    let documents = listed(alloc, r#"[["http://a/x",true],["http://a/y",true]]"#)?;
-    let registry = prepared(Registry::new(alloc), documents).map_err(failed)?;
+/// So many steps, to `y` and `x` in turn.
+pub fn in_turn(alloc: Global, times: usize) -> Result<Vec<Step<'static>>, AllocError> {
     let mut steps = Vec::with_capacity(alloc, times)?;
     for number in 0..times {
         steps.push(Step::Lookup(if number % 2 == 0 { "y" } else { "x" }))?;
     }
+    Ok(steps)
+}
+
+/// A step for each of these references.
+pub fn looked_up(alloc: Global, references: &[String]) -> Result<Vec<Step<'_>>, AllocError> {
+    let mut steps = Vec::with_capacity(alloc, references.len())?;
+    for reference in references {
+        steps.push(Step::Lookup(reference.as_str()))?;
+    }
+    Ok(steps)
+}
+
+// From one of two documents to the other, so many times.
+fn to_and_fro(alloc: Global, times: usize) -> Result<String, Fail> {
+    let documents = listed(alloc, r#"[["http://a/x",true],["http://a/y",true]]"#)?;
+    let registry = prepared(Registry::new(alloc), documents).map_err(failed)?;
+    let steps = in_turn(alloc, times)?;
     ended(alloc, &registry, "http://a/x", steps.as_slice())
 }
 
@@ -53,8 +68,8 @@ fn many_steps_leave_a_long_scope(rt: HostRuntime) -> Result<(), Fail> {
     Ok(())
 }
 
-// A document of so many definitions, each with its number as the identifier, and the numbers.
-fn numbered(alloc: Global, size: usize) -> Result<(Value, Vec<String>), Fail> {
+/// A document of so many definitions, each with its number as the identifier, and the numbers.
+pub fn numbered(alloc: Global, size: usize) -> Result<(Value, Vec<String>), Fail> {
     let mut text = String::from_str(alloc, "{\"$defs\":{")?;
     let mut numbers = Vec::with_capacity(alloc, size)?;
     for number in 0..size {
