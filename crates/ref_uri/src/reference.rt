@@ -66,17 +66,26 @@ impl<'a> UriRef<'a> {
         self.lengths.parts(self.text)
     }
 
+    /// Whether the reference is a URI that is its own target and its own normal form, as far as its characters tell.
+    #[inline(never)]
+    fn is_settled(&self) -> bool
+        ensures scheme { result ≡ true → is_some (scheme self.now) ≡ true }
+        ensures normal { result ≡ true → normal_form self.now ≡ self.now }
+        ensures target { result ≡ true → (base : List ℕ) → normal_form (resolved base self.now) ≡ self.now }
+    {
+        target::is_settled(self.parts())
+    }
+
     /// The text in normal form, and how long its components are.
     pub(crate) fn normalized(&self, alloc: Global) -> Result<(String, Lengths), AllocError>
         ensures text { IfOk result (λ t. string_bytes t.0 ≡ normal_form self.now) }
         ensures parsed { IfOk result (λ t. IsParsed (string_bytes t.0) t.1) }
         ensures scheme { IfOk result (λ t. is_some (scheme (string_bytes t.0)) ≡ is_some (scheme self.now)) }
     {
-        let parts = self.parts();
-        if target::is_settled(parts) {
+        if self.lengths.scheme.is_some() && self.is_settled() {
             return Ok((String::from_str(alloc, self.text)?, self.lengths));
         }
-        target::itself(parts).write(alloc, Form::Normal)
+        target::itself(self.parts()).write(alloc, Form::Normal)
     }
 
     /// The normal form of the reference's text (RFC 3986, 6.2.2 and 3.2.3): scheme and host in lower case, triples of
@@ -139,11 +148,10 @@ impl<'a> UriRef<'a> {
         ensures text { IfOk result (λ t. string_bytes t.0 ≡ normal_form (resolved base.now self.now)) }
         ensures parsed { IfOk result (λ t. IsParsedUri (string_bytes t.0) t.1) }
     {
-        let parts = self.parts();
-        if target::is_settled(parts) {
+        if self.lengths.scheme.is_some() && self.is_settled() {
             return Ok((String::from_str(alloc, self.text)?, self.lengths));
         }
-        let target = target::resolved(base.parts(), parts);
+        let target = target::resolved(base.parts(), self.parts());
         target.write(alloc, target.normal_form())
     }
 

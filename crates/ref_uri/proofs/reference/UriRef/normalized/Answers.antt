@@ -6,14 +6,13 @@ use Rattle.ref_uri.specs.declared.lengths.Lengths.{Lengths}
 use Rattle.ref_uri.specs.Normal.{normal_form}
 use Rattle.ref_uri.specs.inner.Target.{components_of, written_components, lengths_of_components}
 use Rattle.ref_uri.specs.declared.written.Form.TheVariants.{Normal}
-use Rattle.ref_uri.proofs.Settled.{settled_form}
 use Rattle.ref_uri.proofs.WrittenUri.{normal_text_of, normal_parsed, normal_scheme, both_if_ok}
 use Rattle.ref_uri.proofs.reference.UriRef.normalized.Goals as goal
 
 pub returns-clause-text : goal.returns-clause-text
 returns-clause-text c =
     IfOk-weaker c.write.result (λ t. string_bytes t.0 ≡ text_of (written_components Normal c.itself.result)) (λ t. string_bytes t.0 ≡ normal_form c.args.self.now)
-    (λ t is. is ∙ ap text_of c.itself.ensures.value ∙ normal_text_of (components_of c.parts-parts.result) c.args.self.now c.parts-parts.ensures.all)
+    (λ t is. is ∙ ap text_of c.itself.ensures.value ∙ normal_text_of (components_of c.parts.result) c.args.self.now c.parts.ensures.all)
     c.write.ensures.text
 
 pub returns-clause-parsed : goal.returns-clause-parsed
@@ -21,18 +20,11 @@ returns-clause-parsed c =
     let text = λ (t : String Global × Lengths). string_bytes t.0 ≡ text_of (written_components Normal c.itself.result) in
     let long = λ (t : String Global × Lengths). t.1 ≡ lengths_of_components (written_components Normal c.itself.result) in
     IfOk-weaker c.write.result (λ t. text t × long t) (λ t. IsParsed (string_bytes t.0) t.1)
-    (λ t both. normal_parsed (components_of c.parts-parts.result) (string_bytes t.0) t.1 c.parts-parts.ensures.hold (both.0 ∙ ap text_of c.itself.ensures.value) (both.1 ∙ ap lengths_of_components c.itself.ensures.value))
+    (λ t both. normal_parsed (components_of c.parts.result) (string_bytes t.0) t.1 c.parts.ensures.hold (both.0 ∙ ap text_of c.itself.ensures.value) (both.1 ∙ ap lengths_of_components c.itself.ensures.value))
     (both_if_ok c.write.result text long c.write.ensures.text c.write.ensures.lengths)
 
 pub returns-clause-scheme : goal.returns-clause-scheme
 returns-clause-scheme c =
     IfOk-weaker c.write.result (λ t. string_bytes t.0 ≡ text_of (written_components Normal c.itself.result)) (λ t. is_some (scheme (string_bytes t.0)) ≡ is_some (scheme c.args.self.now))
-    (λ t is. normal_scheme (components_of c.parts-parts.result) (string_bytes t.0) c.parts-parts.ensures.hold (is ∙ ap text_of c.itself.ensures.value) ∙ ap (λ (d : Components). is_some d.scheme) c.parts-parts.ensures.all)
+    (λ t is. normal_scheme (components_of c.parts.result) (string_bytes t.0) c.parts.ensures.hold (is ∙ ap text_of c.itself.ensures.value) ∙ ap (λ (d : Components). is_some d.scheme) c.parts.ensures.all)
     c.write.ensures.text
-
-pub returns-then-is_settled-clause-text : goal.returns-then-is_settled-clause-text
-returns-then-is_settled-clause-text c =
-    let own = settled_form (components_of c.parts-parts.result) c.args.self.now c.parts-parts.ensures.all c.parts-parts.ensures.hold (c.is_settled.ensures c.if-is_settled.true) in
-    let text = c.in_ok-from_str.ensures.ok in
-    let view = c.self.view_is in
-    cc
