@@ -1,5 +1,4 @@
-use Rattle.std.proofs.Common.{◌≡◌, ℕ, List, [], ◌∷◌, ◌++◌, codes, if◌then◌else◌, true, refl, sym, subst, ◌∙◌, ap, append_assoc, append-nil, false}
-use Rattle.std.specs.List.{join_by}
+use Rattle.std.proofs.Common.{[], ◌++◌, codes, if◌then◌else◌, true, refl, sym, subst, ◌∙◌, ap, append_assoc, append-nil, false}
 use Rattle.std.specs.Fmt.{HasWritten}
 use Rattle.std.proofs.lemmas.Grind.{put_two}
 use Rattle.ref_resolver.proofs.Showing.{rest, all_of_them, nothing_written}

@@ -1,4 +1,4 @@
-use Rattle.std.proofs.Common.{◌≡◌, ℕ, List, IfOk, IfErr, Ok, None, true, false, is_some, sym, ap, subst, ◌∙◌, rules}
+use Rattle.std.proofs.Common.{◌≡◌, ℕ, List, IfOk, IfErr, Ok, true, false, is_some, sym, subst, rules}
 use Rattle.ref_world.specs.Fault.{not_retrieved}
 use Rattle.ref_world.specs.Resources.{means}
 use Rattle.ref_world.specs.Lookup.{lookup, moved}

@@ -1,4 +1,4 @@
-use Rattle.std.proofs.Common.{◌≡◌, is_some, ap, ◌∙◌, sym}
+use Rattle.std.proofs.Common.{is_some, ap, ◌∙◌, sym}
 use Rattle.ref_uri.specs.Components.{Components}
 use Rattle.ref_uri.specs.inner.Target.{components_of}
 use Rattle.ref_uri.proofs.Settled.{settled_form, settled_resolved}
