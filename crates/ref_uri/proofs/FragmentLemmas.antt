@@ -2,8 +2,9 @@
 use Rattle.std.proofs.Common.{◌≡◌, ℕ, suc, ◌+◌, ◌-◌, ◌≤◌, true, ◌&&◌, List, [], ◌∷◌, ◌++◌, length, length-append, take, codes, Option, Some, None, option_map, refl, sym, ap, ◌∙◌, arith, append-nil, append_assoc, is_some}
 use Rattle.std.proofs.lemmas.Bool.{and_from}
 use Rattle.std.proofs.lemmas.List.{take_at}
-use Rattle.ref_uri.specs.Components.{Components, components, framed, are_components, if_there, is_scheme, is_path, is_query, is_path_after, scheme, authority, path, query, fragment}
+use Rattle.ref_uri.specs.Components.{Components, components, text_of, framed, are_components, if_there, is_scheme, is_path, is_query, is_path_after, scheme, authority, path, query, fragment}
 use Rattle.ref_uri.specs.Authority.{is_authority}
+use Rattle.ref_uri.specs.Resolution.{resolved, resolved_components}
 use Rattle.ref_uri.specs.Reference.{is_uri_reference, with_fragment}
 use Rattle.ref_uri.specs.declared.lengths.Lengths.{Lengths}
 use Rattle.ref_uri.specs.inner.Lengths.{IsParsed, IsParsedUri, lengths_of, the_lengths}
@@ -89,3 +90,9 @@ scheme-with_fragment text f h k = ap (λ (c : Components). c.scheme) (components
 pub parsed_uri-with_fragment : (text : List ℕ) (l : Lengths) (f : Option (List ℕ)) → IsParsedUri text l → if_there is_query f ≡ true → IsParsedUri (with_fragment text f) l
 parsed_uri-with_fragment text l f parsed k =
     (parsed-with_fragment text l f parsed.0 k, ap is_some (scheme-with_fragment text f parsed.0.reference k) ∙ parsed.1)
+
+-- a base's fragment takes no part in a target
+pub resolved_of_stripped : (b : Components) (base reference : List ℕ) → b ≡ components base → are_components b ≡ true → resolved base reference ≡ resolved (with_fragment base None) reference
+unfolding resolved is_uri_reference
+resolved_of_stripped b base reference is h =
+    ap (λ (d : Components). text_of (resolved_components d (components reference))) (sym (components-with_fragment base None (ap are_components (sym is) ∙ h) refl))

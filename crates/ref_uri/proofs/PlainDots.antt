@@ -1,14 +1,15 @@
 -- A path that loses the same dot segments before its triples are decoded and after.
-use Rattle.std.proofs.Common.{◌≡◌, ◌≢◌, ℕ, ◌+◌, ◌*◌, Bool, true, false, cond, ◌&&◌, ◌||◌, List, [], ◌∷◌, ◌++◌, length, drop, map, reverse, bytes_eq, eqb, refl, sym, ap, ◌∙◌, subst, arith, inl, inr, codes}
+use Rattle.std.proofs.Common.{◌≡◌, ◌≢◌, ℕ, ◌+◌, ◌*◌, ◌<◌, get_or, Bool, true, false, cond, ◌&&◌, ◌||◌, List, [], ◌∷◌, ◌++◌, length, drop, map, reverse, bytes_eq, eqb, refl, sym, ap, ◌∙◌, subst, arith, inl, inr, codes}
 use Rattle.std.specs.List.{list_all, AllByRecursion, prefix_len}
 use Rattle.std.specs.Char.{is_ascii_hexdigit, to_ascii_uppercase}
 use Rattle.std.proofs.lemmas.Bool.{cases_Bool, cases_eq, and_parts, eqb-true, false≢true, false_from_ne_true}
 use Rattle.std.proofs.lemmas.Bool.Decides.{nat_tests}
-use Rattle.std.proofs.lemmas.List.{length-map, drop-map, map-append, reverse-append}
+use Rattle.std.proofs.lemmas.List.{get_or-append-add, length-append, length-map, drop-map, map-append, reverse-append}
 use Rattle.std.proofs.lemmas.Slice.Eq.{bytes_eq-Decides}
 use Rattle.ref_uri.specs.Characters.{has_whole_triples, is_unreserved}
 use Rattle.ref_uri.specs.DotSegments.{segments, behind_slashes, joined, is_dot, is_dot_dot, is_dot_segment, first_after, kept_after, remaining, ends_in_dots, without_dots, remove_dot_segments}
 use Rattle.ref_uri.specs.Normal.{hex_value, normal_triple, normal_text}
+use Rattle.ref_uri.specs.inner.Removal.{AreNames, IsNoEncodedDot}
 use Rattle.ref_uri.specs.inner.Target.{LacksEncodedDot}
 use Rattle.ref_uri.specs.declared.written.Form.TheVariants.{Normal}
 use Rattle.ref_uri.proofs.Induction.{by_units}
@@ -17,6 +18,24 @@ use Rattle.ref_uri.proofs.NormalTwice.{normal-append}
 use Rattle.ref_uri.proofs.SegmentLemmas.{segments-slash, segments-other, segments-triple, segments_are_whole, each_onto, each_onto_triple}
 use Rattle.ref_uri.proofs.PathValid.{each_drop, each_without_dots}
 use Rattle.ref_uri.proofs.WrittenLemmas.{written_segments}
+
+-- where a triple of a letter stands behind a text
+dot_behind : (letter : ℕ) (text before after : List ℕ) → text ≡ before ++ 37 ∷ 50 ∷ letter ∷ after → (length before + 2 < length text) × (get_or text (length before) 0 ≡ 37) × (get_or text (length before + 1) 0 ≡ 50) × (get_or text (length before + 2) 0 ≡ letter)
+dot_behind letter text before after e =
+    let at : (j : ℕ) → get_or text (length before + j) 0 ≡ get_or (37 ∷ 50 ∷ letter ∷ after) j 0 = λ j. ap (λ t. get_or t (length before + j) 0) e ∙ get_or-append-add before (37 ∷ 50 ∷ letter ∷ after) j 0 in
+    let front : length before ≡ length before + 0 = omega arith in (
+      omega (arith, ap length e, length-append before (37 ∷ 50 ∷ letter ∷ after)),
+      ap (λ j. get_or text j 0) front ∙ at 0,
+      at 1,
+      at 2,
+    )
+
+-- a text at none of whose places a triple of `.` begins
+pub lacks_encoded_dot : (text : List ℕ) → ((k : ℕ) → k + 2 < length text → IsNoEncodedDot text k) → LacksEncodedDot text
+lacks_encoded_dot text none before after = (
+  λ e. let dot = dot_behind 101 text before after e in (none (length before) dot.0 dot.1 dot.2).0 dot.3,
+  λ e. let dot = dot_behind 69 text before after e in (none (length before) dot.0 dot.1 dot.2).1 dot.3,
+)
 
 -- dots and nothing else
 abbrev AllDots : List ℕ → Type 0
@@ -207,3 +226,8 @@ removed_normal path whole stay =
     ∙ ap (λ xs. joined (without_dots xs)) (drop-map normal_text n parts)
     ∙ ap joined (without-map (drop n parts) (each_drop Same n parts all))
     ∙ joined-map (without_dots (drop n parts)) (each_without_dots (λ s. has_whole_triples s ≡ true) refl (drop n parts) (each_drop (λ s. has_whole_triples s ≡ true) n parts (segments_are_whole path whole)))
+
+-- names stay names in normal form
+pub names_stay_names : (parts : List (List ℕ)) → AllByRecursion Stays parts → AreNames parts → AreNames (map normal_text parts)
+names_stay_names [] stay names = tt
+names_stay_names (s ∷ parts) stay names = (same_segment s (same s stay.0) ∙ names.0, names_stay_names parts stay.1 names.1)

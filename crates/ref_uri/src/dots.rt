@@ -3,13 +3,15 @@ ghost use Rattle.std.specs.Prelude.{◌≡◌, ◌≢◌, IsFalse, slice_index, 
 ghost use Rattle.std.specs.List.{before_last};
 ghost use Rattle.ref_uri.specs.Characters.{has_whole_triples};
 ghost use Rattle.ref_uri.specs.DotSegments.{segments, remove_dot_segments};
+ghost use Rattle.ref_uri.specs.inner.Target.{LacksEncodedDot};
 ghost use Rattle.ref_uri.specs.inner.Written.{written};
-ghost use Rattle.ref_uri.specs.inner.Removal.{segment_of, first_written, first_progress, next_written, next_progress, slash_of, path_then, progress_then, path_after, progress_after, end_of, ended, dots_after, last_taken, AreNames, IsInside};
+ghost use Rattle.ref_uri.specs.inner.Removal.{segment_of, first_written, first_progress, next_written, next_progress, slash_of, path_then, progress_then, path_after, progress_after, end_of, ended, dots_after, last_taken, AreNames, IsInside, IsNoEncodedDot};
 
 use crate::blocks::{BLOCK, block_holds};
 use crate::lengths::{head, tail};
 use crate::written::{Form, index_of};
 use std::alloc::AllocError;
+use std::simd::prelude::*;
 
 /// How far a path is written behind a buffer's text.
 #[derive(Clone, Copy)]
@@ -59,6 +61,38 @@ pub fn may_hold_dots(bytes: &[u8]) -> bool
         at += BLOCK;
     }
     dot_begins_segment(bytes, at, bytes.len())
+}
+
+/// Whether a triple of `.` begins in a block.
+#[inline(always)]
+fn block_holds_encoded_dot(bytes: &[u8], at: usize) -> bool
+    requires { at + BLOCK + 2 ≤ length bytes.now }
+    ensures { IsFalse result → (k : ℕ) → at ≤ k → k < at + BLOCK → IsNoEncodedDot bytes.now k }
+{
+    let percents = u8x16::from_slice(&bytes[at..]).simd_eq(u8x16::splat(b'%'));
+    let twos = u8x16::from_slice(&bytes[at + 1..]).simd_eq(u8x16::splat(b'2'));
+    let letters = u8x16::from_slice(&bytes[at + 2..]) | u8x16::splat(32);
+    (percents & twos & letters.simd_eq(u8x16::splat(b'e'))).to_bitmask() != 0
+}
+
+/// Whether a triple of `.` may stand in a text: none does, where this is false.
+pub fn may_hold_encoded_dot(bytes: &[u8]) -> bool
+    ensures { IsFalse result → LacksEncodedDot bytes.now }
+{
+    let mut at = 0;
+    'loads: while bytes.len() - at >= BLOCK + 2 {
+        if block_holds_encoded_dot(bytes, at) {
+            return true;
+        }
+        at += BLOCK;
+    }
+    while bytes.len() - at > 2 {
+        if bytes[at] == b'%' && bytes[at + 1] == b'2' && matches!(bytes[at + 2], b'e' | b'E') {
+            return true;
+        }
+        at += 1;
+    }
+    false
 }
 
 fn segment_of(text: &str) -> Segment
@@ -331,6 +365,34 @@ fn push_names(buffer: &mut String, progress: Progress, path: &str) -> Result<Pro
     Ok(Progress::Within)
 }
 
+/// Appends a path none of whose segments is a dot segment in normal form, in this form, behind a slash where other segments
+/// precede it.
+fn push_normal_names(
+    buffer: &mut String,
+    progress: Progress,
+    path: &str,
+    form: Form,
+) -> Result<Progress, AllocError>
+    requires ascii { IsAscii path.now }
+    requires triples { has_whole_triples path.now ≡ true }
+    ensures text { OnOk result (string_bytes buffer.new ≡ string_bytes buffer.old ++ (slash_of progress ++ written form path.now)) }
+    ensures progress { IfOk result (λ p. p ≡ Progress.Within) }
+    ensures ascii { OnOk result (IsAscii (string_bytes buffer.old) → IsAscii (string_bytes buffer.new)) }
+{
+    push_slash(buffer, progress)?;
+    form.push(buffer, path)?;
+    Ok(Progress::Within)
+}
+
+/// Whether a segment of the path may be a dot segment, as it is or in normal form.
+fn may_hold_normal_dots(path: &str) -> bool
+    ensures names { IsFalse result → AreNames (segments path.now) }
+    ensures lacks { IsFalse result → LacksEncodedDot path.now }
+{
+    let bytes = path.as_bytes();
+    may_hold_dots(bytes) || may_hold_encoded_dot(bytes)
+}
+
 /// Writes more segments of the path that begins at `start`: all at once, where none is a dot segment.
 fn push_segments(
     buffer: &mut String,
@@ -350,6 +412,9 @@ fn push_segments(
 {
     match form {
         Form::Given if !may_hold_dots(path.as_bytes()) => push_names(buffer, progress, path),
+        Form::Normal if !may_hold_normal_dots(path) => {
+            push_normal_names(buffer, progress, path, form)
+        }
         _ => push_each_segment(buffer, start, progress, path, form),
     }
 }

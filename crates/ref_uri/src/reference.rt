@@ -137,15 +137,15 @@ impl<'a> UriRef<'a> {
         target.write(alloc, Form::Normal)
     }
 
-    /// The normal form of the target's text, and how long its components are. The path loses its dot segments before triples
-    /// are decoded and after: at once, unless it holds `%2e`.
+    /// The normal form of the target's text, and how long its components are. The base's fragment takes no part. The path loses
+    /// its dot segments before triples are decoded and after: at once, unless it holds `%2e`.
     pub(crate) fn resolved_then_normalized(
         &self,
         alloc: Global,
         base: &UriRef<'_>,
     ) -> Result<(String, Lengths), AllocError>
         requires { is_some (scheme base.now) ≡ true }
-        ensures text { IfOk result (λ t. string_bytes t.0 ≡ normal_form (resolved base.now self.now)) }
+        ensures text { IfOk result (λ t. string_bytes t.0 ≡ normal_form (resolved (with_fragment base.now None) self.now)) }
         ensures parsed { IfOk result (λ t. IsParsedUri (string_bytes t.0) t.1) }
     {
         if self.lengths.scheme.is_some() && self.is_settled() {
@@ -201,7 +201,7 @@ impl<'a> UriRef<'a> {
     pub fn has_scheme(&self) -> bool
         ensures value { result ≡ is_some (scheme self.now) }
     {
-        self.scheme().is_some()
+        self.lengths.scheme.is_some()
     }
 
     /// Whether there is a fragment.

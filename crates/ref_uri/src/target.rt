@@ -1,5 +1,5 @@
 //! What a target's text is composed of (RFC 3986, 5.2.2 and 5.3).
-ghost use Rattle.std.specs.Prelude.{◌≡◌, ◌↔◌, ◌≤◌, ◌++◌, ℕ, true, false, List, [], length, codes, Some, None, is_some, is_none, map, option_map, option_copied, string_bytes, IfOk, OnOk, IsAscii, ◌∷◌};
+ghost use Rattle.std.specs.Prelude.{◌≡◌, ◌≢◌, ◌↔◌, ◌≤◌, ◌<◌, ◌++◌, ℕ, slice_index, IfSome, IfNone, true, false, List, [], length, codes, Some, None, is_some, is_none, map, option_map, option_copied, string_bytes, IfOk, OnOk, IsAscii, ◌∷◌};
 ghost use Rattle.ref_uri.specs.Authority.{is_authority};
 ghost use Rattle.ref_uri.specs.Components.{Components, are_components, text_of, framed, if_there, is_scheme, is_path, is_query, begins_with_slashes};
 ghost use Rattle.ref_uri.specs.DotSegments.{remove_dot_segments};
@@ -7,10 +7,12 @@ ghost use Rattle.std.specs.Char.{to_ascii_lowercase};
 ghost use Rattle.ref_uri.specs.Normal.{guarded, normal, normal_text, normal_authority};
 ghost use Rattle.ref_uri.specs.Resolution.{through_last_slash, merged, target_path, resolved_components};
 ghost use Rattle.ref_uri.specs.inner.Written.{written, written_scheme, written_authority};
-ghost use Rattle.ref_uri.specs.inner.Target.{given_path, normal_path_of, written_path, written_components, lengths_of_components, AreParts, LacksEncodedDot, LosesSameDots, IsTarget, IsSettled, components_of, behind_directory, path_behind, target_with_dots};
+ghost use Rattle.ref_uri.specs.inner.Target.{given_path, normal_path_of, written_path, written_components, lengths_of_components, AreParts, LosesSameDots, IsTarget, IsSettled, components_of, behind_directory, path_behind, target_with_dots};
 
 use crate::blocks::holds;
-use crate::dots::{may_hold_dots, push_merged_without_dots, push_without_dots, remove_dots};
+use crate::dots::{
+    may_hold_dots, may_hold_encoded_dot, push_merged_without_dots, push_without_dots, remove_dots,
+};
 use crate::lengths::{Lengths, Parts, head};
 use crate::written::{Form, holds_upper, is_plain_host, normalize_end};
 use std::alloc::{AllocError, Global};
@@ -38,13 +40,28 @@ pub struct Target<'a> {
     pub fragment: Option<&'a str>,
 }
 
+/// Where the last slash of a path stands.
+fn last_slash(path: &[u8]) -> Option<usize>
+    ensures found { IfSome result (λ k. (k < length path.now) × (slice_index path.now k ≡ 47) × ((i : ℕ) → k < i → i < length path.now → slice_index path.now i ≢ 47)) }
+    ensures none { IfNone result ((i : ℕ) → i < length path.now → slice_index path.now i ≢ 47) }
+{
+    let mut end = path.len();
+    while end > 0 {
+        end -= 1;
+        if path[end] == b'/' {
+            return Some(end);
+        }
+    }
+    None
+}
+
 /// What stands before the last slash of a path.
 fn before_last_slash(path: &str) -> Option<&str>
     requires { IsAscii path.now }
     ensures value { (more : List ℕ) → through_last_slash path.now ++ more ≡ behind_directory (option_copied result) more }
     ensures path { is_path path.now ≡ true → if_there is_path (option_copied result) ≡ true }
 {
-    match path.rfind('/') {
+    match last_slash(path.as_bytes()) {
         Some(slash) => Some(head(path, slash)),
         None => None,
     }
@@ -290,25 +307,19 @@ fn guard(buffer: &mut String, start: usize, authority: Option<&str>) -> Result<(
     buffer.insert_str(start, "/.")
 }
 
-/// Whether a triple of `.` stands in a text.
-fn holds_encoded_dot(text: &str) -> bool
-    ensures { (result ≡ false) ↔ LacksEncodedDot text.now }
-{
-    holds(text.as_bytes(), b'%') && (text.contains("%2e") || text.contains("%2E"))
-}
-
 impl<'a> PathOf<'a> {
     /// Whether the path in normal form is the same, be its dot segments removed before triples are decoded and after, or
     /// after alone: a segment such as `%2e` is one only then. The base's own path loses its dot segments only then.
     fn loses_same_dots(self) -> bool
-        ensures { (result ≡ true) ↔ LosesSameDots self.entry }
+        ensures { result ≡ true → LosesSameDots self.entry }
     {
         match self {
             PathOf::Kept(_) => false,
             PathOf::OfBase(_) => true,
-            PathOf::Removed(path) => !holds_encoded_dot(path),
+            PathOf::Removed(path) => !may_hold_encoded_dot(path.as_bytes()),
             PathOf::Merged(directory, path) => {
-                !holds_encoded_dot(directory) && !holds_encoded_dot(path)
+                !may_hold_encoded_dot(directory.as_bytes())
+                    && !may_hold_encoded_dot(path.as_bytes())
             }
         }
     }

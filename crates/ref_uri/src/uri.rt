@@ -281,7 +281,6 @@ pub fn resolve_against(alloc: Global, base: UriRef<'_>, uri: &str) -> Result<Uri
         return Ok(base.to_uri(alloc)?);
     }
     let reference = parse_reference(alloc, uri)?;
-    let base = base.strip_fragment();
     let (text, lengths) = reference.resolved_then_normalized(alloc, &base)?;
     Ok(Uri::from_written(text, lengths))
 }

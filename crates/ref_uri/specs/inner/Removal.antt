@@ -1,5 +1,5 @@
 -- How a path is written without its dot segments, one segment behind another (RFC 3986, 5.2.4).
-use Rattle.std.specs.Prelude.{◌≡◌, ◌≢◌, ◌<◌, ◌-◌, false, slice_index, ℕ, List, [], ◌∷◌, ◌++◌, codes, ◌==◌, if◌then◌else◌}
+use Rattle.std.specs.Prelude.{◌≡◌, ◌≢◌, ◌<◌, ◌-◌, ◌+◌, false, slice_index, ℕ, List, [], ◌∷◌, ◌++◌, codes, ◌==◌, if◌then◌else◌}
 use Rattle.std.specs.List.{before_last, AllByRecursion}
 use Rattle.ref_uri.specs.DotSegments.{is_dot, is_dot_dot, is_dot_segment}
 use Rattle.ref_uri.specs.declared.dots.Progress.{Progress}
@@ -92,3 +92,7 @@ AreNames segments = AllByRecursion (λ segment. is_dot_segment segment ≡ false
 -- if a dot stands at this place, no segment begins there
 abbrev pub IsInside : List ℕ → ℕ → Type 0
 IsInside path at = slice_index path at ≡ 46 → (0 < at) × (slice_index path (at - 1) ≢ 47)
+
+-- no triple of `.` begins at this place
+abbrev pub IsNoEncodedDot : List ℕ → ℕ → Type 0
+IsNoEncodedDot text at = slice_index text at ≡ 37 → slice_index text (at + 1) ≡ 50 → (slice_index text (at + 2) ≢ 101) × (slice_index text (at + 2) ≢ 69)

@@ -1,4 +1,4 @@
-use Rattle.std.proofs.Common.{◌≡◌, ◌&&◌, eqb, get_or, Ok, None, true, false, is_some, refl, ap, sym, ◌∙◌}
+use Rattle.std.proofs.Common.{◌≡◌, ◌&&◌, eqb, get_or, Ok, None, true, false, refl, ap, sym, ◌∙◌}
 use Rattle.std.specs.List.{ends_with}
 use Rattle.ref_uri.specs.Normal.{normal_form}
 use Rattle.ref_uri.specs.Reference.{is_uri_reference, with_fragment}
@@ -27,7 +27,7 @@ returns-in_err-reference-clause-fault c =
     (against_refused base text (sym c.has_scheme.ensures.value ∙ c.if-not-has_scheme.false) other))
 
 pub resolved_then_normalized-requires : goal.resolved_then_normalized-requires
-resolved_then_normalized-requires c = ap is_some c.strip_fragment-base.ensures.scheme ∙ sym c.has_scheme.ensures.value ∙ c.if-not-has_scheme.false
+resolved_then_normalized-requires c = sym c.has_scheme.ensures.value ∙ c.if-not-has_scheme.false
 
 pub returns-then-is_fragment_at_end-clause-ok : goal.returns-then-is_fragment_at_end-clause-ok
 returns-then-is_fragment_at_end-clause-ok c =
@@ -41,6 +41,6 @@ returns-clause-ok c =
     let base = c.args.base in
     let text = c.args.uri.now in
     let other : (eqb (get_or text 0 0) 35 && ends_with eqb base text) ≡ false = ap (λ b. eqb (get_or text 0 0) 35 && ends_with eqb b text) (sym c.as_str-2.ensures.value) ∙ sym c.is_fragment_at_end.ensures ∙ c.if-is_fragment_at_end.false in
-    let target = ap (λ b. resolved b c.in_ok-reference.reference) c.strip_fragment-base.ensures.value ∙ ap (resolved (with_fragment base None)) c.in_ok-reference.ensures.reference in
+    let target = ap (resolved (with_fragment base None)) c.in_ok-reference.ensures.reference in
     against_target base text (sym c.has_scheme.ensures.value ∙ c.if-not-has_scheme.false) other (c.in_ok-reference.ensures.accepted refl)
     ∙ ap (λ t. Ok t) (sym (c.from_written.ensures ∙ c.in_ok-text.ensures.text ∙ ap normal_form target))
