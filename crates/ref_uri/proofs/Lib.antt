@@ -44,3 +44,4 @@ pub mod GivenSegments
 pub mod LaneLemmas
 pub mod TableLemmas
 pub mod NormalFront
+pub mod PlainText

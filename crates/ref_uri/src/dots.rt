@@ -390,7 +390,7 @@ fn may_hold_normal_dots(path: &str) -> bool
     ensures lacks { IsFalse result → LacksEncodedDot path.now }
 {
     let bytes = path.as_bytes();
-    may_hold_dots(bytes) || may_hold_encoded_dot(bytes)
+    may_hold_encoded_dot(bytes) || may_hold_dots(bytes)
 }
 
 /// Writes more segments of the path that begins at `start`: all at once, where none is a dot segment.

@@ -4,8 +4,9 @@ ghost use Rattle.ref_uri.specs.Components.{components, are_components, text_of, 
 ghost use Rattle.ref_uri.specs.Normal.{normal, normal_form};
 ghost use Rattle.ref_uri.specs.Reference.{is_uri_reference, with_fragment};
 ghost use Rattle.ref_uri.specs.Resolution.{resolved};
-ghost use Rattle.ref_uri.specs.inner.Target.{components_of, lengths_of_components, target_with_dots};
+ghost use Rattle.ref_uri.specs.inner.Target.{components_of, lengths_of_components, target_with_dots, LacksTriples};
 
+use crate::blocks::holds;
 use crate::error::{ParseError, ResolveError, ResolveFault};
 use crate::lengths::{self, Lengths, Parts};
 use crate::uri::Uri;
@@ -66,12 +67,20 @@ impl<'a> UriRef<'a> {
         self.lengths.parts(self.text)
     }
 
-    /// Whether the reference is a URI that is its own target and its own normal form, as far as its characters tell.
+    /// Whether no triple stands in the text.
+    fn lacks_triples(&self) -> bool
+        ensures { result ≡ true → LacksTriples (components self.now) }
+    {
+        !holds(self.text.as_bytes(), b'%')
+    }
+
+    /// Whether a reference without triples is its own normal form, and with a scheme its own target, as far as its characters
+    /// tell.
     #[inline(never)]
     fn is_settled(&self) -> bool
-        ensures scheme { result ≡ true → is_some (scheme self.now) ≡ true }
+        requires { LacksTriples (components self.now) }
         ensures normal { result ≡ true → normal_form self.now ≡ self.now }
-        ensures target { result ≡ true → (base : List ℕ) → normal_form (resolved base self.now) ≡ self.now }
+        ensures target { result ≡ true → is_some (scheme self.now) ≡ true → (base : List ℕ) → normal_form (resolved base self.now) ≡ self.now }
     {
         target::is_settled(self.parts())
     }
@@ -82,10 +91,10 @@ impl<'a> UriRef<'a> {
         ensures parsed { IfOk result (λ t. IsParsed (string_bytes t.0) t.1) }
         ensures scheme { IfOk result (λ t. is_some (scheme (string_bytes t.0)) ≡ is_some (scheme self.now)) }
     {
-        if self.lengths.scheme.is_some() && self.is_settled() {
+        if self.lacks_triples() && self.is_settled() {
             return Ok((String::from_str(alloc, self.text)?, self.lengths));
         }
-        target::itself(self.parts()).write(alloc, Form::Normal)
+        target::itself(self.parts()).write(alloc, Form::Normal, Form::Normal)
     }
 
     /// The normal form of the reference's text (RFC 3986, 6.2.2 and 3.2.3): scheme and host in lower case, triples of
@@ -118,7 +127,7 @@ impl<'a> UriRef<'a> {
             return Err(ResolveFault::Invalid(ResolveError::BaseWithoutScheme));
         }
         let target = target::resolved(base.parts(), self.parts());
-        let (text, lengths) = target.write(alloc, Form::Given)?;
+        let (text, lengths) = target.write(alloc, Form::Given, Form::Given)?;
         Ok(Uri::from_written(text, lengths))
     }
 
@@ -134,7 +143,7 @@ impl<'a> UriRef<'a> {
         ensures lengths { IfOk result (λ t. t.1 ≡ lengths_of_components (normal (target_with_dots (components base.now) (components self.now)))) }
     {
         let target = target::resolved(base.parts(), self.parts());
-        target.write(alloc, Form::Normal)
+        target.write(alloc, Form::Normal, Form::Normal)
     }
 
     /// The normal form of the target's text, and how long its components are. The base's fragment takes no part. The path loses
@@ -148,11 +157,16 @@ impl<'a> UriRef<'a> {
         ensures text { IfOk result (λ t. string_bytes t.0 ≡ normal_form (resolved (with_fragment base.now None) self.now)) }
         ensures parsed { IfOk result (λ t. IsParsedUri (string_bytes t.0) t.1) }
     {
-        if self.lengths.scheme.is_some() && self.is_settled() {
+        let is_plain = self.lacks_triples();
+        if is_plain && self.has_scheme() && self.is_settled() {
             return Ok((String::from_str(alloc, self.text)?, self.lengths));
         }
         let target = target::resolved(base.parts(), self.parts());
-        target.write(alloc, target.normal_form())
+        if is_plain && base.lacks_triples() {
+            return target.write_plain(alloc);
+        }
+        let form = target.normal_form();
+        target.write(alloc, form, form)
     }
 
     /// The text.

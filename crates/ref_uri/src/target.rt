@@ -6,10 +6,9 @@ ghost use Rattle.ref_uri.specs.DotSegments.{remove_dot_segments};
 ghost use Rattle.std.specs.Char.{to_ascii_lowercase};
 ghost use Rattle.ref_uri.specs.Normal.{guarded, normal, normal_text, normal_authority};
 ghost use Rattle.ref_uri.specs.Resolution.{through_last_slash, merged, target_path, resolved_components};
-ghost use Rattle.ref_uri.specs.inner.Written.{written, written_scheme, written_authority};
-ghost use Rattle.ref_uri.specs.inner.Target.{given_path, normal_path_of, written_path, written_components, lengths_of_components, AreParts, LosesSameDots, IsTarget, IsSettled, components_of, behind_directory, path_behind, target_with_dots};
+ghost use Rattle.ref_uri.specs.inner.Written.{is_plain, written, written_scheme, written_authority};
+ghost use Rattle.ref_uri.specs.inner.Target.{given_path, normal_path_of, written_path, written_by, written_components, lengths_of_components, AreParts, ArePlain, LosesSameDots, IsTarget, IsPlainTarget, LacksTriples, IsSettled, components_of, behind_directory, path_behind, target_with_dots};
 
-use crate::blocks::holds;
 use crate::dots::{
     may_hold_dots, may_hold_encoded_dot, push_merged_without_dots, push_without_dots, remove_dots,
 };
@@ -60,6 +59,7 @@ fn before_last_slash(path: &str) -> Option<&str>
     requires { IsAscii path.now }
     ensures value { (more : List ℕ) → through_last_slash path.now ++ more ≡ behind_directory (option_copied result) more }
     ensures path { is_path path.now ≡ true → if_there is_path (option_copied result) ≡ true }
+    ensures plain { is_plain path.now ≡ true → if_there is_plain (option_copied result) ≡ true }
 {
     match last_slash(path.as_bytes()) {
         Some(slash) => Some(head(path, slash)),
@@ -72,6 +72,7 @@ fn directory(base: Parts<'_>) -> Option<&str>
     requires { IsAscii base.path.now }
     ensures value { (path : List ℕ) → merged (components_of base.entry) path ≡ behind_directory (option_copied result) path }
     ensures path { is_path base.entry.path.now ≡ true → if_there is_path (option_copied result) ≡ true }
+    ensures plain { is_plain base.entry.path.now ≡ true → if_there is_plain (option_copied result) ≡ true }
 {
     if base.authority.is_some() && base.path.is_empty() {
         return Some("");
@@ -85,6 +86,7 @@ fn path_behind<'a>(base: Parts<'a>, path: &'a str) -> PathOf<'a>
     ensures value { written_path Form.Given result ≡ target_path (components_of base.entry) path.now }
     ensures normal { written_path Form.Normal result ≡ remove_dot_segments (normal_text (path_behind (components_of base.entry) path.now)) }
     ensures parts { is_path base.entry.path.now ≡ true → is_path path.now ≡ true → AreParts result }
+    ensures plain { is_plain base.entry.path.now ≡ true → is_plain path.now ≡ true → ArePlain result }
 {
     if path.as_bytes().first() == Some(&b'/') {
         return PathOf::Removed(path);
@@ -102,6 +104,7 @@ pub fn resolved<'a>(base: Parts<'a>, reference: Parts<'a>) -> Target<'a>
     ensures value { written_components Form.Given result ≡ resolved_components (components_of base.entry) (components_of reference.entry) }
     ensures normal { is_some (option_copied base.entry.scheme) ≡ true → written_components Form.Normal result ≡ normal (target_with_dots (components_of base.entry) (components_of reference.entry)) }
     ensures target { IsTarget result }
+    ensures plain { LacksTriples (components_of base.entry) → LacksTriples (components_of reference.entry) → IsPlainTarget result }
 {
     let fragment = reference.fragment;
     if reference.scheme.is_some() {
@@ -168,14 +171,13 @@ pub fn itself(reference: Parts<'_>) -> Target<'_>
     }
 }
 
-/// Whether a scheme is there, and is in lower case.
+/// Whether a scheme is in lower case, or absent.
 fn is_lower(scheme: Option<&str>) -> bool
-    ensures there { result ≡ true → is_some (option_copied scheme.entry) ≡ true }
-    ensures lower { result ≡ true → option_map (map to_ascii_lowercase) (option_copied scheme.entry) ≡ option_copied scheme.entry }
+    ensures { result ≡ true → option_map (map to_ascii_lowercase) (option_copied scheme.entry) ≡ option_copied scheme.entry }
 {
     match scheme {
         Some(scheme) => !holds_upper(scheme.as_bytes()),
-        None => false,
+        None => true,
     }
 }
 
@@ -189,33 +191,28 @@ fn is_plain_authority(authority: Option<&str>) -> bool
     }
 }
 
-/// Whether a path holds no triple, and no segment that begins with a dot.
-fn is_plain_path(path: &str) -> bool
-    ensures removed { result ≡ true → remove_dot_segments path.now ≡ path.now }
-    ensures normal { result ≡ true → normal_text path.now ≡ path.now }
+/// Whether no segment of a path behind a scheme begins with a dot.
+fn lacks_dots(scheme: Option<&str>, path: &str) -> bool
+    ensures { result ≡ true → is_some (option_copied scheme.entry) ≡ true → remove_dot_segments path.now ≡ path.now }
 {
-    !holds(path.as_bytes(), b'%') && !may_hold_dots(path.as_bytes())
-}
-
-/// Whether a query or a fragment holds no triple, or is absent.
-fn lacks_triples(component: Option<&str>) -> bool
-    ensures { result ≡ true → option_map normal_text (option_copied component.entry) ≡ option_copied component.entry }
-{
-    match component {
-        Some(component) => !holds(component.as_bytes(), b'%'),
+    match scheme {
+        Some(_) => !may_hold_dots(path.as_bytes()),
         None => true,
     }
 }
 
-/// Whether a reference is a URI that is its own target and its own normal form, as far as its characters tell.
+/// Whether a reference without triples is in normal form, and with a scheme its own target, as far as its characters tell.
 pub fn is_settled(reference: Parts<'_>) -> bool
+    requires { LacksTriples (components_of reference) }
     ensures { result ≡ true → IsSettled (components_of reference.entry) }
 {
-    is_lower(reference.scheme)
-        && is_plain_authority(reference.authority)
-        && is_plain_path(reference.path)
-        && lacks_triples(reference.query)
-        && lacks_triples(reference.fragment)
+    if !is_lower(reference.scheme) {
+        return false;
+    }
+    if !is_plain_authority(reference.authority) {
+        return false;
+    }
+    lacks_dots(reference.scheme, reference.path)
 }
 
 /// The room that a component and its marks take.
@@ -321,6 +318,20 @@ impl<'a> PathOf<'a> {
                 !may_hold_encoded_dot(directory.as_bytes())
                     && !may_hold_encoded_dot(path.as_bytes())
             }
+        }
+    }
+
+    /// The path whose text as it is given is this one's normal form, where no triple stands in it.
+    fn without_dots(self) -> PathOf<'a>
+        requires { ArePlain self }
+        ensures text { given_path result ≡ normal_path_of self.entry }
+        ensures parts { AreParts self.entry → AreParts result }
+    {
+        match self {
+            PathOf::Kept(path) => PathOf::Kept(path),
+            PathOf::OfBase(path) => PathOf::Removed(path),
+            PathOf::Removed(path) => PathOf::Removed(path),
+            PathOf::Merged(directory, path) => PathOf::Merged(directory, path),
         }
     }
 
@@ -447,15 +458,21 @@ impl<'a> Target<'a> {
         Form::NormalTarget
     }
 
-    /// The target's text, and how long its components are. Takes memory once.
-    pub fn write(self, alloc: Global, form: Form) -> Result<(String, Lengths), AllocError>
+    /// The target's text, and how long its components are: scheme and authority in one form, what follows in another. Takes
+    /// memory once.
+    pub fn write(
+        self,
+        alloc: Global,
+        front: Form,
+        form: Form,
+    ) -> Result<(String, Lengths), AllocError>
         requires { IsTarget self }
-        ensures text { IfOk result (λ t. string_bytes t.0 ≡ text_of (written_components form self.entry)) }
-        ensures lengths { IfOk result (λ t. t.1 ≡ lengths_of_components (written_components form self.entry)) }
+        ensures text { IfOk result (λ t. string_bytes t.0 ≡ text_of (written_by front form self.entry)) }
+        ensures lengths { IfOk result (λ t. t.1 ≡ lengths_of_components (written_by front form self.entry)) }
     {
         let mut text = String::with_capacity(alloc, self.room(form))?;
-        let scheme = push_scheme(&mut text, self.scheme, form)?;
-        let authority = push_authority(&mut text, self.authority, form)?;
+        let scheme = push_scheme(&mut text, self.scheme, front)?;
+        let authority = push_authority(&mut text, self.authority, front)?;
         let path = push_path(&mut text, self.path, self.authority, form)?;
         let query = push_marked(&mut text, "?", self.query, form)?;
         push_marked(&mut text, "#", self.fragment, form)?;
@@ -466,5 +483,23 @@ impl<'a> Target<'a> {
             query,
         };
         Ok((text, lengths))
+    }
+
+    /// The text of the target's normal form, and how long its components are, where no triple stands in what follows the
+    /// authority. Takes memory once.
+    pub fn write_plain(self, alloc: Global) -> Result<(String, Lengths), AllocError>
+        requires target { IsTarget self }
+        requires plain { IsPlainTarget self }
+        ensures text { IfOk result (λ t. string_bytes t.0 ≡ text_of (written_components Form.NormalTarget self.entry)) }
+        ensures lengths { IfOk result (λ t. t.1 ≡ lengths_of_components (written_components Form.NormalTarget self.entry)) }
+    {
+        let target = Target {
+            scheme: self.scheme,
+            authority: self.authority,
+            path: self.path.without_dots(),
+            query: self.query,
+            fragment: self.fragment,
+        };
+        target.write(alloc, Form::Normal, Form::Given)
     }
 }

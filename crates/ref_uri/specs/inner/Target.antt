@@ -14,7 +14,7 @@ use Rattle.ref_uri.specs.inner.Lengths.{the_lengths}
 use Rattle.std.specs.Char.{to_ascii_lowercase}
 use Rattle.ref_uri.specs.Normal.{guarded, normal_text, normal_authority}
 use Rattle.ref_uri.specs.Resolution.{merged, target_components}
-use Rattle.ref_uri.specs.inner.Written.{written, written_scheme, written_authority}
+use Rattle.ref_uri.specs.inner.Written.{is_plain, written, written_scheme, written_authority}
 
 -- a path as it is given
 abbrev pub given_path : PathOf → List ℕ
@@ -36,16 +36,20 @@ written_path Given path = given_path path
 written_path Normal path = normal_path_of path
 written_path NormalTarget path = remove_dot_segments (normal_text (given_path path))
 
--- the components as they are written
-abbrev pub written_components : Form → Target → Components
-written_components form target =
+-- the components as they are written: scheme and authority in one form, what follows in another
+abbrev pub written_by : Form → Form → Target → Components
+written_by front form target =
     record {
-      scheme = option_map (written_scheme form) (option_copied target.scheme);
-      authority = option_map (written_authority form) (option_copied target.authority);
+      scheme = option_map (written_scheme front) (option_copied target.scheme);
+      authority = option_map (written_authority front) (option_copied target.authority);
       path = guarded (option_copied target.authority) (written_path form target.path);
       query = option_map (written form) (option_copied target.query);
       fragment = option_map (written form) (option_copied target.fragment);
     }
+
+-- the components as they are written in one form
+abbrev pub written_components : Form → Target → Components
+written_components form target = written_by form form target
 
 -- their lengths
 abbrev pub lengths_of_components : Components → Lengths
@@ -68,6 +72,25 @@ LosesSameDots (Kept path) = ⊥
 LosesSameDots (OfBase path) = ⊤
 LosesSameDots (Removed path) = LacksEncodedDot path.now
 LosesSameDots (Merged directory path) = LacksEncodedDot directory.now × LacksEncodedDot path.now
+
+-- No `%` stands in the path's parts, and its dot segments are to go in normal form.
+abbrev pub ArePlain : PathOf → Type 0
+ArePlain (Kept path) = ⊥
+ArePlain (OfBase path) = is_plain path.now ≡ true
+ArePlain (Removed path) = is_plain path.now ≡ true
+ArePlain (Merged directory path) = (is_plain directory.now ≡ true) × (is_plain path.now ≡ true)
+
+-- no `%` stands in what follows scheme and authority
+pub record IsPlainTarget (target : Target) : Type 0 where
+  pub path : ArePlain target.path
+  pub query : if_there is_plain (option_copied target.query) ≡ true
+  pub fragment : if_there is_plain (option_copied target.fragment) ≡ true
+
+-- the same of components
+pub record LacksTriples (c : Components) : Type 0 where
+  pub path : is_plain c.path ≡ true
+  pub query : if_there is_plain c.query ≡ true
+  pub fragment : if_there is_plain c.fragment ≡ true
 
 -- each part holds what it may
 pub record IsTarget (target : Target) : Type 0 where
@@ -107,12 +130,11 @@ path_with_dots base reference =
 unfoldable pub target_with_dots : Components → Components → Components
 target_with_dots base reference = record (target_components base reference) { path = path_with_dots base reference }
 
--- with a scheme, each component in normal form, and no dot segments to remove
+-- each component in normal form, and with a scheme no dot segments to remove
 pub record IsSettled (c : Components) : Type 0 where
-  pub there : is_some c.scheme ≡ true
   pub scheme : option_map (map to_ascii_lowercase) c.scheme ≡ c.scheme
   pub authority : option_map normal_authority c.authority ≡ c.authority
-  pub removed : remove_dot_segments c.path ≡ c.path
+  pub removed : is_some c.scheme ≡ true → remove_dot_segments c.path ≡ c.path
   pub path : normal_text c.path ≡ c.path
   pub query : option_map normal_text c.query ≡ c.query
   pub fragment : option_map normal_text c.fragment ≡ c.fragment

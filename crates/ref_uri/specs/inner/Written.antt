@@ -1,5 +1,6 @@
 -- The text that stands for a component: the component itself, or its normal form.
 use Rattle.std.specs.Prelude.{ℕ, List, ◌≡◌, ◌≤◌, ◌<◌, ◌++◌, true, take, drop, length, map, Bool, ◌||◌, not, ◌==◌}
+use Rattle.std.specs.List.{list_all}
 use Rattle.std.specs.Char.{is_ascii_uppercase, to_ascii_lowercase}
 use Rattle.ref_uri.specs.Characters.{has_whole_triples}
 use Rattle.ref_uri.specs.Normal.{normal_text, normal_authority}
@@ -35,6 +36,10 @@ written_authority NormalTarget = normal_authority
 -- no letter in upper case, `%`, `:`, `@` or `[`
 abbrev pub is_plain_in_host : ℕ → Bool
 is_plain_in_host c = not (is_ascii_uppercase c || (c == 37) || (c == 58) || (c == 64) || (c == 91))
+
+-- no `%` stands in the text
+abbrev pub is_plain : List ℕ → Bool
+is_plain text = list_all (λ c. not (c == 37)) text
 
 -- The text is in normal form up to this place, where it ends or where a triple begins.
 pub record IsNormalUpTo (text : List ℕ) (at : ℕ) : Type 0 where

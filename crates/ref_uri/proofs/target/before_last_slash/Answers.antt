@@ -1,5 +1,7 @@
 use Rattle.std.proofs.Common.{◌≡◌, ◌≢◌, ℕ, List, ◌<◌, ◌++◌, [], ◌∷◌, take, length, get_or, subst, ap, sym, ◌∙◌, append_assoc}
 use Rattle.ref_uri.specs.Components.{is_path}
+use Rattle.ref_uri.specs.inner.Written.{is_plain}
+use Rattle.ref_uri.proofs.PlainText.{plain_front}
 use Rattle.ref_uri.proofs.LastSlash.{through_last_slash_at, through_last_slash_none, front_is_path}
 use Rattle.ref_uri.proofs.target.before_last_slash.Goals as goal
 
@@ -24,3 +26,6 @@ pub returns-in-None-clause-value : goal.returns-in-None-clause-value
 returns-in-None-clause-value c = λ more.
     let none = subst (λ (t : List ℕ). (i : ℕ) → i < length t → get_or t i 0 ≢ 47) c.as_bytes.ensures.value (rw c.in-None.is at c.last_slash.ensures.none) in
     ap (λ t. t ++ more) (through_last_slash_none c.args.path.now none)
+
+pub returns-in-Some-clause-plain : goal.returns-in-Some-clause-plain
+returns-in-Some-clause-plain c = λ h. ap is_plain c.head.ensures ∙ plain_front c.in-Some.slash c.args.path.now h

@@ -5,6 +5,7 @@ use Rattle.ref_uri.specs.Components.{is_query, if_there}
 use Rattle.ref_uri.specs.DotSegments.{remove_dot_segments}
 use Rattle.ref_uri.specs.Normal.{guarded, normal, normal_text}
 use Rattle.ref_uri.specs.inner.Target.{components_of, written_path, path_behind}
+use Rattle.ref_uri.specs.inner.Written.{is_plain}
 use Rattle.ref_uri.specs.declared.written.Form.TheVariants.{Given, Normal}
 use Rattle.ref_uri.proofs.AsciiLemmas.{encoded_ascii, IsAscii-from_all_ascii}
 use Rattle.ref_uri.proofs.UniqueLemmas.{tested}
@@ -119,3 +120,20 @@ returns-clause-normal c = λ based.
     let authority = none_there c.args.reference.authority (sym c.is_some-2.ensures ∙ c.if-is_some-2.false) in
     normal_parts_are base.scheme base.authority (path_behind base r.path) (written_path Normal c.path_behind.result) r.query r.fragment based c.path_behind.ensures.normal
     ∙ ap normal (sym (dots_behind base r scheme authority (sym c.is_empty.ensures ∙ c.if-is_empty.false)))
+
+pub returns-then-is_some-clause-plain : goal.returns-then-is_some-clause-plain
+returns-then-is_some-clause-plain c = λ base reference. record { path = reference.path; query = reference.query; fragment = reference.fragment }
+
+pub returns-then-is_some-2-clause-plain : goal.returns-then-is_some-2-clause-plain
+returns-then-is_some-2-clause-plain c = λ base reference. record { path = reference.path; query = reference.query; fragment = reference.fragment }
+
+pub returns-then-is_empty-clause-plain : goal.returns-then-is_empty-clause-plain
+returns-then-is_empty-clause-plain c = λ base reference.
+    record {
+      path = base.path;
+      query = subst (λ (o : Option (Bor (List ℕ))). if_there is_plain (option_copied o) ≡ true) (sym c.or.ensures) (or_there is_plain c.args.reference.query c.args.base.query reference.query base.query);
+      fragment = reference.fragment;
+    }
+
+pub returns-clause-plain : goal.returns-clause-plain
+returns-clause-plain c = λ base reference. record { path = c.path_behind.ensures.plain base.path reference.path; query = reference.query; fragment = reference.fragment }
