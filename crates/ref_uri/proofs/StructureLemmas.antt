@@ -1,12 +1,13 @@
 -- The components of a text make the text again, and components that hold what they may are those of their text.
-use Rattle.std.proofs.Common.{◌≡◌, ℕ, suc, ◌+◌, ◌<◌, Bool, true, false, cond, ◌&&◌, not, List, [], ◌∷◌, ◌++◌, length, take, drop, get_or, eqb, ltb, refl, sym, ap, ◌∙◌, arith, inl, inr, ◌⊎◌, option_map, codes, append_assoc, append-nil}
+use Rattle.std.proofs.Common.{◌≡◌, ℕ, suc, ◌+◌, ◌-◌, ◌≤◌, ◌<◌, Bool, true, false, cond, ◌&&◌, not, List, [], ◌∷◌, ◌++◌, length, take, drop, get_or, eqb, ltb, refl, sym, ap, ◌∙◌, arith, inl, inr, ◌⊎◌, option_map, codes, append_assoc, append-nil, length-append}
 use Rattle.std.proofs.Math.Seq.{drop-cons}
 use Rattle.std.specs.List.{position_or_len, before_first}
 use Rattle.std.proofs.lemmas.Bool.{cases_Bool, eqb-true, and_parts, false≢true, cases_lt}
 use Rattle.std.proofs.lemmas.Bool.Decides.{nat_tests}
-use Rattle.std.proofs.lemmas.List.{take-append-drop, get_or_past}
+use Rattle.std.proofs.lemmas.List.{take-append-drop, take_at, get_or_past}
 use Rattle.std.proofs.lemmas.List.Folds.{length-prefix_len}
 use Rattle.ref_uri.specs.Components.{components, text_of, framed, scheme, authority, path, query, fragment, after_scheme, after_authority, after_path, after_query, authority_in_front, query_in_front, fragment_in_front, behind, begins_with_slashes, ends_scheme, ends_authority, ends_path, ends_query}
+use Rattle.ref_uri.specs.inner.Written.{the_front, the_rest}
 
 -- a number that is read stands inside
 reads_inside : (text : List ℕ) (k c : ℕ) → get_or text k 0 ≡ suc c → k < length text
@@ -118,3 +119,30 @@ text_of-components text =
     ∙ ap (λ t. framed [] (scheme text) (codes ":") ++ (framed (codes "//") one [] ++ t)) (take-append-drop (position_or_len ends_path two) two)
     ∙ ap (λ t. framed [] (scheme text) (codes ":") ++ t) (authority_and_rest rest)
     ∙ scheme_and_rest text
+
+-- what stands before the path, and the rest
+front_and_after : (text : List ℕ) → the_front (scheme text) (authority text) ++ after_authority text ≡ text
+unfolding authority after_authority
+front_and_after text =
+    let rest = after_scheme text in
+    append_assoc (framed [] (scheme text) (codes ":")) (framed (codes "//") (authority_in_front rest) []) (behind (option_map length (authority_in_front rest)) 2 rest)
+    ∙ ap (λ t. framed [] (scheme text) (codes ":") ++ t) (authority_and_rest rest)
+    ∙ scheme_and_rest text
+
+pub front_taken : (text rest : List ℕ) → rest ≡ after_authority text → (length rest ≤ length text) × (take (length text - length rest) text ≡ the_front (scheme text) (authority text))
+front_taken text rest is =
+    let front = the_front (scheme text) (authority text) in
+    let whole : front ++ rest ≡ text = ap (λ t. front ++ t) is ∙ front_and_after text in
+    let len : length text ≡ length front + length rest = ap length (sym whole) ∙ length-append front rest in
+    let at : length text - length rest ≡ length front = omega (arith, len) in
+    (omega (arith, len), ap (λ n. take n text) at ∙ ap (take (length front)) (sym whole) ∙ take_at front rest (length front) refl)
+
+-- what stands behind it
+pub rest_is : (text rest : List ℕ) → rest ≡ after_path text → rest ≡ the_rest (query text) (fragment text)
+unfolding query fragment after_path after_query
+rest_is text rest is =
+    let two = after_authority text in
+    let three = drop (position_or_len ends_path two) two in
+    let four = behind (option_map length (query_in_front three)) 1 three in
+    let last = fragment_and_nothing four (query_then_fragment three (first_in_front ends_path two)) in
+    is ∙ sym (ap (λ t. framed (codes "?") (query_in_front three) [] ++ t) last ∙ query_and_rest three)

@@ -1,5 +1,5 @@
 -- The components of a target.
-use Rattle.std.proofs.Common.{◌≡◌, ◌≢◌, ℕ, Bool, true, false, not, ◌&&◌, ◌+◌, ◌*◌, List, ◌∷◌, ◌++◌, length, get_or, eqb, refl, sym, ap, ◌∙◌, arith, inl, inr, Option, Some, None, is_some, Bor, option_copied, option_map}
+use Rattle.std.proofs.Common.{◌≡◌, ◌≢◌, ℕ, Bool, true, false, not, ◌&&◌, ◌+◌, ◌*◌, List, ◌∷◌, ◌++◌, length, get_or, eqb, refl, sym, ap, ◌∙◌, arith, inl, inr, Option, Some, None, is_some, Bor, option_copied, option_map, subst}
 use Rattle.std.specs.List.{list_any, before_first}
 use Rattle.std.specs.Option.{option_or}
 use Rattle.std.specs.Char.{is_ascii_hexdigit, to_ascii_uppercase}
@@ -10,6 +10,9 @@ use Rattle.ref_uri.specs.Components.{Components, are_components, is_path_after, 
 use Rattle.ref_uri.specs.Resolution.{resolved_components, target_components, target_path, with_guard, query_or}
 use Rattle.ref_uri.specs.DotSegments.{remove_dot_segments}
 use Rattle.ref_uri.specs.Normal.{guarded, normal_path, normal_text, normal_triple, hex_value}
+use Rattle.ref_uri.specs.inner.Written.{the_front, the_rest, written}
+use Rattle.ref_uri.specs.declared.written.Form.{Form}
+use Rattle.ref_uri.specs.declared.written.Form.TheVariants.{Given}
 use Rattle.ref_uri.proofs.UniqueLemmas.{Tested, tested}
 use Rattle.ref_uri.proofs.Induction.{by_units}
 use Rattle.ref_uri.proofs.NormalLemmas.{normal_none, normal_character, normal_triple_front}
@@ -156,3 +159,23 @@ each_same c d s a p q f =
     ap (λ x. the_components x c.authority c.path c.query c.fragment) s ∙ ap (λ x. the_components d.scheme x c.path c.query c.fragment) a
     ∙ ap (λ x. the_components d.scheme d.authority x c.query c.fragment) p ∙ ap (λ x. the_components d.scheme d.authority d.path x c.fragment) q
     ∙ ap (λ x. the_components d.scheme d.authority d.path d.query x) f
+
+-- a text that is there
+pub the_same : (x y : List ℕ) → Some x ≡ Some y → x ≡ y
+the_same x y e = cc
+
+pub not_there : (x : List ℕ) → None ≡ Some x → ⊥
+not_there x e = cc
+
+pub of_that : (P : List ℕ → Type 0) (x y : List ℕ) → P x → Some x ≡ Some y → P y
+of_that P x y h e = subst P (the_same x y e) h
+
+-- components that keep their text stand between the same marks
+pub front_kept : (s a t b : Option (List ℕ)) → t ≡ s → b ≡ a → the_front s a ≡ the_front t b
+front_kept s a t b is are = ap (λ x. the_front x a) (sym is) ∙ ap (the_front t) (sym are)
+
+pub rest_kept : (q f r g : Option (List ℕ)) → r ≡ q → g ≡ f → the_rest q f ≡ the_rest r g
+rest_kept q f r g is are = ap (λ x. the_rest x f) (sym is) ∙ ap (the_rest r) (sym are)
+
+pub component_given : (form : Form) (o : Option (List ℕ)) → form ≡ Given → option_map (written form) o ≡ o
+component_given form o is = ap (λ f. option_map (written f) o) is ∙ map_given o

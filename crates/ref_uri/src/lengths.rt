@@ -1,6 +1,7 @@
 //! Where the components of a reference stand in its text.
 ghost use Rattle.std.specs.Prelude.{◌≡◌, ◌≤◌, ◌+◌, option_map, take, drop, length, option_copied, IsAscii};
 ghost use Rattle.ref_uri.specs.Components.{scheme, authority, path, query, fragment, after_scheme, after_authority, after_path, after_query, behind, fragment_in_front};
+ghost use Rattle.ref_uri.specs.inner.Written.{the_front, the_rest};
 ghost use Rattle.std.specs.Option.{ForSome};
 
 /// How long the components of a reference are. The fragment goes to the end of the text.
@@ -75,6 +76,10 @@ pub struct Parts<'a> {
     pub path: &'a str,
     pub query: Option<&'a str>,
     pub fragment: Option<&'a str>,
+    /// Scheme and authority with their marks, as they stand before the path.
+    pub front: &'a str,
+    /// Query and fragment with their marks, as they stand behind the path.
+    pub rest: &'a str,
 }
 
 impl Lengths {
@@ -88,9 +93,13 @@ impl Lengths {
         ensures path { result.path.now ≡ path text.now }
         ensures query { option_copied result.query ≡ query text.now }
         ensures fragment { option_copied result.fragment ≡ fragment text.now }
+        ensures front { result.front.now ≡ the_front (scheme text.now) (authority text.now) }
+        ensures rest { result.rest.now ≡ the_rest (query text.now) (fragment text.now) }
+        ensures ascii { IsAscii result.front.now }
     {
         let after_scheme = behind(text, self.scheme, 1);
         let after_authority = behind(after_scheme, self.authority, 2);
+        let front = head(text, text.len() - after_authority.len());
         let after_path = tail(after_authority, self.path);
         let after_query = behind(after_path, self.query, 1);
         Parts {
@@ -99,6 +108,8 @@ impl Lengths {
             path: head(after_authority, self.path),
             query: component(after_path, self.query, 1),
             fragment: fragment(after_query),
+            front,
+            rest: after_path,
         }
     }
 }

@@ -4,7 +4,7 @@ ghost use Rattle.ref_uri.specs.Components.{components, are_components, text_of, 
 ghost use Rattle.ref_uri.specs.Normal.{normal, normal_form};
 ghost use Rattle.ref_uri.specs.Reference.{is_uri_reference, with_fragment};
 ghost use Rattle.ref_uri.specs.Resolution.{resolved};
-ghost use Rattle.ref_uri.specs.inner.Target.{components_of, lengths_of_components, target_with_dots, LacksTriples};
+ghost use Rattle.ref_uri.specs.inner.Target.{components_of, lengths_of_components, target_with_dots, AreFramed, LacksTriples};
 
 use crate::blocks::holds;
 use crate::error::{ParseError, ResolveError, ResolveFault};
@@ -63,6 +63,7 @@ impl<'a> UriRef<'a> {
         ensures fragment { option_copied result.fragment ≡ fragment self.now }
         ensures all { components_of result ≡ components self.now }
         ensures hold { are_components (components_of result) ≡ true }
+        ensures framed { AreFramed result }
     {
         self.lengths.parts(self.text)
     }

@@ -6,8 +6,8 @@ ghost use Rattle.ref_uri.specs.DotSegments.{remove_dot_segments};
 ghost use Rattle.std.specs.Char.{to_ascii_lowercase};
 ghost use Rattle.ref_uri.specs.Normal.{guarded, normal, normal_text, normal_authority};
 ghost use Rattle.ref_uri.specs.Resolution.{through_last_slash, merged, target_path, resolved_components};
-ghost use Rattle.ref_uri.specs.inner.Written.{is_plain, written, written_scheme, written_authority};
-ghost use Rattle.ref_uri.specs.inner.Target.{given_path, normal_path_of, written_path, written_by, written_components, lengths_of_components, AreParts, ArePlain, LosesSameDots, IsTarget, IsPlainTarget, LacksTriples, IsSettled, components_of, behind_directory, path_behind, target_with_dots};
+ghost use Rattle.ref_uri.specs.inner.Written.{is_plain, the_front, the_rest, written, written_scheme, written_authority};
+ghost use Rattle.ref_uri.specs.inner.Target.{given_path, normal_path_of, written_path, written_by, written_components, lengths_of_components, AreParts, ArePlain, LosesSameDots, IsTarget, AreFramed, IsPlainTarget, LacksTriples, IsSettled, components_of, behind_directory, path_behind, target_with_dots};
 
 use crate::dots::{
     may_hold_dots, may_hold_encoded_dot, push_merged_without_dots, push_without_dots, remove_dots,
@@ -37,6 +37,10 @@ pub struct Target<'a> {
     pub path: PathOf<'a>,
     pub query: Option<&'a str>,
     pub fragment: Option<&'a str>,
+    /// Scheme and authority with their marks, where they stand in one text.
+    pub front: Option<&'a str>,
+    /// Query and fragment with their marks, where they stand in one text.
+    pub rest: Option<&'a str>,
 }
 
 /// Where the last slash of a path stands.
@@ -98,9 +102,12 @@ fn path_behind<'a>(base: Parts<'a>, path: &'a str) -> PathOf<'a>
 }
 
 /// The target of a reference against a base, by the five cases (RFC 3986, 5.2.2).
+#[inline(always)]
 pub fn resolved<'a>(base: Parts<'a>, reference: Parts<'a>) -> Target<'a>
     requires base { are_components (components_of base) ≡ true }
     requires reference { are_components (components_of reference) ≡ true }
+    requires base_framed { AreFramed base }
+    requires framed { AreFramed reference }
     ensures value { written_components Form.Given result ≡ resolved_components (components_of base.entry) (components_of reference.entry) }
     ensures normal { is_some (option_copied base.entry.scheme) ≡ true → written_components Form.Normal result ≡ normal (target_with_dots (components_of base.entry) (components_of reference.entry)) }
     ensures target { IsTarget result }
@@ -114,6 +121,8 @@ pub fn resolved<'a>(base: Parts<'a>, reference: Parts<'a>) -> Target<'a>
             path: PathOf::Removed(reference.path),
             query: reference.query,
             fragment,
+            front: Some(reference.front),
+            rest: Some(reference.rest),
         };
     }
     if reference.authority.is_some() {
@@ -123,6 +132,8 @@ pub fn resolved<'a>(base: Parts<'a>, reference: Parts<'a>) -> Target<'a>
             path: PathOf::Removed(reference.path),
             query: reference.query,
             fragment,
+            front: None,
+            rest: Some(reference.rest),
         };
     }
     if reference.path.is_empty() {
@@ -132,6 +143,8 @@ pub fn resolved<'a>(base: Parts<'a>, reference: Parts<'a>) -> Target<'a>
             path: PathOf::OfBase(base.path),
             query: reference.query.or(base.query),
             fragment,
+            front: Some(base.front),
+            rest: None,
         };
     }
     let query = reference.query;
@@ -141,6 +154,8 @@ pub fn resolved<'a>(base: Parts<'a>, reference: Parts<'a>) -> Target<'a>
         path: path_behind(base, reference.path),
         query,
         fragment,
+        front: Some(base.front),
+        rest: Some(reference.rest),
     }
 }
 
@@ -158,7 +173,8 @@ fn own_path<'a>(scheme: Option<&str>, path: &'a str) -> PathOf<'a>
 
 /// A reference itself, without dot segments where it has a scheme.
 pub fn itself(reference: Parts<'_>) -> Target<'_>
-    requires { are_components (components_of reference) ≡ true }
+    requires components { are_components (components_of reference) ≡ true }
+    requires framed { AreFramed reference }
     ensures value { written_components Form.Normal result ≡ normal (components_of reference.entry) }
     ensures target { IsTarget result }
 {
@@ -168,6 +184,8 @@ pub fn itself(reference: Parts<'_>) -> Target<'_>
         path: own_path(reference.scheme, reference.path),
         query: reference.query,
         fragment: reference.fragment,
+        front: Some(reference.front),
+        rest: Some(reference.rest),
     }
 }
 
@@ -266,6 +284,54 @@ fn push_authority(
     Ok(Some(buffer.len() - start))
 }
 
+/// Whether scheme and authority are in this form already, as far as their characters tell.
+fn keeps_front(scheme: Option<&str>, authority: Option<&str>, form: Form) -> bool
+    ensures scheme { result ≡ true → option_map (written_scheme form) (option_copied scheme.entry) ≡ option_copied scheme.entry }
+    ensures authority { result ≡ true → option_map (written_authority form) (option_copied authority.entry) ≡ option_copied authority.entry }
+{
+    match form {
+        Form::Given => true,
+        Form::Normal => is_lower(scheme) && is_plain_authority(authority),
+        Form::NormalTarget => is_lower(scheme) && is_plain_authority(authority),
+    }
+}
+
+/// How long a component is.
+fn len_of(component: Option<&str>) -> Option<usize>
+    ensures { result ≡ option_map length (option_copied component.entry) }
+{
+    match component {
+        Some(component) => Some(component.len()),
+        None => None,
+    }
+}
+
+/// Appends a target's scheme and authority with their marks, and answers how long they are: at once, where they are so already.
+fn push_front(
+    buffer: &mut String,
+    target: Target<'_>,
+    form: Form,
+) -> Result<(Option<usize>, Option<usize>), AllocError>
+    requires buffer_ascii { IsAscii (string_bytes buffer.old) }
+    requires target { IsTarget target }
+    ensures text { OnOk result (string_bytes buffer.new ≡ string_bytes buffer.old ++ the_front (option_map (written_scheme form) (option_copied target.entry.scheme)) (option_map (written_authority form) (option_copied target.entry.authority))) }
+    ensures scheme { IfOk result (λ n. n.0 ≡ option_map length (option_map (written_scheme form) (option_copied target.entry.scheme))) }
+    ensures authority { IfOk result (λ n. n.1 ≡ option_map length (option_map (written_authority form) (option_copied target.entry.authority))) }
+    ensures ascii { OnOk result (IsAscii (string_bytes buffer.new)) }
+{
+    match target.front {
+        Some(front) if keeps_front(target.scheme, target.authority, form) => {
+            buffer.push_str(front)?;
+            Ok((len_of(target.scheme), len_of(target.authority)))
+        }
+        _ => {
+            let scheme = push_scheme(buffer, target.scheme, form)?;
+            let authority = push_authority(buffer, target.authority, form)?;
+            Ok((scheme, authority))
+        }
+    }
+}
+
 /// Appends a query or a fragment behind its mark, and answers how long it is.
 fn push_marked(
     buffer: &mut String,
@@ -284,6 +350,30 @@ fn push_marked(
     let start = buffer.len();
     form.push(buffer, component)?;
     Ok(Some(buffer.len() - start))
+}
+
+/// Appends a target's query and fragment with their marks, and answers how long the query is: at once as they are given, where
+/// they stand in one text.
+fn push_rest(
+    buffer: &mut String,
+    target: Target<'_>,
+    form: Form,
+) -> Result<Option<usize>, AllocError>
+    requires { IsTarget target }
+    ensures text { OnOk result (string_bytes buffer.new ≡ string_bytes buffer.old ++ the_rest (option_map (written form) (option_copied target.entry.query)) (option_map (written form) (option_copied target.entry.fragment))) }
+    ensures query { IfOk result (λ n. n ≡ option_map length (option_map (written form) (option_copied target.entry.query))) }
+{
+    match target.rest {
+        Some(rest) if form.is_given() => {
+            buffer.push_str(rest)?;
+            Ok(len_of(target.query))
+        }
+        _ => {
+            let query = push_marked(buffer, "?", target.query, form)?;
+            push_marked(buffer, "#", target.fragment, form)?;
+            Ok(query)
+        }
+    }
 }
 
 fn begins_with_slashes(path: &str) -> bool
@@ -439,12 +529,17 @@ fn push_path(
 impl<'a> Target<'a> {
     /// The room that the text takes at most.
     fn room(self, form: Form) -> usize {
+        let path = self.path.room(form).saturating_add(2);
+        if let Some(front) = self.front
+            && let Some(rest) = self.rest
+        {
+            return path.saturating_add(front.len()).saturating_add(rest.len());
+        }
         room(self.scheme)
             .saturating_add(room(self.authority))
-            .saturating_add(self.path.room(form))
+            .saturating_add(path)
             .saturating_add(room(self.query))
             .saturating_add(room(self.fragment))
-            .saturating_add(2)
     }
 
     /// The form in which the target's normal form is written: at once, where its path loses the same dot segments so.
@@ -471,11 +566,9 @@ impl<'a> Target<'a> {
         ensures lengths { IfOk result (λ t. t.1 ≡ lengths_of_components (written_by front form self.entry)) }
     {
         let mut text = String::with_capacity(alloc, self.room(form))?;
-        let scheme = push_scheme(&mut text, self.scheme, front)?;
-        let authority = push_authority(&mut text, self.authority, front)?;
+        let (scheme, authority) = push_front(&mut text, self, front)?;
         let path = push_path(&mut text, self.path, self.authority, form)?;
-        let query = push_marked(&mut text, "?", self.query, form)?;
-        push_marked(&mut text, "#", self.fragment, form)?;
+        let query = push_rest(&mut text, self, form)?;
         let lengths = Lengths {
             scheme,
             authority,
@@ -499,6 +592,8 @@ impl<'a> Target<'a> {
             path: self.path.without_dots(),
             query: self.query,
             fragment: self.fragment,
+            front: self.front,
+            rest: self.rest,
         };
         target.write(alloc, Form::Normal, Form::Given)
     }

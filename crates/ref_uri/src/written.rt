@@ -157,7 +157,7 @@ fn normal_len(text: &[u8]) -> usize
 }
 
 /// Appends an encoded text in normal form: at once what is so already, and between that the triples that change.
-fn push_changed(buffer: &mut String, text: &str) -> Result<(), AllocError>
+fn push_normal_text(buffer: &mut String, text: &str) -> Result<(), AllocError>
     requires ascii { IsAscii text.now }
     requires triples { has_whole_triples text.now ≡ true }
     ensures { OnOk result (string_bytes buffer.new ≡ string_bytes buffer.old ++ normal_text text.now) }
@@ -172,18 +172,6 @@ fn push_changed(buffer: &mut String, text: &str) -> Result<(), AllocError>
         len = normal_len(rest.as_bytes());
     }
     buffer.push_str(rest)
-}
-
-/// Appends an encoded text in normal form, as it is where it holds no triple.
-fn push_normal_text(buffer: &mut String, text: &str) -> Result<(), AllocError>
-    requires ascii { IsAscii text.now }
-    requires triples { has_whole_triples text.now ≡ true }
-    ensures { OnOk result (string_bytes buffer.new ≡ string_bytes buffer.old ++ normal_text text.now) }
-{
-    if !holds(text.as_bytes(), b'%') {
-        return buffer.push_str(text);
-    }
-    push_changed(buffer, text)
 }
 
 /// Appends the triple that stands in the buffer's text at `percent`, as [`push_triple`] does.
@@ -303,6 +291,13 @@ fn push_normal_authority(buffer: &mut String, authority: &str) -> Result<(), All
 }
 
 impl Form {
+    /// Whether components are written as they were given.
+    pub fn is_given(self) -> bool
+        ensures { result ≡ true → self ≡ Form.Given }
+    {
+        matches!(self, Form::Given)
+    }
+
     /// The form in which the parts of a text are written as in this one: as they were given, where it holds no triple.
     pub fn of_parts(self, text: &str) -> Form
         ensures { written result text.now ≡ written self text.now }

@@ -22,7 +22,7 @@ use Rattle.ref_uri.specs.Components.{components}
 use Rattle.ref_uri.specs.inner.Lengths.{the_lengths, lengths_of, IsParsed, IsParsedUri}
 use Rattle.ref_uri.specs.inner.Removal.{segment_of, first_written, next_written, first_progress, next_progress, path_then, progress_then, path_after, progress_after, slash_of, end_of, ended}
 use Rattle.ref_uri.specs.inner.Target.{given_path, normal_path_of, written_path, written_components, lengths_of_components, AreParts, LacksEncodedDot, LosesSameDots, IsTarget, components_of, behind_directory, path_behind, path_with_dots, target_with_dots}
-use Rattle.ref_uri.specs.inner.Written.{in_case, written, written_scheme, written_authority}
+use Rattle.ref_uri.specs.inner.Written.{the_front, the_rest, is_plain, in_case, written, written_scheme, written_authority}
 
 pub record BodyRows : Type 0 where
   pub at_in_first_segment : is_first_segment_character 64 ≡ true
@@ -91,8 +91,12 @@ pub record BodyRows : Type 0 where
   pub path_as_given : (path : Bor (List ℕ)) → path.now ≡ codes "/b/x/%2e%2e/../y" → written_path Given (Removed path) ≡ codes "/b/x/y"
   pub path_in_normal_form : (path : Bor (List ℕ)) → path.now ≡ codes "/b/x/%2e%2e/../y" → written_path Normal (Removed path) ≡ codes "/y"
   pub path_of_a_target : (path : Bor (List ℕ)) → path.now ≡ codes "/b/x/%2e%2e/../y" → written_path NormalTarget (Removed path) ≡ codes "/b/x/y"
-  pub components_in_normal_form : (scheme authority path query : Bor (List ℕ)) → scheme.now ≡ codes "HTTP" → authority.now ≡ codes "A:" → path.now ≡ codes "/%7e" → query.now ≡ codes "%2f" → written_components Normal (record { scheme = Some scheme; authority = Some authority; path = Kept path; query = Some query; fragment = None }) ≡ components (codes "http://a/~?%2F")
-  pub components_with_a_guard : (scheme path : Bor (List ℕ)) → scheme.now ≡ codes "A" → path.now ≡ codes "/..//b" → written_components Given (record { scheme = Some scheme; authority = None; path = Removed path; query = None; fragment = None }) ≡ components (codes "A:/.//b")
+  pub components_in_normal_form : (scheme authority path query : Bor (List ℕ)) → scheme.now ≡ codes "HTTP" → authority.now ≡ codes "A:" → path.now ≡ codes "/%7e" → query.now ≡ codes "%2f" → written_components Normal (record { scheme = Some scheme; authority = Some authority; path = Kept path; query = Some query; fragment = None; front = None; rest = None }) ≡ components (codes "http://a/~?%2F")
+  pub components_with_a_guard : (scheme path : Bor (List ℕ)) → scheme.now ≡ codes "A" → path.now ≡ codes "/..//b" → written_components Given (record { scheme = Some scheme; authority = None; path = Removed path; query = None; fragment = None; front = None; rest = None }) ≡ components (codes "A:/.//b")
+  pub front_of_both : the_front (Some (codes "a")) (Some (codes "b")) ≡ codes "a://b"
+  pub rest_of_both : the_rest (Some (codes "a")) (Some []) ≡ codes "?a#"
+  pub text_without_triples : is_plain (codes "a/.#") ≡ true
+  pub text_with_a_triple : is_plain (codes "a%2e") ≡ false
   pub lengths_of_some_components : lengths_of_components (components (codes "http://a/b?c#d")) ≡ the_lengths (Some 4) (Some 1) 2 (Some 1)
   pub lengths_of_no_components : lengths_of_components (components []) ≡ the_lengths None None 0 None
   pub part_is_a_path : (path : Bor (List ℕ)) → path.now ≡ codes "a:b" → AreParts (Kept path)
@@ -103,10 +107,10 @@ pub record BodyRows : Type 0 where
   pub merged_lose_same_dots : (directory path : Bor (List ℕ)) → directory.now ≡ codes "%2f" → path.now ≡ codes "." → LosesSameDots (Merged directory path)
   pub loses_more_dots : (path : Bor (List ℕ)) → path.now ≡ codes "/%2e" → LosesSameDots (Removed path) → ⊥
   pub keeps_its_dots : (path : Bor (List ℕ)) → LosesSameDots (Kept path) → ⊥
-  pub some_target : (path : Bor (List ℕ)) → path.now ≡ codes "a:b" → IsTarget (record { scheme = None; authority = None; path = Kept path; query = None; fragment = None })
-  pub no_target : (path query : Bor (List ℕ)) → query.now ≡ codes "#" → IsTarget (record { scheme = None; authority = None; path = Kept path; query = Some query; fragment = None }) → ⊥
-  pub some_parts : (scheme path fragment : Bor (List ℕ)) → scheme.now ≡ codes "a" → path.now ≡ codes "b" → fragment.now ≡ codes "c" → components_of (record { scheme = Some scheme; authority = None; path = path; query = None; fragment = Some fragment }) ≡ components (codes "a:b#c")
-  pub no_parts : (path : Bor (List ℕ)) → path.now ≡ codes "" → components_of (record { scheme = None; authority = None; path = path; query = None; fragment = None }) ≡ components []
+  pub some_target : (path : Bor (List ℕ)) → path.now ≡ codes "a:b" → IsTarget (record { scheme = None; authority = None; path = Kept path; query = None; fragment = None; front = None; rest = None })
+  pub no_target : (path query : Bor (List ℕ)) → query.now ≡ codes "#" → IsTarget (record { scheme = None; authority = None; path = Kept path; query = Some query; fragment = None; front = None; rest = None }) → ⊥
+  pub some_parts : (scheme path fragment : Bor (List ℕ)) → scheme.now ≡ codes "a" → path.now ≡ codes "b" → fragment.now ≡ codes "c" → components_of (record { scheme = Some scheme; authority = None; path = path; query = None; fragment = Some fragment; front = path; rest = path }) ≡ components (codes "a:b#c")
+  pub no_parts : (path : Bor (List ℕ)) → path.now ≡ codes "" → components_of (record { scheme = None; authority = None; path = path; query = None; fragment = None; front = path; rest = path }) ≡ components []
   pub behind_a_directory : behind_directory (Some (codes "/a")) (codes "b") ≡ codes "/a/b"
   pub behind_no_directory : behind_directory None (codes "b") ≡ codes "b"
   pub path_behind_authority : path_behind (components (codes "http://a")) (codes "b") ≡ codes "/b"

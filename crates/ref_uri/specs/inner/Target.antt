@@ -12,9 +12,10 @@ use Rattle.ref_uri.specs.Components.{Components, if_there, is_scheme, is_path, i
 use Rattle.ref_uri.specs.DotSegments.{remove_dot_segments}
 use Rattle.ref_uri.specs.inner.Lengths.{the_lengths}
 use Rattle.std.specs.Char.{to_ascii_lowercase}
+use Rattle.std.specs.Str.{IsAscii}
 use Rattle.ref_uri.specs.Normal.{guarded, normal_text, normal_authority}
 use Rattle.ref_uri.specs.Resolution.{merged, target_components}
-use Rattle.ref_uri.specs.inner.Written.{is_plain, written, written_scheme, written_authority}
+use Rattle.ref_uri.specs.inner.Written.{is_plain, the_front, the_rest, written, written_scheme, written_authority}
 
 -- a path as it is given
 abbrev pub given_path : PathOf → List ℕ
@@ -99,6 +100,14 @@ pub record IsTarget (target : Target) : Type 0 where
   pub path_test : AreParts target.path
   pub query_test : if_there is_query (option_copied target.query) ≡ true
   pub fragment_test : if_there is_query (option_copied target.fragment) ≡ true
+  pub front_test : (front : List ℕ) → option_copied target.front ≡ Some front → (front ≡ the_front (option_copied target.scheme) (option_copied target.authority)) × IsAscii front
+  pub rest_test : (rest : List ℕ) → option_copied target.rest ≡ Some rest → rest ≡ the_rest (option_copied target.query) (option_copied target.fragment)
+
+-- what stands around the path
+pub record AreFramed (parts : Parts) : Type 0 where
+  pub front : parts.front.now ≡ the_front (option_copied parts.scheme) (option_copied parts.authority)
+  pub ascii : IsAscii parts.front.now
+  pub rest : parts.rest.now ≡ the_rest (option_copied parts.query) (option_copied parts.fragment)
 
 -- the components that stand in a text
 abbrev pub components_of : Parts → Components

@@ -1,8 +1,9 @@
 -- The text that stands for a component: the component itself, or its normal form.
-use Rattle.std.specs.Prelude.{ℕ, List, ◌≡◌, ◌≤◌, ◌<◌, ◌++◌, true, take, drop, length, map, Bool, ◌||◌, not, ◌==◌}
+use Rattle.std.specs.Prelude.{ℕ, List, [], codes, Option, ◌≡◌, ◌≤◌, ◌<◌, ◌++◌, true, take, drop, length, map, Bool, ◌||◌, not, ◌==◌}
 use Rattle.std.specs.List.{list_all}
 use Rattle.std.specs.Char.{is_ascii_uppercase, to_ascii_lowercase}
 use Rattle.ref_uri.specs.Characters.{has_whole_triples}
+use Rattle.ref_uri.specs.Components.{framed}
 use Rattle.ref_uri.specs.Normal.{normal_text, normal_authority}
 use Rattle.ref_uri.specs.inner.Scans.{begins_with_triple}
 use Rattle.ref_uri.specs.declared.written.Case.{Case}
@@ -36,6 +37,14 @@ written_authority NormalTarget = normal_authority
 -- no letter in upper case, `%`, `:`, `@` or `[`
 abbrev pub is_plain_in_host : ℕ → Bool
 is_plain_in_host c = not (is_ascii_uppercase c || (c == 37) || (c == 58) || (c == 64) || (c == 91))
+
+-- what stands before the path
+abbrev pub the_front : Option (List ℕ) → Option (List ℕ) → List ℕ
+the_front scheme authority = framed [] scheme (codes ":") ++ framed (codes "//") authority []
+
+-- what stands behind it
+abbrev pub the_rest : Option (List ℕ) → Option (List ℕ) → List ℕ
+the_rest query fragment = framed (codes "?") query [] ++ framed (codes "#") fragment []
 
 -- no `%` stands in the text
 abbrev pub is_plain : List ℕ → Bool

@@ -2,6 +2,7 @@ use Rattle.std.proofs.Common.{codes, refl, ap, arith, [], ◌∷◌, ◌++◌, l
 use Rattle.ref_uri.specs.inner.Target.{LacksEncodedDot, target_with_dots}
 use Rattle.ref_uri.proofs.AsciiLemmas.{reference_ascii}
 use Rattle.ref_uri.proofs.OnLiterals.{ref_uri_on_literals}
+use Rattle.ref_uri.proofs.TargetLemmas.{not_there}
 use Rattle.ref_uri.proofs.laws.body_rows.Goals as goal
 
 -- a triple of another character
@@ -85,6 +86,10 @@ returns c = record {
     path_of_a_target = λ path is. rw is refl;
     components_in_normal_form = λ scheme authority path query is on at with. rw (is, on, at, with) refl;
     components_with_a_guard = λ scheme path is at. rw (is, at) refl;
+    front_of_both = refl;
+    rest_of_both = refl;
+    text_without_triples = refl;
+    text_with_a_triple = refl;
     lengths_of_some_components = refl;
     lengths_of_no_components = refl;
     part_is_a_path = λ path is. rw is refl;
@@ -95,7 +100,7 @@ returns c = record {
     merged_lose_same_dots = λ directory path is at. rw (is, at) (no_dot_in_slash, no_triple_in_dot);
     loses_more_dots = λ path is lacks. (lacks (codes "/") []).0 is;
     keeps_its_dots = λ path loses. loses;
-    some_target = λ path is. record { scheme_test = refl; authority_test = refl; path_test = rw is refl; query_test = refl; fragment_test = refl };
+    some_target = λ path is. record { scheme_test = refl; authority_test = refl; path_test = rw is refl; query_test = refl; fragment_test = refl; front_test = λ x e. absurd (not_there x e); rest_test = λ x e. absurd (not_there x e) };
     no_target = λ path query is target. let test = target.query_test in cc;
     some_parts = λ scheme path fragment is at then. rw (is, at, then) refl;
     no_parts = λ path is. rw is refl;

@@ -5,24 +5,25 @@ use Rattle.ref_uri.specs.Components.{is_query, if_there}
 use Rattle.ref_uri.specs.DotSegments.{remove_dot_segments}
 use Rattle.ref_uri.specs.Normal.{guarded, normal, normal_text}
 use Rattle.ref_uri.specs.inner.Target.{components_of, written_path, path_behind}
-use Rattle.ref_uri.specs.inner.Written.{is_plain}
+use Rattle.ref_uri.specs.inner.Written.{is_plain, the_front, the_rest}
+use Rattle.std.specs.Str.{IsAscii}
 use Rattle.ref_uri.specs.declared.written.Form.TheVariants.{Given, Normal}
 use Rattle.ref_uri.proofs.AsciiLemmas.{encoded_ascii, IsAscii-from_all_ascii}
 use Rattle.ref_uri.proofs.UniqueLemmas.{tested}
 use Rattle.ref_uri.proofs.NormalTargets.{normal_parts_are, dots_with_scheme, dots_with_authority, dots_of_base, dots_behind}
-use Rattle.ref_uri.proofs.TargetLemmas.{resolved_of_scheme, resolved_of_authority, resolved_of_base, resolved_path, none_there, still_there, or_there, or_is_query_or, as_given, the_components}
+use Rattle.ref_uri.proofs.TargetLemmas.{of_that, not_there, resolved_of_scheme, resolved_of_authority, resolved_of_base, resolved_path, none_there, still_there, or_there, or_is_query_or, as_given, the_components}
 use Rattle.ref_uri.proofs.target.resolved.Goals as goal
 
 pub returns-then-is_some-clause-target : goal.returns-then-is_some-clause-target
 returns-then-is_some-clause-target c =
     let t = tested (components_of c.args.reference) c.requires.reference in
-    record { scheme_test = t.scheme_test; authority_test = t.authority_test; path_test = t.path_test; query_test = t.query_test; fragment_test = t.fragment_test }
+    record { scheme_test = t.scheme_test; authority_test = t.authority_test; path_test = t.path_test; query_test = t.query_test; fragment_test = t.fragment_test; front_test = λ x e. of_that (λ t. (t ≡ the_front (option_copied c.args.reference.scheme) (option_copied c.args.reference.authority)) × IsAscii t) c.args.reference.front.now x (c.requires.framed.front, c.requires.framed.ascii) e; rest_test = λ x e. of_that (λ t. t ≡ the_rest (option_copied c.args.reference.query) (option_copied c.args.reference.fragment)) c.args.reference.rest.now x c.requires.framed.rest e }
 
 pub returns-then-is_some-2-clause-target : goal.returns-then-is_some-2-clause-target
 returns-then-is_some-2-clause-target c =
     let b = tested (components_of c.args.base) c.requires.base in
     let t = tested (components_of c.args.reference) c.requires.reference in
-    record { scheme_test = b.scheme_test; authority_test = t.authority_test; path_test = t.path_test; query_test = t.query_test; fragment_test = t.fragment_test }
+    record { scheme_test = b.scheme_test; authority_test = t.authority_test; path_test = t.path_test; query_test = t.query_test; fragment_test = t.fragment_test; front_test = λ x e. absurd (not_there x e); rest_test = λ x e. of_that (λ t. t ≡ the_rest (option_copied c.args.reference.query) (option_copied c.args.reference.fragment)) c.args.reference.rest.now x c.requires.framed.rest e }
 
 pub returns-then-is_empty-clause-target : goal.returns-then-is_empty-clause-target
 returns-then-is_empty-clause-target c =
@@ -34,6 +35,8 @@ returns-then-is_empty-clause-target c =
       path_test = b.path_test;
       query_test = subst (λ (o : Option (Bor (List ℕ))). if_there is_query (option_copied o) ≡ true) (sym c.or.ensures) (or_there is_query c.args.reference.query c.args.base.query t.query_test b.query_test);
       fragment_test = t.fragment_test;
+      front_test = λ x e. of_that (λ t. (t ≡ the_front (option_copied c.args.base.scheme) (option_copied c.args.base.authority)) × IsAscii t) c.args.base.front.now x (c.requires.base_framed.front, c.requires.base_framed.ascii) e;
+      rest_test = λ x e. absurd (not_there x e);
     }
 
 pub path_behind-requires : goal.path_behind-requires
@@ -51,6 +54,8 @@ returns-clause-target c =
       path_test = c.path_behind.ensures.parts b.path_test t.path_test;
       query_test = t.query_test;
       fragment_test = t.fragment_test;
+      front_test = λ x e. of_that (λ t. (t ≡ the_front (option_copied c.args.base.scheme) (option_copied c.args.base.authority)) × IsAscii t) c.args.base.front.now x (c.requires.base_framed.front, c.requires.base_framed.ascii) e;
+      rest_test = λ x e. of_that (λ t. t ≡ the_rest (option_copied c.args.reference.query) (option_copied c.args.reference.fragment)) c.args.reference.rest.now x c.requires.framed.rest e;
     }
 
 pub returns-then-is_some-clause-value : goal.returns-then-is_some-clause-value

@@ -1,5 +1,6 @@
 use Rattle.std.proofs.Common.{◌∙◌, arith}
 use Rattle.ref_uri.proofs.LengthsLemmas.{after_scheme_is, after_authority_is, after_path_is, after_query_is, scheme_within, authority_within, path_within, query_within, scheme_is, authority_is, path_is, query_is, fragment_is}
+use Rattle.ref_uri.proofs.StructureLemmas.{front_taken, rest_is}
 use Rattle.ref_uri.proofs.lengths.Lengths.parts.Goals as goal
 
 pub behind-after_scheme-requires-clause-within : goal.behind-after_scheme-requires-clause-within
@@ -75,3 +76,22 @@ returns-clause-fragment c =
     let three = after_path_is c.args.text.now c.args.self c.behind-after_authority.result.now c.tail-after_path.result.now c.requires two c.tail-after_path.ensures.value in
     let four = after_query_is c.args.text.now c.args.self c.tail-after_path.result.now c.behind-after_query.result.now c.requires three c.behind-after_query.ensures.value in
     c.fragment.ensures ∙ fragment_is c.args.text.now c.behind-after_query.result.now four
+
+pub overflow_sub-text : goal.overflow_sub-text
+overflow_sub-text c =
+    let one = after_scheme_is c.args.text.now c.args.self c.behind-after_scheme.result.now c.requires c.behind-after_scheme.ensures.value in
+    let two = after_authority_is c.args.text.now c.args.self c.behind-after_scheme.result.now c.behind-after_authority.result.now c.requires one c.behind-after_authority.ensures.value in
+    omega (arith, (front_taken c.args.text.now c.behind-after_authority.result.now two).0)
+
+pub returns-clause-front : goal.returns-clause-front
+returns-clause-front c =
+    let one = after_scheme_is c.args.text.now c.args.self c.behind-after_scheme.result.now c.requires c.behind-after_scheme.ensures.value in
+    let two = after_authority_is c.args.text.now c.args.self c.behind-after_scheme.result.now c.behind-after_authority.result.now c.requires one c.behind-after_authority.ensures.value in
+    c.head-front.ensures ∙ (front_taken c.args.text.now c.behind-after_authority.result.now two).1
+
+pub returns-clause-rest : goal.returns-clause-rest
+returns-clause-rest c =
+    let one = after_scheme_is c.args.text.now c.args.self c.behind-after_scheme.result.now c.requires c.behind-after_scheme.ensures.value in
+    let two = after_authority_is c.args.text.now c.args.self c.behind-after_scheme.result.now c.behind-after_authority.result.now c.requires one c.behind-after_authority.ensures.value in
+    let three = after_path_is c.args.text.now c.args.self c.behind-after_authority.result.now c.tail-after_path.result.now c.requires two c.tail-after_path.ensures.value in
+    rest_is c.args.text.now c.tail-after_path.result.now three

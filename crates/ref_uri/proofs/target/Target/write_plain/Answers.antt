@@ -9,7 +9,7 @@ use Rattle.ref_uri.proofs.target.Target.write_plain.Goals as goal
 pub write-requires : goal.write-requires
 write-requires c =
     let t = c.requires.target in
-    record { scheme_test = t.scheme_test; authority_test = t.authority_test; path_test = c.without_dots.ensures.parts t.path_test; query_test = t.query_test; fragment_test = t.fragment_test }
+    record { scheme_test = t.scheme_test; authority_test = t.authority_test; path_test = c.without_dots.ensures.parts t.path_test; query_test = t.query_test; fragment_test = t.fragment_test; front_test = t.front_test; rest_test = t.rest_test }
 
 pub returns-clause-text : goal.returns-clause-text
 returns-clause-text c =

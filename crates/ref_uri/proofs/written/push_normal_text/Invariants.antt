@@ -4,7 +4,7 @@ use denote.Text.{Utf8}
 use denote.Shadow.{shadow}
 use Rattle.ref_uri.specs.Normal.{normal_text}
 use Rattle.ref_uri.specs.inner.Written.{IsNormalUpTo}
-use Rattle.ref_uri.proofs.written.push_changed.Given as goal
+use Rattle.ref_uri.proofs.written.push_normal_text.Given as goal
 
 abbrev pub invariant-triples : goal.invariant-triples
 invariant-triples l =
