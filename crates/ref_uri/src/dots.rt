@@ -278,6 +278,7 @@ fn push_normal_segment(
 }
 
 /// Writes one more segment of the path that begins at `start`.
+#[inline(always)]
 fn push_segment(
     buffer: &mut String,
     start: usize,
