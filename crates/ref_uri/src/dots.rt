@@ -230,6 +230,7 @@ fn take_last_behind(buffer: &mut String, start: usize, progress: Progress)
 }
 
 /// Writes one more segment of the path that begins at `start`, as it is given.
+#[inline(always)]
 fn push_given_segment(
     buffer: &mut String,
     start: usize,

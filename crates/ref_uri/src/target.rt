@@ -446,6 +446,7 @@ impl<'a> PathOf<'a> {
     }
 
     /// Appends the path as it is given.
+    #[inline(always)]
     fn push_given(self, buffer: &mut String) -> Result<(), AllocError>
         requires buffer_ascii { IsAscii (string_bytes buffer.old) }
         requires parts { AreParts self }
