@@ -173,8 +173,7 @@ fn own_path<'a>(scheme: Option<&str>, path: &'a str) -> PathOf<'a>
 
 /// A reference itself, without dot segments where it has a scheme.
 pub fn itself(reference: Parts<'_>) -> Target<'_>
-    requires components { are_components (components_of reference) ≡ true }
-    requires framed { AreFramed reference }
+    requires { are_components (components_of reference) ≡ true }
     ensures value { written_components Form.Normal result ≡ normal (components_of reference.entry) }
     ensures target { IsTarget result }
 {
@@ -184,8 +183,8 @@ pub fn itself(reference: Parts<'_>) -> Target<'_>
         path: own_path(reference.scheme, reference.path),
         query: reference.query,
         fragment: reference.fragment,
-        front: Some(reference.front),
-        rest: Some(reference.rest),
+        front: None,
+        rest: None,
     }
 }
 

@@ -1,19 +1,25 @@
-use Rattle.std.proofs.Common.{◌≡◌, ℕ, List, option_copied, ap}
-use Rattle.std.specs.Str.{IsAscii}
-use Rattle.ref_uri.specs.inner.Written.{the_front, the_rest}
+use Rattle.std.proofs.Common.{ℕ, List, ap}
 use Rattle.ref_uri.specs.Normal.{normal}
 use Rattle.ref_uri.specs.inner.Target.{components_of, written_path}
 use Rattle.ref_uri.specs.declared.written.Form.TheVariants.{Normal}
 use Rattle.ref_uri.proofs.UniqueLemmas.{tested}
-use Rattle.ref_uri.proofs.TargetLemmas.{own_path, of_that}
+use Rattle.ref_uri.proofs.TargetLemmas.{own_path, not_there}
 use Rattle.ref_uri.proofs.target.itself.Goals as goal
 
 pub returns-clause-value : goal.returns-clause-value
 returns-clause-value c =
     let reference = components_of c.args.reference in
-    ap (λ (path : List ℕ). record (normal reference) { path = path }) (own_path reference c.requires.components (written_path Normal c.own_path.result) c.own_path.ensures.with_scheme c.own_path.ensures.without_scheme)
+    ap (λ (path : List ℕ). record (normal reference) { path = path }) (own_path reference c.requires (written_path Normal c.own_path.result) c.own_path.ensures.with_scheme c.own_path.ensures.without_scheme)
 
 pub returns-clause-target : goal.returns-clause-target
 returns-clause-target c =
-    let t = tested (components_of c.args.reference) c.requires.components in
-    record { scheme_test = t.scheme_test; authority_test = t.authority_test; path_test = c.own_path.ensures.parts t.path_test; query_test = t.query_test; fragment_test = t.fragment_test; front_test = λ x e. of_that (λ t. (t ≡ the_front (option_copied c.args.reference.scheme) (option_copied c.args.reference.authority)) × IsAscii t) c.args.reference.front.now x (c.requires.framed.front, c.requires.framed.ascii) e; rest_test = λ x e. of_that (λ t. t ≡ the_rest (option_copied c.args.reference.query) (option_copied c.args.reference.fragment)) c.args.reference.rest.now x c.requires.framed.rest e }
+    let t = tested (components_of c.args.reference) c.requires in
+    record {
+      scheme_test = t.scheme_test;
+      authority_test = t.authority_test;
+      path_test = c.own_path.ensures.parts t.path_test;
+      query_test = t.query_test;
+      fragment_test = t.fragment_test;
+      front_test = λ x e. absurd (not_there x e);
+      rest_test = λ x e. absurd (not_there x e);
+    }
