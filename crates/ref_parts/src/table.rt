@@ -1,7 +1,9 @@
 //! A table that is made once and then searched: from pairs of texts to values.
 ghost use Rattle.std.specs.Prelude.{◌≡◌, ℕ, ◌+◌, ◌^◌, ◌<◌, ◌≤◌, ◌&&◌, string_bytes, bytes_eq, option_copied, map, reverse, length, take, drop, ◌++◌, IfOk};
 ghost use Rattle.ref_parts.specs.Table.{entries_of, last_value, pair_count};
-ghost use Rattle.ref_parts.specs.inner.SortedEntries.{pair_cmp, key_cmp, key_of, word_at, slot_of, zeros};
+ghost use Rattle.std.specs.Cmp.Lexicographic.{slice_cmp};
+ghost use Rattle.std.specs.Ordering.{nat_cmp};
+ghost use Rattle.ref_parts.specs.inner.SortedEntries.{pair_cmp, pair_of, key_cmp, key_of, word_at, slot_of, zeros};
 
 use std::alloc::{AllocError, Global};
 use std::cmp::Ordering;
@@ -165,32 +167,56 @@ fn first_eight(bytes: &[u8]) -> [u8; 8]
 }
 
 // Compares an entry with two texts, and counts that it did.
+#[inline(always)]
 fn probe<V>(slot: &Slot<V>, word: u64, first: &str, second: &str, probes: &mut usize) -> Ordering
     requires { probes.old + 1 < 2 ^ 64 }
     ensures order { result ≡ key_cmp (key_of slot.now) (word, (first.now, second.now)) }
     ensures counted { probes.new ≡ probes.old + 1 }
 {
     *probes += 1;
-    order(slot, word, first, second)
-}
-
-// Whether an entry stands before two texts with the word of the first: by the words, and by the texts where those are equal, the
-// greatest first.
-fn order<V>(slot: &Slot<V>, word: u64, first: &str, second: &str) -> Ordering
-    ensures { result ≡ key_cmp (key_of slot.now) (word, (first.now, second.now)) }
-{
     match word.cmp(&slot.word) {
         Ordering::Equal => by_texts(first, second, slot.entry.0.as_str(), slot.entry.1.as_str()),
         unequal => unequal,
     }
 }
 
+// Whether an entry stands before two texts with the word of the first: by the words, and by the texts where those are equal, the
+// greatest first. Sorting has this many times in its code, so the texts, which few of its comparisons read, stay out of it.
+fn order<V>(slot: &Slot<V>, word: u64, first: &str, second: &str) -> Ordering
+    ensures { result ≡ key_cmp (key_of slot.now) (word, (first.now, second.now)) }
+{
+    match word.cmp(&slot.word) {
+        Ordering::Equal => texts_of_equal_words(first, second, slot),
+        unequal => unequal,
+    }
+}
+
+// The order of two texts and those of an entry.
+#[inline(never)]
+fn texts_of_equal_words<V>(first: &str, second: &str, slot: &Slot<V>) -> Ordering
+    ensures { result ≡ pair_cmp (first.now, second.now) (pair_of slot.now.entry) }
+{
+    by_texts(first, second, slot.entry.0.as_str(), slot.entry.1.as_str())
+}
+
 // The order of two pairs of texts: by the first of each, and by the second only where those are equal.
+#[inline(always)]
 fn by_texts(first: &str, second: &str, other_first: &str, other_second: &str) -> Ordering
     ensures { result ≡ pair_cmp (first.now, second.now) (other_first.now, other_second.now) }
 {
-    match first.cmp(&other_first) {
-        Ordering::Equal => second.cmp(&other_second),
+    match text_order(first, other_first) {
+        Ordering::Equal => text_order(second, other_second),
         unequal => unequal,
     }
+}
+
+// The order of two texts. To see that they are equal takes fewer steps than to see which is the greater.
+#[inline(always)]
+fn text_order(text: &str, other: &str) -> Ordering
+    ensures { result ≡ slice_cmp nat_cmp text.now other.now }
+{
+    if text == other {
+        return Ordering::Equal;
+    }
+    text.cmp(&other)
 }
