@@ -77,3 +77,12 @@ fragment_part-none text front none =
 
 pub target-against : (base text : List ℕ) → is_hash (slice_index text 0) ≡ false → target base text ≡ against base (uri_part text)
 target-against base text front = ap (λ b. cond b (Ok base) (against base (uri_part text))) front
+
+first_false : (a b : Bool) → (a || b) ≡ false → a ≡ false
+first_false true b is = cc
+first_false false b is = refl
+
+-- a text without a `#` has no fragment
+pub fragment_part-hashless : (text : List ℕ) → list_any is_hash text ≡ false → [] ≡ fragment_part text
+fragment_part-hashless [] none = refl
+fragment_part-hashless (c ∷ text) none = fragment_part-none (c ∷ text) (first_false (is_hash c) (list_any is_hash text) none) none

@@ -17,6 +17,9 @@ pub fn shared(alloc: Global, uri: Uri) -> Result<Rc<Uri>, AllocError>
 pub fn uri_part(reference: &str) -> &str
     ensures value { result.now ≡ uri.uri_part reference.now }
 {
+    if !reference.as_bytes().contains(&b'#') {
+        return reference;
+    }
     match reference.rsplit_once('#') {
         Some((uri, _)) => uri,
         None => reference,
@@ -27,6 +30,9 @@ pub fn uri_part(reference: &str) -> &str
 pub fn fragment_part(reference: &str) -> &str
     ensures value { result.now ≡ uri.fragment_part reference.now }
 {
+    if !reference.as_bytes().contains(&b'#') {
+        return "";
+    }
     if let Some(fragment) = reference.strip_prefix('#') {
         return fragment;
     }

@@ -1,7 +1,13 @@
-use Rattle.std.proofs.Common.{◌≡◌, lit<, false, slice_index}
+use Rattle.std.proofs.Common.{◌≡◌, lit<, false, slice_index, rules}
+use Rattle.std.specs.List.{list_any}
 use Rattle.std.proofs.lemmas.Str.Pattern.{strip_prefix_char}
-use Rattle.ref_index.proofs.Hashes.{is_hash, hash_split, not_in_front, fragment_part-split, fragment_part-none}
+use Rattle.ref_index.proofs.Hashes.{is_hash, hash_split, not_in_front, fragment_part-split, fragment_part-none, fragment_part-hashless}
 use Rattle.ref_index.proofs.reference.fragment_part.Goals as goal
+
+pub returns-then-not-contains : goal.returns-then-not-contains
+returns-then-not-contains c =
+    let none : list_any is_hash c.args.reference.now ≡ false = search rules in
+    record { value = fragment_part-hashless c.args.reference.now none }
 
 pub returns-in-Some-rsplit_once : goal.returns-in-Some-rsplit_once
 returns-in-Some-rsplit_once c =
