@@ -9,3 +9,4 @@ pub mod Lookups
 pub mod Showing
 pub mod Names
 pub mod Undecoded
+pub mod Based

@@ -28,7 +28,7 @@ use std::alloc::{AllocError, Global};
 use std::rc::Rc;
 
 // The fault of a name that nothing has: a name with `/` in it is none.
-fn not_named(alloc: Global, name: &str) -> Error
+pub(crate) fn not_named(alloc: Global, name: &str) -> Error
     ensures { SaysOrMemory (not_named name.now) result }
 {
     let anchor = match String::from_str(alloc, name) {
@@ -58,7 +58,7 @@ fn named_by_identifier<'r>(layers: &Layers<'r>, uri: &str, name: &str) -> Option
 
 // The entry that a name under a URI means: the one there, or else the one under the base of the place there.
 #[inline(always)]
-fn meaning<'r>(layers: &Layers<'r>, uri: &str, name: &str) -> Option<LocatedName<'r>>
+pub(crate) fn meaning<'r>(layers: &Layers<'r>, uri: &str, name: &str) -> Option<LocatedName<'r>>
     ensures { MatchOption result (anchor (world_in layers.now) uri.now name.now ≡ Err (not_named name.now)) (IsNamed (result_ok (anchor (world_in layers.now) uri.now name.now))) }
 {
     match layers.named(uri, name) {
@@ -156,7 +156,7 @@ fn outermost<'r>(
 }
 
 // What a name leads to that an anchor has: a plain one to its place, a dynamic one by the dynamic scope.
-fn named_found<'r>(
+pub(crate) fn named_found<'r>(
     alloc: Global,
     resolver: Resolver<'r>,
     name: &str,

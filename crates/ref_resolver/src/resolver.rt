@@ -1,11 +1,12 @@
 //! Where references lead from a base URI.
-ghost use Rattle.std.specs.Prelude.{◌≡◌, ℕ, List, true, [], ◌++◌, codes, if◌then◌else◌, IfOk, IfErr, MatchOption, Ok, None};
+ghost use Rattle.std.specs.Prelude.{◌≡◌, ℕ, List, true, [], ◌++◌, codes, if◌then◌else◌, IfOk, IfErr, MatchOption, Ok, Err, None};
 ghost use Rattle.std.specs.Fmt.{WritesOnOk};
 ghost use Rattle.std.specs.List.{join_by};
 ghost use Rattle.std.specs.Result.{result_ok};
 ghost use Rattle.serde_json.specs.View.{view};
 ghost use Rattle.ref_uri.specs.Targets.{against, target, fragment_part};
 ghost use Rattle.ref_world.specs.Fault.{as_invalid_uri};
+ghost use Rattle.ref_world.specs.Anchors.{anchor, not_named};
 ghost use Rattle.ref_draft.specs.Views.{resource_ref};
 ghost use Rattle.ref_world.specs.Lookup.{moved, in_subresource, lookup};
 ghost use Rattle.ref_retrieve.specs.Errors.{IsFaultOf};
@@ -13,7 +14,7 @@ ghost use Rattle.ref_resolver.specs.Layered.{world_in};
 ghost use Rattle.ref_resolver.specs.Resolving.{resolver_of, world_of, found_of, world_found};
 ghost use Rattle.ref_resolver.specs.Names.{is_name};
 
-use crate::fragment::{at_fragment, at_name, is_name, not_retrieved};
+use crate::fragment::{at_fragment, is_name, meaning, named_found, not_named, not_retrieved};
 use crate::layers::Layers;
 use ref_draft::{Draft, ResourceRef};
 use ref_index::reference::{fragment_part, uri_part};
@@ -169,11 +170,23 @@ impl<'r> Resolver<'r> {
         ensures world { IfOk result (λ found. world_found found ≡ world_of self.now) }
         ensures fault { (reference : List ℕ) → target (resolver_of self.now).base reference ≡ Ok uri.value → fragment_part reference ≡ name.now → is_name name.now ≡ true → IfErr result (IsFaultOf (lookup (world_of self.now) (resolver_of self.now) reference)) }
     {
-        if !self.layers.has_resource(uri.as_str()) {
-            return Err(not_retrieved(alloc, &uri));
-        }
+        let Some(found) = meaning(&self.layers, uri.as_str(), name) else {
+            return Err(self.no_name(alloc, &uri, name));
+        };
         let resolver = self.moved(alloc, uri)?;
-        at_name(alloc, resolver, name)
+        named_found(alloc, resolver, name, found)
+    }
+
+    // The fault of a name that nothing has under a URI: that of the URI where it means no place.
+    #[inline(never)]
+    fn no_name(&self, alloc: Global, uri: &Uri, name: &str) -> Error
+        ensures { (reference : List ℕ) → target (resolver_of self.now).base reference ≡ Ok uri.now → fragment_part reference ≡ name.now → is_name name.now ≡ true → anchor (world_of self.now) uri.now name.now ≡ Err (not_named name.now) → IsFaultOf (lookup (world_of self.now) (resolver_of self.now) reference) result }
+    {
+        if self.layers.has_resource(uri.as_str()) {
+            not_named(alloc, name)
+        } else {
+            not_retrieved(alloc, uri)
+        }
     }
 }
 
