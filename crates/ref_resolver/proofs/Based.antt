@@ -1,21 +1,18 @@
 -- A URI that something has a name under means a place.
-use Rattle.std.proofs.Common.{◌≡◌, ℕ, zero, suc, Bool, true, false, ◌&&◌, cond, List, [], ◌∷◌, ◌++◌, map, filter, flat_map, Option, Some, None, is_some, option_and_then, Result, Ok, Err, ◌⊎◌, inl, inr, ⊎_elim, refl, sym, ap, subst, ◌∙◌, true≢false, append_assoc, bytes_eq, arith}
+use Rattle.std.proofs.Common.{◌≡◌, ℕ, Bool, true, false, ◌&&◌, cond, List, [], ◌∷◌, ◌++◌, map, filter, flat_map, Option, Some, None, is_some, option_and_then, Result, Ok, Err, ◌⊎◌, inl, inr, ⊎_elim, refl, sym, ap, subst, ◌∙◌, append_assoc, bytes_eq, arith}
 use Rattle.std.specs.List.{Contains, last_or}
 use Rattle.std.specs.Option.{option_map_or, option_or, ok_or}
 use Rattle.std.specs.Result.{result_ok}
 use Rattle.std.proofs.lemmas.List.{append-nil}
-use Rattle.std.proofs.lemmas.List.Elements.{Contains-append_left, Contains-append_right, Contains-append_cases}
+use Rattle.std.proofs.lemmas.List.Elements.{Contains-append_right, Contains-append_cases}
 use Rattle.std.proofs.lemmas.Slice.Eq.{bytes_eq-Decides}
 use Rattle.serde_json.specs.Data.{depth}
-use Rattle.ref_parts.specs.Path.{Part}
-use Rattle.ref_draft.specs.Anchors.{Kind}
 use Rattle.ref_draft.specs.Children.{walked}
 use Rattle.ref_uri.specs.Targets.{Refusal}
 use Rattle.ref_world.specs.World.{Document, Layer, World}
-use Rattle.ref_world.specs.Places.{Place, root, child_place, children_with, children_of, levels_below, places, identifier_of, base_within}
-use Rattle.ref_world.specs.Descent.{IsChildOfOne, AreChildren}
+use Rattle.ref_world.specs.Places.{Place, root, child_place, children_with, levels_below, places, identifier_of, base_within}
+use Rattle.ref_world.specs.Descent.{AreChildren}
 use Rattle.ref_world.specs.Resources.{resources_in, resources, last_under, own_uri, means}
-use Rattle.ref_world.specs.Fault.{Fault}
 use Rattle.ref_world.specs.Anchors.{Named, named_under, named_at, names_in, names, last_named, named, named_by_identifier, not_named, anchor}
 use Rattle.ref_world.proofs.Alone.{in_joined, bears, first_or_later}
 use Rattle.ref_world.proofs.Appending.{meanings_stay_below}

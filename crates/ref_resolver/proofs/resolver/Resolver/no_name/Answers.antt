@@ -1,4 +1,4 @@
-use Rattle.std.proofs.Common.{◌≡◌, ℕ, List, Err, true, false, is_some, ◌∙◌, rules}
+use Rattle.std.proofs.Common.{◌≡◌, ℕ, List, true, false, is_some, ◌∙◌, rules}
 use Rattle.ref_world.specs.Fault.{not_retrieved}
 use Rattle.ref_world.specs.Resources.{means}
 use Rattle.ref_world.specs.Anchors.{anchor, not_named}
