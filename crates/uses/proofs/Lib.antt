@@ -1,1 +1,2 @@
 pub mod Bundling
+pub mod Validating

@@ -1,2 +1,3 @@
 pub mod Uses
+pub mod Validating
 pub mod Bundling

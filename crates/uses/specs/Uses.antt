@@ -1,12 +1,10 @@
 -- What the uses answer.
-use Rattle.std.specs.Prelude.{◌≡◌, ℕ, ◌++◌, ◌⊎◌, Bool, false, List, [], bytes_eq, codes, decimal, Option, None, option_map, Result, Ok}
+use Rattle.std.specs.Prelude.{◌≡◌, ℕ, ◌++◌, ◌⊎◌, Bool, false, List, [], bytes_eq, codes, decimal, None, Ok}
 use Rattle.std.specs.List.{Contains, list_any}
 use Rattle.serde_json.specs.Data.{Data}
 use Rattle.serde_json.specs.declared.value.Value.{Value}
-use Rattle.ref_draft.specs.Schema.{text_under}
 use Rattle.ref_world.specs.World.{World}
-use Rattle.ref_world.specs.Fault.{Fault, as_invalid_uri}
-use Rattle.ref_world.specs.Lookup.{Resolver, Found, lookup}
+use Rattle.ref_world.specs.Fault.{as_invalid_uri}
 use Rattle.ref_world.specs.Follow.{Step, Followed}
 use Rattle.ref_world.specs.Pending.{Pending, added, given_of_builder}
 use Rattle.ref_world.specs.Preparing.{Given}
@@ -21,10 +19,6 @@ use Rattle.referencing.specs.declared.steps.FollowError.{FollowError}
 use Rattle.referencing.specs.Builder.{addition}
 use Rattle.referencing.specs.Prepared.{IsPreparedOf}
 use Rattle.referencing.specs.Answering.{Answers, IsFailureOf}
-
--- where a value's text under `$ref` leads from a resolver
-abbrev pub referred : World → Resolver → Data → Option (Result Found Fault)
-referred world r value = option_map (lookup world r) (text_under (codes "$ref") value)
 
 -- a tree that stands under a URI in files
 abbrev pub HasFile : List (List ℕ × Value) → List ℕ → Data → Type 0

@@ -4,7 +4,7 @@ use crate::dialect::vocabularies_of;
 use crate::editor::value_and_base;
 use crate::faults::shown;
 use crate::openapi::{Files, prepared};
-use crate::validator::referred;
+use crate::validator::validated;
 use referencing::uri::from_str;
 use referencing::{Draft, Error, Registry, Step};
 use serde_json::Value;
@@ -31,26 +31,50 @@ fn registry_of<'v>(alloc: Global, uri: &str, value: &'v Value) -> Result<Registr
     builder.prepare().map_err(failed)
 }
 
-// What the schema's `$ref` leads to.
-fn validated(alloc: Global, document: &str, schema: &str) -> Result<String, Fail> {
+// What a validator answers of an instance, from the root of a document.
+fn verdict(alloc: Global, document: &str, instance: &str) -> Result<String, Fail> {
     let value = Value::from_str(alloc, document)?;
-    let schema = Value::from_str(alloc, schema)?;
+    let instance = Value::from_str(alloc, instance)?;
     let registry = registry_of(alloc, "http://a/r", &value)?;
     let resolver = registry.resolver(alloc, from_str(alloc, "http://a/r")?)?;
-    match referred(alloc, &resolver, &schema).map_err(failed)? {
-        Some(found) => Ok(found.contents().to_string(alloc)?),
-        None => Ok(String::from_str(alloc, "none")?),
+    let draft = Draft::Draft202012;
+    match validated(alloc, &resolver, draft, &value, &instance, 8) {
+        Ok(verdict) => Ok(format!(in alloc; "{verdict:?}")?),
+        Err(Error::Memory(error)) => Err(error.into()),
+        Err(error) => Ok(format!(in alloc; "{error}")?),
     }
 }
+
+// A tree whose nodes are named in a document of its own, whose base is another directory.
+const TREE: &str = r##"{"$ref":"trees/node","$defs":{"node":{"$id":"trees/node","type":"object",
+    "properties":{"name":{"$ref":"text"},"left":{"$ref":"#"},"right":{"$ref":"node"}},
+    "$defs":{"text":{"$id":"text","type":"string"}}}}}"##;
 
 #[test]
 fn a_validator_follows_references(rt: HostRuntime) -> Result<(), Fail> {
     let alloc = rt.alloc();
-    let document = r#"{"$defs":{"x":{"type":"string"}}}"#;
-    let found = validated(alloc, document, r##"{"$ref":"#/$defs/x"}"##)?;
-    same(&rt, found.as_str(), r#"{"type":"string"}"#);
-    let found = validated(alloc, document, r#"{"$ref":1}"#)?;
-    same(&rt, found.as_str(), "none");
+    let found = verdict(alloc, TREE, r#"{"name":"a","left":{"right":{"name":"b"}}}"#)?;
+    same(&rt, found.as_str(), "Valid");
+    let found = verdict(alloc, TREE, r#"{"name":"a","left":{"right":{"name":1}}}"#)?;
+    same(&rt, found.as_str(), "Invalid");
+    let found = verdict(alloc, TREE, r#"{"left":{"left":{"left":{"left":{}}}}}"#)?;
+    same(&rt, found.as_str(), "TooDeep");
+    Ok(())
+}
+
+#[test]
+fn a_validator_ends(rt: HostRuntime) -> Result<(), Fail> {
+    let alloc = rt.alloc();
+    let found = verdict(alloc, r##"{"allOf":[{"$ref":"#"}]}"##, "1")?;
+    same(&rt, found.as_str(), "TooDeep");
+    let found = verdict(
+        alloc,
+        r##"{"allOf":[{"type":"number"},{"$ref":"#x"}]}"##,
+        "1",
+    )?;
+    same(&rt, found.as_str(), "Anchor 'x' does not exist");
+    let found = verdict(alloc, r##"{"properties":{"a":{"$ref":"#x"}}}"##, "1")?;
+    same(&rt, found.as_str(), "Valid");
     Ok(())
 }
 
