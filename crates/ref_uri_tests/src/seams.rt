@@ -56,7 +56,8 @@ fn agrees_with_the_grammar_at_each_place(rt: HostRuntime) -> Result<(), Fail> {
     Ok(())
 }
 
-/// Whether `/g`, so many `g` behind it and a piece lead from `http://h/b` to a front, so many `g` and what is left.
+/// Whether `/g`, so many `g` behind it and a piece lead from `http://h/b` to a front, so many `g` and what is left, as they do
+/// behind `http://h`.
 fn leads_to(
     alloc: Global,
     piece: &str,
@@ -68,7 +69,9 @@ fn leads_to(
     let text = around(alloc, "/g", len, piece, 0)?;
     let expected = around(alloc, front, kept, rest, 0)?;
     let uri = uri::resolve_against(alloc, UriRef::parse("http://h/b")?, text.as_str())?;
-    Ok(uri.as_str() == expected.as_str())
+    let whole = around(alloc, "http://h/g", len, piece, 0)?;
+    let alone = uri::from_str(alloc, whole.as_str())?;
+    Ok(uri.as_str() == expected.as_str() && alone.as_str() == expected.as_str())
 }
 
 /// Dot segments and triples behind a name of each length, which stays or goes.
@@ -77,6 +80,22 @@ fn removes_dot_segments_at_each_place(rt: HostRuntime) -> Result<(), Fail> {
     for (piece, front, stays, rest) in [
         ("/../x", "http://h/", false, "x"),
         ("/%2e%2E/x", "http://h/", false, "x"),
+        ("/%2E%2e", "http://h/", false, ""),
+        (
+            "/%2E%2e/name-of-a-file-of-some-length",
+            "http://h/",
+            false,
+            "name-of-a-file-of-some-length",
+        ),
+        (
+            "/%2E/name-of-a-file-of-some-length",
+            "http://h/g",
+            true,
+            "/name-of-a-file-of-some-length",
+        ),
+        ("/%2e", "http://h/g", true, "/"),
+        ("%2e%2E", "http://h/g", true, ".."),
+        ("%2e%2E/x", "http://h/g", true, "../x"),
         ("/..", "http://h/", false, ""),
         ("/./x", "http://h/g", true, "/x"),
         ("/.", "http://h/g", true, "/"),
