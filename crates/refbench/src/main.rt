@@ -61,23 +61,48 @@ fn call_of(name: &str) -> Option<Call> {
     }
 }
 
-/// How long the text is that a call answers; nothing where it answers none. A base is parsed where the call has one.
+/// How long the text is that a call answers; nothing where it answers none. A base is parsed where the call has one. What a call
+/// answers is matched where it stands, so that moving it costs nothing beside the call.
 fn length_of(alloc: Global, call: Call, base: &str, text: &str) -> Option<usize> {
     match call {
         Call::Nothing => Some(text.len()),
-        Call::Parse => Some(UriRef::parse(text).ok()?.as_str().len()),
+        Call::Parse => match UriRef::parse(text) {
+            Ok(reference) => Some(reference.as_str().len()),
+            Err(_) => None,
+        },
         Call::Normalize => Some(UriRef::parse(text).ok()?.normalize(alloc).ok()?.len()),
-        Call::Resolve => {
-            let base = UriRef::parse(base).ok()?;
-            let uri = UriRef::parse(text).ok()?.resolve_against(alloc, base).ok()?;
-            Some(uri.as_str().len())
-        }
-        Call::FromStr => Some(uri::from_str(alloc, text).ok()?.as_str().len()),
-        Call::Against => {
-            let base = UriRef::parse(base).ok()?;
-            Some(uri::resolve_against(alloc, base, text).ok()?.as_str().len())
-        }
+        Call::Resolve => resolved_len(alloc, base, text),
+        Call::FromStr => match uri::from_str(alloc, text) {
+            Ok(uri) => Some(uri.as_str().len()),
+            Err(_) => None,
+        },
+        Call::Against => against_len(alloc, base, text),
         Call::FromText => vocabularies::length_of(alloc, text),
+    }
+}
+
+/// How long the target of a reference against a base is.
+fn resolved_len(alloc: Global, base: &str, text: &str) -> Option<usize> {
+    let Ok(base) = UriRef::parse(base) else {
+        return None;
+    };
+    let Ok(reference) = UriRef::parse(text) else {
+        return None;
+    };
+    match reference.resolve_against(alloc, base) {
+        Ok(uri) => Some(uri.as_str().len()),
+        Err(_) => None,
+    }
+}
+
+/// How long the URI is that a text means against a base.
+fn against_len(alloc: Global, base: &str, text: &str) -> Option<usize> {
+    let Ok(base) = UriRef::parse(base) else {
+        return None;
+    };
+    match uri::resolve_against(alloc, base, text) {
+        Ok(uri) => Some(uri.as_str().len()),
+        Err(_) => None,
     }
 }
 
