@@ -1,9 +1,9 @@
 //! A table that is made once and then searched: from pairs of texts to values.
-ghost use Rattle.std.specs.Prelude.{◌≡◌, ℕ, ◌+◌, ◌^◌, ◌<◌, ◌≤◌, ◌&&◌, string_bytes, bytes_eq, option_copied, map, reverse, length, take, drop, ◌++◌, IfOk};
+ghost use Rattle.std.specs.Prelude.{◌≡◌, ℕ, ◌+◌, ◌-◌, ◌^◌, ◌<◌, ◌≤◌, ◌&&◌, string_bytes, bytes_eq, option_copied, map, reverse, length, take, drop, ◌++◌, IfOk};
 ghost use Rattle.ref_parts.specs.Table.{entries_of, last_value, pair_count};
 ghost use Rattle.std.specs.Cmp.Lexicographic.{slice_cmp};
 ghost use Rattle.std.specs.Ordering.{nat_cmp};
-ghost use Rattle.ref_parts.specs.inner.SortedEntries.{pair_cmp, pair_of, key_cmp, key_of, word_at, slot_of, zeros};
+ghost use Rattle.ref_parts.specs.inner.SortedEntries.{big_endian, pair_cmp, pair_of, key_cmp, key_of, word_at, slot_of, zeros};
 
 use std::alloc::{AllocError, Global};
 use std::cmp::Ordering;
@@ -92,14 +92,17 @@ impl<V> SortedTable<V> {
         let word = word_at(first, self.shared);
         let mut probes = 0;
         let mut low = 0;
-        let mut high = self.kept.len();
-        while low < high {
-            let middle = low + (high - low) / 2;
-            let slot = &self.kept[middle];
+        let mut left = self.kept.len();
+        while left > 0 {
+            let half = left / 2;
+            let slot = &self.kept[low + half];
             match probe(slot, word, first, second, &mut probes) {
-                Ordering::Less => low = middle + 1,
+                Ordering::Less => {
+                    low += half + 1;
+                    left -= half + 1;
+                }
                 Ordering::Equal => return (Some(&slot.entry.2), probes),
-                Ordering::Greater => high = middle,
+                Ordering::Greater => left = half,
             }
         }
         (None, probes)
@@ -147,16 +150,33 @@ fn shared_part<'t>(text: &'t [u8], other: &[u8]) -> &'t [u8] {
     text.get(..len).unwrap_or(text)
 }
 
-// The eight bytes of a text from a place on as a number, the first one highest, with 0 for each that it hasn't.
+// The eight bytes of a text from a place on as a number, the first one highest, with 0 for each that it hasn't. Where fewer are
+// left, the text's last eight are read at once, and those before the place fall out at the top.
 fn word_at(text: &str, from: usize) -> u64
     ensures { result ≡ word_at from text.now }
 {
     let bytes = text.as_bytes();
     let rest = &bytes[from.min(bytes.len())..];
+    if let Some((eight, _)) = rest.split_first_chunk::<8>() {
+        return u64::from_be_bytes(*eight);
+    }
+    if let Some((_, eight)) = bytes.split_last_chunk::<8>() {
+        return last_bytes(eight, rest.len());
+    }
     u64::from_be_bytes(first_eight(rest))
 }
 
-// The first eight bytes, with 0 for each that there is not.
+// So many of eight bytes, the last ones, as a number, the first one highest, with 0 for each behind them.
+#[inline(always)]
+fn last_bytes(eight: &[u8; 8], count: usize) -> u64
+    requires { count < 8 }
+    ensures { result ≡ big_endian 8 (drop (8 - count) eight.now) }
+{
+    u64::from_be_bytes(*eight) << (8 * (7 - count)) << 8
+}
+
+// The first eight bytes, with 0 for each that there is not. Few texts are so short, so the copy stays out of what searches.
+#[inline(never)]
 fn first_eight(bytes: &[u8]) -> [u8; 8]
     ensures { result ≡ take 8 bytes.now ++ drop (length bytes.now) zeros }
 {
@@ -174,40 +194,35 @@ fn probe<V>(slot: &Slot<V>, word: u64, first: &str, second: &str, probes: &mut u
     ensures counted { probes.new ≡ probes.old + 1 }
 {
     *probes += 1;
-    match word.cmp(&slot.word) {
-        Ordering::Equal => by_texts(first, second, slot.entry.0.as_str(), slot.entry.1.as_str()),
-        unequal => unequal,
-    }
+    order(slot, word, first, second)
 }
 
 // Whether an entry stands before two texts with the word of the first: by the words, and by the texts where those are equal, the
-// greatest first. Sorting has this many times in its code, so the texts, which few of its comparisons read, stay out of it.
+// greatest first. Few comparisons read texts, so those stay out of what sorts and searches; and each answer is told by a branch of
+// its own, which takes fewer steps there than an order that is then matched.
+#[inline(always)]
 fn order<V>(slot: &Slot<V>, word: u64, first: &str, second: &str) -> Ordering
     ensures { result ≡ key_cmp (key_of slot.now) (word, (first.now, second.now)) }
 {
-    match word.cmp(&slot.word) {
-        Ordering::Equal => texts_of_equal_words(first, second, slot),
-        unequal => unequal,
+    if word < slot.word {
+        return Ordering::Less;
     }
+    if word > slot.word {
+        return Ordering::Greater;
+    }
+    texts_of_equal_words(first, second, slot)
 }
 
-// The order of two texts and those of an entry.
+// The order of two texts and those of an entry: by the first of each, and by the second only where those are equal.
 #[inline(never)]
 fn texts_of_equal_words<V>(first: &str, second: &str, slot: &Slot<V>) -> Ordering
     ensures { result ≡ pair_cmp (first.now, second.now) (pair_of slot.now.entry) }
 {
-    by_texts(first, second, slot.entry.0.as_str(), slot.entry.1.as_str())
-}
-
-// The order of two pairs of texts: by the first of each, and by the second only where those are equal.
-#[inline(always)]
-fn by_texts(first: &str, second: &str, other_first: &str, other_second: &str) -> Ordering
-    ensures { result ≡ pair_cmp (first.now, second.now) (other_first.now, other_second.now) }
-{
-    match text_order(first, other_first) {
-        Ordering::Equal => text_order(second, other_second),
-        unequal => unequal,
+    let other_first = slot.entry.0.as_str();
+    if first == other_first {
+        return text_order(second, slot.entry.1.as_str());
     }
+    first.cmp(&other_first)
 }
 
 // The order of two texts. To see that they are equal takes fewer steps than to see which is the greater.
