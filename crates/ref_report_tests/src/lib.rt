@@ -4,6 +4,10 @@
 #![tactic(auto)]
 
 #[cfg(test)]
+mod failing;
+#[cfg(test)]
+mod lookups;
+#[cfg(test)]
 mod requests;
 #[cfg(test)]
-mod writers;
+mod rows;
