@@ -3,6 +3,7 @@ ghost use Rattle.std.specs.Prelude.{⊤};
 
 use ref_retrieve::{Error, RetrieveError};
 use ref_uri::{ResolveFault, UriFault, UriParseFault};
+use serde_json::Category;
 use std::alloc::{AllocError, Global};
 use std::fmt;
 
@@ -53,6 +54,12 @@ impl Refusal for AllocError {
     }
 }
 
+impl Refusal for serde_json::Error {
+    fn is_memory(&self) -> bool {
+        matches!(self.classify(), Category::Memory)
+    }
+}
+
 impl Refusal for UriParseFault {
     fn is_memory(&self) -> bool {
         matches!(self, UriParseFault::Memory(_))
@@ -100,18 +107,21 @@ pub fn fault<E: Refusal + fmt::Display>(alloc: Global, error: &E) -> Result<Stri
     after(format!(in alloc; "{error}"))
 }
 
-/// A value that is made before the call.
-pub fn before<T, E: Drop>(made: Result<T, E>) -> Result<T, Stop> {
-    match made {
-        Ok(value) => Ok(value),
-        Err(_) => Err(Stop::Before),
-    }
+/// A value that is made before the call. Only want of memory may keep it from being made.
+pub fn before<T, E: Refusal + Drop>(made: Result<T, E>) -> Result<T, Stop> {
+    made_or(made, Stop::Before)
 }
 
-/// The text of an answer.
-pub fn after(text: Result<String, AllocError>) -> Result<String, Stop> {
-    match text {
-        Ok(text) => Ok(text),
-        Err(_) => Err(Stop::After),
+/// A value that is made once the call has answered. Only want of memory may keep it from being made.
+pub fn after<T, E: Refusal + Drop>(made: Result<T, E>) -> Result<T, Stop> {
+    made_or(made, Stop::After)
+}
+
+/// A value, or that it wants memory.
+fn made_or<T, E: Refusal + Drop>(made: Result<T, E>, stop: Stop) -> Result<T, Stop> {
+    match made {
+        Ok(value) => Ok(value),
+        Err(refusal) if refusal.is_memory() => Err(stop),
+        Err(_) => Err(Stop::Wrong),
     }
 }

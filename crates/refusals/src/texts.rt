@@ -75,8 +75,13 @@ fn unescaped(alloc: Global, token: &str) -> Result<String, Stop> {
 fn pushed(alloc: Global, buffer: &mut EncodedBuffer) -> Result<String, Stop> {
     match buffer.push_str("/ é and more than the room that there is") {
         Ok(()) => after(String::from_str(alloc, buffer.as_str())),
-        Err(error) => Err(refused(&error, buffer.as_str() == "a")),
+        Err(error) => Err(refused(&error, has_rows(buffer))),
     }
+}
+
+/// Whether a buffer answers as one of `a`.
+fn has_rows(buffer: &EncodedBuffer) -> bool {
+    buffer.as_str() == "a" && buffer.as_encoded().as_str() == "a"
 }
 
 fn decoded(alloc: Global, buffer: &EncodedBuffer) -> Result<String, Stop> {

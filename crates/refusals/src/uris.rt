@@ -86,10 +86,21 @@ fn normal_text(alloc: Global) -> Result<String, Stop> {
     }
 }
 
+/// Whether a URI answers as `http://a/r#x`.
+fn has_rows(uri: &Uri) -> bool {
+    uri.as_str() == "http://a/r#x"
+        && uri.scheme() == "http"
+        && uri.authority() == Some("a")
+        && uri.path() == "/r"
+        && uri.query().is_none()
+        && uri.fragment() == Some("x")
+        && uri.strip_fragment().as_str() == "http://a/r"
+}
+
 fn with_fragment(alloc: Global, uri: &mut Uri, fragment: Option<&str>) -> Result<String, Stop> {
     match uri.set_fragment(fragment) {
         Ok(()) => after(String::from_str(alloc, uri.as_str())),
-        Err(error) => Err(refused(&error, uri.as_str() == "http://a/r#x")),
+        Err(error) => Err(refused(&error, has_rows(uri))),
     }
 }
 

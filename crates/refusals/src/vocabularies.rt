@@ -58,7 +58,7 @@ impl Calls for Vocabularies {
             "set.add" => added(alloc, &mut self.empty, CUSTOM, 0),
             "set.add known" => added(alloc, &mut self.one, CORE, 1),
             "set.add again" => added(alloc, &mut self.one, CUSTOM, 1),
-            "set.clone" => set(alloc, self.one.clone()),
+            "set.clone" => copied_set(alloc, &self.one),
             "set.clone known" => set(alloc, default_vocabularies(Draft::Draft7).clone()),
             "find" => found(alloc, &self.meta),
             "declared_or_default" => set(alloc, declared_or_default(alloc, Some(&self.meta))),
@@ -94,13 +94,23 @@ fn copied(alloc: Global, vocabulary: &Vocabulary) -> Result<String, Stop> {
     }
 }
 
-/// Whether a set has so many vocabularies that aren't known, and not `core`.
+/// Whether a set has so many vocabularies that aren't known, each that of the custom one, and none that is known.
 fn has(set: &VocabularySet, count: usize) -> bool {
     let mut customs: usize = 0;
-    for _ in set.custom() {
+    for uri in set.custom() {
         customs = customs.saturating_add(1);
+        if uri != CUSTOM {
+            return false;
+        }
     }
-    customs == count && !set.contains(&Vocabulary::Core)
+    customs == count && !set.contains(&Vocabulary::Core) && !set.contains(&Vocabulary::Applicator)
+}
+
+fn copied_set(alloc: Global, set: &VocabularySet) -> Result<String, Stop> {
+    match set.clone() {
+        Ok(copy) => after(format!(in alloc; "{copy:?}")),
+        Err(error) => Err(refused(&error, has(set, 1))),
+    }
 }
 
 fn added(alloc: Global, set: &mut VocabularySet, text: &str, count: usize) -> Result<String, Stop> {

@@ -81,7 +81,7 @@ fn built(
         ),
         "extend" => ready(alloc, builder(alloc, parent)?.extend(pair())),
         "clone" => match given.clone() {
-            Ok(copy) => after(outcome(alloc, copy)),
+            Ok(copy) => outcome(alloc, copy),
             Err(error) => Err(refused(&error, true)),
         },
         _ => Err(Stop::Wrong),
@@ -106,20 +106,18 @@ pub fn marks(alloc: Global, registry: &Registry<'_>) -> Result<String, AllocErro
     Ok(text)
 }
 
-/// Which URIs are known once a builder is prepared.
+/// Which URIs are known once a builder is prepared, which only want of memory may refuse.
 fn outcome<R: Retrieve + Drop>(
     alloc: Global,
     builder: RegistryBuilder<'_, R>,
-) -> Result<String, AllocError> {
-    match builder.prepare() {
-        Ok(registry) => marks(alloc, &registry),
-        Err(_) => Err(AllocError),
-    }
+) -> Result<String, Stop> {
+    let registry = after(builder.prepare())?;
+    after(marks(alloc, &registry))
 }
 
 fn ready(alloc: Global, built: Result<RegistryBuilder<'_>, Error>) -> Result<String, Stop> {
     match built {
-        Ok(builder) => after(outcome(alloc, builder)),
+        Ok(builder) => outcome(alloc, builder),
         Err(error) => fault(alloc, &error),
     }
 }

@@ -4,7 +4,7 @@ use ref_uri::Uri;
 use ref_uri::uri::from_str;
 use refusal_harness::{Stop, before};
 use serde_json::Value;
-use std::alloc::Global;
+use std::alloc::{AllocError, Global};
 
 /// The meta-schema at `http://a/m`, in a parent.
 pub const META: &str = r#"{"title":"meta","$vocabulary":{"https://example.com/v":true}}"#;
@@ -29,12 +29,17 @@ pub fn uri(alloc: Global, text: &str) -> Result<Uri, Stop> {
     before(from_str(alloc, text))
 }
 
+/// One item in a list.
+fn list_of<T: Drop>(alloc: Global, item: T) -> Result<Vec<T>, AllocError> {
+    let mut list = Vec::new(alloc);
+    list.push(item)?;
+    Ok(list)
+}
+
 /// The pairs of what can be retrieved.
 pub fn pairs(alloc: Global) -> Result<Vec<(Uri, Value)>, Stop> {
-    let mut pairs = Vec::new(alloc);
     let pair = (uri(alloc, "http://a/y")?, value(alloc, RETRIEVED)?);
-    before(pairs.push(pair))?;
-    Ok(pairs)
+    before(list_of(alloc, pair))
 }
 
 /// What can be retrieved.

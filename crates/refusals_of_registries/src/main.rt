@@ -1,5 +1,5 @@
-//! Public calls of builders, registries, resolvers and retrievers, each on values of its own: reads their names from standard input, a
-//! line each, and prints what each call answers.
+//! Public calls of builders, registries, resolvers and retrievers, and runs of requests, each on values of its own: reads their names
+//! from standard input, a line each, and prints what each call answers.
 //!
 //! `scripts/refusals` runs this as it does the program `refusals`, whose exit statuses it has too.
 #![tactic(auto)]
@@ -8,6 +8,7 @@ mod builders;
 mod documents;
 mod kinds;
 mod registries;
+mod reports;
 mod resolvers;
 mod retrievers;
 
@@ -22,6 +23,7 @@ fn row(alloc: Global, name: &str) -> Result<Trial, Stop> {
         Some(("registries", call)) => registries::row(alloc, call),
         Some(("retrievers", call)) => retrievers::row(alloc, call),
         Some(("kinds", call)) => kinds::row(alloc, call),
+        Some(("reports", call)) => reports::row(alloc, call),
         _ => Err(Stop::Wrong),
     }
 }
