@@ -30,11 +30,11 @@ pub fn uri_part(reference: &str) -> &str
 pub fn fragment_part(reference: &str) -> &str
     ensures value { result.now ≡ uri.fragment_part reference.now }
 {
-    if !reference.as_bytes().contains(&b'#') {
-        return "";
-    }
     if let Some(fragment) = reference.strip_prefix('#') {
         return fragment;
+    }
+    if !reference.as_bytes().contains(&b'#') {
+        return "";
     }
     match reference.rsplit_once('#') {
         Some((_, fragment)) => fragment,
