@@ -125,24 +125,8 @@ fn accepted_id<'v>(draft: Draft, since: &Segments<'_>, value: &'v Value) -> Opti
     }
 }
 
-// The base at a value: its identifier, where the parts since the last change are accepted at it, against the base.
-fn base_at(
-    alloc: Global,
-    walk: Walk<'_, '_>,
-    base: &Rc<Uri>,
-    since: &Segments<'_>,
-    value: &Value,
-) -> Result<Rc<Uri>, Error>
-    ensures ok { IfOk result (λ u. base_within base.now.value (if scan walk.entry.draft (is_object (view value.now)) since.now then identifier walk.entry.draft (view value.now) else None) ≡ Ok u.value) }
-    ensures fault { IfErr result (IsFaultOf (as_invalid_uri (base_within base.now.value (if scan walk.entry.draft (is_object (view value.now)) since.now then identifier walk.entry.draft (view value.now) else None)))) }
-{
-    match accepted_id(walk.draft, since, value) {
-        Some(id) => walk.layers.resolve_uri(alloc, base.borrow(), id),
-        None => Ok(base.clone()?),
-    }
-}
-
-// One token further.
+// One token further: an identifier of the value there, where the parts since the last change are accepted at it, is a base
+// against the one before.
 fn step<'r, 't>(
     alloc: Global,
     walk: Walk<'_, '_>,
@@ -159,7 +143,10 @@ fn step<'r, 't>(
     } = along;
     let (segment, value) = step_into(alloc, walk.pointer, value, token)?;
     since.push(segment)?;
-    let uri = base_at(alloc, walk, &base, &since, value)?;
+    let Some(id) = accepted_id(walk.draft, &since, value) else {
+        return Ok(Along { value, base, since });
+    };
+    let uri = walk.layers.resolve_uri(alloc, base.borrow(), id)?;
     if uri.as_str() != base.as_str() {
         since = Segments::new(alloc);
     }
