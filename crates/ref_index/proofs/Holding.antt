@@ -1,12 +1,14 @@
 -- One entry more in what was found.
-use Rattle.std.proofs.Common.{◌≡◌, ℕ, Bool, true, false, ◌||◌, cond, List, [], ◌∷◌, ◌++◌, map, refl, sym, ap, ◌∙◌, append_assoc, bytes_eq}
+use Rattle.std.proofs.Common.{◌≡◌, ℕ, Bool, true, false, ◌||◌, cond, List, [], ◌∷◌, ◌++◌, map, refl, sym, ap, ◌∙◌, subst, append_assoc, bytes_eq}
 use Rattle.std.specs.List.{list_any, AllZip}
 use Rattle.std.proofs.lemmas.List.Folds.{list_any-append}
 use Rattle.ref_draft.specs.Anchors.{Kind, anchors}
 use Rattle.ref_draft.specs.Views.{Tagged, tagged}
 use Rattle.ref_world.specs.Places.{Place}
 use Rattle.ref_world.specs.Anchors.{Named, named_under}
-use Rattle.ref_index.specs.Found.{name_entry}
+use Rattle.ref_world.specs.World.{Layer}
+use Rattle.ref_index.specs.declared.entry.Entry.{Entry}
+use Rattle.ref_index.specs.Found.{IsNumberOf, name_entry}
 
 -- a URI more among those that identify places
 known_more : (before : Bool) (here : Bool) → (before || (here || false)) ≡ cond here true before
@@ -27,6 +29,10 @@ zip_push R [] [] x y all here = (here, tt)
 zip_push R [] (w ∷ ys) x y all here = absurd all
 zip_push R (v ∷ xs) [] x y all here = absurd all
 zip_push R (v ∷ xs) (w ∷ ys) x y all here = (all.0, zip_push R xs ys x y all.1 here)
+
+-- an entry's number, where the entries are the same
+pub number_kept : (layer : Layer) (before after : List Entry) (n : ℕ) (p : Place) → after ≡ before → IsNumberOf layer before n p → IsNumberOf layer after n p
+number_kept layer before after n p same is = subst (λ es. IsNumberOf layer es n p) (sym same) is
 
 -- two anchors of a place
 pub two_names : (uri : List ℕ) (p : Place) (ns : List Named) (resource : Tagged) (a b : List ℕ × Kind) → a ∷ b ∷ [] ≡ anchors resource.draft resource.contents → resource ≡ tagged p.draft p.value

@@ -1,6 +1,7 @@
 -- A document behind others.
 use Rattle.std.proofs.Common.{◌≡◌, ℕ, zero, suc, List, [], ◌∷◌, ◌++◌, flat_map, length, Some, ⊎_elim, refl, sym, ap, ◌∙◌, subst, append-nil}
-use Rattle.std.specs.Prelude.{slice_get}
+use Rattle.std.specs.Prelude.{slice_get, String}
+use Rattle.std.specs.declared.alloc.Global.{Global}
 use Rattle.std.specs.List.{AllZip, Contains}
 use Rattle.std.proofs.lemmas.List.Elements.{All-contains, All-from_recursion, Contains-push_cases}
 use Rattle.std.proofs.lemmas.Grind.{flat_map-append}
@@ -12,8 +13,11 @@ use Rattle.ref_world.specs.Anchors.{Named, names_in, names}
 use Rattle.ref_world.specs.Cached.{Pair, pairs_at, pairs}
 use Rattle.ref_world.specs.Wants.{Want, wants, faults}
 use Rattle.ref_index.specs.declared.entry.Entry.{Entry}
+use Rattle.ref_index.specs.declared.entry.Location.{Location}
+use Rattle.ref_index.specs.declared.entry.Location.TheVariants.{Lent, Path}
 use Rattle.ref_index.specs.declared.found.Found.{Found}
-use Rattle.ref_index.specs.Found.{IsEntryOf, IsResourceOf, IsNameOf, Holds}
+use Rattle.ref_index.specs.declared.entry.NamedEntry.{NamedEntry}
+use Rattle.ref_index.specs.Found.{IsLocationOf, IsEntryOf, IsNumberOf, IsResourceOf, IsNameOf, Holds}
 use Rattle.ref_index.specs.Visits.{IsFirstFault, IsWalked, IsFound, ChildrenStandAt, faults_of, wants_of}
 use Rattle.ref_index.proofs.Visiting.{holds_same}
 
@@ -30,15 +34,13 @@ at_length (y ∷ xs) x = at_length xs x
 
 -- ---- what was found stays
 
+location_stays : (layer more : Layer) (l : Location) (p : Place) → IsLocationOf layer l p → IsLocationOf (layer ++ more) l p
+location_stays layer more (Lent value) p is = is
+location_stays layer more (Path number path) p is =
+    record { document = is.document; numbered = there_still layer more number is.document is.numbered; path = is.path; value = is.value }
+
 entry_stays : (layer more : Layer) (e : Entry) (p : Place) → IsEntryOf layer e p → IsEntryOf (layer ++ more) e p
-entry_stays layer more e p is = record {
-  document = is.document;
-  numbered = there_still layer more e.document is.document is.numbered;
-  path = is.path;
-  value = is.value;
-  draft = is.draft;
-  base = is.base;
-}
+entry_stays layer more e p is = record { location = location_stays layer more e.location p is.location; draft = is.draft; base = is.base }
 
 zip_weaker : {A B : Type 0} (R S : A → B → Type 0) → ((a : A) (b : B) → R a b → S a b) → (xs : List A) (ys : List B) → AllZip R xs ys → AllZip S xs ys
 zip_weaker R S each [] [] all = tt
@@ -46,10 +48,19 @@ zip_weaker R S each [] (y ∷ ys) all = absurd all
 zip_weaker R S each (x ∷ xs) [] all = absurd all
 zip_weaker R S each (x ∷ xs) (y ∷ ys) all = (each x y all.0, zip_weaker R S each xs ys all.1)
 
+number_stays : (layer : Layer) (entries : List Entry) (e : Entry) (n : ℕ) (p : Place) → IsNumberOf layer entries n p → IsNumberOf layer (entries ++ e ∷ []) n p
+number_stays layer entries e n p is = (is.0, there_still entries (e ∷ []) n is.0 is.1, is.2)
+
+pub resources_stay : (layer : Layer) (entries : List Entry) (e : Entry) (ts : List (String Global × String Global × ℕ)) (rs : List (List ℕ × Place)) → AllZip (IsResourceOf layer entries) ts rs → AllZip (IsResourceOf layer (entries ++ e ∷ [])) ts rs
+resources_stay layer entries e = zip_weaker (IsResourceOf layer entries) (IsResourceOf layer (entries ++ e ∷ [])) (λ t r is. (is.0, is.1, number_stays layer entries e t.2 r.1 is.2))
+
+pub names_stay : (layer : Layer) (entries : List Entry) (e : Entry) (ts : List (String Global × String Global × NamedEntry)) (ns : List Named) → AllZip (IsNameOf layer entries) ts ns → AllZip (IsNameOf layer (entries ++ e ∷ [])) ts ns
+names_stay layer entries e = zip_weaker (IsNameOf layer entries) (IsNameOf layer (entries ++ e ∷ [])) (λ t n is. (is.0, is.1, is.2, number_stays layer entries e t.2.entry n.place is.3))
+
 pub holds_stays : (layer more : Layer) (f : Found) (rs : List (List ℕ × Place)) (ns : List Named) (ws : List Want) (ps : List Pair) → Holds layer f rs ns ws ps → Holds (layer ++ more) f rs ns ws ps
 holds_stays layer more f rs ns ws ps held = record {
-  by_uri = zip_weaker (IsResourceOf layer) (IsResourceOf (layer ++ more)) (λ t r is. (is.0, is.1, entry_stays layer more t.2.value r.1 is.2)) f.resources.items rs held.by_uri;
-  by_name = zip_weaker (IsNameOf layer) (IsNameOf (layer ++ more)) (λ t n is. (is.0, is.1, is.2, entry_stays layer more t.2.entry.value n.place is.3)) f.names.items ns held.by_name;
+  by_uri = zip_weaker (IsResourceOf layer f.entries.items) (IsResourceOf (layer ++ more) f.entries.items) (λ t r is. (is.0, is.1, (is.2.0, is.2.1, entry_stays layer more is.2.0 r.1 is.2.2))) f.resources.items rs held.by_uri;
+  by_name = zip_weaker (IsNameOf layer f.entries.items) (IsNameOf (layer ++ more) f.entries.items) (λ t n is. (is.0, is.1, is.2, (is.3.0, is.3.1, entry_stays layer more is.3.0 n.place is.3.2))) f.names.items ns held.by_name;
   wanted = held.wanted;
   by_pair = held.by_pair;
   known = held.known;

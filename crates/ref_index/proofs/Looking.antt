@@ -1,5 +1,8 @@
 -- The last entry that a table has is that of the last place in the definition's list.
-use Rattle.std.proofs.Common.{◌≡◌, ℕ, zero, suc, arith, Ok, Bool, true, false, ◌&&◌, cond, List, [], ◌∷◌, map, filter, Option, Some, None, option_map, option_copied, MatchOption, Bor, refl, sym, ap, ◌∙◌, subst, bytes_eq}
+use Rattle.std.proofs.Common.{◌≡◌, ℕ, zero, suc, arith, Ok, Bool, true, false, ◌&&◌, cond, List, [], ◌∷◌, map, filter, Option, Some, None, option_map, option_copied, MatchOption, Bor, length, refl, sym, ap, ◌∙◌, subst, bytes_eq}
+use Rattle.std.specs.Prelude.{slice_get}
+use Rattle.std.specs.Slice.{IsItemAt}
+use Rattle.std.proofs.lemmas.Option.{slice_get_past, slice_get_read}
 use Rattle.std.specs.List.{AllZip, Contains, last_or}
 use Rattle.std.specs.declared.alloc.Global.{Global}
 use Rattle.std.specs.declared.rc.Rc.{Rc}
@@ -15,8 +18,8 @@ use Rattle.ref_world.specs.Anchors.{Named, last_named}
 use Rattle.ref_world.specs.Cached.{Pair}
 use Rattle.ref_index.specs.declared.entry.Entry.{Entry}
 use Rattle.ref_index.specs.declared.entry.NamedEntry.{NamedEntry}
-use Rattle.ref_index.specs.Found.{IsEntryOf, kind_of}
-use Rattle.ref_index.specs.Index.{IsResourceIn, IsNameIn, IsPairIn, IsFoundAt, IsNamedAt}
+use Rattle.ref_index.specs.Found.{IsEntryOf, IsNumberOf, kind_of}
+use Rattle.ref_index.specs.Index.{IsResourceIn, IsNameIn, IsPairIn}
 
 -- ---- lists of the same places
 
@@ -54,25 +57,25 @@ last_both R (a ∷ xs) (b ∷ bs) o u all both = last_both R xs bs (Some a) (Som
 
 -- ---- in a table
 
-uri_test : (layer : Layer) (uri : List ℕ) (e : table.Entry (Rc Entry Global)) (r : List ℕ × Place) → IsResourceIn layer e r → is_under uri [] e ≡ bytes_eq r.0 uri
-uri_test layer uri e r (first, second, is) =
+uri_test : (layer : Layer) (entries : List Entry) (uri : List ℕ) (e : table.Entry ℕ) (r : List ℕ × Place) → IsResourceIn layer entries e r → is_under uri [] e ≡ bytes_eq r.0 uri
+uri_test layer entries uri e r (first, second, is) =
     ap (λ k. bytes_eq k uri && bytes_eq e.1 []) first ∙ ap (λ k. bytes_eq r.0 uri && bytes_eq k []) second ∙ and-true (bytes_eq r.0 uri)
 
-name_test : (layer : Layer) (uri name : List ℕ) (e : table.Entry NamedEntry) (n : Named) → IsNameIn layer e n → is_under uri name e ≡ (bytes_eq n.uri uri && bytes_eq n.name name)
-name_test layer uri name e n (first, second, kind, is) =
+name_test : (layer : Layer) (entries : List Entry) (uri name : List ℕ) (e : table.Entry NamedEntry) (n : Named) → IsNameIn layer entries e n → is_under uri name e ≡ (bytes_eq n.uri uri && bytes_eq n.name name)
+name_test layer entries uri name e n (first, second, kind, is) =
     ap (λ k. bytes_eq k uri && bytes_eq e.1 name) first ∙ ap (λ k. bytes_eq n.uri uri && bytes_eq k name) second
 
-pub uri_both : (layer : Layer) (uri : List ℕ) (es : List (table.Entry (Rc Entry Global))) (rs : List (List ℕ × Place)) → AllZip (IsResourceIn layer) es rs
-    → Both (IsResourceIn layer) (last_or None (filter (is_under uri []) es)) (last_under uri rs)
-uri_both layer uri es rs all =
-    last_both (IsResourceIn layer) (filter (is_under uri []) es) (filter (λ r. bytes_eq r.0 uri) rs) None None
-    (filtered (IsResourceIn layer) (is_under uri []) (λ r. bytes_eq r.0 uri) (uri_test layer uri) es rs all) tt
+pub uri_both : (layer : Layer) (entries : List Entry) (uri : List ℕ) (es : List (table.Entry ℕ)) (rs : List (List ℕ × Place)) → AllZip (IsResourceIn layer entries) es rs
+    → Both (IsResourceIn layer entries) (last_or None (filter (is_under uri []) es)) (last_under uri rs)
+uri_both layer entries uri es rs all =
+    last_both (IsResourceIn layer entries) (filter (is_under uri []) es) (filter (λ r. bytes_eq r.0 uri) rs) None None
+    (filtered (IsResourceIn layer entries) (is_under uri []) (λ r. bytes_eq r.0 uri) (uri_test layer entries uri) es rs all) tt
 
-pub name_both : (layer : Layer) (uri name : List ℕ) (es : List (table.Entry NamedEntry)) (ns : List Named) → AllZip (IsNameIn layer) es ns
-    → Both (IsNameIn layer) (last_or None (filter (is_under uri name) es)) (last_named uri name ns)
-name_both layer uri name es ns all =
-    last_both (IsNameIn layer) (filter (is_under uri name) es) (filter (λ n. bytes_eq n.uri uri && bytes_eq n.name name) ns) None None
-    (filtered (IsNameIn layer) (is_under uri name) (λ n. bytes_eq n.uri uri && bytes_eq n.name name) (name_test layer uri name) es ns all) tt
+pub name_both : (layer : Layer) (entries : List Entry) (uri name : List ℕ) (es : List (table.Entry NamedEntry)) (ns : List Named) → AllZip (IsNameIn layer entries) es ns
+    → Both (IsNameIn layer entries) (last_or None (filter (is_under uri name) es)) (last_named uri name ns)
+name_both layer entries uri name es ns all =
+    last_both (IsNameIn layer entries) (filter (is_under uri name) es) (filter (λ n. bytes_eq n.uri uri && bytes_eq n.name name) ns) None None
+    (filtered (IsNameIn layer entries) (is_under uri name) (λ n. bytes_eq n.uri uri && bytes_eq n.name name) (name_test layer entries uri name) es ns all) tt
 
 pair_test : (base text : List ℕ) (e : table.Entry (Rc (List ℕ) Global)) (p : Pair) → IsPairIn e p → is_under base text e ≡ (bytes_eq p.0 base && bytes_eq p.1 text)
 pair_test base text e p (first, second, is) =
@@ -130,6 +133,12 @@ itself base text = ap (λ b. b && bytes_eq text text) ((bytes_eq-Decides base ba
 
 -- ---- what was found
 
+pub none_is_some : {A : Type 0} (a : A) → ¬ (None ≡ Some a)
+none_is_some a is = cc
+
+some_is : {A : Type 0} (a b : A) → Some a ≡ Some b → a ≡ b
+some_is a b is = cc
+
 pub none_found : {A B V : Type 0} (R : A → B → Type 0) (f : A → V) (o : Option A) (u : Option B) → Both R o u → option_map f o ≡ None → u ≡ None
 none_found R f None None both is = refl
 none_found R f None (Some b) both is = absurd both
@@ -140,17 +149,33 @@ some_found R f None u v both is = cc
 some_found R f (Some a) None v both is = absurd both
 some_found R f (Some a) (Some b) v both is = (b, refl, a, (cc), both)
 
-pub named_found : (layer : Layer) (o : Option (table.Entry NamedEntry)) (u : Option Named) (result : Option (Bor NamedEntry)) → Both (IsNameIn layer) o u → option_copied result ≡ option_map (λ e. e.2) o
-    → MatchOption result (u ≡ None) (λ e. IsNamedAt layer e.now u)
-named_found layer o u None both is = none_found (IsNameIn layer) (λ e. e.2) o u both (sym is)
-named_found layer o u (Some e) both is =
-    let (n, found, a, same, at) = some_found (IsNameIn layer) (λ e. e.2) o u e.now both (sym is) in
-    (n, found, subst (λ v. kind_of v.is_dynamic ≡ n.kind) same at.2, subst (λ v. IsEntryOf layer v.entry.value n.place) same at.3)
+-- the entry with a number that was found
+pub name_found : (layer : Layer) (entries : List Entry) (o : Option (table.Entry NamedEntry)) (u : Option Named) (v : NamedEntry) → Both (IsNameIn layer entries) o u → option_map (λ e. e.2) o ≡ Some v
+    → (n : Named) × (u ≡ Some n) × (kind_of v.is_dynamic ≡ n.kind) × IsNumberOf layer entries v.entry n.place
+name_found layer entries o u v both is =
+    let (n, found, a, same, at) = some_found (IsNameIn layer entries) (λ e. e.2) o u v both is in
+    (n, found, subst (λ v. kind_of v.is_dynamic ≡ n.kind) same at.2, subst (λ v. IsNumberOf layer entries v.entry n.place) same at.3)
 
-pub resource_found : (layer : Layer) (o : Option (table.Entry (Rc Entry Global))) (u : Option (List ℕ × Place)) (v : Rc Entry Global) → Both (IsResourceIn layer) o u → option_map (λ e. e.2) o ≡ Some v → IsFoundAt layer v.value u
-resource_found layer o u v both is =
-    let (r, found, a, same, at) = some_found (IsResourceIn layer) (λ e. e.2) o u v both is in
-    (r, found, subst (λ w. IsEntryOf layer w.value r.1) same at.2)
+pub resource_found : (layer : Layer) (entries : List Entry) (o : Option (table.Entry ℕ)) (u : Option (List ℕ × Place)) (v : ℕ) → Both (IsResourceIn layer entries) o u → option_map (λ e. e.2) o ≡ Some v
+    → (r : List ℕ × Place) × (u ≡ Some r) × IsNumberOf layer entries v r.1
+resource_found layer entries o u v both is =
+    let (r, found, a, same, at) = some_found (IsResourceIn layer entries) (λ e. e.2) o u v both is in
+    (r, found, subst (λ w. IsNumberOf layer entries w r.1) same at.2)
+
+pub tells : (layer : Layer) (entries : List Entry) (n : ℕ) (p : Place) (e : Entry) → IsNumberOf layer entries n p → slice_get entries n ≡ Some e → IsEntryOf layer e p
+tells layer entries n p e is at =
+    let same : is.0 ≡ e = some_is is.0 e (sym is.1 ∙ at) in
+    subst (λ x. IsEntryOf layer x p) same is.2
+
+-- an element that is lent
+pub got : {A : Type 0} (xs : List A) (i : ℕ) (r : Option (Bor A)) → IsItemAt xs i r → option_copied r ≡ slice_get xs i
+got xs i None (is, lent, within, past, more) = sym (slice_get_past xs i past)
+got xs i (Some b) (is, lent, within, there, more) = sym (slice_get_read xs (length xs) i b.now refl there.0 lent)
+
+pub entry_there : (layer : Layer) (entries : List Entry) (n : ℕ) (p : Place) (result : Option (Bor Entry)) (None_is : Type 0) (Some_is : Entry → Type 0) → IsNumberOf layer entries n p → option_copied result ≡ slice_get entries n
+    → ((e : Entry) → IsEntryOf layer e p → Some_is e) → MatchOption result None_is (λ e. Some_is e.now)
+entry_there layer entries n p None None_is Some_is is same then = absurd (none_is_some is.0 (same ∙ is.1))
+entry_there layer entries n p (Some b) None_is Some_is is same then = then b.now (tells layer entries n p b.now is (sym same))
 
 pub pair_found : (base text : List ℕ) (ps : List Pair) (o : Option (table.Entry (Rc (List ℕ) Global))) (result : Option (Bor (Rc (List ℕ) Global))) → Both IsPairIn o (last_pair base text ps) → option_copied result ≡ option_map (λ e. e.2) o
     → MatchOption result (¬ (Contains ps (base, text))) (λ u. against base text ≡ Ok u.now.value)

@@ -5,25 +5,36 @@ use Rattle.std.proofs.lemmas.Option.{get_or_from_slice_get}
 use Rattle.std.proofs.lemmas.List.{take_more, drop_more, drop_all, take-append-le, drop-append-le, map-append, flat_map_more, length-take-le, length-map}
 use Rattle.std.proofs.lemmas.Grind.{flat_map-append}
 use Rattle.serde_json.specs.Data.{Data}
-use Rattle.serde_json.specs.View.{view}
 use Rattle.ref_parts.specs.Path.{Part, value_at}
+use Rattle.ref_draft.specs.declared.draft.Draft.{Draft}
+use Rattle.ref_draft.specs.Schema.{identifier}
 use Rattle.ref_draft.specs.Children.{Walked, AllStand, walked}
 use Rattle.ref_draft.proofs.Lists.{all_append}
 use Rattle.ref_uri.specs.Targets.{Refusal}
 use Rattle.ref_uri.specs.declared.error.UriFault.{UriFault}
 use Rattle.ref_uri.specs.declared.error.UriFault.TheVariants.{Invalid, Memory}
 use Rattle.ref_world.specs.World.{Document}
-use Rattle.ref_world.specs.Places.{Place, root, child_place, children_with, children_of, places}
+use Rattle.ref_world.specs.Places.{Place, base_within, root, child_place, children_with, children_of, places}
 use Rattle.ref_world.specs.Resources.{resource_of}
 use Rattle.ref_world.proofs.Changes.{value_at-append}
 use Rattle.ref_world.specs.Anchors.{named_under}
 use Rattle.ref_world.specs.Cached.{pairs_at}
 use Rattle.ref_index.specs.declared.found.Found.{Found}
 use Rattle.ref_index.specs.declared.queue.Visit.{Visit}
-use Rattle.ref_index.specs.Queue.{place_of, IsQueue}
+use Rattle.ref_index.specs.Queue.{place_of, value_of, IsQueue}
 use Rattle.ref_index.specs.Visits.{IsFirstFault, IsVisited, IsWalked, AllStandIn, ChildrenStandAt, IsAt, faults_of, names_of, wants_of}
 use Rattle.ref_index.proofs.Visiting.{holds_same}
 use Rattle.ref_index.proofs.Queues.{at_root, step, at_end, beginning}
+
+-- ---- the visit of a child
+
+abbrev place_with : List Part → Data → Draft → List ℕ → Place
+place_with path value draft outer = record { path = path; value = value; draft = draft; outer = outer; base = base_within outer (identifier draft value) }
+
+pub visit_is : (v : Visit) (path : List Part) (base : List ℕ) (child : Walked) → v.path ≡ path ++ child.path → value_of v.value ≡ child.value → v.draft ≡ child.draft → v.outer.value ≡ base → place_of v ≡ child_place path base child
+visit_is v path base child at value draft outer =
+    ap (λ p. place_with p (value_of v.value) v.draft v.outer.value) at ∙ ap (λ d. place_with (path ++ child.path) d v.draft v.outer.value) value
+    ∙ ap (λ d. place_with (path ++ child.path) child.value d v.outer.value) draft ∙ ap (place_with (path ++ child.path) child.value child.draft) outer
 
 -- ---- values at paths
 
@@ -95,7 +106,7 @@ walked_more d number old new newer visited v queue after at walk visit = record 
 }
 
 grown_stand : (d : Document) (vs more : List Visit) (v : Visit) → value_at d.tree (place_of v).path ≡ Some (place_of v).value → AllStandIn d (map place_of vs)
-    → map place_of more ≡ children_of (place_of v) → AllStand (view v.value.now) (walked v.draft (view v.value.now)) → AllStandIn d (map place_of (vs ++ more))
+    → map place_of more ≡ children_of (place_of v) → AllStand (value_of v.value) (walked v.draft (value_of v.value)) → AllStandIn d (map place_of (vs ++ more))
 grown_stand d vs more v at all children stand =
     subst (AllStandIn d) (sym (map-append place_of vs more))
     (all_behind d (map place_of vs) (map place_of more) all (subst (AllStandIn d) (sym children) (place_children_stand d (place_of v) (place_of v).base at stand)))

@@ -6,6 +6,7 @@ use Rattle.std.specs.HashSet.{contains}
 use Rattle.std.specs.declared.alloc.Global.{Global}
 use Rattle.std.specs.declared.rc.Rc.{Rc}
 use Rattle.ref_uri.specs.Targets.{against}
+use Rattle.serde_json.specs.View.{view}
 use Rattle.ref_parts.specs.Path.{value_at}
 use Rattle.ref_draft.specs.Anchors.{Kind, Plain, Dynamic}
 use Rattle.ref_world.specs.World.{Document, Layer}
@@ -15,25 +16,41 @@ use Rattle.ref_world.specs.Cached.{Pair}
 use Rattle.ref_world.specs.Wants as wants
 use Rattle.ref_world.specs.Wants.{Want as Wanted}
 use Rattle.ref_index.specs.declared.entry.Entry.{Entry}
+use Rattle.ref_index.specs.declared.entry.Location.{Location}
+use Rattle.ref_index.specs.declared.entry.Location.TheVariants.{Lent, Path}
 use Rattle.ref_index.specs.declared.entry.NamedEntry.{NamedEntry}
 use Rattle.ref_index.specs.declared.found.Found.{Found}
 use Rattle.ref_index.specs.declared.found.Want.{Want}
 use Rattle.ref_index.specs.declared.found.Cause.{Cause}
 use Rattle.ref_index.specs.declared.found.Cause.TheVariants.{Reference, MetaSchema}
+use Rattle.ref_index.specs.declared.path.PathPart.{PathPart}
 use Rattle.ref_index.specs.Parts.{part_of}
 
--- an entry tells a place of one of a layer's documents, where the path leads to the place's value
-pub record IsEntryOf (layer : Layer) (e : Entry) (p : Place) : Type 0 where
+-- a path in one of a layer's documents leads to a place's value
+pub record IsPathOf (layer : Layer) (number : ℕ) (parts : List PathPart) (p : Place) : Type 0 where
   pub document : Document
-  pub numbered : slice_get layer e.document ≡ Some document
-  pub path : map part_of e.path.items ≡ p.path
+  pub numbered : slice_get layer number ≡ Some document
+  pub path : map part_of parts ≡ p.path
   pub value : value_at document.tree p.path ≡ Some p.value
+
+-- a place's value is there
+abbrev pub IsLocationOf : Layer → Location → Place → Type 0
+IsLocationOf layer (Lent value) p = view value.now ≡ p.value
+IsLocationOf layer (Path number path) p = IsPathOf layer number path.items p
+
+-- an entry tells a place, whose value is lent or stands in one of a layer's documents
+pub record IsEntryOf (layer : Layer) (e : Entry) (p : Place) : Type 0 where
+  pub location : IsLocationOf layer e.location p
   pub draft : e.draft ≡ p.draft
   pub base : p.base ≡ Ok e.base.value
 
--- an entry under a URI is that of a resource
-abbrev pub IsResourceOf : Layer → String Global × String Global × Rc Entry Global → List ℕ × Place → Type 0
-IsResourceOf layer t r = (string_bytes t.0 ≡ r.0) × (string_bytes t.1 ≡ []) × IsEntryOf layer t.2.value r.1
+-- the entry with a number tells a place
+abbrev pub IsNumberOf : Layer → List Entry → ℕ → Place → Type 0
+IsNumberOf layer entries n p = (e : Entry) × (slice_get entries n ≡ Some e) × IsEntryOf layer e p
+
+-- a number under a URI is that of a resource's entry
+abbrev pub IsResourceOf : Layer → List Entry → String Global × String Global × ℕ → List ℕ × Place → Type 0
+IsResourceOf layer entries t r = (string_bytes t.0 ≡ r.0) × (string_bytes t.1 ≡ []) × IsNumberOf layer entries t.2 r.1
 
 -- an anchor's kind
 abbrev pub kind_of : Bool → Kind
@@ -45,8 +62,8 @@ abbrev pub name_entry : List ℕ → Place → List ℕ × Kind → Named
 name_entry uri p a = record { uri = uri; name = a.0; kind = a.1; place = p }
 
 -- an entry under a URI and a name is that of an anchor
-abbrev pub IsNameOf : Layer → String Global × String Global × NamedEntry → Named → Type 0
-IsNameOf layer t n = (string_bytes t.0 ≡ n.uri) × (string_bytes t.1 ≡ n.name) × (kind_of t.2.is_dynamic ≡ n.kind) × IsEntryOf layer t.2.entry.value n.place
+abbrev pub IsNameOf : Layer → List Entry → String Global × String Global × NamedEntry → Named → Type 0
+IsNameOf layer entries t n = (string_bytes t.0 ≡ n.uri) × (string_bytes t.1 ≡ n.name) × (kind_of t.2.is_dynamic ≡ n.kind) × IsNumberOf layer entries t.2.entry n.place
 
 -- why a URI is wanted
 abbrev pub cause_of : Cause → wants.Cause
@@ -68,8 +85,8 @@ is_same u v = bytes_eq u.value v.value
 -- What was found is these resources, names and wants, and the URIs of these pairs, in their order; the set of URIs is that of
 -- the resources.
 pub record Holds (layer : Layer) (f : Found) (resources : List (List ℕ × Place)) (names : List Named) (wants : List Wanted) (pairs : List Pair) : Type 0 where
-  pub by_uri : AllZip (IsResourceOf layer) f.resources.items resources
-  pub by_name : AllZip (IsNameOf layer) f.names.items names
+  pub by_uri : AllZip (IsResourceOf layer f.entries.items) f.resources.items resources
+  pub by_name : AllZip (IsNameOf layer f.entries.items) f.names.items names
   pub wanted : map want_of f.wants.items ≡ wants
   pub by_pair : AllZip IsPairOf f.resolved.items pairs
   pub known : (uri : Rc (List ℕ) Global) → contains is_same f.identified uri ≡ list_any (λ r. bytes_eq r.0 uri.value) resources

@@ -13,15 +13,16 @@ use Rattle.ref_world.specs.Anchors.{Named, names}
 use Rattle.ref_world.specs.Cached.{Pair, pairs}
 use Rattle.ref_index.specs.declared.entry.Entry.{Entry}
 use Rattle.ref_index.specs.declared.entry.NamedEntry.{NamedEntry}
-use Rattle.ref_index.specs.Found.{IsEntryOf, kind_of}
+use Rattle.ref_index.specs.declared.entry.FoundName.{FoundName}
+use Rattle.ref_index.specs.Found.{IsEntryOf, IsNumberOf, kind_of}
 
 -- an entry under a URI and the empty text is that of a resource
-abbrev pub IsResourceIn : Layer → table.Entry (Rc Entry Global) → List ℕ × Place → Type 0
-IsResourceIn layer e r = (e.0 ≡ r.0) × (e.1 ≡ []) × IsEntryOf layer e.2.value r.1
+abbrev pub IsResourceIn : Layer → List Entry → table.Entry ℕ → List ℕ × Place → Type 0
+IsResourceIn layer entries e r = (e.0 ≡ r.0) × (e.1 ≡ []) × IsNumberOf layer entries e.2 r.1
 
 -- an entry under a URI and a name is that of an anchor
-abbrev pub IsNameIn : Layer → table.Entry NamedEntry → Named → Type 0
-IsNameIn layer e n = (e.0 ≡ n.uri) × (e.1 ≡ n.name) × (kind_of e.2.is_dynamic ≡ n.kind) × IsEntryOf layer e.2.entry.value n.place
+abbrev pub IsNameIn : Layer → List Entry → table.Entry NamedEntry → Named → Type 0
+IsNameIn layer entries e n = (e.0 ≡ n.uri) × (e.1 ≡ n.name) × (kind_of e.2.is_dynamic ≡ n.kind) × IsNumberOf layer entries e.2.entry n.place
 
 -- an entry under a base and a text is the URI that the text means against the base
 abbrev pub IsPairIn : table.Entry (Rc (List ℕ) Global) → Pair → Type 0
@@ -29,9 +30,9 @@ IsPairIn e p = (e.0 ≡ p.0) × (e.1 ≡ p.1) × (against p.0 p.1 ≡ Ok e.2.val
 
 -- the tables hold the resources and the names of the documents, and what is resolved of them, in their order; and the children
 -- of the documents' places stand at their paths
-pub record IsIndexOf (layer : Layer) (by_uri : List (table.Entry (Rc Entry Global))) (by_name : List (table.Entry NamedEntry)) (by_pair : List (table.Entry (Rc (List ℕ) Global))) : Type 0 where
-  pub resource : AllZip (IsResourceIn layer) by_uri (resources layer)
-  pub name : AllZip (IsNameIn layer) by_name (names layer)
+pub record IsIndexOf (layer : Layer) (entries : List Entry) (by_uri : List (table.Entry ℕ)) (by_name : List (table.Entry NamedEntry)) (by_pair : List (table.Entry (Rc (List ℕ) Global))) : Type 0 where
+  pub resource : AllZip (IsResourceIn layer entries) by_uri (resources layer)
+  pub name : AllZip (IsNameIn layer entries) by_name (names layer)
   pub pair : AllZip IsPairIn by_pair (pairs layer)
   pub children : (d : Document) → Contains layer d → ChildrenStand d
 
@@ -40,5 +41,5 @@ abbrev pub IsFoundAt : Layer → Entry → Option (List ℕ × Place) → Type 0
 IsFoundAt layer e found = (r : List ℕ × Place) × (found ≡ Some r) × IsEntryOf layer e r.1
 
 -- an entry is that of the name that was found
-abbrev pub IsNamedAt : Layer → NamedEntry → Option Named → Type 0
-IsNamedAt layer e found = (n : Named) × (found ≡ Some n) × (kind_of e.is_dynamic ≡ n.kind) × IsEntryOf layer e.entry.value n.place
+abbrev pub IsNamedAt : Layer → FoundName → Option Named → Type 0
+IsNamedAt layer e found = (n : Named) × (found ≡ Some n) × (kind_of e.is_dynamic ≡ n.kind) × IsEntryOf layer e.entry.now n.place

@@ -1,21 +1,28 @@
 -- The queue of the walk, for private clauses: what was found of a document's places is a beginning of them.
 use Rattle.std.specs.Prelude.{◌≡◌, ℕ, ◌≤◌, List, ◌++◌, map, flat_map, take, drop, length}
-use Rattle.serde_json.specs.Data.{depth}
+use Rattle.serde_json.specs.Data.{Data, depth}
 use Rattle.serde_json.specs.View.{view}
 use Rattle.ref_draft.specs.Schema.{identifier}
 use Rattle.ref_world.specs.World.{Document}
 use Rattle.ref_world.specs.Places.{Place, base_within, children_of, levels_below, places}
 use Rattle.ref_world.specs.Listing.{Listed, listed}
+use Rattle.ref_index.specs.declared.queue.ValueRef.{ValueRef}
+use Rattle.ref_index.specs.declared.queue.ValueRef.TheVariants.{Lent, Kept}
 use Rattle.ref_index.specs.declared.queue.Visit.{Visit}
+
+-- the tree of a value that is walked
+abbrev pub value_of : ValueRef → Data
+value_of (Lent value) = view value.now
+value_of (Kept value) = view value.now
 
 -- the place of a visit
 abbrev pub place_of : Visit → Place
 place_of v = record {
   path = v.path;
-  value = view v.value.now;
+  value = value_of v.value;
   draft = v.draft;
   outer = v.outer.value;
-  base = base_within v.outer.value (identifier v.draft (view v.value.now));
+  base = base_within v.outer.value (identifier v.draft (value_of v.value));
 }
 
 -- the rest of a level, then the level below it, of which the beginning was found, and the m levels below that

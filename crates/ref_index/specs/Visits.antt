@@ -1,8 +1,8 @@
 -- What one visited place adds, for private clauses.
 use Rattle.std.specs.Prelude.{◌≡◌, ℕ, List, [], ◌∷◌, ◌++◌, ◌≤◌, map, flat_map, take, drop, length, ⊤, slice_get, Option, Some, None, Result, Ok}
-use Rattle.serde_json.specs.View.{view}
+use Rattle.serde_json.specs.Data.{Data}
 use Rattle.std.specs.List.{AllByRecursion, Contains}
-use Rattle.ref_parts.specs.Path.{value_at}
+use Rattle.ref_parts.specs.Path.{Part, value_at}
 use Rattle.ref_uri.specs.Reference.{with_fragment}
 use Rattle.ref_uri.specs.Targets.{Refusal, parsed}
 use Rattle.ref_world.specs.Results.{◌>>=◌}
@@ -10,17 +10,18 @@ use Rattle.ref_uri.specs.Errors.{SaysRefusal}
 use Rattle.ref_uri.specs.declared.error.UriFault.{UriFault}
 use Rattle.ref_uri.specs.declared.error.UriFault.TheVariants.{Invalid, Memory}
 use Rattle.ref_world.specs.World.{Document, Layer}
-use Rattle.ref_world.specs.Places.{Place, root, children_of}
+use Rattle.ref_world.specs.Places.{Place, root, child_place, children_of}
 use Rattle.ref_world.specs.Resources.{resource_of, resources}
 use Rattle.ref_world.specs.Anchors.{Named, named_under, named_at, names}
 use Rattle.ref_world.specs.Cached.{Pair, pairs_at, pairs}
 use Rattle.ref_world.specs.Wants.{Want, wants_at, faults_at, wants, faults}
 use Rattle.ref_world.specs.Agreement.{ChildrenStand}
 use Rattle.ref_draft.specs.Children.{AllStand, walked}
+use Rattle.ref_draft.specs.declared.draft.Draft.{Draft}
 use Rattle.ref_index.specs.declared.found.Found.{Found}
 use Rattle.ref_index.specs.declared.queue.Visit.{Visit}
 use Rattle.ref_index.specs.Found.{Holds}
-use Rattle.ref_index.specs.Queue.{place_of, IsQueue}
+use Rattle.ref_index.specs.Queue.{place_of, value_of, IsQueue}
 
 -- the URI that a text names a meta-schema by: its fragment takes no part
 abbrev pub meta_schema_uri : List ℕ → Result (List ℕ) Refusal
@@ -67,6 +68,11 @@ wants_of p = wants_at p.base p.value
 abbrev pub names_of : Place → List Named
 names_of p = named_at p
 
+-- the children of a place with this path, value, draft and base came to the queue, and stand at their paths below it
+abbrev pub ChildrenCame : List Part → Data → Draft → List ℕ → List Visit → List Visit → Type 0
+ChildrenCame path value draft base queue after =
+    (more : List Visit) × (after ≡ queue ++ more) × (map place_of more ≡ map (child_place path base) (walked draft value)) × AllStand value (walked draft value)
+
 -- A place was visited: what it is identified by, is named and wants was added, it has no fault, and its children came to the queue.
 pub record IsVisited (number : ℕ) (under : Option (List ℕ)) (v : Visit) (old new : Found) (queue after : List Visit) : Type 0 where
   pub added : (layer : Layer) (rs : List (List ℕ × Place)) (ns : List Named) (ws : List Want) (ps : List Pair) → Holds layer old rs ns ws ps → StandsIn layer number (place_of v)
@@ -75,7 +81,7 @@ pub record IsVisited (number : ℕ) (under : Option (List ℕ)) (v : Visit) (old
   pub more : List Visit
   pub grown : after ≡ queue ++ more
   pub children : map place_of more ≡ children_of (place_of v)
-  pub stand : AllStand (view v.value.now) (walked v.draft (view v.value.now))
+  pub stand : AllStand (value_of v.value) (walked v.draft (value_of v.value))
 
 -- each child of a place stands at its path there
 abbrev pub ChildrenStandAt : Place → Type 0

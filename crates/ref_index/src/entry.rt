@@ -2,20 +2,39 @@
 use crate::path::PathPart;
 use ref_draft::Draft;
 use ref_uri::Uri;
+use serde_json::Value;
 use std::rc::Rc;
 
-/// A place: the number of its document, its path there, its draft and its base URI.
+/// Where the value of a place is.
 #[derive(Drop)]
-pub struct Entry {
-    pub document: usize,
-    pub path: Vec<PathPart>,
+pub enum Location<'a> {
+    /// The value itself, where its document is borrowed.
+    Lent(&'a Value),
+    /// Else the number of its document, and its path there.
+    Path {
+        document: usize,
+        path: Vec<PathPart>,
+    },
+}
+
+/// A place: where its value is, its draft and its base URI.
+#[derive(Drop)]
+pub struct Entry<'a> {
+    pub location: Location<'a>,
     pub draft: Draft,
     pub base: Rc<Uri>,
 }
 
-/// A place that an anchor names.
+/// A place that an anchor names, by the number of its entry.
 #[derive(Drop)]
 pub struct NamedEntry {
     pub is_dynamic: bool,
-    pub entry: Rc<Entry>,
+    pub entry: usize,
+}
+
+/// A place that an anchor names, as it is found.
+#[derive(Clone, Copy)]
+pub struct FoundName<'i, 'a> {
+    pub is_dynamic: bool,
+    pub entry: &'i Entry<'a>,
 }

@@ -1,5 +1,5 @@
 //! What the walk over documents has found: which URIs and names mean which places, and what is wanted.
-ghost use Rattle.std.specs.Prelude.{◌≡◌, ℕ, List, [], ◌∷◌, ◌++◌, OnOk, if◌then◌else◌, true, Ok};
+ghost use Rattle.std.specs.Prelude.{◌≡◌, ℕ, List, [], ◌∷◌, ◌++◌, OnOk, if◌then◌else◌, slice_get, true, Some, Ok, IfOk};
 ghost use Rattle.std.specs.HashSet.{contains};
 ghost use Rattle.std.specs.Str.{bytes_eq};
 ghost use Rattle.std.specs.declared.alloc.Global as global;
@@ -11,7 +11,7 @@ ghost use Rattle.ref_world.specs.Anchors.{Named, named_under};
 ghost use Rattle.ref_world.specs.Cached.{Pair};
 ghost use Rattle.ref_world.specs.Wants.{Want as Wanted};
 ghost use Rattle.ref_uri.specs.Targets.{against};
-ghost use Rattle.ref_index.specs.Found.{Holds, IsEntryOf, cause_of, is_same, kind_of, name_entry};
+ghost use Rattle.ref_index.specs.Found.{Holds, IsNumberOf, cause_of, is_same, kind_of, name_entry};
 
 use crate::entry::{Entry, NamedEntry};
 use ref_draft::{Anchor, AnchorIter, ResourceRef};
@@ -39,9 +39,11 @@ pub struct Want {
 /// What was found so far, in the order of documents and places. Where a call on it is refused, nothing is said of it
 /// afterwards: it is to be let go.
 #[derive(Drop)]
-pub struct Found {
-    /// The places that URIs identify, each under its URI and the empty text.
-    pub resources: Vec<(String, String, Rc<Entry>)>,
+pub struct Found<'a> {
+    /// The places that are identified or named.
+    pub entries: Vec<Entry<'a>>,
+    /// The places that URIs identify, each by the number of its entry, under its URI and the empty text.
+    pub resources: Vec<(String, String, usize)>,
     /// The places that anchors name, each under its URI and name.
     pub names: Vec<(String, String, NamedEntry)>,
     /// What is wanted.
@@ -52,12 +54,13 @@ pub struct Found {
     pub identified: HashSet<Rc<Uri>>,
 }
 
-impl Found {
+impl<'a> Found<'a> {
     /// Nothing. Takes no memory.
-    pub fn new(alloc: Global) -> Found
+    pub fn new(alloc: Global) -> Found<'a>
         ensures empty { (layer : Layer) → Holds layer result [] [] [] [] }
     {
         Found {
+            entries: Vec::new(alloc),
             resources: Vec::new(alloc),
             names: Vec::new(alloc),
             wants: Vec::new(alloc),
@@ -66,20 +69,31 @@ impl Found {
         }
     }
 
-    /// Adds that a URI identifies a place. Takes memory for the text of the URI, and is refused where there is none.
+    /// Adds the entry of a place, and answers its number.
+    pub fn add_entry(&mut self, entry: Entry<'a>) -> Result<usize, AllocError>
+        ensures added { (layer : Layer) (rs : List (List ℕ × Place)) (ns : List Named) (ws : List Wanted) (ps : List Pair)
+            → Holds layer self.old rs ns ws ps → OnOk result (Holds layer self.new rs ns ws ps) }
+        ensures entry { IfOk result (λ number. slice_get self.new.entries.items number ≡ Some entry.entry) }
+    {
+        let number = self.entries.len();
+        self.entries.push(entry)?;
+        Ok(number)
+    }
+
+    /// Adds that a URI identifies the place of an entry. Takes memory for the text of the URI, and is refused where there is none.
     pub fn add_resource(
         &mut self,
         alloc: Global,
         uri: &Rc<Uri>,
-        entry: &Rc<Entry>,
+        entry: usize,
     ) -> Result<(), AllocError>
         ensures added { (layer : Layer) (rs : List (List ℕ × Place)) (ns : List Named) (ws : List Wanted) (ps : List Pair) (p : Place)
-            → Holds layer self.old rs ns ws ps → IsEntryOf layer entry.now.value p
+            → Holds layer self.old rs ns ws ps → IsNumberOf layer self.old.entries.items entry p
             → OnOk result (Holds layer self.new (rs ++ (uri.now.value, p) ∷ []) ns ws ps) }
+        ensures entries { OnOk result (self.new.entries.items ≡ self.old.entries.items) }
     {
         identify(&mut self.identified, uri)?;
         let text = String::from_str(alloc, uri.as_str())?;
-        let entry = entry.clone()?;
         self.resources.push((text, String::new(alloc), entry))?;
         Ok(())
     }
@@ -89,17 +103,17 @@ impl Found {
         &mut self,
         alloc: Global,
         uri: &str,
-        entry: &Rc<Entry>,
+        entry: usize,
         anchor: Anchor<'_>,
     ) -> Result<(), AllocError>
-        ensures { (layer : Layer) (rs : List (List ℕ × Place)) (ns : List Named) (ws : List Wanted) (ps : List Pair) (p : Place)
-            → Holds layer self.old rs ns ws ps → IsEntryOf layer entry.now.value p
+        ensures added { (layer : Layer) (rs : List (List ℕ × Place)) (ns : List Named) (ws : List Wanted) (ps : List Pair) (p : Place)
+            → Holds layer self.old rs ns ws ps → IsNumberOf layer self.old.entries.items entry p
             → OnOk result (Holds layer self.new rs (ns ++ name_entry uri.now p (anchor_name anchor.entry) ∷ []) ws ps) }
+        ensures entries { OnOk result (self.new.entries.items ≡ self.old.entries.items) }
     {
         let is_dynamic = is_dynamic(&anchor);
         let name = String::from_str(alloc, anchor.name())?;
         let uri = String::from_str(alloc, uri)?;
-        let entry = entry.clone()?;
         self.names
             .push((uri, name, NamedEntry { is_dynamic, entry }))?;
         Ok(())
@@ -110,12 +124,13 @@ impl Found {
         &mut self,
         alloc: Global,
         uri: &str,
-        entry: &Rc<Entry>,
+        entry: usize,
         resource: ResourceRef<'_>,
     ) -> Result<(), AllocError>
         ensures added { (layer : Layer) (rs : List (List ℕ × Place)) (ns : List Named) (ws : List Wanted) (ps : List Pair) (p : Place)
-            → Holds layer self.old rs ns ws ps → IsEntryOf layer entry.now.value p → resource_ref resource.entry ≡ tagged p.draft p.value
+            → Holds layer self.old rs ns ws ps → IsNumberOf layer self.old.entries.items entry p → resource_ref resource.entry ≡ tagged p.draft p.value
             → OnOk result (Holds layer self.new rs (ns ++ named_under uri.now p) ws ps) }
+        ensures entries { OnOk result (self.new.entries.items ≡ self.old.entries.items) }
     {
         match resource.draft().anchors(resource.contents()) {
             AnchorIter::Empty => Ok(()),

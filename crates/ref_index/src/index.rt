@@ -15,7 +15,7 @@ ghost use Rattle.ref_index.specs.Found.{Holds, IsEntryOf};
 ghost use Rattle.ref_index.specs.Index.{IsFoundAt, IsNamedAt};
 
 use crate::document::Document;
-use crate::entry::{Entry, NamedEntry};
+use crate::entry::{Entry, FoundName, Location, NamedEntry};
 use crate::found::Found;
 use crate::path::value_at;
 use ref_parts::SortedTable;
@@ -25,12 +25,13 @@ use std::alloc::{AllocError, Global};
 use std::marker::Model;
 use std::rc::Rc;
 
-/// Documents, with a table of the URIs that identify their places, one of the names that anchors give them, and one of the URIs
+/// Documents, and the entries of places in them, with a table of the URIs that identify their places, one of the names that anchors give them, and one of the URIs
 /// that were resolved on the way. Contracts see the documents.
 #[derive(Drop)]
 pub struct Index<'a> {
     documents: Vec<Document<'a>>,
-    by_uri: SortedTable<Rc<Entry>>,
+    entries: Vec<Entry<'a>>,
+    by_uri: SortedTable<usize>,
     by_name: SortedTable<NamedEntry>,
     by_pair: SortedTable<Rc<Uri>>,
 }
@@ -49,7 +50,7 @@ impl<'a> Model for Index<'a> {
 
     ghost view = { λ i. map document_of i.documents.items };
 
-    ghost invariant = { λ i. IsIndexOf (map document_of i.documents.items) i.by_uri i.by_name i.by_pair };
+    ghost invariant = { λ i. IsIndexOf (map document_of i.documents.items) i.entries.items i.by_uri i.by_name i.by_pair };
 }
 
 impl<'a> Index<'a> {
@@ -57,7 +58,7 @@ impl<'a> Index<'a> {
     pub fn new(
         alloc: Global,
         documents: Vec<Document<'a>>,
-        found: Found,
+        found: Found<'a>,
     ) -> Result<Index<'a>, AllocError>
         requires held { (wants : List Want) × Holds (map document_of documents.items) found (resources (map document_of documents.items)) (names (map document_of documents.items)) wants (pairs (map document_of documents.items)) }
         requires children { (d : WorldDocument) → Contains (map document_of documents.items) d → ChildrenStand d }
@@ -71,6 +72,7 @@ impl<'a> Index<'a> {
         let by_pair = SortedTable::from_entries(alloc, found.resolved)?;
         Ok(Index {
             documents,
+            entries: found.entries,
             by_uri,
             by_name,
             by_pair,
@@ -108,20 +110,25 @@ impl<'a> Index<'a> {
     }
 
     /// The place that a URI means in these documents. A look-up; takes no memory.
-    pub fn resource(&self, uri: &str) -> Option<&Entry>
+    pub fn resource(&self, uri: &str) -> Option<&Entry<'a>>
         ensures value { MatchOption result (last_under uri.now (resources self.now) ≡ None)
             (λ e. IsFoundAt self.now e.now (last_under uri.now (resources self.now))) }
     {
-        let entry = self.by_uri.get(uri, "").0?;
-        Some(&**entry)
+        let number = self.by_uri.get(uri, "").0?;
+        self.entries.get(*number)
     }
 
     /// The place that an anchor names under a URI in these documents. A look-up; takes no memory.
-    pub fn named(&self, uri: &str, name: &str) -> Option<&NamedEntry>
+    pub fn named(&self, uri: &str, name: &str) -> Option<FoundName<'_, 'a>>
         ensures value { MatchOption result (last_named uri.now name.now (names self.now) ≡ None)
-            (λ e. IsNamedAt self.now e.now (last_named uri.now name.now (names self.now))) }
+            (λ e. IsNamedAt self.now e (last_named uri.now name.now (names self.now))) }
     {
-        self.by_name.get(uri, name).0
+        let named = self.by_name.get(uri, name).0?;
+        let entry = self.entries.get(named.entry)?;
+        Some(FoundName {
+            is_dynamic: named.is_dynamic,
+            entry,
+        })
     }
 
     /// The URI that a text means against a base, where that was resolved while the documents were walked. A look-up; takes no
@@ -132,11 +139,17 @@ impl<'a> Index<'a> {
         self.by_pair.get(base, text).0
     }
 
-    /// The value of a place. A look-up for each part of its path; takes no memory.
-    pub fn value(&self, entry: &Entry) -> Option<&Value>
+    /// The value of a place. At once, where its document is borrowed, and else a look-up for each part of its path; takes no memory.
+    #[inline(always)]
+    pub fn value(&self, entry: &Entry<'a>) -> Option<&Value>
         ensures value { (p : Place) → IsEntryOf self.now entry.now p → option_map (λ v. view v.now) result ≡ Some p.value }
     {
-        let document = self.documents.get(entry.document)?;
-        value_at(document.contents.value(), entry.path.as_slice())
+        match &entry.location {
+            Location::Lent(value) => Some(*value),
+            Location::Path { document, path } => {
+                let document = self.documents.get(*document)?;
+                value_at(document.contents.value(), path.as_slice())
+            }
+        }
     }
 }

@@ -27,7 +27,7 @@ fn is_known_above(parents: &[&Index<'_>], uri: &str) -> bool
 
 /// Whether a URI means a place, in what was found so far or in a parent. A look-up in a hashed set, and then in each parent's
 /// table; takes no memory.
-pub fn has_meaning(found: &Found, parents: &[&Index<'_>], uri: &Rc<Uri>) -> bool
+pub fn has_meaning(found: &Found<'_>, parents: &[&Index<'_>], uri: &Rc<Uri>) -> bool
     ensures value { (layer : Layer) (names : List Named) (wants : List Wanted) (ps : List Pair) → Holds layer found.now (resources layer) names wants ps
         → result ≡ is_some (means (layer ∷ map (λ p. p.now) parents.now) uri.now.value) }
 {
@@ -36,7 +36,7 @@ pub fn has_meaning(found: &Found, parents: &[&Index<'_>], uri: &Rc<Uri>) -> bool
 
 /// The number of the first want that is open, from a number on: of those before it none is. The number of wants where none
 /// is. A look-up for each want that it passes; takes no memory.
-pub fn first_open(found: &Found, parents: &[&Index<'_>], from: usize) -> usize
+pub fn first_open(found: &Found<'_>, parents: &[&Index<'_>], from: usize) -> usize
     requires { from ≤ vec_len found.now.wants }
     ensures from { from ≤ result }
     ensures within { result ≤ vec_len found.now.wants }

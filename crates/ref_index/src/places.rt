@@ -96,7 +96,7 @@ fn base_in(
 fn place_at<'w>(
     alloc: Global,
     number: usize,
-    visit: &Visit<'w>,
+    visit: &Visit<'w, '_>,
     base: &Rc<Uri>,
 ) -> Result<Place<'w>, AllocError>
     ensures { (place_of visit.now).base ≡ Ok base.now.value → IfOk result (λ place. listed_of place ≡ listed number (place_of visit.now)) }
@@ -112,12 +112,12 @@ fn place_at<'w>(
 }
 
 // Adds the place at the head of the queue to the list, and its children to the queue.
-fn list_next<'w>(
+fn list_next<'w, 'a: 'w>(
     alloc: Global,
     index: &Index<'_>,
     places: &mut Vec<Place<'w>>,
     number: usize,
-    queue: &mut Vec<Visit<'w>>,
+    queue: &mut Vec<Visit<'w, 'a>>,
     head: usize,
 ) -> Result<(), AllocError>
     requires { (v : Visit) × (uri : List ℕ) × (slice_get queue.old.items head ≡ Some v) × ((place_of v).base ≡ Ok uri) }
@@ -126,7 +126,7 @@ fn list_next<'w>(
         × ((more : List Visit) × (queue.new.items ≡ queue.old.items ++ more) × (map place_of more ≡ children_of (place_of v)))) }
 {
     let visit = &queue[head];
-    let id = ResourceRef::new(visit.value, visit.draft).id();
+    let id = ResourceRef::new(visit.value.get(), visit.draft).id();
     let base = base_in(alloc, index, &visit.outer, id)?;
     let place = place_at(alloc, number, visit, &base)?;
     let path = visit.path.clone()?;

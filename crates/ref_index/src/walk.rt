@@ -1,11 +1,10 @@
 //! The walk over the places of a document.
 ghost use Rattle.std.specs.Prelude.{◌≡◌, ◌<◌, ℕ, List, [], ◌∷◌, ◌++◌, map, flat_map, length, option_map, slice_get, false, Some, Ok, OnOk, IfOk, IfErr};
 ghost use Rattle.serde_json.specs.View.{view};
-ghost use Rattle.ref_parts.specs.Path.{value_at};
+ghost use Rattle.ref_parts.specs.Path.{Key};
 ghost use Rattle.ref_draft.specs.Schema.{identifier, text_under};
-ghost use Rattle.ref_draft.specs.Views.{resource_ref, tagged};
+ghost use Rattle.ref_draft.specs.Views.{resource_ref, tagged, segment_parts, walked_child};
 ghost use Rattle.ref_draft.specs.Anchors.{anchors};
-ghost use Rattle.ref_draft.specs.Children.{AllStand, walked};
 ghost use Rattle.ref_uri.specs.Errors.{IsFaultOf};
 ghost use Rattle.ref_uri.specs.Targets.{target as uri_target};
 ghost use Rattle.ref_world.specs.World.{Layer};
@@ -15,20 +14,20 @@ ghost use Rattle.ref_world.specs.Anchors.{Named, named_at};
 ghost use Rattle.ref_world.specs.Cached.{Pair, pairs_of_identifier, pairs_of_reference, reference_pairs, pairs_at};
 ghost use Rattle.ref_world.specs.Wants.{Want as Wanted, Reference, MetaSchema, reference_at, schema_at, wanted, refusals_of, wants_at, faults_at};
 ghost use Rattle.ref_index.specs.Contents.{tree_of};
-ghost use Rattle.ref_index.specs.Found.{Holds, IsEntryOf};
-ghost use Rattle.ref_index.specs.Queue.{place_of};
+ghost use Rattle.ref_index.specs.Found.{Holds, IsEntryOf, IsNumberOf, IsLocationOf};
+ghost use Rattle.ref_index.specs.Queue.{place_of, value_of};
 ghost use Rattle.ref_index.specs.declared.queue.Visit.{Visit};
 ghost use Rattle.ref_index.specs.Document.{document_of};
-ghost use Rattle.ref_index.specs.Visits.{meta_schema_uri, IsFirstFault, StandsIn, IsVisited, IsWalked, faults_of, under_document, names_under, resources_at, names_at};
+ghost use Rattle.ref_index.specs.Visits.{meta_schema_uri, IsFirstFault, StandsIn, ChildrenCame, IsVisited, IsWalked, faults_of, under_document, names_under, resources_at, names_at};
 
 use crate::document::Document;
-use crate::entry::Entry;
+use crate::entry::{Entry, Location};
 use crate::found::{Cause, Found};
 use crate::path::owned;
-use crate::queue::Visit;
+use crate::queue::{ValueRef, Visit};
 use crate::reference::{shared, uri_part};
 use ref_draft::{AnchorIter, Child, Draft, ResourceRef};
-use ref_parts::path::JsonPointerNode;
+use ref_parts::path::{JsonPointerNode, JsonPointerSegment};
 use ref_uri::uri::{from_str, resolve_against};
 use ref_uri::{Uri, UriFault};
 use serde_json::Value;
@@ -49,25 +48,40 @@ fn base_of(alloc: Global, outer: &Rc<Uri>, id: Option<&str>) -> Result<Rc<Uri>, 
     }
 }
 
-// The entry of a place whose base is known.
-fn entry_of(
+// Where the value of a place is.
+fn location_of<'a>(
     alloc: Global,
     number: usize,
-    place: &Visit<'_>,
-    base: &Rc<Uri>,
-) -> Result<Rc<Entry>, AllocError>
-    ensures { (layer : Layer) → StandsIn layer number (place_of place.now) → (place_of place.now).base ≡ Ok base.now.value
-        → IfOk result (λ entry. IsEntryOf layer entry.value (place_of place.now)) }
+    place: &Visit<'_, 'a>,
+) -> Result<Location<'a>, AllocError>
+    ensures { (layer : Layer) → StandsIn layer number (place_of place.now) → IfOk result (λ location. IsLocationOf layer location (place_of place.now)) }
 {
-    let path = owned(alloc, &place.path)?;
+    match place.value {
+        ValueRef::Lent(value) => Ok(Location::Lent(value)),
+        ValueRef::Kept(_) => Ok(Location::Path {
+            document: number,
+            path: owned(alloc, &place.path)?,
+        }),
+    }
+}
+
+// The entry of a place whose base is known.
+fn entry_of<'a>(
+    alloc: Global,
+    number: usize,
+    place: &Visit<'_, 'a>,
+    base: &Rc<Uri>,
+) -> Result<Entry<'a>, AllocError>
+    ensures { (layer : Layer) → StandsIn layer number (place_of place.now) → (place_of place.now).base ≡ Ok base.now.value
+        → IfOk result (λ entry. IsEntryOf layer entry (place_of place.now)) }
+{
+    let location = location_of(alloc, number, place)?;
     let base = base.clone()?;
-    let entry = Entry {
-        document: number,
-        path,
+    Ok(Entry {
+        location,
         draft: place.draft,
         base,
-    };
-    Ok(Rc::new(alloc, entry)?)
+    })
 }
 
 // Whether the resource has an anchor.
@@ -83,15 +97,16 @@ fn has_anchors(resource: ResourceRef<'_>) -> bool
 // Adds what identifies and names the root under the URI of its document.
 fn add_under(
     alloc: Global,
-    found: &mut Found,
+    found: &mut Found<'_>,
     under: Option<&Rc<Uri>>,
-    entry: &Rc<Entry>,
+    entry: usize,
     resource: ResourceRef<'_>,
 ) -> Result<(), AllocError>
-    ensures { (layer : Layer) (rs : List (List ℕ × Place)) (ns : List Named) (ws : List Wanted) (ps : List Pair) (p : Place)
-        → Holds layer found.old rs ns ws ps → IsEntryOf layer entry.now.value p → resource_ref resource.entry ≡ tagged p.draft p.value
+    ensures added { (layer : Layer) (rs : List (List ℕ × Place)) (ns : List Named) (ws : List Wanted) (ps : List Pair) (p : Place)
+        → Holds layer found.old rs ns ws ps → IsNumberOf layer found.old.entries.items entry p → resource_ref resource.entry ≡ tagged p.draft p.value
         → OnOk result (Holds layer found.new (rs ++ under_document (option_map (λ u. u.now.value) under.entry) p)
         (ns ++ names_under (option_map (λ u. u.now.value) under.entry) p) ws ps) }
+    ensures entries { OnOk result (found.new.entries.items ≡ found.old.entries.items) }
 {
     let Some(uri) = under else {
         return Ok(());
@@ -100,32 +115,50 @@ fn add_under(
     found.add_names(alloc, uri.as_str(), entry, resource)
 }
 
-// Adds what identifies and names a place under its base.
-fn add_by_base(
+// Adds that its base identifies a place, where it has an identifier.
+fn add_identified(
     alloc: Global,
-    found: &mut Found,
+    found: &mut Found<'_>,
     id: Option<&str>,
     base: &Rc<Uri>,
-    entry: &Rc<Entry>,
-    resource: ResourceRef<'_>,
+    entry: usize,
 ) -> Result<(), AllocError>
-    ensures { (layer : Layer) (rs : List (List ℕ × Place)) (ns : List Named) (ws : List Wanted) (ps : List Pair) (p : Place)
-        → Holds layer found.old rs ns ws ps → IsEntryOf layer entry.now.value p → resource_ref resource.entry ≡ tagged p.draft p.value
+    ensures added { (layer : Layer) (rs : List (List ℕ × Place)) (ns : List Named) (ws : List Wanted) (ps : List Pair) (p : Place)
+        → Holds layer found.old rs ns ws ps → IsNumberOf layer found.old.entries.items entry p
         → option_map (λ text. text.now) id.entry ≡ identifier p.draft p.value → p.base ≡ Ok base.now.value
-        → OnOk result (Holds layer found.new (rs ++ resource_of p) (ns ++ named_at p) ws ps) }
+        → OnOk result (Holds layer found.new (rs ++ resource_of p) ns ws ps) }
+    ensures entries { OnOk result (found.new.entries.items ≡ found.old.entries.items) }
 {
     if id.is_some() {
         found.add_resource(alloc, base, entry)?;
     }
+    Ok(())
+}
+
+// Adds what identifies and names a place under its base.
+fn add_by_base(
+    alloc: Global,
+    found: &mut Found<'_>,
+    id: Option<&str>,
+    base: &Rc<Uri>,
+    entry: usize,
+    resource: ResourceRef<'_>,
+) -> Result<(), AllocError>
+    ensures { (layer : Layer) (rs : List (List ℕ × Place)) (ns : List Named) (ws : List Wanted) (ps : List Pair) (p : Place)
+        → Holds layer found.old rs ns ws ps → IsNumberOf layer found.old.entries.items entry p → resource_ref resource.entry ≡ tagged p.draft p.value
+        → option_map (λ text. text.now) id.entry ≡ identifier p.draft p.value → p.base ≡ Ok base.now.value
+        → OnOk result (Holds layer found.new (rs ++ resource_of p) (ns ++ named_at p) ws ps) }
+{
+    add_identified(alloc, found, id, base, entry)?;
     found.add_names(alloc, base.as_str(), entry, resource)
 }
 
 // Adds what identifies and names a place, first under the URI of its document, where it is the root.
-fn add_place(
+fn add_place<'w, 'a: 'w>(
     alloc: Global,
-    found: &mut Found,
+    found: &mut Found<'a>,
     number: usize,
-    place: &Visit<'_>,
+    place: &Visit<'w, 'a>,
     under: Option<&Rc<Uri>>,
     id: Option<&str>,
     base: &Rc<Uri>,
@@ -137,19 +170,20 @@ fn add_place(
         → OnOk result (Holds layer found.new (rs ++ resources_at (option_map (λ u. u.now.value) under.entry) (place_of place.now))
         (ns ++ names_at (option_map (λ u. u.now.value) under.entry) (place_of place.now)) ws ps) }
 {
-    let resource = ResourceRef::new(place.value, place.draft);
+    let resource = ResourceRef::new(place.value.get(), place.draft);
     if under.is_none() && id.is_none() && !has_anchors(resource) {
         return Ok(());
     }
     let entry = entry_of(alloc, number, place, base)?;
-    add_under(alloc, found, under, &entry, resource)?;
-    add_by_base(alloc, found, id, base, &entry, resource)
+    let entry = found.add_entry(entry)?;
+    add_under(alloc, found, under, entry, resource)?;
+    add_by_base(alloc, found, id, base, entry, resource)
 }
 
 // Adds what the identifier of a place was resolved to, where it has one.
 fn add_base(
     alloc: Global,
-    found: &mut Found,
+    found: &mut Found<'_>,
     outer: &Rc<Uri>,
     id: Option<&str>,
     base: &Rc<Uri>,
@@ -167,7 +201,7 @@ fn add_base(
 // The URI that a reference points into; what its URI part was resolved to is added, where it has one.
 fn referred(
     alloc: Global,
-    found: &mut Found,
+    found: &mut Found<'_>,
     base: &Rc<Uri>,
     reference: &str,
 ) -> Result<Rc<Uri>, UriFault>
@@ -189,7 +223,7 @@ fn referred(
 // Adds what a text under `$ref` refers to.
 fn add_reference(
     alloc: Global,
-    found: &mut Found,
+    found: &mut Found<'_>,
     value: &Value,
     base: &Rc<Uri>,
 ) -> Result<(), UriFault>
@@ -221,7 +255,7 @@ fn schema_uri(alloc: Global, text: &str) -> Result<Rc<Uri>, UriFault>
 }
 
 // Adds what a text under `$schema` names, where that is no known draft.
-fn add_meta_schema(alloc: Global, found: &mut Found, value: &Value) -> Result<(), UriFault>
+fn add_meta_schema(alloc: Global, found: &mut Found<'_>, value: &Value) -> Result<(), UriFault>
     ensures added { (layer : Layer) (rs : List (List ℕ × Place)) (ns : List Named) (ws : List Wanted) (ps : List Pair)
         → Holds layer found.old rs ns ws ps
         → OnOk result (Holds layer found.new rs ns (ws ++ wanted MetaSchema (schema_at (view value.now))) ps) }
@@ -240,11 +274,11 @@ fn add_meta_schema(alloc: Global, found: &mut Found, value: &Value) -> Result<()
 }
 
 // Adds what a place is identified by, is named and wants, and answers its base.
-fn settle(
+fn settle<'w, 'a: 'w>(
     alloc: Global,
-    found: &mut Found,
+    found: &mut Found<'a>,
     number: usize,
-    place: &Visit<'_>,
+    place: &Visit<'w, 'a>,
     under: Option<&Rc<Uri>>,
 ) -> Result<Rc<Uri>, UriFault>
     ensures base { IfOk result (λ base. (place_of place.now).base ≡ Ok base.value) }
@@ -256,53 +290,119 @@ fn settle(
     ensures faultless { OnOk result (faults_at (place_of place.now).base (place_of place.now).value ≡ []) }
     ensures fault { IfErr result (IsFirstFault (faults_at (place_of place.now).base (place_of place.now).value)) }
 {
-    let id = ResourceRef::new(place.value, place.draft).id();
+    let value = place.value.get();
+    let id = ResourceRef::new(value, place.draft).id();
     let base = base_of(alloc, &place.outer, id)?;
     add_base(alloc, found, &place.outer, id, &base)?;
     add_place(alloc, found, number, place, under, id, &base)?;
-    add_reference(alloc, found, place.value, &base)?;
-    add_meta_schema(alloc, found, place.value)?;
+    add_reference(alloc, found, value, &base)?;
+    add_meta_schema(alloc, found, value)?;
     Ok(base)
 }
 
-/// Adds the children of a place to the queue.
-pub(crate) fn push_children<'w>(
+// The path of a child of a place.
+fn path_below<'w>(
     alloc: Global,
-    queue: &mut Vec<Visit<'w>>,
+    path: &JsonPointerNode<'w>,
+    keyword: &'w str,
+    segment: Option<JsonPointerSegment<'w>>,
+) -> Result<JsonPointerNode<'w>, AllocError>
+    ensures { IfOk result (λ below. below ≡ path.now ++ Key keyword.now ∷ segment_parts segment.entry) }
+{
+    let keyword = path.push(alloc, keyword)?;
+    match segment {
+        Some(segment) => keyword.push(alloc, segment),
+        None => Ok(keyword),
+    }
+}
+
+// Adds a child of a place to the queue, with its value.
+fn push_child<'w, 'a>(
+    alloc: Global,
+    queue: &mut Vec<Visit<'w, 'a>>,
+    path: &JsonPointerNode<'w>,
+    child: Child<'w>,
+    value: ValueRef<'w, 'a>,
+    base: &Rc<Uri>,
+) -> Result<(), AllocError>
+    ensures { value_of value.entry ≡ view child.entry.value.now → OnOk result ((v : Visit) × (queue.new.items ≡ queue.old.items ++ v ∷ [])
+        × (place_of v ≡ child_place path.now base.now.value (walked_child child.entry))) }
+{
+    let Child {
+        keyword,
+        segment,
+        value: _,
+        draft,
+    } = child;
+    let outer = base.clone()?;
+    let path = path_below(alloc, path, keyword, segment)?;
+    queue.push(Visit {
+        path,
+        value,
+        draft,
+        outer,
+    })?;
+    Ok(())
+}
+
+// Adds the children of a place to the queue, whose value is lent.
+fn push_lent<'w, 'a: 'w>(
+    alloc: Global,
+    queue: &mut Vec<Visit<'w, 'a>>,
+    path: &JsonPointerNode<'w>,
+    value: &'a Value,
+    draft: Draft,
+    base: &Rc<Uri>,
+) -> Result<(), AllocError>
+    ensures { OnOk result (ChildrenCame path.now (view value.now) draft base.now.value queue.old.items queue.new.items) }
+{
+    for child in draft.walk_children(alloc, value)? {
+        let value = ValueRef::Lent(child.value);
+        push_child(alloc, queue, path, child, value, base)?;
+    }
+    Ok(())
+}
+
+// Adds the children of a place to the queue, whose value is kept.
+fn push_kept<'w, 'a>(
+    alloc: Global,
+    queue: &mut Vec<Visit<'w, 'a>>,
     path: &JsonPointerNode<'w>,
     value: &'w Value,
     draft: Draft,
     base: &Rc<Uri>,
 ) -> Result<(), AllocError>
-    ensures { OnOk result ((more : List Visit) × (queue.new.items ≡ queue.old.items ++ more)
-        × (map place_of more ≡ map (child_place path.now base.now.value) (walked draft (view value.now)))
-        × AllStand (view value.now) (walked draft (view value.now))) }
+    ensures { OnOk result (ChildrenCame path.now (view value.now) draft base.now.value queue.old.items queue.new.items) }
 {
     for child in draft.walk_children(alloc, value)? {
-        let Child {
-            keyword,
-            segment,
-            value,
-            draft,
-        } = child;
-        let outer = base.clone()?;
-        let keyword = path.push(alloc, keyword)?;
-        let path = match segment {
-            Some(segment) => keyword.push(alloc, segment)?,
-            None => keyword,
-        };
-        queue.push(Visit {
-            path,
-            value,
-            draft,
-            outer,
-        })?;
+        let value = ValueRef::Kept(child.value);
+        push_child(alloc, queue, path, child, value, base)?;
     }
     Ok(())
 }
 
+/// Adds the children of a place to the queue.
+pub(crate) fn push_children<'w, 'a: 'w>(
+    alloc: Global,
+    queue: &mut Vec<Visit<'w, 'a>>,
+    path: &JsonPointerNode<'w>,
+    value: ValueRef<'w, 'a>,
+    draft: Draft,
+    base: &Rc<Uri>,
+) -> Result<(), AllocError>
+    ensures { OnOk result (ChildrenCame path.now (value_of value.entry) draft base.now.value queue.old.items queue.new.items) }
+{
+    match value {
+        ValueRef::Lent(value) => push_lent(alloc, queue, path, value, draft, base),
+        ValueRef::Kept(value) => push_kept(alloc, queue, path, value, draft, base),
+    }
+}
+
 /// Adds a visit to the queue.
-pub(crate) fn push_visit<'w>(queue: &mut Vec<Visit<'w>>, visit: Visit<'w>) -> Result<(), AllocError>
+pub(crate) fn push_visit<'w, 'a>(
+    queue: &mut Vec<Visit<'w, 'a>>,
+    visit: Visit<'w, 'a>,
+) -> Result<(), AllocError>
     ensures { OnOk result (queue.new.items ≡ queue.old.items ++ visit.entry ∷ []) }
 {
     queue.push(visit)?;
@@ -310,11 +410,11 @@ pub(crate) fn push_visit<'w>(queue: &mut Vec<Visit<'w>>, visit: Visit<'w>) -> Re
 }
 
 // Visits the place at the head of the queue, and adds its children.
-fn visit<'w>(
+fn visit<'w, 'a: 'w>(
     alloc: Global,
-    found: &mut Found,
+    found: &mut Found<'a>,
     number: usize,
-    queue: &mut Vec<Visit<'w>>,
+    queue: &mut Vec<Visit<'w, 'a>>,
     head: usize,
     under: Option<&Rc<Uri>>,
 ) -> Result<(), UriFault>
@@ -332,16 +432,16 @@ fn visit<'w>(
 }
 
 /// The root of a document, to be visited first.
-pub(crate) fn root_of<'w>(
+pub(crate) fn root_of<'w, 'a>(
     alloc: Global,
-    document: &'w Document<'_>,
-) -> Result<Visit<'w>, AllocError>
+    document: &'w Document<'a>,
+) -> Result<Visit<'w, 'a>, AllocError>
     ensures { IfOk result (λ v. place_of v ≡ root (document_of document.now)) }
 {
     let uri = document.uri.clone()?;
     Ok(Visit {
         path: JsonPointerNode::new(),
-        value: document.contents.value(),
+        value: ValueRef::root(&document.contents),
         draft: document.draft,
         outer: shared(alloc, uri)?,
     })
@@ -351,11 +451,11 @@ pub(crate) fn root_of<'w>(
 ///
 /// Refuses for the first fault of the document's places, level by level: an identifier, a reference or the name of a
 /// meta-schema that means no URI; and for want of memory. Of what was found nothing is said then: it is to be let go.
-pub fn walk(
+pub fn walk<'a>(
     alloc: Global,
-    found: &mut Found,
+    found: &mut Found<'a>,
     number: usize,
-    document: &Document<'_>,
+    document: &Document<'a>,
 ) -> Result<(), UriFault>
     ensures ok { OnOk result (IsWalked (document_of document.now) number found.old found.new (places (document_of document.now))) }
     ensures fault { IfErr result (IsFirstFault (flat_map faults_of (places (document_of document.now)))) }

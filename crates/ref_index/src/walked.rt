@@ -28,7 +28,7 @@ fn push<'a>(documents: &mut Vec<Document<'a>>, document: Document<'a>) -> Result
 fn walk_next<'a>(
     alloc: Global,
     documents: &mut Vec<Document<'a>>,
-    found: &mut Found,
+    found: &mut Found<'a>,
     document: Document<'a>,
 ) -> Result<(), UriFault>
     requires { IsFound (map document_of documents.old.items) found.old }
@@ -45,7 +45,7 @@ fn walk_next<'a>(
 #[derive(Drop)]
 pub struct Walked<'a> {
     documents: Vec<Document<'a>>,
-    found: Found,
+    found: Found<'a>,
 }
 
 impl<'a> Model for Walked<'a> {

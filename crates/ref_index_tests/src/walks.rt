@@ -2,19 +2,30 @@
 use ref_draft::Draft;
 use ref_index::found::Cause;
 use ref_index::walk::walk;
-use ref_index::{Contents, Document, Found};
+use ref_index::{Contents, Document, Entry, Found, Location};
 use ref_uri::UriFault;
 use ref_uri::uri::from_str;
 use serde_json::Value;
 use std::alloc::{AllocError, Global};
 use std::test::Fail;
 
-// What was found, in its order: the URIs of places, then the names under URIs, a dynamic one behind `!`, then the wants, that
-// of a meta-schema behind `$`.
-fn listing(alloc: Global, found: &Found) -> Result<String, AllocError> {
+// How many parts the path of a place has: `-` where its value is lent, for which none is kept.
+fn depth(alloc: Global, entry: &Entry<'_>) -> Result<String, AllocError> {
+    match &entry.location {
+        Location::Lent(_) => String::from_str(alloc, "-"),
+        Location::Path { path, .. } => format!(in alloc; "{}", path.len()),
+    }
+}
+
+// What was found, in its order: the URIs of places with the depth of each, then the names under URIs, a dynamic one behind `!`,
+// then the wants, that of a meta-schema behind `$`.
+fn listing(alloc: Global, found: &Found<'_>) -> Result<String, AllocError> {
     let mut text = String::new(alloc);
-    for (uri, _, entry) in &found.resources {
-        let depth = entry.path.len();
+    for (uri, _, number) in &found.resources {
+        let depth = match found.entries.get(*number) {
+            Some(entry) => depth(alloc, entry)?,
+            None => String::new(alloc),
+        };
         write!(text, "{uri} {depth}, ").ok().ok_or(AllocError)?;
     }
     for (uri, name, named) in &found.names {
@@ -110,5 +121,37 @@ fn the_first_fault_is_the_shallowest(rt: HostRuntime) -> Result<(), Fail> {
         found.as_str(),
         "Invalid URI reference 'c d': not a URI reference of RFC 3986"
     );
+    Ok(())
+}
+
+// The value of the place that was found last, where it is lent.
+fn last_lent<'a>(found: &Found<'a>) -> Option<&'a Value> {
+    let (_, _, number) = found.resources.last()?;
+    match &found.entries.get(*number)?.location {
+        Location::Lent(value) => Some(*value),
+        Location::Path { .. } => None,
+    }
+}
+
+// A place in a borrowed document has its value there, and no path.
+#[test]
+fn borrowed_documents_lend_values(rt: HostRuntime) -> Result<(), Fail> {
+    let alloc = rt.alloc();
+    let value = Value::from_str(alloc, r##"{"$defs":{"a":{"$id":"k"},"b":{}}}"##)?;
+    let Ok(uri) = from_str(alloc, "http://a/r") else {
+        return Err("no URI".into());
+    };
+    let document = Document {
+        uri,
+        contents: Contents::Borrowed(&value),
+        draft: Draft::Draft202012,
+    };
+    let mut found = Found::new(alloc);
+    if walk(alloc, &mut found, 0, &document).is_err() {
+        return Err("a fault".into());
+    }
+    let list = listing(alloc, &found)?;
+    assert_eq!(rt; list.as_str(), "http://a/r -, http://a/k -, ");
+    assert!(rt; last_lent(&found) == value.pointer("/$defs/a"));
     Ok(())
 }

@@ -16,7 +16,7 @@ use std::rc::Rc;
 #[derive(Clone, Copy, Drop)]
 pub struct Located<'r> {
     pub value: &'r Value,
-    pub entry: &'r Entry,
+    pub entry: &'r Entry<'r>,
 }
 
 /// A place that an anchor names.
@@ -28,7 +28,7 @@ pub struct LocatedName<'r> {
 
 // The place of an entry.
 #[inline(always)]
-fn place_at<'r>(index: &'r Index<'r>, entry: &'r Entry) -> Option<Located<'r>>
+fn place_at<'r>(index: &'r Index<'r>, entry: &'r Entry<'r>) -> Option<Located<'r>>
     ensures { (p : Place) → IsEntryOf index.now entry.now p → MatchOption result ⊥ (λ l. IsLocated l p) }
 {
     let value = index.value(entry)?;
@@ -74,7 +74,7 @@ pub(crate) fn named_in<'r>(index: &'r Index<'r>, uri: &str, name: &str) -> Optio
     ensures value { MatchOption result (last_named uri.now name.now (names index.now) ≡ None) (IsNamed (last_named uri.now name.now (names index.now))) }
 {
     let named = index.named(uri, name)?;
-    let place = place_at(index, &named.entry)?;
+    let place = place_at(index, named.entry)?;
     Some(LocatedName {
         is_dynamic: named.is_dynamic,
         place,

@@ -1,13 +1,12 @@
 use Rattle.std.proofs.Common.{◌≡◌, ◌∷◌, ◌++◌, [], ◌∙◌, List, Ok, OnOk, sym, ap, subst, map, rules}
 use Rattle.std.proofs.lemmas.List.{map-append}
 use Rattle.std.proofs.lemmas.Option.{get_or_from_slice_get}
-use Rattle.serde_json.specs.View.{view}
 use Rattle.ref_draft.specs.Children.{walked}
 use Rattle.ref_world.specs.Listing.{listed}
 use Rattle.ref_world.specs.Places.{child_place, children_with, children_of}
 use Rattle.ref_index.specs.declared.queue.Visit.{Visit}
 use Rattle.ref_index.specs.Listing.{listed_of}
-use Rattle.ref_index.specs.Queue.{place_of}
+use Rattle.ref_index.specs.Queue.{place_of, value_of}
 use Rattle.ref_index.proofs.Listing.{on_ok}
 use Rattle.ref_index.proofs.places.list_next.Goals as goal
 
@@ -28,6 +27,6 @@ returns c = λ v at.
       (
         pushed.0,
         pushed.1,
-        pushed.2 ∙ ap (λ l. map (child_place l c.in_ok-base.base.value) (walked w.draft (view w.value.now))) path ∙ ap (λ b. children_with b (place_of w)) (sym based),
+        pushed.2 ∙ ap (λ l. map (child_place l c.in_ok-base.base.value) (walked w.draft (value_of w.value))) path ∙ ap (λ b. children_with b (place_of w)) (sym based),
       ),
     )) c.push_children.ensures)

@@ -1,16 +1,15 @@
-use Rattle.std.proofs.Common.{MatchOption, subst, sym}
-use Rattle.ref_index.specs.Found.{IsEntryOf}
+use Rattle.std.proofs.Common.{MatchOption, subst}
 use Rattle.ref_resolver.specs.Located.{IsLocated}
 use Rattle.ref_resolver.proofs.located.named_in.Goals as goal
 
 pub returns-in_err-place : goal.returns-in_err-place
 returns-in_err-place c =
     let (n, found, kind, is) = c.in_ok-named.ensures.value in
-    let at : MatchOption c.place_at.result ⊥ (λ l. IsLocated l n.place) = c.place_at.ensures n.place (subst (λ e. IsEntryOf c.args.index.now e n.place) (sym c.deref.ensures) is) in
+    let at : MatchOption c.place_at.result ⊥ (λ l. IsLocated l n.place) = c.place_at.ensures n.place is in
     absurd (subst (λ o. MatchOption o ⊥ (λ l. IsLocated l n.place)) c.in_err-place.was at)
 
 pub returns : goal.returns
 returns c =
     let (n, found, kind, is) = c.in_ok-named.ensures.value in
-    let at : MatchOption c.place_at.result ⊥ (λ l. IsLocated l n.place) = c.place_at.ensures n.place (subst (λ e. IsEntryOf c.args.index.now e n.place) (sym c.deref.ensures) is) in
+    let at : MatchOption c.place_at.result ⊥ (λ l. IsLocated l n.place) = c.place_at.ensures n.place is in
     record { value = (n, found, kind, subst (λ o. MatchOption o ⊥ (λ l. IsLocated l n.place)) c.in_ok-place.was at) }

@@ -11,5 +11,5 @@ returns c =
     let base = c.args.base.now in
     let text = c.args.text.now in
     let table = c.self.inside.by_pair in
-    let is = subst (λ l. IsIndexOf l c.self.inside.by_uri c.self.inside.by_name table) c.self.view_is c.self.invariant in
+    let is = subst (λ l. IsIndexOf l c.self.inside.entries.items c.self.inside.by_uri c.self.inside.by_name table) c.self.view_is c.self.invariant in
     record { value = pair_found base text (pairs c.args.self.now) (last_or None (filter (is_under base text) table)) c.get.result.0 (pair_both base text table (pairs c.args.self.now) is.pair) c.get.ensures.value }

@@ -3,7 +3,7 @@ use Rattle.ref_draft.specs.Views.{walked_child}
 use Rattle.ref_world.specs.Places.{child_place}
 use Rattle.ref_index.specs.Queue.{place_of}
 use Rattle.ref_index.specs.declared.queue.Visit.{Visit}
-use Rattle.ref_index.proofs.walk.push_children.Given as goal
+use Rattle.ref_index.proofs.walk.push_lent.Given as goal
 
 abbrev pub invariant-loop-child : goal.invariant-loop-child
 invariant-loop-child l =

@@ -1,0 +1,20 @@
+use Rattle.std.proofs.Common.{◌≡◌, ◌∙◌, ap, length, arith}
+use Rattle.std.specs.Prelude.{slice_get}
+use Rattle.ref_index.proofs.Layers.{at_length, resources_stay, names_stay}
+use Rattle.ref_index.proofs.found.Found.add_entry.Goals as goal
+
+pub returns-clause-added : goal.returns-clause-added
+returns-clause-added c = λ layer rs ns ws ps held.
+    let old = c.args.self.now in
+    record {
+      by_uri = rw c.in_ok-push.ensures.items (resources_stay layer old.entries.items c.args.entry old.resources.items rs held.by_uri);
+      by_name = rw c.in_ok-push.ensures.items (names_stay layer old.entries.items c.args.entry old.names.items ns held.by_name);
+      wanted = held.wanted;
+      by_pair = held.by_pair;
+      known = held.known;
+    }
+
+pub returns-clause-entry : goal.returns-clause-entry
+returns-clause-entry c =
+    let number : c.len-number.result ≡ length c.args.self.now.entries.items = omega arith in
+    ap (slice_get c.push.new.self.items) number ∙ ap (λ l. slice_get l (length c.args.self.now.entries.items)) c.in_ok-push.ensures.items ∙ at_length c.args.self.now.entries.items c.args.entry
