@@ -1,4 +1,4 @@
-//! Reads and writes that fail, at each place, of one request for each way in which a run may end; and sinks whose room was reserved
+//! Reads and writes that fail, at each place, of a request for each way in which a run may end; and sinks whose room was reserved
 //! before.
 ghost use Rattle.std.specs.Prelude.{None};
 ghost use Rattle.ref_report.specs.Memory.{is_at_end};
@@ -10,8 +10,8 @@ use std::alloc::{AllocError, Global};
 use std::io::{self, ErrorKind, Write};
 use std::test::Fail;
 
-// A value, a document that is retrieved, a fault, references that lead nowhere, a bad request, and no JSON.
-const ROWS: [Row; 6] = [
+// A value, a document that is retrieved, a fault of `prepare` and one of a step, references that lead nowhere, a bad request, and no JSON.
+const ROWS: [Row; 7] = [
     Row {
         request: r##"{"documents":[["http://a/r",{"properties":{"n":{"type":"string"}}}]],"base":"http://a/r","steps":["#/properties/n"]}"##,
         report: "value {\"type\":\"string\"}\ndraft 2020-12\nbase http://a/r\nscope http://a/r\n",
@@ -21,6 +21,11 @@ const ROWS: [Row; 6] = [
         request: r##"{"documents":[["http://a/r",{"$ref":"b"}]],"remote":[["http://a/b",{"$ref":"c"}],["http://a/c",true]],"base":"http://a/r","steps":["c"]}"##,
         report: "value true\ndraft 2020-12\nbase http://a/c\nscope http://a/r\n",
         status: Status::Done,
+    },
+    Row {
+        request: r##"{"documents":[["a b",{"properties":{"n":{"type":"string"}}}]],"base":"http://a/r","steps":["#/properties/n"]}"##,
+        report: "fault prepare Invalid URI reference 'a b': not a URI reference of RFC 3986\n",
+        status: Status::Fault,
     },
     Row {
         request: r##"{"documents":[["http://a/r",{"properties":{"n":{"type":"string"}}}]],"base":"http://a/r","steps":["#/nope"]}"##,

@@ -1,5 +1,5 @@
-//! Documents and retrievers that are made to cost much: each is prepared or refused by the same rules as others, in time linear in
-//! its size, and nothing is walked or dropped by recursion.
+//! Documents and retrievers that are made to cost much: each is prepared or refused by the same rules as others. What they cost at their
+//! size and at twice it stands in `docs/DEVELOPING.md`.
 ghost use Rattle.std.specs.Prelude.{⊤};
 
 use crate::asserts::{same, same_at};
@@ -113,7 +113,7 @@ fn identifiers_in_one_another_are_relative_to_the_last(rt: HostRuntime) -> Resul
     Ok(())
 }
 
-// So many documents, each with a reference to the next, and the last to the first; and those references, in order.
+// So many documents, each with a reference to the next, and the last to the first.
 fn ring(alloc: Global, size: usize) -> Result<Vec<(String, Value)>, Fail> {
     let mut documents = Vec::with_capacity(alloc, size)?;
     for number in 0..size {

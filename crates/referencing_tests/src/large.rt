@@ -1,4 +1,4 @@
-//! Many steps, and many identifiers: the cost is linear, and nothing is dropped by recursion.
+//! Many steps, and many identifiers. What such requests cost stands in `docs/DEVELOPING.md`.
 use crate::asserts::same;
 use crate::documents::{failed, listed, prepared, text_of};
 use ref_uri::uri::from_str;

@@ -12,7 +12,7 @@ use std::fmt;
 pub enum Stop {
     /// Memory was refused before the call.
     Before,
-    /// The call wanted memory, and what it was made on is as it was.
+    /// The call wanted memory, and what it would have changed is as it was.
     Refused,
     /// Memory was refused once the call had answered.
     After,
@@ -90,7 +90,7 @@ impl Refusal for Error {
     }
 }
 
-/// Why a refused call has no answer: only want of memory is right, and only where what it was made on is as it was.
+/// Why a refused call has no answer: only want of memory is right, and only where what it would have changed is as it was.
 pub fn refused<E: Refusal>(refusal: &E, stands: bool) -> Stop {
     if refusal.is_memory() && stands {
         Stop::Refused
