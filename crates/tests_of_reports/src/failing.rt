@@ -1,0 +1,199 @@
+//! Reads and writes that fail, at each place, and sinks whose room was reserved before.
+ghost use Rattle.std.specs.Prelude.{None};
+ghost use Rattle.ref_report.specs.Memory.{is_at_end};
+
+use crate::rows::Row;
+use ref_report::run::{RunError, run};
+use ref_report::{Failed, MemorySink, MemorySource, Output, Sink, Source, Status};
+use std::alloc::{AllocError, Global};
+use std::io::{self, ErrorKind, Write};
+
+// A source that gives a byte at a time, and fails once it gave so many: for ever, or once.
+#[derive(Drop)]
+struct FailsAfter<'a> {
+    inner: MemorySource<'a>,
+    left: usize,
+    is_for_ever: bool,
+    failures: u64,
+}
+
+impl Source for FailsAfter<'_> {
+    ghost remaining = { λ _. None };
+
+    ghost ended = { λ s. is_at_end s.inner };
+
+    ghost failures = { λ s. s.failures };
+
+    fn read(&mut self, buffer: &mut [u8]) -> Result<usize, Failed> {
+        if self.left == 0 {
+            self.left = if self.is_for_ever { 0 } else { usize::MAX };
+            self.failures = self.failures.saturating_add(1);
+            return Err(Failed);
+        }
+        self.left -= 1;
+        let room = buffer.len().min(1);
+        self.inner.read(&mut buffer[..room])
+    }
+}
+
+// A sink of which each write fails.
+#[derive(Drop)]
+struct Broken {
+    failures: u64,
+}
+
+impl Sink for Broken {
+    ghost taken = { λ _. None };
+
+    ghost failures = { λ s. s.failures };
+
+    fn write_all(&mut self, _bytes: &[u8]) -> Result<(), Failed> {
+        self.failures = self.failures.saturating_add(1);
+        Err(Failed)
+    }
+}
+
+// A writer that takes a byte at a write, and fails once it took so many; of which a flush fails too, where it isn't to be flushed.
+#[derive(Drop)]
+struct Narrow {
+    taken: usize,
+    room: usize,
+    is_flushed: bool,
+}
+
+impl Write for Narrow {
+    ghost contents = { λ _. None };
+
+    fn write(&mut self, bytes: &[u8]) -> io::Result<usize> {
+        if self.taken >= self.room {
+            return Err(io::Error::from(ErrorKind::Other));
+        }
+        let count = bytes.len().min(1);
+        self.taken = self.taken.saturating_add(count);
+        Ok(count)
+    }
+
+    fn flush(&mut self) -> io::Result<()> {
+        if self.is_flushed {
+            Ok(())
+        } else {
+            Err(io::Error::from(ErrorKind::Other))
+        }
+    }
+}
+
+// Whether a request, of which a read fails behind so many bytes, ends as one that failed, with nothing written and no other failure.
+fn is_refused(alloc: Global, request: &str, left: usize, is_for_ever: bool) -> bool {
+    let mut reader = FailsAfter {
+        inner: MemorySource::new(request.as_bytes()),
+        left,
+        is_for_ever,
+        failures: 0,
+    };
+    let mut writer = MemorySink::new(alloc);
+    let answer = run(alloc, &mut reader, &mut writer);
+    answer == Err(RunError::Read) && reader.failures == 1 && writer.bytes.is_empty()
+}
+
+// Whether a request is refused so whichever read fails, the one at its end included, once and for ever.
+fn is_refused_at_each_read(alloc: Global, request: &str) -> bool {
+    for left in 0..request.len() + 1 {
+        if !is_refused(alloc, request, left, true) || !is_refused(alloc, request, left, false) {
+            return false;
+        }
+    }
+    true
+}
+
+// Whether a failed write is told, of a sink of which each fails.
+fn is_told(alloc: Global, request: &str) -> bool {
+    let mut reader = MemorySource::new(request.as_bytes());
+    let mut writer = Broken { failures: 0 };
+    let answer = run(alloc, &mut reader, &mut writer);
+    answer == Err(RunError::Write) && writer.failures == 1
+}
+
+// Whether a run on a request, whose writer has so much room, ends so, with so many writes that failed, and the room filled.
+fn is_ended(
+    alloc: Global,
+    request: &str,
+    room: usize,
+    is_flushed: bool,
+    ended: (Result<Status, RunError>, u64),
+) -> bool {
+    let mut reader = MemorySource::new(request.as_bytes());
+    let mut writer = Output::new(Narrow {
+        taken: 0,
+        room,
+        is_flushed,
+    });
+    let answer = run(alloc, &mut reader, &mut writer);
+    (answer, writer.failures) == ended && writer.writer.taken == room
+}
+
+// Whether a failure is told at whichever byte of a report a write fails, and none where none does.
+fn is_told_at_each_byte(alloc: Global, request: &str, row: &Row) -> bool {
+    for room in 0..row.report.len() {
+        if !is_ended(alloc, request, room, true, (Err(RunError::Write), 1)) {
+            return false;
+        }
+    }
+    is_ended(alloc, request, row.report.len(), true, (Ok(row.status), 0))
+}
+
+// Whether a failed flush is told, once the whole report is written.
+fn is_told_at_the_flush(alloc: Global, request: &str, row: &Row) -> bool {
+    let ended = (Err(RunError::Write), 1);
+    is_ended(alloc, request, row.report.len(), false, ended)
+}
+
+// Whether a report is written into a sink with just its room, without a growth. Where `run` wants memory, nothing is written.
+fn is_written_into_its_room(alloc: Global, request: &str, row: &Row) -> Result<bool, AllocError> {
+    let mut reader = MemorySource::new(request.as_bytes());
+    let mut writer = MemorySink {
+        bytes: Vec::with_capacity(alloc, row.report.len())?,
+        failures: 0,
+    };
+    let room = writer.bytes.capacity();
+    let answer = run(alloc, &mut reader, &mut writer);
+    let keeps_room = writer.bytes.capacity() == room;
+    if answer == Err(RunError::Memory) && keeps_room && writer.bytes.is_empty() {
+        return Err(AllocError);
+    }
+    Ok(answer == Ok(row.status) && keeps_room && writer.bytes.as_slice() == row.report.as_bytes())
+}
+
+/// Runs on a request of which each read, each write and a flush fails in turn, and one into a sink that has just the report's room.
+pub fn each(
+    alloc: Global,
+    place: &str,
+    request: &str,
+    row: &Row,
+    text: &mut String,
+) -> Result<(), AllocError> {
+    let reads = is_refused_at_each_read(alloc, request);
+    push_difference(alloc, place, reads, "each failed read is told", text)?;
+    let write = is_told(alloc, request);
+    push_difference(alloc, place, write, "a failed write is told", text)?;
+    let bytes = is_told_at_each_byte(alloc, request, row);
+    push_difference(alloc, place, bytes, "a failure at each byte is told", text)?;
+    let flush = is_told_at_the_flush(alloc, request, row);
+    push_difference(alloc, place, flush, "a failed flush is told", text)?;
+    let room = is_written_into_its_room(alloc, request, row)?;
+    push_difference(alloc, place, room, "the report fits its room", text)
+}
+
+// The line of a difference, where there is one.
+fn push_difference(
+    alloc: Global,
+    place: &str,
+    holds: bool,
+    expected: &str,
+    text: &mut String,
+) -> Result<(), AllocError> {
+    if holds {
+        return Ok(());
+    }
+    let line = format!(in alloc; "{place}: found otherwise, expected that {expected}\n")?;
+    text.push_str(line.as_str())
+}
