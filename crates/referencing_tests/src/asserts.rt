@@ -17,8 +17,3 @@ pub fn same_at<T: PartialEq + fmt::Debug + Copy, P: fmt::Debug + Copy>(
 ) {
     assert_eq!(rt; found, wanted, "at {place:?}");
 }
-
-/// Ends the test where this is false, and says where in its table.
-pub fn holds_at<P: fmt::Debug + Copy>(rt: &impl Abort, is_so: bool, place: P) {
-    assert!(rt; is_so, "at {place:?}");
-}

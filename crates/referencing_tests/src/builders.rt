@@ -1,6 +1,6 @@
-//! What a builder holds after documents were added, shown by the registry that is prepared of it, and what it refuses.
+//! What a builder holds after documents of each kind were added, shown by the registry that is prepared of it.
 use crate::asserts::same;
-use crate::documents::{failed, text_of};
+use crate::documents::failed;
 use ref_draft::{Draft, Resource, ResourceRef};
 use ref_retrieve::Error;
 use referencing::{Registry, RegistryBuilder};
@@ -66,48 +66,6 @@ fn each_kind_is_added(rt: HostRuntime) -> Result<(), Fail> {
         text.as_str(),
         "a:1 1 Draft7, a:2 2 Draft6, a:3 3 Draft4, a:4 4 Draft7, a:5 null Draft7, a:6 1 Unknown, ",
     );
-    Ok(())
-}
-
-// The documents after values were added under these texts, or the text of the refusal.
-fn added(alloc: Global, pairs: &[(&str, &str)]) -> Result<String, Fail> {
-    let mut all = Vec::new(alloc);
-    for (uri, value) in pairs {
-        all.push((*uri, Value::from_str(alloc, value)?))?;
-    }
-    match Registry::new(alloc).extend(all) {
-        Ok(builder) => listing(alloc, builder),
-        Err(error) => Ok(text_of(alloc, error)?),
-    }
-}
-
-// Texts with values, and what is held after they were added.
-const ROWS: [(&[(&str, &str)], &str); 5] = [
-    (&[], ""),
-    (
-        &[("urn:a", "1"), ("urn:b", "2"), ("urn:a", "3")],
-        "urn:a 3 Draft202012, urn:b 2 Draft202012, ",
-    ),
-    (
-        &[("urn:a##", "1"), ("HTTP://x/./y", "2")],
-        "urn:a 1 Draft202012, http://x/y 2 Draft202012, ",
-    ),
-    (
-        &[("schema.json", "1")],
-        "json-schema:///schema.json 1 Draft202012, ",
-    ),
-    (
-        &[("urn:a", "1"), ("a b", "2"), ("c d", "3")],
-        "Invalid URI reference 'a b': not a URI reference of RFC 3986",
-    ),
-];
-
-#[test]
-fn documents_stand_under_their_uris(rt: HostRuntime) -> Result<(), Fail> {
-    for (pairs, expected) in &ROWS {
-        let text = added(rt.alloc(), *pairs)?;
-        same(&rt, text.as_str(), *expected);
-    }
     Ok(())
 }
 

@@ -4,7 +4,6 @@ use ref_uri::uri::from_str;
 use referencing::{Registry, RegistryBuilder};
 use serde_json::Value;
 use std::alloc::{AllocError, Global};
-use std::convert::AsStr;
 use std::test::Fail;
 
 /// The text of a refusal. Want of memory is passed on.
@@ -21,18 +20,6 @@ pub fn failed(error: Error) -> Fail {
         Error::Memory(error) => error.into(),
         _ => "refused".into(),
     }
-}
-
-/// The values of JSON texts, each under its URI.
-pub fn values<'t>(
-    alloc: Global,
-    pairs: &[(&'t str, &'t str)],
-) -> Result<Vec<(&'t str, Value)>, Fail> {
-    let mut values = Vec::new(alloc);
-    for (uri, text) in pairs {
-        values.push((*uri, Value::from_str(alloc, text)?))?;
-    }
-    Ok(values)
 }
 
 /// The documents of JSON texts in memory, each under its URI.
@@ -56,32 +43,12 @@ pub fn listed(alloc: Global, text: &str) -> Result<Vec<(String, Value)>, Fail> {
     Ok(pairs)
 }
 
-/// The documents of such a list in memory.
-pub fn listed_remote(alloc: Global, text: &str) -> Result<MapRetriever, Fail> {
-    let mut documents = Vec::new(alloc);
-    for (uri, value) in listed(alloc, text)? {
-        documents.push((from_str(alloc, uri.as_str())?, value))?;
-    }
-    Ok(MapRetriever::from_pairs(alloc, documents)?)
-}
-
 /// The registry of what a builder holds and of these documents.
-pub fn prepared<'a, U: AsStr + Drop, R: Retrieve + Drop>(
+pub fn prepared<'a, R: Retrieve + Drop>(
     builder: RegistryBuilder<'a, R>,
-    documents: Vec<(U, Value)>,
+    documents: Vec<(String, Value)>,
 ) -> Result<Registry<'a>, Error> {
     builder.extend(documents)?.prepare()
-}
-
-/// The registry of documents of JSON texts above another.
-pub fn child_of<'b>(
-    alloc: Global,
-    parent: &'b Registry<'_>,
-    pairs: &[(&str, &str)],
-) -> Result<Registry<'b>, Fail> {
-    let documents = values(alloc, pairs)?;
-    let builder = parent.extend(alloc, documents).map_err(failed)?;
-    builder.prepare().map_err(failed)
 }
 
 /// The text of the refusal, or `prepared`.

@@ -3,7 +3,7 @@
 ghost use Rattle.std.specs.Prelude.{⊤};
 
 use crate::asserts::{same, same_at};
-use crate::documents::{failed, listed, outcome, prepared, values};
+use crate::documents::{failed, listed, outcome, prepared};
 use crate::large::{ended, in_turn, looked_up, numbered};
 use ref_retrieve::{Retrieve, RetrieveError};
 use ref_uri::Uri;
@@ -228,7 +228,7 @@ fn forked(alloc: Global, limit: usize) -> Result<String, Fail> {
     let builder = Registry::new(alloc)
         .retriever(Forking)
         .retrieval_limit(limit);
-    let documents = values(alloc, &[("http://a/r", r#"{"$ref":"http://e/0"}"#)])?;
+    let documents = listed(alloc, r#"[["http://a/r",{"$ref":"http://e/0"}]]"#)?;
     Ok(outcome(alloc, prepared(builder, documents))?)
 }
 

@@ -1,10 +1,9 @@
-//! The tests of `referencing`: what registries are prepared of, what is refused, and what no clause says.
+//! The tests of `referencing` that are no rows of tables: kinds of input, copies of builders, and documents that are made to be large. The
+//! others stand in the program `tests_of_registries`.
 //!
 //! They stand in a crate of their own, so that what is proved of registries isn't proved once more with them.
 #![tactic(auto)]
 
-#[cfg(test)]
-mod anchors;
 #[cfg(test)]
 mod asserts;
 #[cfg(test)]
@@ -14,32 +13,8 @@ mod documents;
 #[cfg(test)]
 mod hostile;
 #[cfg(test)]
-mod kinds;
-#[cfg(test)]
 mod large;
-#[cfg(test)]
-mod lookups;
-#[cfg(test)]
-mod meta_schemas;
-#[cfg(test)]
-mod outcomes;
 #[cfg(test)]
 mod parents;
 #[cfg(test)]
-mod places;
-#[cfg(test)]
-mod pointers;
-#[cfg(test)]
-mod resolvers;
-#[cfg(test)]
-mod resources;
-#[cfg(test)]
-mod retrieval;
-#[cfg(test)]
 mod settings;
-#[cfg(test)]
-mod vocabularies;
-#[cfg(test)]
-mod vocabularies_at_bases;
-#[cfg(test)]
-mod walks;

@@ -1,0 +1,92 @@
+//! What is added to builders, and what they then hold.
+use crate::fault::Fault;
+use crate::registries::{builder, known, text_of};
+use crate::row;
+use ref_draft::{Draft, ResourceRef};
+use ref_retrieve::Error;
+use ref_uri::uri::from_str;
+use referencing::{IntoRegistryResource, Registry, RegistryBuilder};
+use serde_json::Value;
+use std::alloc::Global;
+use std::rc::Rc;
+
+/// The documents of a builder in their order: URI, value and draft.
+fn listing(alloc: Global, builder: RegistryBuilder<'_>) -> Result<String, Fault> {
+    let registry = builder.prepare()?;
+    let mut text = String::new(alloc);
+    for place in registry.places(alloc)? {
+        let value = registry.value_at(place.document, place.path.as_slice());
+        let value = value.ok_or(Fault::Form("no value"))?.to_string(alloc)?;
+        let (uri, draft) = (place.base.as_str(), place.draft);
+        let item = format!(in alloc; "{uri} {value} {draft:?}, ")?;
+        text.push_str(item.as_str())?;
+    }
+    Ok(text)
+}
+
+/// The documents after those of a row were added, or the text of the refusal.
+pub fn added(alloc: Global, row: &Value) -> Result<String, Fault> {
+    match Registry::new(alloc).extend(row::documents(alloc, row, 1)?) {
+        Ok(builder) => listing(alloc, builder),
+        Err(error) => Ok(text_of(alloc, error)?),
+    }
+}
+
+/// The registry of a document at `http://a/r`.
+fn holding<'a, T: IntoRegistryResource<'a>>(
+    alloc: Global,
+    draft: Option<Draft>,
+    document: T,
+) -> Result<Registry<'a>, Error> {
+    builder(alloc, draft).add("http://a/r", document)?.prepare()
+}
+
+/// Which URIs of a column mean places, or where the column is a reference the title of what it leads to.
+fn asked(alloc: Global, registry: &Registry<'_>, row: &Value) -> Result<String, Fault> {
+    match row::column(row, 4)?.as_str() {
+        Some(reference) => title(alloc, registry, reference),
+        None => known(alloc, registry, row, 4),
+    }
+}
+
+/// The title of what a reference leads to from `http://a/r`.
+fn title(alloc: Global, registry: &Registry<'_>, reference: &str) -> Result<String, Fault> {
+    let resolver = registry.resolver(alloc, from_str(alloc, "http://a/r")?)?;
+    let found = resolver.lookup(alloc, reference)?;
+    let title = found.contents().get("title").and_then(Value::as_str);
+    Ok(String::from_str(alloc, title.unwrap_or("none"))?)
+}
+
+/// Of a document that is added as a kind of input: a row of the kind, the draft that is set, the document, and what is asked.
+pub fn of_kinds(alloc: Global, row: &Value) -> Result<String, Fault> {
+    let (kind, draft) = (row::text(row, 1)?, row::draft(row, 2)?);
+    let value = row::column(row, 3)?;
+    match kind {
+        "a value" => asked(alloc, &holding(alloc, draft, value.clone()?)?, row),
+        "a value that is lent" => asked(alloc, &holding(alloc, draft, value)?, row),
+        "a value that is shared" => {
+            let shared = Rc::new(alloc, value.clone()?)?;
+            asked(alloc, &holding(alloc, draft, shared)?, row)
+        }
+        "a view" => {
+            let view = ResourceRef::new(value, Draft::Draft202012);
+            asked(alloc, &holding(alloc, draft, view)?, row)
+        }
+        _ => of_resources(alloc, kind, draft, row),
+    }
+}
+
+/// The same of resources, which are of 2020-12.
+fn of_resources(
+    alloc: Global,
+    kind: &str,
+    draft: Option<Draft>,
+    row: &Value,
+) -> Result<String, Fault> {
+    let resource = Draft::Draft202012.create_resource(row::column(row, 3)?.clone()?);
+    match kind {
+        "a resource" => asked(alloc, &holding(alloc, draft, resource)?, row),
+        "a resource that is lent" => asked(alloc, &holding(alloc, draft, &resource)?, row),
+        _ => Err(Fault::Form("no such kind of input")),
+    }
+}
