@@ -1,7 +1,7 @@
 //! Workloads of `ref_index`: look-ups in an index of the documents of `registries`.
 
+use crate::line::Line;
 use crate::registries::{DEFINITIONS, documents_of};
-use anyhow::Context;
 use ref_draft::Draft;
 use ref_index::prepare::prepare;
 use ref_index::{Contents, Document, Index};
@@ -74,32 +74,24 @@ fn is_found(index: &Index<'_>, call: &str, key: &Key) -> bool {
     }
 }
 
-/// How many of so many look-ups find what they look for.
-fn found(alloc: Global, call: &str, size: usize, times: u32) -> anyhow::Result<u64> {
-    let Ok(index) = index_of(alloc, documents_of(alloc, size)?) else {
-        return Ok(0);
-    };
+/// The keys of so many definitions as are looked up in turn.
+fn keys_of(alloc: Global, size: usize) -> Result<Vec<Key>, AllocError> {
     let mut keys = Vec::with_capacity(alloc, KEYS)?;
     for number in 0..KEYS {
         keys.push(key_of(alloc, number, size)?)?;
     }
-    let mut sum: u64 = 0;
-    for turn in 0..times {
-        if let Some(key) = keys.get(turn as usize % KEYS) {
-            sum = sum.saturating_add(is_found(&index, call, key) as u64);
-        }
-    }
-    Ok(sum)
+    Ok(keys)
 }
 
-/// What a line's workload answers, where it is `resolved`, `resource` or `named`.
-pub fn answer(alloc: Global, line: &str) -> anyhow::Result<Option<u64>> {
-    let mut words = line.split_whitespace();
-    let call = words.next().context("a call")?;
-    if !matches!(call, "resolved" | "resource" | "named") {
-        return Ok(None);
+/// How many of so many look-ups find what they look for; nothing where memory is refused.
+pub fn answer(alloc: Global, line: Line<'_>) -> Option<u64> {
+    let index = index_of(alloc, documents_of(alloc, line.size)?).ok()?;
+    let keys = keys_of(alloc, line.size).ok()?;
+    let mut sum: u64 = 0;
+    for turn in 0..line.times {
+        if let Some(key) = keys.get(turn as usize % KEYS) {
+            sum = sum.saturating_add(is_found(&index, line.call, key) as u64);
+        }
     }
-    let size: usize = words.nth(1).context("a size")?.parse()?;
-    let times: u32 = words.next().context("how many times")?.parse()?;
-    Ok(Some(found(alloc, call, size, times)?))
+    Some(sum)
 }

@@ -3,7 +3,7 @@
 //! Documents are made for eight calls, and at most so many are made: the difference between eight calls and none is what `add`,
 //! `prepare` and `lookup` take, and that doesn't grow with the list where nothing of it is copied.
 
-use anyhow::Context;
+use crate::line::Line;
 use ref_draft::{Draft, Resource, ResourceRef};
 use ref_retrieve::Error;
 use ref_uri::uri::from_str;
@@ -53,30 +53,26 @@ fn found_of(alloc: Global, kind: &str, value: Value) -> Result<u64, Error> {
     }
 }
 
-/// How many of the documents' lists are found.
-fn measured(alloc: Global, kind: &str, size: usize, times: usize) -> anyhow::Result<u64> {
-    let text = document_of(alloc, size)?;
-    let mut values = Vec::with_capacity(alloc, CALLS)?;
+/// So many documents as are made for calls, each with a list of so many texts.
+fn documents_of(alloc: Global, size: usize) -> Option<Vec<Value>> {
+    let text = document_of(alloc, size).ok()?;
+    let mut values = Vec::with_capacity(alloc, CALLS).ok()?;
     for _ in 0..CALLS {
-        values.push(Value::from_str(alloc, text.as_str())?)?;
+        values
+            .push(Value::from_str(alloc, text.as_str()).ok()?)
+            .ok()?;
     }
-    let mut sum: u64 = 0;
-    for _ in 0..times {
-        if let Some(value) = values.pop() {
-            sum = sum.saturating_add(found_of(alloc, kind, value).unwrap_or(0));
-        }
-    }
-    Ok(sum)
+    Some(values)
 }
 
-/// What a line's workload answers, where it is `kinds`.
-pub fn answer(alloc: Global, line: &str) -> anyhow::Result<Option<u64>> {
-    let mut words = line.split_whitespace();
-    if words.next() != Some("kinds") {
-        return Ok(None);
+/// How many of the documents' lists are found; nothing where memory is refused.
+pub fn answer(alloc: Global, line: Line<'_>) -> Option<u64> {
+    let mut values = documents_of(alloc, line.size)?;
+    let mut sum: u64 = 0;
+    for _ in 0..line.times {
+        if let Some(value) = values.pop() {
+            sum = sum.saturating_add(found_of(alloc, line.text, value).unwrap_or(0));
+        }
     }
-    let kind = words.next().context("a kind of input")?;
-    let size: usize = words.next().context("a size")?.parse()?;
-    let times: usize = words.next().context("how many times")?.parse()?;
-    Ok(Some(measured(alloc, kind, size, times)?))
+    Some(sum)
 }

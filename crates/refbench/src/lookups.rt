@@ -3,13 +3,14 @@
 //! `chain`, `chain-anchor` and `chain-ref` go on from what the last look-up answered: with the identifiers as absolute URIs, with
 //! an anchor behind each, and with the `$ref` of the last value. `flat` looks the identifiers up from one resolver. `pointer`,
 //! `pointer-type`, `pointer-plain` and `anchor` look a fragment up from resolvers at documents or identifiers. `here` looks `#` up
-//! where the scope isn't empty, and `resolved` resolves a `$ref` against the base at which it stands.
+//! where the scope isn't empty, and `resolved` resolves a `$ref` against the base at which it stands. The documents are borrowed,
+//! and owned where the call ends with `-owned`.
 
-use crate::registries::{DEFINITIONS, documents_of};
-use anyhow::Context;
+use crate::line::Line;
+use crate::registries::{DEFINITIONS, documents_of, lent};
 use ref_retrieve::Error;
 use ref_uri::uri::from_str;
-use referencing::{Draft, Registry, Resolver};
+use referencing::{Draft, Registry, RegistryBuilder, Resolver};
 use serde_json::Value;
 use std::alloc::{AllocError, Global};
 
@@ -169,16 +170,21 @@ fn looked_up(
     }
 }
 
+/// The URI of a document with a dynamic anchor.
+fn node_uri_of(alloc: Global, number: usize) -> Result<String, AllocError> {
+    format!(in alloc; "http://example.com/t{number}")
+}
+
 /// So many documents, each with the same dynamic anchor.
-fn nodes_of(alloc: Global, size: usize) -> anyhow::Result<Vec<(String, Value)>> {
-    let mut documents = Vec::with_capacity(alloc, size)?;
+fn nodes_of(alloc: Global, size: usize) -> Option<Vec<(String, Value)>> {
+    let mut documents = Vec::with_capacity(alloc, size).ok()?;
     for number in 0..size {
-        let uri = format!(in alloc; "http://example.com/t{number}")?;
-        let text = format!(in alloc; "{{\"$id\":\"{uri}\",\"$dynamicAnchor\":\"node\"}}")?;
-        let value = Value::from_str(alloc, text.as_str())?;
-        documents.push((uri, value))?;
+        let uri = node_uri_of(alloc, number).ok()?;
+        let text = format!(in alloc; "{{\"$id\":\"{uri}\",\"$dynamicAnchor\":\"node\"}}").ok()?;
+        let value = Value::from_str(alloc, text.as_str()).ok()?;
+        documents.push((uri, value)).ok()?;
     }
-    Ok(documents)
+    Some(documents)
 }
 
 /// How many times a dynamic anchor is found in a scope of so many URIs that all have it.
@@ -190,7 +196,7 @@ fn dynamically(
 ) -> Result<u64, Error> {
     let mut resolver = registry.resolver(alloc, from_str(alloc, "http://example.com/t0")?)?;
     for number in 0..size {
-        let uri = format!(in alloc; "http://example.com/t{number}")?;
+        let uri = node_uri_of(alloc, number)?;
         resolver = resolver.lookup(alloc, uri.as_str())?.into_inner().1;
     }
     let mut sum: u64 = 0;
@@ -201,38 +207,35 @@ fn dynamically(
     Ok(sum)
 }
 
-/// How many look-ups of a line are answered; nothing where one is refused.
-fn measured(alloc: Global, call: &str, kind: &str, size: usize, times: u32) -> anyhow::Result<u64> {
-    let is_dynamic = call == "dynamic";
-    let documents = if is_dynamic {
-        nodes_of(alloc, size)?
+/// How many look-ups of a line are answered in the registry that a builder prepares.
+fn prepared(alloc: Global, builder: RegistryBuilder<'_>, line: Line<'_>) -> Result<u64, Error> {
+    let registry = builder.prepare()?;
+    if is_dynamic(line.call) {
+        dynamically(alloc, &registry, line.size, line.times)
     } else {
-        documents_of(alloc, size)?
-    };
-    let builder = Registry::new(alloc).draft(Draft::Draft202012);
-    let Ok(registry) = builder
-        .extend(documents)
-        .and_then(|builder| builder.prepare())
-    else {
-        return Ok(0);
-    };
-    let done = if is_dynamic {
-        dynamically(alloc, &registry, size, times)
-    } else {
-        looked_up(alloc, &registry, kind, size, times)
-    };
-    Ok(done.unwrap_or(0))
+        looked_up(alloc, &registry, line.text, line.size, line.times)
+    }
 }
 
-/// What a line's workload answers, where it is `lookup` or `dynamic`.
-pub fn answer(alloc: Global, line: &str) -> anyhow::Result<Option<u64>> {
-    let mut words = line.split_whitespace();
-    let call = words.next().context("a call")?;
-    if !matches!(call, "lookup" | "dynamic") {
-        return Ok(None);
-    }
-    let kind = words.next().context("a kind of look-up")?;
-    let size: usize = words.next().context("a size")?.parse()?;
-    let times: u32 = words.next().context("how many times")?.parse()?;
-    Ok(Some(measured(alloc, call, kind, size, times)?))
+/// Whether a dynamic anchor is looked up.
+fn is_dynamic(call: &str) -> bool {
+    call.starts_with("dynamic")
+}
+
+/// How many look-ups of a line are answered; nothing where one is refused.
+pub fn answer(alloc: Global, line: Line<'_>) -> Option<u64> {
+    let documents = if is_dynamic(line.call) {
+        nodes_of(alloc, line.size)?
+    } else {
+        documents_of(alloc, line.size)?
+    };
+    let builder = Registry::new(alloc).draft(Draft::Draft202012);
+    let done = if line.call.ends_with("-owned") {
+        let builder = builder.extend(documents);
+        builder.and_then(|builder| prepared(alloc, builder, line))
+    } else {
+        let builder = builder.extend(lent(alloc, documents.as_slice()).ok()?);
+        builder.and_then(|builder| prepared(alloc, builder, line))
+    };
+    done.ok()
 }

@@ -5,12 +5,14 @@
 
 mod indexes;
 mod kinds;
+mod line;
 mod lookups;
 mod parts;
 mod places;
 mod registries;
 mod vocabularies;
 
+use crate::line::{Line, line_of};
 use anyhow::Context;
 use ref_uri::{UriRef, uri};
 use std::alloc::{AllocError, Global};
@@ -106,53 +108,40 @@ fn against_len(alloc: Global, base: &str, text: &str) -> Option<usize> {
     }
 }
 
-/// How long the answers are together, where a call is made so many times.
-fn measured(alloc: Global, call: Call, text: &str, times: u32) -> u64 {
+/// How long the answers of a line's call on texts are together; nothing where there is no such call, or memory is refused.
+fn measured(alloc: Global, line: Line<'_>) -> Option<u64> {
+    let call = call_of(line.call)?;
+    let text = text_of(alloc, line.text, line.size).ok()?;
     let mut sum: u64 = 0;
-    for _ in 0..times {
-        let length = length_of(alloc, call, "http://a/b/c/d;p?q", text);
+    for _ in 0..line.times {
+        let length = length_of(alloc, call, "http://a/b/c/d;p?q", text.as_str());
         sum = sum.saturating_add(length.unwrap_or(0) as u64);
     }
-    sum
+    Some(sum)
 }
 
-/// What a line's workload answers.
-fn answer(alloc: Global, line: &str) -> anyhow::Result<u64> {
-    if let Some(sum) = parts::answer(alloc, line)? {
-        return Ok(sum);
+/// What a line's workload answers; nothing where there is no such call, or one is refused.
+fn answer(alloc: Global, line: Line<'_>) -> Option<u64> {
+    match line.call {
+        "get" | "scan" | "plain_scan" => parts::answer(alloc, line),
+        "find" => vocabularies::answer(alloc, line),
+        "add" | "extend" | "prepare" => registries::answer(alloc, line),
+        "resolved" | "resource" | "named" => indexes::answer(alloc, line),
+        "lookup" | "lookup-owned" | "dynamic" | "dynamic-owned" => lookups::answer(alloc, line),
+        "kinds" => kinds::answer(alloc, line),
+        "places" | "locate" | "dangling" => places::answer(alloc, line),
+        _ => measured(alloc, line),
     }
-    if let Some(sum) = vocabularies::answer(alloc, line)? {
-        return Ok(sum);
-    }
-    if let Some(sum) = registries::answer(alloc, line)? {
-        return Ok(sum);
-    }
-    if let Some(sum) = indexes::answer(alloc, line)? {
-        return Ok(sum);
-    }
-    if let Some(sum) = lookups::answer(alloc, line)? {
-        return Ok(sum);
-    }
-    if let Some(sum) = kinds::answer(alloc, line)? {
-        return Ok(sum);
-    }
-    if let Some(sum) = places::answer(alloc, line)? {
-        return Ok(sum);
-    }
-    let mut words = line.split_whitespace();
-    let call = words.next().and_then(call_of).context("a call")?;
-    let kind = words.next().context("a kind of text")?;
-    let size: usize = words.next().context("a size")?.parse()?;
-    let times: u32 = words.next().context("how many times")?.parse()?;
-    let text = text_of(alloc, kind, size)?;
-    Ok(measured(alloc, call, text.as_str(), times))
 }
 
 fn main(rt: HostRuntime) -> anyhow::Result<()> {
-    for line in rt.lines(rt.alloc()) {
-        let line = line?;
-        let sum = answer(rt.alloc(), line.as_str())?;
-        println!(rt; "{line}: {sum}")?;
+    for text in rt.lines(rt.alloc()) {
+        let text = text?;
+        let line = line_of(text.as_str()).context(
+            "a line is a call, a text, a size and how many times",
+        )?;
+        let sum = answer(rt.alloc(), line).context("no such call, or it was refused")?;
+        println!(rt; "{text}: {sum}")?;
     }
     Ok(())
 }

@@ -1,6 +1,6 @@
 //! Workloads of `ref_parts`: the scan for escapes, a plain one beside it, and look-ups in a sorted table.
 
-use anyhow::Context;
+use crate::line::Line;
 use ref_parts::{SortedTable, first_escape};
 use std::alloc::{AllocError, Global};
 
@@ -65,19 +65,12 @@ fn scanned(alloc: Global, by_words: bool, size: usize, times: u32) -> Result<u64
     Ok(sum)
 }
 
-/// What a line's workload answers, where it is one of these.
-pub fn answer(alloc: Global, line: &str) -> anyhow::Result<Option<u64>> {
-    let mut words = line.split_whitespace();
-    let call = words.next().context("a call")?;
-    if !matches!(call, "get" | "scan" | "plain_scan") {
-        return Ok(None);
-    }
-    let size: usize = words.nth(1).context("a size")?.parse()?;
-    let times: u32 = words.next().context("how many times")?.parse()?;
-    let sum = match call {
-        "get" => probes(alloc, size, times)?,
-        "scan" => scanned(alloc, true, size, times)?,
-        _ => scanned(alloc, false, size, times)?,
+/// What a line's workload answers; nothing where memory is refused.
+pub fn answer(alloc: Global, line: Line<'_>) -> Option<u64> {
+    let sum = match line.call {
+        "get" => probes(alloc, line.size, line.times),
+        "scan" => scanned(alloc, true, line.size, line.times),
+        _ => scanned(alloc, false, line.size, line.times),
     };
-    Ok(Some(sum))
+    sum.ok()
 }

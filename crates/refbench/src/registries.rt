@@ -3,7 +3,7 @@
 //! Of so many documents, each has twenty definitions with an identifier, an anchor, and a reference to the same definition of
 //! the next document; `members` is one document with so many definitions, each with an identifier.
 
-use anyhow::Context;
+use crate::line::Line;
 use ref_retrieve::Error;
 use referencing::{Registry, RegistryBuilder};
 use serde_json::Value;
@@ -36,19 +36,19 @@ fn document_of(alloc: Global, number: usize, next: usize) -> Result<String, Allo
 }
 
 /// So many documents under their URIs, of which the last refers to the first.
-pub fn documents_of(alloc: Global, size: usize) -> anyhow::Result<Vec<(String, Value)>> {
-    let mut documents = Vec::with_capacity(alloc, size)?;
+pub fn documents_of(alloc: Global, size: usize) -> Option<Vec<(String, Value)>> {
+    let mut documents = Vec::with_capacity(alloc, size).ok()?;
     for number in 0..size {
         let next = if number + 1 < size { number + 1 } else { 0 };
-        let text = document_of(alloc, number, next)?;
-        let value = Value::from_str(alloc, text.as_str())?;
-        documents.push((uri_of(alloc, number)?, value))?;
+        let text = document_of(alloc, number, next).ok()?;
+        let value = Value::from_str(alloc, text.as_str()).ok()?;
+        documents.push((uri_of(alloc, number).ok()?, value)).ok()?;
     }
-    Ok(documents)
+    Some(documents)
 }
 
-/// One document with so many definitions, each with an identifier.
-fn members_of(alloc: Global, size: usize) -> anyhow::Result<Vec<(String, Value)>> {
+/// The text of a document with so many definitions, each with an identifier.
+fn members_of(alloc: Global, size: usize) -> Result<String, AllocError> {
     let mut text = String::from_str(alloc, "{\"$defs\":{")?;
     for number in 0..size {
         if number > 0 {
@@ -58,18 +58,23 @@ fn members_of(alloc: Global, size: usize) -> anyhow::Result<Vec<(String, Value)>
         text.push_str(member.as_str())?;
     }
     text.push_str("}}")?;
+    Ok(text)
+}
+
+/// That document alone.
+fn document_of_members(alloc: Global, size: usize) -> Option<Vec<(String, Value)>> {
+    let text = members_of(alloc, size).ok()?;
+    let value = Value::from_str(alloc, text.as_str()).ok()?;
+    let uri = String::from_str(alloc, "http://example.com/").ok()?;
     let mut documents = Vec::new(alloc);
-    documents.push((
-        String::from_str(alloc, "http://example.com/")?,
-        Value::from_str(alloc, text.as_str())?,
-    ))?;
-    Ok(documents)
+    documents.push((uri, value)).ok()?;
+    Some(documents)
 }
 
 /// The documents of a kind.
-fn of_kind(alloc: Global, kind: &str, size: usize) -> anyhow::Result<Vec<(String, Value)>> {
+fn of_kind(alloc: Global, kind: &str, size: usize) -> Option<Vec<(String, Value)>> {
     match kind {
-        "members" => members_of(alloc, size),
+        "members" => document_of_members(alloc, size),
         _ => documents_of(alloc, size),
     }
 }
@@ -87,7 +92,7 @@ fn added<'a>(
 }
 
 /// The documents, lent.
-fn lent<'a>(
+pub fn lent<'a>(
     alloc: Global,
     documents: &'a [(String, Value)],
 ) -> Result<Vec<(&'a str, &'a Value)>, AllocError> {
@@ -136,29 +141,19 @@ fn filled(
 }
 
 /// How many calls were made over documents of a kind; nothing where one is refused.
-fn measured(alloc: Global, call: &str, kind: &str, size: usize, times: u32) -> anyhow::Result<u64> {
-    let documents = of_kind(alloc, kind, size)?;
-    let done = match call {
-        "add" => filled(alloc, false, documents.as_slice(), times),
-        "extend" => filled(alloc, true, documents.as_slice(), times),
-        _ if kind == "owned" => {
+pub fn answer(alloc: Global, line: Line<'_>) -> Option<u64> {
+    let documents = of_kind(alloc, line.text, line.size)?;
+    let done = match line.call {
+        "add" => filled(alloc, false, documents.as_slice(), line.times),
+        "extend" => filled(alloc, true, documents.as_slice(), line.times),
+        _ if line.text == "owned" => {
             let builder = Registry::new(alloc).extend(documents);
-            builder.and_then(|builder| prepared(&builder, times))
+            builder.and_then(|builder| prepared(&builder, line.times))
         }
-        _ => extended(alloc, documents.as_slice()).and_then(|builder| prepared(&builder, times)),
+        _ => {
+            let builder = extended(alloc, documents.as_slice());
+            builder.and_then(|builder| prepared(&builder, line.times))
+        }
     };
-    Ok(done.unwrap_or(0))
-}
-
-/// What a line's workload answers, where it is `add`, `extend` or `prepare`.
-pub fn answer(alloc: Global, line: &str) -> anyhow::Result<Option<u64>> {
-    let mut words = line.split_whitespace();
-    let call = words.next().context("a call")?;
-    if !matches!(call, "add" | "extend" | "prepare") {
-        return Ok(None);
-    }
-    let kind = words.next().context("a kind of documents")?;
-    let size: usize = words.next().context("a size")?.parse()?;
-    let times: u32 = words.next().context("how many times")?.parse()?;
-    Ok(Some(measured(alloc, call, kind, size, times)?))
+    done.ok()
 }

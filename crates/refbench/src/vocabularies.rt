@@ -1,6 +1,6 @@
 //! Workloads of `ref_vocabularies`: the vocabulary of a text, and what a meta-schema declares.
 
-use anyhow::Context;
+use crate::line::Line;
 use ref_vocabularies::{Vocabulary, find};
 use serde_json::Value;
 use std::alloc::{AllocError, Global};
@@ -27,26 +27,15 @@ fn meta_schema_of(alloc: Global, size: usize) -> Result<String, AllocError> {
     Ok(text)
 }
 
-/// How many custom vocabularies so many calls find together in a meta-schema with so many.
-fn found(alloc: Global, size: usize, times: u32) -> anyhow::Result<u64> {
-    let text = meta_schema_of(alloc, size)?;
-    let document = Value::from_str(alloc, text.as_str())?;
+/// How many custom vocabularies so many calls find together in a meta-schema with so many; nothing where one is refused.
+pub fn answer(alloc: Global, line: Line<'_>) -> Option<u64> {
+    let text = meta_schema_of(alloc, line.size).ok()?;
+    let document = Value::from_str(alloc, text.as_str()).ok()?;
     let mut sum: u64 = 0;
-    for _ in 0..times {
+    for _ in 0..line.times {
         if let Ok(Some(set)) = find(alloc, &document) {
             sum = sum.saturating_add(set.custom().count() as u64);
         }
     }
-    Ok(sum)
-}
-
-/// What a line's workload answers, where it is `find`.
-pub fn answer(alloc: Global, line: &str) -> anyhow::Result<Option<u64>> {
-    let mut words = line.split_whitespace();
-    if words.next().context("a call")? != "find" {
-        return Ok(None);
-    }
-    let size: usize = words.nth(1).context("a size")?.parse()?;
-    let times: u32 = words.next().context("how many times")?.parse()?;
-    Ok(Some(found(alloc, size, times)?))
+    Some(sum)
 }
