@@ -10,6 +10,3 @@ mod retriever;
 
 pub use error::{Error, Reason, RetrieveError};
 pub use retriever::{DefaultRetriever, MapRetriever, Retrieve};
-
-#[cfg(test)]
-mod tests;

@@ -1,0 +1,55 @@
+//! Why a row has no answer, which is what is found of it where it expects so.
+use ref_retrieve::Error;
+use std::alloc::{AllocError, AllocFailed};
+use std::fmt;
+
+/// Why a row has no answer.
+#[derive(Drop)]
+pub enum Fault {
+    /// There is no memory for it.
+    Memory,
+    /// It isn't of its table's form.
+    Form(&'static str),
+    /// What it asks is refused.
+    Refused(Error),
+}
+
+impl fmt::Display for Fault {
+    fn fmt<W: fmt::Write>(&self, f: &mut fmt::Formatter<W>) -> fmt::Result {
+        match self {
+            Fault::Memory => f.write_str("there is no memory for the row"),
+            Fault::Form(text) => f.write_str(*text),
+            Fault::Refused(error) => write!(f, "{error}"),
+        }
+    }
+}
+
+impl From<AllocError> for Fault {
+    ghost use Rattle.std.specs.Prelude.{⊤};
+
+    ghost from_gives = { λ _ _. ⊤ };
+
+    fn from(_refused: AllocError) -> Fault {
+        Fault::Memory
+    }
+}
+
+impl<T: Drop> From<AllocFailed<T>> for Fault {
+    ghost use Rattle.std.specs.Prelude.{⊤};
+
+    ghost from_gives = { λ _ _. ⊤ };
+
+    fn from(_refused: AllocFailed<T>) -> Fault {
+        Fault::Memory
+    }
+}
+
+impl From<Error> for Fault {
+    ghost use Rattle.std.specs.Prelude.{⊤};
+
+    ghost from_gives = { λ _ _. ⊤ };
+
+    fn from(error: Error) -> Fault {
+        Fault::Refused(error)
+    }
+}

@@ -1,0 +1,68 @@
+//! How many rows of each table hold.
+use std::alloc::{AllocError, Global};
+
+/// The table that is read, whose rows stand one behind the other.
+#[derive(Drop)]
+pub struct Tally {
+    line: u64,
+    table: String,
+    count: u64,
+}
+
+impl Tally {
+    pub fn new(alloc: Global) -> Tally {
+        Tally {
+            line: 0,
+            table: String::new(alloc),
+            count: 0,
+        }
+    }
+
+    /// Goes on to the next line.
+    pub fn begin_line(&mut self) {
+        self.line = self.line.saturating_add(1);
+    }
+
+    /// What is told of a line that is no row.
+    pub fn unread(&self, alloc: Global) -> Result<String, AllocError> {
+        format!(in alloc; "line {}: not JSON\n", self.line)
+    }
+
+    /// What is told of a table that ends here.
+    pub fn table(&self, alloc: Global) -> Result<String, AllocError> {
+        if self.table.is_empty() {
+            return Ok(String::new(alloc));
+        }
+        format!(in alloc; "{}: {} rows\n", self.table, self.count)
+    }
+
+    /// Begins a table, where a row is not of the one that is read; what is told of that.
+    fn begin_table(&mut self, alloc: Global, table: &str) -> Result<String, AllocError> {
+        if self.table.as_str() == table {
+            return Ok(String::new(alloc));
+        }
+        let told = self.table(alloc)?;
+        self.table = String::from_str(alloc, table)?;
+        self.count = 0;
+        Ok(told)
+    }
+
+    /// Counts a row where what is found is what is expected. What is told of it, and of a table that ends before it.
+    pub fn compare(
+        &mut self,
+        alloc: Global,
+        table: &str,
+        found: &str,
+        expected: &str,
+    ) -> Result<String, AllocError> {
+        let told = self.begin_table(alloc, table)?;
+        if found == expected {
+            self.count = self.count.saturating_add(1);
+            return Ok(told);
+        }
+        format!(in alloc;
+            "{told}{table} {}: found {found:?}, expected {expected:?}\n",
+            self.line
+        )
+    }
+}
