@@ -77,21 +77,38 @@ fn push<'r>(resolvers: &mut Vec<Resolver<'r>>, resolver: Resolver<'r>) -> Result
     Ok(())
 }
 
-/// How many look-ups are answered that start from resolvers in turn.
-fn from_each(
+/// What is looked up in turn: each resolver with its reference, the shorter of both lists over and over.
+fn starts_of<'s, 'r>(
     alloc: Global,
-    resolvers: &[Resolver<'_>],
-    references: &[String],
-    times: u32,
-) -> Result<u64, Error> {
-    let mut sum: u64 = 0;
-    for turn in 0..times as usize {
-        let resolver = turn.checked_rem(resolvers.len());
-        let reference = turn.checked_rem(references.len());
+    resolvers: &'s [Resolver<'r>],
+    references: &'s [String],
+) -> Result<Vec<(&'s Resolver<'r>, &'s str)>, AllocError> {
+    let count = resolvers.len().max(references.len());
+    let mut starts = Vec::with_capacity(alloc, count)?;
+    for number in 0..count {
+        let resolver = number.checked_rem(resolvers.len());
+        let reference = number.checked_rem(references.len());
         if let (Some(resolver), Some(reference)) = (resolver, reference) {
-            resolvers[resolver].lookup(alloc, references[reference].as_str())?;
-            sum = sum.saturating_add(1);
+            starts.push((&resolvers[resolver], references[reference].as_str()))?;
         }
+    }
+    Ok(starts)
+}
+
+/// How many look-ups are answered that start from resolvers in turn.
+fn from_each(alloc: Global, starts: &[(&Resolver<'_>, &str)], times: u32) -> Result<u64, Error> {
+    let mut sum: u64 = 0;
+    let mut place = 0;
+    for _ in 0..times {
+        if place == starts.len() {
+            place = 0;
+        }
+        let Some((resolver, reference)) = starts.get(place) else {
+            return Ok(sum);
+        };
+        resolver.lookup(alloc, reference)?;
+        place = place.saturating_add(1);
+        sum = sum.saturating_add(1);
     }
     Ok(sum)
 }
@@ -165,7 +182,8 @@ fn looked_up(
         }
         _ => {
             let resolvers = resolvers_of(alloc, registry, kind, size)?;
-            from_each(alloc, resolvers.as_slice(), references.as_slice(), times)
+            let starts = starts_of(alloc, resolvers.as_slice(), references.as_slice())?;
+            from_each(alloc, starts.as_slice(), times)
         }
     }
 }
