@@ -86,3 +86,7 @@ first_false false b is = refl
 pub fragment_part-hashless : (text : List ℕ) → list_any is_hash text ≡ false → [] ≡ fragment_part text
 fragment_part-hashless [] none = refl
 fragment_part-hashless (c ∷ text) none = fragment_part-none (c ∷ text) (first_false (is_hash c) (list_any is_hash text) none) none
+
+-- a text with a `#` in front has the rest as its fragment
+pub fragment_part-behind : (text rest : List ℕ) → text ≡ 35 ∷ rest → rest ≡ fragment_part text
+fragment_part-behind text rest is = sym (ap fragment_part is)

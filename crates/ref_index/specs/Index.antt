@@ -42,4 +42,4 @@ IsFoundAt layer e found = (r : List ℕ × Place) × (found ≡ Some r) × IsEnt
 
 -- an entry is that of the name that was found
 abbrev pub IsNamedAt : Layer → FoundName → Option Named → Type 0
-IsNamedAt layer e found = (n : Named) × (found ≡ Some n) × (kind_of e.is_dynamic ≡ n.kind) × IsEntryOf layer e.entry.now n.place
+IsNamedAt layer e found = (n : Named) × (found ≡ Some n) × (kind_of e.named.now.is_dynamic ≡ n.kind) × IsEntryOf layer e.entry.now n.place

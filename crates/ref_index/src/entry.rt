@@ -35,6 +35,6 @@ pub struct NamedEntry {
 /// A place that an anchor names, as it is found.
 #[derive(Clone, Copy)]
 pub struct FoundName<'i, 'a> {
-    pub is_dynamic: bool,
+    pub named: &'i NamedEntry,
     pub entry: &'i Entry<'a>,
 }

@@ -125,10 +125,7 @@ impl<'a> Index<'a> {
     {
         let named = self.by_name.get(uri, name).0?;
         let entry = self.entries.get(named.entry)?;
-        Some(FoundName {
-            is_dynamic: named.is_dynamic,
-            entry,
-        })
+        Some(FoundName { named, entry })
     }
 
     /// The URI that a text means against a base, where that was resolved while the documents were walked. A look-up; takes no

@@ -13,31 +13,27 @@ pub fn shared(alloc: Global, uri: Uri) -> Result<Rc<Uri>, AllocError>
     Ok(Rc::new(alloc, uri)?)
 }
 
+/// What stands before the last `#` of a reference, which is the whole where there is none, and its fragment: what follows a `#` in
+/// front, or else the last `#`.
+pub fn parts(reference: &str) -> (&str, &str)
+    ensures uri { result.0.now ≡ uri.uri_part reference.now }
+    ensures fragment { result.1.now ≡ uri.fragment_part reference.now }
+{
+    if !reference.as_bytes().contains(&b'#') {
+        return (reference, "");
+    }
+    let Some((uri, last)) = reference.rsplit_once('#') else {
+        return (reference, "");
+    };
+    match reference.strip_prefix('#') {
+        Some(fragment) => (uri, fragment),
+        None => (uri, last),
+    }
+}
+
 /// What stands before the last `#` of a reference.
 pub fn uri_part(reference: &str) -> &str
     ensures value { result.now ≡ uri.uri_part reference.now }
 {
-    if !reference.as_bytes().contains(&b'#') {
-        return reference;
-    }
-    match reference.rsplit_once('#') {
-        Some((uri, _)) => uri,
-        None => reference,
-    }
-}
-
-/// The fragment of a reference: what follows a `#` in front, or else the last `#`.
-pub fn fragment_part(reference: &str) -> &str
-    ensures value { result.now ≡ uri.fragment_part reference.now }
-{
-    if let Some(fragment) = reference.strip_prefix('#') {
-        return fragment;
-    }
-    if !reference.as_bytes().contains(&b'#') {
-        return "";
-    }
-    match reference.rsplit_once('#') {
-        Some((_, fragment)) => fragment,
-        None => "",
-    }
+    parts(reference).0
 }

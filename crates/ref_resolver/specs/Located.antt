@@ -19,4 +19,4 @@ IsMeant found l = (p : Place) × (found ≡ Some p) × IsLocated l p
 
 -- of the place that an anchor names, and the anchor's kind
 abbrev pub IsNamed : Option Named → LocatedName → Type 0
-IsNamed found l = (n : Named) × (found ≡ Some n) × (kind_of l.is_dynamic ≡ n.kind) × IsLocated l.place n.place
+IsNamed found l = (n : Named) × (found ≡ Some n) × (kind_of l.named.now.is_dynamic ≡ n.kind) × IsLocated l.place n.place

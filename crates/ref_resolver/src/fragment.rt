@@ -96,7 +96,7 @@ fn dynamic_under<'r>(
     ensures fault { IfErr result (IsFaultOf (dynamic_under (world_in layers.now) uri.now name.now)) }
 {
     match meaning(layers, uri, name) {
-        Some(found) if found.is_dynamic => Ok(Some(found.place)),
+        Some(found) if found.named.is_dynamic => Ok(Some(found.place)),
         Some(_) => Ok(None),
         None if name.as_bytes().contains(&b'/') => Err(not_named(alloc, name)),
         None => Ok(None),
@@ -162,12 +162,12 @@ pub(crate) fn named_found<'r>(
     name: &str,
     found: LocatedName<'r>,
 ) -> Result<Resolved<'r>, Error>
-    ensures ok { (n : Named) → n.name ≡ name.now → kind_of found.entry.is_dynamic ≡ n.kind → IsLocated found.entry.place n.place → IfOk result (λ f. named_found (world_of resolver.entry) (resolver_of resolver.entry) n n.kind ≡ Ok (found_of f)) }
+    ensures ok { (n : Named) → n.name ≡ name.now → kind_of found.entry.named.now.is_dynamic ≡ n.kind → IsLocated found.entry.place n.place → IfOk result (λ f. named_found (world_of resolver.entry) (resolver_of resolver.entry) n n.kind ≡ Ok (found_of f)) }
     ensures world { IfOk result (λ f. world_found f ≡ world_of resolver.entry) }
-    ensures fault { (n : Named) → n.name ≡ name.now → kind_of found.entry.is_dynamic ≡ n.kind → IsLocated found.entry.place n.place → IfErr result (IsFaultOf (named_found (world_of resolver.entry) (resolver_of resolver.entry) n n.kind)) }
+    ensures fault { (n : Named) → n.name ≡ name.now → kind_of found.entry.named.now.is_dynamic ≡ n.kind → IsLocated found.entry.place n.place → IfErr result (IsFaultOf (named_found (world_of resolver.entry) (resolver_of resolver.entry) n n.kind)) }
 {
     let place = found.place;
-    if found.is_dynamic {
+    if found.named.is_dynamic {
         outermost(alloc, &resolver, name, place)
     } else {
         Ok(at_value(place.value, place.entry.draft, resolver))

@@ -7,7 +7,7 @@ ghost use Rattle.ref_world.specs.Anchors.{last_named, names, named};
 ghost use Rattle.ref_index.specs.Found.{IsEntryOf};
 ghost use Rattle.ref_resolver.specs.Located.{IsLocated, IsMeant, IsNamed};
 
-use ref_index::{Entry, Index};
+use ref_index::{Entry, Index, NamedEntry};
 use ref_uri::Uri;
 use serde_json::Value;
 use std::rc::Rc;
@@ -22,7 +22,7 @@ pub struct Located<'r> {
 /// A place that an anchor names.
 #[derive(Clone, Copy, Drop)]
 pub struct LocatedName<'r> {
-    pub is_dynamic: bool,
+    pub named: &'r NamedEntry,
     pub place: Located<'r>,
 }
 
@@ -73,10 +73,10 @@ pub(crate) fn is_resource_above(parents: &[&Index<'_>], uri: &str) -> bool
 pub(crate) fn named_in<'r>(index: &'r Index<'r>, uri: &str, name: &str) -> Option<LocatedName<'r>>
     ensures value { MatchOption result (last_named uri.now name.now (names index.now) ≡ None) (IsNamed (last_named uri.now name.now (names index.now))) }
 {
-    let named = index.named(uri, name)?;
-    let place = place_at(index, named.entry)?;
+    let found = index.named(uri, name)?;
+    let place = place_at(index, found.entry)?;
     Some(LocatedName {
-        is_dynamic: named.is_dynamic,
+        named: found.named,
         place,
     })
 }

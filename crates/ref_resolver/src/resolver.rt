@@ -17,7 +17,7 @@ ghost use Rattle.ref_resolver.specs.Names.{is_name};
 use crate::fragment::{at_fragment, is_name, meaning, named_found, not_named, not_retrieved};
 use crate::layers::Layers;
 use ref_draft::{Draft, ResourceRef};
-use ref_index::reference::{fragment_part, uri_part};
+use ref_index::reference::parts;
 use ref_parts::list::List;
 use ref_retrieve::Error;
 use ref_uri::{Uri, UriRef};
@@ -78,16 +78,18 @@ impl<'r> Resolver<'r> {
         self.layers.resolve_uri(alloc, base, uri)
     }
 
-    // The URI that a reference points into.
-    fn target(&self, alloc: Global, reference: &str) -> Result<Rc<Uri>, Error>
-        ensures ok { IfOk result (λ u. target (resolver_of self.now).base reference.now ≡ Ok u.value) }
+    // The URI that a reference points into, and its fragment.
+    fn target<'t>(&self, alloc: Global, reference: &'t str) -> Result<(Rc<Uri>, &'t str), Error>
+        ensures ok { IfOk result (λ t. target (resolver_of self.now).base reference.now ≡ Ok t.0.value) }
+        ensures fragment { IfOk result (λ t. t.1.now ≡ fragment_part reference.now) }
         ensures fault { IfErr result (IsFaultOf (as_invalid_uri (target (resolver_of self.now).base reference.now))) }
     {
-        if reference.starts_with('#') {
-            return Ok(self.base.clone()?);
+        if let Some(fragment) = reference.strip_prefix('#') {
+            return Ok((self.base.clone()?, fragment));
         }
-        self.layers
-            .resolve_uri(alloc, self.base.borrow(), uri_part(reference))
+        let (uri, fragment) = parts(reference);
+        let uri = self.layers.resolve_uri(alloc, self.base.borrow(), uri)?;
+        Ok((uri, fragment))
     }
 
     // This resolver with another base.
@@ -152,8 +154,7 @@ impl<'r> Resolver<'r> {
         ensures world { IfOk result (λ found. world_found found ≡ world_of self.now) }
         ensures fault { IfErr result (IsFaultOf (lookup (world_of self.now) (resolver_of self.now) reference.now)) }
     {
-        let uri = self.target(alloc, reference)?;
-        let fragment = fragment_part(reference);
+        let (uri, fragment) = self.target(alloc, reference)?;
         if is_name(fragment) {
             return self.at_name(alloc, uri, fragment);
         }

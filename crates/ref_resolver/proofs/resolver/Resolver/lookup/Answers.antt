@@ -31,7 +31,7 @@ returns-clause-ok c =
     let (p, is, at) = c.in-Some.ensures.value in
     let text : c.as_str.result.now ≡ uri = search rules in
     let same = lookup_present w r c.args.reference.now uri p c.in_ok-uri.ensures.ok (ap (means w) (sym text) ∙ is) in
-    let there = rw (c.fragment_part-fragment.ensures.value, c.in_ok-resolver.ensures.resolver, c.in_ok-resolver.ensures.world) at c.at_fragment.ensures.ok p at in
+    let there = rw (c.in_ok-uri.ensures.fragment, c.in_ok-resolver.ensures.resolver, c.in_ok-resolver.ensures.world) at c.at_fragment.ensures.ok p at in
     subst (λ a. IfOk c.at_fragment.result (λ f. a ≡ Ok (found_of f))) (sym same) there
 
 pub returns-clause-fault : goal.returns-clause-fault
@@ -42,15 +42,15 @@ returns-clause-fault c =
     let (p, is, at) = c.in-Some.ensures.value in
     let text : c.as_str.result.now ≡ uri = search rules in
     let same = lookup_present w r c.args.reference.now uri p c.in_ok-uri.ensures.ok (ap (means w) (sym text) ∙ is) in
-    let there = rw (c.fragment_part-fragment.ensures.value, c.in_ok-resolver.ensures.resolver, c.in_ok-resolver.ensures.world) at c.at_fragment.ensures.fault p at in
+    let there = rw (c.in_ok-uri.ensures.fragment, c.in_ok-resolver.ensures.resolver, c.in_ok-resolver.ensures.world) at c.at_fragment.ensures.fault p at in
     subst (λ a. IfErr c.at_fragment.result (IsFaultOf a)) (sym same) there
 
 pub returns-then-is_name-clause-ok : goal.returns-then-is_name-clause-ok
 returns-then-is_name-clause-ok c =
-    let name : is_name c.fragment_part-fragment.result.now ≡ true = sym c.is_name.ensures ∙ c.if-is_name.true in
-    c.at_name.ensures.ok c.args.reference.now c.in_ok-uri.ensures.ok (sym c.fragment_part-fragment.ensures.value) name
+    let name : is_name c.in_ok-uri.fragment.now ≡ true = sym c.is_name.ensures ∙ c.if-is_name.true in
+    c.at_name.ensures.ok c.args.reference.now c.in_ok-uri.ensures.ok (sym c.in_ok-uri.ensures.fragment) name
 
 pub returns-then-is_name-clause-fault : goal.returns-then-is_name-clause-fault
 returns-then-is_name-clause-fault c =
-    let name : is_name c.fragment_part-fragment.result.now ≡ true = sym c.is_name.ensures ∙ c.if-is_name.true in
-    c.at_name.ensures.fault c.args.reference.now c.in_ok-uri.ensures.ok (sym c.fragment_part-fragment.ensures.value) name
+    let name : is_name c.in_ok-uri.fragment.now ≡ true = sym c.is_name.ensures ∙ c.if-is_name.true in
+    c.at_name.ensures.fault c.args.reference.now c.in_ok-uri.ensures.ok (sym c.in_ok-uri.ensures.fragment) name

@@ -1,0 +1,25 @@
+use Rattle.std.proofs.Common.{◌≡◌, IfOk, IfErr, Ok, lit<, false, slice_index, subst, sym, ◌∙◌, rules}
+use Rattle.std.proofs.lemmas.Str.Pattern.{strip_prefix_char}
+use Rattle.ref_uri.specs.Targets.{against, target}
+use Rattle.ref_world.specs.Fault.{as_invalid_uri}
+use Rattle.ref_retrieve.specs.Errors.{IsFaultOf}
+use Rattle.ref_index.proofs.Hashes.{is_hash, not_in_front, target-against}
+use Rattle.ref_resolver.proofs.resolver.Resolver.target.Goals as goal
+
+pub returns-in_err-uri-clause-fault : goal.returns-in_err-uri-clause-fault
+returns-in_err-uri-clause-fault c =
+    let text = c.args.reference.now in
+    let base = c.args.self.now.base.value in
+    let front : is_hash (slice_index text 0) ≡ false = not_in_front text (rw c.in_default.is at (strip_prefix_char 35 text c.strip_prefix.result c.strip_prefix.ensures.cases (lit< tt))) in
+    let same = target-against base text front in
+    let fault = rw c.parts.ensures.uri at c.in_err-uri.ensures.fault in
+    search rules
+
+pub returns-clause-ok : goal.returns-clause-ok
+returns-clause-ok c =
+    let text = c.args.reference.now in
+    let base = c.args.self.now.base.value in
+    let front : is_hash (slice_index text 0) ≡ false = not_in_front text (rw c.in_default.is at (strip_prefix_char 35 text c.strip_prefix.result c.strip_prefix.ensures.cases (lit< tt))) in
+    let same = target-against base text front in
+    let there = rw c.parts.ensures.uri at c.in_ok-uri.ensures.ok in
+    search rules
