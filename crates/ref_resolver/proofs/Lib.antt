@@ -10,3 +10,4 @@ pub mod Showing
 pub mod Names
 pub mod Undecoded
 pub mod Based
+pub mod Cutting

@@ -1,9 +1,7 @@
 -- The walk along a pointer, token by token, over plain values.
-use Rattle.std.proofs.Common.{◌≡◌, ◌↔◌, if◌then◌else◌, ℕ, Bool, true, false, cond, List, [], ◌∷◌, ◌++◌, None, Result, Ok, Err, eqb, refl, sym, ap, ◌∙◌, All, IsUtf8}
+use Rattle.std.proofs.Common.{◌≡◌, ◌≢◌, ◌↔◌, if◌then◌else◌, ℕ, Bool, true, false, cond, List, [], ◌∷◌, ◌++◌, None, Result, Ok, Err, eqb, refl, sym, ap, ◌∙◌, All, IsUtf8}
 use Rattle.std.proofs.lemmas.Bool.{ne_eqb}
-use Rattle.std.proofs.lemmas.List.Elements.{All-from_get_or}
 use Rattle.std.proofs.lemmas.List.Splits.{slice_split_none, slice_split_at}
-use Rattle.ref_parts.proofs.EvaluateLaws.{NoSlash}
 use Rattle.std.specs.Str.{is_utf8}
 use Rattle.std.proofs.lemmas.Str.{IsUtf8-from_is_utf8, is_utf8-from_IsUtf8}
 use Rattle.percent_encoding.specs.Percent.{percent_decode}
@@ -59,8 +57,8 @@ step_along draft pointer along value token s uri is based =
 
 -- ---- token by token
 
-plain : (bs : List ℕ) → NoSlash bs → All (λ b. eqb b 47 ≡ false) bs
-plain bs none = All-from_get_or (λ b. eqb b 47 ≡ false) bs 0 (λ i within. ne_eqb _ 47 (none i within))
+plain : (bs : List ℕ) → All (λ b. b ≢ 47) bs → All (λ b. eqb b 47 ≡ false) bs
+plain bs none = λ i d within. ne_eqb _ 47 (none i d within)
 
 in_two : (draft : Draft) (pointer : List ℕ) (along : Along) (value : Data) (token : List ℕ) (more : List (List ℕ))
     → walked_along draft pointer along value (token ∷ more) ≡ (stepped draft pointer along value token >>= λ s. walked_along draft pointer s.1 s.0 more)
@@ -81,7 +79,7 @@ in_two draft pointer along value token more = by_step (step_into pointer value t
     by_step (Ok s) = by_base s.1 (as_invalid_uri (along_part draft along s.0 s.1))
     by_step (Err fault) = refl
 
-pub walk_turn : (draft : Draft) (pointer : List ℕ) (along : Along) (value : Data) (text token more : List ℕ) → text ≡ token ++ (47 ∷ more) → NoSlash token
+pub walk_turn : (draft : Draft) (pointer : List ℕ) (along : Along) (value : Data) (text token more : List ℕ) → text ≡ token ++ (47 ∷ more) → All (λ b. b ≢ 47) token
     → walked_along draft pointer along value (tokens text) ≡ (stepped draft pointer along value token >>= λ s. walked_along draft pointer s.1 s.0 (tokens more))
 walk_turn draft pointer along value text token more cut none =
     ap (λ x. walked_along draft pointer along value (tokens x)) cut ∙ ap (walked_along draft pointer along value) (slice_split_at (λ b. eqb b 47) token 47 more (plain token none) refl)
@@ -91,7 +89,7 @@ one_step : (answer : Result (Data × Along) Fault) → (answer >>= λ s. Ok (s.0
 one_step (Ok s) = refl
 one_step (Err fault) = refl
 
-pub walk_last : (draft : Draft) (pointer : List ℕ) (along : Along) (value : Data) (text : List ℕ) → NoSlash text → walked_along draft pointer along value (tokens text) ≡ stepped draft pointer along value text
+pub walk_last : (draft : Draft) (pointer : List ℕ) (along : Along) (value : Data) (text : List ℕ) → All (λ b. b ≢ 47) text → walked_along draft pointer along value (tokens text) ≡ stepped draft pointer along value text
 walk_last draft pointer along value text none =
     ap (walked_along draft pointer along value) (slice_split_none (λ b. eqb b 47) text (plain text none)) ∙ in_two draft pointer along value text [] ∙ one_step (stepped draft pointer along value text)
 

@@ -1,7 +1,7 @@
 //! The walk along the pointer of a reference's fragment (RFC 6901), with the base URI along it.
-ghost use Rattle.std.specs.Prelude.{◌≡◌, ◌∷◌, ◌++◌, [], IfOk, IfErr, IfSome, option_map, ok_or, Ok, None, if◌then◌else◌};
+ghost use Rattle.std.specs.Prelude.{◌≡◌, ◌≢◌, ◌==◌, ◌∷◌, ◌++◌, [], All, position, IfOk, IfErr, IfSome, MatchOption, option_map, ok_or, Ok, None, if◌then◌else◌};
 ghost use Rattle.serde_json.specs.View.{view};
-ghost use Rattle.ref_parts.specs.Pointer.{tokens};
+ghost use Rattle.ref_parts.specs.Pointer.{slash, tokens};
 ghost use Rattle.ref_draft.specs.Views.{part_of};
 ghost use Rattle.ref_draft.specs.Schema.{identifier};
 ghost use Rattle.ref_draft.specs.Children.{is_object};
@@ -157,6 +157,24 @@ fn step<'r, 't>(
     })
 }
 
+// Where the first `/` of a text stands. A search by bytes, which decodes no character.
+#[inline(always)]
+fn slash_in(text: &str) -> Option<usize>
+    ensures { result ≡ position (λ b. b == slash) text.now }
+{
+    text.as_bytes().iter().position(|byte| *byte == b'/')
+}
+
+// What stands before the first `/` of a text, and what follows that.
+#[inline(always)]
+fn cut_at_slash(text: &str) -> Option<(&str, &str)>
+    ensures { MatchOption result (All (λ b. b ≢ slash) text.now) (λ cut. (text.now ≡ cut.0.now ++ (slash ∷ cut.1.now)) × All (λ b. b ≢ slash) cut.0.now) }
+{
+    let place = slash_in(text)?;
+    let (token, _) = text.split_at(place);
+    Some((token, &text[place + 1..]))
+}
+
 // Token by token.
 #[inline(always)]
 fn walk_along<'r, 't>(
@@ -170,7 +188,7 @@ fn walk_along<'r, 't>(
 {
     let mut along = along;
     let mut rest = text;
-    while let Some((token, more)) = rest.split_once('/') {
+    while let Some((token, more)) = cut_at_slash(rest) {
         along = step(alloc, walk, along, token)?;
         rest = more;
     }

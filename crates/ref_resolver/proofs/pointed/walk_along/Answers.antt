@@ -1,5 +1,4 @@
-use Rattle.std.proofs.Common.{◌≡◌, Ok, IfOk, IfErr, sym, subst, ◌∙◌, arith, rules}
-use Rattle.std.proofs.lemmas.Str.Pattern.{split_parts}
+use Rattle.std.proofs.Common.{◌≡◌, Ok, IfOk, IfErr, sym, subst, ◌∙◌, rules}
 use Rattle.serde_json.specs.View.{view}
 use Rattle.ref_parts.specs.Pointer.{tokens}
 use Rattle.ref_world.specs.Pointers.{walked_along}
@@ -14,7 +13,7 @@ returns-in_err-along-clause-fault c =
     let l = c.loop-token in
     let d = c.args.walk.draft in
     let p = c.args.walk.pointer.now in
-    let cut = rw c.in-Some.is at (split_parts 47 l.rest.now c.split_once.result c.split_once.ensures.cases (omega arith)) in
+    let cut = rw c.in-Some.is at c.cut_at_slash.ensures in
     let turn = walk_turn d p (along_of l.along) (view l.along.value.now) l.rest.now c.in-Some.token.now c.in-Some.more.now cut.0 cut.1 in
     let ended = fault_ends (stepped d p (along_of l.along) (view l.along.value.now) c.in-Some.token.now) (λ s. walked_along d p s.1 s.0 (tokens c.in-Some.more.now)) c.in_err-along.field-0.0 c.in_err-along.ensures.fault in
     let fault = subst (λ a. IsFaultOf a c.in_err-along.field-0.0) (sym (l.invariant.0 ∙ turn)) ended in
@@ -25,7 +24,7 @@ loop-token-preserved c =
     let l = c.loop-token in
     let d = c.args.walk.draft in
     let p = c.args.walk.pointer.now in
-    let cut = rw c.in-Some.is at (split_parts 47 l.rest.now c.split_once.result c.split_once.ensures.cases (omega arith)) in
+    let cut = rw c.in-Some.is at c.cut_at_slash.ensures in
     let turn = walk_turn d p (along_of l.along) (view l.along.value.now) l.rest.now c.in-Some.token.now c.in-Some.more.now cut.0 cut.1 in
     let on = goes_on (stepped d p (along_of l.along) (view l.along.value.now) c.in-Some.token.now) (λ s. walked_along d p s.1 s.0 (tokens c.in-Some.more.now)) (view c.in_ok-along.along.value.now, along_of c.in_ok-along.along) c.in_ok-along.ensures.ok in
     (l.invariant.0 ∙ turn ∙ on, search rules)
@@ -33,13 +32,13 @@ loop-token-preserved c =
 pub returns-clause-ok : goal.returns-clause-ok
 returns-clause-ok c =
     let l = c.loop-token in
-    let none = rw c.in_default.is at (split_parts 47 l.rest.now c.split_once.result c.split_once.ensures.cases (omega arith)) in
+    let none = rw c.in_default.is at c.cut_at_slash.ensures in
     let same = l.invariant.0 ∙ walk_last c.args.walk.draft c.args.walk.pointer.now (along_of l.along) (view l.along.value.now) l.rest.now none in
     subst (λ a. IfOk c.step-2.result (λ x. a ≡ Ok (view x.value.now, along_of x))) (sym same) c.step-2.ensures.ok
 
 pub returns-clause-fault : goal.returns-clause-fault
 returns-clause-fault c =
     let l = c.loop-token in
-    let none = rw c.in_default.is at (split_parts 47 l.rest.now c.split_once.result c.split_once.ensures.cases (omega arith)) in
+    let none = rw c.in_default.is at c.cut_at_slash.ensures in
     let same = l.invariant.0 ∙ walk_last c.args.walk.draft c.args.walk.pointer.now (along_of l.along) (view l.along.value.now) l.rest.now none in
     subst (λ a. IfErr c.step-2.result (IsFaultOf a)) (sym same) c.step-2.ensures.fault

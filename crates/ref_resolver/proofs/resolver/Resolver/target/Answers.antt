@@ -1,8 +1,5 @@
-use Rattle.std.proofs.Common.{◌≡◌, IfOk, IfErr, Ok, lit<, false, slice_index, subst, sym, ◌∙◌, rules}
+use Rattle.std.proofs.Common.{◌≡◌, lit<, false, slice_index, rules}
 use Rattle.std.proofs.lemmas.Str.Pattern.{strip_prefix_char}
-use Rattle.ref_uri.specs.Targets.{against, target}
-use Rattle.ref_world.specs.Fault.{as_invalid_uri}
-use Rattle.ref_retrieve.specs.Errors.{IsFaultOf}
 use Rattle.ref_index.proofs.Hashes.{is_hash, not_in_front, target-against}
 use Rattle.ref_resolver.proofs.resolver.Resolver.target.Goals as goal
 
