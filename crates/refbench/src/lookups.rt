@@ -132,15 +132,13 @@ fn in_turn(
     Ok(sum)
 }
 
-/// How many references are followed, each the `$ref` of the value that the last one led to.
+/// How many `$ref`s are followed, each of the value that the last one led to.
 fn along_references(alloc: Global, start: Resolver<'_>, times: u32) -> Result<u64, Error> {
-    let mut resolver = start;
-    let mut reference = "../d0/k0";
+    let mut found = start.lookup(alloc, "../d0/k0")?;
     let mut sum: u64 = 0;
     for _ in 0..times {
-        let (value, inner, _) = resolver.lookup(alloc, reference)?.into_inner();
-        reference = value.get("$ref").and_then(Value::as_str).unwrap_or("");
-        resolver = inner;
+        let reference = found.contents().get("$ref").and_then(Value::as_str);
+        found = found.resolver().lookup(alloc, reference.unwrap_or(""))?;
         sum = sum.saturating_add(1);
     }
     Ok(sum)
