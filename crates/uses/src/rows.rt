@@ -11,8 +11,8 @@ use serde_json::Value;
 use std::alloc::{AllocError, Global};
 
 /// The registry of a document.
-fn registry_of<'v>(alloc: Global, uri: &str, document: &'v Value) -> Result<Registry<'v>, Error> {
-    Registry::new(alloc).add(uri, document)?.prepare()
+fn registry_of<'v>(alloc: Global, uri: &str, given: &'v Value) -> Result<Registry<'v>, Error> {
+    Registry::new(alloc).add(uri, given)?.prepare()
 }
 
 /// What a validator answers of an instance, from the root of a schema.
