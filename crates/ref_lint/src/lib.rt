@@ -7,8 +7,6 @@
 mod entry;
 pub mod examples;
 mod search;
-#[cfg(test)]
-mod tests;
 
 pub use entry::Dangling;
 pub use search::dangling;

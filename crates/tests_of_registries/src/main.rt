@@ -1,9 +1,10 @@
-//! The tests of `referencing` whose rows are data: reads a row a line from standard input, a JSON list of the table's name, of what is asked,
-//! and of the answer that is expected. Prints each row whose answer is another, and then how many rows of each table hold.
+//! The tests of `referencing` and `ref_lint` whose rows are data: reads a row a line from standard input, a JSON list of the table's name,
+//! of what is asked, and of the answer that is expected. Prints each row whose answer is another, and then how many rows of each table hold.
 //!
 //! Lines that are empty or begin with `//` are skipped. A row of the name `given` has documents for the rows behind it.
 #![tactic(auto)]
 
+mod dangling;
 mod fault;
 mod inputs;
 mod lookups;
@@ -34,6 +35,8 @@ fn found(alloc: Global, given: &Value, table: &str, row: &Value) -> Result<Strin
         "paths of places" => places::agreeing(alloc, row),
         "paths" => places::located(alloc, row),
         "values" => places::values(alloc, row),
+        "dangling" => dangling::of_documents(alloc, row),
+        "dangling below parents" => dangling::of_children(alloc, row),
         _ => found_of_outcomes(alloc, given, table, row),
     }
 }
