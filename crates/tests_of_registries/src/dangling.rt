@@ -1,10 +1,7 @@
 //! The references of documents that lead nowhere, as they are listed.
 use crate::fault::Fault;
-use crate::registries::{child, registry, retrieving};
-use crate::row;
 use ref_lint::Dangling;
 use referencing::{JsonPointerSegment, Registry, write_escaped_str, write_index};
-use serde_json::Value;
 use std::alloc::{AllocError, Global};
 
 /// Appends the pointer text of a path.
@@ -30,26 +27,22 @@ fn push_entry(alloc: Global, text: &mut String, entry: &Dangling<'_>) -> Result<
 }
 
 /// The entries of a registry.
-fn entries_of(alloc: Global, registry: &Registry<'_>) -> Result<String, Fault> {
+pub fn entries(alloc: Global, registry: &Registry<'_>) -> Result<String, Fault> {
+    let entries = ref_lint::dangling(alloc, registry)?;
     let mut text = String::new(alloc);
-    for entry in &ref_lint::dangling(alloc, registry)? {
+    for entry in entries.as_slice() {
         push_entry(alloc, &mut text, entry)?;
     }
     Ok(text)
 }
 
-/// Of a row of a draft, documents, and what can be retrieved.
-pub fn of_documents(alloc: Global, row: &Value) -> Result<String, Fault> {
-    let registry = retrieving(alloc, row::draft(row, 1)?, row, 2)?;
-    entries_of(alloc, &registry)
-}
-
-/// Of a registry, and of its child: of a row of the documents of each.
-pub fn of_children(alloc: Global, row: &Value) -> Result<String, Fault> {
-    let parent = registry(alloc, None, row, 1)?;
-    let child = child(alloc, &parent, row, 2)?;
-    let mut text = entries_of(alloc, &parent)?;
-    text.push_str("| ")?;
-    text.push_str(entries_of(alloc, &child)?.as_str())?;
-    Ok(text)
+/// The entries of a registry, and those of its child.
+pub fn of_both(
+    alloc: Global,
+    parent: &Registry<'_>,
+    child: &Registry<'_>,
+) -> Result<String, Fault> {
+    let below = entries(alloc, parent)?;
+    let above = entries(alloc, child)?;
+    Ok(format!(in alloc; "{below}| {above}")?)
 }

@@ -10,11 +10,12 @@ use serde_json::Value;
 use std::alloc::Global;
 use std::rc::Rc;
 
-/// The documents of a builder in their order: URI, value and draft.
-fn listing(alloc: Global, builder: RegistryBuilder<'_>) -> Result<String, Fault> {
+/// The documents that a builder holds in their order, as the registry that is prepared of them has them: URI, value and draft.
+fn held(alloc: Global, builder: RegistryBuilder<'_>) -> Result<String, Fault> {
     let registry = builder.prepare()?;
+    let places = registry.places(alloc)?;
     let mut text = String::new(alloc);
-    for place in registry.places(alloc)? {
+    for place in places.as_slice() {
         let value = registry.value_at(place.document, place.path.as_slice());
         let value = value.ok_or(Fault::Form("no value"))?.to_string(alloc)?;
         let (uri, draft) = (place.base.as_str(), place.draft);
@@ -27,8 +28,24 @@ fn listing(alloc: Global, builder: RegistryBuilder<'_>) -> Result<String, Fault>
 /// The documents after those of a row were added, or the text of the refusal.
 pub fn added(alloc: Global, row: &Value) -> Result<String, Fault> {
     match Registry::new(alloc).extend(row::documents(alloc, row, 1)?) {
-        Ok(builder) => listing(alloc, builder),
+        Ok(builder) => held(alloc, builder),
         Err(error) => Ok(text_of(alloc, error)?),
+    }
+}
+
+/// The title of what a reference leads to from `http://a/r`.
+fn title(alloc: Global, registry: &Registry<'_>, reference: &str) -> Result<String, Fault> {
+    let resolver = registry.resolver(alloc, from_str(alloc, "http://a/r")?)?;
+    let found = resolver.lookup(alloc, reference)?;
+    let title = row::text_under(found.contents(), "title").unwrap_or("none");
+    Ok(String::from_str(alloc, title)?)
+}
+
+/// Which URIs of a column mean places, or where the column is a reference the title of what it leads to.
+fn asked(alloc: Global, registry: &Registry<'_>, row: &Value) -> Result<String, Fault> {
+    match row::column(row, 4)?.as_str() {
+        Some(reference) => title(alloc, registry, reference),
+        None => known(alloc, registry, row, 4),
     }
 }
 
@@ -41,52 +58,45 @@ fn holding<'a, T: IntoRegistryResource<'a>>(
     builder(alloc, draft).add("http://a/r", document)?.prepare()
 }
 
-/// Which URIs of a column mean places, or where the column is a reference the title of what it leads to.
-fn asked(alloc: Global, registry: &Registry<'_>, row: &Value) -> Result<String, Fault> {
-    match row::column(row, 4)?.as_str() {
-        Some(reference) => title(alloc, registry, reference),
-        None => known(alloc, registry, row, 4),
+/// The registry of a document that is added as a kind of input. Resources are of 2020-12.
+fn of_kind<'a>(
+    alloc: Global,
+    kind: &str,
+    draft: Option<Draft>,
+    value: &'a Value,
+) -> Result<Registry<'a>, Fault> {
+    match kind {
+        "a value" => Ok(holding(alloc, draft, value.clone()?)?),
+        "a value that is lent" => Ok(holding(alloc, draft, value)?),
+        "a value that is shared" => {
+            let shared = Rc::new(alloc, value.clone()?)?;
+            Ok(holding(alloc, draft, shared)?)
+        }
+        "a resource" => {
+            let resource = Draft::Draft202012.create_resource(value.clone()?);
+            Ok(holding(alloc, draft, resource)?)
+        }
+        "a view" => {
+            let view = ResourceRef::new(value, Draft::Draft202012);
+            Ok(holding(alloc, draft, view)?)
+        }
+        _ => Err(Fault::Form("no such kind of input")),
     }
 }
 
-/// The title of what a reference leads to from `http://a/r`.
-fn title(alloc: Global, registry: &Registry<'_>, reference: &str) -> Result<String, Fault> {
-    let resolver = registry.resolver(alloc, from_str(alloc, "http://a/r")?)?;
-    let found = resolver.lookup(alloc, reference)?;
-    let title = found.contents().get("title").and_then(Value::as_str);
-    Ok(String::from_str(alloc, title.unwrap_or("none"))?)
+/// The same where a resource is lent, which has to live as long.
+fn of_lent_resource(alloc: Global, draft: Option<Draft>, row: &Value) -> Result<String, Fault> {
+    let resource = Draft::Draft202012.create_resource(row::column(row, 3)?.clone()?);
+    let registry = holding(alloc, draft, &resource)?;
+    asked(alloc, &registry, row)
 }
 
 /// Of a document that is added as a kind of input: a row of the kind, the draft that is set, the document, and what is asked.
 pub fn of_kinds(alloc: Global, row: &Value) -> Result<String, Fault> {
     let (kind, draft) = (row::text(row, 1)?, row::draft(row, 2)?);
-    let value = row::column(row, 3)?;
-    match kind {
-        "a value" => asked(alloc, &holding(alloc, draft, value.clone()?)?, row),
-        "a value that is lent" => asked(alloc, &holding(alloc, draft, value)?, row),
-        "a value that is shared" => {
-            let shared = Rc::new(alloc, value.clone()?)?;
-            asked(alloc, &holding(alloc, draft, shared)?, row)
-        }
-        "a view" => {
-            let view = ResourceRef::new(value, Draft::Draft202012);
-            asked(alloc, &holding(alloc, draft, view)?, row)
-        }
-        _ => of_resources(alloc, kind, draft, row),
+    if kind == "a resource that is lent" {
+        return of_lent_resource(alloc, draft, row);
     }
-}
-
-/// The same of resources, which are of 2020-12.
-fn of_resources(
-    alloc: Global,
-    kind: &str,
-    draft: Option<Draft>,
-    row: &Value,
-) -> Result<String, Fault> {
-    let resource = Draft::Draft202012.create_resource(row::column(row, 3)?.clone()?);
-    match kind {
-        "a resource" => asked(alloc, &holding(alloc, draft, resource)?, row),
-        "a resource that is lent" => asked(alloc, &holding(alloc, draft, &resource)?, row),
-        _ => Err(Fault::Form("no such kind of input")),
-    }
+    let registry = of_kind(alloc, kind, draft, row::column(row, 3)?)?;
+    asked(alloc, &registry, row)
 }

@@ -1,26 +1,24 @@
 //! Where references lead, step by step from a base.
 use crate::fault::Fault;
-use crate::registries::{child, registry, retrieving, text_of};
+use crate::registries::text_of;
 use crate::row;
 use ref_draft::{Draft, ResourceRef};
+use ref_retrieve::Error;
 use ref_uri::uri::from_str;
 use referencing::{FollowError, Followed, Registry, Step, follow};
 use serde_json::Value;
 use std::alloc::{AllocError, Global};
 
-/// The step of a row: a reference that is looked up, `*` for a recursive one, or else a schema of 2020-12 that is entered.
-fn step_of(value: &Value) -> Step<'_> {
-    match value.as_str() {
-        Some("*") => Step::Recursive,
-        Some(reference) => Step::Lookup(reference),
-        None => Step::Enter(ResourceRef::new(value, Draft::Draft202012)),
-    }
-}
-
+/// The steps of a row: a reference that is looked up, `*` for a recursive one, or else a schema of 2020-12 that is entered.
 fn steps_of<'r>(alloc: Global, values: &'r [Value]) -> Result<Vec<Step<'r>>, AllocError> {
     let mut steps = Vec::new(alloc);
     for value in values {
-        steps.push(step_of(value))?;
+        let step = match value.as_str() {
+            Some("*") => Step::Recursive,
+            Some(reference) => Step::Lookup(reference),
+            None => Step::Enter(ResourceRef::new(value, Draft::Draft202012)),
+        };
+        steps.push(step)?;
     }
     Ok(steps)
 }
@@ -52,6 +50,22 @@ fn led_by_steps(
     }
 }
 
+/// One step by a call on a resolver: what it leads to, or for one that enters a schema what the step before led to.
+fn stepped<'r>(alloc: Global, from: Followed<'r>, step: &Step<'_>) -> Result<Followed<'r>, Error> {
+    let Followed { last, resolver } = from;
+    let found = match step {
+        Step::Lookup(reference) => resolver.lookup(alloc, reference)?,
+        Step::Recursive => resolver.lookup_recursive_ref(alloc)?,
+        Step::Enter(resource) => {
+            let resolver = resolver.in_subresource(alloc, *resource)?;
+            return Ok(Followed { last, resolver });
+        }
+    };
+    let (value, resolver, draft) = found.into_inner();
+    let last = Some((value, draft));
+    Ok(Followed { last, resolver })
+}
+
 /// The same by calls on resolvers, each on the one that the last call answered.
 fn led_by_calls(
     alloc: Global,
@@ -59,30 +73,21 @@ fn led_by_calls(
     base: &str,
     steps: &[Step<'_>],
 ) -> Result<String, Fault> {
-    let mut last = None;
-    let mut resolver = registry.resolver(alloc, from_str(alloc, base)?)?;
+    let resolver = registry.resolver(alloc, from_str(alloc, base)?)?;
+    let mut at = Followed {
+        last: None,
+        resolver,
+    };
     for (number, step) in steps.iter().enumerate() {
-        let found = match step {
-            Step::Lookup(reference) => resolver.lookup(alloc, reference),
-            Step::Recursive => resolver.lookup_recursive_ref(alloc),
-            Step::Enter(resource) => {
-                resolver = resolver.in_subresource(alloc, *resource)?;
-                continue;
-            }
-        };
-        match found {
-            Ok(found) => {
-                let (value, inner, draft) = found.into_inner();
-                last = Some((value, draft));
-                resolver = inner;
-            }
+        at = match stepped(alloc, at, step) {
+            Ok(next) => next,
             Err(error) => {
                 let text = text_of(alloc, error)?;
                 return Ok(format!(in alloc; "{number}: {text}")?);
             }
-        }
+        };
     }
-    Ok(shown(alloc, &Followed { last, resolver })?)
+    Ok(shown(alloc, &at)?)
 }
 
 /// An answer that is found in two ways, or both answers, where they differ.
@@ -111,23 +116,4 @@ pub fn led(
     let by_steps = led_by_steps(alloc, registry, base, steps.as_slice())?;
     let by_calls = led_by_calls(alloc, registry, base, steps.as_slice())?;
     Ok(agreed(alloc, by_steps, by_calls, ["by steps", "by calls"])?)
-}
-
-/// Of a row of a draft, documents, a base and steps.
-pub fn of_documents(alloc: Global, row: &Value) -> Result<String, Fault> {
-    let registry = registry(alloc, row::draft(row, 1)?, row, 2)?;
-    led(alloc, &registry, row, 3)
-}
-
-/// Of a row of documents, others that can be retrieved, a base and steps.
-pub fn of_retrieved(alloc: Global, row: &Value) -> Result<String, Fault> {
-    let registry = retrieving(alloc, None, row, 1)?;
-    led(alloc, &registry, row, 3)
-}
-
-/// Of a row of a parent's documents, its child's, a base and steps.
-pub fn of_children(alloc: Global, row: &Value) -> Result<String, Fault> {
-    let parent = registry(alloc, None, row, 1)?;
-    let child = child(alloc, &parent, row, 2)?;
-    led(alloc, &child, row, 3)
 }

@@ -5,6 +5,7 @@
 #![tactic(auto)]
 
 mod dangling;
+mod families;
 mod fault;
 mod inputs;
 mod lookups;
@@ -19,6 +20,7 @@ mod vocabularies;
 
 use crate::fault::Fault;
 use crate::tally::Tally;
+use referencing::Registry;
 use serde_json::Value;
 use std::alloc::{AllocError, Global};
 use std::io;
@@ -26,70 +28,66 @@ use std::io;
 /// What is found of a row.
 fn found(alloc: Global, given: &Value, table: &str, row: &Value) -> Result<String, Fault> {
     match table {
-        "lookups" | "faults" | "entered" | "anchors" | "pointers" | "odd parts" => {
-            lookups::of_documents(alloc, row)
+        "vocabularies" | "vocabularies by the parent" | "vocabularies at bases" => {
+            families::of_documents(alloc, given, table, row)
         }
-        "retrieved lookups" => lookups::of_retrieved(alloc, row),
-        "child lookups" => lookups::of_children(alloc, row),
-        "places" => places::listed(alloc, row),
+        "child lookups" | "children" | "generations" | "dangling below parents" => {
+            families::of_documents(alloc, row, table, row)
+        }
         "paths of places" => places::agreeing(alloc, row),
-        "paths" => places::located(alloc, row),
-        "values" => places::values(alloc, row),
-        "dangling" => dangling::of_documents(alloc, row),
-        "dangling below parents" => dangling::of_children(alloc, row),
-        _ => found_of_outcomes(alloc, given, table, row),
+        "texts by resolvers" => resources::resolved_by_resolvers(alloc, row),
+        "vocabularies passed on" => vocabularies::passed_on(alloc, row),
+        "builders" => inputs::added(alloc, row),
+        "kinds" | "kinds with titles" => inputs::of_kinds(alloc, row),
+        _ => found_of_outcomes(alloc, table, row),
     }
 }
 
 /// The same of the tables on whether documents are prepared.
-fn found_of_outcomes(
-    alloc: Global,
-    given: &Value,
-    table: &str,
-    row: &Value,
-) -> Result<String, Fault> {
+fn found_of_outcomes(alloc: Global, table: &str, row: &Value) -> Result<String, Fault> {
     match table {
         "outcomes" => outcomes::of_documents(alloc, row),
         "default outcomes" => outcomes::by_default(alloc, row),
         "meta-schemas" => outcomes::of_meta_schemas(alloc, row),
-        "children" => outcomes::of_children(alloc, row),
-        "generations" => outcomes::of_generations(alloc, row),
         "URIs of drafts" => outcomes::uris_of_drafts(alloc, row),
         "calls of a retriever" => retrieval::calls(alloc, row),
         "retrieved true" => retrieval::all_true(alloc, row),
         "chains" => retrieval::chained(alloc, row),
         "retrievers without memory" => retrieval::is_exhausted(alloc, row),
-        _ => found_of_resources(alloc, given, table, row),
+        _ => of_registry(alloc, table, row),
     }
 }
 
-/// The same of the tables on URIs, on what is added, and on vocabularies.
-fn found_of_resources(
+/// The same of the tables whose rows begin with a draft, documents, and what can be retrieved, or `null` where no retriever is given.
+fn of_registry(alloc: Global, table: &str, row: &Value) -> Result<String, Fault> {
+    let registry = registries::registry(alloc, row)?;
+    asked(alloc, &registry, table, row)
+}
+
+/// What is asked of their registry.
+fn asked(
     alloc: Global,
-    given: &Value,
+    registry: &Registry<'_>,
     table: &str,
     row: &Value,
 ) -> Result<String, Fault> {
     match table {
-        "resources" | "retrieved drafts" => resources::of_documents(alloc, row),
-        "texts" => resources::resolved(alloc, row),
-        "texts by resolvers" => resources::resolved_by_resolvers(alloc, row),
-        "copies" => resources::copies(alloc, row),
-        "builders" => inputs::added(alloc, row),
-        "kinds" | "kinds with titles" => inputs::of_kinds(alloc, row),
-        "vocabularies" => vocabularies::by_child(alloc, given, row),
-        "vocabularies by the parent" => vocabularies::by_parent(alloc, given, row),
-        "vocabularies at bases" => vocabularies::at_bases(alloc, given, row),
-        "vocabularies passed on" => vocabularies::passed_on(alloc, row),
+        "places" => places::listed(alloc, registry),
+        "paths" => places::located(alloc, registry, row),
+        "values" => places::value(alloc, registry, row),
+        "dangling" => dangling::entries(alloc, registry),
+        "resources" | "retrieved drafts" => resources::known_twice(alloc, registry, row),
+        "texts" => resources::resolved(alloc, registry, row),
+        "copies" => resources::copies(alloc, registry, row),
+        "lookups"
+        | "faults"
+        | "entered"
+        | "anchors"
+        | "pointers"
+        | "odd parts"
+        | "retrieved lookups" => lookups::led(alloc, registry, row, 4),
         _ => Err(Fault::Form("no such table")),
     }
-}
-
-/// The answer that a row expects, which is its last column.
-fn expected(row: &Value) -> Result<&str, Fault> {
-    let last = row.as_array().and_then(|columns| columns.last());
-    last.and_then(Value::as_str)
-        .ok_or(Fault::Form("the last column is no text"))
 }
 
 /// What is found of a row, where another answer is expected.
@@ -99,7 +97,7 @@ fn differing(
     table: &str,
     row: &Value,
 ) -> Result<Option<String>, Fault> {
-    let expected = expected(row)?;
+    let expected = row::last(row).ok_or(Fault::Form("the last column is no text"))?;
     let found = found(alloc, given, table, row)?;
     if found.as_str() == expected {
         return Ok(None);

@@ -1,6 +1,6 @@
 //! Whether documents are prepared, or why not.
 use crate::fault::Fault;
-use crate::registries::{builder, child, known, outcome, prepared, registry, text_of};
+use crate::registries::{builder, known, outcome, prepared, text_of};
 use crate::row;
 use referencing::Registry;
 use referencing::meta::{URIS, uris_for_draft};
@@ -9,10 +9,12 @@ use std::alloc::Global;
 
 /// Of a row of a draft, documents, what can be retrieved, and how many of it may be.
 pub fn of_documents(alloc: Global, row: &Value) -> Result<String, Fault> {
-    let builder = builder(alloc, row::draft(row, 1)?)
-        .retrieval_limit(row::number(row, 4)?)
-        .retriever(row::retriever(alloc, row, 3)?);
+    let (draft, limit) = (row::draft(row, 1)?, row::number(row, 4)?);
+    let retriever = row::retriever(alloc, row, 3)?;
     let documents = row::documents(alloc, row, 2)?;
+    let builder = builder(alloc, draft)
+        .retrieval_limit(limit)
+        .retriever(retriever);
     Ok(outcome(alloc, prepared(builder, documents))?)
 }
 
@@ -22,14 +24,18 @@ pub fn by_default(alloc: Global, row: &Value) -> Result<String, Fault> {
     Ok(outcome(alloc, prepared(Registry::new(alloc), documents))?)
 }
 
+/// Of a document above a registry: of its URI and itself, in the last columns but one.
+fn above(alloc: Global, registry: &Registry<'_>, row: &Value) -> Result<String, Fault> {
+    let (uri, document) = (row::text(row, 3)?, row::column(row, 4)?);
+    let builder = registry.add(alloc, uri, document)?;
+    Ok(outcome(alloc, builder.prepare())?)
+}
+
 /// Of a registry of one meta-schema and of a document above it: a row of the meta-schema's URI, itself, the document's URI and itself.
 pub fn of_meta_schemas(alloc: Global, row: &Value) -> Result<String, Fault> {
     let pairs = [(row::text(row, 1)?, row::column(row, 2)?)];
     match Registry::from_meta_schemas(alloc, &pairs) {
-        Ok(registry) => {
-            let builder = registry.add(alloc, row::text(row, 3)?, row::column(row, 4)?)?;
-            Ok(outcome(alloc, builder.prepare())?)
-        }
+        Ok(registry) => above(alloc, &registry, row),
         Err(error) => Ok(text_of(alloc, error)?),
     }
 }
@@ -45,27 +51,18 @@ pub fn uris_of_drafts(alloc: Global, row: &Value) -> Result<String, Fault> {
     Ok(format!(in alloc; "{count} {first}")?)
 }
 
-/// Of documents above a registry of others, and then which URIs that still knows by itself: of a row of the parent's documents, its
-/// child's, and the URIs.
-pub fn of_children(alloc: Global, row: &Value) -> Result<String, Fault> {
-    let parent = registry(alloc, None, row, 1)?;
-    let child = match parent.extend(alloc, row::documents(alloc, row, 2)?) {
-        Ok(builder) => outcome(alloc, builder.prepare())?,
-        Err(error) => text_of(alloc, error)?,
-    };
-    let still = known(alloc, &parent, row, 3)?;
-    Ok(format!(in alloc; "{child} {still}")?)
+/// Of a column's documents above a registry.
+fn of_documents_above(alloc: Global, parent: &Registry<'_>, row: &Value) -> Result<String, Fault> {
+    match parent.extend(alloc, row::documents(alloc, row, 2)?) {
+        Ok(builder) => Ok(outcome(alloc, builder.prepare())?),
+        Err(error) => Ok(text_of(alloc, error)?),
+    }
 }
 
-/// Which URIs are known to a registry, its child and the child's child: of a row of the documents of each, and the URIs.
-pub fn of_generations(alloc: Global, row: &Value) -> Result<String, Fault> {
-    let parent = registry(alloc, None, row, 1)?;
-    let child = child(alloc, &parent, row, 2)?;
-    let grandchild = crate::registries::child(alloc, &child, row, 3)?;
-    let mut marks = known(alloc, &parent, row, 4)?;
-    marks.push(' ')?;
-    marks.push_str(known(alloc, &child, row, 4)?.as_str())?;
-    marks.push(' ')?;
-    marks.push_str(known(alloc, &grandchild, row, 4)?.as_str())?;
-    Ok(marks)
+/// Of documents above a registry, and then which URIs that still knows by itself: of a row of the documents in its second column, and
+/// the URIs behind them.
+pub fn of_children(alloc: Global, parent: &Registry<'_>, row: &Value) -> Result<String, Fault> {
+    let child = of_documents_above(alloc, parent, row)?;
+    let still = known(alloc, parent, row, 3)?;
+    Ok(format!(in alloc; "{child} {still}")?)
 }

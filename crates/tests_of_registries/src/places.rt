@@ -1,9 +1,10 @@
 //! The places of own documents, where their paths lead, and values at paths.
 use crate::fault::Fault;
 use crate::lookups::agreed;
-use crate::registries::{builder, registry, retrieving, text_of};
+use crate::registries::{builder, text_of};
 use crate::row;
 use ref_draft::Draft;
+use ref_uri::Uri;
 use ref_uri::uri::from_str;
 use referencing::{JsonPointerSegment, Place, Registry, Resolved, parse_index, write_index};
 use serde_json::Value;
@@ -59,57 +60,49 @@ fn place_text(
 }
 
 /// The places of a registry.
-fn places_text(alloc: Global, registry: &Registry<'_>) -> Result<String, Fault> {
+pub fn listed(alloc: Global, registry: &Registry<'_>) -> Result<String, Fault> {
+    let places = registry.places(alloc)?;
     let mut text = String::new(alloc);
-    for place in registry.places(alloc)? {
-        let line = place_text(alloc, &place, place.base.as_str(), place.draft)?;
+    for place in places.as_slice() {
+        let line = place_text(alloc, place, place.base.as_str(), place.draft)?;
         text.push_str(line.as_str())?;
     }
     Ok(text)
 }
 
-/// Whether a value is the one that stands at a place.
-fn is_there(registry: &Registry<'_>, place: &Place<'_>, value: &Value) -> bool {
-    registry.value_at(place.document, place.path.as_slice()) == Some(value)
-}
-
-/// A place as its path leads to it from the root's base.
+/// A place as its path leads to it from a base.
 fn located_place(
     alloc: Global,
     registry: &Registry<'_>,
+    base: &Uri,
     place: &Place<'_>,
 ) -> Result<String, Fault> {
-    let base = from_str(alloc, "http://a/r")?;
     let path = place.path.as_slice();
-    let (value, resolver, draft) = registry.locate(alloc, &base, path)?.into_inner();
-    if !is_there(registry, place, value) {
+    let (value, resolver, draft) = registry.locate(alloc, base, path)?.into_inner();
+    if registry.value_at(place.document, path) != Some(value) {
         return Ok(String::from_str(alloc, "another value; ")?);
     }
     Ok(place_text(alloc, place, resolver.base_uri().as_str(), draft)?)
 }
 
-/// The places of a registry as their paths lead to them from the root's base.
+/// The places of a registry as their paths lead to them from `http://a/r`.
 fn located_places(alloc: Global, registry: &Registry<'_>) -> Result<String, Fault> {
+    let base = from_str(alloc, "http://a/r")?;
+    let places = registry.places(alloc)?;
     let mut text = String::new(alloc);
-    for place in registry.places(alloc)? {
-        let line = located_place(alloc, registry, &place)?;
+    for place in places.as_slice() {
+        let line = located_place(alloc, registry, &base, place)?;
         text.push_str(line.as_str())?;
     }
     Ok(text)
 }
 
-/// The places of a row's documents: a draft, the documents, and what can be retrieved.
-pub fn listed(alloc: Global, row: &Value) -> Result<String, Fault> {
-    let registry = retrieving(alloc, row::draft(row, 1)?, row, 2)?;
-    places_text(alloc, &registry)
-}
-
 /// The places of a document at `http://a/r`, which is lent, by a draft: as they are listed, and as their paths lead to them.
 pub fn agreeing(alloc: Global, row: &Value) -> Result<String, Fault> {
-    let builder = builder(alloc, row::draft(row, 1)?);
-    let builder = builder.add("http://a/r", row::column(row, 2)?)?;
+    let (draft, document) = (row::draft(row, 1)?, row::column(row, 2)?);
+    let builder = builder(alloc, draft).add("http://a/r", document)?;
     let registry = builder.prepare()?;
-    let listed = places_text(alloc, &registry)?;
+    let listed = listed(alloc, &registry)?;
     let located = located_places(alloc, &registry)?;
     Ok(agreed(alloc, listed, located, ["as listed", "as located"])?)
 }
@@ -122,22 +115,21 @@ fn shown(alloc: Global, found: Resolved<'_>) -> Result<String, AllocError> {
     format!(in alloc; "{value} {base} {draft:?}")
 }
 
-/// Where a path leads, or the text of the refusal: of a row of a draft, documents, a base and the path.
-pub fn located(alloc: Global, row: &Value) -> Result<String, Fault> {
-    let registry = registry(alloc, row::draft(row, 1)?, row, 2)?;
-    let base = from_str(alloc, row::text(row, 3)?)?;
-    let path = path_of(alloc, row::text(row, 4)?)?;
+/// Where a path leads, or the text of the refusal: of a base and the path in a row's columns behind those of the registry.
+pub fn located(alloc: Global, registry: &Registry<'_>, row: &Value) -> Result<String, Fault> {
+    let base = row::uri(alloc, row, 4)?;
+    let path = path_of(alloc, row::text(row, 5)?)?;
     match registry.locate(alloc, &base, path.as_slice()) {
         Ok(found) => Ok(shown(alloc, found)?),
         Err(error) => Ok(text_of(alloc, error)?),
     }
 }
 
-/// The value at a path, or `none`: of a row of documents, what can be retrieved, a document's number and the path.
-pub fn values(alloc: Global, row: &Value) -> Result<String, Fault> {
-    let registry = retrieving(alloc, None, row, 1)?;
-    let path = path_of(alloc, row::text(row, 4)?)?;
-    match registry.value_at(row::number(row, 3)?, path.as_slice()) {
+/// The value at a path, or `none`: of a document's number and the path.
+pub fn value(alloc: Global, registry: &Registry<'_>, row: &Value) -> Result<String, Fault> {
+    let number = row::number(row, 4)?;
+    let path = path_of(alloc, row::text(row, 5)?)?;
+    match registry.value_at(number, path.as_slice()) {
         Some(value) => Ok(value.to_string(alloc)?),
         None => Ok(String::from_str(alloc, "none")?),
     }

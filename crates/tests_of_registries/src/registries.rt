@@ -31,8 +31,8 @@ pub fn prepared<'a, R: Retrieve + Drop>(
     builder.extend(documents)?.prepare()
 }
 
-/// The registry of a column's documents, read by a draft, where one is set.
-pub fn registry(
+/// The registry of a column's documents, where nothing is retrieved.
+pub fn unretrieving(
     alloc: Global,
     draft: Option<Draft>,
     row: &Value,
@@ -40,6 +40,27 @@ pub fn registry(
 ) -> Result<Registry<'static>, Fault> {
     let documents = row::documents(alloc, row, number)?;
     Ok(prepared(builder(alloc, draft), documents)?)
+}
+
+/// The registry of a row's documents, where those of the next column can be retrieved.
+fn retrieving(
+    alloc: Global,
+    draft: Option<Draft>,
+    row: &Value,
+) -> Result<Registry<'static>, Fault> {
+    let retriever = row::retriever(alloc, row, 3)?;
+    let documents = row::documents(alloc, row, 2)?;
+    let builder = builder(alloc, draft).retriever(retriever);
+    Ok(prepared(builder, documents)?)
+}
+
+/// The registry of a row that begins with a draft, documents, and what can be retrieved, or `null` where no retriever is given.
+pub fn registry(alloc: Global, row: &Value) -> Result<Registry<'static>, Fault> {
+    let draft = row::draft(row, 1)?;
+    if row::column(row, 3)?.is_null() {
+        return unretrieving(alloc, draft, row, 2);
+    }
+    retrieving(alloc, draft, row)
 }
 
 /// The registry of a column's documents above another.
@@ -51,18 +72,6 @@ pub fn child<'b>(
 ) -> Result<Registry<'b>, Fault> {
     let documents = row::documents(alloc, row, number)?;
     Ok(parent.extend(alloc, documents)?.prepare()?)
-}
-
-/// The registry of a column's documents, where those of the next can be retrieved.
-pub fn retrieving(
-    alloc: Global,
-    draft: Option<Draft>,
-    row: &Value,
-    number: usize,
-) -> Result<Registry<'static>, Fault> {
-    let retriever = row::retriever(alloc, row, number.saturating_add(1))?;
-    let builder = builder(alloc, draft).retriever(retriever);
-    Ok(prepared(builder, row::documents(alloc, row, number)?)?)
 }
 
 /// The text of the refusal, or `prepared`.

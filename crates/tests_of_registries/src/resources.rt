@@ -1,7 +1,7 @@
 //! Which URIs mean places, and what texts mean against a base.
 use crate::fault::Fault;
 use crate::lookups::agreed;
-use crate::registries::{known, registry, retrieving, text_of};
+use crate::registries::{known, text_of};
 use crate::row;
 use ref_retrieve::Error;
 use ref_uri::uri::from_str;
@@ -11,11 +11,11 @@ use serde_json::Value;
 use std::alloc::{AllocError, Global};
 use std::rc::Rc;
 
-/// Which URIs mean places, by a registry and by its copy: of a row of a draft, documents, what can be retrieved, and the URIs.
-pub fn of_documents(alloc: Global, row: &Value) -> Result<String, Fault> {
-    let registry = retrieving(alloc, row::draft(row, 1)?, row, 2)?;
-    let first = known(alloc, &registry, row, 4)?;
-    let again = known(alloc, &registry.clone()?, row, 4)?;
+/// Which URIs mean places, by a registry and by its copy.
+pub fn known_twice(alloc: Global, registry: &Registry<'_>, row: &Value) -> Result<String, Fault> {
+    let copy = registry.clone()?;
+    let first = known(alloc, registry, row, 4)?;
+    let again = known(alloc, &copy, row, 4)?;
     Ok(agreed(alloc, first, again, ["at first", "by the copy"])?)
 }
 
@@ -35,27 +35,21 @@ fn meant(alloc: Global, resolved: Result<Rc<Uri>, Error>) -> Result<String, Allo
     }
 }
 
-/// What a text means against a base, with `+` in front where that was resolved before; or the text of the refusal: of a row of documents, a
-/// base and the text.
-pub fn resolved(alloc: Global, row: &Value) -> Result<String, Fault> {
-    let registry = registry(alloc, None, row, 1)?;
-    let (base, text) = (base_of(row, 2)?, row::text(row, 3)?);
-    let mut found = String::new(alloc);
-    if registry.resolved_uri(&base, text).is_some() {
-        found.push('+')?;
-    }
+/// What a text means against a base, with `+` in front where that was resolved before; or the text of the refusal.
+pub fn resolved(alloc: Global, registry: &Registry<'_>, row: &Value) -> Result<String, Fault> {
+    let (base, text) = (base_of(row, 4)?, row::text(row, 5)?);
+    let is_held = registry.resolved_uri(&base, text).is_some();
     let uri = meant(alloc, registry.resolve_uri(alloc, base, text))?;
-    found.push_str(uri.as_str())?;
-    Ok(found)
+    Ok(format!(in alloc; "{}{uri}", if is_held { "+" } else { "" })?)
 }
 
 /// The same by a registry without documents and by a resolver, whose own base is another: of a row of a base and the text.
 pub fn resolved_by_resolvers(alloc: Global, row: &Value) -> Result<String, Fault> {
+    let (base, again, text) = (base_of(row, 1)?, base_of(row, 1)?, row::text(row, 2)?);
     let registry = Registry::new(alloc).prepare()?;
     let resolver = registry.resolver(alloc, from_str(alloc, "http://o/")?)?;
-    let text = row::text(row, 2)?;
-    let first = meant(alloc, registry.resolve_uri(alloc, base_of(row, 1)?, text))?;
-    let other = meant(alloc, resolver.resolve_uri(alloc, base_of(row, 1)?, text))?;
+    let first = meant(alloc, registry.resolve_uri(alloc, base, text))?;
+    let other = meant(alloc, resolver.resolve_uri(alloc, again, text))?;
     Ok(agreed(alloc, first, other, ["at first", "by the resolver"])?)
 }
 
@@ -68,9 +62,9 @@ fn copied(alloc: Global, resolver: &Resolver<'_>, reference: &str) -> Result<Str
     Ok(format!(in alloc; "{copy:?} {inner:?} {copied} {moved}")?)
 }
 
-/// Of a row of documents, a base and a reference.
-pub fn copies(alloc: Global, row: &Value) -> Result<String, Fault> {
-    let registry = registry(alloc, None, row, 1)?;
-    let resolver = registry.resolver(alloc, from_str(alloc, row::text(row, 2)?)?)?;
-    copied(alloc, &resolver, row::text(row, 3)?)
+/// Of the resolver at a base, and of a reference.
+pub fn copies(alloc: Global, registry: &Registry<'_>, row: &Value) -> Result<String, Fault> {
+    let reference = row::text(row, 5)?;
+    let resolver = registry.resolver(alloc, row::uri(alloc, row, 4)?)?;
+    copied(alloc, &resolver, reference)
 }

@@ -2,6 +2,7 @@
 use crate::fault::Fault;
 use ref_draft::Draft;
 use ref_retrieve::MapRetriever;
+use ref_uri::Uri;
 use ref_uri::uri::from_str;
 use serde_json::Value;
 use std::alloc::Global;
@@ -11,11 +12,26 @@ pub fn column(row: &Value, number: usize) -> Result<&Value, Fault> {
     row.get(number).ok_or(Fault::Form("a column is missing"))
 }
 
+/// The last column, which is a text.
+pub fn last(row: &Value) -> Option<&str> {
+    row.as_array()?.last()?.as_str()
+}
+
+/// The text under a name.
+pub fn text_under<'v>(value: &'v Value, name: &str) -> Option<&'v str> {
+    value.get(name)?.as_str()
+}
+
 /// A column that is a text.
 pub fn text(row: &Value, number: usize) -> Result<&str, Fault> {
     column(row, number)?
         .as_str()
         .ok_or(Fault::Form("a column is no text"))
+}
+
+/// A column that is a URI.
+pub fn uri(alloc: Global, row: &Value, number: usize) -> Result<Uri, Fault> {
+    Ok(from_str(alloc, text(row, number)?)?)
 }
 
 /// A column that is a list.
@@ -37,20 +53,14 @@ pub fn number(row: &Value, number: usize) -> Result<usize, Fault> {
 /// A column that names a draft, or `null` where none is set.
 pub fn draft(row: &Value, number: usize) -> Result<Option<Draft>, Fault> {
     match column(row, number)?.as_str() {
-        Some(name) => Ok(Some(draft_named(name)?)),
+        Some("4") => Ok(Some(Draft::Draft4)),
+        Some("6") => Ok(Some(Draft::Draft6)),
+        Some("7") => Ok(Some(Draft::Draft7)),
+        Some("2019-09") => Ok(Some(Draft::Draft201909)),
+        Some("2020-12") => Ok(Some(Draft::Draft202012)),
+        Some("unknown") => Ok(Some(Draft::Unknown)),
+        Some(_) => Err(Fault::Form("no such draft")),
         None => Ok(None),
-    }
-}
-
-fn draft_named(name: &str) -> Result<Draft, Fault> {
-    match name {
-        "4" => Ok(Draft::Draft4),
-        "6" => Ok(Draft::Draft6),
-        "7" => Ok(Draft::Draft7),
-        "2019-09" => Ok(Draft::Draft201909),
-        "2020-12" => Ok(Draft::Draft202012),
-        "unknown" => Ok(Draft::Unknown),
-        _ => Err(Fault::Form("no such draft")),
     }
 }
 
@@ -68,7 +78,7 @@ pub fn documents(alloc: Global, row: &Value, number: usize) -> Result<Vec<(Strin
 pub fn retriever(alloc: Global, row: &Value, number: usize) -> Result<MapRetriever, Fault> {
     let mut documents = Vec::new(alloc);
     for pair in list(row, number)? {
-        let uri = from_str(alloc, text(pair, 0)?)?;
+        let uri = uri(alloc, pair, 0)?;
         documents.push((uri, column(pair, 1)?.clone()?))?;
     }
     Ok(MapRetriever::from_pairs(alloc, documents)?)

@@ -1,9 +1,7 @@
 //! The vocabularies of schemas, by the meta-schemas that a registry and its parents have.
 use crate::fault::Fault;
-use crate::registries::{child, registry};
 use crate::row;
 use ref_draft::Draft;
-use ref_uri::uri::from_str;
 use referencing::{Registry, Vocabulary, vocabularies};
 use serde_json::Value;
 use std::alloc::Global;
@@ -13,31 +11,17 @@ fn draft(row: &Value, number: usize) -> Result<Draft, Fault> {
     row::draft(row, number)?.ok_or(Fault::Form("no draft"))
 }
 
-/// The vocabularies of a row's schema with its draft.
-fn declared(alloc: Global, registry: &Registry<'_>, row: &Value) -> Result<String, Fault> {
+/// The vocabularies of a row's schema with its draft, by a registry: of a row of a draft and a schema.
+pub fn declared(alloc: Global, registry: &Registry<'_>, row: &Value) -> Result<String, Fault> {
     let set = registry.find_vocabularies(alloc, draft(row, 1)?, row::column(row, 2)?)?;
     Ok(format!(in alloc; "{set:?}")?)
 }
 
-/// By a child of two registries that are given: of a row of a draft and a schema.
-pub fn by_child(alloc: Global, given: &Value, row: &Value) -> Result<String, Fault> {
-    let parent = registry(alloc, None, given, 1)?;
-    let child = child(alloc, &parent, given, 2)?;
-    declared(alloc, &child, row)
-}
-
-/// By their parent.
-pub fn by_parent(alloc: Global, given: &Value, row: &Value) -> Result<String, Fault> {
-    let parent = registry(alloc, None, given, 1)?;
-    declared(alloc, &parent, row)
-}
-
-/// By the child's resolver at a base: of a row of a draft, the base and a schema.
-pub fn at_bases(alloc: Global, given: &Value, row: &Value) -> Result<String, Fault> {
-    let parent = registry(alloc, None, given, 1)?;
-    let child = child(alloc, &parent, given, 2)?;
-    let resolver = child.resolver(alloc, from_str(alloc, row::text(row, 2)?)?)?;
-    let set = resolver.find_vocabularies(alloc, draft(row, 1)?, row::column(row, 3)?)?;
+/// By its resolver at a base: of a row of a draft, the base and a schema.
+pub fn at_bases(alloc: Global, registry: &Registry<'_>, row: &Value) -> Result<String, Fault> {
+    let (draft, schema) = (draft(row, 1)?, row::column(row, 3)?);
+    let resolver = registry.resolver(alloc, row::uri(alloc, row, 2)?)?;
+    let set = resolver.find_vocabularies(alloc, draft, schema)?;
     Ok(format!(in alloc; "{set:?}")?)
 }
 
