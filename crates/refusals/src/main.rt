@@ -1,5 +1,5 @@
-//! Public calls of the crates below registries, each on values of its own: reads their names from standard input, a line each, and
-//! prints what each call answers.
+//! Public calls of the libraries, each on values of its own: reads their names from standard input, a line each, and prints what each
+//! call answers.
 //!
 //! `scripts/refusals` runs this for each name and each request for memory, with that request refused. Where the call wants memory,
 //! it is made again, and behind it other calls on the same values. The exit status is 0 where every call has its answer, 3 where one
@@ -7,27 +7,28 @@
 //! had answered, and 1 where there is no call of a name, or something is not as it was.
 #![tactic(auto)]
 
-mod drafts;
-mod lists;
-mod maps;
-mod texts;
-mod uris;
-mod vocabularies;
+mod builders;
+mod documents;
+mod kinds;
+mod registries;
+mod reports;
+mod resolvers;
+mod retrievers;
 
-use refusal_harness::{Stop, Trial};
+use refused_calls::{Stop, Trial};
 use std::alloc::Global;
 use std::process::ExitCode;
 
 /// What the row of a name prints.
 fn row(alloc: Global, name: &str) -> Result<Trial, Stop> {
     match name.split_once(' ') {
-        Some(("uris", call)) => uris::row(alloc, call),
-        Some(("lists", call)) => lists::row(alloc, call),
-        Some(("maps", call)) => maps::row(alloc, call),
-        Some(("texts", call)) => texts::row(alloc, call),
-        Some(("drafts", call)) => drafts::row(alloc, call),
-        Some(("vocabularies", call)) => vocabularies::row(alloc, call),
-        _ => Err(Stop::Wrong),
+        Some(("builders", call)) => builders::row(alloc, call),
+        Some(("registries", call)) => registries::row(alloc, call),
+        Some(("retrievers", call)) => retrievers::row(alloc, call),
+        Some(("kinds", call)) => kinds::row(alloc, call),
+        Some(("reports", call)) => reports::row(alloc, call),
+        Some((group, call)) => refused_calls::row(alloc, group, call),
+        None => Err(Stop::Wrong),
     }
 }
 

@@ -1,6 +1,7 @@
 //! Calls of pointer text and of buffers of `ref_parts`.
+use crate::stop::{Stop, after, before, refused};
+use crate::trial::{Calls, Trial, tried};
 use ref_parts::{EncodedBuffer, pointer, unescape_segment, write_escaped_str, write_index};
-use refusal_harness::{Calls, Stop, Trial, after, before, refused, tried};
 use serde_json::Value;
 use std::alloc::Global;
 

@@ -6,7 +6,7 @@ use ref_lint::{Dangling, dangling};
 use ref_retrieve::Error;
 use ref_uri::Uri;
 use referencing::{Draft, JsonPointerSegment, Registry, Resolver};
-use refusal_harness::{Calls, Stop, Trial, after, before, fault, refused, tried};
+use refused_calls::{Calls, Stop, Trial, after, before, fault, refused, tried};
 use std::alloc::{AllocError, Global};
 use std::rc::Rc;
 

@@ -1,7 +1,7 @@
 //! Runs of requests into a sink whose room was reserved before.
 use ref_report::run::{RunError, run};
 use ref_report::{MemorySink, MemorySource, Status};
-use refusal_harness::{Calls, Stop, Trial, after, before, refused, tried};
+use refused_calls::{Calls, Stop, Trial, after, before, refused, tried};
 use std::alloc::{AllocError, Global};
 use std::str;
 

@@ -5,7 +5,7 @@ use ref_retrieve::Error;
 use ref_uri::Uri;
 use ref_vocabularies::VocabularySet;
 use referencing::{Draft, FollowError, Registry, Resolved, Resolver, ResourceRef, Step, follow};
-use refusal_harness::{Refusal, Stop, after, fault, refused};
+use refused_calls::{Refusal, Stop, after, fault, refused};
 use std::alloc::{AllocError, Global};
 
 /// What a call of a resolver answers.

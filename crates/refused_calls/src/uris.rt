@@ -1,7 +1,8 @@
 //! Calls of `ref_uri`.
+use crate::stop::{Refusal, Stop, after, before, fault, refused};
+use crate::trial::{Calls, Trial, tried};
 use ref_uri::uri::{from_str, resolve_against};
 use ref_uri::{Uri, UriRef};
-use refusal_harness::{Calls, Refusal, Stop, Trial, after, before, fault, refused, tried};
 use std::alloc::Global;
 use std::fmt;
 

@@ -5,7 +5,7 @@ use ref_draft::{Draft, Resource, ResourceRef};
 use ref_retrieve::Error;
 use ref_uri::uri::from_str;
 use referencing::{IntoRegistryResource, Registry};
-use refusal_harness::{Calls, Stop, Trial, after, fault, tried};
+use refused_calls::{Calls, Stop, Trial, after, fault, tried};
 use serde_json::Value;
 use std::alloc::{AllocError, Global};
 use std::rc::Rc;

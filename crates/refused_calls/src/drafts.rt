@@ -1,7 +1,8 @@
 //! Calls of `ref_draft`.
+use crate::stop::{Stop, after, before, refused};
+use crate::trial::{Calls, Trial, tried};
 use ref_draft::{Child, Draft, Resource, Segment, Segments};
 use ref_parts::path::JsonPointerSegment;
-use refusal_harness::{Calls, Stop, Trial, after, before, refused, tried};
 use serde_json::Value;
 use std::alloc::{AllocError, Global};
 use std::borrow::CowStr;

@@ -2,7 +2,7 @@
 use crate::documents::{pairs, retriever, title_of, uri};
 use ref_retrieve::{DefaultRetriever, MapRetriever, Retrieve};
 use ref_uri::Uri;
-use refusal_harness::{Calls, Stop, Trial, after, fault, refused, tried};
+use refused_calls::{Calls, Stop, Trial, after, fault, refused, tried};
 use std::alloc::Global;
 
 /// A retriever of one document, its URI, and another.

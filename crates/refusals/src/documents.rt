@@ -2,7 +2,7 @@
 use ref_retrieve::MapRetriever;
 use ref_uri::Uri;
 use ref_uri::uri::from_str;
-use refusal_harness::{Stop, before};
+use refused_calls::{Stop, before};
 use serde_json::Value;
 use std::alloc::{AllocError, Global};
 

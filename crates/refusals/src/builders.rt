@@ -2,7 +2,7 @@
 use crate::documents::{DOCUMENT, META, retriever, title_of, uri, value};
 use ref_retrieve::{Error, Retrieve};
 use referencing::{AnswerError, Draft, Registry, RegistryBuilder, Step};
-use refusal_harness::{Calls, Stop, Trial, after, before, fault, refused, tried};
+use refused_calls::{Calls, Stop, Trial, after, before, fault, refused, tried};
 use serde_json::Value;
 use std::alloc::{AllocError, Global};
 

@@ -1,10 +1,11 @@
 //! Calls of vocabularies.
+use crate::stop::{Stop, after, before, fault, refused};
+use crate::trial::{Calls, Trial, tried};
 use ref_draft::Draft;
 use ref_retrieve::Error;
 use ref_vocabularies::{
     Dialect, Vocabulary, VocabularySet, declared_or_default, default_vocabularies, find,
 };
-use refusal_harness::{Calls, Stop, Trial, after, before, fault, refused, tried};
 use serde_json::Value;
 use std::alloc::{AllocError, Global};
 

@@ -1,7 +1,8 @@
 //! Calls of maps and tables of `ref_parts`.
+use crate::stop::{Stop, after, refused};
+use crate::trial::{Calls, Trial, tried};
 use ref_parts::small_map::SmallMap;
 use ref_parts::table::SortedTable;
-use refusal_harness::{Calls, Stop, Trial, after, refused, tried};
 use std::alloc::{AllocError, Global};
 
 /// A map of two pairs, as many as stand in it without memory, and one of three.

@@ -1,7 +1,8 @@
 //! Calls of lists and paths of `ref_parts`.
+use crate::stop::{Stop, after, before, refused};
+use crate::trial::{Calls, Trial, tried};
 use ref_parts::list::List;
 use ref_parts::path::{JsonPointerNode, JsonPointerSegment};
-use refusal_harness::{Calls, Stop, Trial, after, before, refused, tried};
 use std::alloc::{AllocError, Global};
 use std::borrow::CowStr;
 use std::rc::Rc;
