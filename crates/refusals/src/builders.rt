@@ -1,8 +1,8 @@
 //! Calls of builders above a registry.
-use crate::documents::{DOCUMENT, META, retriever, title_of, uri, value};
-use ref_retrieve::{Error, Retrieve};
-use referencing::{AnswerError, Draft, Registry, RegistryBuilder, Step};
-use refused_calls::{Calls, Stop, Trial, after, before, fault, refused, tried};
+use crate::documents::{DOCUMENT, META, builder_of, retrieving, title_of, uri, value};
+use ref_retrieve::{Error, MapRetriever};
+use referencing::{Answer, AnswerError, Draft, Registry, RegistryBuilder, Step};
+use refused_calls::{Calls, Refusal, Stop, Trial, after, fault, refused, tried};
 use serde_json::Value;
 use std::alloc::{AllocError, Global};
 
@@ -17,11 +17,14 @@ struct Builders<'p, 'a> {
 pub fn row(alloc: Global, call: &str) -> Result<Trial, Stop> {
     let meta = value(alloc, META)?;
     let pairs = [("http://a/m", &meta)];
-    let parent = before(Registry::from_meta_schemas(alloc, &pairs))?;
-    let mut builders = Builders {
-        parent: &parent,
-        builder: builder(alloc, &parent)?,
-    };
+    let parent = Registry::from_meta_schemas(alloc, &pairs)?;
+    row_above(alloc, &parent, call)
+}
+
+/// The row of a call above a registry.
+fn row_above(alloc: Global, parent: &Registry<'_>, call: &str) -> Result<Trial, Stop> {
+    let builder = builder(alloc, parent)?;
+    let mut builders = Builders { parent, builder };
     tried(
         alloc,
         &mut builders,
@@ -47,7 +50,7 @@ impl Calls for Builders<'_, '_> {
 
 /// A builder with a document above a registry.
 fn builder<'b>(alloc: Global, parent: &'b Registry<'_>) -> Result<RegistryBuilder<'b>, Stop> {
-    before(parent.add(alloc, "http://a/r", Value::Null))
+    Ok(parent.add(alloc, "http://a/r", Value::Null)?)
 }
 
 fn pair() -> [(&'static str, Value); 1] {
@@ -107,12 +110,12 @@ pub fn marks(alloc: Global, registry: &Registry<'_>) -> Result<String, AllocErro
 }
 
 /// Which URIs are known once a builder is prepared, which only want of memory may refuse.
-fn outcome<R: Retrieve + Drop>(
-    alloc: Global,
-    builder: RegistryBuilder<'_, R>,
-) -> Result<String, Stop> {
-    let registry = after(builder.prepare())?;
-    after(marks(alloc, &registry))
+fn outcome(alloc: Global, builder: RegistryBuilder<'_>) -> Result<String, Stop> {
+    match builder.prepare() {
+        Ok(registry) => after(marks(alloc, &registry)),
+        Err(error) if error.is_memory() => Err(Stop::After),
+        Err(_) => Err(Stop::Wrong),
+    }
 }
 
 fn ready(alloc: Global, built: Result<RegistryBuilder<'_>, Error>) -> Result<String, Stop> {
@@ -147,7 +150,7 @@ fn declared(alloc: Global, registry: &Registry<'_>) -> Result<String, Stop> {
 
 /// The title of the meta-schema.
 fn looked_up(alloc: Global, registry: &Registry<'_>) -> Result<String, Stop> {
-    let resolver = before(registry.resolver(alloc, uri(alloc, "http://a/r")?))?;
+    let resolver = registry.resolver(alloc, uri(alloc, "http://a/r")?)?;
     match resolver.lookup(alloc, "m") {
         Ok(found) => after(String::from_str(alloc, title_of(found.contents()))),
         Err(error) => fault(alloc, &error),
@@ -156,39 +159,55 @@ fn looked_up(alloc: Global, registry: &Registry<'_>) -> Result<String, Stop> {
 
 fn prepared(alloc: Global, parent: &Registry<'_>, call: &str) -> Result<String, Stop> {
     let document = value(alloc, DOCUMENT)?;
-    let builder = before(parent.add(alloc, "http://a/r", &document))?;
     match call {
-        "prepare" => made(alloc, builder.retriever(retriever(alloc)?).prepare()),
-        "prepare without a retriever" => made(alloc, builder.prepare()),
-        "prepare without the document" => {
-            let builder = before(builder.add("http://a/z", value(alloc, r#"{"$ref":"w"}"#)?))?;
-            made(alloc, builder.retriever(retriever(alloc)?).prepare())
+        "prepare without a retriever" => {
+            made(alloc, builder_of(alloc, parent, &document)?.prepare())
         }
-        "prepare to the limit" => {
-            let builder = builder.retriever(retriever(alloc)?).retrieval_limit(0);
-            made(alloc, builder.prepare())
-        }
-        "prepare_and_follow" => answered(alloc, builder.retriever(retriever(alloc)?)),
+        "prepare without the document" => prepared_without(alloc, parent, &document),
+        _ => prepared_by(alloc, retrieving(alloc, parent, &document)?, call),
+    }
+}
+
+/// A reference to a document that nothing has.
+fn prepared_without(
+    alloc: Global,
+    parent: &Registry<'_>,
+    document: &Value,
+) -> Result<String, Stop> {
+    let reference = value(alloc, r#"{"$ref":"w"}"#)?;
+    let builder = retrieving(alloc, parent, document)?.add("http://a/z", reference);
+    made(alloc, builder?.prepare())
+}
+
+fn prepared_by(
+    alloc: Global,
+    builder: RegistryBuilder<'_, MapRetriever>,
+    call: &str,
+) -> Result<String, Stop> {
+    match call {
+        "prepare" => made(alloc, builder.prepare()),
+        "prepare to the limit" => made(alloc, builder.retrieval_limit(0).prepare()),
+        "prepare_and_follow" => answered(alloc, builder),
         _ => Err(Stop::Wrong),
     }
 }
 
-fn answered<R: Retrieve + Drop>(
-    alloc: Global,
-    builder: RegistryBuilder<'_, R>,
-) -> Result<String, Stop> {
+fn answered(alloc: Global, builder: RegistryBuilder<'_, MapRetriever>) -> Result<String, Stop> {
     let base = uri(alloc, "http://a/r")?;
     match builder.prepare_and_follow(base, &[Step::Lookup("x"), Step::Lookup("y")]) {
-        Ok(answer) => {
-            let title = match &answer.last {
-                Some((value, _)) => title_of(value),
-                None => "none",
-            };
-            let base = answer.base.as_str();
-            after(format!(in alloc; "{title} {base}"))
-        }
+        Ok(answer) => after(told(alloc, &answer)),
         Err(AnswerError::Prepare(error)) => Err(refused(&error, true)),
         Err(AnswerError::Follow(error)) => Err(refused(&error.error, true)),
         Err(AnswerError::Memory(error)) => Err(refused(&error, true)),
     }
+}
+
+/// The title of the last value, and the base there.
+fn told(alloc: Global, answer: &Answer) -> Result<String, AllocError> {
+    let title = match &answer.last {
+        Some((value, _)) => title_of(value),
+        None => "none",
+    };
+    let base = answer.base.as_str();
+    format!(in alloc; "{title} {base}")
 }

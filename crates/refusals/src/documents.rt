@@ -2,7 +2,8 @@
 use ref_retrieve::MapRetriever;
 use ref_uri::Uri;
 use ref_uri::uri::from_str;
-use refused_calls::{Stop, before};
+use referencing::{Registry, RegistryBuilder};
+use refused_calls::Stop;
 use serde_json::Value;
 use std::alloc::{AllocError, Global};
 
@@ -21,30 +22,49 @@ pub const SUBRESOURCE: &str = r#"{"$id":"s","$schema":"http://a/m"}"#;
 
 /// A value that is made before the call.
 pub fn value(alloc: Global, text: &str) -> Result<Value, Stop> {
-    before(Value::from_str(alloc, text))
+    Ok(Value::from_str(alloc, text)?)
 }
 
 /// A URI that is made before the call.
 pub fn uri(alloc: Global, text: &str) -> Result<Uri, Stop> {
-    before(from_str(alloc, text))
+    Ok(from_str(alloc, text)?)
 }
 
-/// One item in a list.
-fn list_of<T: Drop>(alloc: Global, item: T) -> Result<Vec<T>, AllocError> {
+/// One pair in a list.
+fn list_of(alloc: Global, pair: (Uri, Value)) -> Result<Vec<(Uri, Value)>, AllocError> {
     let mut list = Vec::new(alloc);
-    list.push(item)?;
+    list.push(pair)?;
     Ok(list)
 }
 
 /// The pairs of what can be retrieved.
 pub fn pairs(alloc: Global) -> Result<Vec<(Uri, Value)>, Stop> {
     let pair = (uri(alloc, "http://a/y")?, value(alloc, RETRIEVED)?);
-    before(list_of(alloc, pair))
+    Ok(list_of(alloc, pair)?)
 }
 
 /// What can be retrieved.
 pub fn retriever(alloc: Global) -> Result<MapRetriever, Stop> {
-    before(MapRetriever::from_pairs(alloc, pairs(alloc)?))
+    Ok(MapRetriever::from_pairs(alloc, pairs(alloc)?)?)
+}
+
+/// A builder of a document above a registry.
+pub fn builder_of<'b>(
+    alloc: Global,
+    parent: &'b Registry<'_>,
+    document: &'b Value,
+) -> Result<RegistryBuilder<'b>, Stop> {
+    Ok(parent.add(alloc, "http://a/r", document)?)
+}
+
+/// The same, by which documents are retrieved.
+pub fn retrieving<'b>(
+    alloc: Global,
+    parent: &'b Registry<'_>,
+    document: &'b Value,
+) -> Result<RegistryBuilder<'b, MapRetriever>, Stop> {
+    let map = retriever(alloc)?;
+    Ok(builder_of(alloc, parent, document)?.retriever(map))
 }
 
 /// The title of a value, or itself where it is a text.

@@ -44,9 +44,22 @@ fn document_of(alloc: Global, size: usize) -> Result<String, AllocError> {
     Ok(text)
 }
 
+/// Adds a document, and prepares it.
+fn prepared<'a, T: IntoRegistryResource<'a>>(
+    alloc: Global,
+    document: T,
+) -> Result<Registry<'a>, Error> {
+    Registry::new(alloc).add("http://a/r", document)?.prepare()
+}
+
 /// Adds a document, prepares it, and looks its list up: how many items that has.
 fn found<'a, T: IntoRegistryResource<'a>>(alloc: Global, document: T) -> Result<usize, Error> {
-    let registry = Registry::new(alloc).add("http://a/r", document)?.prepare()?;
+    let registry = prepared(alloc, document)?;
+    found_in(alloc, &registry)
+}
+
+/// How many items the list of a document has, once it is looked up.
+fn found_in(alloc: Global, registry: &Registry<'_>) -> Result<usize, Error> {
     let resolver = registry.resolver(alloc, from_str(alloc, "http://a/r")?)?;
     let found = resolver.lookup(alloc, "#/const")?;
     match found.contents().as_array() {

@@ -1,12 +1,12 @@
 //! Calls of a registry of a document and of one that was retrieved, above one of a meta-schema; and of resolvers in it.
 use crate::builders::{known, marks};
-use crate::documents::{DOCUMENT, META, SUBRESOURCE, retriever, uri, value};
-use crate::resolvers::{found, resolver, set, steps};
+use crate::documents::{DOCUMENT, META, SUBRESOURCE, retrieving, uri, value};
+use crate::resolvers::{found, resolver, steps};
 use ref_lint::{Dangling, dangling};
 use ref_retrieve::Error;
 use ref_uri::Uri;
 use referencing::{Draft, JsonPointerSegment, Registry, Resolver};
-use refused_calls::{Calls, Stop, Trial, after, before, fault, refused, tried};
+use refused_calls::{Calls, Stop, Trial, after, fault, refused, shown_set, tried};
 use std::alloc::{AllocError, Global};
 use std::rc::Rc;
 
@@ -58,16 +58,20 @@ const NEIGHBOURS: [&str; 32] = [
 pub fn row(alloc: Global, call: &str) -> Result<Trial, Stop> {
     let meta = value(alloc, META)?;
     let pairs = [("http://a/m", &meta)];
-    let parent = before(Registry::from_meta_schemas(alloc, &pairs))?;
+    let parent = Registry::from_meta_schemas(alloc, &pairs)?;
+    row_above(alloc, &parent, call)
+}
+
+/// The row of a call above a registry.
+fn row_above(alloc: Global, parent: &Registry<'_>, call: &str) -> Result<Trial, Stop> {
     let document = value(alloc, DOCUMENT)?;
-    let builder = before(parent.add(alloc, "http://a/r", &document))?;
-    let registry = before(builder.retriever(retriever(alloc)?).prepare())?;
+    let registry = retrieving(alloc, parent, &document)?.prepare()?;
     among(alloc, &registry, call)
 }
 
 fn among(alloc: Global, registry: &Registry<'_>, call: &str) -> Result<Trial, Stop> {
-    let outer = before(registry.resolver(alloc, uri(alloc, "http://a/r")?))?;
-    let (_, inner, _) = before(outer.lookup(alloc, "x"))?.into_inner();
+    let outer = registry.resolver(alloc, uri(alloc, "http://a/r")?)?;
+    let (_, inner, _) = outer.lookup(alloc, "x")?.into_inner();
     let mut scene = Scene {
         registry,
         outer,
@@ -103,7 +107,7 @@ fn registry(alloc: Global, registry: &Registry<'_>, call: &str) -> Result<String
         "dangling" => leading_nowhere(alloc, registry),
         "find_vocabularies" => {
             let schema = value(alloc, SUBRESOURCE)?;
-            set(
+            shown_set(
                 alloc,
                 registry.find_vocabularies(alloc, Draft::Unknown, &schema),
             )
@@ -114,7 +118,8 @@ fn registry(alloc: Global, registry: &Registry<'_>, call: &str) -> Result<String
 
 fn contained(alloc: Global, registry: &Registry<'_>, uri: &str) -> Result<String, Stop> {
     match registry.contains_resource(alloc, uri) {
-        Ok(is_contained) => after(format!(in alloc; "{is_contained}")),
+        Ok(true) => after(String::from_str(alloc, "true")),
+        Ok(false) => after(String::from_str(alloc, "false")),
         Err(error) => Err(refused(&error, true)),
     }
 }

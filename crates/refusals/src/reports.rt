@@ -1,7 +1,7 @@
 //! Runs of requests into a sink whose room was reserved before.
 use ref_report::run::{RunError, run};
 use ref_report::{MemorySink, MemorySource, Status};
-use refused_calls::{Calls, Stop, Trial, after, before, refused, tried};
+use refused_calls::{Calls, Stop, Trial, after, refused, tried};
 use std::alloc::{AllocError, Global};
 use std::str;
 
@@ -24,7 +24,7 @@ struct Reports {
 
 /// The row of a call.
 pub fn row(alloc: Global, call: &str) -> Result<Trial, Stop> {
-    let bytes = before(Vec::with_capacity(alloc, 400))?;
+    let bytes = Vec::with_capacity(alloc, 400)?;
     let mut reports = Reports {
         sink: MemorySink { bytes, failures: 0 },
     };

@@ -3,9 +3,8 @@ use crate::documents::{SUBRESOURCE, title_of, uri, value};
 use crate::registries::resolved;
 use ref_retrieve::Error;
 use ref_uri::Uri;
-use ref_vocabularies::VocabularySet;
 use referencing::{Draft, FollowError, Registry, Resolved, Resolver, ResourceRef, Step, follow};
-use refused_calls::{Refusal, Stop, after, fault, refused};
+use refused_calls::{Refusal, Stop, after, fault, refused, shown_set};
 use std::alloc::{AllocError, Global};
 
 /// What a call of a resolver answers.
@@ -22,7 +21,7 @@ pub fn resolver(alloc: Global, resolver: &Resolver<'_>, call: &str) -> Result<St
         "clone" => shown(alloc, resolver.clone()),
         "find_vocabularies" => {
             let schema = value(alloc, SUBRESOURCE)?;
-            set(
+            shown_set(
                 alloc,
                 resolver.find_vocabularies(alloc, Draft::Unknown, &schema),
             )
@@ -37,14 +36,17 @@ fn at(alloc: Global, resolver: &Resolver<'_>, text: &str) -> Result<String, Stop
     resolved(alloc, resolver.resolve_uri(alloc, base.borrow(), text))
 }
 
+/// The title of what was found with the resolver there.
+fn place(alloc: Global, found: &Resolved<'_>) -> Result<String, AllocError> {
+    let title = title_of(found.contents());
+    let resolver = found.resolver();
+    format!(in alloc; "{title} {resolver:?}")
+}
+
 /// The title of what was looked up with the resolver there, or the fault.
 pub fn found(alloc: Global, looked_up: Result<Resolved<'_>, Error>) -> Result<String, Stop> {
     match looked_up {
-        Ok(found) => {
-            let title = title_of(found.contents());
-            let resolver = found.resolver();
-            after(format!(in alloc; "{title} {resolver:?}"))
-        }
+        Ok(found) => after(place(alloc, &found)),
         Err(error) => fault(alloc, &error),
     }
 }
@@ -62,14 +64,6 @@ fn entered(alloc: Global, resolver: &Resolver<'_>) -> Result<String, Stop> {
     match resolver.in_subresource(alloc, ResourceRef::new(&schema, Draft::Draft202012)) {
         Ok(resolver) => after(format!(in alloc; "{resolver:?}")),
         Err(error) => fault(alloc, &error),
-    }
-}
-
-/// The text of a set that was found.
-pub fn set(alloc: Global, found: Result<VocabularySet, AllocError>) -> Result<String, Stop> {
-    match found {
-        Ok(set) => after(format!(in alloc; "{set:?}")),
-        Err(error) => Err(refused(&error, true)),
     }
 }
 

@@ -1,5 +1,5 @@
 //! Calls of `ref_draft`.
-use crate::stop::{Stop, after, before, refused};
+use crate::stop::{Stop, after, refused};
 use crate::trial::{Calls, Trial, tried};
 use ref_draft::{Child, Draft, Resource, Segment, Segments};
 use ref_parts::path::JsonPointerSegment;
@@ -19,9 +19,9 @@ struct Drafts {
 
 /// The row of a call.
 pub fn row(alloc: Global, call: &str) -> Result<Trial, Stop> {
-    let titled = before(Value::from_str(alloc, r#"{"title":"a"}"#))?;
+    let titled = Value::from_str(alloc, r#"{"title":"a"}"#)?;
     let mut drafts = Drafts {
-        parent: before(Value::from_str(alloc, PARENT))?,
+        parent: Value::from_str(alloc, PARENT)?,
         segments: four(alloc)?,
         resource: Draft::Draft7.create_resource(titled),
     };
@@ -49,7 +49,7 @@ impl Calls for Drafts {
 fn four(alloc: Global) -> Result<Segments<'static>, Stop> {
     let mut segments = Segments::new(alloc);
     for index in 3..7usize {
-        before(segments.push(index))?;
+        segments.push(index)?;
     }
     Ok(segments)
 }
@@ -117,20 +117,36 @@ fn copied(alloc: Global, resource: &Resource) -> Result<String, Stop> {
     }
 }
 
-/// The draft, the identifier, and the counts of children and anchors of an object.
 fn read(alloc: Global) -> Result<String, Stop> {
     let text = r#"{"$id":"a","$anchor":"b","not":true}"#;
-    let value = before(Value::from_str(alloc, text))?;
-    let draft = Draft::Draft7.detect(&value);
-    let id = Draft::Draft202012.create_resource_ref(&value).id();
+    let value = Value::from_str(alloc, text)?;
+    after(read_of(alloc, &value))
+}
+
+/// How many children an object has.
+fn children_of(draft: Draft, value: &Value) -> usize {
+    let mut count: usize = 0;
+    for _ in draft.subresources_of(value) {
+        count = count.saturating_add(1);
+    }
+    count
+}
+
+/// How many anchors an object has.
+fn anchors_of(value: &Value) -> usize {
+    let mut count: usize = 0;
+    for _ in Draft::Draft202012.anchors(value) {
+        count = count.saturating_add(1);
+    }
+    count
+}
+
+/// The draft, the identifier, and the counts of children and anchors of an object.
+fn read_of(alloc: Global, value: &Value) -> Result<String, AllocError> {
+    let draft = Draft::Draft7.detect(value);
+    let id = Draft::Draft202012.create_resource_ref(value).id();
     let id = id.unwrap_or("none");
-    let mut children: usize = 0;
-    for _ in draft.subresources_of(&value) {
-        children = children.saturating_add(1);
-    }
-    let mut anchors: usize = 0;
-    for _ in Draft::Draft202012.anchors(&value) {
-        anchors = anchors.saturating_add(1);
-    }
-    after(format!(in alloc; "{draft:?} {id} {children} {anchors}"))
+    let children = children_of(draft, value);
+    let anchors = anchors_of(value);
+    format!(in alloc; "{draft:?} {id} {children} {anchors}")
 }

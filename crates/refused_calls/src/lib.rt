@@ -14,8 +14,9 @@ mod uris;
 mod vocabularies;
 
 use std::alloc::Global;
-pub use stop::{Refusal, Stop, after, before, fault, refused};
+pub use stop::{Refusal, Stop, after, fault, refused};
 pub use trial::{Calls, Trial, tried};
+pub use vocabularies::shown_set;
 
 /// What the row of a call prints, which is of one of the groups here.
 pub fn row(alloc: Global, group: &str, call: &str) -> Result<Trial, Stop> {

@@ -1,5 +1,5 @@
 //! Calls of lists and paths of `ref_parts`.
-use crate::stop::{Stop, after, before, refused};
+use crate::stop::{Stop, after, refused};
 use crate::trial::{Calls, Trial, tried};
 use ref_parts::list::List;
 use ref_parts::path::{JsonPointerNode, JsonPointerSegment};
@@ -20,7 +20,7 @@ pub fn row(alloc: Global, call: &str) -> Result<Trial, Stop> {
     let key = String::from_str(alloc, "a")?;
     let mut lists = Lists {
         list: in_front(alloc, 2, &List::new())?,
-        node: before(JsonPointerNode::new().push(alloc, "a"))?,
+        node: JsonPointerNode::new().push(alloc, "a")?,
         segment: JsonPointerSegment::Key(CowStr::Owned(key)),
     };
     tried(
@@ -91,15 +91,23 @@ fn read(alloc: Global, list: &List<u32>) -> Result<String, Stop> {
     after(format!(in alloc; "{count} {sum}"))
 }
 
+/// Whether a segment is the key `a`.
+fn is_key(segment: &JsonPointerSegment<'_>) -> bool {
+    match segment {
+        JsonPointerSegment::Key(key) => key.as_str() == "a",
+        JsonPointerSegment::Index(_) => false,
+    }
+}
+
 fn longer_path(alloc: Global, node: &JsonPointerNode<'_>) -> Result<String, Stop> {
     match node.push(alloc, 3usize) {
         Ok(longer) => {
-            let is_longer = *longer.segment() == JsonPointerSegment::Index(3);
+            let is_longer = matches!(longer.segment(), JsonPointerSegment::Index(3));
             after(format!(in alloc; "{is_longer}"))
         }
         Err(error) => {
-            let stands = *node.segment() == JsonPointerSegment::from("a");
-            Err(refused(&error, stands && node.parent().is_some()))
+            let stands = is_key(node.segment()) && node.parent().is_some();
+            Err(refused(&error, stands))
         }
     }
 }
@@ -108,6 +116,6 @@ fn copied_segment(alloc: Global, segment: &JsonPointerSegment<'_>) -> Result<Str
     match segment.clone() {
         Ok(JsonPointerSegment::Key(key)) => after(String::from_str(alloc, key.as_str())),
         Ok(_) => Err(Stop::Wrong),
-        Err(error) => Err(refused(&error, *segment == JsonPointerSegment::from("a"))),
+        Err(error) => Err(refused(&error, is_key(segment))),
     }
 }

@@ -49,9 +49,18 @@ fn two_pairs(alloc: Global) -> Result<SmallMap<u32, u32, 2>, AllocError> {
     Ok(map)
 }
 
-/// Whether a map has the two pairs, and none at 3.
+/// What a map has at 1, 2 and 3, with 0 where it has nothing, and whether it takes no memory.
+fn told(map: &SmallMap<u32, u32, 2>) -> (u32, u32, u32, bool) {
+    (at(map, 1), at(map, 2), at(map, 3), map.is_small())
+}
+
+fn at(map: &SmallMap<u32, u32, 2>, key: u32) -> u32 {
+    map.get(&key).copied().unwrap_or(0)
+}
+
+/// Whether a map has the two pairs, and nothing at 3.
 fn has_two(map: &SmallMap<u32, u32, 2>) -> bool {
-    map.is_small() && map.get(&1) == Some(&10) && map.get(&2) == Some(&20) && map.get(&3).is_none()
+    told(map) == (10, 20, 0, true)
 }
 
 fn promoted(alloc: Global, map: &mut SmallMap<u32, u32, 2>) -> Result<String, Stop> {
@@ -75,24 +84,15 @@ fn promoted_by_default(alloc: Global, map: &mut SmallMap<u32, u32, 2>) -> Result
     }
 }
 
-/// Whether a map has three pairs, for which it took memory.
-fn has_three(map: &SmallMap<u32, u32, 2>) -> bool {
-    !map.is_small()
-        && map.get(&1) == Some(&10)
-        && map.get(&2) == Some(&20)
-        && map.get(&3) == Some(&30)
-}
-
 fn copied_map(alloc: Global, map: &SmallMap<u32, u32, 2>) -> Result<String, Stop> {
     match map.clone() {
         Ok(copy) => after(format!(in alloc; "{copy:?}")),
-        Err(error) => Err(refused(&error, has_three(map))),
+        Err(error) => Err(refused(&error, told(map) == (10, 20, 30, false))),
     }
 }
 
 fn read(alloc: Global, map: &SmallMap<u32, u32, 2>) -> Result<String, Stop> {
-    let third = map.get(&3).copied().unwrap_or(0);
-    let is_small = map.is_small();
+    let (_, _, third, is_small) = told(map);
     after(format!(in alloc; "{third} {is_small}"))
 }
 

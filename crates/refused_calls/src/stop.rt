@@ -42,6 +42,46 @@ impl From<AllocError> for Stop {
     }
 }
 
+impl From<serde_json::Error> for Stop {
+    ghost use Rattle.std.specs.Prelude.{⊤};
+
+    ghost from_gives = { λ _ _. ⊤ };
+
+    fn from(error: serde_json::Error) -> Stop {
+        unmade(error.is_memory())
+    }
+}
+
+impl From<UriParseFault> for Stop {
+    ghost use Rattle.std.specs.Prelude.{⊤};
+
+    ghost from_gives = { λ _ _. ⊤ };
+
+    fn from(error: UriParseFault) -> Stop {
+        unmade(error.is_memory())
+    }
+}
+
+impl From<UriFault> for Stop {
+    ghost use Rattle.std.specs.Prelude.{⊤};
+
+    ghost from_gives = { λ _ _. ⊤ };
+
+    fn from(error: UriFault) -> Stop {
+        unmade(error.is_memory())
+    }
+}
+
+impl From<Error> for Stop {
+    ghost use Rattle.std.specs.Prelude.{⊤};
+
+    ghost from_gives = { λ _ _. ⊤ };
+
+    fn from(error: Error) -> Stop {
+        unmade(error.is_memory())
+    }
+}
+
 /// What a call may be refused with.
 pub trait Refusal {
     /// Whether it is want of memory.
@@ -107,21 +147,15 @@ pub fn fault<E: Refusal + fmt::Display>(alloc: Global, error: &E) -> Result<Stri
     after(format!(in alloc; "{error}"))
 }
 
-/// A value that is made before the call. Only want of memory may keep it from being made.
-pub fn before<T, E: Refusal + Drop>(made: Result<T, E>) -> Result<T, Stop> {
-    made_or(made, Stop::Before)
-}
-
-/// A value that is made once the call has answered. Only want of memory may keep it from being made.
-pub fn after<T, E: Refusal + Drop>(made: Result<T, E>) -> Result<T, Stop> {
-    made_or(made, Stop::After)
-}
-
-/// A value, or that it wants memory.
-fn made_or<T, E: Refusal + Drop>(made: Result<T, E>, stop: Stop) -> Result<T, Stop> {
+/// A text that is made once the call has answered.
+pub fn after(made: Result<String, AllocError>) -> Result<String, Stop> {
     match made {
-        Ok(value) => Ok(value),
-        Err(refusal) if refusal.is_memory() => Err(stop),
-        Err(_) => Err(Stop::Wrong),
+        Ok(text) => Ok(text),
+        Err(_) => Err(Stop::After),
     }
+}
+
+/// Why a value isn't made before the call: only want of memory may keep it from that.
+fn unmade(is_memory: bool) -> Stop {
+    if is_memory { Stop::Before } else { Stop::Wrong }
 }

@@ -1,5 +1,5 @@
 //! Calls of pointer text and of buffers of `ref_parts`.
-use crate::stop::{Stop, after, before, refused};
+use crate::stop::{Stop, after, refused};
 use crate::trial::{Calls, Trial, tried};
 use ref_parts::{EncodedBuffer, pointer, unescape_segment, write_escaped_str, write_index};
 use serde_json::Value;
@@ -20,7 +20,7 @@ pub fn row(alloc: Global, call: &str) -> Result<Trial, Stop> {
         pointer: String::from_str(alloc, "/")?,
         grown: encoded(alloc, "a")?,
         encoded: encoded(alloc, "~ ?")?,
-        document: before(Value::from_str(alloc, r#"{"a/b":"c"}"#))?,
+        document: Value::from_str(alloc, r#"{"a/b":"c"}"#)?,
     };
     tried(
         alloc,
@@ -48,7 +48,7 @@ impl Calls for Texts {
 
 fn encoded(alloc: Global, text: &str) -> Result<EncodedBuffer, Stop> {
     let mut buffer = EncodedBuffer::new(alloc);
-    before(buffer.push_str(text))?;
+    buffer.push_str(text)?;
     Ok(buffer)
 }
 

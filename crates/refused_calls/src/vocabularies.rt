@@ -1,5 +1,5 @@
 //! Calls of vocabularies.
-use crate::stop::{Stop, after, before, fault, refused};
+use crate::stop::{Stop, after, fault, refused};
 use crate::trial::{Calls, Trial, tried};
 use ref_draft::Draft;
 use ref_retrieve::Error;
@@ -33,7 +33,7 @@ pub fn row(alloc: Global, call: &str) -> Result<Trial, Stop> {
         empty: VocabularySet::new(),
         one,
         custom: custom(alloc, CUSTOM)?,
-        meta: before(Value::from_str(alloc, META))?,
+        meta: Value::from_str(alloc, META)?,
     };
     tried(
         alloc,
@@ -45,7 +45,7 @@ pub fn row(alloc: Global, call: &str) -> Result<Trial, Stop> {
 }
 
 fn custom(alloc: Global, text: &str) -> Result<Vocabulary, Stop> {
-    before(Vocabulary::from_text(alloc, text))
+    Ok(Vocabulary::from_text(alloc, text)?)
 }
 
 impl Calls for Vocabularies {
@@ -60,9 +60,9 @@ impl Calls for Vocabularies {
             "set.add known" => added(alloc, &mut self.one, CORE, 1),
             "set.add again" => added(alloc, &mut self.one, CUSTOM, 1),
             "set.clone" => copied_set(alloc, &self.one),
-            "set.clone known" => set(alloc, default_vocabularies(Draft::Draft7).clone()),
+            "set.clone known" => shown_set(alloc, default_vocabularies(Draft::Draft7).clone()),
             "find" => found(alloc, &self.meta),
-            "declared_or_default" => set(alloc, declared_or_default(alloc, Some(&self.meta))),
+            "declared_or_default" => shown_set(alloc, declared_or_default(alloc, Some(&self.meta))),
             "dialect" => spoken(alloc),
             _ => Err(Stop::Wrong),
         }
@@ -123,31 +123,24 @@ fn added(alloc: Global, set: &mut VocabularySet, text: &str, count: usize) -> Re
 }
 
 /// The text of a set.
-fn set(alloc: Global, set: Result<VocabularySet, AllocError>) -> Result<String, Stop> {
+pub fn shown_set(alloc: Global, set: Result<VocabularySet, AllocError>) -> Result<String, Stop> {
     match set {
         Ok(set) => after(format!(in alloc; "{set:?}")),
         Err(error) => Err(refused(&error, true)),
     }
 }
 
-/// The text of a set, or that there is none.
-fn listed(alloc: Global, set: &Option<VocabularySet>) -> Result<String, AllocError> {
-    match set {
-        Some(set) => format!(in alloc; "{set:?}"),
-        None => String::from_str(alloc, "none"),
-    }
-}
-
 fn found(alloc: Global, meta: &Value) -> Result<String, Stop> {
     match find(alloc, meta) {
-        Ok(set) => after(listed(alloc, &set)),
+        Ok(Some(found)) => shown_set(alloc, Ok(found)),
+        Ok(None) => Err(Stop::Wrong),
         Err(error) => fault(alloc, &error),
     }
 }
 
 /// The URI under which the vocabularies of a schema are declared.
 fn spoken(alloc: Global) -> Result<String, Stop> {
-    let schema = before(Value::from_str(alloc, r#"{"$schema":"http://a/m#"}"#))?;
+    let schema = Value::from_str(alloc, r#"{"$schema":"http://a/m#"}"#)?;
     match Dialect::of(alloc, Draft::Unknown, &schema) {
         Ok(Dialect::MetaSchema(uri)) => after(String::from_str(alloc, uri.as_str())),
         Ok(_) => Err(Stop::Wrong),
