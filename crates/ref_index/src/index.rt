@@ -110,6 +110,7 @@ impl<'a> Index<'a> {
     }
 
     /// The place that a URI means in these documents. A look-up; takes no memory.
+    #[inline(always)]
     pub fn resource(&self, uri: &str) -> Option<&Entry<'a>>
         ensures value { MatchOption result (last_under uri.now (resources self.now) ≡ None)
             (λ e. IsFoundAt self.now e.now (last_under uri.now (resources self.now))) }

@@ -15,13 +15,24 @@ pub fn shared(alloc: Global, uri: Uri) -> Result<Rc<Uri>, AllocError>
 
 /// What stands before the last `#` of a reference, which is the whole where there is none, and its fragment: what follows a `#` in
 /// front, or else the last `#`.
+#[inline(always)]
 pub fn parts(reference: &str) -> (&str, &str)
     ensures uri { result.0.now ≡ uri.uri_part reference.now }
     ensures fragment { result.1.now ≡ uri.fragment_part reference.now }
 {
-    if !reference.as_bytes().contains(&b'#') {
-        return (reference, "");
+    if reference.as_bytes().contains(&b'#') {
+        parts_around_hash(reference)
+    } else {
+        (reference, "")
     }
+}
+
+// The same for any reference, by a search from its end; `parts` answers most references, which have no `#`, without it.
+#[inline(never)]
+fn parts_around_hash(reference: &str) -> (&str, &str)
+    ensures uri { result.0.now ≡ uri.uri_part reference.now }
+    ensures fragment { result.1.now ≡ uri.fragment_part reference.now }
+{
     let Some((uri, last)) = reference.rsplit_once('#') else {
         return (reference, "");
     };

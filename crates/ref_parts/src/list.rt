@@ -80,6 +80,7 @@ impl<T: Drop> List<T> {
     /// The list with this item in front. This list stays, and is shared.
     ///
     /// Takes memory for one link, whatever the length, and is refused where there is none.
+    #[inline(always)]
     pub fn push_front(&self, alloc: Global, value: Rc<T>) -> Result<Self, AllocError>
         ensures items { IfOk result (λ list. list ≡ value.value ∷ self.now) }
     {

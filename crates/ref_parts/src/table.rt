@@ -85,6 +85,7 @@ impl<V> SortedTable<V> {
     /// No more entries are compared than the count of pairs has binary digits: where `len` is below 2^n, at most n. Takes no
     /// memory. A comparison reads texts only where eight bytes of the first, behind what all first texts have in common, are
     /// equal; then each byte of a beginning that they share once, and second texts only where the first are equal.
+    #[inline(always)]
     pub fn get(&self, first: &str, second: &str) -> (Option<&V>, usize)
         ensures value { option_copied result.0 ≡ last_value first.now second.now self.now }
         ensures probes { (digits : ℕ) → pair_count self.now < 2 ^ digits → result.1 ≤ digits }

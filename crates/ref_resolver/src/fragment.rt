@@ -186,8 +186,9 @@ fn at_value<'r>(contents: &'r Value, draft: Draft, resolver: Resolver<'r>) -> Re
     }
 }
 
-// What a pointer leads to in the resource at a place, where `text` is the fragment behind its first `/`.
-#[inline(always)]
+// What a pointer leads to in the resource at a place, where `text` is the fragment behind its first `/`. Its many values stay out of
+// the look-up of whole resources.
+#[inline(never)]
 fn at_pointer<'r>(
     alloc: Global,
     resolver: Resolver<'r>,

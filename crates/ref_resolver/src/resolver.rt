@@ -166,6 +166,7 @@ impl<'r> Resolver<'r> {
     }
 
     // Where a name leads under a URI.
+    #[inline(never)]
     fn at_name(&self, alloc: Global, uri: Rc<Uri>, name: &str) -> Result<Resolved<'r>, Error>
         ensures ok { (reference : List ℕ) → target (resolver_of self.now).base reference ≡ Ok uri.value → fragment_part reference ≡ name.now → is_name name.now ≡ true → IfOk result (λ found. lookup (world_of self.now) (resolver_of self.now) reference ≡ Ok (found_of found)) }
         ensures world { IfOk result (λ found. world_found found ≡ world_of self.now) }

@@ -132,7 +132,8 @@ fn in_turn(
     Ok(sum)
 }
 
-/// How many `$ref`s are followed, each of the value that the last one led to.
+/// How many `$ref`s are followed, each of the value that the last one led to. Other kinds, with values of their own, stay out of its loop.
+#[inline(never)]
 fn along_references(alloc: Global, start: Resolver<'_>, times: u32) -> Result<u64, Error> {
     let mut found = start.lookup(alloc, "../d0/k0")?;
     let mut sum: u64 = 0;
