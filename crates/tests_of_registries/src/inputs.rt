@@ -11,7 +11,7 @@ use std::alloc::Global;
 use std::rc::Rc;
 
 /// The documents that a builder holds in their order, as the registry that is prepared of them has them: URI, value and draft.
-fn held(alloc: Global, builder: RegistryBuilder<'_>) -> Result<String, Fault> {
+pub fn held(alloc: Global, builder: RegistryBuilder<'_>) -> Result<String, Fault> {
     let registry = builder.prepare()?;
     let places = registry.places(alloc)?;
     let mut text = String::new(alloc);

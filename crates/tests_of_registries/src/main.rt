@@ -1,9 +1,10 @@
-//! The tests of `referencing` and `ref_lint` whose rows are data: reads a row a line from standard input, a JSON list of the table's name,
+//! The tests of `ref_index`, `referencing` and `ref_lint`, whose rows are data: reads a row a line from standard input, a JSON list of the table's name,
 //! of what is asked, and of the answer that is expected. Prints each row whose answer is another, and then how many rows of each table hold.
 //!
 //! Lines that are empty or begin with `//` are skipped. A row of the name `given` has documents for the rows behind it.
 #![tactic(auto)]
 
+mod builders;
 mod dangling;
 mod families;
 mod fault;
@@ -17,6 +18,7 @@ mod retrieval;
 mod row;
 mod tally;
 mod vocabularies;
+mod walks;
 
 use crate::fault::Fault;
 use crate::tally::Tally;
@@ -38,6 +40,9 @@ fn found(alloc: Global, given: &Value, table: &str, row: &Value) -> Result<Strin
         "texts by resolvers" => resources::resolved_by_resolvers(alloc, row),
         "vocabularies passed on" => vocabularies::passed_on(alloc, row),
         "builders" => inputs::added(alloc, row),
+        "made builders" => builders::made(alloc, row),
+        "walks" => walks::owned(alloc, row),
+        "walks of borrowed documents" => walks::borrowed(alloc, row),
         "kinds" | "kinds with titles" => inputs::of_kinds(alloc, row),
         _ => found_of_outcomes(alloc, table, row),
     }
