@@ -1,7 +1,8 @@
 //! Workloads of resolvers: look-ups in a registry of the documents of `registries`, and of a dynamic anchor in a long scope.
 //!
 //! `chain`, `chain-anchor` and `chain-ref` go on from what the last look-up answered: with the identifiers as absolute URIs, with
-//! an anchor behind each, and with the `$ref` of the last value. `flat` looks the identifiers up from one resolver. `pointer`,
+//! an anchor behind each, and with the `$ref` of the last value. `flat` looks the identifiers up from one resolver, and
+//! `flat-ref` the `$ref` of each definition from a resolver at it. `pointer`,
 //! `pointer-type`, `pointer-plain` and `anchor` look a fragment up from resolvers at documents or identifiers. `here` looks `#` up
 //! where the scope isn't empty, and `resolved` resolves a `$ref` against the base at which it stands. The documents are borrowed,
 //! and owned where the call ends with `-owned`.
@@ -20,6 +21,13 @@ fn definition_of(alloc: Global, number: usize) -> Result<String, AllocError> {
     format!(in alloc; "http://example.com/d{document}/k{key}")
 }
 
+/// The `$ref` of a definition in so many documents.
+fn reference_of(alloc: Global, number: usize, size: usize) -> Result<String, AllocError> {
+    let (document, key) = (number / DEFINITIONS, number % DEFINITIONS);
+    let next = if document + 1 < size { document + 1 } else { 0 };
+    format!(in alloc; "../d{next}/k{key}")
+}
+
 /// What a kind of look-up refers to, one after another.
 fn references_of(alloc: Global, kind: &str, size: usize) -> Result<Vec<String>, AllocError> {
     let mut references = Vec::new(alloc);
@@ -30,6 +38,11 @@ fn references_of(alloc: Global, kind: &str, size: usize) -> Result<Vec<String>, 
         "anchor" => {
             for key in 0..DEFINITIONS {
                 references.push(format!(in alloc; "#a{key}")?)?;
+            }
+        }
+        "flat-ref" => {
+            for number in 0..size.saturating_mul(DEFINITIONS) {
+                references.push(reference_of(alloc, number, size)?)?;
             }
         }
         _ => {
@@ -55,15 +68,14 @@ fn resolvers_of<'r>(
 ) -> Result<Vec<Resolver<'r>>, Error> {
     let count = match kind {
         "pointer" | "pointer-type" | "pointer-plain" => size,
-        "anchor" => size.saturating_mul(DEFINITIONS),
+        "anchor" | "flat-ref" => size.saturating_mul(DEFINITIONS),
         _ => 1,
     };
     let mut resolvers = Vec::with_capacity(alloc, count)?;
     for number in 0..count {
-        let base = if kind == "anchor" {
-            definition_of(alloc, number)?
-        } else {
-            format!(in alloc; "http://example.com/d{number}/")?
+        let base = match kind {
+            "anchor" | "flat-ref" => definition_of(alloc, number)?,
+            _ => format!(in alloc; "http://example.com/d{number}/")?,
         };
         let resolver = registry.resolver(alloc, from_str(alloc, base.as_str())?)?;
         push(&mut resolvers, resolver)?;
