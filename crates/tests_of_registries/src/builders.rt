@@ -33,15 +33,15 @@ fn with_shared_and_viewed<'b>(
     builder.add("a:6", ResourceRef::new(lent, Draft::Unknown))
 }
 
-/// What a builder with a draft holds after one document of each kind was added.
-fn of_each_kind(alloc: Global) -> Result<String, Fault> {
-    let lent = Value::Bool(true);
-    let resource = Draft::Draft6.create_resource(Value::Bool(false));
-    let owned = Draft::Draft4.create_resource(Value::Null);
+/// What a builder with a draft holds after one document of each kind was added, of the values in four columns.
+fn of_each_kind(alloc: Global, row: &Value) -> Result<String, Fault> {
+    let lent = row::column(row, 2)?;
+    let resource = Draft::Draft6.create_resource(row::column(row, 3)?.clone()?);
+    let owned = Draft::Draft4.create_resource(row::column(row, 4)?.clone()?);
     let builder = Registry::new(alloc).draft(Draft::Draft7);
-    let builder = with_lent_and_owned(builder, &lent, &resource, owned)?;
-    let shared = Rc::new(alloc, Value::Bool(false))?;
-    held(alloc, with_shared_and_viewed(builder, shared, &lent)?)
+    let builder = with_lent_and_owned(builder, lent, &resource, owned)?;
+    let shared = Rc::new(alloc, row::column(row, 5)?.clone()?)?;
+    held(alloc, with_shared_and_viewed(builder, shared, lent)?)
 }
 
 /// A builder that borrows for long takes a value that is lent for less.
@@ -102,7 +102,7 @@ fn apart(alloc: Global, row: &Value) -> Result<String, Fault> {
 /// What is asked of the builder that a row names.
 pub fn made(alloc: Global, row: &Value) -> Result<String, Fault> {
     match row::text(row, 1)? {
-        "of each kind" => of_each_kind(alloc),
+        "of each kind" => of_each_kind(alloc, row),
         "lent for less" => lent_for_less(alloc),
         "shown" => Ok(shown(alloc, &with_draft(alloc)?)?),
         "shown by its copy" => Ok(shown(alloc, &with_draft(alloc)?.clone()?)?),
