@@ -2,7 +2,7 @@
 use Rattle.std.proofs.Common.{◌≡◌, ℕ, zero, suc, ◌+◌, ◌*◌, ◌^◌, ◌<◌, ◌≤◌, Bool, true, false, List, [], ◌∷◌, length, get_or, Some, None, option_map, refl, sym, ap, ◌∙◌, ltb, arith}
 use Rattle.std.proofs.Math.Nat.{mul-le-mul_right, pow-le-pow_right}
 use Rattle.std.proofs.lemmas.Nat.{pow-add}
-use Rattle.std.proofs.lemmas.List.{get_or_default}
+use Rattle.std.proofs.lemmas.List.{get_or_default, get_or-map}
 use Rattle.std.proofs.lemmas.Bool.{ltb-true, ltb-false}
 use Rattle.std.specs.Cmp.{IsTotalOrder}
 use Rattle.std.specs.List.{last_or, AllByRecursion, filter}
@@ -11,7 +11,7 @@ use Rattle.std.specs.Ordering.{is_eq, eq_by_cmp, ordering_reverse}
 use Rattle.std.specs.declared.cmp.Ordering.{Ordering}
 use Rattle.std.specs.declared.cmp.Ordering.TheVariants.{Less, Equal, Greater}
 use Rattle.ref_parts.specs.Table.{entries_of, last_value}
-use Rattle.ref_parts.specs.inner.SortedEntries.{key_cmp, key_of, word_at, KeepsLast}
+use Rattle.ref_parts.specs.inner.SortedEntries.{key_cmp, key_of, word_at, words_of, KeepsLast}
 use Rattle.ref_parts.specs.declared.table.Slot.{Slot}
 use Rattle.ref_parts.proofs.TableLaws.{Tuple, filter_none, last_at, apart_by_key, key_total, key_cmp-IsAntisymmetric, last_value_by_key}
 
@@ -71,6 +71,11 @@ module _ {X K : Type 0} {R : K → K → Ordering} (o : IsTotalOrder R) (key : X
         | true ↦ λ yes. o.antisymm _ q ∙ ap ordering_reverse (o.trans q (key x) _ turned (ap (λ y. R (key y) (key (get_or xs k d))) (sym here) ∙ strictly_at _ xs sorted m k d (ltb-true m k yes) inside))
         | false ↦ λ no. let same : k ≡ m = omega (arith, ltb-false m k no) in ap (λ j. R (key (get_or xs j d)) q) same ∙ ap (λ y. R (key y) q) here ∙ greater
       ] refl
+
+-- the number at a place is that of the entry there
+pub number_at : {V : Type 0} (kept : List (Slot V)) (words : List ℕ) → words ≡ words_of kept → (i word : ℕ) (s : Slot V) → i < length kept → word ≡ get_or words i word → s ≡ get_or kept i s → word ≡ s.word
+number_at kept words are i word s within found is =
+    found ∙ ap (λ ws. get_or ws i word) are ∙ get_or-map (λ s. s.word) kept i s word within ∙ ap (λ s. s.word) (sym is)
 
 each_by_place : {X : Type 0} (P : X → Type 0) (xs : List X) → ((k : ℕ) (d : X) → k < length xs → P (get_or xs k d)) → AllByRecursion P xs
 each_by_place P [] each = tt

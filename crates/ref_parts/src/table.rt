@@ -3,7 +3,7 @@ ghost use Rattle.std.specs.Prelude.{◌≡◌, ℕ, ◌+◌, ◌-◌, ◌^◌, �
 ghost use Rattle.ref_parts.specs.Table.{entries_of, last_value, pair_count};
 ghost use Rattle.std.specs.Cmp.Lexicographic.{slice_cmp};
 ghost use Rattle.std.specs.Ordering.{nat_cmp};
-ghost use Rattle.ref_parts.specs.inner.SortedEntries.{big_endian, pair_cmp, pair_of, key_cmp, key_of, word_at, slot_of, zeros};
+ghost use Rattle.ref_parts.specs.inner.SortedEntries.{big_endian, pair_cmp, pair_of, key_cmp, key_of, word_at, slot_of, zeros, words_of};
 
 use std::alloc::{AllocError, Global};
 use std::cmp::Ordering;
@@ -11,12 +11,14 @@ use std::marker::Model;
 use std::snapshot::Snapshot;
 
 /// Values under pairs of texts, which are found by halving: they stand in byte order, the greatest first, by the first text and
-/// by the second where the first are equal, each pair once. Beside each stand eight bytes of its first text, behind the beginning
-/// that all first texts have in common, as a number: most comparisons are of two such numbers.
+/// by the second where the first are equal, each pair once. Of each first text eight bytes, behind the beginning that all first
+/// texts have in common, stand as a number in a list beside them: most comparisons are of two such numbers.
 ///
 /// Contracts see the list of the entries that it was made from.
 #[derive(Drop)]
 pub struct SortedTable<V> {
+    // The numbers of the entries, one after another, which is all that most steps of a search read.
+    words: Vec<u64>,
     kept: Vec<Slot<V>>,
     // How many bytes the first texts begin with alike.
     shared: usize,
@@ -36,11 +38,12 @@ impl<V> Model for SortedTable<V> {
     ghost Value = { List (List ℕ × List ℕ × V) };
 
     ghost use Rattle.ref_parts.specs.Table.{entries_of};
-    ghost use Rattle.ref_parts.specs.inner.SortedEntries.{KeepsLast};
+    ghost use Rattle.std.specs.Prelude.{◌≡◌};
+    ghost use Rattle.ref_parts.specs.inner.SortedEntries.{KeepsLast, words_of};
 
     ghost view = { λ t. entries_of t.entered.value.items };
 
-    ghost invariant = { λ t. KeepsLast t.shared t.kept.items t.entered.value.items };
+    ghost invariant = { λ t. KeepsLast t.shared t.kept.items t.entered.value.items × t.words.items ≡ words_of t.kept.items };
 }
 
 impl<V: Drop> SortedTable<V> {
@@ -61,10 +64,11 @@ impl<V: Drop> SortedTable<V> {
         let mut kept = slots_backwards(alloc, entries, shared)?;
         kept.as_mut_slice().sort_by(
             alloc,
-            |a, b| order(a, b.word, b.entry.0.as_str(), b.entry.1.as_str()),
+            |a, b| order(a.word, a, b.word, b.entry.0.as_str(), b.entry.1.as_str()),
         )?;
         kept.dedup_by(|a, b| a.word == b.word && a.entry.0 == b.entry.0 && a.entry.1 == b.entry.1);
         Ok(SortedTable {
+            words: words_of(alloc, kept.as_slice())?,
             kept,
             shared,
             entered,
@@ -96,8 +100,9 @@ impl<V> SortedTable<V> {
         let mut left = self.kept.len();
         while left > 0 {
             let half = left / 2;
+            let number = self.words[low + half];
             let slot = &self.kept[low + half];
-            match probe(slot, word, first, second, &mut probes) {
+            match probe(number, slot, word, first, second, &mut probes) {
                 Ordering::Less => {
                     low += half + 1;
                     left -= half + 1;
@@ -124,6 +129,17 @@ fn slots_backwards<V: Drop>(
         slots.push(Slot { word, entry })?;
     }
     Ok(slots)
+}
+
+// The numbers of slots, in their order.
+fn words_of<V>(alloc: Global, slots: &[Slot<V>]) -> Result<Vec<u64>, AllocError>
+    ensures { IfOk result (λ words. words.items ≡ words_of slots.now) }
+{
+    let mut words = Vec::with_capacity(alloc, slots.len())?;
+    for slot in slots {
+        words.push(slot.word)?;
+    }
+    Ok(words)
 }
 
 // How many bytes the first texts of all entries begin with alike.
@@ -187,28 +203,38 @@ fn first_eight(bytes: &[u8]) -> [u8; 8]
     first
 }
 
-// Compares an entry with two texts, and counts that it did.
+// Compares an entry, whose number is given, with two texts, and counts that it did.
 #[inline(always)]
-fn probe<V>(slot: &Slot<V>, word: u64, first: &str, second: &str, probes: &mut usize) -> Ordering
-    requires { probes.old + 1 < 2 ^ 64 }
+fn probe<V>(
+    number: u64,
+    slot: &Slot<V>,
+    word: u64,
+    first: &str,
+    second: &str,
+    probes: &mut usize,
+) -> Ordering
+    requires number { number ≡ slot.now.word }
+    requires counts { probes.old + 1 < 2 ^ 64 }
     ensures order { result ≡ key_cmp (key_of slot.now) (word, (first.now, second.now)) }
     ensures counted { probes.new ≡ probes.old + 1 }
 {
     *probes += 1;
-    order(slot, word, first, second)
+    order(number, slot, word, first, second)
 }
 
 // Whether an entry stands before two texts with the word of the first: by the words, and by the texts where those are equal, the
 // greatest first. Few comparisons read texts, so those stay out of what sorts and searches; and each answer is told by a branch of
-// its own, which takes fewer steps there than an order that is then matched.
+// its own, which takes fewer steps there than an order that is then matched. The entry's number is given, since a search reads it
+// elsewhere.
 #[inline(always)]
-fn order<V>(slot: &Slot<V>, word: u64, first: &str, second: &str) -> Ordering
+fn order<V>(number: u64, slot: &Slot<V>, word: u64, first: &str, second: &str) -> Ordering
+    requires { number ≡ slot.now.word }
     ensures { result ≡ key_cmp (key_of slot.now) (word, (first.now, second.now)) }
 {
-    if word < slot.word {
+    if word < number {
         return Ordering::Less;
     }
-    if word > slot.word {
+    if word > number {
         return Ordering::Greater;
     }
     texts_of_equal_words(first, second, slot)

@@ -53,6 +53,10 @@ HasWord shared s = s.word ≡ word_at shared (string_bytes s.entry.0)
 abbrev pub tuples_of : {V : Type 0} → List (Slot V) → List (String Global × String Global × V)
 tuples_of slots = map (λ s. s.entry) slots
 
+-- their numbers alone
+abbrev pub words_of : {V : Type 0} → List (Slot V) → List ℕ
+words_of slots = map (λ s. s.word) slots
+
 -- the kept tuples are those of the last values of the entered ones
 pub record KeepsLast {V : Type 0} (shared : ℕ) (kept : List (Slot V)) (entered : List (String Global × String Global × V)) : Type 0 where
   pub sorted : IsStrictlySortedBy (λ x y. key_cmp (key_of x) (key_of y)) kept
