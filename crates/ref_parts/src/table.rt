@@ -97,18 +97,15 @@ impl<V> SortedTable<V> {
         let word = word_at(first, self.shared);
         let mut probes = 0;
         let mut low = 0;
-        let mut left = self.kept.len();
-        while left > 0 {
-            let half = left / 2;
-            let number = self.words[low + half];
-            let slot = &self.kept[low + half];
+        let mut high = self.words.len();
+        while low < high {
+            let middle = (low + high) / 2;
+            let number = self.words[middle];
+            let slot = &self.kept[middle];
             match probe(number, slot, word, first, second, &mut probes) {
-                Ordering::Less => {
-                    low += half + 1;
-                    left -= half + 1;
-                }
+                Ordering::Less => low = middle + 1,
                 Ordering::Equal => return (Some(&slot.entry.2), probes),
-                Ordering::Greater => left = half,
+                Ordering::Greater => high = middle,
             }
         }
         (None, probes)

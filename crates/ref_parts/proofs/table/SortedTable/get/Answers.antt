@@ -7,59 +7,61 @@ use Rattle.ref_parts.proofs.table.SortedTable.get.Goals as goal
 
 pub probe-requires-clause-number : goal.probe-requires-clause-number
 probe-requires-clause-number g c =
-    number_at c.self.inside.kept.items c.self.inside.words.items c.self.invariant.1 (c.loop-left.low + c.loop-left.left / 2) c.index-number.result.now c.index-slot.result.now (omega arith) c.index-number.ensures c.index-slot.ensures
+    number_at c.self.inside.kept.items c.self.inside.words.items c.self.invariant.1 ((c.loop-low.low + c.loop-low.high) / 2) c.index-number.result.now c.index-slot.result.now (omega arith) c.index-number.ensures c.index-slot.ensures
 
 pub probe-requires-clause-counts : goal.probe-requires-clause-counts
 probe-requires-clause-counts g c =
     let kept = c.self.inside.kept.items in
     let small : length kept < 2 ^ 64 = omega (arith, c.self.inside.kept.small, c.self.inside.kept.ok) in
-    let some : 0 < c.loop-left.left = omega arith in
-    let few = below_digits c.loop-left.probes (length kept) 64 (enough _ c.loop-left.probes (length kept) c.loop-left.invariant.left some) small in
+    let some : 0 < c.loop-low.high - c.loop-low.low = omega arith in
+    let few = below_digits c.loop-low.probes (length kept) 64 (enough _ c.loop-low.probes (length kept) c.loop-low.invariant.left some) small in
     omega (arith, few)
 
 pub returns-clause-value : goal.returns-clause-value
 returns-clause-value g c =
-    sym (ap (last_value c.args.first.now c.args.second.now) (sym c.self.view_is) ∙ found_nowhere c.self.inside.shared c.self.inside.entered.value.items c.self.inside.kept.items c.self.invariant.0 c.args.first.now c.args.second.now _ c.word_at-word.ensures c.loop-left.low (c.loop-left.low + c.loop-left.left) (omega arith) c.loop-left.invariant.below c.loop-left.invariant.above)
+    sym (ap (last_value c.args.first.now c.args.second.now) (sym c.self.view_is) ∙ found_nowhere c.self.inside.shared c.self.inside.entered.value.items c.self.inside.kept.items c.self.invariant.0 c.args.first.now c.args.second.now _ c.word_at-word.ensures c.loop-low.low c.loop-low.high (omega arith) c.loop-low.invariant.below c.loop-low.invariant.above)
 
 pub returns-clause-probes : goal.returns-clause-probes
-returns-clause-probes g c = λ digits above. c.loop-left.invariant.spent digits (subst (λ n. n < 2 ^ digits) (ap pair_count (sym c.self.view_is) ∙ sym c.self.invariant.0.count) above)
+returns-clause-probes g c = λ digits above. c.loop-low.invariant.spent digits (subst (λ n. n < 2 ^ digits) (ap pair_count (sym c.self.view_is) ∙ sym c.self.invariant.0.count) above)
 
 pub returns-in-Equal-clause-probes : goal.returns-in-Equal-clause-probes
 returns-in-Equal-clause-probes g c = λ digits above.
     let kept = c.self.inside.kept.items in
-    let some : 0 < c.loop-left.left = omega arith in
-    let few = below_digits c.loop-left.probes (length kept) digits (enough _ c.loop-left.probes (length kept) c.loop-left.invariant.left some) (subst (λ n. n < 2 ^ digits) (ap pair_count (sym c.self.view_is) ∙ sym c.self.invariant.0.count) above) in
+    let some : 0 < c.loop-low.high - c.loop-low.low = omega arith in
+    let few = below_digits c.loop-low.probes (length kept) digits (enough _ c.loop-low.probes (length kept) c.loop-low.invariant.left some) (subst (λ n. n < 2 ^ digits) (ap pair_count (sym c.self.view_is) ∙ sym c.self.invariant.0.count) above) in
     omega (arith, few, c.in-Equal.ensures.counted)
 
 pub returns-in-Equal-clause-value : goal.returns-in-Equal-clause-value
 returns-in-Equal-clause-value g c =
     let kept = c.self.inside.kept.items in
-    sym (ap (last_value c.args.first.now c.args.second.now) (sym c.self.view_is) ∙ found_at c.self.inside.shared c.self.inside.entered.value.items kept c.self.invariant.0 c.args.first.now c.args.second.now _ c.word_at-word.ensures (c.loop-left.low + c.loop-left.left / 2) c.index-slot.result.now (omega arith) c.index-slot.ensures (sym c.in-Equal.ensures.order))
+    sym (ap (last_value c.args.first.now c.args.second.now) (sym c.self.view_is) ∙ found_at c.self.inside.shared c.self.inside.entered.value.items kept c.self.invariant.0 c.args.first.now c.args.second.now _ c.word_at-word.ensures ((c.loop-low.low + c.loop-low.high) / 2) c.index-slot.result.now (omega arith) c.index-slot.ensures (sym c.in-Equal.ensures.order))
 
-pub loop-left-preserved-in-Less : goal.loop-left-preserved-in-Less
-loop-left-preserved-in-Less g c =
+pub loop-low-preserved-in-Less : goal.loop-low-preserved-in-Less
+loop-low-preserved-in-Less g c =
     let kept = c.self.inside.kept.items in
-    let middle = c.loop-left.low + c.loop-left.left / 2 in
-    let some : 0 < c.loop-left.left = omega arith in
-    let probes = c.loop-left.probes in
+    let middle = (c.loop-low.low + c.loop-low.high) / 2 in
+    let some : 0 < c.loop-low.high - c.loop-low.low = omega arith in
+    let probes = c.loop-low.probes in
     record {
-      within = omega (arith, c.loop-left.invariant.within);
+      ordered = omega (arith, some);
+      within = omega (arith, c.loop-low.invariant.within);
       below = λ k d under. below_middle key_total key_of (c.word_at-word.result, (c.args.first.now, c.args.second.now)) kept c.self.invariant.0.sorted middle c.index-slot.result.now (omega arith) c.index-slot.ensures (sym c.in-Less.ensures.order) k d (omega (arith, under));
-      above = λ k d over inside. c.loop-left.invariant.above k d (omega (arith, over, some)) inside;
-      spent = λ digits above. let few = below_digits probes (length kept) digits (enough _ probes (length kept) c.loop-left.invariant.left some) above in omega (arith, few, c.in-Less.ensures.counted);
-      left = subst (λ p. (c.loop-left.left - (c.loop-left.left / 2 + 1)) * 2 ^ p ≤ length kept) (sym c.in-Less.ensures.counted) (halved c.loop-left.left _ probes (length kept) c.loop-left.invariant.left (omega arith));
+      above = λ k d over inside. c.loop-low.invariant.above k d (omega (arith, over, some)) inside;
+      spent = λ digits above. let few = below_digits probes (length kept) digits (enough _ probes (length kept) c.loop-low.invariant.left some) above in omega (arith, few, c.in-Less.ensures.counted);
+      left = subst (λ p. (c.loop-low.high - (middle + 1)) * 2 ^ p ≤ length kept) (sym c.in-Less.ensures.counted) (halved (c.loop-low.high - c.loop-low.low) _ probes (length kept) c.loop-low.invariant.left (omega arith));
     }
 
-pub loop-left-preserved : goal.loop-left-preserved
-loop-left-preserved g c =
+pub loop-low-preserved : goal.loop-low-preserved
+loop-low-preserved g c =
     let kept = c.self.inside.kept.items in
-    let middle = c.loop-left.low + c.loop-left.left / 2 in
-    let some : 0 < c.loop-left.left = omega arith in
-    let probes = c.loop-left.probes in
+    let middle = (c.loop-low.low + c.loop-low.high) / 2 in
+    let some : 0 < c.loop-low.high - c.loop-low.low = omega arith in
+    let probes = c.loop-low.probes in
     record {
-      within = omega (arith, c.loop-left.invariant.within);
-      below = c.loop-left.invariant.below;
+      ordered = omega (arith, some);
+      within = omega (arith, c.loop-low.invariant.within);
+      below = c.loop-low.invariant.below;
       above = above_middle key_total key_of (c.word_at-word.result, (c.args.first.now, c.args.second.now)) kept c.self.invariant.0.sorted middle c.index-slot.result.now (omega arith) c.index-slot.ensures (sym c.in-Greater.ensures.order);
-      spent = λ digits above. let few = below_digits probes (length kept) digits (enough _ probes (length kept) c.loop-left.invariant.left some) above in omega (arith, few, c.in-Greater.ensures.counted);
-      left = subst (λ p. (c.loop-left.left / 2) * 2 ^ p ≤ length kept) (sym c.in-Greater.ensures.counted) (halved c.loop-left.left _ probes (length kept) c.loop-left.invariant.left (omega arith));
+      spent = λ digits above. let few = below_digits probes (length kept) digits (enough _ probes (length kept) c.loop-low.invariant.left some) above in omega (arith, few, c.in-Greater.ensures.counted);
+      left = subst (λ p. (middle - c.loop-low.low) * 2 ^ p ≤ length kept) (sym c.in-Greater.ensures.counted) (halved (c.loop-low.high - c.loop-low.low) _ probes (length kept) c.loop-low.invariant.left (omega arith));
     }
