@@ -5,6 +5,7 @@ ghost use Rattle.ref_parts.specs.Table.{entries_of, last_value, pair_count};
 use crate::asserts::{same, same_at};
 use ref_parts::SortedTable;
 use std::alloc::{AllocError, Global};
+use std::process::Abort;
 use std::test::Fail;
 
 // ---- each call through the bounds of a generic caller
@@ -30,94 +31,118 @@ fn value_at<'a, V: Drop>(table: &'a SortedTable<V>, first: &str, second: &str) -
     table.get(first, second).0
 }
 
-// ---- tables of numbers
-
-// A table of these entries.
-fn numbers(alloc: Global, entries: &[(&str, &str, u32)]) -> Result<SortedTable<u32>, AllocError> {
-    let mut given = Vec::new(alloc);
-    for (first, second, value) in entries {
-        let first = String::from_str(alloc, *first)?;
-        let second = String::from_str(alloc, *second)?;
-        given.push((first, second, *value))?;
-    }
-    table_of(alloc, given)
-}
-
-// How many pairs a table of these entries has, what it has under two texts, and how many probes that took.
-fn found(
+// Enters a value under two texts.
+fn enter<V: Drop>(
+    entries: &mut Vec<(String, String, V)>,
     alloc: Global,
-    entries: &[(&str, &str, u32)],
     first: &str,
     second: &str,
-) -> Result<(usize, Option<u32>, usize), AllocError> {
-    let table = numbers(alloc, entries)?;
-    let (value, probes) = table.get(first, second);
-    Ok((count_of(&table), value.copied(), probes))
+    value: V,
+) -> Result<(), AllocError> {
+    let first = String::from_str(alloc, first)?;
+    let second = String::from_str(alloc, second)?;
+    entries.push((first, second, value))?;
+    Ok(())
 }
 
-#[test]
-fn an_empty_table_answers_nothing(rt: HostRuntime) -> Result<(), Fail> {
-    same(&rt, found(rt.alloc(), &[], "a", "")?, (0, None, 0));
+// A table of one value, under a text and the empty one.
+fn table_of_one<V: Drop>(
+    alloc: Global,
+    first: &str,
+    value: V,
+) -> Result<SortedTable<V>, AllocError> {
+    let mut entries = Vec::new(alloc);
+    enter(&mut entries, alloc, first, "", value)?;
+    table_of(alloc, entries)
+}
+
+// ---- tables of numbers
+
+// Ends the test where a table of these entries hasn't so many pairs, or has under the two texts of a row another value than the
+// row's, or takes more probes for it.
+fn answers(
+    rt: &impl Abort,
+    alloc: Global,
+    entries: &[(&str, &str, u32)],
+    len: usize,
+    most: usize,
+    rows: &[(&str, &str, Option<u32>)],
+) -> Result<(), AllocError> {
+    let mut given = Vec::new(alloc);
+    for (first, second, value) in entries {
+        enter(&mut given, alloc, *first, *second, *value)?;
+    }
+    let table = table_of(alloc, given)?;
+    for (first, second, value) in rows {
+        let (found, probes) = table.get(*first, *second);
+        same_at(
+            rt,
+            (count_of(&table), found.copied(), probes <= most),
+            (len, *value, true),
+            (*first, *second),
+        );
+    }
     Ok(())
 }
 
 #[test]
 fn a_table_answers_the_last_value_of_a_pair(rt: HostRuntime) -> Result<(), Fail> {
-    let entries = [("b", "", 1), ("a", "", 2), ("b", "", 3)];
-    for (first, second, value) in [
-        ("b", "", Some(3)),
-        ("a", "", Some(2)),
-        ("c", "", None),
-        ("b", "b", None),
-    ] {
-        let (len, found, probes) = found(rt.alloc(), &entries, first, second)?;
-        same_at(&rt, (len, found), (2, value), (first, second));
-        assert!(rt; probes <= 2);
-    }
+    let alloc = rt.alloc();
+    // An empty table answers nothing.
+    answers(&rt, alloc, &[], 0, 0, &[("a", "", None)])?;
+    answers(
+        &rt,
+        alloc,
+        &[("b", "", 1), ("a", "", 2), ("b", "", 3)],
+        2,
+        2,
+        &[
+            ("b", "", Some(3)),
+            ("a", "", Some(2)),
+            ("c", "", None),
+            ("b", "b", None),
+        ],
+    )?;
+    // Second texts tell pairs apart.
+    answers(
+        &rt,
+        alloc,
+        &[("a", "y", 1), ("a", "x", 2), ("a", "", 3), ("a", "y", 4)],
+        3,
+        2,
+        &[
+            ("a", "", Some(3)),
+            ("a", "x", Some(2)),
+            ("a", "y", Some(4)),
+            ("a", "z", None),
+        ],
+    )?;
+    // Pairs are more than their texts together.
+    answers(
+        &rt,
+        alloc,
+        &[("ab", "", 1), ("a", "b", 2), ("", "ab", 3), ("abc", "", 4)],
+        4,
+        3,
+        &[
+            ("a", "b", Some(2)),
+            ("ab", "", Some(1)),
+            ("", "ab", Some(3)),
+            ("abc", "", Some(4)),
+            ("a", "", None),
+        ],
+    )?;
     Ok(())
 }
 
-#[test]
-fn second_texts_tell_pairs_apart(rt: HostRuntime) -> Result<(), Fail> {
-    let entries = [("a", "y", 1), ("a", "x", 2), ("a", "", 3), ("a", "y", 4)];
-    for (first, second, value) in [
-        ("a", "", Some(3)),
-        ("a", "x", Some(2)),
-        ("a", "y", Some(4)),
-        ("a", "z", None),
-    ] {
-        let (len, found, probes) = found(rt.alloc(), &entries, first, second)?;
-        same_at(&rt, (len, found), (3, value), (first, second));
-        assert!(rt; probes <= 2);
-    }
-    Ok(())
-}
-
-#[test]
-fn pairs_are_more_than_their_texts_together(rt: HostRuntime) -> Result<(), Fail> {
-    let entries = [("ab", "", 1), ("a", "b", 2), ("", "ab", 3), ("abc", "", 4)];
-    for (first, second, value) in [
-        ("a", "b", Some(2)),
-        ("ab", "", Some(1)),
-        ("", "ab", Some(3)),
-        ("abc", "", Some(4)),
-        ("a", "", None),
-    ] {
-        let (len, found, probes) = found(rt.alloc(), &entries, first, second)?;
-        same_at(&rt, (len, found), (4, value), (first, second));
-        assert!(rt; probes <= 3);
-    }
-    Ok(())
-}
-
-// A URI and a name, which differ for numbers that differ.
-fn uri_and_name(alloc: Global, number: u32) -> Result<(String, String), AllocError> {
+// A URI, alike for two numbers that follow one another, and the name that tells them apart.
+fn uri_of(alloc: Global, number: u32) -> Result<String, AllocError> {
     let uri = number / 2;
-    let name = number % 2;
-    Ok((
-        format!(in alloc; "http://example.com/schemas/{uri}")?,
-        format!(in alloc; "{name}")?,
-    ))
+    format!(in alloc; "http://example.com/schemas/{uri}")
+}
+
+fn name_of(number: u32) -> &'static str {
+    if number % 2 == 0 { "0" } else { "1" }
 }
 
 // The most probes that a table of this many pairs takes for one that it has or one that it hasn't, where it has each with its
@@ -125,14 +150,14 @@ fn uri_and_name(alloc: Global, number: u32) -> Result<(String, String), AllocErr
 fn most_probes(alloc: Global, count: u32) -> Result<Option<usize>, AllocError> {
     let mut entries = Vec::new(alloc);
     for number in 0..count {
-        let (uri, name) = uri_and_name(alloc, number)?;
-        entries.push((uri, name, number))?;
+        let uri = uri_of(alloc, number)?;
+        enter(&mut entries, alloc, uri.as_str(), name_of(number), number)?;
     }
     let table = table_of(alloc, entries)?;
     let mut most = 0usize;
     for number in 0..count {
-        let (uri, name) = uri_and_name(alloc, number)?;
-        let (value, probes) = table.get(uri.as_str(), name.as_str());
+        let uri = uri_of(alloc, number)?;
+        let (value, probes) = table.get(uri.as_str(), name_of(number));
         let (none, probes_for_none) = table.get(uri.as_str(), "2");
         if value.copied() != Some(number) || none.is_some() {
             return Ok(None);
@@ -142,69 +167,34 @@ fn most_probes(alloc: Global, count: u32) -> Result<Option<usize>, AllocError> {
     Ok(Some(most))
 }
 
-#[test]
-fn a_thousand_pairs_take_at_most_ten_probes(rt: HostRuntime) -> Result<(), Fail> {
-    let most = most_probes(rt.alloc(), 1_000)?.ok_or("a value is missing")?;
-    assert!(rt; most <= 10);
-    Ok(())
-}
-
 // What a table has of this many entries under one pair, each with its place.
 fn equal_pairs(alloc: Global, count: u32) -> Result<(usize, Option<u32>, usize), AllocError> {
     let mut entries = Vec::new(alloc);
     for place in 0..count {
-        let first = String::from_str(alloc, "a")?;
-        let second = String::from_str(alloc, "b")?;
-        entries.push((first, second, place))?;
+        enter(&mut entries, alloc, "a", "b", place)?;
     }
     let table = table_of(alloc, entries)?;
     let (value, probes) = table.get("a", "b");
     Ok((count_of(&table), value.copied(), probes))
 }
 
+// A thousand pairs take at most ten probes, and of equal pairs the last stays.
 #[test]
-fn of_equal_pairs_the_last_stays(rt: HostRuntime) -> Result<(), Fail> {
+fn large_tables_answer_by_few_probes(rt: HostRuntime) -> Result<(), Fail> {
+    let most = most_probes(rt.alloc(), 1_000)?.unwrap_or(11);
+    same(&rt, most <= 10, true);
     same(&rt, equal_pairs(rt.alloc(), 100_000)?, (1, Some(99_999), 1));
     Ok(())
 }
 
 // ---- tables of what owns and of what borrows
 
-// What a table of owned texts has under a pair.
-fn owned_text(alloc: Global, first: &str, value: &str) -> Result<Option<String>, AllocError> {
-    let mut entries = Vec::new(alloc);
-    let key = String::from_str(alloc, first)?;
-    let text = String::from_str(alloc, value)?;
-    entries.push((key, String::new(alloc), text))?;
-    let table = table_of(alloc, entries)?;
-    match value_at(&table, first, "") {
-        Some(text) => Ok(Some(text.clone()?)),
-        None => Ok(None),
-    }
-}
-
-// What a table of borrowed texts has under a pair.
-fn lent_text<'a>(
-    alloc: Global,
-    first: &str,
-    value: &'a str,
-) -> Result<Option<&'a str>, AllocError> {
-    let mut entries = Vec::new(alloc);
-    let key = String::from_str(alloc, first)?;
-    entries.push((key, String::new(alloc), value))?;
-    let table = table_of(alloc, entries)?;
-    Ok(value_at(&table, first, "").copied())
-}
-
 #[test]
 fn a_table_lends_what_it_owns_and_what_it_borrows(rt: HostRuntime) -> Result<(), Fail> {
     let value = String::from_str(rt.alloc(), "value")?;
-    let owned = owned_text(rt.alloc(), "a", value.as_str())?;
-    same(&rt, owned.as_deref(), Some("value"));
-    same(
-        &rt,
-        lent_text(rt.alloc(), "a", value.as_str())?,
-        Some("value"),
-    );
+    let owned = table_of_one(rt.alloc(), "a", value.clone()?)?;
+    same(&rt, value_at(&owned, "a", ""), Some(&value));
+    let lent = table_of_one(rt.alloc(), "a", value.as_str())?;
+    same(&rt, value_at(&lent, "a", "").copied(), Some("value"));
     Ok(())
 }
