@@ -20,13 +20,21 @@ fn key_segments_are_equal(alloc: Global) -> Result<bool, AllocError> {
 
 #[test]
 fn segments_come_from_keys_and_indexes(rt: HostRuntime) -> Result<(), Fail> {
-    assert!(rt; key_segments_are_equal(rt.alloc())?);
+    let is_equal = key_segments_are_equal(rt.alloc())?;
     let key = JsonPointerSegment::from("a");
     let copy = key.clone()?;
-    assert!(rt; matches!(copy, JsonPointerSegment::Key(CowStr::Borrowed("a"))));
     let index = JsonPointerSegment::from(3usize);
-    assert!(rt; index == JsonPointerSegment::Index(3) && index != key);
-    assert!(rt; key != JsonPointerSegment::from("b"));
+    same(
+        &rt,
+        [
+            is_equal,
+            matches!(copy, JsonPointerSegment::Key(CowStr::Borrowed("a"))),
+            index == JsonPointerSegment::Index(3),
+            index != key,
+            key != JsonPointerSegment::from("b"),
+        ],
+        [true, true, true, true, true],
+    );
     Ok(())
 }
 
@@ -35,30 +43,12 @@ fn item<'a>(alloc: Global, key: &'a str) -> Result<JsonPointerNode<'a>, AllocErr
     JsonPointerNode::new().push(alloc, key)?.push(alloc, 3usize)
 }
 
-// Whether the paths of a key, pushed as text, as a string and as either, are equal.
+// Whether the paths of a key, pushed as a string and as either, are equal to the one pushed as text.
 fn keys_are_pushed_alike(alloc: Global) -> Result<bool, AllocError> {
     let key = String::from_str(alloc, "a")?;
     let root = JsonPointerNode::new();
     let a = root.push(alloc, "a")?;
     Ok(root.push(alloc, &key)? == a && root.push(alloc, CowStr::Borrowed("a"))? == a)
-}
-
-// Whether a path is equal to its copy, to one that was made as it was, and to one of another key.
-fn equal_to(alloc: Global) -> Result<(bool, bool, bool), AllocError> {
-    let node = item(alloc, "a")?;
-    Ok((
-        node.clone()? == node,
-        item(alloc, "a")? == node,
-        item(alloc, "b")? == node,
-    ))
-}
-
-// Whether the node above one has this segment.
-fn stands_below(node: &JsonPointerNode<'_>, segment: &JsonPointerSegment<'_>) -> bool {
-    match node.parent() {
-        Some(parent) => *parent.segment() == *segment,
-        None => false,
-    }
 }
 
 // Whether a node is the root: without a node above it, at the index 0, and equal to the default.
@@ -68,35 +58,38 @@ fn is_root(node: &JsonPointerNode<'_>) -> bool {
         && *node == JsonPointerNode::default()
 }
 
-// Whether a node is the path of a key behind a root.
-fn is_first<'a>(
+// Whether the node above one is the path of a key behind a root, with that key as its segment.
+fn stands_below<'a>(
     alloc: Global,
     node: &JsonPointerNode<'a>,
     key: &'a str,
 ) -> Result<bool, AllocError> {
-    match node.parent() {
-        Some(root) => {
-            let path = root.push(alloc, key)?;
-            Ok(is_root(root) && path == *node)
-        }
-        None => Ok(false),
-    }
+    let Some(parent) = node.parent() else {
+        return Ok(false);
+    };
+    let Some(root) = parent.parent() else {
+        return Ok(false);
+    };
+    let is_key = *parent.segment() == JsonPointerSegment::from(key);
+    Ok(is_key && is_root(root) && root.push(alloc, key)? == *parent)
 }
 
+// A node has its parts and its parent, and is equal to its copy and to one that was made as it was, and to none of another key.
 #[test]
-fn keys_are_pushed_and_nodes_compared(rt: HostRuntime) -> Result<(), Fail> {
-    assert!(rt; keys_are_pushed_alike(rt.alloc())?);
-    same(&rt, equal_to(rt.alloc())?, (true, true, false));
-    Ok(())
-}
-
-#[test]
-fn a_node_has_its_parts_and_its_parent(rt: HostRuntime) -> Result<(), Fail> {
+fn a_node_has_its_parts_and_is_compared(rt: HostRuntime) -> Result<(), Fail> {
     let node = item(rt.alloc(), "a")?;
-    assert!(rt; *node.segment() == JsonPointerSegment::Index(3));
-    assert!(rt; stands_below(&node, &JsonPointerSegment::from("a")));
-    let parent = node.parent().ok_or("no parent")?;
-    assert!(rt; is_first(rt.alloc(), parent, "a")?);
+    same(
+        &rt,
+        [
+            keys_are_pushed_alike(rt.alloc())?,
+            *node.segment() == JsonPointerSegment::Index(3),
+            stands_below(rt.alloc(), &node, "a")?,
+            node.clone()? == node,
+            item(rt.alloc(), "a")? == node,
+            item(rt.alloc(), "b")? == node,
+        ],
+        [true, true, true, true, true, false],
+    );
     Ok(())
 }
 
@@ -104,12 +97,18 @@ fn a_node_has_its_parts_and_its_parent(rt: HostRuntime) -> Result<(), Fail> {
 #[test]
 fn a_refused_part_leaves_the_node(rt: HostRuntime) -> Result<(), Fail> {
     let node = JsonPointerNode::new().push(rt.alloc(), 1usize)?;
-    assert!(rt; node.clone().is_ok());
-    assert!(rt; JsonPointerNode::new().clone().is_ok());
     let longer = node.push(rt.alloc(), 2usize);
-    assert!(rt; *node.segment() == JsonPointerSegment::Index(1));
+    same(
+        &rt,
+        [
+            node.clone().is_ok(),
+            JsonPointerNode::new().clone().is_ok(),
+            *node.segment() == JsonPointerSegment::Index(1),
+        ],
+        [true, true, true],
+    );
     if let Ok(longer) = longer {
-        assert!(rt; *longer.segment() == JsonPointerSegment::Index(2));
+        same(&rt, *longer.segment() == JsonPointerSegment::Index(2), true);
     }
     Ok(())
 }
@@ -120,6 +119,10 @@ fn a_long_node_is_dropped(rt: HostRuntime) -> Result<(), Fail> {
     for index in 0..100_000usize {
         node = node.push(rt.alloc(), index)?;
     }
-    assert!(rt; *node.segment() == JsonPointerSegment::Index(99_999));
+    same(
+        &rt,
+        *node.segment() == JsonPointerSegment::Index(99_999),
+        true,
+    );
     Ok(())
 }
