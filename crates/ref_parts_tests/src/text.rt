@@ -8,6 +8,7 @@ use ref_parts::{
 use serde_json::Value;
 use std::alloc::{AllocError, Global};
 use std::borrow::CowStr;
+use std::process::Abort;
 use std::test::Fail;
 
 #[test]
@@ -82,21 +83,13 @@ fn the_first_escape_is_found(rt: HostRuntime) {
     }
 }
 
-// Whether the escape is found behind these many other bytes and before those many, whatever these are: 90 of them make more
-// than a block.
-fn is_found(alloc: Global, escape: u8, before: usize, after: usize) -> Result<bool, AllocError> {
-    Ok(
-        is_found_before(alloc, escape, before, after, b'/')?
-            && is_found_before(alloc, escape, before, after, b'.')?,
-    )
-}
-
-fn is_found_before(
+// Whether an escape is found behind these many other bytes and before those many, whatever these are: 90 of them make more than a
+// block.
+fn is_found(
     alloc: Global,
-    escape: u8,
+    (escape, behind): (u8, u8),
     before: usize,
     after: usize,
-    behind: u8,
 ) -> Result<bool, AllocError> {
     let mut bytes = Vec::new(alloc);
     for _ in 0..before {
@@ -112,18 +105,26 @@ fn is_found_before(
 
 #[test]
 fn an_escape_is_found_at_each_place(rt: HostRuntime) -> Result<(), Fail> {
-    for others in 0..25usize {
-        for before in 0..others {
-            let after = others.saturating_sub(before);
-            assert!(rt; is_found(rt.alloc(), b'~', before, after)?);
-            assert!(rt; is_found(rt.alloc(), b'/', before, after)?);
+    for bytes in [(b'~', b'/'), (b'~', b'.'), (b'/', b'/'), (b'/', b'.')] {
+        for others in 0..25usize {
+            for before in 0..others.saturating_add(1) {
+                let after = others.saturating_sub(before);
+                same_at(
+                    &rt,
+                    is_found(rt.alloc(), bytes, before, after)?,
+                    true,
+                    (before, after),
+                );
+            }
         }
-        assert!(rt; is_found(rt.alloc(), b'~', others, 0)?);
-        assert!(rt; is_found(rt.alloc(), b'/', others, 0)?);
-    }
-    for before in 60..90usize {
-        assert!(rt; is_found(rt.alloc(), b'~', before, 9)?);
-        assert!(rt; is_found(rt.alloc(), b'/', before, 9)?);
+        for before in 60..90usize {
+            same_at(
+                &rt,
+                is_found(rt.alloc(), bytes, before, 9)?,
+                true,
+                (before, 9usize),
+            );
+        }
     }
     Ok(())
 }
@@ -140,8 +141,13 @@ fn unescaped(alloc: Global, token: &str) -> Result<String, AllocError> {
     unescape_segment(alloc, token)?.into_owned(alloc)
 }
 
+// Whether the key of a token is lent by it.
+fn is_borrowed(alloc: Global, token: &str) -> Result<bool, AllocError> {
+    Ok(matches!(unescape_segment(alloc, token)?, CowStr::Borrowed(key) if key == token))
+}
+
 #[test]
-fn tokens_are_unescaped_by_two_replacements(rt: HostRuntime) -> Result<(), Fail> {
+fn tokens_are_unescaped_by_two_replacements_in_order(rt: HostRuntime) -> Result<(), Fail> {
     for token in [
         "",
         "abc",
@@ -180,28 +186,19 @@ fn tokens_are_unescaped_by_two_replacements(rt: HostRuntime) -> Result<(), Fail>
             token,
         );
     }
-    Ok(())
-}
-
-// Whether the key of a token is lent by it.
-fn is_borrowed(alloc: Global, token: &str) -> Result<bool, AllocError> {
-    Ok(matches!(unescape_segment(alloc, token)?, CowStr::Borrowed(key) if key == token))
-}
-
-#[test]
-fn tokens_are_unescaped_in_order(rt: HostRuntime) -> Result<(), Fail> {
     for (token, key) in [("~~1", "~/"), ("~~0", "~~"), ("~01", "~1"), ("~", "~")] {
         same_at(&rt, unescaped(rt.alloc(), token)?.as_str(), key, token);
     }
-    assert!(rt; is_borrowed(rt.alloc(), "a/b")?);
+    same(&rt, is_borrowed(rt.alloc(), "a/b")?, true);
     Ok(())
 }
 
-fn text_at(alloc: Global, document: &str, text: &str) -> Result<Option<String>, Fail> {
+// The JSON text of what a pointer means in a document, and "none" where it means nothing.
+fn text_at(alloc: Global, document: &str, text: &str) -> Result<String, Fail> {
     let document = Value::from_str(alloc, document)?;
     match pointer(alloc, &document, text)? {
-        Some(value) => Ok(Some(value.to_string(alloc)?)),
-        None => Ok(None),
+        Some(value) => Ok(value.to_string(alloc)?),
+        None => Ok(String::from_str(alloc, "none")?),
     }
 }
 
@@ -212,41 +209,44 @@ fn pointers_mean_values(rt: HostRuntime) -> Result<(), Fail> {
         r#"{"foo":["bar","baz"],"":0,"a/b":1,"c%d":2,"e^f":3,"g|h":4,"i\\j":5,"k\"l":6," ":7,"m~n":8}"#;
     let small = r#"{"":{"a/b":[5]}}"#;
     for (document, text, value) in [
-        (document, "/foo", Some(r#"["bar","baz"]"#)),
-        (document, "/foo/0", Some(r#""bar""#)),
-        (document, "/", Some("0")),
-        (document, "/a~1b", Some("1")),
-        (document, "/c%d", Some("2")),
-        (document, "/e^f", Some("3")),
-        (document, "/g|h", Some("4")),
-        (document, "/i\\j", Some("5")),
-        (document, "/k\"l", Some("6")),
-        (document, "/ ", Some("7")),
-        (document, "/m~0n", Some("8")),
-        (small, "", Some(small)),
-        (small, "//a~1b/0", Some("5")),
-        (document, "a", None),
-        (document, "/foo/2", None),
-        (document, "/foo/-", None),
-        (document, "/foo/00", None),
-        (document, "/foo/+1", None),
-        (document, "/nope", None),
-        (document, "/m~n/x", None),
-        (document, "//x", None),
+        (document, "/foo", r#"["bar","baz"]"#),
+        (document, "/foo/0", r#""bar""#),
+        (document, "/", "0"),
+        (document, "/a~1b", "1"),
+        (document, "/c%d", "2"),
+        (document, "/e^f", "3"),
+        (document, "/g|h", "4"),
+        (document, "/i\\j", "5"),
+        (document, "/k\"l", "6"),
+        (document, "/ ", "7"),
+        (document, "/m~0n", "8"),
+        (small, "", small),
+        (small, "//a~1b/0", "5"),
+        (document, "a", "none"),
+        (document, "/foo/2", "none"),
+        (document, "/foo/-", "none"),
+        (document, "/foo/00", "none"),
+        (document, "/foo/+1", "none"),
+        (document, "/nope", "none"),
+        (document, "/m~n/x", "none"),
+        (document, "//x", "none"),
     ] {
         let found = text_at(rt.alloc(), document, text)?;
-        same_at(&rt, found.as_deref(), value, text);
+        same_at(&rt, found.as_str(), value, text);
     }
     Ok(())
 }
 
-// What a buffer holds and what it is read back as, after some texts are pushed and cleared, and then others pushed; and
-// whether its encoded string tells the same.
-fn read_back(
+// Ends the test where a buffer holds another text, or it or its encoded string is read back otherwise, after some texts are pushed
+// and cleared, and then others pushed.
+fn is_read_back(
+    rt: &impl Abort,
     alloc: Global,
     cleared: [&str; 2],
     pushed: [&str; 3],
-) -> Result<(String, String, bool), AllocError> {
+    text: &str,
+    read: &str,
+) -> Result<(), AllocError> {
     let mut buffer = EncodedBuffer::new(alloc);
     for text in cleared {
         buffer.push_str(text)?;
@@ -255,10 +255,11 @@ fn read_back(
     for text in pushed {
         buffer.push_str(text)?;
     }
-    let read = buffer.decode(alloc)?;
     let encoded = buffer.as_encoded();
-    let is_same = encoded.as_str() == buffer.as_str() && encoded.decode(alloc)? == read;
-    Ok((String::from_str(alloc, buffer.as_str())?, read, is_same))
+    same(rt, (buffer.as_str(), encoded.as_str()), (text, text));
+    same(rt, buffer.decode(alloc)?.as_str(), read);
+    same(rt, encoded.decode(alloc)?.as_str(), read);
+    Ok(())
 }
 
 #[test]
@@ -281,9 +282,7 @@ fn escaped_text_is_read_back(rt: HostRuntime) -> Result<(), Fail> {
             "~ ?AZaz09-._~!$&'()*+,;=:@/?\"#<>[\\]^`{|}",
         ),
     ] {
-        let (held, read_again, is_same) = read_back(rt.alloc(), cleared, pushed)?;
-        same(&rt, (held.as_str(), read_again.as_str()), (text, read));
-        assert!(rt; is_same);
+        is_read_back(&rt, rt.alloc(), cleared, pushed, text, read)?;
     }
     Ok(())
 }
