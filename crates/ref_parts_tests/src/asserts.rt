@@ -1,5 +1,7 @@
-//! The assertions of the tests. One that is written out in a test is proved there once more, and is the dearest part of it.
+//! The assertions of the tests, and how a value is shown. An assertion that is written out in a test is proved there once
+//! more, and is the dearest part of it.
 
+use std::alloc::{AllocError, Global};
 use std::fmt;
 use std::process::Abort;
 
@@ -18,7 +20,7 @@ pub fn same_at<T: PartialEq + fmt::Debug + Copy, P: fmt::Debug + Copy>(
     assert_eq!(rt; found, wanted, "at {place:?}");
 }
 
-/// Ends the test where this is false, and says where in its table.
-pub fn holds_at<P: fmt::Debug + Copy>(rt: &impl Abort, is_so: bool, place: P) {
-    assert!(rt; is_so, "at {place:?}");
+/// How a value is shown.
+pub fn debug_text<T: fmt::Debug>(alloc: Global, value: &T) -> Result<String, AllocError> {
+    format!(in alloc; "{value:?}")
 }

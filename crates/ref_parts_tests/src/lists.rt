@@ -1,11 +1,11 @@
 //! The shared list.
 ghost use Rattle.std.specs.Prelude.{◌≡◌, [], ◌∷◌, IfOk, IsTrue};
 
-use crate::asserts::{same, same_at};
+use crate::asserts::{debug_text, same, same_at};
 use ref_parts::List;
 use std::alloc::{AllocError, Global};
-use std::fmt;
 use std::hash::{DefaultHasher, Hash, Hasher};
+use std::process::Abort;
 use std::rc::Rc;
 use std::test::Fail;
 
@@ -60,145 +60,136 @@ fn hash_of<T: Hash>(value: &T) -> u64 {
     hasher.finish()
 }
 
-fn debug_text<T: fmt::Debug>(alloc: Global, value: &T) -> Result<String, AllocError> {
-    format!(in alloc; "{value:?}")
-}
-
 fn let_go<T: Drop>(value: T) {
     drop(value)
 }
 
 // ---- lists of numbers
 
-// The numbers below a count, the greatest in front.
-fn numbers(alloc: Global, count: u32) -> Result<List<u32>, AllocError> {
-    let mut list = List::new();
-    for number in 0..count {
-        list = list.push_front(alloc, Rc::new(alloc, number)?)?;
-    }
-    Ok(list)
-}
-
 // What a list tells: whether it is empty, its front, what its iterator gives at first and then again and again, and the
 // sum of its items.
 fn told(list: &List<u32>) -> (bool, Option<u32>, Option<u32>, [Option<u32>; 4], u32) {
-    let front = front_of(list).copied();
-    let first = iter_of(list).next().copied();
     let mut items = list.iter();
-    let given = [(), (), (), ()].map(|_| items.next().copied());
+    let given = [
+        items.next().copied(),
+        items.next().copied(),
+        items.next().copied(),
+        items.next().copied(),
+    ];
     let mut sum = 0u32;
     for item in list {
         sum = sum.saturating_add(*item);
     }
-    (list.is_empty(), front, first, given, sum)
+    (
+        list.is_empty(),
+        front_of(list).copied(),
+        iter_of(list).next().copied(),
+        given,
+        sum,
+    )
 }
 
-// What is told of an empty list, of one with 2 in front of that, and of one with 1 in front of that again.
-fn told_of_three(
+// Ends the test where a list is shown otherwise than as this text. Its iterator can be shown too.
+fn is_shown(
+    rt: &impl Abort,
     alloc: Global,
-) -> Result<[(bool, Option<u32>, Option<u32>, [Option<u32>; 4], u32); 3], AllocError> {
-    let empty = List::new();
-    let one = empty.push_front(alloc, Rc::new(alloc, 2)?)?;
-    let two = one.push_front(alloc, Rc::new(alloc, 1)?)?;
-    Ok([told(&empty), told(&one), told(&two)])
-}
-
-// How a list of these numbers is shown. Its iterator can be shown too.
-fn shown(alloc: Global, items: &[u32]) -> Result<String, AllocError> {
-    let mut list = List::new();
-    for item in items.iter().rev() {
-        list = list.push_front(alloc, Rc::new(alloc, *item)?)?;
-    }
-    drop(debug_text(alloc, &list.iter())?);
-    debug_text(alloc, &list)
+    list: &List<u32>,
+    text: &str,
+) -> Result<(), AllocError> {
+    let_go(debug_text(alloc, &list.iter())?);
+    same(rt, debug_text(alloc, list)?.as_str(), text);
+    Ok(())
 }
 
 #[test]
 fn a_list_has_its_items_in_order(rt: HostRuntime) -> Result<(), Fail> {
+    let alloc = rt.alloc();
+    let empty = List::new();
+    let one = empty.push_front(alloc, Rc::new(alloc, 2u32)?)?;
+    let two = one.push_front(alloc, Rc::new(alloc, 1u32)?)?;
     same(
         &rt,
-        told_of_three(rt.alloc())?,
+        [told(&empty), told(&one), told(&two)],
         [
             (true, None, None, [None, None, None, None], 0),
             (false, Some(2), Some(2), [Some(2), None, None, None], 2),
             (false, Some(1), Some(1), [Some(1), Some(2), None, None], 3),
         ],
     );
-    for (items, text) in [
-        ([].as_slice(), "[]"),
-        ([2].as_slice(), "[2]"),
-        ([1, 2].as_slice(), "[1, 2]"),
-    ] {
-        same(&rt, shown(rt.alloc(), items)?.as_str(), text);
+    for (list, text) in [(&empty, "[]"), (&one, "[2]"), (&two, "[1, 2]")] {
+        is_shown(&rt, alloc, list, text)?;
     }
     Ok(())
 }
 
-// A list of the texts a and b, of which the first is given.
-fn texts(alloc: Global, first: &Rc<String>) -> Result<List<String>, AllocError> {
-    pair_of(
-        alloc,
-        first.clone()?,
-        Rc::new(alloc, String::from_str(alloc, "b")?)?,
-    )
-}
-
-// What a list of texts and its copy tell: the front, the count, and whether they are equal and hash alike.
-fn texts_told(alloc: Global) -> Result<(String, u32, bool, bool), AllocError> {
-    let list = texts(alloc, &Rc::new(alloc, String::from_str(alloc, "a")?)?)?;
-    let copy = copy_of(&list)?;
-    Ok((
-        debug_text(alloc, &front_of(&list))?,
-        count_of(&copy),
-        are_equal(&list, &copy),
-        hash_of(&list) == hash_of(&copy),
-    ))
-}
-
-// How the copy of a list is shown once the list is gone, and then a longer one once the copy is gone.
-fn texts_shown(alloc: Global) -> Result<(String, String), AllocError> {
-    let first = Rc::new(alloc, String::from_str(alloc, "a")?)?;
-    let list = texts(alloc, &first)?;
-    let copy = copy_of(&list)?;
-    let_go(list);
-    let longer = copy.push_front(alloc, first)?;
-    let shown = debug_text(alloc, &copy)?;
-    let_go(copy);
-    Ok((shown, debug_text(alloc, &longer)?))
-}
-
-#[test]
-fn a_list_of_texts_serves_generic_callers(rt: HostRuntime) -> Result<(), Fail> {
-    let (front, count, are_equal, hash_alike) = texts_told(rt.alloc())?;
-    same(&rt, front.as_str(), "Some(\"a\")");
-    same(&rt, count, 2);
-    assert!(rt; are_equal && hash_alike);
-    let (copy, longer) = texts_shown(rt.alloc())?;
-    same(&rt, copy.as_str(), "[\"a\", \"b\"]");
-    same(&rt, longer.as_str(), "[\"a\", \"a\", \"b\"]");
+// Ends the test where these aren't two equal lists of two texts, of which the first is a.
+fn are_two_texts(
+    rt: &impl Abort,
+    alloc: Global,
+    list: &List<String>,
+    copy: &List<String>,
+) -> Result<(), AllocError> {
+    same(
+        rt,
+        (
+            count_of(copy),
+            are_equal(list, copy),
+            hash_of(list) == hash_of(copy),
+        ),
+        (2, true, true),
+    );
+    same(
+        rt,
+        debug_text(alloc, &front_of(list))?.as_str(),
+        "Some(\"a\")",
+    );
     Ok(())
 }
 
-// Whether lists of so many numbers are equal, also by a call that only knows that they can be, and whether they hash alike
-// where they are.
-fn likeness(alloc: Global, count: u32, other: u32) -> Result<(bool, bool, bool), AllocError> {
-    let one = numbers(alloc, count)?;
-    let two = numbers(alloc, other)?;
+// A list and its copy, and how the copy is shown once the list is gone, and a longer one once the copy is gone.
+#[test]
+fn a_list_of_texts_serves_generic_callers(rt: HostRuntime) -> Result<(), Fail> {
+    let alloc = rt.alloc();
+    let second = Rc::new(alloc, String::from_str(alloc, "b")?)?;
+    let first = Rc::new(alloc, String::from_str(alloc, "a")?)?;
+    let list = pair_of(alloc, first.clone()?, second)?;
+    let copy = copy_of(&list)?;
+    are_two_texts(&rt, alloc, &list, &copy)?;
+    let_go(list);
+    let longer = copy.push_front(alloc, first)?;
+    same(&rt, debug_text(alloc, &copy)?.as_str(), "[\"a\", \"b\"]");
+    let_go(copy);
+    same(
+        &rt,
+        debug_text(alloc, &longer)?.as_str(),
+        "[\"a\", \"a\", \"b\"]",
+    );
+    Ok(())
+}
+
+// A list with the numbers below a count in front of another list, the greatest in front.
+fn lengthened(list: List<u32>, alloc: Global, count: u32) -> Result<List<u32>, AllocError> {
+    let mut longer = list;
+    for number in 0..count {
+        longer = longer.push_front(alloc, Rc::new(alloc, number)?)?;
+    }
+    Ok(longer)
+}
+
+// Whether lists of so many numbers are equal, also by a call that only knows that they can be; whether they hash alike where
+// they are; whether the one is equal to its copy, and whether it is to the other with 7 in front.
+fn likeness(alloc: Global, count: u32, other: u32) -> Result<[bool; 5], AllocError> {
+    let one = lengthened(List::new(), alloc, count)?;
+    let two = lengthened(List::new(), alloc, other)?;
+    let longer = two.push_front(alloc, Rc::new(alloc, 7u32)?)?;
     let is_equal = one == two;
-    let hash_alike = hash_of(&one) == hash_of(&two);
-    Ok((is_equal, are_alike(&one, &two), !is_equal || hash_alike))
-}
-
-// Whether a list of so many numbers is equal to its copy.
-fn equals_its_copy(alloc: Global, count: u32) -> Result<bool, AllocError> {
-    let list = numbers(alloc, count)?;
-    Ok(list.clone()? == list)
-}
-
-// Whether a list of so many numbers and one with 7 in front of one fewer are equal.
-fn equals_with_seven(alloc: Global, count: u32) -> Result<bool, AllocError> {
-    let other = numbers(alloc, count.saturating_sub(1))?.push_front(alloc, Rc::new(alloc, 7)?)?;
-    Ok(numbers(alloc, count)? == other)
+    Ok([
+        is_equal,
+        are_alike(&one, &two),
+        !is_equal || hash_of(&one) == hash_of(&two),
+        one.clone()? == one,
+        one == longer,
+    ])
 }
 
 #[test]
@@ -207,54 +198,51 @@ fn equal_lists_are_equal_and_hash_alike(rt: HostRuntime) -> Result<(), Fail> {
         same_at(
             &rt,
             likeness(rt.alloc(), count, other)?,
-            (is_equal, is_equal, true),
+            [is_equal, is_equal, true, true, false],
             (count, other),
         );
     }
-    assert!(rt; equals_its_copy(rt.alloc(), 3)?);
-    assert!(rt; !equals_with_seven(rt.alloc(), 3)?);
     Ok(())
 }
 
 #[test]
 fn a_list_of_a_million_items_is_dropped(rt: HostRuntime) -> Result<(), Fail> {
-    let alloc = rt.alloc();
-    let tail = numbers(alloc, 1_000_000)?;
-    {
-        let mut longer = tail.clone()?;
-        for number in 0..1_000u32 {
-            longer = longer.push_front(alloc, Rc::new(alloc, number)?)?;
-        }
-        same(&rt, longer.iter().next().copied(), Some(999));
-    }
-    same(&rt, tail.iter().next().copied(), Some(999_999));
-    same(&rt, count_of(&tail), 1_000_000);
+    let tail = lengthened(List::new(), rt.alloc(), 1_000_000)?;
+    let longer = lengthened(tail.clone()?, rt.alloc(), 1_000)?;
+    same(&rt, front_of(&longer).copied(), Some(999));
+    let_go(longer);
+    same(
+        &rt,
+        (front_of(&tail).copied(), count_of(&tail)),
+        (Some(999_999), 1_000_000),
+    );
     Ok(())
 }
 
 // ---- want of memory
 
-// What a list tells that may want memory for an item in front: its first item and its count, and those of the longer one.
-fn lengthened(
-    alloc: Global,
-    list: &List<u32>,
-) -> Result<[Option<(Option<u32>, u32)>; 2], AllocError> {
-    let item = Rc::new(alloc, 7u32)?;
-    let longer = match list.push_front(alloc, item) {
-        Ok(longer) => Some((front_of(&longer).copied(), count_of(&longer))),
-        Err(_) => None,
-    };
-    Ok([Some((front_of(list).copied(), count_of(list))), longer])
-}
-
 // Whichever growth is refused, a list is copied, and an item that can't be put in front leaves the list as it was.
 #[test]
 fn a_refused_link_leaves_the_list(rt: HostRuntime) -> Result<(), Fail> {
-    let list = numbers(rt.alloc(), 2)?;
-    assert!(rt; list.clone().is_ok());
-    assert!(rt; List::<u32>::new().clone().is_ok());
-    let [shorter, longer] = lengthened(rt.alloc(), &list)?;
-    same(&rt, shorter, Some((Some(1), 2)));
-    same(&rt, longer.unwrap_or((Some(7), 3)), (Some(7), 3));
+    let list = lengthened(List::new(), rt.alloc(), 2)?;
+    let item = Rc::new(rt.alloc(), 7u32)?;
+    same(
+        &rt,
+        (list.clone().is_ok(), List::<u32>::new().clone().is_ok()),
+        (true, true),
+    );
+    let longer = list.push_front(rt.alloc(), item);
+    same(
+        &rt,
+        (front_of(&list).copied(), count_of(&list)),
+        (Some(1), 2),
+    );
+    if let Ok(longer) = longer {
+        same(
+            &rt,
+            (front_of(&longer).copied(), count_of(&longer)),
+            (Some(7), 3),
+        );
+    }
     Ok(())
 }

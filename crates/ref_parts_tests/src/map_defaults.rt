@@ -2,8 +2,8 @@
 ghost use Rattle.std.specs.Prelude.{◌≡◌, ℕ, false, Some, OnOk, OnErr, nat_eq};
 ghost use Rattle.std.specs.Map.{lookup};
 
-use crate::asserts::{holds_at, same, same_at};
-use crate::maps::{counts, put_numbers, told, value_at};
+use crate::asserts::{same, same_at};
+use crate::maps::{Told, map_of, put_numbers, told, value_at};
 use ref_parts::SmallMap;
 use std::alloc::{AllocError, Global};
 use std::hash::Hash;
@@ -52,53 +52,39 @@ fn replaced(
     key: &str,
     value: u32,
 ) -> Result<(u32, Option<u32>, Option<u32>), AllocError> {
-    let mut map = counts(alloc, &[("key", 42)])?;
+    let mut map = map_of(alloc, String::from_str(alloc, "key")?, 42u32)?;
     let found = replace(&mut map, alloc, String::from_str(alloc, key)?, value)?;
     Ok((found, value_at(&map, "key"), value_at(&map, "missing")))
 }
 
-#[test]
-fn a_key_that_is_there_keeps_its_value(rt: HostRuntime) -> Result<(), Fail> {
-    same(&rt, replaced(rt.alloc(), "key", 42)?, (42, Some(42), None));
-    same(
-        &rt,
-        replaced(rt.alloc(), "missing", 7)?,
-        (0, Some(42), Some(7)),
-    );
-    Ok(())
-}
-
-// A map that grows past its bound by a default: what is found there, and what the map tells.
-fn grown(alloc: Global) -> Result<(u32, (bool, [Option<u32>; 5])), AllocError> {
+// A map that grows past its bound by a default, and then by another: what is found at the first and what the map tells,
+// whether there was memory for the other and for one at a key that is there, and what the map tells then.
+fn grown(alloc: Global) -> Result<(u32, Told, [bool; 2], Told), AllocError> {
     let mut map: SmallMap<u32, u32, 2> = SmallMap::new();
     put_numbers(&mut map, alloc, &[(1, 10), (2, 20)])?;
     let found = replace(&mut map, alloc, 3, 30)?;
-    Ok((found, told(&map)))
-}
-
-// Defaults in a map that has grown: whether there was memory, and what the map tells.
-fn grown_more(alloc: Global) -> Result<(bool, bool, (bool, [Option<u32>; 5])), AllocError> {
-    let mut map: SmallMap<u32, u32, 2> = SmallMap::new();
-    put_numbers(&mut map, alloc, &[(1, 10), (2, 20), (3, 30)])?;
+    let before = told(&map);
     let added = add_default(&mut map, alloc, 4);
     write_at(&mut map, alloc, 2, 21)?;
     let kept = add_default(&mut map, alloc, 2);
-    Ok((added, kept, told(&map)))
+    Ok((found, before, [added, kept], told(&map)))
 }
 
 #[test]
-fn a_default_past_the_bound_keeps_the_pairs(rt: HostRuntime) -> Result<(), Fail> {
+fn a_default_keeps_what_is_there(rt: HostRuntime) -> Result<(), Fail> {
+    for (key, value, found) in [
+        ("key", 42, (42, Some(42), None)),
+        ("missing", 7, (0, Some(42), Some(7))),
+    ] {
+        same(&rt, replaced(rt.alloc(), key, value)?, found);
+    }
     same(
         &rt,
         grown(rt.alloc())?,
-        (0, (false, [None, Some(10), Some(20), Some(30), None])),
-    );
-    same(
-        &rt,
-        grown_more(rt.alloc())?,
         (
-            true,
-            true,
+            0,
+            (false, [None, Some(10), Some(20), Some(30), None]),
+            [true, true],
             (false, [None, Some(10), Some(21), Some(30), Some(0)]),
         ),
     );
@@ -106,18 +92,6 @@ fn a_default_past_the_bound_keeps_the_pairs(rt: HostRuntime) -> Result<(), Fail>
 }
 
 // ---- maps of maps
-
-// Two maps, put into one.
-fn held(alloc: Global) -> Result<SmallMap<u32, SmallMap<String, u32, 2>, 2>, AllocError> {
-    let mut map = SmallMap::new();
-    for (outer, pairs) in [
-        (1, [("a", 10), ("b", 20)].as_slice()),
-        (2, [("c", 30)].as_slice()),
-    ] {
-        map.insert(alloc, outer, counts(alloc, pairs)?)?;
-    }
-    Ok(map)
-}
 
 // Writes at two keys through what the outer map lends.
 fn write_below(
@@ -132,99 +106,70 @@ fn write_below(
     Ok(())
 }
 
-// The same two maps, grown by defaults.
-fn grown_maps(alloc: Global) -> Result<SmallMap<u32, SmallMap<String, u32, 2>, 2>, AllocError> {
-    let mut map = SmallMap::new();
-    for (outer, inner, value) in [(1, "a", 10), (1, "b", 20), (2, "c", 30)] {
-        write_below(&mut map, alloc, outer, inner, value)?;
-    }
-    Ok(map)
-}
-
-// The values of both maps.
-fn below(
-    map: &SmallMap<u32, SmallMap<String, u32, 2>, 2>,
-) -> Option<(Option<u32>, Option<u32>, Option<u32>)> {
+// The values at "a" and "b" of the map at 1, and at "c" of the one at 2.
+fn below(map: &SmallMap<u32, SmallMap<String, u32, 2>, 2>) -> Option<[Option<u32>; 3]> {
     let one = map.get(&1)?;
     let two = map.get(&2)?;
-    Some((value_at(one, "a"), value_at(one, "b"), value_at(two, "c")))
+    Some([value_at(one, "a"), value_at(one, "b"), value_at(two, "c")])
 }
 
+// A map that is put into one, which is then written below, where the map was and where none was.
 #[test]
 fn a_map_holds_maps(rt: HostRuntime) -> Result<(), Fail> {
     let alloc = rt.alloc();
-    let values = Some((Some(10), Some(20), Some(30)));
-    same(&rt, below(&held(alloc)?), values);
-    same(&rt, below(&grown_maps(alloc)?), values);
+    let inner = map_of(alloc, String::from_str(alloc, "a")?, 10u32)?;
+    let mut map = map_of(alloc, 1u32, inner)?;
+    for (outer, inner, value) in [(1, "b", 20), (2, "c", 30)] {
+        write_below(&mut map, alloc, outer, inner, value)?;
+    }
+    same(&rt, below(&map), Some([Some(10), Some(20), Some(30)]));
     Ok(())
 }
 
 // ---- want of memory
 
-// What a map tells: whether it is small, and its values at 0 to 4.
-type Told = (bool, [Option<u32>; 5]);
-
-// Puts 1 and 2, which take no memory, and then 3: whether each had its memory, and what the map tells.
-fn third_put(alloc: Global) -> ([bool; 2], Told) {
-    let mut map: SmallMap<u32, u32, 2> = SmallMap::new();
-    let two = put_numbers(&mut map, alloc, &[(1, 10), (2, 20)]).is_ok();
-    let three = map.insert(alloc, 3, 30).is_ok();
-    ([two, three], told(&map))
-}
-
-// A map without its third pair has the first two, inline.
-#[test]
-fn a_refused_promotion_keeps_the_pairs(rt: HostRuntime) {
-    let ([two, three], told) = third_put(rt.alloc());
-    let last = if three { Some(30) } else { None };
-    assert!(rt; two);
-    same(&rt, told, (!three, [None, Some(10), Some(20), last, None]));
-}
-
-// Puts a default at 1, 20 at 2, and a default at 3 and again at 2: whether each had its memory, and what the map tells before
-// the last and after it.
-fn third_added(alloc: Global) -> ([bool; 4], Told, Told) {
-    let mut map: SmallMap<u32, u32, 2> = SmallMap::new();
-    let one = add_default(&mut map, alloc, 1);
-    let two = map.insert(alloc, 2, 20).is_ok();
-    let three = add_default(&mut map, alloc, 3);
-    let before = told(&map);
-    let again = add_default(&mut map, alloc, 2);
-    ([one, two, three, again], before, told(&map))
-}
-
-// So has one without its default.
+// Puts a default at 1, 20 at 2, and a default at 3 and again at 2. Only the third growth takes memory; a map without it has the
+// first two, inline.
 #[test]
 fn a_refused_default_keeps_the_pairs(rt: HostRuntime) {
-    let ([one, two, three, again], before, after) = third_added(rt.alloc());
+    let mut map: SmallMap<u32, u32, 2> = SmallMap::new();
+    let one = add_default(&mut map, rt.alloc(), 1);
+    let two = put_numbers(&mut map, rt.alloc(), &[(2, 20)]).is_ok();
+    let three = add_default(&mut map, rt.alloc(), 3);
+    let before = told(&map);
+    let again = add_default(&mut map, rt.alloc(), 2);
     let last = if three { Some(0) } else { None };
-    let told = (!three, [None, Some(0), Some(20), last, None]);
-    assert!(rt; one && two && again);
-    same(&rt, (before, after), (told, told));
+    let wanted = (!three, [None, Some(0), Some(20), last, None]);
+    same(&rt, [one, two, again], [true, true, true]);
+    same(&rt, [before, told(&map)], [wanted, wanted]);
 }
 
-// Puts the tenfold of a number at it, again where that is refused: whether the map lacked it after the first refusal, and not
-// without one.
+// Puts the tenfold of a number at it, again where that is refused: whether the first two took no memory, and the map was as before
+// and lacked the number after the first refusal, and had it without one.
 fn put_again(map: &mut SmallMap<u32, u32, 2>, alloc: Global, key: u32) -> Result<bool, AllocError> {
     let value = key.saturating_mul(10);
+    let before = told(map);
     let refused = map.insert(alloc, key, value).is_err();
     let is_kept = map.get(&key).is_none() == refused;
     if refused {
+        let is_same = key >= 2 && told(map) == before;
         map.insert(alloc, key, value)?;
+        return Ok(is_kept && is_same);
     }
     Ok(is_kept)
 }
 
-// A hashed map keeps its pairs where a growth is refused, and takes them where there is memory.
+// A map keeps its pairs where a growth is refused, as the one past its bound and those of a hashed map, and takes them where there
+// is memory.
 #[test]
 fn a_refused_growth_keeps_the_pairs(rt: HostRuntime) -> Result<(), Fail> {
     let mut map: SmallMap<u32, u32, 2> = SmallMap::new();
     for key in 0..40u32 {
-        holds_at(&rt, put_again(&mut map, rt.alloc(), key)?, key);
+        same_at(&rt, put_again(&mut map, rt.alloc(), key)?, true, key);
+        same_at(&rt, map.is_small(), key < 2, key);
     }
     for key in 0..40u32 {
-        let value = map.get(&key).copied();
-        same_at(&rt, value, Some(key.saturating_mul(10)), key);
+        same_at(&rt, value_at(&map, &key), Some(key.saturating_mul(10)), key);
     }
     Ok(())
 }

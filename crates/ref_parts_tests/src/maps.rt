@@ -2,11 +2,11 @@
 ghost use Rattle.std.specs.Prelude.{◌≡◌, [], IfOk};
 ghost use Rattle.ref_parts.specs.FiniteMap.{Puts};
 
-use crate::asserts::{same, same_at};
+use crate::asserts::{debug_text, same, same_at};
 use ref_parts::{BorrowedKey, SmallMap};
 use std::alloc::{AllocError, Global};
-use std::fmt;
 use std::hash::Hash;
+use std::process::Abort;
 use std::test::Fail;
 
 // ---- each call through the bounds of a generic caller
@@ -17,7 +17,7 @@ fn made<T: Default>() -> T
     T::default()
 }
 
-fn map_of<K: Eq + Hash + Drop, V: Drop>(
+pub fn map_of<K: Eq + Hash + Drop, V: Drop>(
     alloc: Global,
     key: K,
     value: V,
@@ -37,8 +37,8 @@ fn stands_for<K: Eq + Hash, Q: BorrowedKey<K>>(borrowed: Q, key: &K) -> bool
 }
 
 // The value at a key.
-pub fn value_at<K: Eq + Hash, V: Copy, Q: BorrowedKey<K>>(
-    map: &SmallMap<K, V, 2>,
+pub fn value_at<K: Eq + Hash, V: Copy, Q: BorrowedKey<K>, const N: usize>(
+    map: &SmallMap<K, V, N>,
     key: Q,
 ) -> Option<V> {
     map.get(key).copied()
@@ -48,55 +48,58 @@ pub fn is_inline<K: Eq + Hash, V, const N: usize>(map: &SmallMap<K, V, N>) -> bo
     map.is_small()
 }
 
-fn debug_text<T: fmt::Debug>(alloc: Global, value: &T) -> Result<String, AllocError> {
-    format!(in alloc; "{value:?}")
-}
-
 // ---- maps from texts
 
-// A map with these pairs, put in turn.
-pub fn counts(
-    alloc: Global,
-    pairs: &[(&str, u32)],
-) -> Result<SmallMap<String, u32, 2>, AllocError> {
-    let mut map = SmallMap::new();
+// A map with these pairs, put in turn into the default.
+fn counts(alloc: Global, pairs: &[(&str, u32)]) -> Result<SmallMap<String, u32, 2>, AllocError> {
+    let mut map: SmallMap<String, u32, 2> = made();
     for (key, value) in pairs {
         map.insert(alloc, String::from_str(alloc, *key)?, *value)?;
     }
     Ok(map)
 }
 
-// Whether a map with these pairs is small, and what it answers at a key, by its text and by the key itself.
+// Ends the test where a map with these pairs is shown otherwise, or answers otherwise at a key, by its text and by the key itself.
 fn answers(
+    rt: &impl Abort,
     alloc: Global,
     pairs: &[(&str, u32)],
     key: &str,
-) -> Result<(bool, Option<u32>, Option<u32>), AllocError> {
-    let map = counts(alloc, pairs)?;
+    value: Option<u32>,
+    text: &str,
+) -> Result<(), AllocError> {
     let owned = String::from_str(alloc, key)?;
-    Ok((is_inline(&map), value_at(&map, key), value_at(&map, &owned)))
+    let map = counts(alloc, pairs)?;
+    same_at(
+        rt,
+        (is_inline(&map), value_at(&map, key), value_at(&map, &owned)),
+        (pairs.len() < 3, value, value),
+        key,
+    );
+    same(rt, debug_text(alloc, &map)?.as_str(), text);
+    Ok(())
 }
 
 #[test]
-fn a_map_answers_by_text_and_by_key(rt: HostRuntime) -> Result<(), Fail> {
-    let three = [("a", 10), ("b", 20), ("c", 30)];
-    for (pairs, key, value) in [
-        ([].as_slice(), "key", None),
-        ([("key", 1)].as_slice(), "key", Some(1)),
-        ([("key", 1), ("key", 2)].as_slice(), "key", Some(2)),
-        ([("key", 1), ("key", 2)].as_slice(), "missing", None),
-        (three.as_slice(), "a", Some(10)),
-        (three.as_slice(), "b", Some(20)),
-        (three.as_slice(), "c", Some(30)),
-        (three.as_slice(), "d", None),
+fn a_map_answers_by_text_and_by_key_and_shows_its_pairs(rt: HostRuntime) -> Result<(), Fail> {
+    let keys = [("key", 1), ("key", 2)];
+    let ones = [("a", 1), ("b", 2), ("c", 3)];
+    let tens = [("a", 10), ("b", 20), ("c", 30)];
+    let shown = r#"{"a": 10, "b": 20, "c": 30}"#;
+    for (pairs, key, value, text) in [
+        (&keys[..0], "key", None, "{}"),
+        (&keys[..1], "key", Some(1), r#"{"key": 1}"#),
+        (&keys[..], "key", Some(2), r#"{"key": 2}"#),
+        (&keys[..], "missing", None, r#"{"key": 2}"#),
+        (&ones[..1], "a", Some(1), r#"{"a": 1}"#),
+        (&ones[..2], "b", Some(2), r#"{"a": 1, "b": 2}"#),
+        (&ones[..], "c", Some(3), r#"{"a": 1, "b": 2, "c": 3}"#),
+        (&tens[..], "a", Some(10), shown),
+        (&tens[..], "b", Some(20), shown),
+        (&tens[..], "c", Some(30), shown),
+        (&tens[..], "d", None, shown),
     ] {
-        let is_small = pairs.len() < 3;
-        same_at(
-            &rt,
-            answers(rt.alloc(), pairs, key)?,
-            (is_small, value, value),
-            key,
-        );
+        answers(&rt, rt.alloc(), pairs, key, value, text)?;
     }
     Ok(())
 }
@@ -105,51 +108,23 @@ fn a_map_answers_by_text_and_by_key(rt: HostRuntime) -> Result<(), Fail> {
 fn text_and_keys_stand_for_equal_keys(rt: HostRuntime) -> Result<(), Fail> {
     let key = String::from_str(rt.alloc(), "key")?;
     let missing = String::from_str(rt.alloc(), "missing")?;
-    assert!(rt; stands_for("key", &key));
-    assert!(rt; !stands_for("kez", &key));
-    assert!(rt; stands_for(&key, &key));
-    assert!(rt; !stands_for(&missing, &key));
-    Ok(())
-}
-
-#[test]
-fn a_default_map_is_empty_and_small(rt: HostRuntime) -> Result<(), Fail> {
-    let empty: SmallMap<u32, u32, 2> = made();
-    assert!(rt; is_inline(&empty));
-    same(&rt, value_at(&empty, &1), None);
-    same(&rt, debug_text(rt.alloc(), &empty)?.as_str(), "{}");
-    Ok(())
-}
-
-// How a map with these pairs is shown.
-fn shown(alloc: Global, pairs: &[(&str, u32)]) -> Result<String, AllocError> {
-    debug_text(alloc, &counts(alloc, pairs)?)
-}
-
-// How a map with one pair is shown.
-fn one_shown(alloc: Global, key: &str, value: u32) -> Result<String, AllocError> {
-    debug_text(alloc, &map_of(alloc, String::from_str(alloc, key)?, value)?)
-}
-
-#[test]
-fn a_map_shows_its_pairs(rt: HostRuntime) -> Result<(), Fail> {
-    let three = [("a", 1), ("b", 2), ("c", 3)];
-    let alloc = rt.alloc();
-    same(&rt, one_shown(alloc, "a", 1)?.as_str(), "{\"a\": 1}");
     same(
         &rt,
-        shown(alloc, &three[..2])?.as_str(),
-        "{\"a\": 1, \"b\": 2}",
-    );
-    same(
-        &rt,
-        shown(alloc, &three)?.as_str(),
-        "{\"a\": 1, \"b\": 2, \"c\": 3}",
+        [
+            stands_for("key", &key),
+            stands_for("kez", &key),
+            stands_for(&key, &key),
+            stands_for(&missing, &key),
+        ],
+        [true, false, true, false],
     );
     Ok(())
 }
 
 // ---- maps from numbers
+
+// What a map tells: whether it is small, and its values at 0 to 4.
+pub type Told = (bool, [Option<u32>; 5]);
 
 // Puts these pairs in turn.
 pub fn put_numbers<const N: usize>(
@@ -163,26 +138,28 @@ pub fn put_numbers<const N: usize>(
     Ok(())
 }
 
-// Whether a map is small, and its values at 0 to 4.
-pub fn told<const N: usize>(map: &SmallMap<u32, u32, N>) -> (bool, [Option<u32>; 5]) {
+pub fn told<const N: usize>(map: &SmallMap<u32, u32, N>) -> Told {
     (
         map.is_small(),
-        [0, 1, 2, 3, 4].map(|key| map.get(&key).copied()),
+        [
+            value_at(map, &0),
+            value_at(map, &1),
+            value_at(map, &2),
+            value_at(map, &3),
+            value_at(map, &4),
+        ],
     )
 }
 
 // What a map with two slots and these pairs tells.
-fn told_of(alloc: Global, pairs: &[(u32, u32)]) -> Result<(bool, [Option<u32>; 5]), AllocError> {
+fn told_of(alloc: Global, pairs: &[(u32, u32)]) -> Result<Told, AllocError> {
     let mut map: SmallMap<u32, u32, 2> = SmallMap::new();
     put_numbers(&mut map, alloc, pairs)?;
     Ok(told(&map))
 }
 
 // What a map with no slots and these pairs tells.
-fn told_without_slots(
-    alloc: Global,
-    pairs: &[(u32, u32)],
-) -> Result<(bool, [Option<u32>; 5]), AllocError> {
+fn told_without_slots(alloc: Global, pairs: &[(u32, u32)]) -> Result<Told, AllocError> {
     let mut map: SmallMap<u32, u32, 0> = SmallMap::new();
     put_numbers(&mut map, alloc, pairs)?;
     Ok(told(&map))
@@ -190,10 +167,10 @@ fn told_without_slots(
 
 #[test]
 fn a_map_is_small_up_to_its_bound(rt: HostRuntime) -> Result<(), Fail> {
-    let alloc = rt.alloc();
     let pairs = [(1, 10), (2, 20), (2, 21), (3, 30), (1, 11)];
+    let none = (true, [None, None, None, None, None]);
     for (front, told) in [
-        (&pairs[..0], (true, [None, None, None, None, None])),
+        (&pairs[..0], none),
         (&pairs[..2], (true, [None, Some(10), Some(20), None, None])),
         (&pairs[..3], (true, [None, Some(10), Some(21), None, None])),
         (
@@ -205,17 +182,13 @@ fn a_map_is_small_up_to_its_bound(rt: HostRuntime) -> Result<(), Fail> {
             (false, [None, Some(11), Some(21), Some(30), None]),
         ),
     ] {
-        same(&rt, told_of(alloc, front)?, told);
+        same(&rt, told_of(rt.alloc(), front)?, told);
     }
-    same(
-        &rt,
-        told_without_slots(alloc, &[])?,
-        (true, [None, None, None, None, None]),
-    );
-    same(
-        &rt,
-        told_without_slots(alloc, &[(1, 10)])?,
-        (false, [None, Some(10), None, None, None]),
-    );
+    for (front, told) in [
+        (&pairs[..0], none),
+        (&pairs[..1], (false, [None, Some(10), None, None, None])),
+    ] {
+        same(&rt, told_without_slots(rt.alloc(), front)?, told);
+    }
     Ok(())
 }
