@@ -1,4 +1,4 @@
-use Rattle.std.proofs.Common.{◌≡◌, ◌∙◌, true, is_some, ap, sym, string_bytes}
+use Rattle.std.proofs.Common.{rules, ◌≡◌, ◌∙◌, true, is_some, ap, sym, string_bytes}
 use Rattle.ref_uri.specs.Components.{Components, text_of}
 use Rattle.ref_uri.specs.inner.Target.{components_of, lengths_of_components}
 use Rattle.ref_uri.proofs.WrittenUri.{resolved_text_of, resolved_uri}
@@ -15,3 +15,6 @@ pub returns-clause-value : goal.returns-clause-value
 returns-clause-value c =
     c.from_written.ensures ∙ c.in_ok-text.ensures.text ∙ ap text_of c.resolved-target.ensures.value
     ∙ resolved_text_of (components_of c.parts.result) (components_of c.parts-2.result) c.args.base c.args.self c.parts.ensures.all c.parts-2.ensures.all
+
+pub returns-then-not-has_scheme-clause-no_scheme : goal.returns-then-not-has_scheme-clause-no_scheme
+returns-then-not-has_scheme-clause-no_scheme c = search rules

@@ -1,0 +1,5 @@
+use Rattle.std.proofs.Common.{rules}
+use Rattle.ref_uri.proofs.traits.UriOrd.cmp.Goals as goal
+
+pub returns : goal.returns
+returns c = search rules
