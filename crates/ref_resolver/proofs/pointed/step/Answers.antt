@@ -25,3 +25,6 @@ returns-in_err-uri-clause-fault c =
     let refused = subst (λ s. IsFaultOf (as_invalid_uri (base_within along.base (if scan draft (is_object v) s then identifier draft v else None))) c.in_err-uri.field-0.0) since at_id in
     let fault = step_refused c.args.walk.draft c.args.walk.pointer.now along (view c.args.along.value.now) c.args.token.now (part, v) c.in_err-uri.field-0.0 c.in_ok-segment.ensures.ok refused in
     search rules
+
+pub returns-clause-ok : goal.returns-clause-ok
+returns-clause-ok c = search rules
