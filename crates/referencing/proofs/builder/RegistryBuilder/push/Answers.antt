@@ -1,3 +1,4 @@
+use Rattle.std.proofs.Common.{rules}
 use Rattle.ref_index.specs.Contents.{tree_of}
 use Rattle.ref_retrieve.proofs.Saying.{fault_passed}
 use Rattle.referencing.specs.Builder.{seen, addition}
@@ -10,3 +11,6 @@ returns-in_err-uri-clause-fault g c =
     let more = addition c.args.uri.now (tree_of c.args.resource.contents) c.args.resource.draft in
     fault_passed c.from_residual.result _ _ c.from_residual.ensures.1
     (added_refused pending more _ _ c.trim_hashes.ensures.value c.in_err-uri.ensures.fault)
+
+pub returns-clause-ok : goal.returns-clause-ok
+returns-clause-ok g c = search rules
