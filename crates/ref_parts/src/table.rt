@@ -49,8 +49,8 @@ impl<V> Model for SortedTable<V> {
 impl<V: Drop> SortedTable<V> {
     /// The table of these entries: under each pair of texts the value that was entered last.
     ///
-    /// Texts and values move in, and none is copied. Takes memory to sort them, and is refused where there is none. At most
-    /// about `n * log2(n)` comparisons of two entries.
+    /// Texts and values move in, and none is copied. Takes memory for the table and to sort it, and is refused where there is none.
+    /// At most about `n * log2(n)` comparisons of two entries.
     pub fn from_entries(
         alloc: Global,
         entries: Vec<(String, String, V)>,
@@ -88,7 +88,7 @@ impl<V> SortedTable<V> {
     ///
     /// No more entries are compared than the count of pairs has binary digits: where `len` is below 2^n, at most n. Takes no
     /// memory. A comparison reads texts only where eight bytes of the first, behind what all first texts have in common, are
-    /// equal; then each byte of a beginning that they share once, and second texts only where the first are equal.
+    /// equal; then each byte of a beginning that they share at most twice, and second texts only where the first are equal.
     #[inline(always)]
     pub fn get(&self, first: &str, second: &str) -> (Option<&V>, usize)
         ensures value { option_copied result.0 ≡ last_value first.now second.now self.now }

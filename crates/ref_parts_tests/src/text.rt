@@ -83,8 +83,7 @@ fn the_first_escape_is_found(rt: HostRuntime) {
     }
 }
 
-// Whether an escape is found behind these many other bytes and before those many, whatever these are: 90 of them make more than a
-// block.
+// Whether an escape is found behind so many other bytes and before so many of `behind`: 90 of them make more than a block.
 fn is_found(
     alloc: Global,
     (escape, behind): (u8, u8),
