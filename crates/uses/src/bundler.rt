@@ -50,7 +50,8 @@ fn push(uris: &mut Vec<Uri>, uri: Uri) -> Result<(), AllocError>
 
 /// The URIs that the references of a registry's own documents mean, without their fragments: one for each place with a text under
 /// `$ref` that as a whole means a URI against the place's base, in the order of the places, also where several mean the same. A
-/// look-up reads no more than what stands before the text's last `#`. A bundler puts together what stands under them.
+/// look-up takes its URI from what stands before the text's last `#` alone, so it may lead on from a text that isn't listed here. A
+/// bundler puts together what stands under them.
 ///
 /// Refuses as `Memory` alone. Visits each place once, with a look-up of its value and of the URI.
 pub fn referred_documents(alloc: Global, registry: &Registry<'_>) -> Result<Vec<Uri>, Error>
