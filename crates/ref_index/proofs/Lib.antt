@@ -5,6 +5,7 @@ pub mod Paths
 pub mod Visiting
 pub mod Walking
 pub mod Looking
+pub mod Numbering
 pub mod Layers
 pub mod Opening
 pub mod Retrieving

@@ -4,8 +4,6 @@ use Rattle.std.specs.Prelude.{slice_get}
 use Rattle.std.specs.Slice.{IsItemAt}
 use Rattle.std.proofs.lemmas.Option.{slice_get_past, slice_get_read}
 use Rattle.std.specs.List.{AllZip, Contains, last_or}
-use Rattle.std.specs.declared.alloc.Global.{Global}
-use Rattle.std.specs.declared.rc.Rc.{Rc}
 use Rattle.std.proofs.Math.Bool.{and-true}
 use Rattle.std.proofs.lemmas.Slice.Eq.{bytes_eq-Decides}
 use Rattle.ref_uri.specs.Targets.{against}
@@ -13,13 +11,14 @@ use Rattle.ref_parts.specs.Table as table
 use Rattle.ref_parts.specs.Table.{is_under, last_value}
 use Rattle.ref_world.specs.World.{Layer}
 use Rattle.ref_world.specs.Places.{Place}
-use Rattle.ref_world.specs.Resources.{last_under}
+use Rattle.ref_world.specs.Resources.{last_under, resources}
 use Rattle.ref_world.specs.Anchors.{Named, last_named}
 use Rattle.ref_world.specs.Cached.{Pair}
 use Rattle.ref_index.specs.declared.entry.Entry.{Entry}
 use Rattle.ref_index.specs.declared.entry.NamedEntry.{NamedEntry}
+use Rattle.ref_index.specs.declared.found.ResolvedUri.{ResolvedUri}
 use Rattle.ref_index.specs.Found.{IsEntryOf, IsNumberOf, kind_of}
-use Rattle.ref_index.specs.Index.{IsResourceIn, IsNameIn, IsPairIn}
+use Rattle.ref_index.specs.Index.{IsResourceIn, IsNameIn, IsPairIn, IsFoundAt, IsFoundWhere}
 
 -- ---- lists of the same places
 
@@ -77,19 +76,19 @@ name_both layer entries uri name es ns all =
     last_both (IsNameIn layer entries) (filter (is_under uri name) es) (filter (λ n. bytes_eq n.uri uri && bytes_eq n.name name) ns) None None
     (filtered (IsNameIn layer entries) (is_under uri name) (λ n. bytes_eq n.uri uri && bytes_eq n.name name) (name_test layer entries uri name) es ns all) tt
 
-pair_test : (base text : List ℕ) (e : table.Entry (Rc (List ℕ) Global)) (p : Pair) → IsPairIn e p → is_under base text e ≡ (bytes_eq p.0 base && bytes_eq p.1 text)
-pair_test base text e p (first, second, is) =
+pair_test : (by_uri : List (table.Entry ℕ)) (base text : List ℕ) (e : table.Entry ResolvedUri) (p : Pair) → IsPairIn by_uri e p → is_under base text e ≡ (bytes_eq p.0 base && bytes_eq p.1 text)
+pair_test by_uri base text e p (first, second, is, number) =
     ap (λ k. bytes_eq k base && bytes_eq e.1 text) first ∙ ap (λ k. bytes_eq p.0 base && bytes_eq k text) second
 
 -- the last pair of these texts
 abbrev pub last_pair : List ℕ → List ℕ → List Pair → Option Pair
 last_pair base text ps = last_or None (filter (λ p. bytes_eq p.0 base && bytes_eq p.1 text) ps)
 
-pub pair_both : (base text : List ℕ) (es : List (table.Entry (Rc (List ℕ) Global))) (ps : List Pair) → AllZip IsPairIn es ps
-    → Both IsPairIn (last_or None (filter (is_under base text) es)) (last_pair base text ps)
-pair_both base text es ps all =
-    last_both IsPairIn (filter (is_under base text) es) (filter (λ p. bytes_eq p.0 base && bytes_eq p.1 text) ps) None None
-    (filtered IsPairIn (is_under base text) (λ p. bytes_eq p.0 base && bytes_eq p.1 text) (pair_test base text) es ps all) tt
+pub pair_both : (by_uri : List (table.Entry ℕ)) (base text : List ℕ) (es : List (table.Entry ResolvedUri)) (ps : List Pair) → AllZip (IsPairIn by_uri) es ps
+    → Both (IsPairIn by_uri) (last_or None (filter (is_under base text) es)) (last_pair base text ps)
+pair_both by_uri base text es ps all =
+    last_both (IsPairIn by_uri) (filter (is_under base text) es) (filter (λ p. bytes_eq p.0 base && bytes_eq p.1 text) ps) None None
+    (filtered (IsPairIn by_uri) (is_under base text) (λ p. bytes_eq p.0 base && bytes_eq p.1 text) (pair_test by_uri base text) es ps all) tt
 
 last_of_some : {A : Type 0} (a : A) (xs : List A) → ¬ (last_or None (a ∷ xs) ≡ None)
 last_of_some a [] none = cc
@@ -177,11 +176,31 @@ pub entry_there : (layer : Layer) (entries : List Entry) (n : ℕ) (p : Place) (
 entry_there layer entries n p None None_is Some_is is same then = absurd (none_is_some is.0 (same ∙ is.1))
 entry_there layer entries n p (Some b) None_is Some_is is same then = then b.now (tells layer entries n p b.now is (sym same))
 
-pub pair_found : (base text : List ℕ) (ps : List Pair) (o : Option (table.Entry (Rc (List ℕ) Global))) (result : Option (Bor (Rc (List ℕ) Global))) → Both IsPairIn o (last_pair base text ps) → option_copied result ≡ option_map (λ e. e.2) o
-    → MatchOption result (¬ (Contains ps (base, text))) (λ u. against base text ≡ Ok u.now.value)
-pair_found base text ps o None both is =
-    not_there (λ p. bytes_eq p.0 base && bytes_eq p.1 text) ps (base, text) (itself base text) (none_found IsPairIn (λ e. e.2) o (last_pair base text ps) both (sym is))
-pair_found base text ps o (Some u) both is =
-    let (p, found, e, same, at) = some_found IsPairIn (λ e. e.2) o (last_pair base text ps) u.now both (sym is) in
-    let texts = same_texts base text p (last_passes (λ q. bytes_eq q.0 base && bytes_eq q.1 text) ps None (λ x none. cc) p found) in
-    subst (λ b. against b text ≡ Ok u.now.value) texts.0 (subst (λ t. against p.0 t ≡ Ok u.now.value) texts.1 (subst (λ v. against p.0 p.1 ≡ Ok v.value) same at.2))
+-- the entry with a number that a table of resources has, or there is none
+by_number : (layer : Layer) (entries : List Entry) (o : Option (table.Entry ℕ)) (u : Option (List ℕ × Place)) (result : Option (Bor Entry)) → Both (IsResourceIn layer entries) o u
+    → MatchOption (option_map (λ e. e.2) o) (result ≡ None) (λ n. option_copied result ≡ slice_get entries n) → IsFoundWhere layer result u
+by_number layer entries None None result both same = subst (λ r. IsFoundWhere layer r None) (sym same) refl
+by_number layer entries None (Some r) result both same = absurd both
+by_number layer entries (Some e) None result both same = absurd both
+by_number layer entries (Some e) (Some r) result both same =
+    entry_there layer entries e.2 r.1 result (Some r ≡ None) (λ x. IsFoundAt layer x (Some r)) both.2 same (λ x tells. (r, refl, tells))
+
+pub place_found : (layer : Layer) (entries : List Entry) (uri : List ℕ) (by_uri : List (table.Entry ℕ)) (result : Option (Bor Entry)) → AllZip (IsResourceIn layer entries) by_uri (resources layer)
+    → MatchOption (last_value uri [] by_uri) (result ≡ None) (λ n. option_copied result ≡ slice_get entries n) → IsFoundWhere layer result (last_under uri (resources layer))
+place_found layer entries uri by_uri result all same =
+    by_number layer entries (last_or None (filter (is_under uri []) by_uri)) (last_under uri (resources layer)) result (uri_both layer entries uri by_uri (resources layer) all) same
+
+-- a pair that none was found of is none of the list
+pub pair_absent : (by_uri : List (table.Entry ℕ)) (base text : List ℕ) (ps : List Pair) (o : Option (table.Entry ResolvedUri)) → Both (IsPairIn by_uri) o (last_pair base text ps) → option_map (λ e. e.2) o ≡ None → ¬ (Contains ps (base, text))
+pair_absent by_uri base text ps o both none =
+    not_there (λ p. bytes_eq p.0 base && bytes_eq p.1 text) ps (base, text) (itself base text) (none_found (IsPairIn by_uri) (λ e. e.2) o (last_pair base text ps) both none)
+
+-- what was found of a pair is the URI that it means, with its number
+pub pair_found : (by_uri : List (table.Entry ℕ)) (base text : List ℕ) (ps : List Pair) (o : Option (table.Entry ResolvedUri)) (v : ResolvedUri) → Both (IsPairIn by_uri) o (last_pair base text ps) → option_map (λ e. e.2) o ≡ Some v
+    → (against base text ≡ Ok v.uri.value) × (v.entry ≡ last_value v.uri.value [] by_uri)
+pair_found by_uri base text ps o v both is =
+    let (p, found, e, same, at) = some_found (IsPairIn by_uri) (λ e. e.2) o (last_pair base text ps) v both is in
+    let texts = same_texts base text p (last_passes (λ q. bytes_eq q.0 base && bytes_eq q.1 text) ps None (λ x none. cc) p found) in (
+      subst (λ b. against b text ≡ Ok v.uri.value) texts.0 (subst (λ t. against p.0 t ≡ Ok v.uri.value) texts.1 (subst (λ w. against p.0 p.1 ≡ Ok w.uri.value) same at.2)),
+      subst (λ w. w.entry ≡ last_value w.uri.value [] by_uri) same at.3,
+    )

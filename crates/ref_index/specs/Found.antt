@@ -21,6 +21,7 @@ use Rattle.ref_index.specs.declared.entry.Location.TheVariants.{Lent, Path}
 use Rattle.ref_index.specs.declared.entry.NamedEntry.{NamedEntry}
 use Rattle.ref_index.specs.declared.found.Found.{Found}
 use Rattle.ref_index.specs.declared.found.Want.{Want}
+use Rattle.ref_index.specs.declared.found.ResolvedUri.{ResolvedUri}
 use Rattle.ref_index.specs.declared.found.Cause.{Cause}
 use Rattle.ref_index.specs.declared.found.Cause.TheVariants.{Reference, MetaSchema}
 use Rattle.ref_index.specs.declared.path.PathPart.{PathPart}
@@ -75,8 +76,8 @@ abbrev pub want_of : Want → Wanted
 want_of w = record { cause = cause_of w.cause; uri = w.uri.value }
 
 -- an entry under a base and a text is the URI that the text means against the base
-abbrev pub IsPairOf : String Global × String Global × Rc (List ℕ) Global → Pair → Type 0
-IsPairOf t p = (string_bytes t.0 ≡ p.0) × (string_bytes t.1 ≡ p.1) × (against p.0 p.1 ≡ Ok t.2.value)
+abbrev pub IsPairOf : String Global × String Global × ResolvedUri → Pair → Type 0
+IsPairOf t p = (string_bytes t.0 ≡ p.0) × (string_bytes t.1 ≡ p.1) × (against p.0 p.1 ≡ Ok t.2.uri.value)
 
 -- the handles are of one URI
 abbrev pub is_same : Rc (List ℕ) Global → Rc (List ℕ) Global → Bool

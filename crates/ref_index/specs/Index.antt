@@ -1,10 +1,11 @@
 -- That the tables of an index tell the places of its documents.
-use Rattle.std.specs.Prelude.{◌≡◌, ℕ, List, [], Option, Some, Ok}
+use Rattle.std.specs.Prelude.{◌≡◌, ℕ, List, [], Option, Some, None, MatchOption, String, Ok}
+use Rattle.std.specs.Borrow.{Bor}
 use Rattle.std.specs.List.{AllZip, Contains}
 use Rattle.std.specs.declared.alloc.Global.{Global}
-use Rattle.std.specs.declared.rc.Rc.{Rc}
 use Rattle.ref_uri.specs.Targets.{against}
 use Rattle.ref_parts.specs.Table as table
+use Rattle.ref_parts.specs.Table.{last_value}
 use Rattle.ref_world.specs.World.{Document, Layer}
 use Rattle.ref_world.specs.Agreement.{ChildrenStand}
 use Rattle.ref_world.specs.Places.{Place}
@@ -14,6 +15,7 @@ use Rattle.ref_world.specs.Cached.{Pair, pairs}
 use Rattle.ref_index.specs.declared.entry.Entry.{Entry}
 use Rattle.ref_index.specs.declared.entry.NamedEntry.{NamedEntry}
 use Rattle.ref_index.specs.declared.entry.FoundName.{FoundName}
+use Rattle.ref_index.specs.declared.found.ResolvedUri.{ResolvedUri}
 use Rattle.ref_index.specs.Found.{IsEntryOf, IsNumberOf, kind_of}
 
 -- an entry under a URI and the empty text is that of a resource
@@ -24,21 +26,30 @@ IsResourceIn layer entries e r = (e.0 ≡ r.0) × (e.1 ≡ []) × IsNumberOf lay
 abbrev pub IsNameIn : Layer → List Entry → table.Entry NamedEntry → Named → Type 0
 IsNameIn layer entries e n = (e.0 ≡ n.uri) × (e.1 ≡ n.name) × (kind_of e.2.is_dynamic ≡ n.kind) × IsNumberOf layer entries e.2.entry n.place
 
--- an entry under a base and a text is the URI that the text means against the base
-abbrev pub IsPairIn : table.Entry (Rc (List ℕ) Global) → Pair → Type 0
-IsPairIn e p = (e.0 ≡ p.0) × (e.1 ≡ p.1) × (against p.0 p.1 ≡ Ok e.2.value)
+-- an entry under a base and a text is the URI that the text means against the base, with the number that the table of resources has
+-- for the URI
+abbrev pub IsPairIn : List (table.Entry ℕ) → table.Entry ResolvedUri → Pair → Type 0
+IsPairIn by_uri e p = (e.0 ≡ p.0) × (e.1 ≡ p.1) × (against p.0 p.1 ≡ Ok e.2.uri.value) × (e.2.entry ≡ last_value e.2.uri.value [] by_uri)
+
+-- a resolved URI with its number in a table of resources
+abbrev pub numbered : List (table.Entry ℕ) → String Global × String Global × ResolvedUri → String Global × String Global × ResolvedUri
+numbered by_uri t = (t.0, t.1, record { uri = t.2.uri; entry = last_value t.2.uri.value [] by_uri })
 
 -- the tables hold the resources and the names of the documents, and what is resolved of them, in their order; and the children
 -- of the documents' places stand at their paths
-pub record IsIndexOf (layer : Layer) (entries : List Entry) (by_uri : List (table.Entry ℕ)) (by_name : List (table.Entry NamedEntry)) (by_pair : List (table.Entry (Rc (List ℕ) Global))) : Type 0 where
+pub record IsIndexOf (layer : Layer) (entries : List Entry) (by_uri : List (table.Entry ℕ)) (by_name : List (table.Entry NamedEntry)) (by_pair : List (table.Entry ResolvedUri)) : Type 0 where
   pub resource : AllZip (IsResourceIn layer entries) by_uri (resources layer)
   pub name : AllZip (IsNameIn layer entries) by_name (names layer)
-  pub pair : AllZip IsPairIn by_pair (pairs layer)
+  pub pair : AllZip (IsPairIn by_uri) by_pair (pairs layer)
   pub children : (d : Document) → Contains layer d → ChildrenStand d
 
 -- an entry is that of the place that was found
 abbrev pub IsFoundAt : Layer → Entry → Option (List ℕ × Place) → Type 0
 IsFoundAt layer e found = (r : List ℕ × Place) × (found ≡ Some r) × IsEntryOf layer e r.1
+
+-- an entry is that of the place that was found, or there is neither
+abbrev pub IsFoundWhere : Layer → Option (Bor Entry) → Option (List ℕ × Place) → Type 0
+IsFoundWhere layer o found = MatchOption o (found ≡ None) (λ e. IsFoundAt layer e.now found)
 
 -- an entry is that of the name that was found
 abbrev pub IsNamedAt : Layer → FoundName → Option Named → Type 0

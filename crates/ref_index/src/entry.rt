@@ -38,3 +38,10 @@ pub struct FoundName<'i, 'a> {
     pub named: &'i NamedEntry,
     pub entry: &'i Entry<'a>,
 }
+
+/// A URI that a text was resolved to, and the entry that it identifies, where there is one.
+#[derive(Clone, Copy)]
+pub struct FoundUri<'i, 'a> {
+    pub uri: &'i Rc<Uri>,
+    pub entry: Option<&'i Entry<'a>>,
+}

@@ -36,6 +36,13 @@ pub struct Want {
     pub uri: Rc<Uri>,
 }
 
+/// A URI that a text was resolved to, and the number of the entry that it identifies, once that is known.
+#[derive(Drop)]
+pub struct ResolvedUri {
+    pub uri: Rc<Uri>,
+    pub entry: Option<usize>,
+}
+
 /// What was found so far, in the order of documents and places. Where a call on it is refused, nothing is said of it
 /// afterwards: it is to be let go.
 #[derive(Drop)]
@@ -49,7 +56,7 @@ pub struct Found<'a> {
     /// What is wanted.
     pub wants: Vec<Want>,
     /// What was resolved: each URI under the base and the text that it was resolved from.
-    pub resolved: Vec<(String, String, Rc<Uri>)>,
+    pub resolved: Vec<(String, String, ResolvedUri)>,
     /// The URIs that identify places.
     pub identified: HashSet<Rc<Uri>>,
 }
@@ -152,7 +159,7 @@ impl<'a> Found<'a> {
         Ok(())
     }
 
-    /// Adds what a text means against a base. Takes memory for both.
+    /// Adds what a text means against a base, whose entry isn't known yet. Takes memory for both texts.
     pub fn add_resolved(
         &mut self,
         alloc: Global,
@@ -167,7 +174,8 @@ impl<'a> Found<'a> {
         let base = String::from_str(alloc, base)?;
         let text = String::from_str(alloc, text)?;
         let uri = uri.clone()?;
-        self.resolved.push((base, text, uri))?;
+        self.resolved
+            .push((base, text, ResolvedUri { uri, entry: None }))?;
         Ok(())
     }
 }

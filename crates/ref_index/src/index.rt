@@ -1,5 +1,5 @@
 //! The documents of a registry with the index of their places.
-ghost use Rattle.std.specs.Prelude.{◌≡◌, ℕ, List, map, length, MatchOption, IfOk, option_map, slice_get, Some, None, Ok};
+ghost use Rattle.std.specs.Prelude.{◌≡◌, ℕ, List, map, length, MatchOption, IfOk, IfSome, option_map, option_copied, slice_get, Some, None, Ok};
 ghost use Rattle.std.specs.List.{Contains};
 ghost use Rattle.serde_json.specs.View.{view};
 ghost use Rattle.ref_uri.specs.Targets.{against};
@@ -12,11 +12,11 @@ ghost use Rattle.ref_world.specs.Cached.{pairs};
 ghost use Rattle.ref_world.specs.Wants.{Want};
 ghost use Rattle.ref_index.specs.Document.{document_of};
 ghost use Rattle.ref_index.specs.Found.{Holds, IsEntryOf};
-ghost use Rattle.ref_index.specs.Index.{IsFoundAt, IsNamedAt};
+ghost use Rattle.ref_index.specs.Index.{IsFoundAt, IsFoundWhere, IsNamedAt, numbered};
 
 use crate::document::Document;
-use crate::entry::{Entry, FoundName, Location, NamedEntry};
-use crate::found::Found;
+use crate::entry::{Entry, FoundName, FoundUri, Location, NamedEntry};
+use crate::found::{Found, ResolvedUri};
 use crate::path::value_at;
 use ref_parts::SortedTable;
 use ref_uri::Uri;
@@ -33,7 +33,7 @@ pub struct Index<'a> {
     entries: Vec<Entry<'a>>,
     by_uri: SortedTable<usize>,
     by_name: SortedTable<NamedEntry>,
-    by_pair: SortedTable<Rc<Uri>>,
+    by_pair: SortedTable<ResolvedUri>,
 }
 
 impl<'a> Model for Index<'a> {
@@ -69,7 +69,9 @@ impl<'a> Index<'a> {
         drop(found.wants);
         let by_uri = SortedTable::from_entries(alloc, found.resources)?;
         let by_name = SortedTable::from_entries(alloc, found.names)?;
-        let by_pair = SortedTable::from_entries(alloc, found.resolved)?;
+        let mut resolved = found.resolved;
+        number_places(&by_uri, resolved.as_mut_slice());
+        let by_pair = SortedTable::from_entries(alloc, resolved)?;
         Ok(Index {
             documents,
             entries: found.entries,
@@ -129,12 +131,17 @@ impl<'a> Index<'a> {
         Some(FoundName { named, entry })
     }
 
-    /// The URI that a text means against a base, where that was resolved while the documents were walked. A look-up; takes no
-    /// memory.
-    pub fn resolved(&self, base: &str, text: &str) -> Option<&Rc<Uri>>
-        ensures value { MatchOption result (¬ (Contains (pairs self.now) (base.now, text.now))) (λ uri. against base.now text.now ≡ Ok uri.now.value) }
+    /// The URI that a text means against a base, where that was resolved while the documents were walked, and the place that it
+    /// means in these documents, where there is one. A look-up; takes no memory.
+    pub fn resolved(&self, base: &str, text: &str) -> Option<FoundUri<'_, 'a>>
+        ensures value { MatchOption result (¬ (Contains (pairs self.now) (base.now, text.now))) (λ found. against base.now text.now ≡ Ok found.uri.now.value) }
+        ensures place { IfSome result (λ found. IsFoundWhere self.now found.entry (last_under found.uri.now.value (resources self.now))) }
     {
-        self.by_pair.get(base, text).0
+        let resolved = self.by_pair.get(base, text).0?;
+        Some(FoundUri {
+            uri: &resolved.uri,
+            entry: entry_at(self.entries.as_slice(), resolved.entry),
+        })
     }
 
     /// The value of a place. At once, where its document is borrowed, and else a look-up for each part of its path; takes no memory.
@@ -150,4 +157,20 @@ impl<'a> Index<'a> {
             }
         }
     }
+}
+
+// Puts beside each URI that was resolved the number that a table of resources has for it.
+fn number_places(by_uri: &SortedTable<usize>, pairs: &mut [(String, String, ResolvedUri)])
+    ensures { pairs.new ≡ map (numbered by_uri.now) pairs.old }
+{
+    for (_, _, resolved) in pairs.iter_mut() {
+        resolved.entry = by_uri.get(resolved.uri.as_str(), "").0.copied();
+    }
+}
+
+// The entry with a number, where there is one.
+fn entry_at<'i, 'a>(entries: &'i [Entry<'a>], number: Option<usize>) -> Option<&'i Entry<'a>>
+    ensures { MatchOption number (result ≡ None) (λ n. option_copied result ≡ slice_get entries.now n) }
+{
+    entries.get(number?)
 }

@@ -82,8 +82,8 @@ fn base_in(
     let Some(id) = id else {
         return outer.clone();
     };
-    if let Some(uri) = index.resolved(outer.as_str(), id) {
-        return uri.clone();
+    if let Some(found) = index.resolved(outer.as_str(), id) {
+        return found.uri.clone();
     }
     match resolve_against(alloc, outer.borrow(), id) {
         Ok(uri) => shared(alloc, uri),

@@ -1,24 +1,35 @@
-use Rattle.std.proofs.Common.{map, subst, sym, string_bytes}
+use Rattle.std.proofs.Common.{◌≡◌, ◌∙◌, ap, length, map, subst, sym, refl, string_bytes, rules}
 use Rattle.std.specs.List.{AllZip}
+use Rattle.std.proofs.lemmas.List.{length-map}
+use Rattle.ref_parts.specs.Table.{entries_of}
+use Rattle.ref_parts.proofs.TableLaws.{refilled}
 use Rattle.ref_world.specs.Resources.{resources}
 use Rattle.ref_world.specs.Anchors.{names}
 use Rattle.ref_world.specs.Cached.{pairs}
 use Rattle.ref_index.specs.Document.{document_of}
 use Rattle.ref_index.specs.Found.{IsResourceOf, IsNameOf, IsPairOf}
-use Rattle.ref_index.specs.Index.{IsResourceIn, IsNameIn, IsPairIn}
+use Rattle.ref_index.specs.Index.{IsResourceIn, IsNameIn, IsPairIn, numbered}
 use Rattle.ref_index.proofs.Looking.{zip_mapped}
+use Rattle.ref_index.proofs.Numbering.{IsNumberedPair}
 use Rattle.ref_index.proofs.index.Index.new.Goals as goal
 
 pub invariant_of-result : goal.invariant_of-result
 invariant_of-result c =
     let layer = map document_of c.args.documents.items in
     let held = c.requires.held.1 in
+    let by_uri = c.in_ok-by_uri.by_uri in
+    let lent : c.as_mut_slice.result.now ≡ c.args.found.resolved.items = search rules in
+    let len : length c.number_places.new.pairs ≡ c.args.found.resolved.len =
+    ap length c.number_places.ensures ∙ length-map c.as_mut_slice.result.now (numbered by_uri) ∙ c.as_mut_slice.ensures.len in
+    let entered : c.in_ok-by_pair.by_pair ≡ entries_of c.number_places.new.pairs = c.in_ok-by_pair.ensures.entered ∙ ap entries_of (refilled c.args.found.resolved.len c.args.found.resolved.items c.number_places.new.pairs len) in
+    let numbers : AllZip (IsNumberedPair by_uri) c.number_places.new.pairs (pairs layer) = subst (λ l. AllZip (IsNumberedPair by_uri) l (pairs layer)) (sym (c.number_places.ensures ∙ ap (map (numbered by_uri)) lent))
+    (zip_mapped IsPairOf (IsNumberedPair by_uri) (numbered by_uri) (λ t p is. (is.0, is.1, is.2, refl)) c.args.found.resolved.items (pairs layer) held.by_pair) in
     record {
       resource = subst (λ l. AllZip (IsResourceIn layer c.args.found.entries.items) l (resources layer)) (sym c.in_ok-by_uri.ensures.entered)
           (zip_mapped (IsResourceOf layer c.args.found.entries.items) (IsResourceIn layer c.args.found.entries.items) (λ e. (string_bytes e.0, string_bytes e.1, e.2)) (λ t r is. is) c.args.found.resources.items (resources layer) held.by_uri);
       name = subst (λ l. AllZip (IsNameIn layer c.args.found.entries.items) l (names layer)) (sym c.in_ok-by_name.ensures.entered)
           (zip_mapped (IsNameOf layer c.args.found.entries.items) (IsNameIn layer c.args.found.entries.items) (λ e. (string_bytes e.0, string_bytes e.1, e.2)) (λ t n is. is) c.args.found.names.items (names layer) held.by_name);
-      pair = subst (λ l. AllZip IsPairIn l (pairs layer)) (sym c.in_ok-by_pair.ensures.entered)
-          (zip_mapped IsPairOf IsPairIn (λ e. (string_bytes e.0, string_bytes e.1, e.2)) (λ t p is. is) c.args.found.resolved.items (pairs layer) held.by_pair);
+      pair = subst (λ l. AllZip (IsPairIn by_uri) l (pairs layer)) (sym entered)
+          (zip_mapped (IsNumberedPair by_uri) (IsPairIn by_uri) (λ e. (string_bytes e.0, string_bytes e.1, e.2)) (λ t p is. is) c.number_places.new.pairs (pairs layer) numbers);
       children = c.requires.children;
     }
