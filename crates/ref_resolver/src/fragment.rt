@@ -133,7 +133,8 @@ fn under_uri<'r>(
 }
 
 // The place of the outermost dynamic anchor of a name in the dynamic scope, or else the place that was found first (2020-12
-// Core, 8.2.3.2). A look-up for each URI of the scope.
+// Core, 8.2.3.2). A look-up for each URI of the scope. Its loop stays out of what most names take.
+#[inline(never)]
 fn outermost<'r>(
     alloc: Global,
     resolver: &Resolver<'r>,
@@ -156,6 +157,7 @@ fn outermost<'r>(
 }
 
 // What a name leads to that an anchor has: a plain one to its place, a dynamic one by the dynamic scope.
+#[inline(always)]
 pub(crate) fn named_found<'r>(
     alloc: Global,
     resolver: Resolver<'r>,
@@ -175,6 +177,7 @@ pub(crate) fn named_found<'r>(
 }
 
 // A value of a resource that a resolver is at.
+#[inline(always)]
 fn at_value<'r>(contents: &'r Value, draft: Draft, resolver: Resolver<'r>) -> Resolved<'r>
     ensures found { found_of result ≡ record { value = view contents.now; draft = draft; resolver = resolver_of resolver.entry } }
     ensures world { world_found result ≡ world_of resolver.entry }

@@ -11,8 +11,8 @@ ghost use Rattle.ref_resolver.specs.Located.{IsMeant, IsNamed};
 ghost use Rattle.ref_resolver.specs.Layered.{world_in, own};
 
 use crate::located::{
-    Located, LocatedName, is_resource_above, named_above, named_in, resolved_above, resource_above,
-    resource_in,
+    Located, LocatedName, is_resource_above, named_above, named_in, place_of, resolved_above,
+    resource_above, resource_in,
 };
 use ref_index::Index;
 use ref_index::reference::shared;
@@ -48,6 +48,19 @@ impl<'r> Layers<'r> {
         }
     }
 
+    /// The place that a URI means, where a place is given that is known to be it or none. Takes a look-up for each layer only where
+    /// none is given; takes no memory.
+    #[inline(always)]
+    pub(crate) fn resource_or(&self, known: Option<Located<'r>>, uri: &str) -> Option<Located<'r>>
+        requires known { IfSome known (IsMeant (means (world_in self.now) uri.now)) }
+        ensures value { MatchOption result (means (world_in self.now) uri.now ≡ None) (IsMeant (means (world_in self.now) uri.now)) }
+    {
+        match known {
+            Some(place) => Some(place),
+            None => self.resource(uri),
+        }
+    }
+
     /// Whether a URI means a place. A look-up for each layer, up to the first that has it; takes no memory.
     pub fn has_resource(&self, uri: &str) -> bool
         ensures value { result ≡ is_some (means (world_in self.now) uri.now) }
@@ -73,7 +86,7 @@ impl<'r> Layers<'r> {
         ensures value { IfSome result (λ u. against base.now uri.now ≡ Ok u.now.value) }
     {
         match self.own.resolved(base.as_str(), uri) {
-            Some(uri) => Some(uri),
+            Some(found) => Some(found.uri),
             None => resolved_above(self.parents, base.as_str(), uri),
         }
     }
@@ -85,10 +98,42 @@ impl<'r> Layers<'r> {
         ensures ok { IfOk result (λ u. against base.entry uri.now ≡ Ok u.value) }
         ensures fault { IfErr result (IsFaultOf (as_invalid_uri (against base.entry uri.now))) }
     {
-        if let Some(uri) = self.resolved_uri(&base, uri) {
-            return Ok(uri.clone()?);
+        match self.resolved_uri(&base, uri) {
+            Some(uri) => Ok(uri.clone()?),
+            None => anew(alloc, base, uri),
         }
-        let uri = resolve_against(alloc, base, uri)?;
-        Ok(shared(alloc, uri)?)
     }
+
+    /// The URI that a text means against a base, as `resolve_uri` gives it, and the place that it means, where the index of the own
+    /// documents has that beside the URI.
+    #[inline(always)]
+    pub(crate) fn resolve_place(
+        &self,
+        alloc: Global,
+        base: UriRef<'_>,
+        uri: &str,
+    ) -> Result<(Rc<Uri>, Option<Located<'r>>), Error>
+        ensures ok { IfOk result (λ t. against base.entry uri.now ≡ Ok t.0.value) }
+        ensures place { IfOk result (λ t. IfSome t.1 (IsMeant (means (world_in self.now) t.0.value))) }
+        ensures fault { IfErr result (IsFaultOf (as_invalid_uri (against base.entry uri.now))) }
+    {
+        if let Some(found) = self.own.resolved(base.as_str(), uri) {
+            let place = place_of(self.own, found.entry);
+            return Ok((found.uri.clone()?, place));
+        }
+        match resolved_above(self.parents, base.as_str(), uri) {
+            Some(uri) => Ok((uri.clone()?, None)),
+            None => Ok((anew(alloc, base, uri)?, None)),
+        }
+    }
+}
+
+// The URI that a text means against a base, worked out.
+#[inline(never)]
+fn anew(alloc: Global, base: UriRef<'_>, uri: &str) -> Result<Rc<Uri>, Error>
+    ensures ok { IfOk result (λ u. against base.entry uri.now ≡ Ok u.value) }
+    ensures fault { IfErr result (IsFaultOf (as_invalid_uri (against base.entry uri.now))) }
+{
+    let uri = resolve_against(alloc, base, uri)?;
+    Ok(shared(alloc, uri)?)
 }

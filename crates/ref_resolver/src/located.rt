@@ -1,10 +1,11 @@
 //! Places that were looked up, with their values.
-ghost use Rattle.std.specs.Prelude.{◌≡◌, map, option_map, MatchOption, IfSome, is_some, None, Ok};
+ghost use Rattle.std.specs.Prelude.{◌≡◌, ℕ, List, Option, map, option_map, MatchOption, IfSome, is_some, None, Ok};
 ghost use Rattle.ref_uri.specs.Targets.{against};
 ghost use Rattle.ref_world.specs.Places.{Place};
 ghost use Rattle.ref_world.specs.Resources.{last_under, resources, means};
 ghost use Rattle.ref_world.specs.Anchors.{last_named, names, named};
 ghost use Rattle.ref_index.specs.Found.{IsEntryOf};
+ghost use Rattle.ref_index.specs.Index.{IsFoundWhere};
 ghost use Rattle.ref_resolver.specs.Located.{IsLocated, IsMeant, IsNamed};
 
 use ref_index::{Entry, Index, NamedEntry};
@@ -35,13 +36,23 @@ fn place_at<'r>(index: &'r Index<'r>, entry: &'r Entry<'r>) -> Option<Located<'r
     Some(Located { value, entry })
 }
 
+// The place of an entry that was found, or none.
+#[inline(always)]
+pub(crate) fn place_of<'r>(
+    index: &'r Index<'r>,
+    entry: Option<&'r Entry<'r>>,
+) -> Option<Located<'r>>
+    ensures { (found : Option (List ℕ × Place)) → IsFoundWhere index.now entry.entry found → MatchOption result (found ≡ None) (IsMeant (option_map (λ e. e.1) found)) }
+{
+    place_at(index, entry?)
+}
+
 /// The place that a URI means in the documents of an index. A look-up; takes no memory.
 #[inline(always)]
 pub(crate) fn resource_in<'r>(index: &'r Index<'r>, uri: &str) -> Option<Located<'r>>
     ensures value { MatchOption result (last_under uri.now (resources index.now) ≡ None) (IsMeant (option_map (λ e. e.1) (last_under uri.now (resources index.now)))) }
 {
-    let entry = index.resource(uri)?;
-    place_at(index, entry)
+    place_of(index, index.resource(uri))
 }
 
 /// The place that a URI means in the documents of parents, nearest first. A look-up for each; takes no memory.
@@ -107,8 +118,8 @@ pub(crate) fn resolved_above<'r>(
     ensures value { IfSome result (λ u. against base.now uri.now ≡ Ok u.now.value) }
 {
     for parent in parents {
-        if let Some(uri) = parent.resolved(base, uri) {
-            return Some(uri);
+        if let Some(found) = parent.resolved(base, uri) {
+            return Some(found.uri);
         }
     }
     None

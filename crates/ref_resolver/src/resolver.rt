@@ -1,5 +1,5 @@
 //! Where references lead from a base URI.
-ghost use Rattle.std.specs.Prelude.{◌≡◌, ℕ, List, true, [], ◌++◌, codes, if◌then◌else◌, IfOk, IfErr, MatchOption, Ok, Err, None};
+ghost use Rattle.std.specs.Prelude.{◌≡◌, ℕ, List, true, [], ◌++◌, codes, if◌then◌else◌, IfOk, IfErr, IfSome, MatchOption, Ok, Err, None};
 ghost use Rattle.std.specs.Fmt.{WritesOnOk};
 ghost use Rattle.std.specs.List.{join_by};
 ghost use Rattle.std.specs.Result.{result_ok};
@@ -10,12 +10,15 @@ ghost use Rattle.ref_world.specs.Anchors.{anchor, not_named};
 ghost use Rattle.ref_draft.specs.Views.{resource_ref};
 ghost use Rattle.ref_world.specs.Lookup.{moved, in_subresource, lookup};
 ghost use Rattle.ref_retrieve.specs.Errors.{IsFaultOf};
+ghost use Rattle.ref_world.specs.Resources.{means};
 ghost use Rattle.ref_resolver.specs.Layered.{world_in};
+ghost use Rattle.ref_resolver.specs.Located.{IsMeant};
 ghost use Rattle.ref_resolver.specs.Resolving.{resolver_of, world_of, found_of, world_found};
 ghost use Rattle.ref_resolver.specs.Names.{is_name};
 
 use crate::fragment::{at_fragment, is_name, meaning, named_found, not_named, not_retrieved};
 use crate::layers::Layers;
+use crate::located::Located;
 use ref_draft::{Draft, ResourceRef};
 use ref_index::reference::parts;
 use ref_parts::list::List;
@@ -33,6 +36,14 @@ pub struct Resolver<'r> {
     pub(crate) layers: Layers<'r>,
     pub(crate) base: Rc<Uri>,
     pub(crate) scope: List<Uri>,
+}
+
+// What a reference points into: the URI, the place that it means, where that is known without a look-up, and the fragment.
+#[derive(Drop)]
+struct Target<'r, 't> {
+    uri: Rc<Uri>,
+    place: Option<Located<'r>>,
+    fragment: &'t str,
 }
 
 impl<'r> Resolver<'r> {
@@ -78,18 +89,27 @@ impl<'r> Resolver<'r> {
         self.layers.resolve_uri(alloc, base, uri)
     }
 
-    // The URI that a reference points into, and its fragment.
-    fn target<'t>(&self, alloc: Global, reference: &'t str) -> Result<(Rc<Uri>, &'t str), Error>
-        ensures ok { IfOk result (λ t. target (resolver_of self.now).base reference.now ≡ Ok t.0.value) }
-        ensures fragment { IfOk result (λ t. t.1.now ≡ fragment_part reference.now) }
+    // What a reference points into.
+    fn target<'t>(&self, alloc: Global, reference: &'t str) -> Result<Target<'r, 't>, Error>
+        ensures ok { IfOk result (λ t. target (resolver_of self.now).base reference.now ≡ Ok t.uri.value) }
+        ensures place { IfOk result (λ t. IfSome t.place (IsMeant (means (world_of self.now) t.uri.value))) }
+        ensures fragment { IfOk result (λ t. t.fragment.now ≡ fragment_part reference.now) }
         ensures fault { IfErr result (IsFaultOf (as_invalid_uri (target (resolver_of self.now).base reference.now))) }
     {
         if let Some(fragment) = reference.strip_prefix('#') {
-            return Ok((self.base.clone()?, fragment));
+            return Ok(Target {
+                uri: self.base.clone()?,
+                place: None,
+                fragment,
+            });
         }
         let (uri, fragment) = parts(reference);
-        let uri = self.layers.resolve_uri(alloc, self.base.borrow(), uri)?;
-        Ok((uri, fragment))
+        let (uri, place) = self.layers.resolve_place(alloc, self.base.borrow(), uri)?;
+        Ok(Target {
+            uri,
+            place,
+            fragment,
+        })
     }
 
     // This resolver with another base.
@@ -154,11 +174,15 @@ impl<'r> Resolver<'r> {
         ensures world { IfOk result (λ found. world_found found ≡ world_of self.now) }
         ensures fault { IfErr result (IsFaultOf (lookup (world_of self.now) (resolver_of self.now) reference.now)) }
     {
-        let (uri, fragment) = self.target(alloc, reference)?;
+        let Target {
+            uri,
+            place,
+            fragment,
+        } = self.target(alloc, reference)?;
         if is_name(fragment) {
             return self.at_name(alloc, uri, fragment);
         }
-        let Some(place) = self.layers.resource(uri.as_str()) else {
+        let Some(place) = self.layers.resource_or(place, uri.as_str()) else {
             return Err(not_retrieved(alloc, &uri));
         };
         let resolver = self.moved(alloc, uri)?;

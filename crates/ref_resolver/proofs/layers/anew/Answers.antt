@@ -1,7 +1,7 @@
 use Rattle.std.proofs.Common.{rules}
 use Rattle.ref_uri.specs.Targets.{against}
 use Rattle.ref_retrieve.proofs.Saying.{refused_uri}
-use Rattle.ref_resolver.proofs.layers.Layers.resolve_uri.Goals as goal
+use Rattle.ref_resolver.proofs.layers.anew.Goals as goal
 
 pub returns-in_err-uri-clause-fault : goal.returns-in_err-uri-clause-fault
 returns-in_err-uri-clause-fault c =

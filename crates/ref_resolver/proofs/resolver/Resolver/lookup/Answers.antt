@@ -18,7 +18,7 @@ pub returns-in_default-clause-fault : goal.returns-in_default-clause-fault
 returns-in_default-clause-fault c =
     let w = world_of c.args.self.now in
     let r = resolver_of c.args.self.now in
-    let uri : List ℕ = c.in_ok-uri.uri.value in
+    let uri : List ℕ = c.in_ok-uri.field-0.uri.value in
     let none : means w uri ≡ None = search rules in
     let says = rw c.deref-in_default.ensures at c.not_retrieved.ensures in
     says_of (lookup w r c.args.reference.now) (not_retrieved uri) c.not_retrieved.result (lookup_absent w r c.args.reference.now uri c.in_ok-uri.ensures.ok none) says
@@ -27,7 +27,7 @@ pub returns-clause-ok : goal.returns-clause-ok
 returns-clause-ok c =
     let w = world_of c.args.self.now in
     let r = resolver_of c.args.self.now in
-    let uri : List ℕ = c.in_ok-uri.uri.value in
+    let uri : List ℕ = c.in_ok-uri.field-0.uri.value in
     let (p, is, at) = c.in-Some.ensures.value in
     let text : c.as_str.result.now ≡ uri = search rules in
     let same = lookup_present w r c.args.reference.now uri p c.in_ok-uri.ensures.ok (ap (means w) (sym text) ∙ is) in
@@ -38,7 +38,7 @@ pub returns-clause-fault : goal.returns-clause-fault
 returns-clause-fault c =
     let w = world_of c.args.self.now in
     let r = resolver_of c.args.self.now in
-    let uri : List ℕ = c.in_ok-uri.uri.value in
+    let uri : List ℕ = c.in_ok-uri.field-0.uri.value in
     let (p, is, at) = c.in-Some.ensures.value in
     let text : c.as_str.result.now ≡ uri = search rules in
     let same = lookup_present w r c.args.reference.now uri p c.in_ok-uri.ensures.ok (ap (means w) (sym text) ∙ is) in
@@ -47,10 +47,10 @@ returns-clause-fault c =
 
 pub returns-then-is_name-clause-ok : goal.returns-then-is_name-clause-ok
 returns-then-is_name-clause-ok c =
-    let name : is_name c.in_ok-uri.fragment.now ≡ true = sym c.is_name.ensures ∙ c.if-is_name.true in
+    let name : is_name c.in_ok-uri.field-0.fragment.now ≡ true = sym c.is_name.ensures ∙ c.if-is_name.true in
     c.at_name.ensures.ok c.args.reference.now c.in_ok-uri.ensures.ok (sym c.in_ok-uri.ensures.fragment) name
 
 pub returns-then-is_name-clause-fault : goal.returns-then-is_name-clause-fault
 returns-then-is_name-clause-fault c =
-    let name : is_name c.in_ok-uri.fragment.now ≡ true = sym c.is_name.ensures ∙ c.if-is_name.true in
+    let name : is_name c.in_ok-uri.field-0.fragment.now ≡ true = sym c.is_name.ensures ∙ c.if-is_name.true in
     c.at_name.ensures.fault c.args.reference.now c.in_ok-uri.ensures.ok (sym c.in_ok-uri.ensures.fragment) name
