@@ -1,5 +1,5 @@
--- What a registry's own documents refer to.
-use Rattle.std.specs.Prelude.{ℕ, List, codes, Option, None, option_and_then, slice_get, Result, Ok}
+-- What an own document of a registry refers to.
+use Rattle.std.specs.Prelude.{ℕ, ◌==◌, Bool, List, codes, filter, if◌then◌else◌, Option, None, option_and_then, slice_get, Result, Ok}
 use Rattle.std.specs.List.{filter_map}
 use Rattle.std.specs.Result.{result_ok}
 use Rattle.serde_json.specs.Data.{Data}
@@ -23,6 +23,14 @@ uri_of base reference = result_ok (base >>= λ base. against base reference >>= 
 abbrev pub refers_to : Layer → Listed → Option (List ℕ)
 refers_to layer p = option_and_then (uri_of p.base) (option_and_then (text_under (codes "$ref")) (value_there layer p))
 
--- those of all places, in order
-abbrev pub referred_by : Layer → List (List ℕ)
-referred_by layer = filter_map (refers_to layer) (own_places layer)
+-- whether a listed place is one of the document with this number
+abbrev pub is_of : ℕ → Listed → Bool
+is_of document p = p.document == document
+
+-- the URI that a listed place refers to, where it is one of the document with this number
+abbrev pub refers_from : Layer → ℕ → Listed → Option (List ℕ)
+refers_from layer document p = if is_of document p then refers_to layer p else None
+
+-- those that the places of the document with this number refer to, in the order of the places
+abbrev pub referred_by : Layer → ℕ → List (List ℕ)
+referred_by layer document = filter_map (refers_to layer) (filter (is_of document) (own_places layer))

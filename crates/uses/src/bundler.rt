@@ -1,10 +1,10 @@
-//! A bundler that lists what the documents of a registry refer to.
+//! A bundler that lists the documents that one of a registry's own refers to.
 ghost use Rattle.std.specs.Prelude.{◌≡◌, ◌++◌, ◌∷◌, [], None, IfOk, IfErr, OnOk};
 ghost use Rattle.ref_uri.specs.Reference.{with_fragment};
 ghost use Rattle.ref_index.specs.Listing.{listed_of};
 ghost use Rattle.referencing.specs.Listed.{IsMemory};
 ghost use Rattle.ref_resolver.specs.Layered.{own};
-ghost use Rattle.uses.specs.Bundling.{refers_to, referred_by};
+ghost use Rattle.uses.specs.Bundling.{refers_to, refers_from, referred_by};
 
 use referencing::{Error, Place, Registry, Uri};
 use serde_json::Value;
@@ -40,6 +40,21 @@ fn referred(
     }
 }
 
+// The same where the place is one of the document with this number; a place of another has none.
+fn referred_from(
+    alloc: Global,
+    registry: &Registry<'_>,
+    document: usize,
+    place: &Place<'_>,
+) -> Result<Option<Uri>, AllocError>
+    ensures { IfOk result (λ uri. uri ≡ refers_from (own registry.now) document (listed_of place.now)) }
+{
+    if place.document != document {
+        return Ok(None);
+    }
+    referred(alloc, registry, place)
+}
+
 // Adds a URI behind the others.
 fn push(uris: &mut Vec<Uri>, uri: Uri) -> Result<(), AllocError>
     ensures { OnOk result (uris.new.items ≡ uris.old.items ++ uri ∷ []) }
@@ -48,20 +63,26 @@ fn push(uris: &mut Vec<Uri>, uri: Uri) -> Result<(), AllocError>
     Ok(())
 }
 
-/// The URIs that the references of a registry's own documents mean, without their fragments: one for each place with a text under
-/// `$ref` that as a whole means a URI against the place's base, in the order of the places, also where several mean the same. A
-/// look-up takes its URI from what stands before the text's last `#` alone, so it may lead on from a text that isn't listed here. A
-/// bundler puts together what stands under them.
+/// The URIs that the references of one of a registry's own documents mean, without their fragments: one for each place of it with
+/// a text under `$ref` that as a whole means a URI against the place's base, in the order of its places, also where several mean the
+/// same. The document is the one with this number, counted from 0 in the order of [`Registry::places`]; a number without a document
+/// has none. A look-up takes its URI from what stands before the text's last `#` alone, so it may lead on from a text that isn't
+/// listed here. A bundler puts together what stands under them.
 ///
-/// Refuses as `Memory` alone. Visits each place once, with a look-up of its value and of the URI.
-pub fn referred_documents(alloc: Global, registry: &Registry<'_>) -> Result<Vec<Uri>, Error>
-    ensures value { IfOk result (λ uris. uris.items ≡ referred_by (own registry.now)) }
+/// Refuses as `Memory` alone. Visits each place of the registry once, and those of the document with a look-up of their value and of
+/// the URI.
+pub fn referred_documents(
+    alloc: Global,
+    registry: &Registry<'_>,
+    document: usize,
+) -> Result<Vec<Uri>, Error>
+    ensures value { IfOk result (λ uris. uris.items ≡ referred_by (own registry.now) document) }
     ensures memory { IfErr result IsMemory }
 {
     let mut uris = Vec::new(alloc);
     let places = registry.places(alloc)?;
     for place in places.iter() {
-        if let Some(uri) = referred(alloc, registry, place)? {
+        if let Some(uri) = referred_from(alloc, registry, document, place)? {
             push(&mut uris, uri)?;
         }
     }

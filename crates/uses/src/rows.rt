@@ -24,16 +24,23 @@ fn verdict(alloc: Global, schema: &Value, instance: &Value) -> Result<String, Er
     Ok(format!(in alloc; "{verdict:?}")?)
 }
 
-/// What two documents refer to, each URI with a space behind it.
-fn bundled(alloc: Global, document: &Value, other: &Value) -> Result<String, Error> {
-    let builder = Registry::new(alloc).add("http://a/r", document)?;
-    let registry = builder.add("http://a/b/s", other)?.prepare()?;
+/// What the document with this number refers to, each URI with a space behind it.
+fn listed(alloc: Global, registry: &Registry<'_>, document: usize) -> Result<String, Error> {
     let mut line = String::new(alloc);
-    for uri in referred_documents(alloc, &registry)? {
+    for uri in referred_documents(alloc, registry, document)? {
         line.push_str(uri.as_str())?;
         line.push(' ')?;
     }
     Ok(line)
+}
+
+/// What a document refers to, and behind a semicolon what another of the same registry does.
+fn bundled(alloc: Global, document: &Value, other: &Value) -> Result<String, Error> {
+    let builder = Registry::new(alloc).add("http://a/r", document)?;
+    let registry = builder.add("http://a/b/s", other)?.prepare()?;
+    let first = listed(alloc, &registry, 0)?;
+    let second = listed(alloc, &registry, 1)?;
+    Ok(format!(in alloc; "{first}; {second}")?)
 }
 
 /// What stands under `name` of a file, to which a description refers.
