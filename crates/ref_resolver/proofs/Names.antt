@@ -5,8 +5,10 @@ use Rattle.ref_uri.specs.Targets.{target, fragment_part}
 use Rattle.ref_world.specs.World.{World}
 use Rattle.ref_world.specs.Places.{Place}
 use Rattle.ref_world.specs.Resources.{means}
-use Rattle.ref_world.specs.Lookup.{Resolver, lookup, at_fragment, moved}
+use Rattle.ref_world.specs.Anchors.{Named, anchor}
+use Rattle.ref_world.specs.Lookup.{Resolver, lookup, at_fragment, moved, named_found}
 use Rattle.ref_resolver.specs.Names.{is_name, at_name}
+use Rattle.ref_resolver.proofs.Faults.{goes_on}
 use Rattle.ref_resolver.proofs.Lookups.{lookup_present}
 
 named_by : (w : World) (r : Resolver) (p : Place) (c : ℕ) (text : List ℕ) (t : Bool) → eqb c 47 ≡ t → not t ≡ true → at_fragment w r p (c ∷ text) ≡ at_name w r (c ∷ text)
@@ -32,3 +34,9 @@ pub lookup_named : (w : World) (r : Resolver) (reference uri name : List ℕ) �
 lookup_named w r reference uri name is there fragment named =
     let (p, some) = present_of (means w uri) there in
     lookup_present w r reference uri p is some ∙ ap (at_fragment w (moved r uri) p) fragment ∙ named_there w (moved r uri) p name named
+
+-- one that an anchor has
+pub lookup_found : (w : World) (r : Resolver) (reference uri name : List ℕ) (n : Named) → target r.base reference ≡ Ok uri → is_some (means w uri) ≡ true → fragment_part reference ≡ name → is_name name ≡ true → anchor w uri name ≡ Ok n
+    → lookup w r reference ≡ named_found w (moved r uri) n n.kind
+lookup_found w r reference uri name n is there fragment named has =
+    lookup_named w r reference uri name is there fragment named ∙ goes_on (anchor w uri name) (λ m. named_found w (moved r uri) m m.kind) n has

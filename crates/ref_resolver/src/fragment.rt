@@ -2,6 +2,8 @@
 ghost use Rattle.std.specs.Prelude.{◌≡◌, [], ◌∷◌, List, ℕ, IfOk, IfErr, MatchOption, None, Ok};
 ghost use Rattle.std.specs.Result.{result_ok};
 ghost use Rattle.serde_json.specs.View.{view};
+ghost use Rattle.ref_draft.specs.Anchors.{Plain};
+ghost use Rattle.ref_world.specs.World.{World};
 ghost use Rattle.ref_world.specs.Anchors.{Named, anchor, named_by_identifier, not_named};
 ghost use Rattle.ref_world.specs.Fault.{not_retrieved};
 ghost use Rattle.ref_world.specs.Lookup.{by_scope, in_scope, named_found, at_fragment};
@@ -156,6 +158,15 @@ fn outermost<'r>(
     under_uri(alloc, resolver, uri, place)
 }
 
+// What a plain anchor's name leads to: its place.
+#[inline(always)]
+pub(crate) fn plain_found<'r>(resolver: Resolver<'r>, place: Located<'r>) -> Resolved<'r>
+    ensures found { (world : World) (n : Named) → n.kind ≡ Plain → IsLocated place.entry n.place → named_found world (resolver_of resolver.entry) n n.kind ≡ Ok (found_of result) }
+    ensures world { world_found result ≡ world_of resolver.entry }
+{
+    at_value(place.value, place.entry.draft, resolver)
+}
+
 // What a name leads to that an anchor has: a plain one to its place, a dynamic one by the dynamic scope.
 #[inline(always)]
 pub(crate) fn named_found<'r>(
@@ -172,7 +183,7 @@ pub(crate) fn named_found<'r>(
     if found.named.is_dynamic {
         outermost(alloc, &resolver, name, place)
     } else {
-        Ok(at_value(place.value, place.entry.draft, resolver))
+        Ok(plain_found(resolver, place))
     }
 }
 

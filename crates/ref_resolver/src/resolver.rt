@@ -6,19 +6,22 @@ ghost use Rattle.std.specs.Result.{result_ok};
 ghost use Rattle.serde_json.specs.View.{view};
 ghost use Rattle.ref_uri.specs.Targets.{against, target, fragment_part};
 ghost use Rattle.ref_world.specs.Fault.{as_invalid_uri};
-ghost use Rattle.ref_world.specs.Anchors.{anchor, not_named};
+ghost use Rattle.ref_world.specs.Anchors.{Named, anchor, not_named};
 ghost use Rattle.ref_draft.specs.Views.{resource_ref};
-ghost use Rattle.ref_world.specs.Lookup.{moved, in_subresource, lookup};
+ghost use Rattle.ref_world.specs.Lookup.{moved, in_subresource, lookup, named_found};
 ghost use Rattle.ref_retrieve.specs.Errors.{IsFaultOf};
 ghost use Rattle.ref_world.specs.Resources.{means};
 ghost use Rattle.ref_resolver.specs.Layered.{world_in};
-ghost use Rattle.ref_resolver.specs.Located.{IsMeant};
+ghost use Rattle.ref_index.specs.Found.{kind_of};
+ghost use Rattle.ref_resolver.specs.Located.{IsLocated, IsMeant};
 ghost use Rattle.ref_resolver.specs.Resolving.{resolver_of, world_of, found_of, world_found};
 ghost use Rattle.ref_resolver.specs.Names.{is_name};
 
-use crate::fragment::{at_fragment, is_name, meaning, named_found, not_named, not_retrieved};
+use crate::fragment::{
+    at_fragment, is_name, meaning, named_found, not_named, not_retrieved, plain_found,
+};
 use crate::layers::Layers;
-use crate::located::Located;
+use crate::located::{Located, LocatedName};
 use ref_draft::{Draft, ResourceRef};
 use ref_index::reference::parts;
 use ref_parts::list::List;
@@ -199,6 +202,26 @@ impl<'r> Resolver<'r> {
         let Some(found) = meaning(&self.layers, uri.as_str(), name) else {
             return Err(self.no_name(alloc, &uri, name));
         };
+        if found.named.is_dynamic {
+            return self.at_dynamic(alloc, uri, name, found);
+        }
+        let resolver = self.moved(alloc, uri)?;
+        Ok(plain_found(resolver, found.place))
+    }
+
+    // Where a name leads under a URI where an anchor has it, a dynamic one: its many values stay out of what a plain one takes.
+    #[inline(never)]
+    fn at_dynamic(
+        &self,
+        alloc: Global,
+        uri: Rc<Uri>,
+        name: &str,
+        found: LocatedName<'r>,
+    ) -> Result<Resolved<'r>, Error>
+        ensures ok { (n : Named) → n.name ≡ name.now → kind_of found.entry.named.now.is_dynamic ≡ n.kind → IsLocated found.entry.place n.place → IfOk result (λ f. named_found (world_of self.now) (moved (resolver_of self.now) uri.value) n n.kind ≡ Ok (found_of f)) }
+        ensures world { IfOk result (λ f. world_found f ≡ world_of self.now) }
+        ensures fault { (n : Named) → n.name ≡ name.now → kind_of found.entry.named.now.is_dynamic ≡ n.kind → IsLocated found.entry.place n.place → IfErr result (IsFaultOf (named_found (world_of self.now) (moved (resolver_of self.now) uri.value) n n.kind)) }
+    {
         let resolver = self.moved(alloc, uri)?;
         named_found(alloc, resolver, name, found)
     }
