@@ -6,15 +6,14 @@ ghost use Rattle.ref_draft.specs.Anchors.{Plain};
 ghost use Rattle.ref_world.specs.World.{World};
 ghost use Rattle.ref_world.specs.Anchors.{Named, anchor, named_by_identifier, not_named};
 ghost use Rattle.ref_world.specs.Fault.{not_retrieved};
-ghost use Rattle.ref_world.specs.Lookup.{by_scope, in_scope, named_found, at_fragment};
-ghost use Rattle.ref_world.specs.Places.{Place};
+ghost use Rattle.ref_world.specs.Lookup.{by_scope, in_scope, named_found};
 ghost use Rattle.ref_retrieve.specs.Errors.{IsFaultOf};
 ghost use Rattle.ref_index.specs.Found.{kind_of};
 ghost use Rattle.ref_index.specs.Retrieval.{SaysOrMemory};
 ghost use Rattle.ref_resolver.specs.Layered.{world_in};
 ghost use Rattle.ref_resolver.specs.Located.{IsLocated, IsNamed};
 ghost use Rattle.ref_resolver.specs.Resolving.{resolver_of, world_of, found_of, world_found, at_pointer, under_uri};
-ghost use Rattle.ref_resolver.specs.Names.{is_name, at_name};
+ghost use Rattle.ref_resolver.specs.Names.{is_name};
 ghost use Rattle.ref_resolver.specs.Scoped.{dynamic_under, IsDynamicUnder};
 
 use crate::layers::Layers;
@@ -66,22 +65,6 @@ pub(crate) fn meaning<'r>(layers: &Layers<'r>, uri: &str, name: &str) -> Option<
     match layers.named(uri, name) {
         Some(found) => Some(found),
         None => named_by_identifier(layers, uri, name),
-    }
-}
-
-// The same, or its fault.
-fn anchor<'r>(
-    alloc: Global,
-    layers: &Layers<'r>,
-    uri: &str,
-    name: &str,
-) -> Result<LocatedName<'r>, Error>
-    ensures ok { IfOk result (λ n. IsNamed (result_ok (anchor (world_in layers.now) uri.now name.now)) n) }
-    ensures fault { IfErr result (IsFaultOf (anchor (world_in layers.now) uri.now name.now)) }
-{
-    match meaning(layers, uri, name) {
-        Some(found) => Ok(found),
-        None => Err(not_named(alloc, name)),
     }
 }
 
@@ -189,7 +172,11 @@ pub(crate) fn named_found<'r>(
 
 // A value of a resource that a resolver is at.
 #[inline(always)]
-fn at_value<'r>(contents: &'r Value, draft: Draft, resolver: Resolver<'r>) -> Resolved<'r>
+pub(crate) fn at_value<'r>(
+    contents: &'r Value,
+    draft: Draft,
+    resolver: Resolver<'r>,
+) -> Resolved<'r>
     ensures found { found_of result ≡ record { value = view contents.now; draft = draft; resolver = resolver_of resolver.entry } }
     ensures world { world_found result ≡ world_of resolver.entry }
 {
@@ -203,7 +190,7 @@ fn at_value<'r>(contents: &'r Value, draft: Draft, resolver: Resolver<'r>) -> Re
 // What a pointer leads to in the resource at a place, where `text` is the fragment behind its first `/`. Its many values stay out of
 // the look-up of whole resources.
 #[inline(never)]
-fn at_pointer<'r>(
+pub(crate) fn at_pointer<'r>(
     alloc: Global,
     resolver: Resolver<'r>,
     place: Located<'r>,
@@ -234,46 +221,11 @@ fn at_pointer<'r>(
     Ok(at_value(value, draft, resolver))
 }
 
-// What a fragment means in the resource at a place that a resolver is at.
-pub(crate) fn at_fragment<'r>(
-    alloc: Global,
-    resolver: Resolver<'r>,
-    place: Located<'r>,
-    fragment: &str,
-) -> Result<Resolved<'r>, Error>
-    ensures ok { (p : Place) → IsLocated place.entry p → IfOk result (λ f. at_fragment (world_of resolver.entry) (resolver_of resolver.entry) p fragment.now ≡ Ok (found_of f)) }
-    ensures world { IfOk result (λ f. world_found f ≡ world_of resolver.entry) }
-    ensures fault { (p : Place) → IsLocated place.entry p → IfErr result (IsFaultOf (at_fragment (world_of resolver.entry) (resolver_of resolver.entry) p fragment.now)) }
-{
-    if fragment.is_empty() {
-        return Ok(at_value(place.value, place.entry.draft, resolver));
-    }
-    if let Some(text) = fragment.strip_prefix('/') {
-        return at_pointer(alloc, resolver, place, fragment, text);
-    }
-    at_name(alloc, resolver, fragment)
-}
-
 // Whether a fragment is a name.
 pub(crate) fn is_name(fragment: &str) -> bool
     ensures { result ≡ is_name fragment.now }
 {
     !matches!(fragment.as_bytes(), [] | [b'/', ..])
-}
-
-// What a name leads to in the resource that a resolver is at.
-#[inline(never)]
-pub(crate) fn at_name<'r>(
-    alloc: Global,
-    resolver: Resolver<'r>,
-    name: &str,
-) -> Result<Resolved<'r>, Error>
-    ensures ok { IfOk result (λ f. at_name (world_of resolver.entry) (resolver_of resolver.entry) name.now ≡ Ok (found_of f)) }
-    ensures world { IfOk result (λ f. world_found f ≡ world_of resolver.entry) }
-    ensures fault { IfErr result (IsFaultOf (at_name (world_of resolver.entry) (resolver_of resolver.entry) name.now)) }
-{
-    let found = anchor(alloc, &resolver.layers, resolver.base.as_str(), name)?;
-    named_found(alloc, resolver, name, found)
 }
 
 // The fault of a URI that means no place: nothing is retrieved any more.

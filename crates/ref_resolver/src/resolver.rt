@@ -18,7 +18,7 @@ ghost use Rattle.ref_resolver.specs.Resolving.{resolver_of, world_of, found_of, 
 ghost use Rattle.ref_resolver.specs.Names.{is_name};
 
 use crate::fragment::{
-    at_fragment, is_name, meaning, named_found, not_named, not_retrieved, plain_found,
+    at_pointer, at_value, is_name, meaning, named_found, not_named, not_retrieved, plain_found,
 };
 use crate::layers::Layers;
 use crate::located::{Located, LocatedName};
@@ -189,7 +189,10 @@ impl<'r> Resolver<'r> {
             return Err(not_retrieved(alloc, &uri));
         };
         let resolver = self.moved(alloc, uri)?;
-        at_fragment(alloc, resolver, place, fragment)
+        match fragment.strip_prefix('/') {
+            Some(text) => at_pointer(alloc, resolver, place, fragment, text),
+            None => Ok(at_value(place.value, place.entry.draft, resolver)),
+        }
     }
 
     // Where a name leads under a URI.
