@@ -1,4 +1,5 @@
 //! Registries of the documents of a row, the texts of refusals, and which URIs mean places.
+use crate::answers::text_of;
 use crate::fault::Fault;
 use crate::row;
 use ref_draft::Draft;
@@ -6,14 +7,6 @@ use ref_retrieve::{Error, Retrieve};
 use referencing::{Registry, RegistryBuilder};
 use serde_json::Value;
 use std::alloc::{AllocError, Global};
-
-/// The text of a refusal. Want of memory is passed on.
-pub fn text_of(alloc: Global, error: Error) -> Result<String, AllocError> {
-    match error {
-        Error::Memory(error) => Err(error),
-        error => format!(in alloc; "{error}"),
-    }
-}
 
 /// A builder with this draft, or without one.
 pub fn builder<'b>(alloc: Global, draft: Option<Draft>) -> RegistryBuilder<'b> {

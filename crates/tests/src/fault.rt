@@ -1,8 +1,6 @@
-//! Why a row has no answer.
-ghost use Rattle.std.specs.Prelude.{⊤};
-
+//! Why a row has no answer, which is what is found of it where it expects so.
 use ref_retrieve::Error;
-use ref_uri::{UriFault, UriParseFault};
+use ref_uri::UriFault;
 use std::alloc::{AllocError, AllocFailed};
 use std::fmt;
 
@@ -13,16 +11,19 @@ pub enum Fault {
     Memory,
     /// It isn't of its table's form.
     Form(&'static str),
-    /// What it needs is refused.
+    /// What it asks is refused.
     Refused(Error),
+    /// Several answers were to be the same, and one of them isn't.
+    Differs(String),
 }
 
 impl fmt::Display for Fault {
     fn fmt<W: fmt::Write>(&self, f: &mut fmt::Formatter<W>) -> fmt::Result {
         match self {
-            Fault::Memory => f.write_str("out of memory"),
+            Fault::Memory => f.write_str("there is no memory for the row"),
             Fault::Form(text) => f.write_str(*text),
             Fault::Refused(error) => write!(f, "{error}"),
+            Fault::Differs(text) => f.write_str(text.as_str()),
         }
     }
 }

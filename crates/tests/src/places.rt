@@ -1,7 +1,7 @@
 //! The places of own documents, where their paths lead, and values at paths.
+use crate::answers::{agreed, text_of};
 use crate::fault::Fault;
-use crate::lookups::agreed;
-use crate::registries::{builder, text_of};
+use crate::registries::builder;
 use crate::row;
 use ref_draft::Draft;
 use ref_uri::Uri;
@@ -104,7 +104,7 @@ pub fn agreeing(alloc: Global, row: &Value) -> Result<String, Fault> {
     let registry = builder.prepare()?;
     let listed = listed(alloc, &registry)?;
     let located = located_places(alloc, &registry)?;
-    Ok(agreed(alloc, listed, located, ["as listed", "as located"])?)
+    agreed(alloc, listed, located, ["as listed", "as located"])
 }
 
 /// A value with its base and draft.

@@ -1,22 +1,14 @@
 //! What retrievers answer.
 use crate::fault::Fault;
 use crate::row;
-use ref_retrieve::{DefaultRetriever, Error, MapRetriever, Retrieve};
-use ref_uri::{Uri, uri};
+use ref_retrieve::{DefaultRetriever, MapRetriever, Retrieve};
+use ref_uri::uri::from_str;
 use serde_json::Value;
 use std::alloc::Global;
 
-/// The URI of a text.
-fn uri_of(alloc: Global, text: &str) -> Result<Uri, Fault> {
-    match uri::from_str(alloc, text) {
-        Ok(uri) => Ok(uri),
-        Err(fault) => Err(Fault::Refused(Error::from(fault))),
-    }
-}
-
 /// What a retriever answers for a URI, or the text of its refusal.
 fn retrieved<R: Retrieve + Drop>(alloc: Global, retriever: R, uri: &str) -> Result<String, Fault> {
-    let uri = uri_of(alloc, uri)?;
+    let uri = from_str(alloc, uri)?;
     match retriever.retrieve(alloc, &uri) {
         Ok(value) => Ok(value.to_string(alloc)?),
         Err(error) => Ok(format!(in alloc; "{error}")?),
@@ -29,16 +21,6 @@ pub fn by_default(alloc: Global, row: &Value) -> Result<String, Fault> {
     let same = retriever;
     let answer = retrieved(alloc, &retriever, row::text(row, 1)?)?;
     Ok(format!(in alloc; "{} {retriever:?} {answer}", same == retriever)?)
-}
-
-/// The documents of a row, each a list of a URI and a value.
-fn retriever_of(alloc: Global, row: &Value) -> Result<MapRetriever, Fault> {
-    let mut documents = Vec::new(alloc);
-    for pair in row::list(row, 1)? {
-        let uri = uri_of(alloc, row::text(pair, 0)?)?;
-        documents.push((uri, row::column(pair, 1)?.clone()?))?;
-    }
-    Ok(MapRetriever::from_pairs(alloc, documents)?)
 }
 
 /// What a retriever answers for URIs, a line for each.
@@ -59,7 +41,7 @@ fn each_retrieved(
 /// Of a row of documents, URIs and one more: what a retriever of the documents answers for each, for the last of them itself and else
 /// behind a reference.
 pub fn of_documents(alloc: Global, row: &Value) -> Result<String, Fault> {
-    let retriever = retriever_of(alloc, row)?;
+    let retriever = row::retriever(alloc, row, 1)?;
     let answers = each_retrieved(alloc, &retriever, row::list(row, 2)?)?;
     let last = retrieved(alloc, retriever, row::text(row, 3)?)?;
     Ok(format!(in alloc; "{answers}{last}")?)

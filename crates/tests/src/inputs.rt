@@ -1,6 +1,7 @@
 //! What is added to builders, and what they then hold.
+use crate::answers::text_of;
 use crate::fault::Fault;
-use crate::registries::{builder, known, text_of};
+use crate::registries::{builder, known};
 use crate::row;
 use ref_draft::{Draft, ResourceRef};
 use ref_retrieve::Error;

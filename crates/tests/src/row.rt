@@ -64,6 +64,11 @@ pub fn draft(row: &Value, number: usize) -> Result<Option<Draft>, Fault> {
     }
 }
 
+/// A column that has to name a draft.
+pub fn named_draft(row: &Value, number: usize) -> Result<Draft, Fault> {
+    draft(row, number)?.ok_or(Fault::Form("no draft"))
+}
+
 /// A column of documents, each a list of a URI and a value.
 pub fn documents(alloc: Global, row: &Value, number: usize) -> Result<Vec<(String, Value)>, Fault> {
     let mut documents = Vec::new(alloc);

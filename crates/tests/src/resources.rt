@@ -1,7 +1,7 @@
 //! Which URIs mean places, and what texts mean against a base.
+use crate::answers::{agreed, text_of};
 use crate::fault::Fault;
-use crate::lookups::agreed;
-use crate::registries::{known, text_of};
+use crate::registries::known;
 use crate::row;
 use ref_retrieve::Error;
 use ref_uri::uri::from_str;
@@ -16,7 +16,7 @@ pub fn known_twice(alloc: Global, registry: &Registry<'_>, row: &Value) -> Resul
     let copy = registry.clone()?;
     let first = known(alloc, registry, row, 4)?;
     let again = known(alloc, &copy, row, 4)?;
-    Ok(agreed(alloc, first, again, ["at first", "by the copy"])?)
+    agreed(alloc, first, again, ["at first", "by the copy"])
 }
 
 /// A base that is a reference by itself.
@@ -50,7 +50,7 @@ pub fn resolved_by_resolvers(alloc: Global, row: &Value) -> Result<String, Fault
     let resolver = registry.resolver(alloc, from_str(alloc, "http://o/")?)?;
     let first = meant(alloc, registry.resolve_uri(alloc, base, text))?;
     let other = meant(alloc, resolver.resolve_uri(alloc, again, text))?;
-    Ok(agreed(alloc, first, other, ["at first", "by the resolver"])?)
+    agreed(alloc, first, other, ["at first", "by the resolver"])
 }
 
 /// A resolver's copy, and the resolver of an answer; then whether the copy is equal to the first, and the answer's to the copy.

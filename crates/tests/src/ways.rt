@@ -2,10 +2,11 @@
 ghost use Rattle.std.specs.Prelude.{None};
 ghost use Rattle.ref_report.specs.Memory.{is_at_end};
 
-use crate::rows::Row;
+use crate::fault::Fault;
+use crate::reports::Ending;
 use ref_report::run::{RunError, run};
 use ref_report::{Failed, Input, MemorySink, MemorySource, Output, Source, Status};
-use std::alloc::{AllocError, Global};
+use std::alloc::Global;
 use std::io::{self, ErrorKind, Read};
 use std::str;
 
@@ -93,81 +94,53 @@ fn by_reader_and_writer(alloc: Global, request: &str) -> Found {
 
 impl Found {
     /// Whether a run ended so, with just this report.
-    pub fn is_of(&self, row: &Row) -> bool {
-        self.answer == Ok(row.status) && self.report.as_slice() == row.report.as_bytes()
+    fn is_of(&self, ending: &Ending<'_>) -> bool {
+        self.answer == Ok(ending.status) && self.report.as_slice() == ending.report.as_bytes()
     }
 
     /// Whether a run ended so, with a report that begins so; one on a fault is that alone.
-    fn begins(&self, row: &Row) -> bool {
-        if row.status == Status::Done {
-            self.answer == Ok(row.status)
-                && self.report.as_slice().starts_with(row.report.as_bytes())
+    fn begins(&self, ending: &Ending<'_>) -> bool {
+        if ending.status == Status::Done {
+            self.answer == Ok(ending.status)
+                && self.report.as_slice().starts_with(ending.report.as_bytes())
         } else {
-            self.is_of(row)
+            self.is_of(ending)
         }
     }
+
+    /// What is told of a run that ends otherwise.
+    fn told(&self, alloc: Global, way: &str) -> Result<(), Fault> {
+        let report = str::from_utf8(self.report.as_slice()).unwrap_or("no text");
+        let text = format!(in alloc; "{:?} {report:?} {way}", self.answer)?;
+        Err(Fault::Differs(text))
+    }
 }
 
-/// The line of a difference.
-pub fn push_difference(
-    alloc: Global,
-    place: &str,
-    way: &str,
-    found: &Found,
-    row: &Row,
-    text: &mut String,
-) -> Result<(), AllocError> {
-    let report = str::from_utf8(found.report.as_slice()).unwrap_or("no text");
-    let line = format!(in alloc;
-        "{place}: found {:?} {report:?} {way}, expected {:?} {:?}\n",
-        found.answer, row.status, row.report
-    )?;
-    text.push_str(line.as_str())
-}
-
-fn compare(
-    alloc: Global,
-    place: &str,
-    way: &str,
-    found: &Found,
-    row: &Row,
-    text: &mut String,
-) -> Result<(), AllocError> {
-    if found.is_of(row) {
+/// Compares a run with how it is to end.
+pub fn compare(alloc: Global, found: &Found, way: &str, ending: &Ending<'_>) -> Result<(), Fault> {
+    if found.is_of(ending) {
         return Ok(());
     }
-    push_difference(alloc, place, way, found, row, text)
+    found.told(alloc, way)
 }
 
 /// Runs on a request in each way.
-pub fn each(
-    alloc: Global,
-    place: &str,
-    request: &str,
-    row: &Row,
-    text: &mut String,
-) -> Result<(), AllocError> {
+pub fn each(alloc: Global, request: &str, ending: &Ending<'_>) -> Result<(), Fault> {
     let found = at_once(alloc, request.as_bytes());
-    compare(alloc, place, "at once", &found, row, text)?;
+    compare(alloc, &found, "at once", ending)?;
     let found = a_byte_at_a_time(alloc, request);
-    compare(alloc, place, "a byte at a time", &found, row, text)?;
+    compare(alloc, &found, "a byte at a time", ending)?;
     let found = with_pauses(alloc, request);
-    compare(alloc, place, "with pauses", &found, row, text)?;
+    compare(alloc, &found, "with pauses", ending)?;
     let found = by_reader_and_writer(alloc, request);
-    compare(alloc, place, "by a reader and a writer", &found, row, text)
+    compare(alloc, &found, "by a reader and a writer", ending)
 }
 
 /// Runs on a request whose report begins as the row says.
-pub fn beginning(
-    alloc: Global,
-    place: &str,
-    request: &str,
-    row: &Row,
-    text: &mut String,
-) -> Result<(), AllocError> {
+pub fn beginning(alloc: Global, request: &str, ending: &Ending<'_>) -> Result<(), Fault> {
     let found = at_once(alloc, request.as_bytes());
-    if found.begins(row) {
+    if found.begins(ending) {
         return Ok(());
     }
-    push_difference(alloc, place, "at once", &found, row, text)
+    found.told(alloc, "at once")
 }

@@ -1,6 +1,7 @@
 //! Whether documents are prepared, or why not.
+use crate::answers::text_of;
 use crate::fault::Fault;
-use crate::registries::{builder, known, outcome, prepared, text_of};
+use crate::registries::{builder, known, outcome, prepared};
 use crate::row;
 use referencing::Registry;
 use referencing::meta::{URIS, uris_for_draft};

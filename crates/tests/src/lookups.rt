@@ -1,6 +1,6 @@
 //! Where references lead, step by step from a base.
+use crate::answers::{agreed, text_of};
 use crate::fault::Fault;
-use crate::registries::text_of;
 use crate::row;
 use ref_draft::{Draft, ResourceRef};
 use ref_retrieve::Error;
@@ -90,20 +90,6 @@ fn led_by_calls(
     Ok(shown(alloc, &at)?)
 }
 
-/// An answer that is found in two ways, or both answers, where they differ.
-pub fn agreed(
-    alloc: Global,
-    first: String,
-    second: String,
-    by: [&str; 2],
-) -> Result<String, AllocError> {
-    if first.as_str() == second.as_str() {
-        return Ok(first);
-    }
-    let [one, other] = by;
-    format!(in alloc; "{first} {one}, {second} {other}")
-}
-
 /// Where the steps of a row lead from the base in the column before them, by `follow` and by calls on resolvers.
 pub fn led(
     alloc: Global,
@@ -115,5 +101,15 @@ pub fn led(
     let steps = steps_of(alloc, row::list(row, number.saturating_add(1))?)?;
     let by_steps = led_by_steps(alloc, registry, base, steps.as_slice())?;
     let by_calls = led_by_calls(alloc, registry, base, steps.as_slice())?;
-    Ok(agreed(alloc, by_steps, by_calls, ["by steps", "by calls"])?)
+    agreed(alloc, by_steps, by_calls, ["by steps", "by calls"])
+}
+
+/// The debug texts of the answers to two references, the second looked up from the resolver of the first one's answer: of a base and the references
+/// in a row's columns behind those of the registry.
+pub fn answers(alloc: Global, registry: &Registry<'_>, row: &Value) -> Result<String, Fault> {
+    let (first, second) = (row::text(row, 5)?, row::text(row, 6)?);
+    let resolver = registry.resolver(alloc, row::uri(alloc, row, 4)?)?;
+    let first = resolver.lookup(alloc, first)?;
+    let second = first.resolver().lookup(alloc, second)?;
+    Ok(format!(in alloc; "{first:?} {second:?}")?)
 }

@@ -7,6 +7,7 @@ pub struct Tally {
     line: u64,
     table: String,
     count: u64,
+    has_row: bool,
 }
 
 impl Tally {
@@ -15,6 +16,7 @@ impl Tally {
             line: 0,
             table: String::new(alloc),
             count: 0,
+            has_row: true,
         }
     }
 
@@ -28,16 +30,42 @@ impl Tally {
         format!(in alloc; "line {}: not JSON\n", self.line)
     }
 
+    /// What is told where nothing is asked of what was given last.
+    fn unasked(&self, alloc: Global) -> Result<String, AllocError> {
+        if self.has_row {
+            return Ok(String::new(alloc));
+        }
+        format!(in alloc;
+            "line {}: nothing is asked of what was given before\n",
+            self.line
+        )
+    }
+
+    /// Goes on to what is given here for the rows behind it. What is told of what was given before.
+    pub fn give(&mut self, alloc: Global) -> Result<String, AllocError> {
+        let told = self.unasked(alloc)?;
+        self.has_row = false;
+        Ok(told)
+    }
+
     /// What is told of a table that ends here.
-    pub fn table(&self, alloc: Global) -> Result<String, AllocError> {
+    fn table(&self, alloc: Global) -> Result<String, AllocError> {
         if self.table.is_empty() {
             return Ok(String::new(alloc));
         }
         format!(in alloc; "{}: {} rows\n", self.table, self.count)
     }
 
+    /// What is told at the end.
+    pub fn end(&self, alloc: Global) -> Result<String, AllocError> {
+        let told = self.unasked(alloc)?;
+        let table = self.table(alloc)?;
+        format!(in alloc; "{told}{table}")
+    }
+
     /// Begins a table, where a row is not of the one that is read; what is told of that.
     fn begin_table(&mut self, alloc: Global, table: &str) -> Result<String, AllocError> {
+        self.has_row = true;
         if self.table.as_str() == table {
             return Ok(String::new(alloc));
         }

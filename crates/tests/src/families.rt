@@ -16,7 +16,7 @@ pub fn of_documents(
     let parent = unretrieving(alloc, None, family, 1)?;
     match table {
         "children" => outcomes::of_children(alloc, &parent, row),
-        "vocabularies by the parent" => vocabularies::declared(alloc, &parent, row),
+        "vocabularies by the parent" => vocabularies::by_registry(alloc, &parent, row),
         _ => of_child(alloc, &parent, family, table, row),
     }
 }
@@ -32,7 +32,7 @@ fn of_child(
     let child = child(alloc, parent, family, 2)?;
     match table {
         "child lookups" => lookups::led(alloc, &child, row, 3),
-        "vocabularies" => vocabularies::declared(alloc, &child, row),
+        "vocabularies" => vocabularies::by_registry(alloc, &child, row),
         "vocabularies at bases" => vocabularies::at_bases(alloc, &child, row),
         "dangling below parents" => dangling::of_both(alloc, parent, &child),
         _ => of_generations(alloc, parent, &child, row),

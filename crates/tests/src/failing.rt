@@ -2,7 +2,9 @@
 ghost use Rattle.std.specs.Prelude.{None};
 ghost use Rattle.ref_report.specs.Memory.{is_at_end};
 
-use crate::rows::Row;
+use crate::answers::expect;
+use crate::fault::Fault;
+use crate::reports::Ending;
 use ref_report::run::{RunError, run};
 use ref_report::{Failed, MemorySink, MemorySource, Output, Sink, Source, Status};
 use std::alloc::{AllocError, Global};
@@ -132,26 +134,36 @@ fn is_ended(
 }
 
 // Whether a failure is told at whichever byte of a report a write fails, and none where none does.
-fn is_told_at_each_byte(alloc: Global, request: &str, row: &Row) -> bool {
-    for room in 0..row.report.len() {
+fn is_told_at_each_byte(alloc: Global, request: &str, ending: &Ending<'_>) -> bool {
+    for room in 0..ending.report.len() {
         if !is_ended(alloc, request, room, true, (Err(RunError::Write), 1)) {
             return false;
         }
     }
-    is_ended(alloc, request, row.report.len(), true, (Ok(row.status), 0))
+    is_ended(
+        alloc,
+        request,
+        ending.report.len(),
+        true,
+        (Ok(ending.status), 0),
+    )
 }
 
 // Whether a failed flush is told, once the whole report is written.
-fn is_told_at_the_flush(alloc: Global, request: &str, row: &Row) -> bool {
+fn is_told_at_the_flush(alloc: Global, request: &str, ending: &Ending<'_>) -> bool {
     let ended = (Err(RunError::Write), 1);
-    is_ended(alloc, request, row.report.len(), false, ended)
+    is_ended(alloc, request, ending.report.len(), false, ended)
 }
 
 // Whether a report is written into a sink with just its room, without a growth. Where `run` wants memory, nothing is written.
-fn is_written_into_its_room(alloc: Global, request: &str, row: &Row) -> Result<bool, AllocError> {
+fn is_written_into_its_room(
+    alloc: Global,
+    request: &str,
+    ending: &Ending<'_>,
+) -> Result<bool, AllocError> {
     let mut reader = MemorySource::new(request.as_bytes());
     let mut writer = MemorySink {
-        bytes: Vec::with_capacity(alloc, row.report.len())?,
+        bytes: Vec::with_capacity(alloc, ending.report.len())?,
         failures: 0,
     };
     let room = writer.bytes.capacity();
@@ -160,40 +172,27 @@ fn is_written_into_its_room(alloc: Global, request: &str, row: &Row) -> Result<b
     if answer == Err(RunError::Memory) && keeps_room && writer.bytes.is_empty() {
         return Err(AllocError);
     }
-    Ok(answer == Ok(row.status) && keeps_room && writer.bytes.as_slice() == row.report.as_bytes())
+    Ok(
+        answer == Ok(ending.status)
+            && keeps_room
+            && writer.bytes.as_slice() == ending.report.as_bytes(),
+    )
 }
 
 /// Runs on a request of which each read, each write and a flush fails in turn, and one into a sink that has just the report's room.
-pub fn each(
-    alloc: Global,
-    place: &str,
-    request: &str,
-    row: &Row,
-    text: &mut String,
-) -> Result<(), AllocError> {
+pub fn each(alloc: Global, request: &str, ending: &Ending<'_>) -> Result<(), Fault> {
     let reads = is_refused_at_each_read(alloc, request);
-    push_difference(alloc, place, reads, "each failed read is told", text)?;
+    expect(alloc, reads, "a failed read isn't told")?;
     let write = is_told(alloc, request);
-    push_difference(alloc, place, write, "a failed write is told", text)?;
-    let bytes = is_told_at_each_byte(alloc, request, row);
-    push_difference(alloc, place, bytes, "a failure at each byte is told", text)?;
-    let flush = is_told_at_the_flush(alloc, request, row);
-    push_difference(alloc, place, flush, "a failed flush is told", text)?;
-    let room = is_written_into_its_room(alloc, request, row)?;
-    push_difference(alloc, place, room, "the report fits its room", text)
-}
-
-// The line of a difference, where there is one.
-fn push_difference(
-    alloc: Global,
-    place: &str,
-    holds: bool,
-    expected: &str,
-    text: &mut String,
-) -> Result<(), AllocError> {
-    if holds {
-        return Ok(());
-    }
-    let line = format!(in alloc; "{place}: found otherwise, expected that {expected}\n")?;
-    text.push_str(line.as_str())
+    expect(alloc, write, "a failed write isn't told")?;
+    let bytes = is_told_at_each_byte(alloc, request, ending);
+    expect(
+        alloc,
+        bytes,
+        "a failure at a byte isn't told, or the report is another",
+    )?;
+    let flush = is_told_at_the_flush(alloc, request, ending);
+    expect(alloc, flush, "a failed flush isn't told")?;
+    let room = is_written_into_its_room(alloc, request, ending)?;
+    expect(alloc, room, "the report isn't written into its room")
 }

@@ -1,6 +1,5 @@
 //! Documents that are walked: what identifies and names their places, what they want, and the first fault.
 use crate::fault::Fault;
-use crate::registries::text_of;
 use crate::row;
 use ref_index::found::Cause;
 use ref_index::walk::walk;
@@ -52,9 +51,7 @@ fn wants(alloc: Global, found: &Found<'_>, text: &mut String) -> Result<(), Allo
 /// What is found in a document, in its order: places, names and wants; or the text of its first fault.
 fn listed(alloc: Global, document: &Document<'_>) -> Result<String, Fault> {
     let mut found = Found::new(alloc);
-    if let Err(fault) = walk(alloc, &mut found, 0, document) {
-        return Ok(text_of(alloc, fault.into())?);
-    }
+    walk(alloc, &mut found, 0, document)?;
     let mut text = String::new(alloc);
     resources(alloc, &found, &mut text)?;
     names(alloc, &found, &mut text)?;
@@ -64,11 +61,10 @@ fn listed(alloc: Global, document: &Document<'_>) -> Result<String, Fault> {
 
 /// The document at `http://a/r` of a row's draft.
 fn document<'a>(alloc: Global, row: &Value, contents: Contents<'a>) -> Result<Document<'a>, Fault> {
-    let draft = row::draft(row, 1)?.ok_or(Fault::Form("no draft"))?;
     Ok(Document {
         uri: from_str(alloc, "http://a/r")?,
         contents,
-        draft,
+        draft: row::named_draft(row, 1)?,
     })
 }
 

@@ -1,38 +1,19 @@
 //! Requests that are cut off or have a byte more, and those that nest deep.
-use crate::rows::Row;
-use crate::ways::{at_once, beginning, push_difference};
+use crate::fault::Fault;
+use crate::reports::Ending;
+use crate::ways::{at_once, beginning, compare};
 use std::alloc::{AllocError, Global};
 
-// Runs on bytes that have the row's report whatever they are cut from.
-fn compare(
-    alloc: Global,
-    place: &str,
-    request: &[u8],
-    row: &Row,
-    text: &mut String,
-) -> Result<(), AllocError> {
-    let found = at_once(alloc, request);
-    if found.is_of(row) {
-        return Ok(());
-    }
-    let way = format!(in alloc; "of {} bytes", request.len())?;
-    push_difference(alloc, place, way.as_str(), &found, row, text)
-}
-
 /// Runs on each beginning of a request but the whole, and on the whole with an `x` behind it.
-pub fn each(
-    alloc: Global,
-    place: &str,
-    request: &str,
-    row: &Row,
-    text: &mut String,
-) -> Result<(), AllocError> {
+pub fn each(alloc: Global, request: &str, ending: &Ending<'_>) -> Result<(), Fault> {
     let bytes = request.as_bytes();
     for end in 0..bytes.len() {
-        compare(alloc, place, &bytes[..end], row, text)?;
+        let found = at_once(alloc, &bytes[..end]);
+        compare(alloc, &found, "where it is cut off", ending)?;
     }
     let longer = format!(in alloc; "{request}x")?;
-    compare(alloc, place, longer.as_str().as_bytes(), row, text)
+    let found = at_once(alloc, longer.as_str().as_bytes());
+    compare(alloc, &found, "with a byte more", ending)
 }
 
 fn push_times(text: &mut String, piece: &str, times: u32) -> Result<(), AllocError> {
@@ -55,17 +36,10 @@ fn nested(alloc: Global, levels: u32) -> Result<String, AllocError> {
 }
 
 /// Runs on a request whose document nests as deep as a number says.
-pub fn nesting(
-    alloc: Global,
-    place: &str,
-    number: &str,
-    row: &Row,
-    text: &mut String,
-) -> Result<(), AllocError> {
+pub fn nesting(alloc: Global, number: &str, ending: &Ending<'_>) -> Result<(), Fault> {
     let Ok(levels) = number.parse::<u32>() else {
-        text.push_str(place)?;
-        return text.push_str(": found no number, expected one\n");
+        return Err(Fault::Form("the request is no number"));
     };
     let request = nested(alloc, levels)?;
-    beginning(alloc, place, request.as_str(), row, text)
+    beginning(alloc, request.as_str(), ending)
 }

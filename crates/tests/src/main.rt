@@ -1,0 +1,103 @@
+//! The tests of the libraries from `ref_retrieve` up, whose rows are data: reads a row a line from standard input, a JSON list of the table's
+//! name, of what is asked, and of the answer that is expected. Prints each row whose answer is another, and behind each table how many of its
+//! rows hold.
+//!
+//! Lines that are empty or begin with `//` are skipped. What a row of the name `given` holds, or the text of a request behind `request`, is given
+//! for the rows behind it.
+#![tactic(auto)]
+
+mod answers;
+mod builders;
+mod dangling;
+mod failing;
+mod families;
+mod fault;
+mod faults;
+mod inputs;
+mod lookups;
+mod outcomes;
+mod parts;
+mod places;
+mod registries;
+mod reports;
+mod resources;
+mod retrieval;
+mod retrievers;
+mod row;
+mod sets;
+mod tables;
+mod tally;
+mod vocabularies;
+mod walks;
+mod ways;
+
+use crate::tally::Tally;
+use serde_json::Value;
+use std::alloc::{AllocError, Global};
+use std::io;
+
+/// What is found of a row, or why nothing is.
+fn found(alloc: Global, given: &Value, table: &str, row: &Value) -> Result<String, AllocError> {
+    match tables::found(alloc, given, table, row) {
+        Ok(text) => Ok(text),
+        Err(fault) => format!(in alloc; "{fault}"),
+    }
+}
+
+/// What is told of a row, which is counted where it holds.
+fn told_of_row(
+    alloc: Global,
+    tally: &mut Tally,
+    given: &Value,
+    row: &Value,
+) -> Result<String, AllocError> {
+    let table = row::text(row, 0).unwrap_or("no table");
+    let expected = row::last(row).unwrap_or("no answer");
+    let found = found(alloc, given, table, row)?;
+    tally.compare(alloc, table, found.as_str(), expected)
+}
+
+/// The text of a request, where a line gives one.
+fn request_of(line: &str) -> Option<&str> {
+    if line == "request" {
+        return Some("");
+    }
+    line.strip_prefix("request ")
+}
+
+/// What is told of a line, which may give something for the rows behind it.
+fn told_of_line(
+    alloc: Global,
+    tally: &mut Tally,
+    given: &mut Value,
+    line: &str,
+) -> Result<String, AllocError> {
+    if let Some(request) = request_of(line) {
+        *given = Value::String(String::from_str(alloc, request)?);
+        return tally.give(alloc);
+    }
+    let Ok(row) = Value::from_str(alloc, line) else {
+        return tally.unread(alloc);
+    };
+    if row::text(&row, 0).ok() == Some("given") {
+        *given = row;
+        return tally.give(alloc);
+    }
+    told_of_row(alloc, tally, given, &row)
+}
+
+fn main(rt: HostRuntime) -> io::Result<()> {
+    let mut tally = Tally::new(rt.alloc());
+    let mut given = Value::Null;
+    for line in rt.lines(rt.alloc()) {
+        let line = line?;
+        tally.begin_line();
+        if line.is_empty() || line.as_str().starts_with("//") {
+            continue;
+        }
+        let text = told_of_line(rt.alloc(), &mut tally, &mut given, line.as_str())?;
+        print!(rt; "{text}")?;
+    }
+    let text = tally.end(rt.alloc())?;
+    print!(rt; "{text}")
+}
