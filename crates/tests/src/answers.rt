@@ -11,6 +11,14 @@ pub fn text_of(alloc: Global, error: Error) -> Result<String, AllocError> {
     }
 }
 
+/// An answer, or the text of a refusal in its place.
+pub fn or_refusal(alloc: Global, answer: Result<String, Fault>) -> Result<String, Fault> {
+    match answer {
+        Err(Fault::Refused(error)) => Ok(text_of(alloc, error)?),
+        answer => answer,
+    }
+}
+
 /// An answer that is found in two ways.
 pub fn agreed(
     alloc: Global,

@@ -1,4 +1,4 @@
-//! Why a row has no answer, which is what is found of it where it expects so.
+//! Why a row has no answer.
 use ref_retrieve::Error;
 use ref_uri::UriFault;
 use std::alloc::{AllocError, AllocFailed};

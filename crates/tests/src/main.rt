@@ -36,11 +36,18 @@ use serde_json::Value;
 use std::alloc::{AllocError, Global};
 use std::io;
 
-/// What is found of a row, or why nothing is.
-fn found(alloc: Global, given: &Value, table: &str, row: &Value) -> Result<String, AllocError> {
-    match tables::found(alloc, given, table, row) {
-        Ok(text) => Ok(text),
-        Err(fault) => format!(in alloc; "{fault}"),
+/// What is told of a row that has an answer, which is counted where it is the expected one.
+fn told_of_answer(
+    alloc: Global,
+    tally: &mut Tally,
+    table: &str,
+    found: &str,
+    expected: &str,
+) -> Result<String, AllocError> {
+    if found == expected {
+        tally.count(alloc, table)
+    } else {
+        tally.tell(alloc, table, found, expected)
     }
 }
 
@@ -53,8 +60,13 @@ fn told_of_row(
 ) -> Result<String, AllocError> {
     let table = row::text(row, 0).unwrap_or("no table");
     let expected = row::last(row).unwrap_or("no answer");
-    let found = found(alloc, given, table, row)?;
-    tally.compare(alloc, table, found.as_str(), expected)
+    match tables::found(alloc, given, table, row) {
+        Ok(found) => told_of_answer(alloc, tally, table, found.as_str(), expected),
+        Err(fault) => {
+            let fault = format!(in alloc; "{fault}")?;
+            tally.tell(alloc, table, fault.as_str(), expected)
+        }
+    }
 }
 
 /// The text of a request, where a line gives one.

@@ -1,4 +1,4 @@
-//! Registries of the documents of a row, the texts of refusals, and which URIs mean places.
+//! Registries of the documents of a row, whether they are prepared, and which URIs mean places.
 use crate::answers::text_of;
 use crate::fault::Fault;
 use crate::row;

@@ -1,4 +1,5 @@
 //! What is found of a row, by its table.
+use crate::answers::or_refusal;
 use crate::fault::Fault;
 use crate::{
     builders, dangling, families, faults, inputs, lookups, outcomes, places, registries, reports,
@@ -45,7 +46,7 @@ fn of_faults(alloc: Global, table: &str, row: &Value) -> Result<String, Fault> {
 fn of_vocabularies(alloc: Global, table: &str, row: &Value) -> Result<String, Fault> {
     match table {
         "vocabulary names" => vocabularies::named(alloc, row),
-        "declared vocabularies" => vocabularies::declared(alloc, row),
+        "declared vocabularies" => or_refusal(alloc, vocabularies::declared(alloc, row)),
         "dialects" => vocabularies::dialect(alloc, row),
         "default vocabularies" => vocabularies::default_of(alloc, row),
         "declared or default vocabularies" => vocabularies::declared_or_default_of(alloc, row),
@@ -57,7 +58,7 @@ fn of_vocabularies(alloc: Global, table: &str, row: &Value) -> Result<String, Fa
 /// Of the tables on sets of vocabularies.
 fn of_sets(alloc: Global, table: &str, row: &Value) -> Result<String, Fault> {
     match table {
-        "vocabulary sets" => sets::of_texts(alloc, row),
+        "vocabulary sets" => or_refusal(alloc, sets::of_texts(alloc, row)),
         "sets of bits" => sets::of_bits(alloc, row),
         "single bits" => sets::of_a_bit(alloc, row),
         "custom vocabularies" => sets::custom(alloc, row),
@@ -73,7 +74,7 @@ fn of_builders(alloc: Global, table: &str, row: &Value) -> Result<String, Fault>
         "builders" => inputs::added(alloc, row),
         "made builders" => builders::made(alloc, row),
         "kinds" | "kinds with titles" => inputs::of_kinds(alloc, row),
-        "walks" => walks::owned(alloc, row),
+        "walks" => or_refusal(alloc, walks::owned(alloc, row)),
         "walks of borrowed documents" => walks::borrowed(alloc, row),
         _ => of_outcomes(alloc, table, row),
     }

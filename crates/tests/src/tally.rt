@@ -75,8 +75,8 @@ impl Tally {
         Ok(told)
     }
 
-    /// Counts a row where what is found is what is expected. What is told of it, and of a table that ends before it.
-    pub fn compare(
+    /// What is told of a row, and of a table that ends before it, where another answer is expected.
+    pub fn tell(
         &mut self,
         alloc: Global,
         table: &str,
@@ -84,13 +84,16 @@ impl Tally {
         expected: &str,
     ) -> Result<String, AllocError> {
         let told = self.begin_table(alloc, table)?;
-        if found == expected {
-            self.count = self.count.saturating_add(1);
-            return Ok(told);
-        }
         format!(in alloc;
             "{told}{table} {}: found {found:?}, expected {expected:?}\n",
             self.line
         )
+    }
+
+    /// Counts a row whose answer is what is expected. What is told of a table that ends before it.
+    pub fn count(&mut self, alloc: Global, table: &str) -> Result<String, AllocError> {
+        let told = self.begin_table(alloc, table)?;
+        self.count = self.count.saturating_add(1);
+        Ok(told)
     }
 }
