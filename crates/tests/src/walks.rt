@@ -76,11 +76,14 @@ pub fn owned(alloc: Global, row: &Value) -> Result<String, Fault> {
 
 /// The value of the place that was found last, where it is lent.
 fn last_lent<'a>(found: &Found<'a>) -> Option<&'a Value> {
-    let (_, _, number) = found.resources.last()?;
-    match &found.entries.get(*number)?.location {
-        Location::Lent(value) => Some(*value),
-        Location::Path { .. } => None,
+    let mut last = None;
+    for entry in &found.entries {
+        last = match &entry.location {
+            Location::Lent(value) => Some(*value),
+            Location::Path { .. } => None,
+        };
     }
+    last
 }
 
 /// What is found in a document that is borrowed, and the value that is lent for the place that was found last.
