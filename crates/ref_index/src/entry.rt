@@ -39,7 +39,7 @@ pub struct FoundName<'i, 'a> {
     pub entry: &'i Entry<'a>,
 }
 
-/// A URI that a text was resolved to, and the entry that it identifies, where there is one.
+/// A URI that a text was resolved to, as it is found, and the entry of the place that the URI means, where there is one.
 #[derive(Clone, Copy)]
 pub struct FoundUri<'i, 'a> {
     pub uri: &'i Rc<Uri>,

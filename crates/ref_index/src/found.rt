@@ -36,7 +36,8 @@ pub struct Want {
     pub uri: Rc<Uri>,
 }
 
-/// A URI that a text was resolved to, and the number of the entry that it identifies, once that is known.
+/// A URI that a text was resolved to, and the number of the entry of the place that it means: none until the index is made, and none
+/// in it where the URI means no place of the documents.
 #[derive(Drop)]
 pub struct ResolvedUri {
     pub uri: Rc<Uri>,

@@ -26,7 +26,7 @@ use std::marker::Model;
 use std::rc::Rc;
 
 /// Documents, and the entries of places in them, with a table of the URIs that identify their places, one of the names that anchors give them, and one of the URIs
-/// that were resolved on the way. Contracts see the documents.
+/// that were resolved on the way, each with the entry of the place that it means. Contracts see the documents.
 #[derive(Drop)]
 pub struct Index<'a> {
     documents: Vec<Document<'a>>,
@@ -54,7 +54,8 @@ impl<'a> Model for Index<'a> {
 }
 
 impl<'a> Index<'a> {
-    /// The index of documents that were walked. Takes memory for the three tables, which are sorted once.
+    /// The index of documents that were walked. Takes memory for the three tables, which are sorted once, and a look-up for each URI
+    /// that was resolved.
     pub fn new(
         alloc: Global,
         documents: Vec<Document<'a>>,
@@ -70,7 +71,7 @@ impl<'a> Index<'a> {
         let by_uri = SortedTable::from_entries(alloc, found.resources)?;
         let by_name = SortedTable::from_entries(alloc, found.names)?;
         let mut resolved = found.resolved;
-        number_places(&by_uri, resolved.as_mut_slice());
+        set_entries(&by_uri, resolved.as_mut_slice());
         let by_pair = SortedTable::from_entries(alloc, resolved)?;
         Ok(Index {
             documents,
@@ -159,8 +160,8 @@ impl<'a> Index<'a> {
     }
 }
 
-// Puts beside each URI that was resolved the number that a table of resources has for it.
-fn number_places(by_uri: &SortedTable<usize>, pairs: &mut [(String, String, ResolvedUri)])
+// Puts beside each URI that was resolved the number of the entry that a table of resources has for it, where it has one.
+fn set_entries(by_uri: &SortedTable<usize>, pairs: &mut [(String, String, ResolvedUri)])
     ensures { pairs.new ≡ map (numbered by_uri.now) pairs.old }
 {
     for (_, _, resolved) in pairs.iter_mut() {

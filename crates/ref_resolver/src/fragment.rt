@@ -1,4 +1,4 @@
-//! What a fragment means in the resource at a place: the resource, what a pointer leads to, or what an anchor names.
+//! What a fragment means in the resource at a place: what a pointer leads to, or what an anchor names, a dynamic one by the dynamic scope.
 ghost use Rattle.std.specs.Prelude.{◌≡◌, [], ◌∷◌, List, ℕ, IfOk, IfErr, MatchOption, None, Ok};
 ghost use Rattle.std.specs.Result.{result_ok};
 ghost use Rattle.serde_json.specs.View.{view};
@@ -8,7 +8,6 @@ ghost use Rattle.ref_world.specs.Anchors.{Named, anchor, named_by_identifier, no
 ghost use Rattle.ref_world.specs.Fault.{not_retrieved};
 ghost use Rattle.ref_world.specs.Lookup.{by_scope, in_scope, named_found};
 ghost use Rattle.ref_retrieve.specs.Errors.{IsFaultOf};
-ghost use Rattle.ref_index.specs.Found.{kind_of};
 ghost use Rattle.ref_index.specs.Retrieval.{SaysOrMemory};
 ghost use Rattle.ref_resolver.specs.Layered.{world_in};
 ghost use Rattle.ref_resolver.specs.Located.{IsLocated, IsNamed};
@@ -118,9 +117,8 @@ fn under_uri<'r>(
 }
 
 // The place of the outermost dynamic anchor of a name in the dynamic scope, or else the place that was found first (2020-12
-// Core, 8.2.3.2). A look-up for each URI of the scope. Its loop stays out of what most names take.
-#[inline(never)]
-fn outermost<'r>(
+// Core, 8.2.3.2). A look-up for each URI of the scope.
+pub(crate) fn outermost<'r>(
     alloc: Global,
     resolver: &Resolver<'r>,
     name: &str,
@@ -148,26 +146,6 @@ pub(crate) fn plain_found<'r>(resolver: Resolver<'r>, place: Located<'r>) -> Res
     ensures world { world_found result ≡ world_of resolver.entry }
 {
     at_value(place.value, place.entry.draft, resolver)
-}
-
-// What a name leads to that an anchor has: a plain one to its place, a dynamic one by the dynamic scope.
-#[inline(always)]
-pub(crate) fn named_found<'r>(
-    alloc: Global,
-    resolver: Resolver<'r>,
-    name: &str,
-    found: LocatedName<'r>,
-) -> Result<Resolved<'r>, Error>
-    ensures ok { (n : Named) → n.name ≡ name.now → kind_of found.entry.named.now.is_dynamic ≡ n.kind → IsLocated found.entry.place n.place → IfOk result (λ f. named_found (world_of resolver.entry) (resolver_of resolver.entry) n n.kind ≡ Ok (found_of f)) }
-    ensures world { IfOk result (λ f. world_found f ≡ world_of resolver.entry) }
-    ensures fault { (n : Named) → n.name ≡ name.now → kind_of found.entry.named.now.is_dynamic ≡ n.kind → IsLocated found.entry.place n.place → IfErr result (IsFaultOf (named_found (world_of resolver.entry) (resolver_of resolver.entry) n n.kind)) }
-{
-    let place = found.place;
-    if found.named.is_dynamic {
-        outermost(alloc, &resolver, name, place)
-    } else {
-        Ok(plain_found(resolver, place))
-    }
 }
 
 // A value of a resource that a resolver is at.

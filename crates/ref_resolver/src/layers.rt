@@ -48,8 +48,8 @@ impl<'r> Layers<'r> {
         }
     }
 
-    /// The place that a URI means, where a place is given that is known to be it or none. Takes a look-up for each layer only where
-    /// none is given; takes no memory.
+    /// The place that a URI means. Where a place is given, it is that one; else there is a look-up for each layer, up to the first that has
+    /// it. Takes no memory.
     #[inline(always)]
     pub(crate) fn resource_or(&self, known: Option<Located<'r>>, uri: &str) -> Option<Located<'r>>
         requires known { IfSome known (IsMeant (means (world_in self.now) uri.now)) }
@@ -128,7 +128,7 @@ impl<'r> Layers<'r> {
     }
 }
 
-// The URI that a text means against a base, worked out.
+// The URI that a text means against a base, where that wasn't resolved before. Takes memory for the URI.
 #[inline(never)]
 fn anew(alloc: Global, base: UriRef<'_>, uri: &str) -> Result<Rc<Uri>, Error>
     ensures ok { IfOk result (λ u. against base.entry uri.now ≡ Ok u.value) }

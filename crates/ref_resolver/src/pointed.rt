@@ -129,12 +129,12 @@ fn accepted_id<'v>(draft: Draft, since: &Segments<'_>, value: &'v Value) -> Opti
 // against the one before.
 fn step<'r, 't>(
     alloc: Global,
-    walk: Walk<'_, '_>,
+    walk: &Walk<'_, '_>,
     along: Along<'r, 't>,
     token: &'t str,
 ) -> Result<Along<'r, 't>, Error>
-    ensures ok { IfOk result (λ a. stepped walk.entry.draft walk.entry.pointer.now (along_of along.entry) (view along.entry.value.now) token.now ≡ Ok (view a.value.now, along_of a)) }
-    ensures fault { IfErr result (IsFaultOf (stepped walk.entry.draft walk.entry.pointer.now (along_of along.entry) (view along.entry.value.now) token.now)) }
+    ensures ok { IfOk result (λ a. stepped walk.now.draft walk.now.pointer.now (along_of along.entry) (view along.entry.value.now) token.now ≡ Ok (view a.value.now, along_of a)) }
+    ensures fault { IfErr result (IsFaultOf (stepped walk.now.draft walk.now.pointer.now (along_of along.entry) (view along.entry.value.now) token.now)) }
 {
     let Along {
         value,
@@ -189,10 +189,10 @@ fn walk_along<'r, 't>(
     let mut along = along;
     let mut rest = text;
     while let Some((token, more)) = cut_at_slash(rest) {
-        along = step(alloc, walk, along, token)?;
+        along = step(alloc, &walk, along, token)?;
         rest = more;
     }
-    step(alloc, walk, along, rest)
+    step(alloc, &walk, along, rest)
 }
 
 /// The value that a pointer's text leads to from the value of a resource, with the base there: what stands behind the

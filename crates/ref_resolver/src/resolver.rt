@@ -7,21 +7,21 @@ ghost use Rattle.serde_json.specs.View.{view};
 ghost use Rattle.ref_uri.specs.Targets.{against, target, fragment_part};
 ghost use Rattle.ref_world.specs.Fault.{as_invalid_uri};
 ghost use Rattle.ref_world.specs.Anchors.{Named, anchor, not_named};
+ghost use Rattle.ref_draft.specs.Anchors.{Dynamic};
 ghost use Rattle.ref_draft.specs.Views.{resource_ref};
 ghost use Rattle.ref_world.specs.Lookup.{moved, in_subresource, lookup, named_found};
 ghost use Rattle.ref_retrieve.specs.Errors.{IsFaultOf};
 ghost use Rattle.ref_world.specs.Resources.{means};
 ghost use Rattle.ref_resolver.specs.Layered.{world_in};
-ghost use Rattle.ref_index.specs.Found.{kind_of};
 ghost use Rattle.ref_resolver.specs.Located.{IsLocated, IsMeant};
 ghost use Rattle.ref_resolver.specs.Resolving.{resolver_of, world_of, found_of, world_found};
 ghost use Rattle.ref_resolver.specs.Names.{is_name};
 
 use crate::fragment::{
-    at_pointer, at_value, is_name, meaning, named_found, not_named, not_retrieved, plain_found,
+    at_pointer, at_value, is_name, meaning, not_named, not_retrieved, outermost, plain_found,
 };
 use crate::layers::Layers;
-use crate::located::{Located, LocatedName};
+use crate::located::Located;
 use ref_draft::{Draft, ResourceRef};
 use ref_index::reference::parts;
 use ref_parts::list::List;
@@ -206,27 +206,28 @@ impl<'r> Resolver<'r> {
             return Err(self.no_name(alloc, &uri, name));
         };
         if found.named.is_dynamic {
-            return self.at_dynamic(alloc, uri, name, found);
+            return self.at_dynamic(alloc, uri, name, found.place);
         }
         let resolver = self.moved(alloc, uri)?;
         Ok(plain_found(resolver, found.place))
     }
 
-    // Where a name leads under a URI where an anchor has it, a dynamic one: its many values stay out of what a plain one takes.
+    // Where a name leads under a URI where a dynamic anchor has it, at the place that was found. The many values of this stay out of what a
+    // plain anchor takes.
     #[inline(never)]
     fn at_dynamic(
         &self,
         alloc: Global,
         uri: Rc<Uri>,
         name: &str,
-        found: LocatedName<'r>,
+        found: Located<'r>,
     ) -> Result<Resolved<'r>, Error>
-        ensures ok { (n : Named) → n.name ≡ name.now → kind_of found.entry.named.now.is_dynamic ≡ n.kind → IsLocated found.entry.place n.place → IfOk result (λ f. named_found (world_of self.now) (moved (resolver_of self.now) uri.value) n n.kind ≡ Ok (found_of f)) }
+        ensures ok { (n : Named) → n.name ≡ name.now → n.kind ≡ Dynamic → IsLocated found.entry n.place → IfOk result (λ f. named_found (world_of self.now) (moved (resolver_of self.now) uri.value) n n.kind ≡ Ok (found_of f)) }
         ensures world { IfOk result (λ f. world_found f ≡ world_of self.now) }
-        ensures fault { (n : Named) → n.name ≡ name.now → kind_of found.entry.named.now.is_dynamic ≡ n.kind → IsLocated found.entry.place n.place → IfErr result (IsFaultOf (named_found (world_of self.now) (moved (resolver_of self.now) uri.value) n n.kind)) }
+        ensures fault { (n : Named) → n.name ≡ name.now → n.kind ≡ Dynamic → IsLocated found.entry n.place → IfErr result (IsFaultOf (named_found (world_of self.now) (moved (resolver_of self.now) uri.value) n n.kind)) }
     {
         let resolver = self.moved(alloc, uri)?;
-        named_found(alloc, resolver, name, found)
+        outermost(alloc, &resolver, name, found)
     }
 
     // The fault of a name that nothing has under a URI: that of the URI where it means no place.

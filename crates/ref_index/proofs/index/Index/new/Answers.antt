@@ -19,10 +19,10 @@ invariant_of-result c =
     let held = c.requires.held.1 in
     let by_uri = c.in_ok-by_uri.by_uri in
     let lent : c.as_mut_slice.result.now ≡ c.args.found.resolved.items = search rules in
-    let len : length c.number_places.new.pairs ≡ c.args.found.resolved.len =
-    ap length c.number_places.ensures ∙ length-map c.as_mut_slice.result.now (numbered by_uri) ∙ c.as_mut_slice.ensures.len in
-    let entered : c.in_ok-by_pair.by_pair ≡ entries_of c.number_places.new.pairs = c.in_ok-by_pair.ensures.entered ∙ ap entries_of (refilled c.args.found.resolved.len c.args.found.resolved.items c.number_places.new.pairs len) in
-    let numbers : AllZip (IsNumberedPair by_uri) c.number_places.new.pairs (pairs layer) = subst (λ l. AllZip (IsNumberedPair by_uri) l (pairs layer)) (sym (c.number_places.ensures ∙ ap (map (numbered by_uri)) lent))
+    let len : length c.set_entries.new.pairs ≡ c.args.found.resolved.len =
+    ap length c.set_entries.ensures ∙ length-map c.as_mut_slice.result.now (numbered by_uri) ∙ c.as_mut_slice.ensures.len in
+    let entered : c.in_ok-by_pair.by_pair ≡ entries_of c.set_entries.new.pairs = c.in_ok-by_pair.ensures.entered ∙ ap entries_of (refilled c.args.found.resolved.len c.args.found.resolved.items c.set_entries.new.pairs len) in
+    let numbers : AllZip (IsNumberedPair by_uri) c.set_entries.new.pairs (pairs layer) = subst (λ l. AllZip (IsNumberedPair by_uri) l (pairs layer)) (sym (c.set_entries.ensures ∙ ap (map (numbered by_uri)) lent))
     (zip_mapped IsPairOf (IsNumberedPair by_uri) (numbered by_uri) (λ t p is. (is.0, is.1, is.2, refl)) c.args.found.resolved.items (pairs layer) held.by_pair) in
     record {
       resource = subst (λ l. AllZip (IsResourceIn layer c.args.found.entries.items) l (resources layer)) (sym c.in_ok-by_uri.ensures.entered)
@@ -30,6 +30,6 @@ invariant_of-result c =
       name = subst (λ l. AllZip (IsNameIn layer c.args.found.entries.items) l (names layer)) (sym c.in_ok-by_name.ensures.entered)
           (zip_mapped (IsNameOf layer c.args.found.entries.items) (IsNameIn layer c.args.found.entries.items) (λ e. (string_bytes e.0, string_bytes e.1, e.2)) (λ t n is. is) c.args.found.names.items (names layer) held.by_name);
       pair = subst (λ l. AllZip (IsPairIn by_uri) l (pairs layer)) (sym entered)
-          (zip_mapped (IsNumberedPair by_uri) (IsPairIn by_uri) (λ e. (string_bytes e.0, string_bytes e.1, e.2)) (λ t p is. is) c.number_places.new.pairs (pairs layer) numbers);
+          (zip_mapped (IsNumberedPair by_uri) (IsPairIn by_uri) (λ e. (string_bytes e.0, string_bytes e.1, e.2)) (λ t p is. is) c.set_entries.new.pairs (pairs layer) numbers);
       children = c.requires.children;
     }

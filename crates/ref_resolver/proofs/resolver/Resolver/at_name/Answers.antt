@@ -1,5 +1,5 @@
 use Rattle.std.proofs.Common.{◌≡◌, ℕ, List, IfOk, IfErr, Ok, Err, sym, subst, ◌∙◌, rules}
-use Rattle.ref_draft.specs.Anchors.{Plain}
+use Rattle.ref_draft.specs.Anchors.{Plain, Dynamic}
 use Rattle.ref_world.specs.Anchors.{anchor, not_named}
 use Rattle.ref_retrieve.specs.Errors.{IsFaultOf}
 use Rattle.ref_resolver.specs.Resolving.{resolver_of, world_of, found_of}
@@ -20,8 +20,9 @@ returns-then-found-clause-ok c = λ reference is fragment name.
     let uri : List ℕ = c.args.uri.value in
     let text : c.as_str.result.now ≡ uri = search rules in
     let (n, found, kind, at) = rw text at c.in-Some.ensures in
+    let dynamic : n.kind ≡ Dynamic = sym kind ∙ search rules in
     let same = lookup_found w (resolver_of c.args.self.now) reference uri c.args.name.now n is (anchor_means w uri c.args.name.now n found) fragment name (answered (anchor w uri c.args.name.now) n found) in
-    subst (λ a. IfOk c.at_dynamic.result (λ f. a ≡ Ok (found_of f))) (sym same) (c.at_dynamic.ensures.ok n (anchor_has w uri c.args.name.now n found) kind at)
+    subst (λ a. IfOk c.at_dynamic.result (λ f. a ≡ Ok (found_of f))) (sym same) (c.at_dynamic.ensures.ok n (anchor_has w uri c.args.name.now n found) dynamic at)
 
 pub returns-then-found-clause-fault : goal.returns-then-found-clause-fault
 returns-then-found-clause-fault c = λ reference is fragment name.
@@ -29,8 +30,9 @@ returns-then-found-clause-fault c = λ reference is fragment name.
     let uri : List ℕ = c.args.uri.value in
     let text : c.as_str.result.now ≡ uri = search rules in
     let (n, found, kind, at) = rw text at c.in-Some.ensures in
+    let dynamic : n.kind ≡ Dynamic = sym kind ∙ search rules in
     let same = lookup_found w (resolver_of c.args.self.now) reference uri c.args.name.now n is (anchor_means w uri c.args.name.now n found) fragment name (answered (anchor w uri c.args.name.now) n found) in
-    subst (λ a. IfErr c.at_dynamic.result (IsFaultOf a)) (sym same) (c.at_dynamic.ensures.fault n (anchor_has w uri c.args.name.now n found) kind at)
+    subst (λ a. IfErr c.at_dynamic.result (IsFaultOf a)) (sym same) (c.at_dynamic.ensures.fault n (anchor_has w uri c.args.name.now n found) dynamic at)
 
 pub returns-clause-ok : goal.returns-clause-ok
 returns-clause-ok c = λ reference is fragment name.

@@ -2,7 +2,7 @@ use Rattle.std.proofs.Common.{◌≡◌, ◌∙◌, ◌<◌, [], length, ap, ari
 use Rattle.ref_parts.specs.Table.{last_value}
 use Rattle.ref_index.specs.Index.{numbered}
 use Rattle.ref_index.proofs.Numbering.{changed_next, length_kept}
-use Rattle.ref_index.proofs.index.number_places.Goals as goal
+use Rattle.ref_index.proofs.index.set_entries.Goals as goal
 
 pub loop-resolved-preserved : goal.loop-resolved-preserved
 loop-resolved-preserved c =
