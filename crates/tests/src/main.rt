@@ -3,7 +3,7 @@
 //! rows hold.
 //!
 //! Lines that are empty or begin with `//` are skipped. What a row of the name `given` holds, or the text of a request behind `request`, is given
-//! for the rows behind it.
+//! for the rows behind it; behind a request these are of the tables on requests alone, until a `given` row.
 #![tactic(auto)]
 
 mod answers;
