@@ -24,3 +24,14 @@ pub fn same_at<T: PartialEq + fmt::Debug + Copy, P: fmt::Debug + Copy>(
 pub fn debug_text<T: fmt::Debug>(alloc: Global, value: &T) -> Result<String, AllocError> {
     format!(in alloc; "{value:?}")
 }
+
+/// Ends the test where a value is shown otherwise than as this text.
+pub fn assert_shown<T: fmt::Debug>(
+    rt: &impl Abort,
+    alloc: Global,
+    value: &T,
+    text: &str,
+) -> Result<(), AllocError> {
+    same(rt, debug_text(alloc, value)?.as_str(), text);
+    Ok(())
+}

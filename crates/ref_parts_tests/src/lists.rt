@@ -1,7 +1,7 @@
 //! The shared list.
 ghost use Rattle.std.specs.Prelude.{◌≡◌, [], ◌∷◌, IfOk, IsTrue};
 
-use crate::asserts::{debug_text, same, same_at};
+use crate::asserts::{assert_shown, debug_text, same, same_at};
 use ref_parts::List;
 use std::alloc::{AllocError, Global};
 use std::hash::{DefaultHasher, Hash, Hasher};
@@ -68,7 +68,9 @@ fn let_go<T: Drop>(value: T) {
 
 // What a list tells: whether it is empty, its front, what its iterator gives at first and then again and again, and the
 // sum of its items.
-fn told(list: &List<u32>) -> (bool, Option<u32>, Option<u32>, [Option<u32>; 4], u32) {
+type Told = (bool, Option<u32>, Option<u32>, [Option<u32>; 4], u32);
+
+fn told(list: &List<u32>) -> Told {
     let mut items = list.iter();
     let given = [
         items.next().copied(),
@@ -89,41 +91,41 @@ fn told(list: &List<u32>) -> (bool, Option<u32>, Option<u32>, [Option<u32>; 4], 
     )
 }
 
-// Ends the test where a list is shown otherwise than as this text. Its iterator can be shown too.
-fn is_shown(
+// Ends the test where a list tells something else, or is shown otherwise than as this text. Its iterator can be shown too.
+fn assert_told(
     rt: &impl Abort,
     alloc: Global,
     list: &List<u32>,
+    wanted: Told,
     text: &str,
 ) -> Result<(), AllocError> {
+    same(rt, told(list), wanted);
     let_go(debug_text(alloc, &list.iter())?);
-    same(rt, debug_text(alloc, list)?.as_str(), text);
-    Ok(())
+    assert_shown(rt, alloc, list, text)
+}
+
+// A list with a number in front of another list.
+fn with_front(list: &List<u32>, alloc: Global, number: u32) -> Result<List<u32>, AllocError> {
+    list.push_front(alloc, Rc::new(alloc, number)?)
 }
 
 #[test]
 fn a_list_has_its_items_in_order(rt: HostRuntime) -> Result<(), Fail> {
     let alloc = rt.alloc();
     let empty = List::new();
-    let one = empty.push_front(alloc, Rc::new(alloc, 2u32)?)?;
-    let two = one.push_front(alloc, Rc::new(alloc, 1u32)?)?;
-    same(
-        &rt,
-        [told(&empty), told(&one), told(&two)],
-        [
-            (true, None, None, [None, None, None, None], 0),
-            (false, Some(2), Some(2), [Some(2), None, None, None], 2),
-            (false, Some(1), Some(1), [Some(1), Some(2), None, None], 3),
-        ],
-    );
-    for (list, text) in [(&empty, "[]"), (&one, "[2]"), (&two, "[1, 2]")] {
-        is_shown(&rt, alloc, list, text)?;
-    }
+    let one = with_front(&empty, alloc, 2)?;
+    let two = with_front(&one, alloc, 1)?;
+    let of_none = (true, None, None, [None, None, None, None], 0);
+    let of_one = (false, Some(2), Some(2), [Some(2), None, None, None], 2);
+    let of_two = (false, Some(1), Some(1), [Some(1), Some(2), None, None], 3);
+    assert_told(&rt, alloc, &empty, of_none, "[]")?;
+    assert_told(&rt, alloc, &one, of_one, "[2]")?;
+    assert_told(&rt, alloc, &two, of_two, "[1, 2]")?;
     Ok(())
 }
 
 // Ends the test where these aren't two equal lists of two texts, of which the first is a.
-fn are_two_texts(
+fn assert_two_texts(
     rt: &impl Abort,
     alloc: Global,
     list: &List<String>,
@@ -138,12 +140,7 @@ fn are_two_texts(
         ),
         (2, true, true),
     );
-    same(
-        rt,
-        debug_text(alloc, &front_of(list))?.as_str(),
-        "Some(\"a\")",
-    );
-    Ok(())
+    assert_shown(rt, alloc, &front_of(list), "Some(\"a\")")
 }
 
 // A list and its copy, and how the copy is shown once the list is gone, and a longer one once the copy is gone.
@@ -154,16 +151,12 @@ fn a_list_of_texts_serves_generic_callers(rt: HostRuntime) -> Result<(), Fail> {
     let first = Rc::new(alloc, String::from_str(alloc, "a")?)?;
     let list = pair_of(alloc, first.clone()?, second)?;
     let copy = copy_of(&list)?;
-    are_two_texts(&rt, alloc, &list, &copy)?;
+    assert_two_texts(&rt, alloc, &list, &copy)?;
     let_go(list);
     let longer = copy.push_front(alloc, first)?;
-    same(&rt, debug_text(alloc, &copy)?.as_str(), "[\"a\", \"b\"]");
+    assert_shown(&rt, alloc, &copy, "[\"a\", \"b\"]")?;
     let_go(copy);
-    same(
-        &rt,
-        debug_text(alloc, &longer)?.as_str(),
-        "[\"a\", \"a\", \"b\"]",
-    );
+    assert_shown(&rt, alloc, &longer, "[\"a\", \"a\", \"b\"]")?;
     Ok(())
 }
 
@@ -171,7 +164,7 @@ fn a_list_of_texts_serves_generic_callers(rt: HostRuntime) -> Result<(), Fail> {
 fn lengthened(list: List<u32>, alloc: Global, count: u32) -> Result<List<u32>, AllocError> {
     let mut longer = list;
     for number in 0..count {
-        longer = longer.push_front(alloc, Rc::new(alloc, number)?)?;
+        longer = with_front(&longer, alloc, number)?;
     }
     Ok(longer)
 }
@@ -181,7 +174,7 @@ fn lengthened(list: List<u32>, alloc: Global, count: u32) -> Result<List<u32>, A
 fn likeness(alloc: Global, count: u32, other: u32) -> Result<[bool; 5], AllocError> {
     let one = lengthened(List::new(), alloc, count)?;
     let two = lengthened(List::new(), alloc, other)?;
-    let longer = two.push_front(alloc, Rc::new(alloc, 7u32)?)?;
+    let longer = with_front(&two, alloc, 7)?;
     let is_equal = one == two;
     Ok([
         is_equal,
@@ -205,17 +198,22 @@ fn equal_lists_are_equal_and_hash_alike(rt: HostRuntime) -> Result<(), Fail> {
     Ok(())
 }
 
+// Ends the test where a list has another front, or another count of items.
+fn assert_front_and_count(rt: &impl Abort, list: &List<u32>, front: u32, count: u32) {
+    same(
+        rt,
+        (front_of(list).copied(), count_of(list)),
+        (Some(front), count),
+    );
+}
+
 #[test]
 fn a_list_of_a_million_items_is_dropped(rt: HostRuntime) -> Result<(), Fail> {
     let tail = lengthened(List::new(), rt.alloc(), 1_000_000)?;
     let longer = lengthened(tail.clone()?, rt.alloc(), 1_000)?;
-    same(&rt, front_of(&longer).copied(), Some(999));
+    assert_front_and_count(&rt, &longer, 999, 1_001_000);
     let_go(longer);
-    same(
-        &rt,
-        (front_of(&tail).copied(), count_of(&tail)),
-        (Some(999_999), 1_000_000),
-    );
+    assert_front_and_count(&rt, &tail, 999_999, 1_000_000);
     Ok(())
 }
 
@@ -232,17 +230,9 @@ fn a_refused_link_leaves_the_list(rt: HostRuntime) -> Result<(), Fail> {
         (true, true),
     );
     let longer = list.push_front(rt.alloc(), item);
-    same(
-        &rt,
-        (front_of(&list).copied(), count_of(&list)),
-        (Some(1), 2),
-    );
+    assert_front_and_count(&rt, &list, 1, 2);
     if let Ok(longer) = longer {
-        same(
-            &rt,
-            (front_of(&longer).copied(), count_of(&longer)),
-            (Some(7), 3),
-        );
+        assert_front_and_count(&rt, &longer, 7, 3);
     }
     Ok(())
 }
