@@ -20,16 +20,24 @@ fn copy_of<K: Eq + Hash + Clone + Drop, V: Clone + Drop, const N: usize>(
     map.clone()
 }
 
-// What a map of these pairs and its copy tell, and then both again once 7 is put at 0 of the map and 40 at 4 of the copy.
-fn both_told(alloc: Global, pairs: &[(u32, u32)]) -> Result<[Told; 4], AllocError> {
+// Ends the test where a map of these pairs or its copy tells something else than `made`, or, once 7 is put at 0 of the map and 40
+// at 4 of the copy, the map something else than `changed` and the copy something else than `copied`.
+fn assert_copied(
+    rt: &impl Abort,
+    alloc: Global,
+    pairs: &[(u32, u32)],
+    made: Told,
+    changed: Told,
+    copied: Told,
+) -> Result<(), AllocError> {
     let mut map: SmallMap<u32, u32, 4> = SmallMap::new();
     put_numbers(&mut map, alloc, pairs)?;
     let mut copy = copy_of(&map)?;
-    let before = told(&map);
-    let copied = told(&copy);
+    same(rt, [told(&map), told(&copy)], [made, made]);
     put_numbers(&mut map, alloc, &[(0, 7)])?;
     put_numbers(&mut copy, alloc, &[(4, 40)])?;
-    Ok([before, copied, told(&map), told(&copy)])
+    same(rt, [told(&map), told(&copy)], [changed, copied]);
+    Ok(())
 }
 
 #[test]
@@ -39,12 +47,8 @@ fn copies_of_maps_stand_alone(rt: HostRuntime) -> Result<(), Fail> {
     let small_written = (true, [Some(7), Some(10), Some(20), Some(30), None]);
     let large = (false, [Some(0), Some(10), Some(20), Some(30), Some(40)]);
     let large_written = (false, [Some(7), Some(10), Some(20), Some(30), Some(40)]);
-    for (pairs, both) in [
-        (&pairs[..4], [small, small, small_written, large]),
-        (&pairs[..], [large, large, large_written, large]),
-    ] {
-        same(&rt, both_told(rt.alloc(), pairs)?, both);
-    }
+    assert_copied(&rt, rt.alloc(), &pairs[..4], small, small_written, large)?;
+    assert_copied(&rt, rt.alloc(), &pairs[..], large, large_written, large)?;
     Ok(())
 }
 
@@ -55,17 +59,17 @@ fn text_copy(map: &SmallMap<String, String, 2>) -> Result<SmallMap<String, Strin
     copy_of(map)
 }
 
-fn put_text(
+// Puts these pairs in turn.
+fn put_texts(
     map: &mut SmallMap<String, String, 2>,
     alloc: Global,
-    key: &str,
-    value: &str,
+    pairs: &[(&str, &str)],
 ) -> Result<(), AllocError> {
-    map.insert(
-        alloc,
-        String::from_str(alloc, key)?,
-        String::from_str(alloc, value)?,
-    )
+    for (key, value) in pairs {
+        let key = String::from_str(alloc, *key)?;
+        map.insert(alloc, key, String::from_str(alloc, *value)?)?;
+    }
+    Ok(())
 }
 
 // The text at a text.
@@ -77,7 +81,7 @@ fn text_at<'m>(map: &'m SmallMap<String, String, 2>, key: &str) -> &'m str {
 }
 
 // Ends the test where a map isn't small as is said, or has other texts at a, b and c.
-fn has_texts(
+fn assert_texts(
     rt: &impl Abort,
     map: &SmallMap<String, String, 2>,
     is_small: bool,
@@ -87,8 +91,23 @@ fn has_texts(
     same(rt, (is_inline(map), texts), (is_small, wanted));
 }
 
-// A map of these pairs and its copy, after one more is put into the map.
-fn copy_stands_alone(
+// Ends the test where a copy of a map has other texts after these pairs are put into the map.
+fn assert_copy_kept(
+    rt: &impl Abort,
+    alloc: Global,
+    map: &mut SmallMap<String, String, 2>,
+    put: &[(&str, &str)],
+    is_small: bool,
+    copied: [&str; 3],
+) -> Result<(), AllocError> {
+    let copy = text_copy(map)?;
+    put_texts(map, alloc, put)?;
+    assert_texts(rt, &copy, is_small, copied);
+    Ok(())
+}
+
+// Ends the test where a map of these pairs and its copy have other texts after one more is put into the map.
+fn assert_texts_copied(
     rt: &impl Abort,
     alloc: Global,
     pairs: &[(&str, &str)],
@@ -96,14 +115,11 @@ fn copy_stands_alone(
     copied: [&str; 3],
     changed: [&str; 3],
 ) -> Result<(), AllocError> {
+    let is_small = pairs.len() < 3;
     let mut map = SmallMap::new();
-    for (key, value) in pairs {
-        put_text(&mut map, alloc, *key, *value)?;
-    }
-    let copy = text_copy(&map)?;
-    put_text(&mut map, alloc, key, "other")?;
-    has_texts(rt, &copy, pairs.len() < 3, copied);
-    has_texts(rt, &map, pairs.len() < 3, changed);
+    put_texts(&mut map, alloc, pairs)?;
+    assert_copy_kept(rt, alloc, &mut map, &[(key, "other")], is_small, copied)?;
+    assert_texts(rt, &map, is_small, changed);
     Ok(())
 }
 
@@ -124,7 +140,7 @@ fn copies_of_maps_of_texts_stand_alone(rt: HostRuntime) -> Result<(), Fail> {
             ["one", "other", "three"],
         ),
     ] {
-        copy_stands_alone(&rt, rt.alloc(), pairs, key, copied, changed)?;
+        assert_texts_copied(&rt, rt.alloc(), pairs, key, copied, changed)?;
     }
     Ok(())
 }

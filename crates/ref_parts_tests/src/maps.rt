@@ -2,7 +2,7 @@
 ghost use Rattle.std.specs.Prelude.{◌≡◌, [], IfOk};
 ghost use Rattle.ref_parts.specs.FiniteMap.{Puts};
 
-use crate::asserts::{debug_text, same, same_at};
+use crate::asserts::{assert_shown, same, same_at};
 use ref_parts::{BorrowedKey, SmallMap};
 use std::alloc::{AllocError, Global};
 use std::hash::Hash;
@@ -50,17 +50,21 @@ pub fn is_inline<K: Eq + Hash, V, const N: usize>(map: &SmallMap<K, V, N>) -> bo
 
 // ---- maps from texts
 
-// A map with these pairs, put in turn into the default.
-fn counts(alloc: Global, pairs: &[(&str, u32)]) -> Result<SmallMap<String, u32, 2>, AllocError> {
-    let mut map: SmallMap<String, u32, 2> = made();
+// Puts these pairs in turn.
+fn put_counts(
+    map: &mut SmallMap<String, u32, 2>,
+    alloc: Global,
+    pairs: &[(&str, u32)],
+) -> Result<(), AllocError> {
     for (key, value) in pairs {
         map.insert(alloc, String::from_str(alloc, *key)?, *value)?;
     }
-    Ok(map)
+    Ok(())
 }
 
-// Ends the test where a map with these pairs is shown otherwise, or answers otherwise at a key, by its text and by the key itself.
-fn answers(
+// Ends the test where the default map, once these pairs are put into it, is shown otherwise, or answers otherwise at a key, by its
+// text and by the key itself.
+fn assert_answers(
     rt: &impl Abort,
     alloc: Global,
     pairs: &[(&str, u32)],
@@ -69,15 +73,15 @@ fn answers(
     text: &str,
 ) -> Result<(), AllocError> {
     let owned = String::from_str(alloc, key)?;
-    let map = counts(alloc, pairs)?;
+    let mut map = made();
+    put_counts(&mut map, alloc, pairs)?;
     same_at(
         rt,
         (is_inline(&map), value_at(&map, key), value_at(&map, &owned)),
         (pairs.len() < 3, value, value),
         key,
     );
-    same(rt, debug_text(alloc, &map)?.as_str(), text);
-    Ok(())
+    assert_shown(rt, alloc, &map, text)
 }
 
 #[test]
@@ -99,7 +103,7 @@ fn a_map_answers_by_text_and_by_key_and_shows_its_pairs(rt: HostRuntime) -> Resu
         (&tens[..], "c", Some(30), shown),
         (&tens[..], "d", None, shown),
     ] {
-        answers(&rt, rt.alloc(), pairs, key, value, text)?;
+        assert_answers(&rt, rt.alloc(), pairs, key, value, text)?;
     }
     Ok(())
 }
