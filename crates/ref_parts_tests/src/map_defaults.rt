@@ -119,9 +119,8 @@ fn a_map_holds_maps(rt: HostRuntime) -> Result<(), Fail> {
     let alloc = rt.alloc();
     let inner = map_of(alloc, String::from_str(alloc, "a")?, 10u32)?;
     let mut map = map_of(alloc, 1u32, inner)?;
-    for (outer, inner, value) in [(1, "b", 20), (2, "c", 30)] {
-        write_below(&mut map, alloc, outer, inner, value)?;
-    }
+    write_below(&mut map, alloc, 1, "b", 20)?;
+    write_below(&mut map, alloc, 2, "c", 30)?;
     same(&rt, below(&map), Some([Some(10), Some(20), Some(30)]));
     Ok(())
 }
