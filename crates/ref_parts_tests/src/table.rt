@@ -58,21 +58,31 @@ fn table_of_one<V: Drop>(
 
 // ---- tables of numbers
 
+// Enters these values in turn.
+fn enter_all(
+    entries: &mut Vec<(String, String, u32)>,
+    alloc: Global,
+    given: &[(&str, &str, u32)],
+) -> Result<(), AllocError> {
+    for (first, second, value) in given {
+        enter(entries, alloc, *first, *second, *value)?;
+    }
+    Ok(())
+}
+
 // Ends the test where a table of these entries hasn't so many pairs, or has under the two texts of a row another value than the
 // row's, or takes more probes for it.
-fn answers(
+fn assert_answers(
     rt: &impl Abort,
     alloc: Global,
-    entries: &[(&str, &str, u32)],
+    given: &[(&str, &str, u32)],
     len: usize,
     most: usize,
     rows: &[(&str, &str, Option<u32>)],
 ) -> Result<(), AllocError> {
-    let mut given = Vec::new(alloc);
-    for (first, second, value) in entries {
-        enter(&mut given, alloc, *first, *second, *value)?;
-    }
-    let table = table_of(alloc, given)?;
+    let mut entries = Vec::new(alloc);
+    enter_all(&mut entries, alloc, given)?;
+    let table = table_of(alloc, entries)?;
     for (first, second, value) in rows {
         let (found, probes) = table.get(*first, *second);
         same_at(
@@ -89,8 +99,8 @@ fn answers(
 fn a_table_answers_the_last_value_of_a_pair(rt: HostRuntime) -> Result<(), Fail> {
     let alloc = rt.alloc();
     // An empty table answers nothing.
-    answers(&rt, alloc, &[], 0, 0, &[("a", "", None)])?;
-    answers(
+    assert_answers(&rt, alloc, &[], 0, 0, &[("a", "", None)])?;
+    assert_answers(
         &rt,
         alloc,
         &[("b", "", 1), ("a", "", 2), ("b", "", 3)],
@@ -104,7 +114,7 @@ fn a_table_answers_the_last_value_of_a_pair(rt: HostRuntime) -> Result<(), Fail>
         ],
     )?;
     // Second texts tell pairs apart.
-    answers(
+    assert_answers(
         &rt,
         alloc,
         &[("a", "y", 1), ("a", "x", 2), ("a", "", 3), ("a", "y", 4)],
@@ -118,7 +128,7 @@ fn a_table_answers_the_last_value_of_a_pair(rt: HostRuntime) -> Result<(), Fail>
         ],
     )?;
     // Pairs are more than their texts together.
-    answers(
+    assert_answers(
         &rt,
         alloc,
         &[("ab", "", 1), ("a", "b", 2), ("", "ab", 3), ("abc", "", 4)],
@@ -145,26 +155,41 @@ fn name_of(number: u32) -> &'static str {
     if number % 2 == 0 { "0" } else { "1" }
 }
 
-// The most probes that a table of this many pairs takes for one that it has or one that it hasn't, where it has each with its
-// number.
-fn most_probes(alloc: Global, count: u32) -> Result<Option<usize>, AllocError> {
-    let mut entries = Vec::new(alloc);
+// Enters the numbers below a count, each under its URI and name.
+fn enter_numbers(
+    entries: &mut Vec<(String, String, u32)>,
+    alloc: Global,
+    count: u32,
+) -> Result<(), AllocError> {
     for number in 0..count {
         let uri = uri_of(alloc, number)?;
-        enter(&mut entries, alloc, uri.as_str(), name_of(number), number)?;
+        enter(entries, alloc, uri.as_str(), name_of(number), number)?;
     }
-    let table = table_of(alloc, entries)?;
-    let mut most = 0usize;
+    Ok(())
+}
+
+// Ends the test where a table lacks one of the numbers below a count, has something under a name that none of them has, or takes
+// more probes than these for either answer.
+fn assert_numbers(
+    rt: &impl Abort,
+    alloc: Global,
+    table: &SortedTable<u32>,
+    count: u32,
+    most: usize,
+) -> Result<(), AllocError> {
     for number in 0..count {
         let uri = uri_of(alloc, number)?;
         let (value, probes) = table.get(uri.as_str(), name_of(number));
         let (none, probes_for_none) = table.get(uri.as_str(), "2");
-        if value.copied() != Some(number) || none.is_some() {
-            return Ok(None);
-        }
-        most = most.max(probes).max(probes_for_none);
+        same_at(
+            rt,
+            (value.copied(), none.copied()),
+            (Some(number), None),
+            number,
+        );
+        same_at(rt, probes.max(probes_for_none) <= most, true, number);
     }
-    Ok(Some(most))
+    Ok(())
 }
 
 // What a table has of this many entries under one pair, each with its place.
@@ -181,8 +206,10 @@ fn equal_pairs(alloc: Global, count: u32) -> Result<(usize, Option<u32>, usize),
 // A thousand pairs take at most ten probes, and of equal pairs the last stays.
 #[test]
 fn large_tables_answer_by_few_probes(rt: HostRuntime) -> Result<(), Fail> {
-    let most = most_probes(rt.alloc(), 1_000)?.unwrap_or(11);
-    same(&rt, most <= 10, true);
+    let mut entries = Vec::new(rt.alloc());
+    enter_numbers(&mut entries, rt.alloc(), 1_000)?;
+    let table = table_of(rt.alloc(), entries)?;
+    assert_numbers(&rt, rt.alloc(), &table, 1_000, 10)?;
     same(&rt, equal_pairs(rt.alloc(), 100_000)?, (1, Some(99_999), 1));
     Ok(())
 }
