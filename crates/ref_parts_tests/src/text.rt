@@ -11,6 +11,19 @@ use std::borrow::CowStr;
 use std::process::Abort;
 use std::test::Fail;
 
+// Ends the test where a key isn't written as this token behind what the buffer holds.
+fn assert_escaped(
+    rt: &impl Abort,
+    alloc: Global,
+    key: &str,
+    token: &str,
+) -> Result<(), AllocError> {
+    let mut buffer = String::from_str(alloc, "/")?;
+    write_escaped_str(&mut buffer, key)?;
+    same_at(rt, buffer.as_str(), token, key);
+    Ok(())
+}
+
 #[test]
 fn keys_are_escaped_behind_what_the_buffer_holds(rt: HostRuntime) -> Result<(), Fail> {
     for (key, token) in [
@@ -36,9 +49,7 @@ fn keys_are_escaped_behind_what_the_buffer_holds(rt: HostRuntime) -> Result<(), 
         ("~/~", "/~0~1~0"),
         ("/.abcdef", "/~1.abcdef"),
     ] {
-        let mut buffer = String::from_str(rt.alloc(), "/")?;
-        write_escaped_str(&mut buffer, key)?;
-        same_at(&rt, buffer.as_str(), token, key);
+        assert_escaped(&rt, rt.alloc(), key, token)?;
     }
     Ok(())
 }
@@ -83,13 +94,15 @@ fn the_first_escape_is_found(rt: HostRuntime) {
     }
 }
 
-// Whether an escape is found behind so many other bytes and before so many of `behind`: 90 of them make more than a block.
-fn is_found(
+// Ends the test where an escape isn't found behind so many other bytes and before so many of `behind`, or one is found without it:
+// 90 of them make more than a block.
+fn assert_found(
+    rt: &impl Abort,
     alloc: Global,
     (escape, behind): (u8, u8),
     before: usize,
     after: usize,
-) -> Result<bool, AllocError> {
+) -> Result<(), AllocError> {
     let mut bytes = Vec::new(alloc);
     for _ in 0..before {
         bytes.push(b'.')?;
@@ -99,7 +112,13 @@ fn is_found(
     for _ in 0..after {
         bytes.push(behind)?;
     }
-    Ok(none.is_none() && first_escape(bytes.as_slice()) == Some(before))
+    same_at(
+        rt,
+        (none, first_escape(bytes.as_slice())),
+        (None, Some(before)),
+        (before, after),
+    );
+    Ok(())
 }
 
 #[test]
@@ -108,36 +127,35 @@ fn an_escape_is_found_at_each_place(rt: HostRuntime) -> Result<(), Fail> {
         for others in 0..25usize {
             for before in 0..others.saturating_add(1) {
                 let after = others.saturating_sub(before);
-                same_at(
-                    &rt,
-                    is_found(rt.alloc(), bytes, before, after)?,
-                    true,
-                    (before, after),
-                );
+                assert_found(&rt, rt.alloc(), bytes, before, after)?;
             }
         }
         for before in 60..90usize {
-            same_at(
-                &rt,
-                is_found(rt.alloc(), bytes, before, 9)?,
-                true,
-                (before, 9usize),
-            );
+            assert_found(&rt, rt.alloc(), bytes, before, 9)?;
         }
     }
     Ok(())
 }
 
-// A token after the two replacements, one after the other.
-fn replaced(alloc: Global, token: &str) -> Result<String, AllocError> {
-    token
-        .replace(alloc, "~1", "/")?
-        .as_str()
-        .replace(alloc, "~0", "~")
+// Ends the test where a token isn't unescaped to this key.
+fn assert_unescaped(
+    rt: &impl Abort,
+    alloc: Global,
+    token: &str,
+    key: &str,
+) -> Result<(), AllocError> {
+    let found = unescape_segment(alloc, token)?.into_owned(alloc)?;
+    same_at(rt, found.as_str(), key, token);
+    Ok(())
 }
 
-fn unescaped(alloc: Global, token: &str) -> Result<String, AllocError> {
-    unescape_segment(alloc, token)?.into_owned(alloc)
+// Ends the test where a token isn't unescaped as by the two replacements, one after the other.
+fn assert_replaced(rt: &impl Abort, alloc: Global, token: &str) -> Result<(), AllocError> {
+    let key = token
+        .replace(alloc, "~1", "/")?
+        .as_str()
+        .replace(alloc, "~0", "~")?;
+    assert_unescaped(rt, alloc, token, key.as_str())
 }
 
 // Whether the key of a token is lent by it.
@@ -178,27 +196,30 @@ fn tokens_are_unescaped_by_two_replacements_in_order(rt: HostRuntime) -> Result<
         "~~1",
         "~~0",
     ] {
-        same_at(
-            &rt,
-            unescaped(rt.alloc(), token)?.as_str(),
-            replaced(rt.alloc(), token)?.as_str(),
-            token,
-        );
+        assert_replaced(&rt, rt.alloc(), token)?;
     }
     for (token, key) in [("~~1", "~/"), ("~~0", "~~"), ("~01", "~1"), ("~", "~")] {
-        same_at(&rt, unescaped(rt.alloc(), token)?.as_str(), key, token);
+        assert_unescaped(&rt, rt.alloc(), token, key)?;
     }
     same(&rt, is_borrowed(rt.alloc(), "a/b")?, true);
     Ok(())
 }
 
-// The JSON text of what a pointer means in a document, and "none" where it means nothing.
-fn text_at(alloc: Global, document: &str, text: &str) -> Result<String, Fail> {
+// Ends the test where a pointer means another value in a document than that of this JSON text, or, where the text is "none",
+// where it means one.
+fn assert_meaning(
+    rt: &impl Abort,
+    alloc: Global,
+    document: &str,
+    text: &str,
+    value: &str,
+) -> Result<(), Fail> {
     let document = Value::from_str(alloc, document)?;
     match pointer(alloc, &document, text)? {
-        Some(value) => Ok(value.to_string(alloc)?),
-        None => Ok(String::from_str(alloc, "none")?),
+        Some(found) => same_at(rt, found.to_string(alloc)?.as_str(), value, text),
+        None => same_at(rt, "none", value, text),
     }
+    Ok(())
 }
 
 #[test]
@@ -230,15 +251,14 @@ fn pointers_mean_values(rt: HostRuntime) -> Result<(), Fail> {
         (document, "/m~n/x", "none"),
         (document, "//x", "none"),
     ] {
-        let found = text_at(rt.alloc(), document, text)?;
-        same_at(&rt, found.as_str(), value, text);
+        assert_meaning(&rt, rt.alloc(), document, text, value)?;
     }
     Ok(())
 }
 
 // Ends the test where a buffer holds another text, or it or its encoded string is read back otherwise, after some texts are pushed
 // and cleared, and then others pushed.
-fn is_read_back(
+fn assert_read_back(
     rt: &impl Abort,
     alloc: Global,
     cleared: [&str; 2],
@@ -281,7 +301,7 @@ fn escaped_text_is_read_back(rt: HostRuntime) -> Result<(), Fail> {
             "~ ?AZaz09-._~!$&'()*+,;=:@/?\"#<>[\\]^`{|}",
         ),
     ] {
-        is_read_back(&rt, rt.alloc(), cleared, pushed, text, read)?;
+        assert_read_back(&rt, rt.alloc(), cleared, pushed, text, read)?;
     }
     Ok(())
 }
