@@ -74,6 +74,20 @@ fn stands_below<'a>(
     Ok(is_key && is_root(root) && root.push(alloc, key)? == *parent)
 }
 
+// Whether a node is equal to its copy.
+fn is_copied(node: &JsonPointerNode<'_>) -> Result<bool, AllocError> {
+    Ok(node.clone()? == *node)
+}
+
+// Whether a node is equal to the path of a key and then the index 3.
+fn is_item<'a>(
+    alloc: Global,
+    node: &JsonPointerNode<'a>,
+    key: &'a str,
+) -> Result<bool, AllocError> {
+    Ok(item(alloc, key)? == *node)
+}
+
 // A node has its parts and its parent, and is equal to its copy and to one that was made as it was, and to none of another key.
 #[test]
 fn a_node_has_its_parts_and_is_compared(rt: HostRuntime) -> Result<(), Fail> {
@@ -84,9 +98,9 @@ fn a_node_has_its_parts_and_is_compared(rt: HostRuntime) -> Result<(), Fail> {
             keys_are_pushed_alike(rt.alloc())?,
             *node.segment() == JsonPointerSegment::Index(3),
             stands_below(rt.alloc(), &node, "a")?,
-            node.clone()? == node,
-            item(rt.alloc(), "a")? == node,
-            item(rt.alloc(), "b")? == node,
+            is_copied(&node)?,
+            is_item(rt.alloc(), &node, "a")?,
+            is_item(rt.alloc(), &node, "b")?,
         ],
         [true, true, true, true, true, false],
     );
