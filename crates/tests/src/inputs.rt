@@ -1,14 +1,14 @@
 //! What is added to builders, and what they then hold.
-use crate::answers::text_of;
+use crate::answers::{agreed, text_of};
 use crate::fault::Fault;
 use crate::registries::{builder, known};
 use crate::row;
 use ref_draft::{Draft, ResourceRef};
 use ref_retrieve::Error;
 use ref_uri::uri::from_str;
-use referencing::{IntoRegistryResource, Registry, RegistryBuilder};
+use referencing::{IntoRegistryResource, Registry, RegistryBuilder, Step, follow};
 use serde_json::Value;
-use std::alloc::Global;
+use std::alloc::{AllocError, Global};
 use std::rc::Rc;
 
 /// The documents that a builder holds in their order, as the registry that is prepared of them has them: URI, value and draft.
@@ -34,12 +34,35 @@ pub fn added(alloc: Global, row: &Value) -> Result<String, Fault> {
     }
 }
 
-/// The title of what a reference leads to from `http://a/r`.
-fn title(alloc: Global, registry: &Registry<'_>, reference: &str) -> Result<String, Fault> {
+/// The title of a value.
+fn title_of(alloc: Global, value: &Value) -> Result<String, AllocError> {
+    String::from_str(alloc, row::text_under(value, "title").unwrap_or("none"))
+}
+
+/// The title of what a reference leads to from `http://a/r`, by a call on a resolver.
+fn title_by_call(alloc: Global, registry: &Registry<'_>, reference: &str) -> Result<String, Fault> {
     let resolver = registry.resolver(alloc, from_str(alloc, "http://a/r")?)?;
     let found = resolver.lookup(alloc, reference)?;
-    let title = row::text_under(found.contents(), "title").unwrap_or("none");
-    Ok(String::from_str(alloc, title)?)
+    Ok(title_of(alloc, found.contents())?)
+}
+
+/// The same by a step.
+fn title_by_step(alloc: Global, registry: &Registry<'_>, reference: &str) -> Result<String, Fault> {
+    let base = from_str(alloc, "http://a/r")?;
+    let Ok(followed) = follow(alloc, registry, base, &[Step::Lookup(reference)]) else {
+        return Err(Fault::Form("a step leads nowhere"));
+    };
+    match followed.last {
+        Some((value, _)) => Ok(title_of(alloc, value)?),
+        None => Err(Fault::Form("a step leads to no value")),
+    }
+}
+
+/// The title of what a reference leads to from `http://a/r`, by a call on a resolver and by a step.
+fn title(alloc: Global, registry: &Registry<'_>, reference: &str) -> Result<String, Fault> {
+    let by_steps = title_by_step(alloc, registry, reference)?;
+    let by_calls = title_by_call(alloc, registry, reference)?;
+    agreed(alloc, by_steps, by_calls, ["by steps", "by calls"])
 }
 
 /// Which URIs of a column mean places, or where the column is a reference the title of what it leads to.
