@@ -11,4 +11,3 @@ mod SomeWorld
 mod Building
 mod Reports
 mod Lines
-pub mod ReadsAgain

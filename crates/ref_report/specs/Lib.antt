@@ -1,9 +1,6 @@
-pub mod Bytes
-pub mod Memory
 pub mod Request
 pub mod Worlds
 pub mod Report
 pub mod Rows
 pub mod Run
-pub mod RunError
 pub mod inner

@@ -12,8 +12,8 @@ use Rattle.ref_world.specs.Pending.{builder_draft}
 use Rattle.ref_world.specs.Follow as world
 use Rattle.ref_world.specs.Follow.{Followed, followed}
 use Rattle.ref_lint.specs.Dangling.{DanglingReference, dangling}
-use Rattle.ref_report.specs.declared.report.Status.{Status}
-use Rattle.ref_report.specs.declared.report.Status.TheVariants as status
+use Rattle.ref_streams.specs.declared.status.Status.{Status}
+use Rattle.ref_streams.specs.declared.status.Status.TheVariants as status
 use Rattle.ref_report.specs.declared.request.BadRequest.{BadRequest}
 use Rattle.ref_report.specs.declared.request.BadRequest.TheVariants.{NotJson, NotAnObject, Float, UnknownField, Documents, Base, Steps, Remote, Meta, Draft as DraftField, Limit, Lint}
 use Rattle.ref_report.specs.Request.{Step, Lookup, Recursive, Enter, Request, read_request}

@@ -9,20 +9,10 @@ ghost use Rattle.ref_report.specs.inner.View.{report_view};
 
 use crate::request::BadRequest;
 use ref_retrieve::laws::errors_say_faults;
+use ref_streams::Status;
 use referencing::{Draft, Error, FollowError, Followed, List, Uri};
 use serde_json::Value;
 use std::alloc::{AllocError, Global};
-
-/// How a run ended.
-#[derive(Clone, Copy, Debug, Drop, PartialEq, Eq)]
-pub enum Status {
-    /// The report has no fault.
-    Done,
-    /// Documents can't be prepared, or a step can't be followed.
-    Fault,
-    /// The request is bad.
-    BadRequest,
-}
 
 /// The lines that a run writes, and how it ended.
 #[derive(Drop)]

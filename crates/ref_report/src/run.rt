@@ -1,76 +1,14 @@
 //! One request from a source to a report in a sink.
 ghost use Rattle.std.specs.Prelude.{◌≡◌, ◌<◌, Ok, Err, IfOk, OnOk, IfErr, ◌⊎◌, ◌≢◌, IsTrue, string_bytes};
 ghost use Rattle.std.specs.Io.KnownBytes.{Appends, Consumes, IsAtEnd};
-ghost use Rattle.ref_report.specs.Bytes.{HasFailed, counted};
-ghost use Rattle.ref_report.specs.Run.{Reports, exit_status};
+ghost use Rattle.ref_streams.specs.Bytes.{HasFailed};
+ghost use Rattle.ref_report.specs.Run.{Reports};
 
 use crate::answer::answer;
-use crate::report::{Report, Status};
-use crate::sink::Sink;
-use crate::source::Source;
-use std::alloc::{AllocError, Global};
-use std::fmt;
-
-const CHUNK: usize = 4096;
-
-/// Why a run gives no status.
-#[derive(Clone, Copy, Debug, Drop, PartialEq, Eq)]
-pub enum RunError {
-    /// A read failed.
-    Read,
-    /// A write failed.
-    Write,
-    /// Memory ran out.
-    Memory,
-}
-
-impl From<AllocError> for RunError {
-    ghost use Rattle.std.specs.Prelude.{◌≡◌};
-    ghost use Rattle.ref_report.specs.declared.run.RunError.TheVariants.{Memory};
-
-    ghost from_gives = { λ _ e. e ≡ Memory };
-
-    fn from(_refused: AllocError) -> RunError {
-        RunError::Memory
-    }
-}
-
-impl fmt::Display for RunError {
-    ghost use Rattle.std.specs.Prelude.{Some};
-    ghost use Rattle.ref_report.specs.RunError.{run_error_text};
-
-    ghost output = { λ e. Some (run_error_text e) };
-
-    fn fmt<W: fmt::Write>(&self, f: &mut fmt::Formatter<W>) -> fmt::Result {
-        match self {
-            RunError::Read => write!(f, "cannot read"),
-            RunError::Write => write!(f, "cannot write"),
-            RunError::Memory => write!(f, "out of memory"),
-        }
-    }
-}
-
-// Reads to the end. Each read before it lengthens the vector.
-fn read_to_end<R: Source>(alloc: Global, reader: &mut R) -> Result<Vec<u8>, RunError>
-    ensures bytes { IfOk result (λ v. Consumes (R.remaining reader.old) (R.remaining reader.new) v.items) }
-    ensures end { OnOk result (IsTrue (R.ended reader.new)) }
-    ensures rest { OnOk result (IsAtEnd (R.remaining reader.new)) }
-    ensures error { IfErr result (λ e. (e ≡ RunError.Read) ⊎ (e ≡ RunError.Memory)) }
-    ensures read { result ≡ Err RunError.Read → HasFailed (R.failures reader.old) (R.failures reader.new) }
-    ensures no_read_failed { result ≢ Err RunError.Read → R.failures reader.new ≡ R.failures reader.old }
-{
-    let mut bytes = Vec::new(alloc);
-    let mut buffer = [0u8; CHUNK];
-    loop {
-        let Ok(n) = reader.read(&mut buffer) else {
-            return Err(RunError::Read);
-        };
-        if n == 0 {
-            return Ok(bytes);
-        }
-        bytes.extend_from_slice(&buffer[..n])?;
-    }
-}
+use crate::report::Report;
+use ref_streams::{Sink, Source, Status, read_to_end};
+pub use ref_streams::{RunError, exit_status};
+use std::alloc::Global;
 
 /// Reads one request to the end, makes its whole report, and writes it. The status is that of the report.
 ///
@@ -112,18 +50,5 @@ fn write_report<W: Sink>(writer: &mut W, report: &Report) -> Result<Status, RunE
     match writer.write_all(report.text.as_bytes()) {
         Ok(()) => Ok(report.status),
         Err(_) => Err(RunError::Write),
-    }
-}
-
-/// The program's exit status: 0 for a report without fault, 1 for one with a fault, 2 for a bad request, and 3 where there is
-/// no report.
-pub fn exit_status(answer: &Result<Status, RunError>) -> u8
-    ensures value { result ≡ exit_status answer.now }
-{
-    match answer {
-        Ok(Status::Done) => 0,
-        Ok(Status::Fault) => 1,
-        Ok(Status::BadRequest) => 2,
-        Err(_) => 3,
     }
 }

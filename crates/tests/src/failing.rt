@@ -1,6 +1,6 @@
 //! Reads and writes that fail, at each place, and sinks whose room was reserved before.
 ghost use Rattle.std.specs.Prelude.{None};
-ghost use Rattle.ref_report.specs.Memory.{is_at_end};
+ghost use Rattle.ref_streams.specs.Memory.{is_at_end};
 
 use crate::answers::expect;
 use crate::fault::Fault;

@@ -1,6 +1,6 @@
 //! Runs on whole requests, from sources that give them at once or in parts.
 ghost use Rattle.std.specs.Prelude.{None};
-ghost use Rattle.ref_report.specs.Memory.{is_at_end};
+ghost use Rattle.ref_streams.specs.Memory.{is_at_end};
 
 use crate::fault::Fault;
 use crate::reports::Ending;

@@ -1,7 +1,7 @@
 //! Where a report's bytes go.
 ghost use Rattle.std.specs.Prelude.{◌≡◌, ◌+◌, ◌<◌, ℕ, List, Option, Some, None, OnOk, OnErr, length, vec_len, vec_capacity, ◌++◌};
 ghost use Rattle.std.specs.Io.KnownBytes.{Appends};
-ghost use Rattle.ref_report.specs.Bytes.{counted};
+ghost use Rattle.ref_streams.specs.Bytes.{counted};
 
 use crate::source::Failed;
 use std::alloc::Global;

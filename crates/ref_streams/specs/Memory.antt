@@ -1,6 +1,6 @@
 -- A source over memory, as its place in the bytes tells it.
 use Rattle.std.specs.Prelude.{ℕ, Bool, List, Option, Some, length, drop, ◌==◌}
-use Rattle.ref_report.specs.declared.source.MemorySource.{MemorySource}
+use Rattle.ref_streams.specs.declared.source.MemorySource.{MemorySource}
 
 -- the bytes that reads will give
 abbrev pub left : MemorySource → Option (List ℕ)

@@ -2,7 +2,7 @@ use Rattle.std.proofs.Common.{◌≡◌, ℕ, ◌+◌, ◌-◌, List, ◌++◌, 
 use Rattle.std.proofs.lemmas.List.{take-append-drop, take-append-le, length-drop, length-append, drop-drop, drop_all}
 use Rattle.std.proofs.lemmas.Grind.{common_steps}
 use Rattle.std.proofs.Math.Seq.{take-length}
-use Rattle.ref_report.proofs.source.MemorySourceSource.read.Goals as goal
+use Rattle.ref_streams.proofs.source.MemorySourceSource.read.Goals as goal
 
 take-front : (n : ℕ) (ys zs : List ℕ) → length ys ≡ n → take n (ys ++ zs) ≡ ys
 take-front n ys zs h = take-append-le n ys zs (omega arith) ∙ ap (λ k. take k ys) (sym h) ∙ take-length ys

@@ -1,7 +1,7 @@
 //! Where a request's bytes come from.
 ghost use Rattle.std.specs.Prelude.{◌≡◌, false, ◌<◌, ◌≤◌, ℕ, List, Option, Bool, IfOk, IsOk, IsTrue, length};
 ghost use Rattle.std.specs.Io.KnownBytes.{ReadConsumes};
-ghost use Rattle.ref_report.specs.Bytes.{counted};
+ghost use Rattle.ref_streams.specs.Bytes.{counted};
 
 use std::io;
 use std::io::{ErrorKind, Read};
@@ -51,8 +51,8 @@ impl<'a> MemorySource<'a> {
 impl Source for MemorySource<'_> {
     ghost use Rattle.std.specs.Prelude.{◌≡◌, ◌<◌, ◌≤◌, IfOk, IsOk, IsTrue, length};
     ghost use Rattle.std.specs.Io.KnownBytes.{ReadConsumes};
-    ghost use Rattle.ref_report.specs.Bytes.{counted};
-    ghost use Rattle.ref_report.specs.Memory.{left, is_at_end};
+    ghost use Rattle.ref_streams.specs.Bytes.{counted};
+    ghost use Rattle.ref_streams.specs.Memory.{left, is_at_end};
 
     ghost remaining = { left };
 

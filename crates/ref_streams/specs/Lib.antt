@@ -1,0 +1,4 @@
+pub mod Bytes
+pub mod Memory
+pub mod Status
+pub mod Rows
