@@ -3,46 +3,11 @@ use crate::fault::Fault;
 use crate::inputs::held;
 use crate::registries::known;
 use crate::row;
-use ref_draft::{Draft, Resource, ResourceRef};
+use ref_draft::Draft;
 use ref_retrieve::{Error, MapRetriever};
 use referencing::{Registry, RegistryBuilder};
 use serde_json::Value;
 use std::alloc::{AllocError, Global};
-use std::rc::Rc;
-
-/// The builder with a value that is lent, a resource that is lent, and one that is handed over.
-fn with_lent_and_owned<'b>(
-    builder: RegistryBuilder<'b>,
-    lent: &'b Value,
-    resource: &'b Resource,
-    owned: Resource,
-) -> Result<RegistryBuilder<'b>, Error> {
-    let builder = builder.add("a:1", lent)?;
-    let builder = builder.add("a:2", resource)?;
-    builder.add("a:3", owned)
-}
-
-/// The builder with a value that is shared, one that is handed over, and a view of one as a resource.
-fn with_shared_and_viewed<'b>(
-    builder: RegistryBuilder<'b>,
-    shared: Rc<Value>,
-    lent: &'b Value,
-) -> Result<RegistryBuilder<'b>, Error> {
-    let builder = builder.add("a:4", shared)?;
-    let builder = builder.add("a:5", Value::Null)?;
-    builder.add("a:6", ResourceRef::new(lent, Draft::Unknown))
-}
-
-/// What a builder with a draft holds after one document of each kind was added, of the values in four columns.
-fn of_each_kind(alloc: Global, row: &Value) -> Result<String, Fault> {
-    let lent = row::column(row, 2)?;
-    let resource = Draft::Draft6.create_resource(row::column(row, 3)?.clone()?);
-    let owned = Draft::Draft4.create_resource(row::column(row, 4)?.clone()?);
-    let builder = Registry::new(alloc).draft(Draft::Draft7);
-    let builder = with_lent_and_owned(builder, lent, &resource, owned)?;
-    let shared = Rc::new(alloc, row::column(row, 5)?.clone()?)?;
-    held(alloc, with_shared_and_viewed(builder, shared, lent)?)
-}
 
 /// A builder that borrows for long takes a value that is lent for less.
 fn with_lent<'a: 'b, 'b>(
@@ -102,7 +67,6 @@ fn apart(alloc: Global, row: &Value) -> Result<String, Fault> {
 /// What is asked of the builder that a row names.
 pub fn made(alloc: Global, row: &Value) -> Result<String, Fault> {
     match row::text(row, 1)? {
-        "of each kind" => of_each_kind(alloc, row),
         "lent for less" => lent_for_less(alloc),
         "shown" => Ok(shown(alloc, &with_draft(alloc)?)?),
         "shown by its copy" => Ok(shown(alloc, &with_draft(alloc)?.clone()?)?),

@@ -28,7 +28,6 @@ mod sets;
 mod tables;
 mod tally;
 mod vocabularies;
-mod walks;
 mod ways;
 
 use crate::tally::Tally;

@@ -3,7 +3,7 @@ use crate::answers::or_refusal;
 use crate::fault::Fault;
 use crate::{
     builders, dangling, families, faults, inputs, lookups, outcomes, places, registries, reports,
-    resources, retrieval, retrievers, sets, vocabularies, walks,
+    resources, retrieval, retrievers, sets, vocabularies,
 };
 use referencing::Registry;
 use serde_json::Value;
@@ -68,14 +68,12 @@ fn of_sets(alloc: Global, table: &str, row: &Value) -> Result<String, Fault> {
     }
 }
 
-/// Of the tables on builders, and on documents as they are walked.
+/// Of the tables on builders.
 fn of_builders(alloc: Global, table: &str, row: &Value) -> Result<String, Fault> {
     match table {
         "builders" => inputs::added(alloc, row),
         "made builders" => builders::made(alloc, row),
         "kinds" | "kinds with titles" => inputs::of_kinds(alloc, row),
-        "walks" => or_refusal(alloc, walks::owned(alloc, row)),
-        "walks of borrowed documents" => walks::borrowed(alloc, row),
         _ => of_outcomes(alloc, table, row),
     }
 }
