@@ -3,8 +3,6 @@
 //! the same on every run; `docs/DEVELOPING.md` says how it is run under `valgrind --tool=callgrind`, and what it showed.
 #![tactic(auto)]
 
-mod indexes;
-mod kinds;
 mod line;
 mod lookups;
 mod parts;
@@ -126,9 +124,7 @@ fn answer(alloc: Global, line: Line<'_>) -> Option<u64> {
         "get" | "scan" | "plain_scan" => parts::answer(alloc, line),
         "find" => vocabularies::answer(alloc, line),
         "add" | "extend" | "prepare" => registries::answer(alloc, line),
-        "resolved" | "resource" | "named" => indexes::answer(alloc, line),
         "lookup" | "lookup-owned" | "dynamic" | "dynamic-owned" => lookups::answer(alloc, line),
-        "kinds" => kinds::answer(alloc, line),
         "places" | "locate" | "dangling" => places::answer(alloc, line),
         _ => measured(alloc, line),
     }
