@@ -1,6 +1,5 @@
 //! Copies of small maps.
-ghost use Rattle.std.specs.Prelude.{◌≡◌, ℕ, List, IsTrue, IfOk, bytes_eq, string_bytes, option_map};
-ghost use Rattle.std.specs.Map.{lookup};
+ghost use Rattle.std.specs.Prelude.{IsTrue, IfOk};
 ghost use Rattle.ref_parts.specs.FiniteMap.{IsClone};
 
 use crate::asserts::same;
@@ -52,13 +51,6 @@ fn copies_of_maps_stand_alone(rt: HostRuntime) -> Result<(), Fail> {
     Ok(())
 }
 
-// A copy of a map of texts, which has the same texts under the same texts.
-fn text_copy(map: &SmallMap<String, String, 2>) -> Result<SmallMap<String, String, 2>, AllocError>
-    ensures { IfOk result (λ copy. (q : List ℕ) → option_map string_bytes (lookup (λ key. bytes_eq q (string_bytes key)) copy) ≡ option_map string_bytes (lookup (λ key. bytes_eq q (string_bytes key)) map.now)) }
-{
-    copy_of(map)
-}
-
 // Puts these pairs in turn.
 fn put_texts(
     map: &mut SmallMap<String, String, 2>,
@@ -100,7 +92,7 @@ fn assert_copy_kept(
     is_small: bool,
     copied: [&str; 3],
 ) -> Result<(), AllocError> {
-    let copy = text_copy(map)?;
+    let copy = copy_of(map)?;
     put_texts(map, alloc, put)?;
     assert_texts(rt, &copy, is_small, copied);
     Ok(())
@@ -126,21 +118,9 @@ fn assert_texts_copied(
 #[test]
 fn copies_of_maps_of_texts_stand_alone(rt: HostRuntime) -> Result<(), Fail> {
     let pairs = [("a", "one"), ("b", "two"), ("c", "three")];
-    for (pairs, key, copied, changed) in [
-        (
-            &pairs[..2],
-            "a",
-            ["one", "two", "none"],
-            ["other", "two", "none"],
-        ),
-        (
-            &pairs[..],
-            "b",
-            ["one", "two", "three"],
-            ["one", "other", "three"],
-        ),
-    ] {
-        assert_texts_copied(&rt, rt.alloc(), pairs, key, copied, changed)?;
-    }
+    let (two, other_two) = (["one", "two", "none"], ["other", "two", "none"]);
+    let (three, other_three) = (["one", "two", "three"], ["one", "other", "three"]);
+    assert_texts_copied(&rt, rt.alloc(), &pairs[..2], "a", two, other_two)?;
+    assert_texts_copied(&rt, rt.alloc(), &pairs[..], "b", three, other_three)?;
     Ok(())
 }
