@@ -2,7 +2,6 @@
 ghost use Rattle.std.specs.Prelude.{◌≡◌, IfOk, Ok, map, option_map};
 ghost use Rattle.serde_json.specs.View.{view};
 ghost use Rattle.ref_world.specs.Follow.{followed};
-ghost use Rattle.ref_world.specs.Pending.{builder_draft};
 ghost use Rattle.referencing.specs.Following as following;
 ghost use Rattle.ref_report.specs.Report.{step_in, followed_report, lint_lines, with_lines, IsRequestReport, IsReadReport, IsReport};
 ghost use Rattle.ref_report.specs.Request as spec;

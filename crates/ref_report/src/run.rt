@@ -1,6 +1,6 @@
 //! One request from a source to a report in a sink.
-ghost use Rattle.std.specs.Prelude.{◌≡◌, ◌<◌, Ok, Err, IfOk, OnOk, IfErr, ◌⊎◌, ◌≢◌, IsTrue, string_bytes};
-ghost use Rattle.std.specs.Io.KnownBytes.{Appends, Consumes, IsAtEnd};
+ghost use Rattle.std.specs.Prelude.{◌≡◌, Ok, Err, IfOk, OnOk, IfErr, ◌≢◌, IsTrue, string_bytes};
+ghost use Rattle.std.specs.Io.KnownBytes.{Appends, IsAtEnd};
 ghost use Rattle.ref_streams.specs.Bytes.{HasFailed};
 ghost use Rattle.ref_report.specs.Run.{Reports};
 

@@ -1,5 +1,5 @@
 //! Where a report's bytes go.
-ghost use Rattle.std.specs.Prelude.{◌≡◌, ◌+◌, ◌<◌, ℕ, List, Option, Some, None, OnOk, OnErr, length, vec_len, vec_capacity, ◌++◌};
+ghost use Rattle.std.specs.Prelude.{◌≡◌, ◌+◌, ◌<◌, ℕ, List, Option, Some, OnOk, OnErr, length, vec_len, vec_capacity, ◌++◌};
 ghost use Rattle.std.specs.Io.KnownBytes.{Appends};
 ghost use Rattle.ref_streams.specs.Bytes.{counted};
 
