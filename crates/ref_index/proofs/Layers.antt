@@ -5,7 +5,6 @@ use Rattle.std.specs.declared.alloc.Global.{Global}
 use Rattle.std.specs.List.{AllZip, Contains}
 use Rattle.std.proofs.lemmas.List.Elements.{All-contains, All-from_recursion, Contains-push_cases}
 use Rattle.std.proofs.lemmas.Grind.{flat_map-append}
-use Rattle.ref_uri.specs.declared.error.UriFault.{UriFault}
 use Rattle.ref_world.specs.World.{Document, Layer}
 use Rattle.ref_world.specs.Places.{Place, places}
 use Rattle.ref_world.specs.Resources.{resources_in, resources}
@@ -18,7 +17,7 @@ use Rattle.ref_index.specs.declared.entry.Location.TheVariants.{Lent, Path}
 use Rattle.ref_index.specs.declared.found.Found.{Found}
 use Rattle.ref_index.specs.declared.entry.NamedEntry.{NamedEntry}
 use Rattle.ref_index.specs.Found.{IsLocationOf, IsEntryOf, IsNumberOf, IsResourceOf, IsNameOf, Holds}
-use Rattle.ref_index.specs.Visits.{IsFirstFault, IsWalked, IsFound, ChildrenStandAt, faults_of, wants_of}
+use Rattle.ref_index.specs.Visits.{IsWalked, IsFound, ChildrenStandAt, faults_of, wants_of}
 use Rattle.ref_index.proofs.Visiting.{holds_same}
 
 -- ---- numbers of documents
@@ -85,6 +84,3 @@ found_more layer d old new is walk = record {
       (λ same. λ p at. All-contains ChildrenStandAt (places d) p (All-from_recursion ChildrenStandAt (places d) walk.children) (subst (λ x. Contains (places x) p) (sym same) at))
       (Contains-push_cases layer d e there);
 }
-
-pub first_of_layer : (layer : Layer) (d : Document) (fault : UriFault) → faults layer ≡ [] → IsFirstFault (flat_map faults_of (places d)) fault → IsFirstFault (faults (layer ++ d ∷ [])) fault
-first_of_layer layer d fault none first = subst (λ l. IsFirstFault l fault) (faults_more layer d none) first

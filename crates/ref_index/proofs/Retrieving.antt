@@ -1,5 +1,5 @@
 -- Preparing, want by want, over plain values.
-use Rattle.std.proofs.Common.{◌≡◌, ℕ, suc, ◌+◌, ◌<◌, ◌≤◌, List, [], ◌∷◌, ◌++◌, true, false, take, drop, length, filter, flat_map, Some, None, Ok, Err, sym, ap, ◌∙◌, subst, arith, length-append}
+use Rattle.std.proofs.Common.{◌≡◌, ℕ, suc, ◌+◌, ◌<◌, ◌≤◌, List, [], ◌∷◌, ◌++◌, true, false, take, drop, length, filter, flat_map, Some, None, Ok, Err, sym, ap, ◌∙◌, subst, arith}
 use Rattle.std.specs.Prelude.{slice_get}
 use Rattle.std.specs.List.{AllByRecursion}
 use Rattle.std.proofs.lemmas.List.{take-append-le}
@@ -68,9 +68,6 @@ all_closed layer d parents (w ∷ ws) met = (met_wants_stay layer (d ∷ []) par
 -- the wants of a layer stand in front of those of a document behind it
 wants_more : (layer : Layer) (d : Document) → wants (layer ++ d ∷ []) ≡ wants layer ++ wants (d ∷ [])
 wants_more layer d = flat_map-append (λ e. flat_map (λ p. wants_at p.base p.value) (places e)) layer (d ∷ [])
-
-pub still_within : (layer : Layer) (d : Document) (next : ℕ) → next ≤ length (wants layer) → next ≤ length (wants (layer ++ d ∷ []))
-still_within layer d next within = omega (arith, within, ap length (wants_more layer d), length-append (wants layer) (wants (d ∷ [])))
 
 pub still_met : (layer : Layer) (d : Document) (parents : World) (next : ℕ) → next ≤ length (wants layer) → AllByRecursion (λ w. is_open (layer ∷ parents) w ≡ false) (take next (wants layer))
     → AllByRecursion (λ w. is_open ((layer ++ d ∷ []) ∷ parents) w ≡ false) (take next (wants (layer ++ d ∷ [])))

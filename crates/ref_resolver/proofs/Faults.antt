@@ -1,5 +1,5 @@
 -- Which fault an error says, in a chain of answers.
-use Rattle.std.proofs.Common.{◌≡◌, Result, Ok, Err, sym, ap, subst}
+use Rattle.std.proofs.Common.{◌≡◌, Result, Ok, Err, ap}
 use Rattle.ref_uri.specs.Targets.{Refusal}
 use Rattle.ref_world.specs.Results.{◌>>=◌}
 use Rattle.ref_world.specs.Fault.{Fault, InvalidUri, as_invalid_uri}
@@ -46,9 +46,6 @@ goes_on answer next x is = ap (λ a. a >>= next) is
 
 pub fault_ends : {A B : Type 0} (answer : Result A Fault) (next : A → Result B Fault) (e : Error) → IsFaultOf answer e → IsFaultOf (answer >>= next) e
 fault_ends answer next e = fault_as answer (answer >>= next) e (ends answer next)
-
-pub fault_later : {A B : Type 0} (answer : Result A Fault) (next : A → Result B Fault) (x : A) (e : Error) → answer ≡ Ok x → IsFaultOf (next x) e → IsFaultOf (answer >>= next) e
-fault_later answer next x e is = subst (λ a. IsFaultOf a e) (sym (goes_on answer next x is))
 
 -- a refused URI, whatever goes on from the URI
 pub refused_after : {A B : Type 0} (answer : Result A Refusal) (next : A → B) (fault : Fault) → as_invalid_uri answer ≡ Err fault → as_invalid_uri (answer >>= λ x. Ok (next x)) ≡ Err fault

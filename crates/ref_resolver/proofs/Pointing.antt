@@ -47,14 +47,6 @@ step_refused draft pointer along value token s e is says =
     (changed (record along { since = along.since ++ s.0 ∷ [] })) fault refused))
     says
 
--- a base, which may be another
-pub step_along : (draft : Draft) (pointer : List ℕ) (along : Along) (value : Data) (token : List ℕ) (s : Part × Data) (uri : List ℕ) → step_into pointer value token ≡ Ok s
-    → base_within along.base (if scan draft (is_object s.1) (along.since ++ s.0 ∷ []) then identifier draft s.1 else None) ≡ Ok uri
-    → stepped draft pointer along value token ≡ Ok (s.1, changed (record along { since = along.since ++ s.0 ∷ [] }) uri)
-step_along draft pointer along value token s uri is based =
-    ap (λ a. a >>= λ t. as_invalid_uri (along_part draft along t.0 t.1) >>= λ next. Ok (t.1, next)) is
-    ∙ ap (λ b. as_invalid_uri (b >>= λ u. Ok (changed (record along { since = along.since ++ s.0 ∷ [] }) u)) >>= λ next. Ok (s.1, next)) based
-
 -- ---- token by token
 
 plain : (bs : List ℕ) → All (λ b. b ≢ 47) bs → All (λ b. eqb b 47 ≡ false) bs
