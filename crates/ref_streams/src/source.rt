@@ -100,13 +100,24 @@ impl<R: Drop> Input<R> {
 }
 
 impl<R: Read + Drop> Source for Input<R> {
+    ghost use Rattle.std.specs.Prelude.{◌≡◌, ◌<◌, ◌≤◌, ◌==◌, IfOk, IsTrue, length};
+    ghost use Rattle.std.specs.Io.KnownBytes.{ReadConsumes};
+    ghost use Rattle.ref_streams.specs.Bytes.{counted};
+
     ghost remaining = { λ s. R.remaining s.reader };
 
     ghost ended = { λ s. s.ended };
 
     ghost failures = { λ s. s.failures };
 
-    fn read(&mut self, buffer: &mut [u8]) -> Result<usize, Failed> {
+    // The end is reached where the last read gave no byte.
+    fn read(&mut self, buffer: &mut [u8]) -> Result<usize, Failed>
+        ensures within { IfOk result (λ n. n ≤ length buffer.new) }
+        ensures bytes { ReadConsumes (R.remaining self.old.reader) (R.remaining self.new.reader) result buffer.new }
+        ensures end { result ≡ Ok 0 → 0 < length buffer.new → IsTrue self.new.ended }
+        ensures count { self.new.failures ≡ counted result self.old.failures }
+        ensures ended { IfOk result (λ n. self.new.ended ≡ (n == 0)) }
+    {
         match read_uninterrupted(&mut self.reader, buffer) {
             Ok(n) => {
                 self.ended = n == 0;

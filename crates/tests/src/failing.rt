@@ -1,40 +1,33 @@
 //! Reads and writes that fail, at each place, and sinks whose room was reserved before.
 ghost use Rattle.std.specs.Prelude.{None};
-ghost use Rattle.ref_streams.specs.Memory.{is_at_end};
 
 use crate::answers::expect;
 use crate::fault::Fault;
 use crate::reports::Ending;
 use ref_report::run::{RunError, run};
-use ref_report::{Failed, MemorySink, MemorySource, Output, Sink, Source, Status};
+use ref_report::{Failed, Input, MemorySink, MemorySource, Output, Sink, Status};
 use std::alloc::{AllocError, Global};
-use std::io::{self, ErrorKind, Write};
+use std::io::{self, ErrorKind, Read, Write};
 
-// A source that gives a byte at a time, and fails once it gave so many: for ever, or once.
+// A reader of the library's that gives a byte at a time, and fails once it gave so many: for ever, or once.
 #[derive(Drop)]
 struct FailsAfter<'a> {
-    inner: MemorySource<'a>,
+    bytes: &'a [u8],
     left: usize,
     is_for_ever: bool,
-    failures: u64,
 }
 
-impl Source for FailsAfter<'_> {
+impl Read for FailsAfter<'_> {
     ghost remaining = { λ _. None };
 
-    ghost ended = { λ s. is_at_end s.inner };
-
-    ghost failures = { λ s. s.failures };
-
-    fn read(&mut self, buffer: &mut [u8]) -> Result<usize, Failed> {
+    fn read(&mut self, buffer: &mut [u8]) -> io::Result<usize> {
         if self.left == 0 {
             self.left = if self.is_for_ever { 0 } else { usize::MAX };
-            self.failures = self.failures.saturating_add(1);
-            return Err(Failed);
+            return Err(io::Error::from(ErrorKind::Other));
         }
         self.left -= 1;
         let room = buffer.len().min(1);
-        self.inner.read(&mut buffer[..room])
+        self.bytes.read(&mut buffer[..room])
     }
 }
 
@@ -86,12 +79,11 @@ impl Write for Narrow {
 
 // Whether a request, of which a read fails behind so many bytes, ends as one that failed, with nothing written and no other failure.
 fn is_refused(alloc: Global, request: &str, left: usize, is_for_ever: bool) -> bool {
-    let mut reader = FailsAfter {
-        inner: MemorySource::new(request.as_bytes()),
+    let mut reader = Input::new(FailsAfter {
+        bytes: request.as_bytes(),
         left,
         is_for_ever,
-        failures: 0,
-    };
+    });
     let mut writer = MemorySink::new(alloc);
     let answer = run(alloc, &mut reader, &mut writer);
     answer == Err(RunError::Read) && reader.failures == 1 && writer.bytes.is_empty()
