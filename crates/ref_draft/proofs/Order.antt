@@ -1,5 +1,5 @@
 -- The members of a value come in byte order of their keys, as the map has them.
-use Rattle.std.proofs.Common.{◌≡◌, ℕ, List, [], ◌∷◌, map, None, Some, String, Global, Less, string_cmp, string_bytes, nat_cmp, refl, ap, subst, sym}
+use Rattle.std.proofs.Common.{◌≡◌, List, [], ◌∷◌, None, Some, String, Global, Less, string_cmp, string_bytes, nat_cmp, subst}
 use Rattle.std.specs.Cmp.Lexicographic.{slice_cmp}
 use Rattle.std.specs.List.{AllByRecursion}
 use Rattle.std.specs.List.Sorted.{IsStrictlySortedBy}

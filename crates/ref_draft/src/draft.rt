@@ -82,8 +82,8 @@ impl Draft {
     }
 
     /// Whether this draft knows the keyword: of 2020-12 those that `specs/Keywords.antt` lists from Core, 8, 10 and 11,
-    /// and from Validation, 6 to 8, and with them earlier drafts' keywords but for `id`. It takes no memory: a match on
-    /// the keyword's text.
+    /// and from Validation, 6 to 8, and with them earlier drafts' keywords but for `id`. It takes no memory: the keyword is
+    /// compared with each of them.
     pub fn is_known_keyword(&self, keyword: &str) -> bool
         ensures value { result ≡ is_known self.now keyword.now }
     {

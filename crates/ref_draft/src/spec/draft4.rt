@@ -3,28 +3,42 @@ ghost use Rattle.std.specs.Prelude.{◌≡◌};
 ghost use Rattle.ref_draft.specs.Keywords.{holding};
 
 use crate::draft::Draft;
-use crate::spec::Holding;
+use crate::spec::{Holding, before_2020};
 
-// How a keyword holds its subschemas. A boolean under the first two is no schema.
+// Under these a boolean is no schema.
+const OBJECTS: [&str; 2] = ["additionalItems", "additionalProperties"];
+
+const VALUES: [&str; 11] = [
+    "additionalItems",
+    "additionalProperties",
+    "contains",
+    "contentSchema",
+    "else",
+    "if",
+    "not",
+    "propertyNames",
+    "then",
+    "unevaluatedItems",
+    "unevaluatedProperties",
+];
+
+const ARRAYS: [&str; 4] = ["allOf", "anyOf", "oneOf", "prefixItems"];
+
+const MAPS: [&str; 5] = [
+    "$defs",
+    "definitions",
+    "dependentSchemas",
+    "patternProperties",
+    "properties",
+];
+
+// How a keyword holds its subschemas.
 pub(crate) fn holding(keyword: &str) -> Holding
     ensures { result ≡ holding Draft.Draft4 keyword.now }
 {
-    match keyword {
-        "additionalItems" | "additionalProperties" => Holding::WholeObject,
-        "contains"
-        | "contentSchema"
-        | "else"
-        | "if"
-        | "not"
-        | "propertyNames"
-        | "then"
-        | "unevaluatedItems"
-        | "unevaluatedProperties" => Holding::Whole,
-        "allOf" | "anyOf" | "oneOf" | "prefixItems" => Holding::Elements,
-        "$defs" | "definitions" | "dependentSchemas" | "patternProperties" | "properties" =>
-            Holding::Members,
-        "items" => Holding::ElementsOrWhole,
-        "dependencies" => Holding::ObjectMembers,
-        _ => Holding::Nothing,
+    if OBJECTS.contains(&keyword) {
+        Holding::WholeObject
+    } else {
+        before_2020(keyword, &VALUES, &ARRAYS, &MAPS)
     }
 }

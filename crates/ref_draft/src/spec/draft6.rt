@@ -3,19 +3,23 @@ ghost use Rattle.std.specs.Prelude.{◌≡◌};
 ghost use Rattle.ref_draft.specs.Keywords.{holding};
 
 use crate::draft::Draft;
-use crate::spec::Holding;
+use crate::spec::{Holding, before_2020};
+
+const VALUES: [&str; 5] = [
+    "additionalItems",
+    "additionalProperties",
+    "contains",
+    "not",
+    "propertyNames",
+];
+
+const ARRAYS: [&str; 3] = ["allOf", "anyOf", "oneOf"];
+
+const MAPS: [&str; 3] = ["definitions", "patternProperties", "properties"];
 
 // How a keyword holds its subschemas.
 pub(crate) fn holding(keyword: &str) -> Holding
     ensures { result ≡ holding Draft.Draft6 keyword.now }
 {
-    match keyword {
-        "additionalItems" | "additionalProperties" | "contains" | "not" | "propertyNames" =>
-            Holding::Whole,
-        "allOf" | "anyOf" | "oneOf" => Holding::Elements,
-        "definitions" | "patternProperties" | "properties" => Holding::Members,
-        "items" => Holding::ElementsOrWhole,
-        "dependencies" => Holding::ObjectMembers,
-        _ => Holding::Nothing,
-    }
+    before_2020(keyword, &VALUES, &ARRAYS, &MAPS)
 }

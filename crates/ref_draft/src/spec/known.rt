@@ -2,94 +2,102 @@
 ghost use Rattle.std.specs.Prelude.{◌≡◌};
 ghost use Rattle.ref_draft.specs.Keywords.{is_one_of, is_known_in_2019, known_in_all, known_in_4, known_since_6, known_since_7, known_since_2019, known_since_2020};
 
+const IN_ALL: [&str; 30] = [
+    "$ref",
+    "$schema",
+    "additionalItems",
+    "additionalProperties",
+    "allOf",
+    "anyOf",
+    "definitions",
+    "dependencies",
+    "enum",
+    "exclusiveMaximum",
+    "exclusiveMinimum",
+    "format",
+    "items",
+    "maxItems",
+    "maxLength",
+    "maxProperties",
+    "maximum",
+    "minItems",
+    "minLength",
+    "minProperties",
+    "minimum",
+    "multipleOf",
+    "not",
+    "oneOf",
+    "pattern",
+    "patternProperties",
+    "properties",
+    "required",
+    "type",
+    "uniqueItems",
+];
+
+const SINCE_6: [&str; 6] = [
+    "$id",
+    "const",
+    "contains",
+    "propertyNames",
+    "contentEncoding",
+    "contentMediaType",
+];
+
+const SINCE_2019: [&str; 11] = [
+    "contentSchema",
+    "$anchor",
+    "$defs",
+    "$recursiveAnchor",
+    "$recursiveRef",
+    "dependentRequired",
+    "dependentSchemas",
+    "maxContains",
+    "minContains",
+    "unevaluatedItems",
+    "unevaluatedProperties",
+];
+
 // In every draft.
 pub(crate) fn in_all(keyword: &str) -> bool
     ensures { result ≡ is_one_of keyword.now known_in_all }
 {
-    matches!(
-        keyword,
-        "$ref"
-            | "$schema"
-            | "additionalItems"
-            | "additionalProperties"
-            | "allOf"
-            | "anyOf"
-            | "definitions"
-            | "dependencies"
-            | "enum"
-            | "exclusiveMaximum"
-            | "exclusiveMinimum"
-            | "format"
-            | "items"
-            | "maxItems"
-            | "maxLength"
-            | "maxProperties"
-            | "maximum"
-            | "minItems"
-            | "minLength"
-            | "minProperties"
-            | "minimum"
-            | "multipleOf"
-            | "not"
-            | "oneOf"
-            | "pattern"
-            | "patternProperties"
-            | "properties"
-            | "required"
-            | "type"
-            | "uniqueItems"
-    )
+    IN_ALL.contains(&keyword)
 }
 
 // In Draft 4 alone.
 pub(crate) fn in_4(keyword: &str) -> bool
     ensures { result ≡ is_one_of keyword.now known_in_4 }
 {
-    matches!(keyword, "id")
+    keyword == "id"
 }
 
 // In Draft 6 and later.
 pub(crate) fn since_6(keyword: &str) -> bool
     ensures { result ≡ is_one_of keyword.now known_since_6 }
 {
-    matches!(
-        keyword,
-        "$id" | "const" | "contains" | "propertyNames" | "contentEncoding" | "contentMediaType"
-    )
+    SINCE_6.contains(&keyword)
 }
 
 // In Draft 7 and later.
 pub(crate) fn since_7(keyword: &str) -> bool
     ensures { result ≡ is_one_of keyword.now known_since_7 }
 {
-    matches!(keyword, "else" | "if" | "then")
+    ["else", "if", "then"].contains(&keyword)
 }
 
 // In 2019-09 and later.
 fn since_2019(keyword: &str) -> bool
     ensures { result ≡ is_one_of keyword.now known_since_2019 }
 {
-    matches!(
-        keyword,
-        "contentSchema"
-            | "$anchor"
-            | "$defs"
-            | "$recursiveAnchor"
-            | "$recursiveRef"
-            | "dependentRequired"
-            | "dependentSchemas"
-            | "maxContains"
-            | "minContains"
-            | "unevaluatedItems"
-            | "unevaluatedProperties"
-    )
+    SINCE_2019.contains(&keyword)
 }
 
 // In 2020-12.
 pub(crate) fn since_2020(keyword: &str) -> bool
     ensures { result ≡ is_one_of keyword.now known_since_2020 }
 {
-    matches!(keyword, "$dynamicAnchor" | "$dynamicRef" | "prefixItems")
+    ["$dynamicAnchor", "$dynamicRef", "prefixItems"].contains(&keyword)
 }
 
 // In 2019-09.
