@@ -1,5 +1,5 @@
 -- The texts of errors, and which of the defined faults an error stands for.
-use Rattle.std.specs.Prelude.{◌≡◌, ℕ, List, codes, string_bytes, Result, Err, ⊤}
+use Rattle.std.specs.Prelude.{◌≡◌, ℕ, List, codes, string_bytes, Bool, true, false, Result, Err, ⊤}
 use Rattle.ref_uri.specs.Errors.{uri_error_text, SaysRefusal}
 use Rattle.ref_uri.specs.declared.error.UriFault.{UriFault}
 use Rattle.ref_uri.specs.declared.error.UriFault.TheVariants as uri_fault
@@ -37,6 +37,11 @@ error_text (error.UnknownSpecification specification) = fault_text (fault.Unknow
 error_text (error.CircularMetaschema uri) = fault_text (fault.CircularMetaschema (string_bytes uri))
 error_text (error.RetrievalLimit uri limit) = fault_text (fault.RetrievalLimit (string_bytes uri) limit)
 error_text (error.Memory memory) = codes "Out of memory"
+
+-- whether an error is want of memory
+abbrev pub is_memory : Error → Bool
+is_memory (error.Memory memory) = true
+is_memory other = false
 
 -- the source of an error says why a retriever refuses; want of memory is no refusal
 abbrev pub SaysWhy : RetrieveError → List ℕ → Type 0

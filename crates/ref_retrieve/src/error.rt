@@ -1,6 +1,7 @@
 //! Why documents can't be prepared, or a reference can't be followed.
 ghost use Rattle.std.specs.Prelude.{◌≡◌};
 ghost use Rattle.ref_retrieve.specs.declared.error.Error.TheVariants as error;
+ghost use Rattle.ref_retrieve.specs.Errors.{is_memory};
 
 use ref_uri::{UriError, UriFault};
 use std::alloc::AllocError;
@@ -26,15 +27,14 @@ impl fmt::Display for Reason {
     ghost output = { λ r. Some (reason_text r) };
 
     fn fmt<W: fmt::Write>(&self, f: &mut fmt::Formatter<W>) -> fmt::Result {
-        match self {
-            Reason::NotFetched => write!(f, "Default retriever does not fetch resources"),
-            Reason::NoDocument => write!(f, "no document under this URI"),
-            Reason::NotSupported => write!(
-                f,
+        f.write_str(match self {
+            Reason::NotFetched => "Default retriever does not fetch resources",
+            Reason::NoDocument => "no document under this URI",
+            Reason::NotSupported => {
                 "Retrieving external resources is not supported once the registry is populated"
-            ),
-            Reason::Text(text) => write!(f, "{text}"),
-        }
+            }
+            Reason::Text(text) => text.as_str(),
+        })
     }
 }
 
@@ -66,7 +66,7 @@ impl fmt::Display for RetrieveError {
     fn fmt<W: fmt::Write>(&self, f: &mut fmt::Formatter<W>) -> fmt::Result {
         match self {
             RetrieveError::Refused(reason) => write!(f, "{reason}"),
-            RetrieveError::Memory(_) => write!(f, "Out of memory"),
+            RetrieveError::Memory(_) => f.write_str("Out of memory"),
         }
     }
 }
@@ -152,6 +152,13 @@ pub enum Error {
 }
 
 impl Error {
+    /// Whether memory ran out. Takes no memory.
+    pub fn is_memory(&self) -> bool
+        ensures value { result ≡ is_memory self.now }
+    {
+        matches!(self, Error::Memory(_))
+    }
+
     /// A meta-schema that is neither known nor retrievable, by its URI. Takes no memory.
     pub fn unknown_specification(specification: String) -> Error
         ensures value { result ≡ error.UnknownSpecification specification }
@@ -213,7 +220,7 @@ impl fmt::Display for Error {
                     "Retrieval limit of {limit} documents reached before '{uri}'"
                 )
             }
-            Error::Memory(_) => write!(f, "Out of memory"),
+            Error::Memory(_) => f.write_str("Out of memory"),
         }
     }
 }

@@ -93,10 +93,9 @@ fn or_default(found: Result<Option<VocabularySet>, Error>) -> Result<VocabularyS
     ensures { (declared : Result (Option SetOfVocabularies) Refusal) → IfOk found (λ set. declared ≡ Ok set) → IfErr found (IsFaultOf (as_invalid_uri declared))
         → IfOk result (λ set. set ≡ set_or_default declared) }
 {
-    match found {
+    match found.map_err(|error| error.is_memory()) {
         Ok(Some(set)) => Ok(set),
-        Ok(None) => Ok(default_vocabularies(Draft::Unknown)),
-        Err(Error::Memory(error)) => Err(error),
-        Err(_) => Ok(default_vocabularies(Draft::Unknown)),
+        Err(true) => Err(AllocError),
+        _ => Ok(default_vocabularies(Draft::Unknown)),
     }
 }
