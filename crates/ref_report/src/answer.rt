@@ -1,7 +1,8 @@
 //! From the bytes of a request to its report.
-ghost use Rattle.std.specs.Prelude.{◌≡◌, IfOk, Ok, map, option_map};
+ghost use Rattle.std.specs.Prelude.{◌≡◌, IfOk, Ok, false, map, option_map, unwrap_or};
 ghost use Rattle.serde_json.specs.View.{view};
 ghost use Rattle.ref_world.specs.Follow.{followed};
+ghost use Rattle.ref_world.specs.Pending.{builder_draft};
 ghost use Rattle.referencing.specs.Following as following;
 ghost use Rattle.ref_report.specs.Report.{step_in, followed_report, lint_lines, with_lines, IsRequestReport, IsReadReport, IsReport};
 ghost use Rattle.ref_report.specs.Request as spec;
@@ -73,14 +74,29 @@ fn answer_request(alloc: Global, request: Request<'_>) -> Result<Report, AllocEr
         Ok(parent) => parent,
         Err(error) => return fault_report(alloc, "meta", error),
     };
-    let registry = match world_of(alloc, &parent, documents, remote, draft, limit) {
-        Ok(registry) => registry,
-        Err(error) => return fault_report(alloc, "prepare", error),
-    };
+    match world_of(alloc, &parent, documents, remote, draft, limit) {
+        Ok(registry) => world_report(alloc, &registry, base, steps.as_slice(), draft, lint),
+        Err(error) => fault_report(alloc, "prepare", error),
+    }
+}
+
+// The report on steps in a registry.
+fn world_report(
+    alloc: Global,
+    registry: &Registry<'_>,
+    base: Uri,
+    steps: &[Step<'_>],
+    draft: Option<Draft>,
+    lint: Option<bool>,
+) -> Result<Report, AllocError>
+    requires { WorldHoldsNoFloat registry.now }
+    ensures { IfOk result (λ r. report_view r ≡ with_lines (lint_lines (unwrap_or lint false) registry.now)
+        (followed_report (followed registry.now base (map (step_in (builder_draft draft)) (map step_view steps.now))))) }
+{
     let draft = draft.unwrap_or(Draft::Draft202012);
-    let steps = entered(alloc, draft, steps.as_slice())?;
-    let report = followed_report(alloc, &registry, base, steps.as_slice())?;
-    linted(alloc, &registry, report, lint.unwrap_or(false))
+    let steps = entered(alloc, draft, steps)?;
+    let report = followed_report(alloc, registry, base, steps.as_slice())?;
+    linted(alloc, registry, report, lint.unwrap_or(false))
 }
 
 // The report on where steps lead.

@@ -55,8 +55,14 @@ fn reason(bad: BadRequest) -> &'static str
 pub fn fault_report(alloc: Global, of: &str, error: Error) -> Result<Report, AllocError>
     ensures { IfOk result (λ r. IsReportOn of.now error (report_view r)) }
 {
-    if let Error::Memory(refused) = error {
-        return Err(refused);
+    report_on(alloc, of, &error)
+}
+
+fn report_on(alloc: Global, of: &str, error: &Error) -> Result<Report, AllocError>
+    ensures { IfOk result (λ r. IsReportOn of.now error.now (report_view r)) }
+{
+    if error.is_memory() {
+        return Err(AllocError);
     }
     errors_say_faults();
     Ok(Report {

@@ -1,7 +1,6 @@
-use Rattle.std.proofs.Common.{◌≡◌, [], map, unwrap_or, ap, ◌∙◌}
+use Rattle.std.proofs.Common.{◌≡◌, [], map, unwrap_or, refl, ap}
 use Rattle.ref_world.specs.Pending.{builder_draft}
-use Rattle.referencing.specs.Following.{step_of}
-use Rattle.ref_report.specs.Report.{step_in, steps_of, lint_lines, with_lines}
+use Rattle.ref_report.specs.Report.{step_in, steps_of}
 use Rattle.ref_report.specs.inner.View.{request_view, step_view, report_view}
 use Rattle.ref_report.proofs.Options.{if_so}
 use Rattle.ref_report.proofs.WorldsWithoutFloats.{world_without_floats}
@@ -18,16 +17,15 @@ returns-in-Err-world_of c =
     (λ r is. prepare_reported (request_view c.args.request) (unwrap_or c.in-Ok.parent []) c.in-Err-world_of.error (report_view r) c.in-Ok.ensures.ok c.in-Err-world_of.ensures.fault is)
     c.fault_report-in-Err-world_of.ensures
 
-pub followed_report-requires : goal.followed_report-requires
-followed_report-requires c = world_without_floats (request_view c.args.request) (unwrap_or c.in-Ok.parent []) c.in-Ok-world_of.registry c.requires c.in-Ok.ensures.ok c.in-Ok-world_of.ensures.ok
+pub world_report-requires : goal.world_report-requires
+world_report-requires c = world_without_floats (request_view c.args.request) (unwrap_or c.in-Ok.parent []) c.in-Ok-world_of.registry c.requires c.in-Ok.ensures.ok c.in-Ok-world_of.ensures.ok
 
-pub returns : goal.returns
-returns c =
+pub returns-in-Ok-world_of : goal.returns-in-Ok-world_of
+returns-in-Ok-world_of c =
     let r = request_view c.args.request in
-    let steps : map step_of c.as_slice-2.result.now ≡ steps_of r =
-    ap (map step_of) c.as_slice-2.ensures.value ∙ c.in_ok-steps.ensures
-    ∙ ap (λ d. map (step_in d) (map step_view c.as_slice.result.now)) c.unwrap_or-draft.ensures
-    ∙ ap (λ ss. map (step_in (builder_draft c.args.request.draft)) (map step_view ss)) c.as_slice.ensures.value in
-    if_so _ _ c.linted.result
-    (λ report is. world_reported r (unwrap_or c.in-Ok.parent []) c.in-Ok-world_of.registry (map step_of c.as_slice-2.result.now) (report_view c.in_ok-report.report) (report_view report) c.in-Ok.ensures.ok c.in-Ok-world_of.ensures.ok steps c.in_ok-report.ensures (is ∙ ap (λ lint. with_lines (lint_lines lint c.in-Ok-world_of.registry) (report_view c.in_ok-report.report)) c.unwrap_or.ensures))
-    c.linted.ensures
+    let world = c.in-Ok-world_of.registry in
+    let steps : map (step_in (builder_draft r.draft)) (map step_view c.as_slice.result.now) ≡ steps_of r =
+    ap (λ ss. map (step_in (builder_draft r.draft)) (map step_view ss)) c.as_slice.ensures.value in
+    if_so _ _ c.world_report.result
+    (λ report is. world_reported r (unwrap_or c.in-Ok.parent []) world _ _ (report_view report) c.in-Ok.ensures.ok c.in-Ok-world_of.ensures.ok steps refl is)
+    c.world_report.ensures
