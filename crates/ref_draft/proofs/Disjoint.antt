@@ -20,9 +20,9 @@ apart : (k : List ℕ) (ks others : List (List ℕ)) → are_apart ks others ≡
 apart k [] others test among = absurd (true≢false (sym among))
 apart k (l ∷ ks) others test among =
     let parts = and_parts (not (is_one_of l others)) (are_apart ks others) test in
-    ⊎_elim (λ here. ap (λ w. is_one_of w others) (sym (same l k here)) ∙ not-true (is_one_of l others) parts.0)
+    ⊎_elim (λ here. ap (λ w. is_one_of w others) (same k l here) ∙ not-true (is_one_of l others) parts.0)
     (λ later. apart k ks others parts.1 later)
-    (or_cases (bytes_eq l k) (is_one_of k ks) among)
+    (or_cases (bytes_eq k l) (is_one_of k ks) among)
 
 columns_apart : (d : Draft) → (are_apart (row d).arrays (row d).values && are_apart (row d).maps (row d).values) ≡ true
 columns_apart Draft4 = refl
@@ -44,12 +44,6 @@ child_is_no_value d k child =
 abbrev both : List (List ℕ)
 both = codes "items" ∷ codes "dependencies" ∷ []
 
-in_both : (k : List ℕ) → is_items_or_dependencies k ≡ true → is_one_of k both ≡ true
-in_both k items =
-    ⊎_elim (λ here. ap (λ w. is_one_of w both) (same k (codes "items") here))
-    (λ there. ap (λ w. is_one_of w both) (same k (codes "dependencies") there))
-    (or_cases (bytes_eq k (codes "items")) (bytes_eq k (codes "dependencies")) items)
-
 both_apart : (d : Draft) → is_before_2020 d ≡ true → (are_apart both (row d).values && (are_apart both (row d).arrays && are_apart both (row d).maps)) ≡ true
 both_apart Draft4 before = refl
 both_apart Draft6 before = refl
@@ -65,10 +59,10 @@ neither false b e f = f
 -- before 2020-12 `items` and `dependencies` are neither value keywords nor child keywords
 pub items_is_no_value : (d : Draft) (k : List ℕ) → is_before_2020 d ≡ true → is_items_or_dependencies k ≡ true → is_value_keyword d k ≡ false
 items_is_no_value d k before items =
-    apart k both (row d).values (and_parts (are_apart both (row d).values) (are_apart both (row d).arrays && are_apart both (row d).maps) (both_apart d before)).0 (in_both k items)
+    apart k both (row d).values (and_parts (are_apart both (row d).values) (are_apart both (row d).arrays && are_apart both (row d).maps) (both_apart d before)).0 items
 
 pub items_is_no_child : (d : Draft) (k : List ℕ) → is_before_2020 d ≡ true → is_items_or_dependencies k ≡ true → is_child_keyword d k ≡ false
 items_is_no_child d k before items =
     let columns = (and_parts (are_apart both (row d).values) (are_apart both (row d).arrays && are_apart both (row d).maps) (both_apart d before)).1 in
     let tests = and_parts (are_apart both (row d).arrays) (are_apart both (row d).maps) columns in
-    neither (is_one_of k (row d).arrays) (is_one_of k (row d).maps) (apart k both (row d).arrays tests.0 (in_both k items)) (apart k both (row d).maps tests.1 (in_both k items))
+    neither (is_one_of k (row d).arrays) (is_one_of k (row d).maps) (apart k both (row d).arrays tests.0 items) (apart k both (row d).maps tests.1 items)

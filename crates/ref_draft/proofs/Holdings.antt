@@ -44,11 +44,11 @@ Says d k Nothing = HoldsNothing d k
 -- a keyword that may have a boolean in place of a schema is one whose value is a schema
 value_in_4 : (k : List ℕ) → is_one_of k (boolean_or_schema Draft4) ≡ true → is_one_of k row_4.values ≡ true
 value_in_4 k e =
-    ⊎_elim (λ here. ap (λ w. is_one_of w row_4.values) (sym (same (codes "additionalItems") k here)))
+    ⊎_elim (λ here. ap (λ w. is_one_of w row_4.values) (same k (codes "additionalItems") here))
     (λ later.
-    ⊎_elim (λ here. ap (λ w. is_one_of w row_4.values) (sym (same (codes "additionalProperties") k here))) (λ none. absurd (true≢false (sym none)))
-    (or_cases (bytes_eq (codes "additionalProperties") k) false later))
-    (or_cases (bytes_eq (codes "additionalItems") k) (bytes_eq (codes "additionalProperties") k || false) e)
+    ⊎_elim (λ here. ap (λ w. is_one_of w row_4.values) (same k (codes "additionalProperties") here)) (λ none. absurd (true≢false (sym none)))
+    (or_cases (bytes_eq k (codes "additionalProperties")) false later))
+    (or_cases (bytes_eq k (codes "additionalItems")) (bytes_eq k (codes "additionalProperties") || false) e)
 
 value_of_row : (d : Draft) (k : List ℕ) → is_one_of k (boolean_or_schema d) ≡ true → is_value_keyword d k ≡ true
 value_of_row Draft4 k e = value_in_4 k e
@@ -62,7 +62,7 @@ neither : (a b : Bool) → a ≡ false → b ≡ false → (a || b) ≡ false
 neither true b e f = e
 neither false b e f = f
 
-no_items_there : (before items dependencies : Bool) → (before && items) ≡ false → (before && dependencies) ≡ false → (before && (items || dependencies)) ≡ false
+no_items_there : (before items dependencies : Bool) → (before && items) ≡ false → (before && dependencies) ≡ false → (before && (items || (dependencies || false))) ≡ false
 no_items_there true true dependencies e f = e
 no_items_there true false true e f = f
 no_items_there true false false e f = refl
@@ -79,11 +79,11 @@ says d k false false false true items dependencies b v a m i e =
     record { child = or_right (is_one_of k (row d).arrays) (is_one_of k (row d).maps) m; in_map = or_left (is_one_of k (row d).maps) (is_before_2020 d && bytes_eq k (codes "dependencies")) m }
 says d k false false false false true dependencies b v a m i e =
     let parts = and_parts (is_before_2020 d) (bytes_eq k (codes "items")) i in
-    record { before = parts.0; items = or_left (bytes_eq k (codes "items")) (bytes_eq k (codes "dependencies")) parts.1 }
+    record { before = parts.0; items = or_left (bytes_eq k (codes "items")) (bytes_eq k (codes "dependencies") || false) parts.1 }
 says d k false false false false false true b v a m i e =
     let parts = and_parts (is_before_2020 d) (bytes_eq k (codes "dependencies")) e in
     record {
-      items = record { before = parts.0; items = or_right (bytes_eq k (codes "items")) (bytes_eq k (codes "dependencies")) parts.1 };
+      items = record { before = parts.0; items = or_right (bytes_eq k (codes "items")) (bytes_eq k (codes "dependencies") || false) (or_left (bytes_eq k (codes "dependencies")) false parts.1) };
       in_map = or_right (is_one_of k (row d).maps) (is_before_2020 d && bytes_eq k (codes "dependencies")) e;
     }
 says d k false false false false false false b v a m i e =

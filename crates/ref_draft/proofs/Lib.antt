@@ -14,3 +14,4 @@ pub mod Unique
 pub mod Apart
 pub mod Agreement
 pub mod Beginnings
+pub mod Turned

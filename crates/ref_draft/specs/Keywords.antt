@@ -11,7 +11,7 @@ use Rattle.ref_draft.specs.declared.spec.Holding.TheVariants.{Whole, WholeObject
 
 -- whether a keyword is one of a list
 abbrev pub is_one_of : List ℕ → List (List ℕ) → Bool
-is_one_of keyword keywords = list_any (λ k. bytes_eq k keyword) keywords
+is_one_of keyword keywords = list_any (λ k. bytes_eq keyword k) keywords
 
 -- A row: the keywords whose value is a schema, those whose arrays have schemas as elements, and those whose objects
 -- have schemas as members
@@ -76,23 +76,13 @@ is_before_2020 _ = true
 
 -- `items` or `dependencies`
 abbrev pub is_items_or_dependencies : List ℕ → Bool
-is_items_or_dependencies keyword = bytes_eq keyword (codes "items") || bytes_eq keyword (codes "dependencies")
+is_items_or_dependencies keyword = is_one_of keyword (codes "items" ∷ codes "dependencies" ∷ [])
 
 -- the value keywords that may have a boolean in place of a schema (Draft 4 Validation, 5.3.1 and 5.4.4): in later
 -- drafts a boolean is a schema
 abbrev pub boolean_or_schema : Draft → List (List ℕ)
 boolean_or_schema Draft4 = map codes ("additionalItems" ∷ "additionalProperties" ∷ [])
 boolean_or_schema _ = []
-
--- How a keyword holds its subschemas before 2020-12, by whether the columns of a row have it
-abbrev pub holding_before_2020 : (value array in_map : Bool) → List ℕ → Holding
-holding_before_2020 value array in_map keyword =
-    if value then Whole
-    else (if array then Elements
-    else (if in_map then Members
-    else (if bytes_eq keyword (codes "items") then ElementsOrWhole
-    else (if bytes_eq keyword (codes "dependencies") then ObjectMembers
-    else Nothing))))
 
 -- How a keyword of a draft holds its subschemas. Before 2020-12 `items` is an array of schemas or one schema, and the
 -- members of `dependencies` are schemas where they are objects.

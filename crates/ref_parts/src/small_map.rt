@@ -242,9 +242,7 @@ impl<K: Eq + Hash + fmt::Debug, V: fmt::Debug, const N: usize> fmt::Debug for Sm
                 }
             }
             Form::Large(map) => {
-                for (key, value) in map {
-                    pairs.entry(key, value);
-                }
+                pairs.entries(map);
             }
         }
         pairs.finish()

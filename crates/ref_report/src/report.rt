@@ -58,6 +58,7 @@ pub fn fault_report(alloc: Global, of: &str, error: Error) -> Result<Report, All
     report_on(alloc, of, &error)
 }
 
+// The same of an error that is lent.
 fn report_on(alloc: Global, of: &str, error: &Error) -> Result<Report, AllocError>
     ensures { IfOk result (λ r. IsReportOn of.now error.now (report_view r)) }
 {

@@ -1,45 +1,42 @@
 //! The keywords of Draft 2020-12.
 ghost use Rattle.std.specs.Prelude.{◌≡◌};
-ghost use Rattle.ref_draft.specs.Keywords.{holding};
+ghost use Rattle.ref_draft.specs.Keywords.{holding, is_one_of, row_2020};
 
 use crate::draft::Draft;
 use crate::spec::Holding;
-
-const VALUES: [&str; 11] = [
-    "additionalProperties",
-    "contains",
-    "contentSchema",
-    "else",
-    "if",
-    "items",
-    "not",
-    "propertyNames",
-    "then",
-    "unevaluatedItems",
-    "unevaluatedProperties",
-];
-
-const ARRAYS: [&str; 4] = ["allOf", "anyOf", "oneOf", "prefixItems"];
-
-const MAPS: [&str; 5] = [
-    "$defs",
-    "definitions",
-    "dependentSchemas",
-    "patternProperties",
-    "properties",
-];
+use crate::spec::columns::{is_array, is_map};
 
 // How a keyword holds its subschemas.
 pub(crate) fn holding(keyword: &str) -> Holding
     ensures { result ≡ holding Draft.Draft202012 keyword.now }
 {
-    if VALUES.contains(&keyword) {
+    if is_value(keyword) {
         Holding::Whole
-    } else if ARRAYS.contains(&keyword) {
+    } else if is_array(keyword) {
         Holding::Elements
-    } else if MAPS.contains(&keyword) {
+    } else if is_map(keyword) {
         Holding::Members
     } else {
         Holding::Nothing
     }
+}
+
+// Those whose value is one.
+fn is_value(keyword: &str) -> bool
+    ensures { result ≡ is_one_of keyword.now row_2020.values }
+{
+    matches!(
+        keyword,
+        "additionalProperties"
+            | "contains"
+            | "contentSchema"
+            | "else"
+            | "if"
+            | "items"
+            | "not"
+            | "propertyNames"
+            | "then"
+            | "unevaluatedItems"
+            | "unevaluatedProperties"
+    )
 }

@@ -1,44 +1,31 @@
 //! The keywords of Draft 4.
 ghost use Rattle.std.specs.Prelude.{◌≡◌};
-ghost use Rattle.ref_draft.specs.Keywords.{holding};
+ghost use Rattle.ref_draft.specs.Keywords.{boolean_or_schema, holding, is_one_of};
 
 use crate::draft::Draft;
-use crate::spec::{Holding, before_2020};
-
-// Under these a boolean is no schema.
-const OBJECTS: [&str; 2] = ["additionalItems", "additionalProperties"];
-
-const VALUES: [&str; 11] = [
-    "additionalItems",
-    "additionalProperties",
-    "contains",
-    "contentSchema",
-    "else",
-    "if",
-    "not",
-    "propertyNames",
-    "then",
-    "unevaluatedItems",
-    "unevaluatedProperties",
-];
-
-const ARRAYS: [&str; 4] = ["allOf", "anyOf", "oneOf", "prefixItems"];
-
-const MAPS: [&str; 5] = [
-    "$defs",
-    "definitions",
-    "dependentSchemas",
-    "patternProperties",
-    "properties",
-];
+use crate::spec::columns::{is_array, is_map, is_value};
+use crate::spec::{Holding, items_or_dependencies};
 
 // How a keyword holds its subschemas.
 pub(crate) fn holding(keyword: &str) -> Holding
     ensures { result ≡ holding Draft.Draft4 keyword.now }
 {
-    if OBJECTS.contains(&keyword) {
+    if is_boolean_or_schema(keyword) {
         Holding::WholeObject
+    } else if is_value(keyword) {
+        Holding::Whole
+    } else if is_array(keyword) {
+        Holding::Elements
+    } else if is_map(keyword) {
+        Holding::Members
     } else {
-        before_2020(keyword, &VALUES, &ARRAYS, &MAPS)
+        items_or_dependencies(keyword)
     }
+}
+
+// Those that may have a boolean, which is no schema, in place of one.
+fn is_boolean_or_schema(keyword: &str) -> bool
+    ensures { result ≡ is_one_of keyword.now (boolean_or_schema Draft.Draft4) }
+{
+    matches!(keyword, "additionalItems" | "additionalProperties")
 }

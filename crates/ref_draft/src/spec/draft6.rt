@@ -1,25 +1,32 @@
 //! The keywords of Draft 6.
 ghost use Rattle.std.specs.Prelude.{◌≡◌};
-ghost use Rattle.ref_draft.specs.Keywords.{holding};
+ghost use Rattle.ref_draft.specs.Keywords.{holding, is_one_of, row_6};
 
 use crate::draft::Draft;
-use crate::spec::{Holding, before_2020};
-
-const VALUES: [&str; 5] = [
-    "additionalItems",
-    "additionalProperties",
-    "contains",
-    "not",
-    "propertyNames",
-];
-
-const ARRAYS: [&str; 3] = ["allOf", "anyOf", "oneOf"];
-
-const MAPS: [&str; 3] = ["definitions", "patternProperties", "properties"];
+use crate::spec::columns::{is_array_before_2020, is_map_before_2019};
+use crate::spec::{Holding, items_or_dependencies};
 
 // How a keyword holds its subschemas.
 pub(crate) fn holding(keyword: &str) -> Holding
     ensures { result ≡ holding Draft.Draft6 keyword.now }
 {
-    before_2020(keyword, &VALUES, &ARRAYS, &MAPS)
+    if is_value(keyword) {
+        Holding::Whole
+    } else if is_array_before_2020(keyword) {
+        Holding::Elements
+    } else if is_map_before_2019(keyword) {
+        Holding::Members
+    } else {
+        items_or_dependencies(keyword)
+    }
+}
+
+// Those whose value is one.
+fn is_value(keyword: &str) -> bool
+    ensures { result ≡ is_one_of keyword.now row_6.values }
+{
+    matches!(
+        keyword,
+        "additionalItems" | "additionalProperties" | "contains" | "not" | "propertyNames"
+    )
 }

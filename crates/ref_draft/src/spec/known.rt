@@ -35,15 +35,6 @@ const IN_ALL: [&str; 30] = [
     "uniqueItems",
 ];
 
-const SINCE_6: [&str; 6] = [
-    "$id",
-    "const",
-    "contains",
-    "propertyNames",
-    "contentEncoding",
-    "contentMediaType",
-];
-
 const SINCE_2019: [&str; 11] = [
     "contentSchema",
     "$anchor",
@@ -69,21 +60,24 @@ pub(crate) fn in_all(keyword: &str) -> bool
 pub(crate) fn in_4(keyword: &str) -> bool
     ensures { result ≡ is_one_of keyword.now known_in_4 }
 {
-    keyword == "id"
+    matches!(keyword, "id")
 }
 
 // In Draft 6 and later.
 pub(crate) fn since_6(keyword: &str) -> bool
     ensures { result ≡ is_one_of keyword.now known_since_6 }
 {
-    SINCE_6.contains(&keyword)
+    matches!(
+        keyword,
+        "$id" | "const" | "contains" | "propertyNames" | "contentEncoding" | "contentMediaType"
+    )
 }
 
 // In Draft 7 and later.
 pub(crate) fn since_7(keyword: &str) -> bool
     ensures { result ≡ is_one_of keyword.now known_since_7 }
 {
-    ["else", "if", "then"].contains(&keyword)
+    matches!(keyword, "else" | "if" | "then")
 }
 
 // In 2019-09 and later.
@@ -97,7 +91,7 @@ fn since_2019(keyword: &str) -> bool
 pub(crate) fn since_2020(keyword: &str) -> bool
     ensures { result ≡ is_one_of keyword.now known_since_2020 }
 {
-    ["$dynamicAnchor", "$dynamicRef", "prefixItems"].contains(&keyword)
+    matches!(keyword, "$dynamicAnchor" | "$dynamicRef" | "prefixItems")
 }
 
 // In 2019-09.

@@ -1,11 +1,10 @@
 //! How the keywords of a draft hold their subschemas.
-ghost use Rattle.std.specs.Prelude.{◌≡◌, ℕ, List};
-ghost use Rattle.std.specs.List.{list_any};
+ghost use Rattle.std.specs.Prelude.{◌≡◌, codes, if◌then◌else◌};
 ghost use Rattle.std.specs.Str.{bytes_eq};
-ghost use Rattle.std.specs.Borrow.{Bor};
-ghost use Rattle.ref_draft.specs.Keywords.{holding_before_2020};
+ghost use Rattle.ref_draft.specs.declared.spec.Holding.TheVariants as how;
 
 pub mod children;
+pub(crate) mod columns;
 pub(crate) mod draft201909;
 pub(crate) mod draft202012;
 pub(crate) mod draft4;
@@ -35,23 +34,14 @@ pub(crate) enum Holding {
     Nothing,
 }
 
-// How a keyword of a draft before 2020-12 holds its subschemas, by the keywords whose value is one, those whose arrays
-// have some, and those whose objects do.
-fn before_2020(keyword: &str, values: &[&str], arrays: &[&str], maps: &[&str]) -> Holding
-    ensures { let has = list_any (λ (k : Bor (List ℕ)). bytes_eq k.now keyword.now) in
-        result ≡ holding_before_2020 (has values.now) (has arrays.now) (has maps.now) keyword.now }
+// How a keyword of a draft before 2020-12 holds its subschemas, beside those that hold them in one way alone.
+fn items_or_dependencies(keyword: &str) -> Holding
+    ensures { result ≡ (if bytes_eq keyword.now (codes "items") then how.ElementsOrWhole
+        else (if bytes_eq keyword.now (codes "dependencies") then how.ObjectMembers else how.Nothing)) }
 {
-    if values.contains(&keyword) {
-        Holding::Whole
-    } else if arrays.contains(&keyword) {
-        Holding::Elements
-    } else if maps.contains(&keyword) {
-        Holding::Members
-    } else if keyword == "items" {
-        Holding::ElementsOrWhole
-    } else if keyword == "dependencies" {
-        Holding::ObjectMembers
-    } else {
-        Holding::Nothing
+    match keyword {
+        "items" => Holding::ElementsOrWhole,
+        "dependencies" => Holding::ObjectMembers,
+        _ => Holding::Nothing,
     }
 }
