@@ -3,6 +3,7 @@ ghost use Rattle.std.specs.Prelude.{◌≡◌};
 ghost use Rattle.ref_draft.specs.Keywords.{is_one_of, row_4, row_6};
 
 // In Drafts 4 and 2019-09, those whose value is one.
+#[inline(always)]
 pub(crate) fn is_value(keyword: &str) -> bool
     ensures { result ≡ is_one_of keyword.now row_4.values }
 {
@@ -23,6 +24,7 @@ pub(crate) fn is_value(keyword: &str) -> bool
 }
 
 // In Drafts 6, 7 and 2019-09, those whose arrays have some.
+#[inline(always)]
 pub(crate) fn is_array_before_2020(keyword: &str) -> bool
     ensures { result ≡ is_one_of keyword.now row_6.arrays }
 {
@@ -30,6 +32,7 @@ pub(crate) fn is_array_before_2020(keyword: &str) -> bool
 }
 
 // In Drafts 4 and 2020-12, those whose arrays have some.
+#[inline(always)]
 pub(crate) fn is_array(keyword: &str) -> bool
     ensures { result ≡ is_one_of keyword.now row_4.arrays }
 {
@@ -37,6 +40,7 @@ pub(crate) fn is_array(keyword: &str) -> bool
 }
 
 // In Drafts 6 and 7, those whose objects have some.
+#[inline(always)]
 pub(crate) fn is_map_before_2019(keyword: &str) -> bool
     ensures { result ≡ is_one_of keyword.now row_6.maps }
 {
@@ -44,6 +48,7 @@ pub(crate) fn is_map_before_2019(keyword: &str) -> bool
 }
 
 // In Drafts 4, 2019-09 and 2020-12, those whose objects have some.
+#[inline(always)]
 pub(crate) fn is_map(keyword: &str) -> bool
     ensures { result ≡ is_one_of keyword.now row_4.maps }
 {

@@ -35,6 +35,17 @@ const IN_ALL: [&str; 30] = [
     "uniqueItems",
 ];
 
+const SINCE_6: [&str; 6] = [
+    "$id",
+    "const",
+    "contains",
+    "propertyNames",
+    "contentEncoding",
+    "contentMediaType",
+];
+
+const SINCE_7: [&str; 3] = ["else", "if", "then"];
+
 const SINCE_2019: [&str; 11] = [
     "contentSchema",
     "$anchor",
@@ -48,6 +59,8 @@ const SINCE_2019: [&str; 11] = [
     "unevaluatedItems",
     "unevaluatedProperties",
 ];
+
+const SINCE_2020: [&str; 3] = ["$dynamicAnchor", "$dynamicRef", "prefixItems"];
 
 // In every draft.
 pub(crate) fn in_all(keyword: &str) -> bool
@@ -67,17 +80,14 @@ pub(crate) fn in_4(keyword: &str) -> bool
 pub(crate) fn since_6(keyword: &str) -> bool
     ensures { result ≡ is_one_of keyword.now known_since_6 }
 {
-    matches!(
-        keyword,
-        "$id" | "const" | "contains" | "propertyNames" | "contentEncoding" | "contentMediaType"
-    )
+    SINCE_6.contains(&keyword)
 }
 
 // In Draft 7 and later.
 pub(crate) fn since_7(keyword: &str) -> bool
     ensures { result ≡ is_one_of keyword.now known_since_7 }
 {
-    matches!(keyword, "else" | "if" | "then")
+    SINCE_7.contains(&keyword)
 }
 
 // In 2019-09 and later.
@@ -91,7 +101,7 @@ fn since_2019(keyword: &str) -> bool
 pub(crate) fn since_2020(keyword: &str) -> bool
     ensures { result ≡ is_one_of keyword.now known_since_2020 }
 {
-    matches!(keyword, "$dynamicAnchor" | "$dynamicRef" | "prefixItems")
+    SINCE_2020.contains(&keyword)
 }
 
 // In 2019-09.

@@ -1,0 +1,7 @@
+use Rattle.std.proofs.Common.{◌∙◌}
+use Rattle.ref_draft.specs.Keywords.{known_since_6}
+use Rattle.ref_draft.proofs.Turned.{turned}
+use Rattle.ref_draft.proofs.spec.known.since_6.Goals as goal
+
+pub returns : goal.returns
+returns c = c.contains.ensures.value ∙ turned c.args.keyword.now known_since_6
