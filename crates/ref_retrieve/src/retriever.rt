@@ -104,7 +104,11 @@ impl MapRetriever {
 fn last_of(alloc: Global, pairs: Vec<(Uri, Value)>) -> Result<HashMap<Uri, Value>, AllocError>
     ensures { IfOk result (IsFromIterResult bytes_eq pairs.items) }
 {
-    pairs.into_iter().collect(alloc)
+    let mut documents = HashMap::new(alloc);
+    for (uri, value) in pairs {
+        documents.insert(uri, value)?;
+    }
+    Ok(documents)
 }
 
 impl Retrieve for MapRetriever {
