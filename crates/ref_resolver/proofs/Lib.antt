@@ -1,3 +1,4 @@
+pub mod Held
 pub mod Locating
 pub mod Faults
 pub mod Numbers

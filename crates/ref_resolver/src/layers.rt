@@ -1,14 +1,12 @@
 //! The documents that references lead into, layer by layer.
 ghost use Rattle.std.specs.Prelude.{◌≡◌, ◌∷◌, map, IfOk, IfErr, IfSome, MatchOption, IsSome, is_some, None, Ok};
-ghost use Rattle.std.specs.List.{Contains};
 ghost use Rattle.ref_uri.specs.Targets.{against};
 ghost use Rattle.ref_world.specs.Resources.{means};
 ghost use Rattle.ref_world.specs.Anchors.{named};
-ghost use Rattle.ref_world.specs.Cached.{pairs};
 ghost use Rattle.ref_world.specs.Fault.{as_invalid_uri};
 ghost use Rattle.ref_retrieve.specs.Errors.{IsFaultOf};
 ghost use Rattle.ref_resolver.specs.Located.{IsMeant, IsNamed};
-ghost use Rattle.ref_resolver.specs.Layered.{world_in, own};
+ghost use Rattle.ref_resolver.specs.Layered.{world_in, IsHeld};
 
 use crate::located::{
     Located, LocatedName, is_resource_above, named_above, named_in, place_of, resolved_above,
@@ -82,7 +80,7 @@ impl<'r> Layers<'r> {
     /// The URI that a text means against a base, where that was resolved when the documents were prepared. A look-up for each
     /// layer, up to the first that has it; takes no memory.
     pub fn resolved_uri(&self, base: &UriRef<'_>, uri: &str) -> Option<&'r Rc<Uri>>
-        ensures held { Contains (pairs (own (world_in self.now))) (base.now, uri.now) → IsSome result }
+        ensures held { IsHeld (world_in self.now) base.now uri.now → IsSome result }
         ensures value { IfSome result (λ u. against base.now uri.now ≡ Ok u.now.value) }
     {
         match self.own.resolved(base.as_str(), uri) {

@@ -1,11 +1,12 @@
 //! Places that were looked up, with their values.
-ghost use Rattle.std.specs.Prelude.{◌≡◌, ℕ, List, Option, map, option_map, MatchOption, IfSome, is_some, None, Ok};
+ghost use Rattle.std.specs.Prelude.{◌≡◌, ℕ, List, Option, map, option_map, MatchOption, IfSome, IsSome, is_some, None, Ok};
 ghost use Rattle.ref_uri.specs.Targets.{against};
 ghost use Rattle.ref_world.specs.Places.{Place};
 ghost use Rattle.ref_world.specs.Resources.{last_under, resources, means};
 ghost use Rattle.ref_world.specs.Anchors.{last_named, names, named};
 ghost use Rattle.ref_index.specs.Found.{IsEntryOf};
 ghost use Rattle.ref_index.specs.Index.{IsFoundWhere};
+ghost use Rattle.ref_resolver.specs.Layered.{IsHeld};
 ghost use Rattle.ref_resolver.specs.Located.{IsLocated, IsMeant, IsNamed};
 
 use ref_index::{Entry, Index, NamedEntry};
@@ -115,6 +116,7 @@ pub(crate) fn resolved_above<'r>(
     base: &str,
     uri: &str,
 ) -> Option<&'r Rc<Uri>>
+    ensures held { IsHeld (map (λ p. p.now) parents.now) base.now uri.now → IsSome result }
     ensures value { IfSome result (λ u. against base.now uri.now ≡ Ok u.now.value) }
 {
     for parent in parents {

@@ -1,5 +1,5 @@
 //! Where references lead from a base URI.
-ghost use Rattle.std.specs.Prelude.{◌≡◌, ℕ, List, true, [], ◌++◌, codes, if◌then◌else◌, IfOk, IfErr, IfSome, MatchOption, Ok, Err, None};
+ghost use Rattle.std.specs.Prelude.{◌≡◌, ℕ, List, Some, true, [], ◌++◌, codes, if◌then◌else◌, IfOk, IfErr, IfSome, MatchOption, Ok, Err, None};
 ghost use Rattle.std.specs.Fmt.{WritesOnOk};
 ghost use Rattle.std.specs.List.{join_by};
 ghost use Rattle.std.specs.Result.{result_ok};
@@ -11,6 +11,7 @@ ghost use Rattle.ref_draft.specs.Anchors.{Dynamic};
 ghost use Rattle.ref_draft.specs.Views.{resource_ref};
 ghost use Rattle.ref_world.specs.Lookup.{moved, in_subresource, lookup, named_found};
 ghost use Rattle.ref_retrieve.specs.Errors.{IsFaultOf};
+ghost use Rattle.ref_world.specs.Places.{Place};
 ghost use Rattle.ref_world.specs.Resources.{means};
 ghost use Rattle.ref_resolver.specs.Layered.{world_in};
 ghost use Rattle.ref_resolver.specs.Located.{IsLocated, IsMeant};
@@ -171,7 +172,8 @@ impl<'r> Resolver<'r> {
     /// means no place; as `InvalidPercentEncoding`, `InvalidArrayIndex` and `PointerToNowhere` for a pointer that leads
     /// nowhere; as `NoSuchAnchor` and, where there is a `/` in it, `InvalidAnchor` for a name that nothing has; and as
     /// `Memory`. Look-ups in tables, one for each part of a pointer, and for a dynamic anchor one for each URI of the scope;
-    /// no value is copied. `#` takes no memory where the scope isn't empty and the base means a place.
+    /// no value is copied. By the code, `#` takes no memory where the scope isn't empty and the base means a place; no clause says
+    /// so, but [`Resolver::at_base`] takes none by its signature.
     pub fn lookup(&self, alloc: Global, reference: &str) -> Result<Resolved<'r>, Error>
         ensures ok { IfOk result (λ found. lookup (world_of self.now) (resolver_of self.now) reference.now ≡ Ok (found_of found)) }
         ensures world { IfOk result (λ found. world_found found ≡ world_of self.now) }
@@ -193,6 +195,15 @@ impl<'r> Resolver<'r> {
             Some(text) => at_pointer(alloc, resolver, place, fragment, text),
             None => Ok(at_value(place.value, place.entry.draft, resolver)),
         }
+    }
+
+    /// The value that the base means, and its draft: what [`Resolver::lookup`] of `#` finds. `None` where it means no place. A
+    /// look-up for each layer, up to the first that has it; takes no memory.
+    pub fn at_base(&self) -> Option<(&'r Value, Draft)>
+        ensures value { MatchOption result (means (world_of self.now) (resolver_of self.now).base ≡ None) (λ found. (place : Place) × (means (world_of self.now) (resolver_of self.now).base ≡ Some place) × (view found.0.now ≡ place.value) × (found.1 ≡ place.draft)) }
+    {
+        let place = self.layers.resource(self.base.as_str())?;
+        Some((place.value, place.entry.draft))
     }
 
     // Where a name leads under a URI.

@@ -1,5 +1,5 @@
 -- What a map has under a URI, after pairs were put into it in turn, is the last of them.
-use Rattle.std.proofs.Common.{◌≡◌, refl, ℕ, Bool, true, false, cond, List, [], ◌∷◌, filter, bytes_eq, Option, Some, None, option_map}
+use Rattle.std.proofs.Common.{◌≡◌, refl, ap, ℕ, Bool, true, false, cond, List, [], ◌∷◌, filter, bytes_eq, Option, Some, None, option_map}
 use Rattle.std.specs.List.{last_or}
 use Rattle.std.specs.Map.{update, update_all}
 use Rattle.serde_json.specs.Data.{Data}
@@ -22,6 +22,12 @@ last_put uri (p ∷ ps) before o same =
     either_way (bytes_eq p.0 uri) (p.0, view p.1) (filter (λ e. bytes_eq e.0 uri) (trees_of ps)) o (option_map view (update_all bytes_eq next ps uri))
     (λ is. last_put uri ps next (Some (p.0, view p.1)) (rw is refl))
     (λ is. last_put uri ps next o (rw is same))
+
+-- maps with the same values have them still once the same pairs were put
+pub put_alike : (f g : List ℕ → Option Value) (pairs : List (List ℕ × Value)) (uri : List ℕ) → ((q : List ℕ) → f q ≡ g q) → update_all bytes_eq f pairs uri ≡ update_all bytes_eq g pairs uri
+put_alike f g [] uri same = same uri
+put_alike f g (p ∷ ps) uri same =
+    put_alike (update bytes_eq f p.0 (Some p.1)) (update bytes_eq g p.0 (Some p.1)) ps uri (λ q. ap (cond (bytes_eq p.0 q) (Some p.1)) (same q))
 
 -- it is the last of them as a tree
 pub put_in_turn : (uri : List ℕ) (pairs : List (List ℕ × Value)) → option_map view (update_all bytes_eq (λ _. None) pairs uri) ≡ option_map (λ e. e.1) (last_under uri (trees_of pairs))

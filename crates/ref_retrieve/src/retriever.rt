@@ -1,9 +1,10 @@
 //! Where documents come from that are wanted and were not added.
-ghost use Rattle.std.specs.Prelude.{◌≡◌, ℕ, List, IfOk, IfErr, bytes_eq};
-ghost use Rattle.std.specs.HashMap.{IsFromIterResult};
+ghost use Rattle.std.specs.Prelude.{◌≡◌, ℕ, List, Some, OnOk, IfOk, IfErr, bytes_eq};
+ghost use Rattle.std.specs.HashMap.{get};
+ghost use Rattle.std.specs.Map.{update};
 ghost use Rattle.serde_json.specs.Data.{Data};
 ghost use Rattle.serde_json.specs.View.{view};
-ghost use Rattle.ref_retrieve.specs.Retrieving.{IfRefused};
+ghost use Rattle.ref_retrieve.specs.Retrieving.{IfRefused, AreLast};
 
 use crate::error::{Reason, RetrieveError};
 use ref_uri::Uri;
@@ -100,13 +101,21 @@ impl MapRetriever {
     }
 }
 
+// Puts a value under a URI, in the place of the one there. Collecting the pairs would go on where the map can't grow.
+fn put(documents: &mut HashMap<Uri, Value>, uri: Uri, value: Value) -> Result<(), AllocError>
+    ensures { OnOk result ((wanted : List ℕ) → get bytes_eq documents.new wanted ≡ update bytes_eq (get bytes_eq documents.old) uri (Some value) wanted) }
+{
+    let _before = documents.insert(uri, value)?;
+    Ok(())
+}
+
 // A map with the last value under each URI.
 fn last_of(alloc: Global, pairs: Vec<(Uri, Value)>) -> Result<HashMap<Uri, Value>, AllocError>
-    ensures { IfOk result (IsFromIterResult bytes_eq pairs.items) }
+    ensures { IfOk result (λ documents. AreLast documents pairs.items) }
 {
     let mut documents = HashMap::new(alloc);
     for (uri, value) in pairs {
-        documents.insert(uri, value)?;
+        put(&mut documents, uri, value)?;
     }
     Ok(documents)
 }

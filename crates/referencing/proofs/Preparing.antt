@@ -1,5 +1,5 @@
 -- What outcomes say of a registry and of the limit.
-use Rattle.std.proofs.Common.{◌≡◌, ℕ, List, Ok, sym, subst}
+use Rattle.std.proofs.Common.{◌≡◌, ℕ, List, Ok, Err, sym, subst}
 use Rattle.serde_json.specs.Data.{Data}
 use Rattle.ref_draft.specs.declared.draft.Draft.{Draft}
 use Rattle.ref_world.specs.World.{Layer, World}
@@ -11,7 +11,8 @@ use Rattle.ref_world.proofs.Closure.{outcome_laws}
 use Rattle.ref_retrieve.specs.declared.error.Error.{Error}
 use Rattle.ref_retrieve.specs.declared.error.Error.TheVariants as error
 use Rattle.ref_index.specs.Retrieval.{given, IsFaultyOutcome}
-use Rattle.referencing.specs.Prepared.{LimitIsUsedUp}
+use Rattle.referencing.specs.Prepared.{LimitIsUsedUp, AreComplete}
+use Rattle.referencing.specs.Listed.{IsMemory}
 
 -- what is given, told otherwise
 pub same_given : (P : Given → Type 0) (may_answer : List ℕ → Data → Type 0) (may_refuse : List ℕ → List ℕ → Type 0) (limit : ℕ) (d d' : Draft) (ps ps' : World) (ds ds' : Layer) → d ≡ d' → ps ≡ ps' → ds ≡ ds'
@@ -45,3 +46,25 @@ limit_of g (error.RetrievalLimit uri limit) (fault.InvalidUri a, outcome, says) 
 limit_of g (error.RetrievalLimit uri limit) (fault.UnknownSpecification a, outcome, says) = absurd says
 limit_of g (error.RetrievalLimit uri limit) (fault.CircularMetaschema a, outcome, says) = absurd says
 limit_of g (error.Memory memory) is = tt
+
+-- ---- documents without a fault and an open want
+
+-- no fault is an outcome of them
+no_other : (g : Given) (f : Fault) → AreComplete g → IsOutcome g (Err f) → ⊥
+no_other g f complete outcome = let e : Err f ≡ Ok g.documents = (outcome_laws g).documents (Err f) complete.0 complete.1 outcome in cc
+
+pub memory_alone : (g : Given) (e : Error) → AreComplete g → IsFaultyOutcome g e → IsMemory e
+memory_alone g (error.Unretrievable uri source) complete (f, outcome, says) = absurd (no_other g f complete outcome)
+memory_alone g (error.PointerToNowhere pointer) complete (f, outcome, says) = absurd (no_other g f complete outcome)
+memory_alone g (error.InvalidPercentEncoding pointer) complete (f, outcome, says) = absurd (no_other g f complete outcome)
+memory_alone g (error.InvalidArrayIndex pointer index) complete (f, outcome, says) = absurd (no_other g f complete outcome)
+memory_alone g (error.NoSuchAnchor anchor) complete (f, outcome, says) = absurd (no_other g f complete outcome)
+memory_alone g (error.InvalidAnchor anchor) complete (f, outcome, says) = absurd (no_other g f complete outcome)
+memory_alone g (error.InvalidUri uri) complete (f, outcome, says) = absurd (no_other g f complete outcome)
+memory_alone g (error.UnknownSpecification specification) complete (f, outcome, says) = absurd (no_other g f complete outcome)
+memory_alone g (error.CircularMetaschema uri) complete (f, outcome, says) = absurd (no_other g f complete outcome)
+memory_alone g (error.RetrievalLimit uri limit) complete (f, outcome, says) = absurd (no_other g f complete outcome)
+memory_alone g (error.Memory memory) complete is = tt
+
+pub documents_alone : (g : Given) (layer : Layer) → AreComplete g → IsOutcome g (Ok layer) → layer ≡ g.documents
+documents_alone g layer complete outcome = let e : Ok layer ≡ Ok g.documents = (outcome_laws g).documents (Ok layer) complete.0 complete.1 outcome in cc

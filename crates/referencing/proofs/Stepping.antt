@@ -1,10 +1,11 @@
 -- Steps that are followed one by one.
-use Rattle.std.proofs.Common.{◌≡◌, ℕ, zero, suc, arith, ◌+◌, ◌<◌, ◌≤◌, List, [], ◌∷◌, length, map, drop, get_or, None, Result, Ok, Err, refl, sym, ap, ◌∙◌, add-one}
+use Rattle.std.proofs.Common.{◌≡◌, ℕ, zero, suc, arith, ◌+◌, ◌<◌, ◌≤◌, List, [], ◌∷◌, ◌++◌, length, map, drop, get_or, None, Result, Ok, Err, refl, sym, ap, ◌∙◌, add-one}
 use Rattle.std.proofs.Math.Seq.{drop-cons}
 use Rattle.ref_world.specs.Results.{◌>>=◌}
 use Rattle.ref_world.specs.World.{World}
 use Rattle.ref_world.specs.Fault.{Fault}
 use Rattle.ref_world.specs.Lookup.{Resolver}
+use Rattle.ref_world.specs.Follow as world
 use Rattle.ref_world.specs.Follow.{Followed, stepped, numbered, followed_from, followed}
 use Rattle.ref_retrieve.specs.declared.error.Error.{Error}
 use Rattle.ref_retrieve.specs.declared.error.Error.TheVariants as error
@@ -67,3 +68,23 @@ pub followed_start : (w : World) (base : List ℕ) (r : Resolver) (steps : List 
     → followed w base (map step_of steps) ≡ followed_from w 0 (record { last = None; resolver = r }) (map step_of (drop 0 steps))
 unfolding followed
 followed_start w base r steps is = sym (ap (λ r. followed_from w 0 (record { last = None; resolver = r }) (map step_of steps)) is)
+
+-- ---- the steps before one
+
+after : (r : Result Followed (ℕ × Fault)) (n : ℕ) (h : Followed) (s : world.Step) (w : World) (g : Followed) → r ≡ Ok g → stepped w g s ≡ Ok h → (r >>= λ x. numbered n (stepped w x s)) ≡ Ok h
+after r n h s w g before is = ap (λ x. x >>= λ y. numbered n (stepped w y s)) before ∙ ap (numbered n) is
+
+only : {E A : Type 0} (r : Result A E) → (r >>= λ x. Ok x) ≡ r
+only (Ok x) = refl
+only (Err e) = refl
+
+moved_in : (r : Result Followed (ℕ × Fault)) (f : Followed → Result Followed (ℕ × Fault)) (g h : Followed → Result Followed (ℕ × Fault)) → ((x : Followed) → f x ≡ (g x >>= h)) → (r >>= f) ≡ ((r >>= g) >>= h)
+moved_in (Ok x) f g h same = same x
+moved_in (Err e) f g h same = refl
+
+pushed : (w : World) (n : ℕ) (f : Followed) (steps : List world.Step) (s : world.Step)
+    → followed_from w n f (steps ++ s ∷ []) ≡ (followed_from w n f steps >>= λ g. numbered (n + length steps) (stepped w g s))
+pushed w n f [] s = only (numbered n (stepped w f s)) ∙ ap (λ k. numbered k (stepped w f s)) (omega arith)
+pushed w n f (t ∷ ts) s =
+    moved_in (numbered n (stepped w f t)) (λ g. followed_from w (n + 1) g (ts ++ s ∷ [])) (λ g. followed_from w (n + 1) g ts) (λ g. numbered (n + length (t ∷ ts)) (stepped w g s))
+    (λ x. pushed w (n + 1) x ts s ∙ ap (λ k. followed_from w (n + 1) x ts >>= λ g. numbered k (stepped w g s)) (omega arith))

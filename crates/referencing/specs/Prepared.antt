@@ -1,10 +1,15 @@
 -- What holds of every registry, and what it answers of URIs.
-use Rattle.std.specs.Prelude.{◌≡◌, ℕ, List, [], ◌∷◌, Bool, false, is_some, string_bytes, Ok, ⊤}
+use Rattle.std.specs.Prelude.{◌≡◌, ℕ, List, [], ◌∷◌, Bool, false, is_some, string_bytes, codes, decimal, ◌++◌, ◌-◌, length, Some, Ok, Err, ⊤}
+use Rattle.std.specs.List.{Contains}
 use Rattle.serde_json.specs.Data.{Data}
 use Rattle.std.specs.Option.{option_map_or}
 use Rattle.std.specs.Result.{result_ok}
 use Rattle.ref_uri.specs.Targets.{parsed}
-use Rattle.ref_world.specs.World.{Layer, World}
+use Rattle.ref_draft.specs.Schema.{text_under}
+use Rattle.ref_world.specs.World.{Document, Layer, World}
+use Rattle.ref_world.specs.Places.{Place, places}
+use Rattle.ref_world.specs.Fault.{Unretrievable}
+use Rattle.ref_world.specs.Lookup.{Resolver, lookup}
 use Rattle.ref_world.specs.Resources.{means}
 use Rattle.ref_world.specs.Wants.{faults, open_wants}
 use Rattle.ref_world.specs.Preparing.{Given, IsOutcome}
@@ -21,6 +26,18 @@ pub record IsPrepared (world : World) : Type 0 where
   pub no_fault : faults (own world) ≡ []
   pub no_want : open_wants world (own world) ≡ []
 
+-- no `$ref` of an own place is unretrievable: looked up from the place's base, with any dynamic scope, its text leads to a
+-- value, or to another fault
+abbrev pub ReferencesAreRetrieved : World → Type 0
+ReferencesAreRetrieved world =
+    (d : Document) (place : Place) (resolver : Resolver) (reference : List ℕ)
+    → Contains (own world) d → Contains (places d) place → place.base ≡ Ok resolver.base → text_under (codes "$ref") place.value ≡ Some reference
+    → (uri source : List ℕ) → ¬ (lookup world resolver reference ≡ Err (Unretrievable uri source))
+
+-- what a registry shows for debugging: how many own documents and how many parents it has
+abbrev pub registry_text : World → List ℕ
+registry_text world = codes "Registry { documents: " ++ decimal (length (own world)) ++ codes ", parents: " ++ decimal (length world - 1) ++ codes " }"
+
 -- whether a text is a URI that means a place
 abbrev pub contains_resource : World → List ℕ → Bool
 contains_resource world text = option_map_or (λ uri. is_some (means world uri)) (result_ok (parsed text)) false
@@ -33,6 +50,10 @@ given_of may_answer may_refuse b = given_of_builder (retriever_of may_answer may
 -- retrieved for them, and nothing in it is faulty or wanted
 abbrev pub IsPreparedOf : Given → World → Type 0
 IsPreparedOf given world = (layer : Layer) × IsOutcome given (Ok layer) × IsReady given layer × (world ≡ layer ∷ given.parents)
+
+-- the documents that are given have no fault and no open want
+abbrev pub AreComplete : Given → Type 0
+AreComplete given = (faults given.documents ≡ []) × (open_wants (given.documents ∷ given.parents) given.documents ≡ [])
 
 -- where the error is the limit, it is used up
 abbrev pub LimitIsUsedUp : Given → Error → Type 0

@@ -13,23 +13,45 @@ use ref_retrieve::{Error, Retrieve};
 use ref_uri::Uri;
 use serde_json::Value;
 use std::alloc::{AllocError, Global};
+use std::fmt;
 use std::rc::Rc;
 
 /// What steps lead to, copied out of a registry: the value that was looked up last with its draft, if one was, the base URI
 /// there, and the dynamic scope, inner to outer.
-#[derive(Drop)]
+#[derive(Debug, Drop)]
 pub struct Answer {
+    /// A copy of the value that the last look-up found, and its draft; `None` where there was no look-up.
     pub last: Option<(Value, Draft)>,
+    /// The base URI there.
     pub base: Rc<Uri>,
+    /// The URIs passed on the way, inner to outer.
     pub scope: List<Uri>,
 }
 
-/// Why there is no answer: the documents could not be prepared, or a step leads nowhere.
-#[derive(Drop)]
+/// Why there is no answer. It displays as its error, or as `Out of memory`.
+#[derive(Debug, PartialEq, Eq, Drop)]
 pub enum AnswerError {
+    /// The documents can't be prepared.
     Prepare(Error),
+    /// A step leads nowhere.
     Follow(FollowError),
+    /// All steps lead somewhere, and there is no memory for the copy.
     Memory(AllocError),
+}
+
+impl fmt::Display for AnswerError {
+    ghost use Rattle.std.specs.Prelude.{Some};
+    ghost use Rattle.referencing.specs.Answering.{answer_error_text};
+
+    ghost output = { λ e. Some (answer_error_text e) };
+
+    fn fmt<W: fmt::Write>(&self, f: &mut fmt::Formatter<W>) -> fmt::Result {
+        match self {
+            AnswerError::Prepare(error) => write!(f, "{error}"),
+            AnswerError::Follow(error) => write!(f, "{error}"),
+            AnswerError::Memory(_) => f.write_str("Out of memory"),
+        }
+    }
 }
 
 // The value, copied.

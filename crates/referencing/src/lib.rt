@@ -17,7 +17,7 @@ pub mod steps;
 mod written;
 
 pub use answer::{Answer, AnswerError};
-pub use builder::RegistryBuilder;
+pub use builder::{DEFAULT_RETRIEVAL_LIMIT, RegistryBuilder};
 pub use input::{IntoRegistryResource, PendingResource};
 pub use ref_draft::{
     Anchor, AnchorIter, Child, ChildIter, ChildIterInner, Draft, Resource, ResourceRef, Segment,

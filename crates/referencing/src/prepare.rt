@@ -73,6 +73,8 @@ impl<'a, R: Retrieve + Drop> RegistryBuilder<'a, R> {
     pub fn prepare(self) -> Result<Registry<'a>, Error>
         ensures outcome { IfOk result (IsPreparedOf (given_of (R.may_answer (seen self.entry).retriever) (R.may_refuse (seen self.entry).retriever) (seen self.entry))) }
         ensures fault { IfErr result (IsFaultyOutcome (given_of (R.may_answer (seen self.entry).retriever) (R.may_refuse (seen self.entry).retriever) (seen self.entry))) }
+        ensures alone { AreComplete (given_of (R.may_answer (seen self.entry).retriever) (R.may_refuse (seen self.entry).retriever) (seen self.entry))
+            → IfOk result (λ registry. registry ≡ (given_of (R.may_answer (seen self.entry).retriever) (R.may_refuse (seen self.entry).retriever) (seen self.entry)).documents ∷ (seen self.entry).parents) × IfErr result IsMemory }
         ensures limit { IfErr result (LimitIsUsedUp (given_of (R.may_answer (seen self.entry).retriever) (R.may_refuse (seen self.entry).retriever) (seen self.entry))) }
     {
         let RegistryBuilder {

@@ -1,22 +1,19 @@
 //! A registry: documents, and the places in them that references lead to.
-ghost use Rattle.std.specs.Prelude.{◌≡◌, ℕ, List, [], ◌∷◌, map, codes, IfOk, IfErr, IfSome, IsSome, option_map, slice_get, Some, Ok, Err};
+ghost use Rattle.std.specs.Prelude.{◌≡◌, ℕ, List, [], ◌∷◌, map, IfOk, IfErr, IfSome, IsSome, option_map, slice_get, Some, Ok, Err};
 ghost use Rattle.std.specs.Iterator.{Drains, Yields, IsFinite};
 ghost use Rattle.std.specs.List.{Contains};
 ghost use Rattle.serde_json.specs.View.{view};
-ghost use Rattle.ref_draft.specs.Schema.{text_under};
 ghost use Rattle.ref_uri.specs.Targets.{against};
 ghost use Rattle.ref_world.specs.World.{Document as WorldDocument};
 ghost use Rattle.ref_world.specs.Agreement.{ChildrenStand};
 ghost use Rattle.ref_world.specs.Places.{Place, places};
-ghost use Rattle.ref_world.specs.Cached.{pairs};
-ghost use Rattle.ref_world.specs.Fault.{Unretrievable, as_invalid_uri};
+ghost use Rattle.ref_world.specs.Fault.{as_invalid_uri};
 ghost use Rattle.ref_world.specs.Wants.{faults, open_wants};
-ghost use Rattle.ref_world.specs.Lookup.{Resolver as WorldResolver, lookup};
 ghost use Rattle.ref_retrieve.specs.Errors.{IsFaultOf};
 ghost use Rattle.ref_world.specs.Pending.{added, extended};
 ghost use Rattle.referencing.specs.Builder.{seen, addition, Adds, new_builder};
-ghost use Rattle.ref_resolver.specs.Layered.{world_in, own};
-ghost use Rattle.referencing.specs.Prepared.{contains_resource};
+ghost use Rattle.ref_resolver.specs.Layered.{world_in, own, IsHeld};
+ghost use Rattle.referencing.specs.Prepared.{contains_resource, ReferencesAreRetrieved};
 
 use crate::builder::{RegistryBuilder, above};
 use crate::input::IntoRegistryResource;
@@ -163,18 +160,18 @@ impl<'a> Registry<'a> {
     }
 
     /// The URI that a text means against a base, where that was resolved when the documents were prepared: so it is for the
-    /// identifier of each own place with the base around it, and for what stands before the last `#` of each own place's `$ref`
-    /// with the place's base, unless it begins with `#`. A look-up in the tables of this registry and its parents; takes no
-    /// memory.
+    /// identifier of each place, own or of a parent, with the base around it, and for what stands before the last `#` of each
+    /// place's `$ref` with the place's base, unless it begins with `#`. A look-up in the tables of this registry and its parents;
+    /// takes no memory.
     pub fn resolved_uri(&self, base: &UriRef<'_>, uri: &str) -> Option<&Rc<Uri>>
-        ensures held { Contains (pairs (own self.now)) (base.now, uri.now) → IsSome result }
+        ensures held { IsHeld self.now base.now uri.now → IsSome result }
         ensures value { IfSome result (λ u. against base.now uri.now ≡ Ok u.now.value) }
     {
         self.layers().resolved_uri(base, uri)
     }
 
-    /// The URI that a text means against a base (RFC 3986, 5.2), in normal form, whatever was resolved before; without memory
-    /// where it was. Refuses as `InvalidUri` a base without a scheme and a text that is no URI reference, and as `Memory` where
+    /// The URI that a text means against a base (RFC 3986, 5.2), in normal form, whatever was resolved before. Where it was, the
+    /// code takes no memory, which no clause says; [`Registry::resolved_uri`] takes none by its signature. Refuses as `InvalidUri` a base without a scheme and a text that is no URI reference, and as `Memory` where
     /// there is none for the URI.
     pub fn resolve_uri(&self, alloc: Global, base: UriRef<'_>, uri: &str) -> Result<Rc<Uri>, Error>
         ensures ok { IfOk result (λ u. against base.entry uri.now ≡ Ok u.value) }
@@ -183,12 +180,13 @@ impl<'a> Registry<'a> {
         self.layers().resolve_uri(alloc, base, uri)
     }
 
-    /// Each own place has a base, and no reference of an own place leads to a URI that is not present: from the place's base,
-    /// with any dynamic scope, the text under its `$ref` is never unretrievable. A law; the call does nothing.
+    /// The own documents have no fault, and want no document that isn't there: so each own place has a base, and no reference of
+    /// an own place leads to a URI that is not present, that is, from the place's base, with any dynamic scope, the text under its
+    /// `$ref` is never unretrievable. A law; the call does nothing.
     pub fn references_are_retrieved(&self)
-        ensures law { (d : WorldDocument) (place : Place) (resolver : WorldResolver) (reference : List ℕ)
-            → Contains (own self.now) d → Contains (places d) place → place.base ≡ Ok resolver.base → text_under (codes "$ref") place.value ≡ Some reference
-            → (uri source : List ℕ) → ¬ (lookup self.now resolver reference ≡ Err (Unretrievable uri source)) }
+        ensures no_fault { faults (own self.now) ≡ [] }
+        ensures no_want { open_wants self.now (own self.now) ≡ [] }
+        ensures law { ReferencesAreRetrieved self.now }
         ensures bases { (d : WorldDocument) (place : Place) → Contains (own self.now) d → Contains (places d) place → (base : List ℕ) × (place.base ≡ Ok base) }
     {
         let _ = &self.own;
@@ -198,7 +196,7 @@ impl<'a> Registry<'a> {
 impl<'a> Clone for Registry<'a> {
     ghost is_clone = { λ registry copy. copy ≡ registry };
 
-    // The same documents and parents, which both have from then on: no value is copied. Takes memory for the list of parents.
+    /// The same documents and parents, which both have from then on: no value is copied. Takes memory for the list of parents.
     fn clone(&self) -> Result<Registry<'a>, AllocError> {
         let own = self.own.clone()?;
         let parents = self.parents.clone()?;
@@ -206,7 +204,13 @@ impl<'a> Clone for Registry<'a> {
     }
 }
 
+/// `Registry { documents: D, parents: P }`, with the count of its own documents and of its parents.
 impl fmt::Debug for Registry<'_> {
+    ghost use Rattle.std.specs.Prelude.{Some};
+    ghost use Rattle.referencing.specs.Prepared.{registry_text};
+
+    ghost debug_output = { λ r. Some (registry_text r) };
+
     fn fmt<W: fmt::Write>(&self, f: &mut fmt::Formatter<W>) -> fmt::Result {
         let (documents, parents) = (self.own.document_count(), self.parents.len());
         write!(

@@ -1,9 +1,10 @@
 //! Steps that are followed one after another from a base URI.
 ghost use Rattle.std.specs.Prelude.{◌≡◌, ◌≤◌, [], map, length, IfOk, IfErr, Ok};
 ghost use Rattle.ref_world.specs.Follow as world;
+ghost use Rattle.ref_world.specs.Lookup.{lookup};
 ghost use Rattle.ref_retrieve.specs.Errors.{IsFaultOf};
 ghost use Rattle.ref_resolver.specs.Resolving.{resolver_of, world_of, found_of, world_found};
-ghost use Rattle.referencing.specs.Following.{step_of, followed_of, IsStepFaultOf};
+ghost use Rattle.referencing.specs.Following.{step_of, followed_of, IsStepFaultOf, ReachesStep};
 
 use crate::registry::Registry;
 use ref_draft::{Draft, ResourceRef};
@@ -12,27 +13,47 @@ use ref_retrieve::Error;
 use ref_uri::Uri;
 use serde_json::Value;
 use std::alloc::{AllocError, Global};
+use std::fmt;
 
 /// A step: a reference that is looked up, a `$recursiveRef`, or a resource that is entered, whose identifier changes the base.
 #[derive(Clone, Copy, Drop)]
 pub enum Step<'s> {
+    /// A reference, as it stands under `$ref` or `$dynamicRef`.
     Lookup(&'s str),
+    /// The `$recursiveRef` of 2019-09.
     Recursive,
+    /// A resource that stands in the one before.
     Enter(ResourceRef<'s>),
 }
 
 /// Where steps lead: the value that was looked up last with its draft, if one was, and the resolver there.
-#[derive(Drop)]
+#[derive(Debug, Drop)]
 pub struct Followed<'r> {
+    /// The value that the last look-up found, which is the document's own, and its draft; `None` where there was no look-up.
     pub last: Option<(&'r Value, Draft)>,
+    /// The resolver there, from which a caller goes on.
     pub resolver: Resolver<'r>,
 }
 
-/// Why a step leads nowhere: its number, from 0, and its fault.
-#[derive(Drop)]
+/// Why a step leads nowhere. It displays as `Step 0: ` and the text of its error.
+#[derive(Debug, PartialEq, Eq, Drop)]
 pub struct FollowError {
+    /// The number of the step, from 0.
     pub step: usize,
+    /// Its fault, or that memory ran out.
     pub error: Error,
+}
+
+impl fmt::Display for FollowError {
+    ghost use Rattle.std.specs.Prelude.{Some};
+    ghost use Rattle.referencing.specs.Following.{follow_error_text};
+
+    ghost output = { λ e. Some (follow_error_text e) };
+
+    fn fmt<W: fmt::Write>(&self, f: &mut fmt::Formatter<W>) -> fmt::Result {
+        let (step, error) = (self.step, &self.error);
+        write!(f, "Step {step}: {error}")
+    }
 }
 
 // What a lookup found.
@@ -79,6 +100,21 @@ impl<'a> Registry<'a> {
     {
         Resolver::new(alloc, self.layers(), base)
     }
+
+    /// Where a reference leads from a base URI with an empty dynamic scope: [`Resolver::lookup`] from a new resolver there, whose
+    /// errors and cost it has.
+    pub fn lookup<'r>(
+        &'r self,
+        alloc: Global,
+        base: Uri,
+        reference: &str,
+    ) -> Result<Resolved<'r>, Error>
+        ensures ok { IfOk result (λ found. lookup self.now (record { base = base; scope = [] }) reference.now ≡ Ok (found_of found)) }
+        ensures world { IfOk result (λ found. world_found found ≡ self.now) }
+        ensures fault { IfErr result (IsFaultOf (lookup self.now (record { base = base; scope = [] }) reference.now)) }
+    {
+        self.resolver(alloc, base)?.lookup(alloc, reference)
+    }
 }
 
 /// Where steps lead, one after another, from a base URI with an empty dynamic scope: each lookup starts from what the last one
@@ -86,7 +122,7 @@ impl<'a> Registry<'a> {
 ///
 /// The first step that leads nowhere ends it, with its number and the fault of [`Resolver::lookup`],
 /// [`Resolver::lookup_recursive_ref`] or [`Resolver::in_subresource`]; so does want of memory, with the number of the step that
-/// wanted it, or 0 before the first. Costs what the steps cost; no value is copied.
+/// wanted it, or 0 before the first. All steps before that one lead somewhere. Costs what the steps cost; no value is copied.
 pub fn follow<'r, 'a>(
     alloc: Global,
     registry: &'r Registry<'a>,
@@ -97,6 +133,7 @@ pub fn follow<'r, 'a>(
     ensures world { IfOk result (λ f. world_of f.resolver ≡ registry.now) }
     ensures fault { IfErr result (IsStepFaultOf (world.followed registry.now base (map step_of steps.now))) }
     ensures step { IfErr result (λ e. e.step ≤ length steps.now) }
+    ensures reached { IfErr result (λ e. ReachesStep registry.now base (map step_of steps.now) e.step) }
 {
     let resolver = match registry.resolver(alloc, base) {
         Ok(resolver) => resolver,

@@ -7,6 +7,8 @@ use Rattle.referencing.proofs.registry.Registry.references_are_retrieved.Goals a
 
 pub returns : goal.returns
 returns c = let prepared = subst IsPrepared c.self.view_is c.self.invariant in record {
+  no_fault = prepared.no_fault;
+  no_want = prepared.no_want;
   law = retrieved_of c.args.self.now prepared;
   bases = λ d place. place_has_base (own c.args.self.now) d place prepared.no_fault;
 }
