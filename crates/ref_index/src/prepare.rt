@@ -3,7 +3,7 @@ ghost use Rattle.std.specs.Prelude.{◌≡◌, map, IfOk, IfErr, Ok};
 ghost use Rattle.ref_world.specs.Fault.{RetrievalLimit};
 ghost use Rattle.ref_world.specs.Wants.{faults};
 ghost use Rattle.ref_world.specs.Preparing.{IsOutcome, refusal_fault};
-ghost use Rattle.ref_retrieve.specs.Errors.{reason_text};
+ghost use Rattle.ref_retrieve.specs.Errors.{reason_text, IsForReason};
 ghost use Rattle.ref_index.specs.Document.{document_of};
 ghost use Rattle.ref_index.specs.Found.{cause_of, want_of};
 ghost use Rattle.ref_index.specs.Visits.{IsFirstFault};
@@ -32,7 +32,8 @@ fn walk_all<'a>(alloc: Global, documents: Vec<Document<'a>>) -> Result<Walked<'a
 
 // The error of a want that is refused for a reason.
 fn refusal(alloc: Global, want: &Want, reason: Reason) -> Error
-    ensures { SaysOrMemory (refusal_fault (cause_of want.now.cause) want.now.uri.value (reason_text reason)) result }
+    ensures fault { SaysOrMemory (refusal_fault (cause_of want.now.cause) want.now.uri.value (reason_text reason)) result }
+    ensures reason { IsForReason result reason }
 {
     let uri = match String::from_str(alloc, want.uri.as_str()) {
         Ok(uri) => uri,

@@ -7,7 +7,8 @@ ghost use Rattle.ref_world.specs.World.{World};
 ghost use Rattle.ref_world.specs.Anchors.{Named, anchor, named_by_identifier, not_named};
 ghost use Rattle.ref_world.specs.Fault.{not_retrieved};
 ghost use Rattle.ref_world.specs.Lookup.{by_scope, in_scope, named_found};
-ghost use Rattle.ref_retrieve.specs.Errors.{IsFaultOf};
+ghost use Rattle.ref_retrieve.specs.Errors.{IsFaultOf, IsForReason};
+ghost use Rattle.ref_retrieve.specs.declared.error.Reason.TheVariants.{NotSupported};
 ghost use Rattle.ref_index.specs.Retrieval.{SaysOrMemory};
 ghost use Rattle.ref_resolver.specs.Layered.{world_in};
 ghost use Rattle.ref_resolver.specs.Located.{IsLocated, IsNamed};
@@ -208,7 +209,8 @@ pub(crate) fn is_name(fragment: &str) -> bool
 
 // The fault of a URI that means no place: nothing is retrieved any more.
 pub(crate) fn not_retrieved(alloc: Global, uri: &Uri) -> Error
-    ensures { SaysOrMemory (not_retrieved uri.now) result }
+    ensures fault { SaysOrMemory (not_retrieved uri.now) result }
+    ensures reason { IsForReason result NotSupported }
 {
     match String::from_str(alloc, uri.as_str()) {
         Ok(uri) => Error::Unretrievable {

@@ -43,6 +43,11 @@ abbrev pub is_memory : Error → Bool
 is_memory (error.Memory memory) = true
 is_memory other = false
 
+-- where an error has a source, it is a refusal for this very reason
+abbrev pub IsForReason : Error → Reason → Type 0
+IsForReason (error.Unretrievable uri source) reason = source ≡ Refused reason
+IsForReason other reason = ⊤
+
 -- the source of an error says why a retriever refuses; want of memory is no refusal
 abbrev pub SaysWhy : RetrieveError → List ℕ → Type 0
 SaysWhy (Refused reason) text = reason_text reason ≡ text

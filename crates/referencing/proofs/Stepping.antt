@@ -1,5 +1,5 @@
 -- Steps that are followed one by one.
-use Rattle.std.proofs.Common.{◌≡◌, ℕ, zero, suc, arith, ◌+◌, ◌<◌, ◌≤◌, List, [], ◌∷◌, ◌++◌, length, map, drop, get_or, None, Result, Ok, Err, refl, sym, ap, ◌∙◌, add-one}
+use Rattle.std.proofs.Common.{◌≡◌, ℕ, zero, suc, arith, ◌+◌, ◌<◌, ◌≤◌, List, [], ◌∷◌, ◌++◌, length, map, take, drop, get_or, None, Result, Ok, Err, refl, sym, ap, ◌∙◌, add-one}
 use Rattle.std.proofs.Math.Seq.{drop-cons}
 use Rattle.ref_world.specs.Results.{◌>>=◌}
 use Rattle.ref_world.specs.World.{World}
@@ -11,7 +11,7 @@ use Rattle.ref_retrieve.specs.declared.error.Error.{Error}
 use Rattle.ref_retrieve.specs.declared.error.Error.TheVariants as error
 use Rattle.ref_retrieve.specs.Errors.{IsFaultOf}
 use Rattle.referencing.specs.declared.steps.Step.{Step}
-use Rattle.referencing.specs.Following.{step_of, SaysStepFault}
+use Rattle.referencing.specs.Following.{step_of, SaysStepFault, ReachesStep}
 
 -- what is left of a list of which an item was read
 drop_read : {X : Type 0} (xs : List X) (i : ℕ) (x : X) → i < length xs → x ≡ get_or xs i x → drop i xs ≡ x ∷ drop (i + 1) xs
@@ -88,3 +88,27 @@ pushed w n f [] s = only (numbered n (stepped w f s)) ∙ ap (λ k. numbered k (
 pushed w n f (t ∷ ts) s =
     moved_in (numbered n (stepped w f t)) (λ g. followed_from w (n + 1) g (ts ++ s ∷ [])) (λ g. followed_from w (n + 1) g ts) (λ g. numbered (n + length (t ∷ ts)) (stepped w g s))
     (λ x. pushed w (n + 1) x ts s ∙ ap (λ k. followed_from w (n + 1) x ts >>= λ g. numbered k (stepped w g s)) (omega arith))
+
+-- no step is taken yet
+pub started : (w : World) (base : List ℕ) (r : Resolver) (steps : List world.Step) → r ≡ record { base = base; scope = [] } → followed w base (take 0 steps) ≡ Ok (record { last = None; resolver = r })
+unfolding followed
+started w base r steps is = ap (λ x. Ok (record { last = None; resolver = x })) (sym is)
+
+pub nowhere_yet : (w : World) (base : List ℕ) (steps : List world.Step) → ReachesStep w base steps 0
+unfolding followed
+nowhere_yet w base steps = (record { last = None; resolver = record { base = base; scope = [] } }, refl)
+
+take_read : (steps : List Step) (n : ℕ) (s : Step) → n < length steps → s ≡ get_or steps n s → take (suc n) (map step_of steps) ≡ take n (map step_of steps) ++ step_of s ∷ []
+take_read [] n s h e = absurd (omega (arith, h))
+take_read (t ∷ ts) zero s h e = ap (λ x. step_of x ∷ []) (sym e)
+take_read (t ∷ ts) (suc n) s h e = ap (λ xs. step_of t ∷ xs) (take_read ts n s (omega (arith, h)) e)
+
+-- one step more is taken
+pub reached_next : (w : World) (base : List ℕ) (n : ℕ) (f g : Followed) (steps : List Step) (s : Step) → n < length steps → s ≡ get_or steps n s
+    → followed w base (take n (map step_of steps)) ≡ Ok f → stepped w f (step_of s) ≡ Ok g → followed w base (take (n + 1) (map step_of steps)) ≡ Ok g
+unfolding followed
+reached_next w base n f g steps s h e before is =
+    let start : Followed = record { last = None; resolver = record { base = base; scope = [] } } in
+    let taken = take n (map step_of steps) in
+    ap (λ k. followed_from w 0 start (take k (map step_of steps))) (add-one n) ∙ ap (λ xs. followed_from w 0 start xs) (take_read steps n s h e) ∙ pushed w 0 start taken (step_of s)
+    ∙ after (followed_from w 0 start taken) (0 + length taken) g (step_of s) w f before is

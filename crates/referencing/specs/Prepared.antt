@@ -1,5 +1,5 @@
 -- What holds of every registry, and what it answers of URIs.
-use Rattle.std.specs.Prelude.{◌≡◌, ℕ, List, [], ◌∷◌, Bool, false, is_some, string_bytes, codes, decimal, ◌++◌, ◌-◌, length, Some, Ok, Err, ⊤}
+use Rattle.std.specs.Prelude.{◌≡◌, ℕ, List, [], ◌∷◌, Bool, false, is_some, string_bytes, codes, decimal, ◌++◌, length, drop, Some, Ok, Err, ⊤}
 use Rattle.std.specs.List.{Contains}
 use Rattle.serde_json.specs.Data.{Data}
 use Rattle.std.specs.Option.{option_map_or}
@@ -36,7 +36,7 @@ ReferencesAreRetrieved world =
 
 -- what a registry shows for debugging: how many own documents and how many parents it has
 abbrev pub registry_text : World → List ℕ
-registry_text world = codes "Registry { documents: " ++ decimal (length (own world)) ++ codes ", parents: " ++ decimal (length world - 1) ++ codes " }"
+registry_text world = codes "Registry { documents: " ++ decimal (length (own world)) ++ codes ", parents: " ++ decimal (length (drop 1 world)) ++ codes " }"
 
 -- whether a text is a URI that means a place
 abbrev pub contains_resource : World → List ℕ → Bool

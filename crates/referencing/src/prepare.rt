@@ -4,7 +4,8 @@ ghost use Rattle.ref_world.specs.Pending as world;
 ghost use Rattle.ref_index.specs.Document.{document_of};
 ghost use Rattle.ref_index.specs.Retrieval.{IsFaultyOutcome};
 ghost use Rattle.referencing.specs.Builder.{pending_under, seen};
-ghost use Rattle.referencing.specs.Prepared.{given_of, IsPreparedOf, LimitIsUsedUp};
+ghost use Rattle.referencing.specs.Listed.{IsMemory};
+ghost use Rattle.referencing.specs.Prepared.{given_of, IsPreparedOf, LimitIsUsedUp, AreComplete};
 
 use crate::builder::RegistryBuilder;
 use crate::input::PendingResource;

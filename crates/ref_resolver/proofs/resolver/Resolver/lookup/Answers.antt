@@ -23,7 +23,7 @@ returns-in_default-clause-fault c =
     let r = resolver_of c.args.self.now in
     let uri : List ℕ = c.in_ok-uri.field-0.uri.value in
     let none : means w uri ≡ None = search rules in
-    let says = rw c.deref-in_default.ensures at c.not_retrieved.ensures in
+    let says = rw c.deref-in_default.ensures at c.not_retrieved.ensures.fault in
     says_of (lookup w r c.args.reference.now) (not_retrieved uri) c.not_retrieved.result (lookup_absent w r c.args.reference.now uri c.in_ok-uri.ensures.ok none) says
 
 pub returns-in-Some-strip_prefix-clause-ok : goal.returns-in-Some-strip_prefix-clause-ok

@@ -24,4 +24,4 @@ returns-else-has_resource c = λ reference is fragment name none.
     let r = resolver_of c.args.self.now in
     let uri : List ℕ = c.args.uri.now in
     let absent : is_some (means w uri) ≡ false = search rules in
-    says_of (lookup w r reference) (not_retrieved uri) c.not_retrieved.result (lookup_absent w r reference uri is (absent_of (means w uri) absent)) c.not_retrieved.ensures
+    says_of (lookup w r reference) (not_retrieved uri) c.not_retrieved.result (lookup_absent w r reference uri is (absent_of (means w uri) absent)) c.not_retrieved.ensures.fault
