@@ -1,0 +1,36 @@
+//! The tests of `ref_uri`, `ref_parts` and `ref_draft`: the examples of the standards, and what no clause says.
+//!
+//! They stand in a crate of their own, so that what is proved of those libraries isn't proved once more with them. Rows stand in
+//! texts, since a row of a text costs no proof.
+#![tactic(auto)]
+
+#[cfg(test)]
+mod asserts;
+#[cfg(test)]
+mod children;
+#[cfg(test)]
+mod drafts;
+#[cfg(test)]
+mod grammar;
+#[cfg(test)]
+mod lists;
+#[cfg(test)]
+mod long_texts;
+#[cfg(test)]
+mod map_defaults;
+#[cfg(test)]
+mod maps;
+#[cfg(test)]
+mod paths;
+#[cfg(test)]
+mod reading;
+#[cfg(test)]
+mod row;
+#[cfg(test)]
+mod sorted_tables;
+#[cfg(test)]
+mod tables;
+#[cfg(test)]
+mod texts;
+#[cfg(test)]
+mod uris;

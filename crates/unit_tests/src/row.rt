@@ -1,0 +1,164 @@
+//! Rows, each a line of text, and the one walk over them.
+
+use crate::asserts::same_at;
+use crate::tables;
+use ref_draft::Draft;
+use serde_json::Value;
+use std::alloc::Global;
+use std::fmt;
+use std::process::Abort;
+use std::test::Fail;
+
+/// The drafts, in their order.
+pub const DRAFTS: [Draft; 6] = [
+    Draft::Draft4,
+    Draft::Draft6,
+    Draft::Draft7,
+    Draft::Draft201909,
+    Draft::Draft202012,
+    Draft::Unknown,
+];
+
+/// A row: a JSON list of what is asked and of what is expected. The columns are its items. What is asked may also stand in the
+/// last line of the table before the row that is an object, under `given`.
+#[derive(Clone, Copy)]
+pub struct Row<'a> {
+    table: &'a str,
+    line: &'a str,
+    given: &'a Value,
+    columns: &'a Value,
+}
+
+impl<'a> Row<'a> {
+    /// The name of its table.
+    pub fn table(&self) -> &'a str {
+        self.table
+    }
+
+    /// What is given for this row.
+    pub fn given(&self) -> &'a Value {
+        self.given.get("given").unwrap_or(self.given)
+    }
+
+    /// What stands in a column, where it is there.
+    pub fn value(&self, column: usize) -> Option<&'a Value> {
+        self.columns.get(column)
+    }
+
+    /// What stands in a column that is there.
+    pub fn document(&self, column: usize) -> &'a Value {
+        self.value(column).unwrap_or(self.given)
+    }
+
+    /// The text in a column. `null` stands for none.
+    pub fn optional(&self, column: usize) -> Option<&'a str> {
+        self.value(column)?.as_str()
+    }
+
+    /// The text under a key of the first column.
+    pub fn under(&self, key: &str) -> Option<&'a str> {
+        self.value(0)?.get(key)?.as_str()
+    }
+
+    /// The text in a column that has one.
+    pub fn text(&self, column: usize) -> &'a str {
+        self.optional(column).unwrap_or("no text")
+    }
+
+    /// The number in a column. `null` stands for none.
+    pub fn number(&self, column: usize) -> Option<usize> {
+        let number = self.value(column)?.as_u64()?;
+        Some(number as usize)
+    }
+
+    /// The number in a column that has one.
+    pub fn count(&self, column: usize) -> usize {
+        self.number(column).unwrap_or(0)
+    }
+
+    /// Whether a column has `true`.
+    pub fn is_true(&self, column: usize) -> bool {
+        match self.value(column) {
+            Some(value) => value.as_bool() == Some(true),
+            None => false,
+        }
+    }
+
+    /// The draft that a column names.
+    pub fn draft(&self, column: usize) -> Draft {
+        match self.text(column) {
+            "4" => Draft::Draft4,
+            "6" => Draft::Draft6,
+            "7" => Draft::Draft7,
+            "2019-09" => Draft::Draft201909,
+            "2020-12" => Draft::Draft202012,
+            _ => Draft::Unknown,
+        }
+    }
+
+    /// How many columns there are.
+    pub fn len(&self) -> usize {
+        match self.columns.as_array() {
+            Some(columns) => columns.len(),
+            None => 0,
+        }
+    }
+
+    /// The list in a column, as a row.
+    pub fn row(&self, column: usize) -> Row<'a> {
+        Row {
+            table: self.table,
+            line: self.line,
+            given: self.given,
+            columns: self.document(column),
+        }
+    }
+
+    /// Ends the test where two values differ, and says in which row.
+    pub fn same<T: PartialEq + fmt::Debug + Copy>(&self, rt: &impl Abort, found: T, wanted: T) {
+        same_at(rt, found, wanted, self.line);
+    }
+}
+
+/// Asks the row of a line, or keeps what the line gives for the rows behind it.
+fn ask_line<R: Abort>(
+    rt: &R,
+    alloc: Global,
+    table: &str,
+    line: &str,
+    given: &mut Value,
+) -> Result<(), Fail> {
+    let columns = Value::from_str(alloc, line)?;
+    if columns.is_object() {
+        *given = columns;
+        return Ok(());
+    }
+    let row = Row {
+        table,
+        line,
+        given,
+        columns: &columns,
+    };
+    tables::ask(rt, alloc, &row)
+}
+
+/// Asks each row of a table.
+fn ask_table<R: Abort>(rt: &R, alloc: Global, table: &str, lines: &str) -> Result<(), Fail> {
+    let mut given = Value::Null;
+    for line in lines.lines() {
+        if !line.is_empty() && !line.starts_with("//") {
+            ask_line(rt, alloc, table, line, &mut given)?;
+        }
+    }
+    Ok(())
+}
+
+/// Asks each row of a text. A line that begins with `# ` names the table of the rows behind it, one that begins with `//` is skipped.
+pub fn for_each_row<R: Abort>(rt: &R, alloc: Global, rows: &str) -> Result<(), Fail> {
+    for section in rows.split("\n# ") {
+        if let Some((table, lines)) = section.split_once('\n') {
+            ask_table(rt, alloc, table, lines)?;
+        }
+    }
+    Ok(())
+}

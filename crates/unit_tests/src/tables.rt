@@ -1,0 +1,92 @@
+//! How a row is asked, by its table.
+
+use crate::row::Row;
+use crate::{
+    children, drafts, lists, long_texts, map_defaults, maps, reading, sorted_tables, texts, uris,
+};
+use std::alloc::{AllocError, Global};
+use std::process::Abort;
+use std::test::Fail;
+
+/// Asks a row. Ends the test where an answer is another.
+pub fn ask<R: Abort>(rt: &R, alloc: Global, row: &Row<'_>) -> Result<(), Fail> {
+    match row.table() {
+        "components" => uris::components(rt, row),
+        "URIs" => uris::uris(rt, alloc, row),
+        "fragments" => uris::fragments(rt, alloc, row),
+        "targets" => uris::targets(rt, alloc, row),
+        "normal forms" => uris::normal_forms(rt, alloc, row),
+        "meanings" => uris::meanings(rt, alloc, row),
+        "meanings against bases" => uris::meanings_against_bases(rt, alloc, row),
+        "repeated references" | "repeated texts" => long_texts::repeated(rt, alloc, row),
+        "names of each length" => long_texts::names(rt, alloc, row),
+        _ => ask_for_fault(rt, alloc, row),
+    }
+}
+
+/// Of the tables on why texts are no URIs.
+fn ask_for_fault<R: Abort>(rt: &R, alloc: Global, row: &Row<'_>) -> Result<(), Fail> {
+    match row.table() {
+        "parsed URIs" => uris::parsed_uris(rt, alloc, row),
+        "faults" => uris::faults(rt, alloc, row),
+        "faults against bases" => uris::faults_against_bases(rt, alloc, row),
+        "references without a target" => uris::without_a_target(rt, alloc, row),
+        _ => Ok(ask_with_memory(rt, alloc, row)?),
+    }
+}
+
+/// Of the tables whose rows have an answer wherever there is memory.
+fn ask_with_memory<R: Abort>(rt: &R, alloc: Global, row: &Row<'_>) -> Result<(), AllocError> {
+    match row.table() {
+        "places" => long_texts::places(rt, alloc, row),
+        "short texts" => long_texts::short_texts(rt, alloc, row),
+        "tokens" => texts::tokens(rt, alloc, row),
+        "keys" => texts::keys(rt, alloc, row),
+        "pointers" => texts::pointers(rt, alloc, row),
+        "buffers" => texts::buffers(rt, alloc, row),
+        "tables" => sorted_tables::tables(rt, alloc, row),
+        "lists" => lists::lists(rt, alloc, row),
+        "equal lists" => lists::equal_lists(rt, alloc, row),
+        _ => ask_of_maps(rt, alloc, row),
+    }
+}
+
+fn ask_of_maps<R: Abort>(rt: &R, alloc: Global, row: &Row<'_>) -> Result<(), AllocError> {
+    match row.table() {
+        "maps of texts" => maps::maps_of_texts(rt, alloc, row),
+        "maps with two slots" => maps::with_two_slots(rt, alloc, row),
+        "maps without slots" => maps::without_slots(rt, alloc, row),
+        "copies" => maps::copies(rt, alloc, row),
+        "copies of texts" => maps::copies_of_texts(rt, alloc, row),
+        "defaults" => map_defaults::defaults(rt, alloc, row),
+        _ => ask_of_drafts(rt, alloc, row),
+    }
+}
+
+fn ask_of_drafts<R: Abort>(rt: &R, alloc: Global, row: &Row<'_>) -> Result<(), AllocError> {
+    match row.table() {
+        "children" => children::children(rt, alloc, row),
+        "paths of children" => children::paths(rt, alloc, row),
+        "scans" => reading::scans(rt, alloc, row),
+        "resources" => reading::resources(rt, alloc, row),
+        _ => {
+            ask_without_memory(rt, row);
+            Ok(())
+        }
+    }
+}
+
+/// Of the tables whose rows take no memory.
+fn ask_without_memory<R: Abort>(rt: &R, row: &Row<'_>) {
+    match row.table() {
+        "references" => uris::references(rt, row),
+        "indexes" => texts::indexes(rt, row),
+        "first escapes" => texts::first_escapes(rt, row),
+        "detected drafts" => drafts::detected(rt, row),
+        "keywords" => drafts::keywords(rt, row),
+        "identifiers" => drafts::identifiers(rt, row),
+        "known keywords" => drafts::known(rt, row),
+        "anchors" => reading::anchors(rt, row),
+        table => row.same(rt, table, "no such table"),
+    }
+}
