@@ -1,143 +1,47 @@
-//! Workloads by which the cost of this project's calls is measured: reads lines `CALL TEXT SIZE TIMES`, and prints for each
-//! how long the texts are that the calls answered, together; `nothing` as the call measures the workload itself. It prints
-//! the same on every run; `docs/DEVELOPING.md` says how it is run under `valgrind --tool=callgrind`, and what it showed.
+//! Public calls of the libraries: what they cost, and how they are refused memory. Reads a line a call from standard input, and prints each line
+//! with its answer behind a colon.
+//!
+//! A line `GROUP CALL`, as `uris parse`, makes a call on values of its own. `scripts/refusals` runs the program for each such line and each request
+//! for memory, with that request refused. Where the call wants memory, it is made again, and behind it other calls on the same values.
+//!
+//! A line `CALL TEXT SIZE TIMES`, as `parse names 100 1`, is a workload, whose answer is how much the calls answered together; `nothing` as
+//! the call measures the workload itself. It prints the same on every run; `docs/DEVELOPING.md` says how it is run under `valgrind
+//! --tool=callgrind`, and what it showed.
+//!
+//! The exit status is 0 where every call has its answer, 3 where one wanted memory and these are the answers afterwards, 4 where memory was refused
+//! before a call, 5 where it was refused once the call had answered, and 1 where there is no call of a line, or something is not as it was.
 #![tactic(auto)]
 
-mod line;
-mod lookups;
-mod parts;
-mod places;
-mod registries;
-mod vocabularies;
+mod refused;
+mod workloads;
 
-use crate::line::{Line, line_of};
-use anyhow::Context;
-use ref_uri::{UriRef, uri};
-use std::alloc::{AllocError, Global};
+use crate::refused::{Stop, Trial};
+use std::alloc::Global;
+use std::process::ExitCode;
 
-/// A text of at least this many bytes: the piece of a named kind again and again, or else the word itself.
-fn text_of(alloc: Global, kind: &str, size: usize) -> Result<String, AllocError> {
-    let piece = match kind {
-        "names" => "/definitions",
-        "dots" => "/../a",
-        "triples" => "/%7euser%2F",
-        "encoded" => "/%2e%2e/a",
-        word => word,
-    };
-    let mut text = String::new(alloc);
-    for _ in 0..size {
-        if text.len() >= size {
-            break;
+/// What is printed of a line.
+fn told(alloc: Global, line: &str) -> Result<Trial, Stop> {
+    match line.split_once(' ') {
+        Some((group, call)) if refused::is_group(group) => refused::row(alloc, group, call),
+        _ => workloads::row(alloc, line),
+    }
+}
+
+fn main(rt: HostRuntime) -> ExitCode {
+    for line in rt.lines(rt.alloc()) {
+        let Ok(line) = line else {
+            return ExitCode::from(Stop::Before.status());
+        };
+        let trial = match told(rt.alloc(), line.as_str()) {
+            Ok(trial) => trial,
+            Err(stop) => return ExitCode::from(stop.status()),
+        };
+        if println!(rt; "{}", trial.lines).is_err() {
+            return ExitCode::from(Stop::After.status());
         }
-        text.push_str(piece)?;
+        if trial.is_refused {
+            return ExitCode::from(trial.status());
+        }
     }
-    Ok(text)
-}
-
-/// What is measured.
-#[derive(Clone, Copy)]
-enum Call {
-    /// The workload without a call.
-    Nothing,
-    Parse,
-    Normalize,
-    Resolve,
-    FromStr,
-    Against,
-    FromText,
-}
-
-/// The call of a name.
-fn call_of(name: &str) -> Option<Call> {
-    match name {
-        "nothing" => Some(Call::Nothing),
-        "parse" => Some(Call::Parse),
-        "normalize" => Some(Call::Normalize),
-        "resolve" => Some(Call::Resolve),
-        "from_str" => Some(Call::FromStr),
-        "against" => Some(Call::Against),
-        "from_text" => Some(Call::FromText),
-        _ => None,
-    }
-}
-
-/// How long the text is that a call answers; nothing where it answers none. A base is parsed where the call has one. What a call
-/// answers is matched where it stands, so that moving it costs nothing beside the call.
-fn length_of(alloc: Global, call: Call, base: &str, text: &str) -> Option<usize> {
-    match call {
-        Call::Nothing => Some(text.len()),
-        Call::Parse => match UriRef::parse(text) {
-            Ok(reference) => Some(reference.as_str().len()),
-            Err(_) => None,
-        },
-        Call::Normalize => Some(UriRef::parse(text).ok()?.normalize(alloc).ok()?.len()),
-        Call::Resolve => resolved_len(alloc, base, text),
-        Call::FromStr => match uri::from_str(alloc, text) {
-            Ok(uri) => Some(uri.as_str().len()),
-            Err(_) => None,
-        },
-        Call::Against => against_len(alloc, base, text),
-        Call::FromText => vocabularies::length_of(alloc, text),
-    }
-}
-
-/// How long the target of a reference against a base is.
-fn resolved_len(alloc: Global, base: &str, text: &str) -> Option<usize> {
-    let Ok(base) = UriRef::parse(base) else {
-        return None;
-    };
-    let Ok(reference) = UriRef::parse(text) else {
-        return None;
-    };
-    match reference.resolve_against(alloc, base) {
-        Ok(uri) => Some(uri.as_str().len()),
-        Err(_) => None,
-    }
-}
-
-/// How long the URI is that a text means against a base.
-fn against_len(alloc: Global, base: &str, text: &str) -> Option<usize> {
-    let Ok(base) = UriRef::parse(base) else {
-        return None;
-    };
-    match uri::resolve_against(alloc, base, text) {
-        Ok(uri) => Some(uri.as_str().len()),
-        Err(_) => None,
-    }
-}
-
-/// How long the answers of a line's call on texts are together; nothing where there is no such call, or memory is refused.
-fn measured(alloc: Global, line: Line<'_>) -> Option<u64> {
-    let call = call_of(line.call)?;
-    let text = text_of(alloc, line.text, line.size).ok()?;
-    let mut sum: u64 = 0;
-    for _ in 0..line.times {
-        let length = length_of(alloc, call, "http://a/b/c/d;p?q", text.as_str());
-        sum = sum.saturating_add(length.unwrap_or(0) as u64);
-    }
-    Some(sum)
-}
-
-/// What a line's workload answers; nothing where there is no such call, or one is refused.
-fn answer(alloc: Global, line: Line<'_>) -> Option<u64> {
-    match line.call {
-        "get" | "scan" | "plain_scan" => parts::answer(alloc, line),
-        "find" => vocabularies::answer(alloc, line),
-        "add" | "extend" | "prepare" => registries::answer(alloc, line),
-        "lookup" | "lookup-owned" | "dynamic" | "dynamic-owned" => lookups::answer(alloc, line),
-        "places" | "locate" | "dangling" => places::answer(alloc, line),
-        _ => measured(alloc, line),
-    }
-}
-
-fn main(rt: HostRuntime) -> anyhow::Result<()> {
-    for text in rt.lines(rt.alloc()) {
-        let text = text?;
-        let line = line_of(text.as_str()).context(
-            "a line is a call, a text, a size and how many times",
-        )?;
-        let sum = answer(rt.alloc(), line).context("no such call, or it was refused")?;
-        println!(rt; "{text}: {sum}")?;
-    }
-    Ok(())
+    ExitCode::from(0)
 }

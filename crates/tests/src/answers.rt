@@ -1,23 +1,6 @@
-//! Answers as texts, and those that are to be the same.
+//! Answers that are to be the same.
 use crate::fault::Fault;
-use ref_retrieve::Error;
-use std::alloc::{AllocError, Global};
-
-/// The text of a refusal. Want of memory is passed on.
-pub fn text_of(alloc: Global, error: Error) -> Result<String, AllocError> {
-    match error {
-        Error::Memory(error) => Err(error),
-        error => format!(in alloc; "{error}"),
-    }
-}
-
-/// An answer, or the text of a refusal in its place.
-pub fn or_refusal(alloc: Global, answer: Result<String, Fault>) -> Result<String, Fault> {
-    match answer {
-        Err(Fault::Refused(error)) => Ok(text_of(alloc, error)?),
-        answer => answer,
-    }
-}
+use std::alloc::Global;
 
 /// An answer that is found in two ways.
 pub fn agreed(
@@ -31,13 +14,13 @@ pub fn agreed(
     }
     let [one, other] = by;
     let text = format!(in alloc; "{first} {one}, {second} {other}")?;
-    Err(Fault::Differs(text))
+    Err(Fault::Text(text))
 }
 
 /// What is to hold, or else what is told.
-pub fn expect(alloc: Global, holds: bool, told: &str) -> Result<(), Fault> {
+pub fn expect(holds: bool, told: &'static str) -> Result<(), Fault> {
     if holds {
         return Ok(());
     }
-    Err(Fault::Differs(String::from_str(alloc, told)?))
+    Err(Fault::Form(told))
 }

@@ -1,5 +1,5 @@
 //! Builders that are made here, since no row can tell how a document is lent: what they hold, and how they and their copies are shown.
-use crate::fault::Fault;
+use crate::fault::{Fault, done};
 use crate::inputs::held;
 use crate::registries::known;
 use crate::row;
@@ -17,11 +17,12 @@ fn with_lent<'a: 'b, 'b>(
     builder.add("urn:b", value)
 }
 
-/// What the builder then holds.
-fn lent_for_less(alloc: Global) -> Result<String, Fault> {
+/// What the registry of it then holds.
+fn lent_for_less(alloc: Global) -> Result<String, Error> {
     let builder = Registry::new(alloc).add("urn:a", Value::Null)?;
     let value = Value::Bool(true);
-    held(alloc, with_lent(builder, &value)?)
+    let registry = with_lent(builder, &value)?.prepare()?;
+    held(alloc, &registry)
 }
 
 /// A builder with a draft and a document.
@@ -36,20 +37,28 @@ fn shown(alloc: Global, builder: &RegistryBuilder<'_>) -> Result<String, AllocEr
 }
 
 /// How a builder above a registry is shown.
-fn shown_above(alloc: Global) -> Result<String, Fault> {
+fn shown_above(alloc: Global) -> Result<String, Error> {
     let parent = Registry::new(alloc).prepare()?;
     let builder = parent.add(alloc, "http://a/r", Value::Null)?;
     Ok(shown(alloc, &builder)?)
 }
 
-/// Which URIs of a row are known to what a builder becomes with another document.
+/// What a builder becomes with another document.
+fn becoming<'a>(
+    builder: RegistryBuilder<'a, &MapRetriever>,
+    uri: &str,
+) -> Result<Registry<'a>, Error> {
+    builder.add(uri, Value::Null)?.prepare()
+}
+
+/// Which URIs of a row are known to that.
 fn with_another(
     alloc: Global,
     builder: RegistryBuilder<'_, &MapRetriever>,
     uri: &str,
     row: &Value,
 ) -> Result<String, Fault> {
-    let registry = builder.add(uri, Value::Null)?.prepare()?;
+    let registry = done(alloc, becoming(builder, uri))?;
     known(alloc, &registry, row, 2)
 }
 
@@ -57,21 +66,30 @@ fn with_another(
 fn apart(alloc: Global, row: &Value) -> Result<String, Fault> {
     let retriever = row::retriever(alloc, row, 3)?;
     let builder = Registry::new(alloc).retriever(&retriever);
-    let builder = builder.add("http://a/r", row::column(row, 4)?.clone()?)?;
+    let builder = done(alloc, builder.add("http://a/r", row::column(row, 4)?))?;
     let copy = builder.clone()?;
     let first = with_another(alloc, builder, "http://a/c", row)?;
     let second = with_another(alloc, copy, "http://a/d", row)?;
     Ok(format!(in alloc; "{first} {second}")?)
 }
 
+/// How a builder with a draft and a document is shown, or its copy.
+fn shown_with_draft(alloc: Global, is_copy: bool) -> Result<String, Error> {
+    let builder = with_draft(alloc)?;
+    if is_copy {
+        return Ok(shown(alloc, &builder.clone()?)?);
+    }
+    Ok(shown(alloc, &builder)?)
+}
+
 /// What is asked of the builder that a row names.
 pub fn made(alloc: Global, row: &Value) -> Result<String, Fault> {
-    match row::text(row, 1)? {
+    let answer = match row::text(row, 1)? {
         "lent for less" => lent_for_less(alloc),
-        "shown" => Ok(shown(alloc, &with_draft(alloc)?)?),
-        "shown by its copy" => Ok(shown(alloc, &with_draft(alloc)?.clone()?)?),
+        "shown" => shown_with_draft(alloc, false),
+        "shown by its copy" => shown_with_draft(alloc, true),
         "shown above a registry" => shown_above(alloc),
-        "apart from its copy" => apart(alloc, row),
-        _ => Err(Fault::Form("no such builder")),
-    }
+        _ => return apart(alloc, row),
+    };
+    done(alloc, answer)
 }

@@ -174,17 +174,16 @@ fn is_written_into_its_room(
 /// Runs on a request of which each read, each write and a flush fails in turn, and one into a sink that has just the report's room.
 pub fn each(alloc: Global, request: &str, ending: &Ending<'_>) -> Result<(), Fault> {
     let reads = is_refused_at_each_read(alloc, request);
-    expect(alloc, reads, "a failed read isn't told")?;
+    expect(reads, "a failed read isn't told")?;
     let write = is_told(alloc, request);
-    expect(alloc, write, "a failed write isn't told")?;
+    expect(write, "a failed write isn't told")?;
     let bytes = is_told_at_each_byte(alloc, request, ending);
     expect(
-        alloc,
         bytes,
         "a failure at a byte isn't told, or the report is another",
     )?;
     let flush = is_told_at_the_flush(alloc, request, ending);
-    expect(alloc, flush, "a failed flush isn't told")?;
+    expect(flush, "a failed flush isn't told")?;
     let room = is_written_into_its_room(alloc, request, ending)?;
-    expect(alloc, room, "the report isn't written into its room")
+    expect(room, "the report isn't written into its room")
 }

@@ -1,10 +1,10 @@
 //! What is asked of registries and of those above them.
 use crate::fault::Fault;
 use crate::registries::{child, known, unretrieving};
-use crate::{dangling, lookups, outcomes, vocabularies};
+use crate::vocabularies;
 use referencing::Registry;
 use serde_json::Value;
-use std::alloc::Global;
+use std::alloc::{AllocError, Global};
 
 /// Of a row of a table, and of a row whose first columns are the parent's documents and its child's.
 pub fn of_documents(
@@ -15,10 +15,26 @@ pub fn of_documents(
 ) -> Result<String, Fault> {
     let parent = unretrieving(alloc, None, family, 1)?;
     match table {
-        "children" => outcomes::of_children(alloc, &parent, row),
+        "children" => of_children(alloc, &parent, row),
         "vocabularies by the parent" => vocabularies::by_registry(alloc, &parent, row),
         _ => of_child(alloc, &parent, family, table, row),
     }
+}
+
+/// Whether the registry of a column's documents above another is prepared, or the text of the fault.
+fn outcome(alloc: Global, parent: &Registry<'_>, row: &Value) -> Result<String, AllocError> {
+    match child(alloc, parent, row, 2) {
+        Ok(_) => String::from_str(alloc, "prepared"),
+        Err(fault) => format!(in alloc; "{fault}"),
+    }
+}
+
+/// Of documents above a registry, and then which URIs that still knows by itself: of a row of the documents in its second column, and
+/// the URIs behind them.
+fn of_children(alloc: Global, parent: &Registry<'_>, row: &Value) -> Result<String, Fault> {
+    let child = outcome(alloc, parent, row)?;
+    let still = known(alloc, parent, row, 3)?;
+    Ok(format!(in alloc; "{child} {still}")?)
 }
 
 /// The same of the tables on the child.
@@ -31,12 +47,16 @@ fn of_child(
 ) -> Result<String, Fault> {
     let child = child(alloc, parent, family, 2)?;
     match table {
-        "child lookups" => lookups::led(alloc, &child, row, 3),
         "vocabularies" => vocabularies::by_registry(alloc, &child, row),
         "vocabularies at bases" => vocabularies::at_bases(alloc, &child, row),
-        "dangling below parents" => dangling::of_both(alloc, parent, &child),
         _ => of_generations(alloc, parent, &child, row),
     }
+}
+
+/// Which URIs are known to the registry of a column's documents above a registry.
+fn of_grandchild(alloc: Global, child: &Registry<'_>, row: &Value) -> Result<String, Fault> {
+    let grandchild = crate::registries::child(alloc, child, row, 3)?;
+    known(alloc, &grandchild, row, 4)
 }
 
 /// Which URIs are known to a registry, its child and the child's child.
@@ -46,9 +66,8 @@ fn of_generations(
     child: &Registry<'_>,
     row: &Value,
 ) -> Result<String, Fault> {
-    let grandchild = crate::registries::child(alloc, child, row, 3)?;
-    let first = known(alloc, parent, row, 4)?;
+    let third = of_grandchild(alloc, child, row)?;
     let second = known(alloc, child, row, 4)?;
-    let third = known(alloc, &grandchild, row, 4)?;
+    let first = known(alloc, parent, row, 4)?;
     Ok(format!(in alloc; "{first} {second} {third}")?)
 }

@@ -1,7 +1,6 @@
 //! Why a row has no answer.
 use ref_retrieve::Error;
-use ref_uri::UriFault;
-use std::alloc::{AllocError, AllocFailed};
+use std::alloc::{AllocError, AllocFailed, Global};
 use std::fmt;
 
 /// Why a row has no answer.
@@ -11,20 +10,18 @@ pub enum Fault {
     Memory,
     /// It isn't of its table's form.
     Form(&'static str),
-    /// What it asks is refused.
-    Refused(Error),
-    /// Several answers were to be the same, and one of them isn't.
-    Differs(String),
+    /// What it asks is refused with this text, or several answers were to be the same, and one of them isn't.
+    Text(String),
 }
 
 impl fmt::Display for Fault {
     fn fmt<W: fmt::Write>(&self, f: &mut fmt::Formatter<W>) -> fmt::Result {
-        match self {
-            Fault::Memory => f.write_str("there is no memory for the row"),
-            Fault::Form(text) => f.write_str(*text),
-            Fault::Refused(error) => write!(f, "{error}"),
-            Fault::Differs(text) => f.write_str(text.as_str()),
-        }
+        let text = match self {
+            Fault::Memory => "there is no memory for the row",
+            Fault::Form(text) => *text,
+            Fault::Text(text) => text.as_str(),
+        };
+        f.write_str(text)
     }
 }
 
@@ -48,22 +45,18 @@ impl<T: Drop> From<AllocFailed<T>> for Fault {
     }
 }
 
-impl From<Error> for Fault {
-    ghost use Rattle.std.specs.Prelude.{⊤};
-
-    ghost from_gives = { λ _ _. ⊤ };
-
-    fn from(error: Error) -> Fault {
-        Fault::Refused(error)
+/// What is asked is refused, or there is no memory to say so.
+pub fn refused(alloc: Global, error: Error) -> Fault {
+    match format!(in alloc; "{error}") {
+        Ok(text) => Fault::Text(text),
+        Err(_) => Fault::Memory,
     }
 }
 
-impl From<UriFault> for Fault {
-    ghost use Rattle.std.specs.Prelude.{⊤};
-
-    ghost from_gives = { λ _ _. ⊤ };
-
-    fn from(fault: UriFault) -> Fault {
-        Fault::Refused(fault.into())
+/// What a call answers, which may be refused.
+pub fn done<T>(alloc: Global, answer: Result<T, Error>) -> Result<T, Fault> {
+    match answer {
+        Ok(value) => Ok(value),
+        Err(error) => Err(refused(alloc, error)),
     }
 }

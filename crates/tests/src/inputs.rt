@@ -1,37 +1,47 @@
 //! What is added to builders, and what they then hold.
-use crate::answers::{agreed, text_of};
-use crate::fault::Fault;
-use crate::registries::{builder, known};
+use crate::answers::agreed;
+use crate::fault::{Fault, done};
+use crate::registries::{holding, known, prepared, resolver};
 use crate::row;
 use ref_draft::{Draft, ResourceRef};
 use ref_retrieve::Error;
-use ref_uri::uri::from_str;
-use referencing::{IntoRegistryResource, Registry, RegistryBuilder, Step, follow};
+use referencing::{Place, Registry, Step, follow};
 use serde_json::Value;
 use std::alloc::{AllocError, Global};
 use std::rc::Rc;
 
-/// The documents that a builder holds in their order, as the registry that is prepared of them has them: URI, value and draft.
-pub fn held(alloc: Global, builder: RegistryBuilder<'_>) -> Result<String, Fault> {
-    let registry = builder.prepare()?;
+/// A document that a registry holds: its URI, value and draft.
+fn document_of(
+    alloc: Global,
+    registry: &Registry<'_>,
+    place: &Place<'_>,
+) -> Result<String, AllocError> {
+    let (uri, draft) = (place.base.as_str(), place.draft);
+    match registry.value_at(place.document, place.path.as_slice()) {
+        Some(value) => {
+            let value = value.to_string(alloc)?;
+            format!(in alloc; "{uri} {value} {draft:?}, ")
+        }
+        None => format!(in alloc; "{uri} without a value"),
+    }
+}
+
+/// The documents that a registry holds in their order, none of which has a subschema.
+pub fn held(alloc: Global, registry: &Registry<'_>) -> Result<String, Error> {
     let places = registry.places(alloc)?;
     let mut text = String::new(alloc);
     for place in places.as_slice() {
-        let value = registry.value_at(place.document, place.path.as_slice());
-        let value = value.ok_or(Fault::Form("no value"))?.to_string(alloc)?;
-        let (uri, draft) = (place.base.as_str(), place.draft);
-        let item = format!(in alloc; "{uri} {value} {draft:?}, ")?;
+        let item = document_of(alloc, registry, place)?;
         text.push_str(item.as_str())?;
     }
     Ok(text)
 }
 
-/// The documents after those of a row were added, or the text of the refusal.
+/// What a builder holds after the documents of a row were added, as the registry that is prepared of it has them.
 pub fn added(alloc: Global, row: &Value) -> Result<String, Fault> {
-    match Registry::new(alloc).extend(row::documents(alloc, row, 1)?) {
-        Ok(builder) => held(alloc, builder),
-        Err(error) => Ok(text_of(alloc, error)?),
-    }
+    let documents = row::documents(alloc, row, 1)?;
+    let registry = done(alloc, prepared(Registry::new(alloc), documents))?;
+    done(alloc, held(alloc, &registry))
 }
 
 /// The title of a value.
@@ -40,15 +50,15 @@ fn title_of(alloc: Global, value: &Value) -> Result<String, AllocError> {
 }
 
 /// The title of what a reference leads to from `http://a/r`, by a call on a resolver.
-fn title_by_call(alloc: Global, registry: &Registry<'_>, reference: &str) -> Result<String, Fault> {
-    let resolver = registry.resolver(alloc, from_str(alloc, "http://a/r")?)?;
+fn title_by_call(alloc: Global, registry: &Registry<'_>, reference: &str) -> Result<String, Error> {
+    let resolver = resolver(alloc, registry, "http://a/r")?;
     let found = resolver.lookup(alloc, reference)?;
     Ok(title_of(alloc, found.contents())?)
 }
 
 /// The same by a step.
 fn title_by_step(alloc: Global, registry: &Registry<'_>, reference: &str) -> Result<String, Fault> {
-    let base = from_str(alloc, "http://a/r")?;
+    let base = row::uri_of(alloc, "http://a/r")?;
     let Ok(followed) = follow(alloc, registry, base, &[Step::Lookup(reference)]) else {
         return Err(Fault::Form("a step leads nowhere"));
     };
@@ -61,7 +71,7 @@ fn title_by_step(alloc: Global, registry: &Registry<'_>, reference: &str) -> Res
 /// The title of what a reference leads to from `http://a/r`, by a call on a resolver and by a step.
 fn title(alloc: Global, registry: &Registry<'_>, reference: &str) -> Result<String, Fault> {
     let by_steps = title_by_step(alloc, registry, reference)?;
-    let by_calls = title_by_call(alloc, registry, reference)?;
+    let by_calls = done(alloc, title_by_call(alloc, registry, reference))?;
     agreed(alloc, by_steps, by_calls, ["by steps", "by calls"])
 }
 
@@ -73,13 +83,9 @@ fn asked(alloc: Global, registry: &Registry<'_>, row: &Value) -> Result<String, 
     }
 }
 
-/// The registry of a document at `http://a/r`.
-fn holding<'a, T: IntoRegistryResource<'a>>(
-    alloc: Global,
-    draft: Option<Draft>,
-    document: T,
-) -> Result<Registry<'a>, Error> {
-    builder(alloc, draft).add("http://a/r", document)?.prepare()
+/// A value that is shared.
+fn shared(alloc: Global, value: &Value) -> Result<Rc<Value>, AllocError> {
+    Ok(Rc::new(alloc, value.clone()?)?)
 }
 
 /// The registry of a document that is added as a kind of input. Resources are of 2020-12.
@@ -88,39 +94,33 @@ fn of_kind<'a>(
     kind: &str,
     draft: Option<Draft>,
     value: &'a Value,
-) -> Result<Registry<'a>, Fault> {
+) -> Result<Registry<'a>, Error> {
     match kind {
-        "a value" => Ok(holding(alloc, draft, value.clone()?)?),
-        "a value that is lent" => Ok(holding(alloc, draft, value)?),
-        "a value that is shared" => {
-            let shared = Rc::new(alloc, value.clone()?)?;
-            Ok(holding(alloc, draft, shared)?)
-        }
+        "a value" => holding(alloc, draft, value.clone()?),
+        "a value that is lent" => holding(alloc, draft, value),
+        "a value that is shared" => holding(alloc, draft, shared(alloc, value)?),
         "a resource" => {
             let resource = Draft::Draft202012.create_resource(value.clone()?);
-            Ok(holding(alloc, draft, resource)?)
+            holding(alloc, draft, resource)
         }
-        "a view" => {
-            let view = ResourceRef::new(value, Draft::Draft202012);
-            Ok(holding(alloc, draft, view)?)
-        }
-        _ => Err(Fault::Form("no such kind of input")),
+        _ => holding(alloc, draft, ResourceRef::new(value, Draft::Draft202012)),
     }
 }
 
 /// The same where a resource is lent, which has to live as long.
 fn of_lent_resource(alloc: Global, draft: Option<Draft>, row: &Value) -> Result<String, Fault> {
     let resource = Draft::Draft202012.create_resource(row::column(row, 3)?.clone()?);
-    let registry = holding(alloc, draft, &resource)?;
+    let registry = done(alloc, holding(alloc, draft, &resource))?;
     asked(alloc, &registry, row)
 }
 
-/// Of a document that is added as a kind of input: a row of the kind, the draft that is set, the document, and what is asked.
+/// Of a document that is added as a kind of input: a row of the kind, which is a view where it is no other, the draft that is set, the document,
+/// and what is asked.
 pub fn of_kinds(alloc: Global, row: &Value) -> Result<String, Fault> {
     let (kind, draft) = (row::text(row, 1)?, row::draft(row, 2)?);
     if kind == "a resource that is lent" {
         return of_lent_resource(alloc, draft, row);
     }
-    let registry = of_kind(alloc, kind, draft, row::column(row, 3)?)?;
+    let registry = done(alloc, of_kind(alloc, kind, draft, row::column(row, 3)?))?;
     asked(alloc, &registry, row)
 }

@@ -1,10 +1,10 @@
 //! Where references lead, step by step from a base.
-use crate::answers::{agreed, text_of};
-use crate::fault::Fault;
+use crate::answers::agreed;
+use crate::fault::{Fault, done};
+use crate::registries::resolver;
 use crate::row;
 use ref_draft::{Draft, ResourceRef};
 use ref_retrieve::Error;
-use ref_uri::uri::from_str;
 use referencing::{FollowError, Followed, Registry, Step, follow};
 use serde_json::Value;
 use std::alloc::{AllocError, Global};
@@ -23,6 +23,7 @@ fn steps_of<'r>(alloc: Global, values: &'r [Value]) -> Result<Vec<Step<'r>>, All
     Ok(steps)
 }
 
+/// The value that was found last, its draft, and the resolver there.
 fn shown(alloc: Global, followed: &Followed<'_>) -> Result<String, AllocError> {
     let resolver = &followed.resolver;
     match followed.last {
@@ -34,6 +35,11 @@ fn shown(alloc: Global, followed: &Followed<'_>) -> Result<String, AllocError> {
     }
 }
 
+/// The number of a step, and the text of its fault.
+fn faulted(alloc: Global, step: usize, error: &Error) -> Result<String, AllocError> {
+    format!(in alloc; "{step}: {error}")
+}
+
 /// Where steps lead, or the number and the text of a fault.
 fn led_by_steps(
     alloc: Global,
@@ -41,12 +47,9 @@ fn led_by_steps(
     base: &str,
     steps: &[Step<'_>],
 ) -> Result<String, Fault> {
-    match follow(alloc, registry, from_str(alloc, base)?, steps) {
+    match follow(alloc, registry, row::uri_of(alloc, base)?, steps) {
         Ok(followed) => Ok(shown(alloc, &followed)?),
-        Err(FollowError { step, error }) => {
-            let text = text_of(alloc, error)?;
-            Ok(format!(in alloc; "{step}: {text}")?)
-        }
+        Err(FollowError { step, error }) => Ok(faulted(alloc, step, &error)?),
     }
 }
 
@@ -73,7 +76,7 @@ fn led_by_calls(
     base: &str,
     steps: &[Step<'_>],
 ) -> Result<String, Fault> {
-    let resolver = registry.resolver(alloc, from_str(alloc, base)?)?;
+    let resolver = done(alloc, resolver(alloc, registry, base))?;
     let mut at = Followed {
         last: None,
         resolver,
@@ -81,35 +84,36 @@ fn led_by_calls(
     for (number, step) in steps.iter().enumerate() {
         at = match stepped(alloc, at, step) {
             Ok(next) => next,
-            Err(error) => {
-                let text = text_of(alloc, error)?;
-                return Ok(format!(in alloc; "{number}: {text}")?);
-            }
+            Err(error) => return Ok(faulted(alloc, number, &error)?),
         };
     }
     Ok(shown(alloc, &at)?)
 }
 
 /// Where the steps of a row lead from the base in the column before them, by `follow` and by calls on resolvers.
-pub fn led(
-    alloc: Global,
-    registry: &Registry<'_>,
-    row: &Value,
-    number: usize,
-) -> Result<String, Fault> {
-    let base = row::text(row, number)?;
-    let steps = steps_of(alloc, row::list(row, number.saturating_add(1))?)?;
+pub fn led(alloc: Global, registry: &Registry<'_>, row: &Value) -> Result<String, Fault> {
+    let base = row::text(row, 4)?;
+    let steps = steps_of(alloc, row::list(row, 5)?)?;
     let by_steps = led_by_steps(alloc, registry, base, steps.as_slice())?;
     let by_calls = led_by_calls(alloc, registry, base, steps.as_slice())?;
     agreed(alloc, by_steps, by_calls, ["by steps", "by calls"])
 }
 
-/// The debug texts of the answers to two references, the second looked up from the resolver of the first one's answer: of a base and the references
-/// in a row's columns behind those of the registry.
-pub fn answers(alloc: Global, registry: &Registry<'_>, row: &Value) -> Result<String, Fault> {
-    let (first, second) = (row::text(row, 5)?, row::text(row, 6)?);
-    let resolver = registry.resolver(alloc, row::uri(alloc, row, 4)?)?;
-    let first = resolver.lookup(alloc, first)?;
+/// The debug texts of the answers to two references, the second looked up from the resolver of the first one's answer.
+fn answered(
+    alloc: Global,
+    registry: &Registry<'_>,
+    base: &str,
+    references: [&str; 2],
+) -> Result<String, Error> {
+    let [first, second] = references;
+    let first = resolver(alloc, registry, base)?.lookup(alloc, first)?;
     let second = first.resolver().lookup(alloc, second)?;
     Ok(format!(in alloc; "{first:?} {second:?}")?)
+}
+
+/// The same of a base and the references in a row's columns behind those of the registry.
+pub fn answers(alloc: Global, registry: &Registry<'_>, row: &Value) -> Result<String, Fault> {
+    let (base, first, second) = (row::text(row, 4)?, row::text(row, 5)?, row::text(row, 6)?);
+    done(alloc, answered(alloc, registry, base, [first, second]))
 }

@@ -8,14 +8,12 @@
 
 mod answers;
 mod builders;
-mod dangling;
 mod failing;
 mod families;
 mod fault;
 mod faults;
 mod inputs;
 mod lookups;
-mod outcomes;
 mod parts;
 mod places;
 mod registries;
@@ -27,6 +25,7 @@ mod row;
 mod sets;
 mod tables;
 mod tally;
+mod used;
 mod vocabularies;
 mod ways;
 
@@ -50,7 +49,7 @@ fn told_of_answer(
     }
 }
 
-/// What is told of a row, which is counted where it holds.
+/// What is told of a row, which is counted where its answer, or the text of the fault in its place, is the expected one.
 fn told_of_row(
     alloc: Global,
     tally: &mut Tally,
@@ -59,13 +58,11 @@ fn told_of_row(
 ) -> Result<String, AllocError> {
     let table = row::text(row, 0).unwrap_or("no table");
     let expected = row::last(row).unwrap_or("no answer");
-    match tables::found(alloc, given, table, row) {
-        Ok(found) => told_of_answer(alloc, tally, table, found.as_str(), expected),
-        Err(fault) => {
-            let fault = format!(in alloc; "{fault}")?;
-            tally.tell(alloc, table, fault.as_str(), expected)
-        }
-    }
+    let found = match tables::found(alloc, given, table, row) {
+        Ok(found) => found,
+        Err(fault) => format!(in alloc; "{fault}")?,
+    };
+    told_of_answer(alloc, tally, table, found.as_str(), expected)
 }
 
 /// The text of a request, where a line gives one.

@@ -1,9 +1,10 @@
 //! The places of own documents, where their paths lead, and values at paths.
-use crate::answers::{agreed, text_of};
-use crate::fault::Fault;
-use crate::registries::builder;
+use crate::answers::agreed;
+use crate::fault::{Fault, done};
+use crate::registries::holding;
 use crate::row;
 use ref_draft::Draft;
+use ref_retrieve::Error;
 use ref_uri::Uri;
 use ref_uri::uri::from_str;
 use referencing::{JsonPointerSegment, Place, Registry, Resolved, parse_index, write_index};
@@ -59,8 +60,8 @@ fn place_text(
     format!(in alloc; "{number}{path} {base} {draft:?}; ")
 }
 
-/// The places of a registry.
-pub fn listed(alloc: Global, registry: &Registry<'_>) -> Result<String, Fault> {
+/// The texts of the places of a registry.
+fn told(alloc: Global, registry: &Registry<'_>) -> Result<String, Error> {
     let places = registry.places(alloc)?;
     let mut text = String::new(alloc);
     for place in places.as_slice() {
@@ -70,13 +71,18 @@ pub fn listed(alloc: Global, registry: &Registry<'_>) -> Result<String, Fault> {
     Ok(text)
 }
 
+/// The places of a registry.
+pub fn listed(alloc: Global, registry: &Registry<'_>) -> Result<String, Fault> {
+    done(alloc, told(alloc, registry))
+}
+
 /// A place as its path leads to it from a base.
 fn located_place(
     alloc: Global,
     registry: &Registry<'_>,
     base: &Uri,
     place: &Place<'_>,
-) -> Result<String, Fault> {
+) -> Result<String, Error> {
     let path = place.path.as_slice();
     let (value, resolver, draft) = registry.locate(alloc, base, path)?.into_inner();
     if registry.value_at(place.document, path) != Some(value) {
@@ -86,7 +92,7 @@ fn located_place(
 }
 
 /// The places of a registry as their paths lead to them from `http://a/r`.
-fn located_places(alloc: Global, registry: &Registry<'_>) -> Result<String, Fault> {
+fn located_places(alloc: Global, registry: &Registry<'_>) -> Result<String, Error> {
     let base = from_str(alloc, "http://a/r")?;
     let places = registry.places(alloc)?;
     let mut text = String::new(alloc);
@@ -100,10 +106,9 @@ fn located_places(alloc: Global, registry: &Registry<'_>) -> Result<String, Faul
 /// The places of a document at `http://a/r`, which is lent, by a draft: as they are listed, and as their paths lead to them.
 pub fn agreeing(alloc: Global, row: &Value) -> Result<String, Fault> {
     let (draft, document) = (row::draft(row, 1)?, row::column(row, 2)?);
-    let builder = builder(alloc, draft).add("http://a/r", document)?;
-    let registry = builder.prepare()?;
+    let registry = done(alloc, holding(alloc, draft, document))?;
     let listed = listed(alloc, &registry)?;
-    let located = located_places(alloc, &registry)?;
+    let located = done(alloc, located_places(alloc, &registry))?;
     agreed(alloc, listed, located, ["as listed", "as located"])
 }
 
@@ -115,14 +120,12 @@ fn shown(alloc: Global, found: Resolved<'_>) -> Result<String, AllocError> {
     format!(in alloc; "{value} {base} {draft:?}")
 }
 
-/// Where a path leads, or the text of the refusal: of a base and the path in a row's columns behind those of the registry.
+/// Where a path leads: of a base and the path in a row's columns behind those of the registry.
 pub fn located(alloc: Global, registry: &Registry<'_>, row: &Value) -> Result<String, Fault> {
     let base = row::uri(alloc, row, 4)?;
     let path = path_of(alloc, row::text(row, 5)?)?;
-    match registry.locate(alloc, &base, path.as_slice()) {
-        Ok(found) => Ok(shown(alloc, found)?),
-        Err(error) => Ok(text_of(alloc, error)?),
-    }
+    let found = done(alloc, registry.locate(alloc, &base, path.as_slice()))?;
+    Ok(shown(alloc, found)?)
 }
 
 /// The value at a path, or `none`: of a document's number and the path.

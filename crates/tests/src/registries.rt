@@ -1,12 +1,12 @@
-//! Registries of the documents of a row, whether they are prepared, and which URIs mean places.
-use crate::answers::text_of;
-use crate::fault::Fault;
+//! Registries of the documents of a row, and which URIs mean places.
+use crate::fault::{Fault, done};
 use crate::row;
 use ref_draft::Draft;
 use ref_retrieve::{Error, Retrieve};
-use referencing::{Registry, RegistryBuilder};
+use ref_uri::uri::from_str;
+use referencing::{IntoRegistryResource, Registry, RegistryBuilder, Resolver};
 use serde_json::Value;
-use std::alloc::{AllocError, Global};
+use std::alloc::Global;
 
 /// A builder with this draft, or without one.
 pub fn builder<'b>(alloc: Global, draft: Option<Draft>) -> RegistryBuilder<'b> {
@@ -16,39 +16,48 @@ pub fn builder<'b>(alloc: Global, draft: Option<Draft>) -> RegistryBuilder<'b> {
     }
 }
 
+/// The registry of a document at `http://a/r`.
+pub fn holding<'a, T: IntoRegistryResource<'a>>(
+    alloc: Global,
+    draft: Option<Draft>,
+    document: T,
+) -> Result<Registry<'a>, Error> {
+    builder(alloc, draft).add("http://a/r", document)?.prepare()
+}
+
 /// The registry of what a builder holds and of these documents.
 pub fn prepared<'a, R: Retrieve + Drop>(
     builder: RegistryBuilder<'a, R>,
-    documents: Vec<(String, Value)>,
+    documents: Vec<(&'a str, &'a Value)>,
 ) -> Result<Registry<'a>, Error> {
     builder.extend(documents)?.prepare()
 }
 
 /// The registry of a column's documents, where nothing is retrieved.
-pub fn unretrieving(
+pub fn unretrieving<'v>(
     alloc: Global,
     draft: Option<Draft>,
-    row: &Value,
+    row: &'v Value,
     number: usize,
-) -> Result<Registry<'static>, Fault> {
+) -> Result<Registry<'v>, Fault> {
     let documents = row::documents(alloc, row, number)?;
-    Ok(prepared(builder(alloc, draft), documents)?)
+    done(alloc, prepared(builder(alloc, draft), documents))
 }
 
 /// The registry of a row's documents, where those of the next column can be retrieved.
-fn retrieving(
+fn retrieving<'v>(
     alloc: Global,
     draft: Option<Draft>,
-    row: &Value,
-) -> Result<Registry<'static>, Fault> {
-    let retriever = row::retriever(alloc, row, 3)?;
+    row: &'v Value,
+) -> Result<Registry<'v>, Fault> {
     let documents = row::documents(alloc, row, 2)?;
+    let retriever = row::retriever(alloc, row, 3)?;
     let builder = builder(alloc, draft).retriever(retriever);
-    Ok(prepared(builder, documents)?)
+    done(alloc, prepared(builder, documents))
 }
 
 /// The registry of a row that begins with a draft, documents, and what can be retrieved, or `null` where no retriever is given.
-pub fn registry(alloc: Global, row: &Value) -> Result<Registry<'static>, Fault> {
+pub fn registry(alloc: Global, row: &Value) -> Result<Registry<'_>, Fault> {
     let draft = row::draft(row, 1)?;
     if row::column(row, 3)?.is_null() {
         return unretrieving(alloc, draft, row, 2);
@@ -56,23 +65,34 @@ pub fn registry(alloc: Global, row: &Value) -> Result<Registry<'static>, Fault> 
     retrieving(alloc, draft, row)
 }
 
+/// The registry of documents above another.
+fn above<'b>(
+    alloc: Global,
+    parent: &'b Registry<'_>,
+    documents: Vec<(&'b str, &'b Value)>,
+) -> Result<Registry<'b>, Error> {
+    parent.extend(alloc, documents)?.prepare()
+}
+
 /// The registry of a column's documents above another.
 pub fn child<'b>(
     alloc: Global,
     parent: &'b Registry<'_>,
-    row: &Value,
+    row: &'b Value,
     number: usize,
 ) -> Result<Registry<'b>, Fault> {
     let documents = row::documents(alloc, row, number)?;
-    Ok(parent.extend(alloc, documents)?.prepare()?)
+    done(alloc, above(alloc, parent, documents))
 }
 
-/// The text of the refusal, or `prepared`.
-pub fn outcome(alloc: Global, registry: Result<Registry<'_>, Error>) -> Result<String, AllocError> {
-    match registry {
-        Ok(_) => String::from_str(alloc, "prepared"),
-        Err(error) => text_of(alloc, error),
-    }
+/// A resolver at the URI of a text.
+pub fn resolver<'r>(
+    alloc: Global,
+    registry: &'r Registry<'_>,
+    uri: &str,
+) -> Result<Resolver<'r>, Error> {
+    let base = from_str(alloc, uri)?;
+    Ok(registry.resolver(alloc, base)?)
 }
 
 /// Of each URI in a column whether it means a place: `+` where it does, and `-` where it doesn't.
@@ -84,8 +104,7 @@ pub fn known(
 ) -> Result<String, Fault> {
     let mut marks = String::new(alloc);
     for uri in row::list(row, number)? {
-        let uri = uri.as_str().ok_or(Fault::Form("a URI is no text"))?;
-        let is_known = registry.contains_resource(alloc, uri)?;
+        let is_known = registry.contains_resource(alloc, uri.as_str().unwrap_or("a b"))?;
         marks.push(if is_known { '+' } else { '-' })?;
     }
     Ok(marks)

@@ -34,11 +34,7 @@ pub fn of_request(alloc: Global, request: &str, table: &str, row: &Value) -> Res
 /// Compares the runs of a table.
 fn compare(alloc: Global, request: &str, table: &str, ending: &Ending<'_>) -> Result<(), Fault> {
     match table {
-        "requests" | "requested lookups" | "requested dangling references" => {
-            ways::each(alloc, request, ending)
-        }
-        "requested pointers" => ways::beginning(alloc, request, ending),
-        "nested requests" => parts::nesting(alloc, request, ending),
+        "requests" => ways::each(alloc, request, ending),
         "parts of requests" => parts::each(alloc, request, ending),
         "failing reads and writes" => failing::each(alloc, request, ending),
         _ => Err(Fault::Form("no such table on requests")),

@@ -1,9 +1,8 @@
-//! Retrievers of the tests' own: one that counts, and some without documents.
+//! Retrievers of the tests' own: one that counts, and one that has no memory.
 ghost use Rattle.std.specs.Prelude.{⊤};
 
 use crate::fault::Fault;
-use crate::lookups::led;
-use crate::registries::{known, outcome, prepared};
+use crate::registries::prepared;
 use crate::row;
 use ref_retrieve::{Error, MapRetriever, Retrieve, RetrieveError};
 use ref_uri::Uri;
@@ -43,74 +42,31 @@ pub fn calls(alloc: Global, row: &Value) -> Result<String, Fault> {
     let builder = Registry::new(alloc)
         .retrieval_limit(limit)
         .retriever(&retriever);
-    let _ = outcome(alloc, prepared(builder, documents))?;
+    let _ = prepared(builder, documents);
     let calls = retriever.calls.get();
     Ok(format!(in alloc; "{calls}")?)
 }
 
-/// Retrievers without documents.
+/// Has no memory for any document.
 #[derive(Drop)]
-enum Made {
-    /// Answers `true` for every URI.
-    True,
-    /// Answers for `http://e/N` with a document that refers to `http://e/M`, M being N + 1.
-    Chain,
-    /// Has no memory for any document.
-    Exhausted,
-}
+struct Exhausted;
 
-/// A document that refers to the URI with the next number, which is 1 behind one without a number.
-fn next_of(alloc: Global, uri: &Uri) -> Result<Value, AllocError> {
-    let number: usize = match uri.path().strip_prefix('/') {
-        Some(number) => number.parse().unwrap_or(0),
-        None => 0,
-    };
-    let next = number.saturating_add(1);
-    let text = format!(in alloc; "{{\"$ref\":\"http://e/{next}\"}}")?;
-    Value::from_str(alloc, text.as_str()).ok().ok_or(AllocError)
-}
-
-impl Retrieve for Made {
+impl Retrieve for Exhausted {
     ghost use Rattle.std.specs.Prelude.{⊤};
 
     ghost may_answer = { λ _ _ _. ⊤ };
 
     ghost may_refuse = { λ _ _ _. ⊤ };
 
-    fn retrieve(&self, alloc: Global, uri: &Uri) -> Result<Value, RetrieveError> {
-        match self {
-            Made::True => Ok(Value::Bool(true)),
-            Made::Chain => Ok(next_of(alloc, uri)?),
-            Made::Exhausted => Err(RetrieveError::Memory(AllocError)),
-        }
+    fn retrieve(&self, _alloc: Global, _uri: &Uri) -> Result<Value, RetrieveError> {
+        Err(RetrieveError::Memory(AllocError))
     }
-}
-
-/// Which URIs mean places where each retrieved document is `true`, and where steps lead: of a row of documents, the URIs, a base and the
-/// steps.
-pub fn all_true(alloc: Global, row: &Value) -> Result<String, Fault> {
-    let documents = row::documents(alloc, row, 1)?;
-    let registry = prepared(Registry::new(alloc).retriever(Made::True), documents)?;
-    let marks = known(alloc, &registry, row, 2)?;
-    let led = led(alloc, &registry, row, 3)?;
-    Ok(format!(in alloc; "{marks} {led}")?)
-}
-
-/// The outcome of a chain without an end: of a row of documents and how many may be retrieved, or `null` where no limit is set.
-pub fn chained(alloc: Global, row: &Value) -> Result<String, Fault> {
-    let documents = row::documents(alloc, row, 1)?;
-    let builder = Registry::new(alloc).retriever(Made::Chain);
-    let builder = match row::number(row, 2).ok() {
-        Some(limit) => builder.retrieval_limit(limit),
-        None => builder,
-    };
-    Ok(outcome(alloc, prepared(builder, documents))?)
 }
 
 /// Whether preparing a row's documents ends with the retriever's want of memory.
 pub fn is_exhausted(alloc: Global, row: &Value) -> Result<String, Fault> {
     let documents = row::documents(alloc, row, 1)?;
-    let registry = prepared(Registry::new(alloc).retriever(Made::Exhausted), documents);
+    let registry = prepared(Registry::new(alloc).retriever(Exhausted), documents);
     let is_exhausted = matches!(registry, Err(Error::Memory(_)));
     Ok(format!(in alloc; "{is_exhausted}")?)
 }

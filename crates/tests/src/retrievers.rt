@@ -2,13 +2,12 @@
 use crate::fault::Fault;
 use crate::row;
 use ref_retrieve::{DefaultRetriever, MapRetriever, Retrieve};
-use ref_uri::uri::from_str;
 use serde_json::Value;
 use std::alloc::Global;
 
 /// What a retriever answers for a URI, or the text of its refusal.
 fn retrieved<R: Retrieve + Drop>(alloc: Global, retriever: R, uri: &str) -> Result<String, Fault> {
-    let uri = from_str(alloc, uri)?;
+    let uri = row::uri_of(alloc, uri)?;
     match retriever.retrieve(alloc, &uri) {
         Ok(value) => Ok(value.to_string(alloc)?),
         Err(error) => Ok(format!(in alloc; "{error}")?),

@@ -1,9 +1,8 @@
 //! What is found of a row, by its table.
-use crate::answers::or_refusal;
 use crate::fault::Fault;
 use crate::{
-    builders, dangling, families, faults, inputs, lookups, outcomes, places, registries, reports,
-    resources, retrieval, retrievers, sets, vocabularies,
+    builders, families, faults, inputs, lookups, places, registries, reports, resources, retrieval,
+    retrievers, sets, used, vocabularies,
 };
 use referencing::Registry;
 use serde_json::Value;
@@ -23,9 +22,7 @@ fn of_families(alloc: Global, given: &Value, table: &str, row: &Value) -> Result
         "vocabularies" | "vocabularies by the parent" | "vocabularies at bases" => {
             families::of_documents(alloc, given, table, row)
         }
-        "child lookups" | "children" | "generations" | "dangling below parents" => {
-            families::of_documents(alloc, row, table, row)
-        }
+        "children" | "generations" => families::of_documents(alloc, row, table, row),
         _ => of_faults(alloc, table, row),
     }
 }
@@ -46,11 +43,12 @@ fn of_faults(alloc: Global, table: &str, row: &Value) -> Result<String, Fault> {
 fn of_vocabularies(alloc: Global, table: &str, row: &Value) -> Result<String, Fault> {
     match table {
         "vocabulary names" => vocabularies::named(alloc, row),
-        "declared vocabularies" => or_refusal(alloc, vocabularies::declared(alloc, row)),
+        "declared vocabularies" => vocabularies::declared(alloc, row),
         "dialects" => vocabularies::dialect(alloc, row),
         "default vocabularies" => vocabularies::default_of(alloc, row),
         "declared or default vocabularies" => vocabularies::declared_or_default_of(alloc, row),
         "vocabularies passed on" => vocabularies::passed_on(alloc, row),
+        "URIs of drafts" => vocabularies::uris_of_drafts(alloc, row),
         _ => of_sets(alloc, table, row),
     }
 }
@@ -58,7 +56,7 @@ fn of_vocabularies(alloc: Global, table: &str, row: &Value) -> Result<String, Fa
 /// Of the tables on sets of vocabularies.
 fn of_sets(alloc: Global, table: &str, row: &Value) -> Result<String, Fault> {
     match table {
-        "vocabulary sets" => or_refusal(alloc, sets::of_texts(alloc, row)),
+        "vocabulary sets" => sets::of_texts(alloc, row),
         "sets of bits" => sets::of_bits(alloc, row),
         "single bits" => sets::of_a_bit(alloc, row),
         "custom vocabularies" => sets::custom(alloc, row),
@@ -68,36 +66,26 @@ fn of_sets(alloc: Global, table: &str, row: &Value) -> Result<String, Fault> {
     }
 }
 
-/// Of the tables on builders.
+/// Of the tables on builders, and on what is retrieved for their documents.
 fn of_builders(alloc: Global, table: &str, row: &Value) -> Result<String, Fault> {
     match table {
         "builders" => inputs::added(alloc, row),
         "made builders" => builders::made(alloc, row),
         "kinds" | "kinds with titles" => inputs::of_kinds(alloc, row),
-        _ => of_outcomes(alloc, table, row),
-    }
-}
-
-/// Of the tables on whether documents are prepared, and what is retrieved for them.
-fn of_outcomes(alloc: Global, table: &str, row: &Value) -> Result<String, Fault> {
-    match table {
-        "outcomes" => outcomes::of_documents(alloc, row),
-        "default outcomes" => outcomes::by_default(alloc, row),
-        "meta-schemas" => outcomes::of_meta_schemas(alloc, row),
-        "URIs of drafts" => outcomes::uris_of_drafts(alloc, row),
         "calls of a retriever" => retrieval::calls(alloc, row),
-        "retrieved true" => retrieval::all_true(alloc, row),
-        "chains" => retrieval::chained(alloc, row),
         "retrievers without memory" => retrieval::is_exhausted(alloc, row),
         _ => of_texts(alloc, table, row),
     }
 }
 
-/// Of the tables on texts that are resolved by themselves, on places of a document that is lent, or on registries.
+/// Of the tables on texts that are resolved by themselves, on places of a document that is lent, on uses, or on registries.
 fn of_texts(alloc: Global, table: &str, row: &Value) -> Result<String, Fault> {
     match table {
         "texts by resolvers" => resources::resolved_by_resolvers(alloc, row),
         "paths of places" => places::agreeing(alloc, row),
+        "validator" | "bundler" | "openapi" | "dialect" | "editor" | "shown faults" => {
+            used::found(alloc, table, row)
+        }
         _ => of_registries(alloc, table, row),
     }
 }
@@ -119,30 +107,11 @@ fn of_registry(
         "places" => places::listed(alloc, registry),
         "paths" => places::located(alloc, registry, row),
         "values" => places::value(alloc, registry, row),
-        "dangling" => dangling::entries(alloc, registry),
         "resources" | "retrieved drafts" => resources::known_twice(alloc, registry, row),
         "texts" => resources::resolved(alloc, registry, row),
         "copies" => resources::copies(alloc, registry, row),
         "answers" => lookups::answers(alloc, registry, row),
-        _ => of_lookups(alloc, registry, table, row),
-    }
-}
-
-/// Where references lead in their registry.
-fn of_lookups(
-    alloc: Global,
-    registry: &Registry<'_>,
-    table: &str,
-    row: &Value,
-) -> Result<String, Fault> {
-    match table {
-        "lookups"
-        | "lookup faults"
-        | "entered"
-        | "anchors"
-        | "pointers"
-        | "odd parts"
-        | "retrieved lookups" => lookups::led(alloc, registry, row, 4),
+        "lookups" => lookups::led(alloc, registry, row),
         _ => Err(Fault::Form("no such table")),
     }
 }

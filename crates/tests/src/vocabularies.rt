@@ -1,22 +1,35 @@
 //! Vocabularies by their names, what meta-schemas and schemas declare, and the vocabularies of schemas by the meta-schemas that a registry and
 //! its parents have.
-use crate::fault::Fault;
+use crate::fault::{Fault, done};
+use crate::registries::resolver;
 use crate::row;
+use ref_retrieve::Error;
 use ref_vocabularies::{Dialect, declared_or_default, default_vocabularies, find};
-use referencing::{Registry, Vocabulary, vocabularies};
+use referencing::meta::{URIS, uris_for_draft};
+use referencing::{Draft, Registry, Vocabulary, vocabularies};
 use serde_json::Value;
 use std::alloc::Global;
 
+/// The vocabulary that a text names.
+fn vocabulary_of(alloc: Global, text: &str) -> Result<String, Error> {
+    let vocabulary = Vocabulary::from_text(alloc, text)?;
+    Ok(format!(in alloc; "{vocabulary:?}")?)
+}
+
 /// Of a row of a text: the vocabulary that it names.
 pub fn named(alloc: Global, row: &Value) -> Result<String, Fault> {
-    let vocabulary = Vocabulary::from_text(alloc, row::text(row, 1)?)?;
-    Ok(format!(in alloc; "{vocabulary:?}")?)
+    done(alloc, vocabulary_of(alloc, row::text(row, 1)?))
+}
+
+/// What a meta-schema declares.
+fn found(alloc: Global, meta_schema: &Value) -> Result<String, Error> {
+    let found = find(alloc, meta_schema)?;
+    Ok(format!(in alloc; "{found:?}")?)
 }
 
 /// Of a row of a meta-schema: what it declares.
 pub fn declared(alloc: Global, row: &Value) -> Result<String, Fault> {
-    let found = find(alloc, row::column(row, 1)?)?;
-    Ok(format!(in alloc; "{found:?}")?)
+    done(alloc, found(alloc, row::column(row, 1)?))
 }
 
 /// Of a row of a draft and a schema: where the schema's vocabularies are told, their set or the URI of the meta-schema.
@@ -45,17 +58,49 @@ pub fn by_registry(alloc: Global, registry: &Registry<'_>, row: &Value) -> Resul
     Ok(format!(in alloc; "{set:?}")?)
 }
 
+/// By a resolver at a base.
+fn of_resolver(
+    alloc: Global,
+    registry: &Registry<'_>,
+    base: &str,
+    draft: Draft,
+    schema: &Value,
+) -> Result<String, Error> {
+    let resolver = resolver(alloc, registry, base)?;
+    let set = resolver.find_vocabularies(alloc, draft, schema)?;
+    Ok(format!(in alloc; "{set:?}")?)
+}
+
 /// By its resolver at a base: of a row of a draft, the base and a schema.
 pub fn at_bases(alloc: Global, registry: &Registry<'_>, row: &Value) -> Result<String, Fault> {
-    let (draft, schema) = (row::named_draft(row, 1)?, row::column(row, 3)?);
-    let resolver = registry.resolver(alloc, row::uri(alloc, row, 2)?)?;
-    let set = resolver.find_vocabularies(alloc, draft, schema)?;
+    let (draft, base, schema) = (
+        row::named_draft(row, 1)?,
+        row::text(row, 2)?,
+        row::column(row, 3)?,
+    );
+    done(alloc, of_resolver(alloc, registry, base, draft, schema))
+}
+
+/// What a meta-schema declares, under the name of `referencing`.
+fn passed(alloc: Global, meta_schema: &Value) -> Result<String, Error> {
+    let set = vocabularies::find(alloc, meta_schema)?;
     Ok(format!(in alloc; "{set:?}")?)
 }
 
 /// What a meta-schema declares, and the vocabulary that a text names, under the names of `referencing`.
 pub fn passed_on(alloc: Global, row: &Value) -> Result<String, Fault> {
-    let set = vocabularies::find(alloc, row::column(row, 1)?)?;
-    let vocabulary = Vocabulary::from_text(alloc, row::text(row, 2)?)?;
-    Ok(format!(in alloc; "{set:?} {vocabulary:?}")?)
+    let set = done(alloc, passed(alloc, row::column(row, 1)?))?;
+    let vocabulary = done(alloc, vocabulary_of(alloc, row::text(row, 2)?))?;
+    Ok(format!(in alloc; "{set} {vocabulary}")?)
+}
+
+/// How many URIs of meta-schemas a draft has, and the first of them; where no draft is named, how many all have.
+pub fn uris_of_drafts(alloc: Global, row: &Value) -> Result<String, Fault> {
+    let Some(draft) = row::draft(row, 1)? else {
+        let count = URIS.len();
+        return Ok(format!(in alloc; "{count}")?);
+    };
+    let uris = uris_for_draft(draft);
+    let (count, first) = (uris.len(), uris.first().copied().unwrap_or("none"));
+    Ok(format!(in alloc; "{count} {first}")?)
 }

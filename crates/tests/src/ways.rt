@@ -98,21 +98,11 @@ impl Found {
         self.answer == Ok(ending.status) && self.report.as_slice() == ending.report.as_bytes()
     }
 
-    /// Whether a run ended so, with a report that begins so; one on a fault is that alone.
-    fn begins(&self, ending: &Ending<'_>) -> bool {
-        if ending.status == Status::Done {
-            self.answer == Ok(ending.status)
-                && self.report.as_slice().starts_with(ending.report.as_bytes())
-        } else {
-            self.is_of(ending)
-        }
-    }
-
     /// What is told of a run that ends otherwise.
     fn told(&self, alloc: Global, way: &str) -> Result<(), Fault> {
         let report = str::from_utf8(self.report.as_slice()).unwrap_or("no text");
         let text = format!(in alloc; "{:?} {report:?} {way}", self.answer)?;
-        Err(Fault::Differs(text))
+        Err(Fault::Text(text))
     }
 }
 
@@ -134,13 +124,4 @@ pub fn each(alloc: Global, request: &str, ending: &Ending<'_>) -> Result<(), Fau
     compare(alloc, &found, "with pauses", ending)?;
     let found = by_reader_and_writer(alloc, request);
     compare(alloc, &found, "by a reader and a writer", ending)
-}
-
-/// Runs on a request whose report begins as the row says.
-pub fn beginning(alloc: Global, request: &str, ending: &Ending<'_>) -> Result<(), Fault> {
-    let found = at_once(alloc, request.as_bytes());
-    if found.begins(ending) {
-        return Ok(());
-    }
-    found.told(alloc, "at once")
 }

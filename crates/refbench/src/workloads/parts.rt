@@ -1,6 +1,6 @@
 //! Workloads of `ref_parts`: the scan for escapes, a plain one beside it, and look-ups in a sorted table.
 
-use crate::line::Line;
+use crate::workloads::line::Line;
 use ref_parts::{SortedTable, first_escape};
 use std::alloc::{AllocError, Global};
 

@@ -1,6 +1,6 @@
 //! Calls of lists and paths of `ref_parts`.
-use crate::stop::{Stop, after, refused};
-use crate::trial::{Calls, Trial, tried};
+use crate::refused::stop::{Stop, after, refused};
+use crate::refused::trial::{Calls, Trial, tried};
 use ref_parts::list::List;
 use ref_parts::path::{JsonPointerNode, JsonPointerSegment};
 use std::alloc::{AllocError, Global};

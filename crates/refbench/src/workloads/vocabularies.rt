@@ -1,6 +1,6 @@
 //! Workloads of `ref_vocabularies`: the vocabulary of a text, and what a meta-schema declares.
 
-use crate::line::Line;
+use crate::workloads::line::Line;
 use ref_vocabularies::{Vocabulary, find};
 use serde_json::Value;
 use std::alloc::{AllocError, Global};

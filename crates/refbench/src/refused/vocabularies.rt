@@ -1,6 +1,6 @@
 //! Calls of vocabularies.
-use crate::stop::{Stop, after, fault, refused};
-use crate::trial::{Calls, Trial, tried};
+use crate::refused::stop::{Stop, after, fault, refused};
+use crate::refused::trial::{Calls, Trial, tried};
 use ref_draft::Draft;
 use ref_retrieve::Error;
 use ref_vocabularies::{

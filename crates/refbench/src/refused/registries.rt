@@ -1,12 +1,14 @@
 //! Calls of a registry of a document and of one that was retrieved, above one of a meta-schema; and of resolvers in it.
-use crate::builders::{known, marks};
-use crate::documents::{DOCUMENT, META, SUBRESOURCE, retrieving, uri, value};
-use crate::resolvers::{found, resolver, steps};
+use crate::refused::builders::{known, marks};
+use crate::refused::documents::{DOCUMENT, META, SUBRESOURCE, retrieving, uri, value};
+use crate::refused::resolvers::{found, resolver, steps};
+use crate::refused::stop::{Stop, after, fault, refused};
+use crate::refused::trial::{Calls, Trial, tried};
+use crate::refused::vocabularies::shown_set;
 use ref_lint::{Dangling, dangling};
 use ref_retrieve::Error;
 use ref_uri::Uri;
 use referencing::{Draft, JsonPointerSegment, Registry, Resolver};
-use refused_calls::{Calls, Stop, Trial, after, fault, refused, shown_set, tried};
 use std::alloc::{AllocError, Global};
 use std::rc::Rc;
 

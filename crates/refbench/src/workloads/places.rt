@@ -1,7 +1,7 @@
 //! Workloads of the places of a registry: their list, the look-up of their paths, and the references that lead nowhere.
 
-use crate::line::Line;
-use crate::registries::documents_of;
+use crate::workloads::line::Line;
+use crate::workloads::registries::documents_of;
 use ref_lint::dangling;
 use ref_retrieve::Error;
 use ref_uri::uri::from_str;

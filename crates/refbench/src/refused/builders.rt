@@ -1,8 +1,9 @@
 //! Calls of builders above a registry.
-use crate::documents::{DOCUMENT, META, builder_of, retrieving, title_of, uri, value};
+use crate::refused::documents::{DOCUMENT, META, builder_of, retrieving, title_of, uri, value};
+use crate::refused::stop::{Refusal, Stop, after, fault, refused};
+use crate::refused::trial::{Calls, Trial, tried};
 use ref_retrieve::{Error, MapRetriever};
 use referencing::{Answer, AnswerError, Draft, Registry, RegistryBuilder, Step};
-use refused_calls::{Calls, Refusal, Stop, Trial, after, fault, refused, tried};
 use serde_json::Value;
 use std::alloc::{AllocError, Global};
 

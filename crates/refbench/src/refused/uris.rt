@@ -1,6 +1,6 @@
 //! Calls of `ref_uri`.
-use crate::stop::{Refusal, Stop, after, fault, refused};
-use crate::trial::{Calls, Trial, tried};
+use crate::refused::stop::{Refusal, Stop, after, fault, refused};
+use crate::refused::trial::{Calls, Trial, tried};
 use ref_uri::uri::{from_str, resolve_against};
 use ref_uri::{Uri, UriRef};
 use std::alloc::Global;

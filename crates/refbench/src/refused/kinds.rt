@@ -1,11 +1,12 @@
 //! The six kinds of input: a document with a list of no text or of a hundred is added, prepared, and looked up. No value is copied
 //! where both make as many requests.
-use crate::documents::value;
+use crate::refused::documents::value;
+use crate::refused::stop::{Stop, after, fault};
+use crate::refused::trial::{Calls, Trial, tried};
 use ref_draft::{Draft, Resource, ResourceRef};
 use ref_retrieve::Error;
 use ref_uri::uri::from_str;
 use referencing::{IntoRegistryResource, Registry};
-use refused_calls::{Calls, Stop, Trial, after, fault, tried};
 use serde_json::Value;
 use std::alloc::{AllocError, Global};
 use std::rc::Rc;

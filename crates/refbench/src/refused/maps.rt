@@ -1,6 +1,6 @@
 //! Calls of maps and tables of `ref_parts`.
-use crate::stop::{Stop, after, refused};
-use crate::trial::{Calls, Trial, tried};
+use crate::refused::stop::{Stop, after, refused};
+use crate::refused::trial::{Calls, Trial, tried};
 use ref_parts::small_map::SmallMap;
 use ref_parts::table::SortedTable;
 use std::alloc::{AllocError, Global};

@@ -1,14 +1,18 @@
-//! What each use answers of a row.
-use crate::bundler::referred_documents;
-use crate::dialect::vocabularies_of;
-use crate::editor::value_and_base;
-use crate::faults::shown;
-use crate::openapi::{Files, prepared};
-use crate::validator::validated;
-use referencing::uri::from_str;
-use referencing::{Draft, Error, Registry, Step};
+//! What uses of the library answer, as callers write them.
+use crate::fault::{Fault, done};
+use crate::registries::resolver;
+use crate::row;
+use ref_retrieve::Error;
+use ref_uri::uri::from_str;
+use referencing::{Draft, Registry, Step};
 use serde_json::Value;
 use std::alloc::{AllocError, Global};
+use uses::bundler::referred_documents;
+use uses::dialect::vocabularies_of;
+use uses::editor::value_and_base;
+use uses::faults::shown;
+use uses::openapi::{Files, prepared};
+use uses::validator::validated;
 
 /// The registry of a document.
 fn registry_of<'v>(alloc: Global, uri: &str, given: &'v Value) -> Result<Registry<'v>, Error> {
@@ -18,38 +22,49 @@ fn registry_of<'v>(alloc: Global, uri: &str, given: &'v Value) -> Result<Registr
 /// What a validator answers of an instance, from the root of a schema.
 fn verdict(alloc: Global, schema: &Value, instance: &Value) -> Result<String, Error> {
     let registry = registry_of(alloc, "http://a/r", schema)?;
-    let resolver = registry.resolver(alloc, from_str(alloc, "http://a/r")?)?;
+    let resolver = resolver(alloc, &registry, "http://a/r")?;
     let draft = Draft::Draft202012;
     let verdict = validated(alloc, &resolver, draft, schema, instance, 8)?;
     Ok(format!(in alloc; "{verdict:?}")?)
 }
 
-/// What the document with this number refers to, each URI with a space behind it.
-fn listed(alloc: Global, registry: &Registry<'_>, document: usize) -> Result<String, Error> {
-    let mut line = String::new(alloc);
+/// Appends what the document with this number refers to, each URI with a space behind it.
+fn push_listed(
+    alloc: Global,
+    text: &mut String,
+    registry: &Registry<'_>,
+    document: usize,
+) -> Result<(), Error> {
     for uri in referred_documents(alloc, registry, document)? {
-        line.push_str(uri.as_str())?;
-        line.push(' ')?;
+        text.push_str(uri.as_str())?;
+        text.push(' ')?;
     }
-    Ok(line)
+    Ok(())
 }
 
 /// What a document refers to, and behind a semicolon what another of the same registry does.
 fn bundled(alloc: Global, document: &Value, other: &Value) -> Result<String, Error> {
     let builder = Registry::new(alloc).add("http://a/r", document)?;
     let registry = builder.add("http://a/b/s", other)?.prepare()?;
-    let first = listed(alloc, &registry, 0)?;
-    let second = listed(alloc, &registry, 1)?;
-    Ok(format!(in alloc; "{first}; {second}")?)
+    let mut text = String::new(alloc);
+    push_listed(alloc, &mut text, &registry, 0)?;
+    text.push_str("; ")?;
+    push_listed(alloc, &mut text, &registry, 1)?;
+    Ok(text)
+}
+
+/// Files of one, at `http://a/pet`.
+fn files(alloc: Global, file: &Value) -> Result<Files, Error> {
+    let file = (from_str(alloc, "http://a/pet")?, file.clone()?);
+    let files = vec![in alloc; file].map_err(AllocError::from)?;
+    Ok(Files { files })
 }
 
 /// What stands under `name` of a file, to which a description refers.
 fn described(alloc: Global, description: &Value, file: &Value) -> Result<String, Error> {
-    let file = (from_str(alloc, "http://a/pet")?, file.clone()?);
-    let files = vec![in alloc; file].map_err(AllocError::from)?;
     let builder = Registry::new(alloc).add("http://a/api", description)?;
-    let registry = prepared(builder, Files { files })?;
-    let resolver = registry.resolver(alloc, from_str(alloc, "http://a/api")?)?;
+    let registry = prepared(builder, files(alloc, file)?)?;
+    let resolver = resolver(alloc, &registry, "http://a/api")?;
     let found = resolver.lookup(alloc, "pet#/name")?;
     Ok(found.contents().to_string(alloc)?)
 }
@@ -79,28 +94,21 @@ fn asked(alloc: Global, document: &Value, reference: &str) -> Result<String, Err
     Ok(shown(alloc, builder, base, &steps)?)
 }
 
-/// What a use answers.
-fn found(alloc: Global, name: &str, document: &Value, asked: &Value) -> Result<String, Error> {
-    match (name, asked.as_str()) {
-        ("validator", _) => verdict(alloc, document, asked),
-        ("bundler", _) => bundled(alloc, document, asked),
-        ("openapi", _) => described(alloc, document, asked),
-        ("dialect", _) => declared(alloc, document, asked),
-        ("editor", Some(fragment)) => edited(alloc, document, fragment),
-        ("faults", Some(reference)) => self::asked(alloc, document, reference),
-        _ => Ok(String::from_str(alloc, "no such use")?),
+/// What a use answers of a document and of what is asked of it.
+fn answered(alloc: Global, name: &str, document: &Value, asked: &Value) -> Result<String, Error> {
+    let text = asked.as_str().unwrap_or("no text");
+    match name {
+        "validator" => verdict(alloc, document, asked),
+        "bundler" => bundled(alloc, document, asked),
+        "openapi" => described(alloc, document, asked),
+        "dialect" => declared(alloc, document, asked),
+        "editor" => edited(alloc, document, text),
+        _ => self::asked(alloc, document, text),
     }
 }
 
-/// What a use answers, or the text of an error.
-pub fn told(
-    alloc: Global,
-    name: &str,
-    document: &Value,
-    asked: &Value,
-) -> Result<String, AllocError> {
-    match found(alloc, name, document, asked) {
-        Ok(text) => Ok(text),
-        Err(error) => format!(in alloc; "{error}"),
-    }
+/// Of a row of a document and of what is asked of it: what the use answers.
+pub fn found(alloc: Global, table: &str, row: &Value) -> Result<String, Fault> {
+    let (document, asked) = (row::column(row, 1)?, row::column(row, 2)?);
+    done(alloc, answered(alloc, table, document, asked))
 }

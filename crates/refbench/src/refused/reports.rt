@@ -1,7 +1,8 @@
 //! Runs of requests into a sink whose room was reserved before.
+use crate::refused::stop::{Stop, after, refused};
+use crate::refused::trial::{Calls, Trial, tried};
 use ref_report::run::{RunError, run};
 use ref_report::{MemorySink, MemorySource, Status};
-use refused_calls::{Calls, Stop, Trial, after, refused, tried};
 use std::alloc::{AllocError, Global};
 use std::str;
 

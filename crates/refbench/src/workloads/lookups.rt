@@ -7,8 +7,8 @@
 //! where the scope isn't empty, and `resolved` resolves a `$ref` against the base at which it stands. The documents are borrowed,
 //! and owned where the call ends with `-owned`.
 
-use crate::line::Line;
-use crate::registries::{DEFINITIONS, documents_of, lent};
+use crate::workloads::line::Line;
+use crate::workloads::registries::{DEFINITIONS, documents_of, lent};
 use ref_retrieve::Error;
 use ref_uri::uri::from_str;
 use referencing::{Draft, Registry, RegistryBuilder, Resolver};

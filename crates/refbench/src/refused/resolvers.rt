@@ -1,10 +1,11 @@
 //! Calls of resolvers, and steps.
-use crate::documents::{SUBRESOURCE, title_of, uri, value};
-use crate::registries::resolved;
+use crate::refused::documents::{SUBRESOURCE, title_of, uri, value};
+use crate::refused::registries::resolved;
+use crate::refused::stop::{Refusal, Stop, after, fault, refused};
+use crate::refused::vocabularies::shown_set;
 use ref_retrieve::Error;
 use ref_uri::Uri;
 use referencing::{Draft, FollowError, Registry, Resolved, Resolver, ResourceRef, Step, follow};
-use refused_calls::{Refusal, Stop, after, fault, refused, shown_set};
 use std::alloc::{AllocError, Global};
 
 /// What a call of a resolver answers.

@@ -1,6 +1,6 @@
 //! Calls of `ref_draft`.
-use crate::stop::{Stop, after, refused};
-use crate::trial::{Calls, Trial, tried};
+use crate::refused::stop::{Stop, after, refused};
+use crate::refused::trial::{Calls, Trial, tried};
 use ref_draft::{Child, Draft, Resource, Segment, Segments};
 use ref_parts::path::JsonPointerSegment;
 use serde_json::Value;

@@ -1,5 +1,5 @@
 //! A call that is tried, and asked again where it wanted memory.
-use crate::stop::{Stop, after};
+use crate::refused::stop::{Stop, after};
 use std::alloc::{AllocError, Global};
 
 /// Calls on values that were made before them, by their names.

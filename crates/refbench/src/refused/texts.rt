@@ -1,6 +1,6 @@
 //! Calls of pointer text and of buffers of `ref_parts`.
-use crate::stop::{Stop, after, refused};
-use crate::trial::{Calls, Trial, tried};
+use crate::refused::stop::{Stop, after, refused};
+use crate::refused::trial::{Calls, Trial, tried};
 use ref_parts::{EncodedBuffer, pointer, unescape_segment, write_escaped_str, write_index};
 use serde_json::Value;
 use std::alloc::Global;

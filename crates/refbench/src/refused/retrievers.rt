@@ -1,8 +1,9 @@
 //! Calls of retrievers.
-use crate::documents::{pairs, retriever, title_of, uri};
+use crate::refused::documents::{pairs, retriever, title_of, uri};
+use crate::refused::stop::{Stop, after, fault, refused};
+use crate::refused::trial::{Calls, Trial, tried};
 use ref_retrieve::{DefaultRetriever, MapRetriever, Retrieve};
 use ref_uri::Uri;
-use refused_calls::{Calls, Stop, Trial, after, fault, refused, tried};
 use std::alloc::Global;
 
 /// A retriever of one document, its URI, and another.

@@ -1,9 +1,9 @@
 //! The documents that calls are made on.
+use crate::refused::stop::Stop;
 use ref_retrieve::MapRetriever;
 use ref_uri::Uri;
 use ref_uri::uri::from_str;
 use referencing::{Registry, RegistryBuilder};
-use refused_calls::Stop;
 use serde_json::Value;
 use std::alloc::{AllocError, Global};
 

@@ -3,7 +3,7 @@
 //! Of so many documents, each has twenty definitions with an identifier, an anchor, and a reference to the same definition of
 //! the next document; `members` is one document with so many definitions, each with an identifier.
 
-use crate::line::Line;
+use crate::workloads::line::Line;
 use ref_retrieve::Error;
 use referencing::{Registry, RegistryBuilder};
 use serde_json::Value;
