@@ -1,6 +1,5 @@
-// Loaded into a program by LD_PRELOAD: refuses the request for memory whose number, from 1, stands in the variable REFUSED, and with it
-// those behind it, up to as many as stand in IN_A_ROW. At the end it writes on descriptor 9 how many requests there were. So it tells also
-// what a program's libraries ask for.
+// Loaded into a program by LD_PRELOAD: refuses the request for memory whose number, from 1, stands in the variable REFUSED. At the end it
+// writes on descriptor 9 how many requests there were. So it counts also what a program's libraries ask for.
 #define _GNU_SOURCE
 #include <errno.h>
 #include <stddef.h>
@@ -14,19 +13,16 @@ void *__libc_calloc(size_t, size_t);
 
 static long requests;
 static long refused;
-static long in_a_row;
 
 __attribute__((constructor)) static void start(void) {
     const char *number = getenv("REFUSED");
-    const char *count = getenv("IN_A_ROW");
     refused = number ? atol(number) : 0;
-    in_a_row = count ? atol(count) : 1;
     requests = 0;
 }
 
 static int is_refused(void) {
     requests++;
-    if (requests < refused || requests >= refused + in_a_row) {
+    if (requests != refused) {
         return 0;
     }
     errno = ENOMEM;

@@ -18,10 +18,12 @@ pub loop-number-preserved : goal.loop-number-preserved
 loop-number-preserved c =
     let l = c.loop-number in
     let on = followed_next c.args.registry.now l.number (followed_of l.followed) (followed_of c.in-Ok-stepped.next) c.args.steps.now c.index-steps-number.result
-    c.loop-number-test.true c.index-steps-number.is (rw l.invariant.1 at c.in-Ok-stepped.ensures.ok) in
-    (l.invariant.0 ∙ on, c.in-Ok-stepped.ensures.world ∙ l.invariant.1,
-    reached_next c.args.registry.now c.args.base l.number (followed_of l.followed) (followed_of c.in-Ok-stepped.next) c.args.steps.now c.index-steps-number.result
-    c.loop-number-test.true c.index-steps-number.is l.invariant.2 (rw l.invariant.1 at c.in-Ok-stepped.ensures.ok))
+    c.loop-number-test.true c.index-steps-number.is (rw l.invariant.1 at c.in-Ok-stepped.ensures.ok) in (
+      l.invariant.0 ∙ on,
+      c.in-Ok-stepped.ensures.world ∙ l.invariant.1,
+      reached_next c.args.registry.now c.args.base l.number (followed_of l.followed) (followed_of c.in-Ok-stepped.next) c.args.steps.now c.index-steps-number.result
+          c.loop-number-test.true c.index-steps-number.is l.invariant.2 (rw l.invariant.1 at c.in-Ok-stepped.ensures.ok),
+    )
 
 pub returns-in-Err-stepped-clause-reached : goal.returns-in-Err-stepped-clause-reached
 returns-in-Err-stepped-clause-reached c = (followed_of c.loop-number.followed, c.loop-number.invariant.2)
