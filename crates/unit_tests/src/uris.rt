@@ -1,9 +1,9 @@
 //! References and URIs: the examples of RFC 3986, section 5.4, and what texts mean.
 
-use crate::asserts::{assert_displayed, assert_told};
+use crate::asserts::{assert_displayed, assert_told, same};
 use crate::lists::hash_of;
 use crate::row::{Row, for_each_row};
-use ref_uri::{ParseError, Uri, UriError, UriParseFault, UriRef, uri};
+use ref_uri::{ParseError, ResolveError, ResolveFault, Uri, UriError, UriParseFault, UriRef, uri};
 use std::alloc::{AllocError, Global};
 use std::process::Abort;
 use std::test::Fail;
@@ -286,6 +286,18 @@ fn errors_are_displayed(rt: HostRuntime) -> Result<(), AllocError> {
     assert_displayed(&rt, rt.alloc(), &ParseError::NoScheme, "no scheme")
 }
 
+#[test]
+fn errors_are_compared(rt: HostRuntime) -> Result<(), Fail> {
+    let fault = Uri::parse(rt.alloc(), "/a").err();
+    let wanted = UriParseFault::Invalid(ParseError::NoScheme);
+    same(&rt, fault, Some(wanted));
+    let base = UriRef::parse("/a")?;
+    let fault = UriRef::parse("b")?.resolve_against(rt.alloc(), base).err();
+    let wanted = ResolveFault::Invalid(ResolveError::BaseWithoutScheme);
+    same(&rt, fault, Some(wanted));
+    Ok(())
+}
+
 /// What is said of a text that is no reference, or no URI.
 fn kind_of(error: ParseError) -> &'static str {
     match error {
@@ -341,7 +353,7 @@ pub fn uris(rt: &impl Abort, alloc: Global, row: &Row<'_>) -> Result<(), Fail> {
     assert_uri(rt, &uri, row);
     row.same(rt, uri.strip_fragment().as_str(), row.text(6));
     row.same(rt, uri.borrow().as_str(), row.text(0));
-    Ok(())
+    Ok(assert_displayed(rt, alloc, &uri.borrow(), row.text(0))?)
 }
 
 pub fn parsed_uris(rt: &impl Abort, alloc: Global, row: &Row<'_>) -> Result<(), Fail> {
