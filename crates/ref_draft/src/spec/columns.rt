@@ -25,7 +25,7 @@ pub(crate) fn is_value(keyword: &str) -> bool
 
 // In Drafts 6, 7 and 2019-09, those whose arrays have some.
 #[inline(always)]
-pub(crate) fn is_array_before_2020(keyword: &str) -> bool
+pub(crate) fn is_array(keyword: &str) -> bool
     ensures { result ≡ is_one_of keyword.now row_6.arrays }
 {
     matches!(keyword, "allOf" | "anyOf" | "oneOf")
@@ -33,7 +33,7 @@ pub(crate) fn is_array_before_2020(keyword: &str) -> bool
 
 // In Drafts 4 and 2020-12, those whose arrays have some.
 #[inline(always)]
-pub(crate) fn is_array(keyword: &str) -> bool
+pub(crate) fn is_array_or_prefix(keyword: &str) -> bool
     ensures { result ≡ is_one_of keyword.now row_4.arrays }
 {
     matches!(keyword, "allOf" | "anyOf" | "oneOf" | "prefixItems")
@@ -41,7 +41,7 @@ pub(crate) fn is_array(keyword: &str) -> bool
 
 // In Drafts 6 and 7, those whose objects have some.
 #[inline(always)]
-pub(crate) fn is_map_before_2019(keyword: &str) -> bool
+pub(crate) fn is_map(keyword: &str) -> bool
     ensures { result ≡ is_one_of keyword.now row_6.maps }
 {
     matches!(keyword, "definitions" | "patternProperties" | "properties")
@@ -49,7 +49,7 @@ pub(crate) fn is_map_before_2019(keyword: &str) -> bool
 
 // In Drafts 4, 2019-09 and 2020-12, those whose objects have some.
 #[inline(always)]
-pub(crate) fn is_map(keyword: &str) -> bool
+pub(crate) fn is_map_or_defs(keyword: &str) -> bool
     ensures { result ≡ is_one_of keyword.now row_4.maps }
 {
     matches!(

@@ -3,7 +3,7 @@ ghost use Rattle.std.specs.Prelude.{◌≡◌};
 ghost use Rattle.ref_draft.specs.Keywords.{holding};
 
 use crate::draft::Draft;
-use crate::spec::columns::{is_array_before_2020, is_map, is_value};
+use crate::spec::columns::{is_array, is_map_or_defs, is_value};
 use crate::spec::{Holding, items_or_dependencies};
 
 // How a keyword holds its subschemas.
@@ -12,9 +12,9 @@ pub(crate) fn holding(keyword: &str) -> Holding
 {
     if is_value(keyword) {
         Holding::Whole
-    } else if is_array_before_2020(keyword) {
+    } else if is_array(keyword) {
         Holding::Elements
-    } else if is_map(keyword) {
+    } else if is_map_or_defs(keyword) {
         Holding::Members
     } else {
         items_or_dependencies(keyword)

@@ -4,7 +4,7 @@ ghost use Rattle.ref_draft.specs.Keywords.{holding, is_one_of, row_2020};
 
 use crate::draft::Draft;
 use crate::spec::Holding;
-use crate::spec::columns::{is_array, is_map};
+use crate::spec::columns::{is_array_or_prefix, is_map_or_defs};
 
 // How a keyword holds its subschemas.
 pub(crate) fn holding(keyword: &str) -> Holding
@@ -12,9 +12,9 @@ pub(crate) fn holding(keyword: &str) -> Holding
 {
     if is_value(keyword) {
         Holding::Whole
-    } else if is_array(keyword) {
+    } else if is_array_or_prefix(keyword) {
         Holding::Elements
-    } else if is_map(keyword) {
+    } else if is_map_or_defs(keyword) {
         Holding::Members
     } else {
         Holding::Nothing

@@ -3,7 +3,7 @@ ghost use Rattle.std.specs.Prelude.{◌≡◌};
 ghost use Rattle.ref_draft.specs.Keywords.{boolean_or_schema, holding, is_one_of};
 
 use crate::draft::Draft;
-use crate::spec::columns::{is_array, is_map, is_value};
+use crate::spec::columns::{is_array_or_prefix, is_map_or_defs, is_value};
 use crate::spec::{Holding, items_or_dependencies};
 
 // How a keyword holds its subschemas.
@@ -14,9 +14,9 @@ pub(crate) fn holding(keyword: &str) -> Holding
         Holding::WholeObject
     } else if is_value(keyword) {
         Holding::Whole
-    } else if is_array(keyword) {
+    } else if is_array_or_prefix(keyword) {
         Holding::Elements
-    } else if is_map(keyword) {
+    } else if is_map_or_defs(keyword) {
         Holding::Members
     } else {
         items_or_dependencies(keyword)

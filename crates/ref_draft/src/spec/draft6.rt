@@ -3,7 +3,7 @@ ghost use Rattle.std.specs.Prelude.{◌≡◌};
 ghost use Rattle.ref_draft.specs.Keywords.{holding, is_one_of, row_6};
 
 use crate::draft::Draft;
-use crate::spec::columns::{is_array_before_2020, is_map_before_2019};
+use crate::spec::columns::{is_array, is_map};
 use crate::spec::{Holding, items_or_dependencies};
 
 // How a keyword holds its subschemas.
@@ -12,9 +12,9 @@ pub(crate) fn holding(keyword: &str) -> Holding
 {
     if is_value(keyword) {
         Holding::Whole
-    } else if is_array_before_2020(keyword) {
+    } else if is_array(keyword) {
         Holding::Elements
-    } else if is_map_before_2019(keyword) {
+    } else if is_map(keyword) {
         Holding::Members
     } else {
         items_or_dependencies(keyword)
