@@ -19,11 +19,13 @@ use crate::refused::{Stop, Trial};
 use std::alloc::Global;
 use std::process::ExitCode;
 
-/// What is printed of a line.
+/// What is printed of a line, which begins with a word.
 fn told(alloc: Global, line: &str) -> Result<Trial, Stop> {
-    match line.split_once(' ') {
-        Some((group, call)) if refused::is_group(group) => refused::row(alloc, group, call),
-        _ => workloads::row(alloc, line),
+    let (word, call) = line.split_once(' ').unwrap_or((line, ""));
+    if refused::is_group(word) {
+        refused::row(alloc, word, call)
+    } else {
+        workloads::row(alloc, line)
     }
 }
 

@@ -62,15 +62,27 @@ fn with_another(
     known(alloc, &registry, row, 2)
 }
 
-/// The same of a builder of one document and what can be retrieved, and of its copy, each with a document of its own.
-fn apart(alloc: Global, row: &Value) -> Result<String, Fault> {
-    let retriever = row::retriever(alloc, row, 3)?;
-    let builder = Registry::new(alloc).retriever(&retriever);
-    let builder = done(alloc, builder.add("http://a/r", row::column(row, 4)?))?;
+/// The same of a builder and of its copy, each with a document of its own.
+fn both(
+    alloc: Global,
+    builder: RegistryBuilder<'_, &MapRetriever>,
+    row: &Value,
+) -> Result<String, Fault> {
     let copy = builder.clone()?;
     let first = with_another(alloc, builder, "http://a/c", row)?;
     let second = with_another(alloc, copy, "http://a/d", row)?;
     Ok(format!(in alloc; "{first} {second}")?)
+}
+
+/// The same of a builder of one document and what can be retrieved.
+fn apart(alloc: Global, row: &Value) -> Result<String, Fault> {
+    let retriever = row::retriever(alloc, row, 3)?;
+    let document = row::column(row, 4)?;
+    let builder = Registry::new(alloc).retriever(&retriever);
+    match builder.add("http://a/r", document) {
+        Ok(builder) => both(alloc, builder, row),
+        Err(_) => Err(Fault::Form("the document is refused")),
+    }
 }
 
 /// How a builder with a draft and a document is shown, or its copy.

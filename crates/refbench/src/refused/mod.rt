@@ -21,22 +21,24 @@ use std::alloc::Global;
 pub use stop::Stop;
 pub use trial::Trial;
 
+/// The names of the groups of calls.
+const GROUPS: [&str; 11] = [
+    "uris",
+    "lists",
+    "maps",
+    "texts",
+    "drafts",
+    "vocabularies",
+    "builders",
+    "registries",
+    "retrievers",
+    "kinds",
+    "reports",
+];
+
 /// Whether a word is the name of a group of calls.
 pub fn is_group(word: &str) -> bool {
-    matches!(
-        word,
-        "uris"
-            | "lists"
-            | "maps"
-            | "texts"
-            | "drafts"
-            | "vocabularies"
-            | "builders"
-            | "registries"
-            | "retrievers"
-            | "kinds"
-            | "reports"
-    )
+    GROUPS.contains(&word)
 }
 
 /// What the row of a call prints, which is of one of the groups.
