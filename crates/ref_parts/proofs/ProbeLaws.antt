@@ -104,3 +104,8 @@ module _ {V : Type 0} (shared : ℕ) (entered : List (Tuple V)) (kept : List (Sl
         | true ↦ λ yes. ap is_eq (below k d (ltb-true k low yes))
         | false ↦ λ no. ap is_eq (above k d (omega (arith, ltb-false k low no)) inside)
       ] refl)))
+
+-- a number that isn't 0
+pub positive : (n : ℕ) → (n ≡ 0 → ⊥) → 0 < n
+positive zero never = absurd (never refl)
+positive (suc n) never = omega arith

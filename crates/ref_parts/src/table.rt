@@ -84,14 +84,15 @@ impl<V> SortedTable<V> {
         self.kept.len()
     }
 
-    /// The value that was entered last under two texts, and how many entries were compared with them.
+    /// The value that was entered last under two texts, and a count, which the code raises where it compares an entry with them.
     ///
-    /// No more entries are compared than the count of pairs has binary digits: where `len` is below 2^n, at most n. Takes no
-    /// memory. A comparison reads texts only where eight bytes of the first, behind what all first texts have in common, are
+    /// The count is at least 1 where the table isn't empty, and at most as many as `len` has binary digits: where `len` is below
+    /// 2^n, at most n. Takes no memory. A comparison reads texts only where eight bytes of the first, behind what all first texts have in common, are
     /// equal; then each byte of a beginning that they share at most twice, and second texts only where the first are equal.
     #[inline(always)]
     pub fn get(&self, first: &str, second: &str) -> (Option<&V>, usize)
         ensures value { option_copied result.0 ≡ last_value first.now second.now self.now }
+        ensures asked { 0 < pair_count self.now → 0 < result.1 }
         ensures probes { (digits : ℕ) → pair_count self.now < 2 ^ digits → result.1 ≤ digits }
     {
         let word = word_at(first, self.shared);

@@ -1,6 +1,6 @@
-use Rattle.std.proofs.Common.{◌+◌, ◌-◌, ◌*◌, ◌/◌, ◌^◌, ◌<◌, ◌≤◌, length, sym, ap, ◌∙◌, subst, arith}
+use Rattle.std.proofs.Common.{◌≡◌, ◌+◌, ◌-◌, ◌*◌, ◌/◌, ◌^◌, ◌<◌, ◌≤◌, length, sym, ap, ◌∙◌, subst, arith}
 use Rattle.ref_parts.specs.Table.{last_value, pair_count}
-use Rattle.ref_parts.proofs.ProbeLaws.{below_digits, halved, enough, below_middle, above_middle, found_at, found_nowhere, number_at}
+use Rattle.ref_parts.proofs.ProbeLaws.{below_digits, halved, enough, below_middle, above_middle, found_at, found_nowhere, number_at, positive}
 use Rattle.ref_parts.proofs.TableLaws.{key_total}
 use Rattle.ref_parts.specs.inner.SortedEntries.{key_of}
 use Rattle.ref_parts.proofs.table.SortedTable.get.Goals as goal
@@ -20,6 +20,11 @@ probe-requires-clause-counts g c =
 pub returns-clause-value : goal.returns-clause-value
 returns-clause-value g c =
     sym (ap (last_value c.args.first.now c.args.second.now) (sym c.self.view_is) ∙ found_nowhere c.self.inside.shared c.self.inside.entered.value.items c.self.inside.kept.items c.self.invariant.0 c.args.first.now c.args.second.now _ c.word_at-word.ensures c.loop-low.low c.loop-low.high (omega arith) c.loop-low.invariant.below c.loop-low.invariant.above)
+
+pub returns-clause-asked : goal.returns-clause-asked
+returns-clause-asked g c some =
+    let count : pair_count c.args.self.now ≡ length c.self.inside.kept.items = ap pair_count (sym c.self.view_is) ∙ sym c.self.invariant.0.count in
+    positive c.loop-low.probes (λ none. let idle = c.loop-low.invariant.idle none in omega (arith, some, count, idle))
 
 pub returns-clause-probes : goal.returns-clause-probes
 returns-clause-probes g c = λ digits above. c.loop-low.invariant.spent digits (subst (λ n. n < 2 ^ digits) (ap pair_count (sym c.self.view_is) ∙ sym c.self.invariant.0.count) above)
@@ -48,6 +53,7 @@ loop-low-preserved-in-Less g c =
       below = λ k d under. below_middle key_total key_of (c.word_at-word.result, (c.args.first.now, c.args.second.now)) kept c.self.invariant.0.sorted middle c.index-slot.result.now (omega arith) c.index-slot.ensures (sym c.in-Less.ensures.order) k d (omega (arith, under));
       above = λ k d over inside. c.loop-low.invariant.above k d (omega (arith, over, some)) inside;
       spent = λ digits above. let few = below_digits probes (length kept) digits (enough _ probes (length kept) c.loop-low.invariant.left some) above in omega (arith, few, c.in-Less.ensures.counted);
+      idle = λ none. absurd (omega (arith, none, c.in-Less.ensures.counted));
       left = subst (λ p. (c.loop-low.high - (middle + 1)) * 2 ^ p ≤ length kept) (sym c.in-Less.ensures.counted) (halved (c.loop-low.high - c.loop-low.low) _ probes (length kept) c.loop-low.invariant.left (omega arith));
     }
 
@@ -63,5 +69,6 @@ loop-low-preserved g c =
       below = c.loop-low.invariant.below;
       above = above_middle key_total key_of (c.word_at-word.result, (c.args.first.now, c.args.second.now)) kept c.self.invariant.0.sorted middle c.index-slot.result.now (omega arith) c.index-slot.ensures (sym c.in-Greater.ensures.order);
       spent = λ digits above. let few = below_digits probes (length kept) digits (enough _ probes (length kept) c.loop-low.invariant.left some) above in omega (arith, few, c.in-Greater.ensures.counted);
+      idle = λ none. absurd (omega (arith, none, c.in-Greater.ensures.counted));
       left = subst (λ p. (middle - c.loop-low.low) * 2 ^ p ≤ length kept) (sym c.in-Greater.ensures.counted) (halved (c.loop-low.high - c.loop-low.low) _ probes (length kept) c.loop-low.invariant.left (omega arith));
     }
