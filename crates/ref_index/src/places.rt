@@ -24,7 +24,7 @@ use std::alloc::{AllocError, Global};
 use std::rc::Rc;
 
 /// A place where a schema stands, in one of a registry's own documents.
-#[derive(Drop)]
+#[derive(Debug, Drop)]
 pub struct Place<'a> {
     /// The number of its document, counted from 0 in the order in which their URIs were first added, and behind them those
     /// retrieved.
