@@ -55,7 +55,7 @@ counts_not draft since value (inr none) = ap (λ id. cond (scan draft (is_object
     both true id = refl
     both false id = refl
 
-quiet_part : (draft : Draft) (along : Along) (part : Part) (value : Data) → Quiet draft (along.since ++ part ∷ []) value → along_part draft along part value ≡ Ok (record { base = along.base; since = along.since ++ part ∷ [] })
+pub quiet_part : (draft : Draft) (along : Along) (part : Part) (value : Data) → Quiet draft (along.since ++ part ∷ []) value → along_part draft along part value ≡ Ok (record { base = along.base; since = along.since ++ part ∷ [] })
 quiet_part draft along part value quiet =
     let state : Along = record { base = along.base; since = along.since ++ part ∷ [] } in
     ap (λ id. base_within along.base id >>= λ uri. Ok (changed state uri)) (counts_not draft (along.since ++ part ∷ []) value quiet) ∙ ap (λ a. Ok a) (same_base state)
@@ -117,7 +117,7 @@ some_of None v is = absurd (cc)
 some_of (Some e) v is = is
 
 -- the value at one part more
-child_there : (value here v : Data) (path : List Part) (part : Part) → value_at value path ≡ Some here → value_at value (path ++ part ∷ []) ≡ Some v → child_at here part ≡ Some v
+pub child_there : (value here v : Data) (path : List Part) (part : Part) → value_at value path ≡ Some here → value_at value (path ++ part ∷ []) ≡ Some v → child_at here part ≡ Some v
 child_there value here v path part at more =
     some_of (child_at here part) v (sym (ap (option_and_then (λ e. value_at e (part ∷ []))) at) ∙ sym (value_at-append value path (part ∷ [])) ∙ more)
 

@@ -27,16 +27,16 @@ pub first_answers : {E A B : Type 0} (r : Result A E) (f : A → Result B E) (y 
 first_answers (Ok x) f y is = (x, refl, is)
 first_answers (Err e) f y is = absurd (cc)
 
-there_or : {A : Type 0} (o : Option A) (fault : Fault) (x : A) → ok_or o fault ≡ Ok x → o ≡ Some x
+pub there_or : {A : Type 0} (o : Option A) (fault : Fault) (x : A) → ok_or o fault ≡ Ok x → o ≡ Some x
 there_or None fault x is = absurd (cc)
 there_or (Some y) fault x is = let same : y ≡ x = cc in ap (λ z. Some z) same
 
-uri_answers : {A : Type 0} (r : Result A Refusal) (x : A) → as_invalid_uri r ≡ Ok x → r ≡ Ok x
+pub uri_answers : {A : Type 0} (r : Result A Refusal) (x : A) → as_invalid_uri r ≡ Ok x → r ≡ Ok x
 uri_answers (Ok y) x is = let same : y ≡ x = cc in ap (λ z. Ok z) same
 uri_answers (Err refusal) x is = absurd (cc)
 
 -- a step leads to what stands at its part
-step_leads : (pointer : List ℕ) (value : Data) (token : List ℕ) (s : Part × Data) → step_into pointer value token ≡ Ok s → child_at value s.0 ≡ Some s.1
+pub step_leads : (pointer : List ℕ) (value : Data) (token : List ℕ) (s : Part × Data) → step_into pointer value token ≡ Ok s → child_at value s.0 ≡ Some s.1
 step_leads pointer null token s is = absurd (cc)
 step_leads pointer (boolean b) token s is = absurd (cc)
 step_leads pointer (number n) token s is = absurd (cc)
@@ -61,7 +61,7 @@ value_at-append value (part ∷ path) rest = behind (child_at value part) path r
     behind (Some e) path rest each = each e
 
 -- one part more
-part_more : (value there v : Data) (path : List Part) (part : Part) → value_at value path ≡ Some v → child_at v part ≡ Some there → value_at value (path ++ part ∷ []) ≡ Some there
+pub part_more : (value there v : Data) (path : List Part) (part : Part) → value_at value path ≡ Some v → child_at v part ≡ Some there → value_at value (path ++ part ∷ []) ≡ Some there
 part_more value there v path part at child =
     value_at-append value path (part ∷ []) ∙ ap (option_and_then (λ e. value_at e (part ∷ []))) at ∙ ap (option_and_then (λ e. Some e)) child
 
@@ -108,7 +108,7 @@ by_identifier draft start value there path part along next (Some id) true before
     let same : moved state leads.0 ≡ next = cc in
     by_uri draft start value there path part along next id leads.0 (bytes_eq leads.0 along.base) before at (accepted draft there (along.since ++ part ∷ []) scanned) has leads.1 refl same
 
-one_part : (draft : Draft) (start : List ℕ) (value there : Data) (path : List Part) (part : Part) (along next : Along) → IsBaseAlong draft start value path along → value_at value (path ++ part ∷ []) ≡ Some there
+pub one_part : (draft : Draft) (start : List ℕ) (value there : Data) (path : List Part) (part : Part) (along next : Along) → IsBaseAlong draft start value path along → value_at value (path ++ part ∷ []) ≡ Some there
     → along_part draft along part there ≡ Ok next → Behind draft start value path part next
 one_part draft start value there path part along next before at is =
     by_identifier draft start value there path part along next (identifier draft there) (scan draft (is_object there) (along.since ++ part ∷ [])) before at refl refl is

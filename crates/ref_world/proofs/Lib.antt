@@ -18,3 +18,4 @@ pub mod AtOrBelow
 pub mod Pending
 pub mod Standing
 pub mod Outcomes
+pub mod Reading

@@ -16,6 +16,7 @@ pub mod Pending
 pub mod Bases
 pub mod Changes
 pub mod Pointers
+pub mod Reading
 pub mod Lookup
 pub mod Recursive
 pub mod Follow

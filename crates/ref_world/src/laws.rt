@@ -1,9 +1,12 @@
 //! Laws of the definitions. Each function is empty: its contract states the law, and the check proves it.
-ghost use Rattle.std.specs.Prelude.{◌≡◌, ◌≤◌, ℕ, List, [], ◌∷◌, ◌++◌, drop, map, Some, None, Result, Ok};
+ghost use Rattle.std.specs.Prelude.{◌≡◌, ◌≤◌, ℕ, List, [], ◌∷◌, ◌++◌, drop, map, Some, None, Result, Ok, Err, IsTrue, IsFalse};
 ghost use Rattle.std.specs.List.{AllByRecursion, AllPairs, Contains};
 ghost use Rattle.std.specs.Option.{option_or};
+ghost use Rattle.std.specs.Str.{is_utf8};
+ghost use Rattle.percent_encoding.specs.Percent.{percent_decode};
 ghost use Rattle.serde_json.specs.Data.{Data, depth};
 ghost use Rattle.ref_parts.specs.Path.{Part, value_at};
+ghost use Rattle.ref_parts.specs.Pointer.{tokens};
 ghost use Rattle.ref_draft.specs.declared.draft.Draft.{Draft};
 ghost use Rattle.ref_draft.specs.UniqueKeys.{HasUniqueKeys};
 ghost use Rattle.ref_world.specs.World.{Document, Layer, World};
@@ -12,6 +15,8 @@ ghost use Rattle.ref_world.specs.Descent.{AreChildren};
 ghost use Rattle.ref_world.specs.Bases.{Along};
 ghost use Rattle.ref_world.specs.Changes.{IsBaseAlong, LeadsAlong};
 ghost use Rattle.ref_world.specs.Pointers.{pointed};
+ghost use Rattle.ref_world.specs.Reading.{IsReadAs, IsFaultAlong};
+ghost use Rattle.ref_world.specs.Fault.{Fault, InvalidPercentEncoding};
 ghost use Rattle.ref_world.specs.Resources.{resources, last_under, means};
 ghost use Rattle.ref_world.specs.Anchors.{Named, last_named, named, names};
 ghost use Rattle.ref_world.specs.Closure.{OutcomesOfRetrieval};
@@ -56,13 +61,31 @@ pub fn later_entries_count()
         → last_named uri name (entries ++ more) ≡ option_or (last_named uri name more) (last_named uri name entries) }
 {}
 
-/// Where a pointer succeeds, what it finds stands at a path, and the base is that of the last change along this path: along a
-/// path there is one base.
+/// What follows a pointer's first `/` is percent-decoded, and is a fault where it's no UTF-8. The pointer succeeds just where its
+/// tokens are read as a path at which a value stands, and along which there is a base: the answer is this value with this base,
+/// that of the last change along the path. There is one such path, and one base along it. Otherwise the fault is that of the
+/// first faulty token, or of the first identifier that counts along the path and doesn't resolve.
 pub fn pointers_lead_along_paths()
     ensures one_base { (draft : Draft) (start : List ℕ) (value : Data) (path : List Part) (along other : Along)
         → IsBaseAlong draft start value path along → IsBaseAlong draft start value path other → along ≡ other }
+    ensures one_path { (value : Data) (list : List (List ℕ)) (path other : List Part)
+        → IsReadAs value list path → IsReadAs value list other → path ≡ other }
     ensures law { (draft : Draft) (pointer start text : List ℕ) (value found : Data) (along : Along)
         → pointed draft pointer start value text ≡ Ok (found, along) → LeadsAlong draft start value found along }
+    ensures path { (draft : Draft) (pointer start text : List ℕ) (value found : Data) (along : Along)
+        → pointed draft pointer start value text ≡ Ok (found, along)
+        → (path : List Part) × IsReadAs value (tokens (percent_decode text)) path × (value_at value path ≡ Some found) × IsBaseAlong draft start value path along }
+    ensures only { (draft : Draft) (pointer start text : List ℕ) (value found : Data) (path : List Part) (along : Along)
+        → IsTrue (is_utf8 (percent_decode text)) → IsReadAs value (tokens (percent_decode text)) path → value_at value path ≡ Some found
+        → IsBaseAlong draft start value path along → pointed draft pointer start value text ≡ Ok (found, along) }
+    ensures no_text { (draft : Draft) (pointer start text : List ℕ) (value : Data)
+        → IsFalse (is_utf8 (percent_decode text)) → pointed draft pointer start value text ≡ Err (InvalidPercentEncoding pointer) }
+    ensures fault { (draft : Draft) (pointer start text : List ℕ) (value : Data) (fault : Fault)
+        → IsTrue (is_utf8 (percent_decode text)) → pointed draft pointer start value text ≡ Err fault
+        → IsFaultAlong draft pointer start value (tokens (percent_decode text)) fault }
+    ensures fault_only { (draft : Draft) (pointer start text : List ℕ) (value : Data) (fault : Fault)
+        → IsTrue (is_utf8 (percent_decode text)) → IsFaultAlong draft pointer start value (tokens (percent_decode text)) fault
+        → pointed draft pointer start value text ≡ Err fault }
 {}
 
 /// The nearest layer decides what a URI means, and what a name under it does: an entry there is the answer, and without one

@@ -10,6 +10,7 @@ ghost use Rattle.ref_world.specs.Fault.{PointerToNowhere, InvalidArrayIndex, Inv
 ghost use Rattle.ref_world.specs.Bases.{changed, along_part};
 ghost use Rattle.ref_world.specs.Changes.{IsChange, Stays, IsBaseAlong, LeadsAlong};
 ghost use Rattle.ref_world.specs.Pointers.{index_of, step_into, walked_along, pointed};
+ghost use Rattle.ref_world.specs.Reading.{IsReadAs, IsFaultAlong};
 ghost use Rattle.ref_world.specs.Rows.{yes, empty, text, one, two, pair, along};
 
 /// Indexes: a `+` and leading zeros are taken.
@@ -85,4 +86,26 @@ pub fn answers_in_turn()
     ensures nothing_there { in_turn (ok_or None (PointerToNowhere (codes "/a"))) (λ (value : Data). Ok value) ≡ Err (PointerToNowhere (codes "/a")) }
     ensures refusal_as_fault { in_turn (as_invalid_uri (Err (unparsed (codes "a b")))) (λ (uri : List ℕ). Ok (string uri)) ≡ Err (InvalidUri (unparsed (codes "a b"))) }
     ensures answer_kept { in_turn (as_invalid_uri (Ok (codes "a:b"))) (λ (uri : List ℕ). Ok (string uri)) ≡ Ok (string (codes "a:b")) }
+{}
+
+/// What tokens are read as from a value, and what they aren't.
+pub fn paths_of_tokens()
+    ensures no_tokens { IsReadAs yes [] [] }
+    ensures escaped_key { IsReadAs (one "~/" yes) (codes "~0~1" ∷ []) (Key (codes "~/") ∷ []) }
+    ensures element_of_a_member { IsReadAs (one "l" (pair yes empty)) (codes "l" ∷ codes "01" ∷ []) (Key (codes "l") ∷ Index 1 ∷ []) }
+    ensures no_key_of_an_array { ¬ (IsReadAs (pair yes empty) (codes "1" ∷ []) (Key (codes "1") ∷ [])) }
+    ensures no_index_of_an_object { ¬ (IsReadAs (one "1" yes) (codes "1" ∷ []) (Index 1 ∷ [])) }
+    ensures nothing_there { ¬ (IsReadAs empty (codes "a" ∷ []) (Key (codes "a") ∷ [])) }
+    ensures the_first_of_equal_identifiers { IsReadAs (one "$defs" (two "a" (one "$id" (text "k")) "b" (one "$id" (text "k")))) (codes "$defs" ∷ codes "a" ∷ []) (Key (codes "$defs") ∷ Key (codes "a") ∷ []) }
+    ensures not_the_second { ¬ (IsReadAs (one "$defs" (two "a" (one "$id" (text "k")) "b" (one "$id" (text "k")))) (codes "$defs" ∷ codes "a" ∷ []) (Key (codes "$defs") ∷ Key (codes "b") ∷ [])) }
+{}
+
+/// The first fault along tokens, and what is none.
+pub fn faults_along_tokens()
+    ensures identifier { IsFaultAlong Draft202012 (codes "/not/x") (codes "http://a/r") (one "not" (one "$id" (text "a b"))) (codes "not" ∷ codes "x" ∷ []) (InvalidUri (unparsed (codes "a b"))) }
+    ensures no_index { IsFaultAlong Draft202012 (codes "/l/+/x") (codes "http://a/r") (one "l" (pair yes empty)) (codes "l" ∷ codes "+" ∷ codes "x" ∷ []) (InvalidArrayIndex (codes "/l/+/x") (codes "+")) }
+    ensures no_member { IsFaultAlong Draft202012 (codes "/x/y") (codes "http://a/r") empty (codes "x" ∷ codes "y" ∷ []) (PointerToNowhere (codes "/x/y")) }
+    ensures into_a_boolean { IsFaultAlong Draft202012 (codes "/not/0") (codes "http://a/r") (one "not" yes) (codes "not" ∷ codes "0" ∷ []) (PointerToNowhere (codes "/not/0")) }
+    ensures identifier_that_does_not_count { ¬ (IsFaultAlong Draft202012 (codes "/const") (codes "http://a/r") (one "const" (one "$id" (text "a b"))) (codes "const" ∷ []) (InvalidUri (unparsed (codes "a b")))) }
+    ensures not_the_second { ¬ (IsFaultAlong Draft202012 (codes "/not/x") (codes "http://a/r") (one "not" (one "$id" (text "a b"))) (codes "not" ∷ codes "x" ∷ []) (PointerToNowhere (codes "/not/x"))) }
 {}
