@@ -19,3 +19,4 @@ pub mod Pending
 pub mod Standing
 pub mod Outcomes
 pub mod Reading
+pub mod ReadAlike

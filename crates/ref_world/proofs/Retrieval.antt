@@ -1,8 +1,11 @@
 -- The runs that the rows of retrieval stand on.
-use Rattle.std.proofs.Common.{refl, [], ◌∷◌, codes, ℕ}
+use Rattle.std.proofs.Common.{◌≡◌, ◌+◌, refl, ap, ◌∙◌, [], ◌∷◌, length, codes, ℕ}
+use Rattle.std.proofs.lemmas.List.{length-append}
 use Rattle.ref_world.proofs.OnLiterals.{world_on_literals}
 use Rattle.ref_world.specs.Wants.{Want, Reference}
-use Rattle.ref_world.specs.Preparing.{IsRun, begun, retrieved}
+use Rattle.ref_world.specs.Preparing.{Given, IsRun, begun, retrieved}
+use Rattle.ref_world.specs.World.{Layer}
+use Rattle.ref_world.specs.Closure.{IsClosure}
 use Rattle.ref_world.specs.Rows.{given, given_with, has_b_and_c, one, text, yes, refers_to_b, b_refers_to_c, c_is_true}
 
 abbrev pub want_of_b : Want
@@ -21,3 +24,7 @@ second_retrieved =
     retrieved 1 (refers_to_b ∷ b_refers_to_c ∷ []) want_of_c [] yes
     (retrieved 0 (refers_to_b ∷ []) want_of_b [] (one "$ref" (text "c")) begun refl refl refl)
     refl refl refl
+
+-- a layer has as many documents as were added and retrieved
+pub counted : (given : Given) (n : ℕ) (layer : Layer) → IsClosure given n layer → length layer ≡ length given.documents + n
+counted given n layer c = ap length c.is ∙ length-append given.documents c.retrieved ∙ ap (λ k. length given.documents + k) c.count

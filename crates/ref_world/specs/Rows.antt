@@ -175,6 +175,24 @@ nested_2020 = one "not" (one "prefixItems" (list (one "$defs" (one "p" (one "ite
 abbrev pub nested_path_2020 : List Part
 nested_path_2020 = Key (codes "not") ∷ Key (codes "prefixItems") ∷ Index 0 ∷ Key (codes "$defs") ∷ Key (codes "p") ∷ Key (codes "items") ∷ []
 
+-- a schema with an identifier, a definition that has one, and a property, of Draft 4, of Drafts 6 and 7, and since 2019-09
+abbrev pub identified_4 : Data
+identified_4 = three "definitions" (one "a" (one "id" (text "s"))) "id" (text "r") "properties" (one "x" (one "items" empty))
+
+abbrev pub identified : Data
+identified = three "$id" (text "r") "definitions" (one "a" (one "$id" (text "s"))) "properties" (one "x" (one "items" empty))
+
+abbrev pub identified_2020 : Data
+identified_2020 = three "$defs" (one "a" (one "$id" (text "s"))) "$id" (text "r") "properties" (one "x" (one "items" empty))
+
+-- two schemas with one identifier
+abbrev pub equal_identifiers : Data
+equal_identifiers = two "if" (one "$id" (text "k")) "then" (one "$id" (text "k"))
+
+-- a place of 2020-12 under a keyword of a root, with the base around it and its own
+abbrev pub place_below : Literal → Data → Literal → Literal → Place
+place_below keyword value outer base = record { path = Key (codes keyword) ∷ []; value = value; draft = Draft202012; outer = codes outer; base = Ok (codes base) }
+
 -- the last place of a document, with its path, base and draft
 abbrev pub last_place : Document → Option (List Part × Result (List ℕ) Refusal × Draft)
 last_place d = last_or None (map (λ p. (p.path, p.base, p.draft)) (places d))

@@ -5,8 +5,8 @@ ghost use Rattle.ref_draft.specs.declared.draft.Draft.TheVariants.{Draft4, Draft
 ghost use Rattle.ref_world.specs.Fault.{PointerToNowhere};
 ghost use Rattle.ref_world.specs.Places.{root};
 ghost use Rattle.ref_world.specs.Lookup.{located};
-ghost use Rattle.ref_world.specs.Agreement.{IsAtOrBelow, HasPlainMaps, IsPathOfTexts};
-ghost use Rattle.ref_world.specs.Rows.{at, world, yes, text, one, two, resolver, found, nested, nested_path, nested_2020, nested_path_2020, last_place};
+ghost use Rattle.ref_world.specs.Agreement.{IsAtOrBelow, HasPlainMaps, IsReadAlike, IsPathOfTexts};
+ghost use Rattle.ref_world.specs.Rows.{at, world, yes, empty, text, one, two, resolver, found, nested, nested_path, nested_2020, nested_path_2020, last_place, identified_4, identified, identified_2020, equal_identifiers, place_below};
 
 /// In each draft, within each kind of keyword, the keywords lead to this place.
 pub fn places_within_keywords()
@@ -58,4 +58,29 @@ pub fn maps_and_places_below()
     ensures at_itself { IsAtOrBelow (root (at Draft7 "http://a/r" yes)) (root (at Draft7 "http://a/r" yes)) }
     ensures below { IsAtOrBelow (record { path = Key (codes "not") ∷ []; value = yes; draft = Draft7; outer = codes "http://a/r"; base = Ok (codes "http://a/r") }) (root (at Draft7 "http://a/r" (one "not" yes))) }
     ensures empty_path { IsPathOfTexts [] }
+{}
+
+/// Documents with an identifier, properties and definitions, whose roots the pointer and the keywords read alike.
+pub fn resources_read_alike()
+    ensures draft_4 { IsReadAlike (at Draft4 "http://a/b" identified_4 ∷ []) (at Draft4 "http://a/b" identified_4) (root (at Draft4 "http://a/b" identified_4)) (codes "http://a/r") }
+    ensures draft_6 { IsReadAlike (at Draft6 "http://a/b" identified ∷ []) (at Draft6 "http://a/b" identified) (root (at Draft6 "http://a/b" identified)) (codes "http://a/r") }
+    ensures draft_7 { IsReadAlike (at Draft7 "http://a/b" identified ∷ []) (at Draft7 "http://a/b" identified) (root (at Draft7 "http://a/b" identified)) (codes "http://a/r") }
+    ensures draft_2019 { IsReadAlike (at Draft201909 "http://a/b" identified_2020 ∷ []) (at Draft201909 "http://a/b" identified_2020) (root (at Draft201909 "http://a/b" identified_2020)) (codes "http://a/r") }
+    ensures draft_2020 { IsReadAlike (at Draft202012 "http://a/b" identified_2020 ∷ []) (at Draft202012 "http://a/b" identified_2020) (root (at Draft202012 "http://a/b" identified_2020)) (codes "http://a/r") }
+    ensures without_an_identifier { IsReadAlike (at Draft7 "http://a/r" yes ∷ []) (at Draft7 "http://a/r" yes) (root (at Draft7 "http://a/r" yes)) (codes "http://a/r") }
+    ensures map_with_an_identifier_in_2020 { IsReadAlike (at Draft202012 "http://a/r" (one "properties" (one "$id" (text "m"))) ∷ []) (at Draft202012 "http://a/r" (one "properties" (one "$id" (text "m")))) (root (at Draft202012 "http://a/r" (one "properties" (one "$id" (text "m"))))) (codes "http://a/r") }
+{}
+
+/// And each reason why another isn't: its document is of no such layer; it is no place of the document, or neither the root nor
+/// one with an identifier; it has another URI; another place, of this document or of another, bears its URI; a place below is of
+/// another draft; or before 2020-12 a map of subschemas holds a text under the identifier's keyword.
+pub fn resources_not_read_alike()
+    ensures document_elsewhere { ¬ (IsReadAlike [] (at Draft7 "http://a/r" yes) (root (at Draft7 "http://a/r" yes)) (codes "http://a/r")) }
+    ensures no_place { ¬ (IsReadAlike (at Draft7 "http://a/r" empty ∷ []) (at Draft7 "http://a/r" empty) (root (at Draft7 "http://a/r" yes)) (codes "http://a/r")) }
+    ensures no_resource { ¬ (IsReadAlike (at Draft202012 "http://a/r" (one "not" yes) ∷ []) (at Draft202012 "http://a/r" (one "not" yes)) (place_below "not" yes "http://a/r" "http://a/r") (codes "http://a/r")) }
+    ensures another_uri { ¬ (IsReadAlike (at Draft7 "http://a/b" identified ∷ []) (at Draft7 "http://a/b" identified) (root (at Draft7 "http://a/b" identified)) (codes "http://a/b")) }
+    ensures another_place { ¬ (IsReadAlike (at Draft202012 "http://a/r" equal_identifiers ∷ []) (at Draft202012 "http://a/r" equal_identifiers) (place_below "if" (one "$id" (text "k")) "http://a/r" "http://a/k") (codes "http://a/k")) }
+    ensures another_document { ¬ (IsReadAlike (at Draft7 "http://a/r" yes ∷ at Draft7 "http://a/r" empty ∷ []) (at Draft7 "http://a/r" yes) (root (at Draft7 "http://a/r" yes)) (codes "http://a/r")) }
+    ensures another_draft { ¬ (IsReadAlike (at Draft202012 "http://a/r" (one "not" (one "$schema" (text "http://json-schema.org/draft-07/schema"))) ∷ []) (at Draft202012 "http://a/r" (one "not" (one "$schema" (text "http://json-schema.org/draft-07/schema")))) (root (at Draft202012 "http://a/r" (one "not" (one "$schema" (text "http://json-schema.org/draft-07/schema"))))) (codes "http://a/r")) }
+    ensures map_with_an_identifier { ¬ (IsReadAlike (at Draft7 "http://a/r" (one "properties" (one "$id" (text "m"))) ∷ []) (at Draft7 "http://a/r" (one "properties" (one "$id" (text "m")))) (root (at Draft7 "http://a/r" (one "properties" (one "$id" (text "m"))))) (codes "http://a/r")) }
 {}

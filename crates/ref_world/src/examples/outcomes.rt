@@ -29,6 +29,8 @@ pub fn runs()
     ensures begun_without_a_document { IsRun (given_alone []) 0 [] }
     ensures retrieved { IsRun (given_with 2) 1 (refers_to_b ∷ b_refers_to_c ∷ []) }
     ensures retrieved_twice { IsRun (given has_b_and_c 2 (refers_to_b ∷ [])) 2 (refers_to_b ∷ b_refers_to_c ∷ c_is_true ∷ []) }
+    ensures not_begun_with_less { ¬ (IsRun (given_with 2) 0 []) }
+    ensures not_counted_twice { ¬ (IsRun (given_with 2) 2 (refers_to_b ∷ b_refers_to_c ∷ [])) }
 {}
 
 /// The limit, and refusals of the retriever.
@@ -40,6 +42,7 @@ pub fn limits_and_refusals()
     ensures refused_meta_schema { IsOutcome (given_alone (at Draft202012 "http://a/r" (one "$schema" (text "http://a/meta#")) ∷ [])) (Err (UnknownSpecification (codes "http://a/meta"))) }
     ensures refused_relative_meta_schema { IsOutcome (given_alone (at Draft202012 "http://a/r" (one "$schema" (text "invalid")) ∷ [])) (Err (UnknownSpecification (codes "json-schema:///invalid"))) }
     ensures missing_meta_schema { IsOutcome (given (map_retriever []) 10000 (at Draft202012 "http://a/r" (one "$schema" (text "http://a/meta#")) ∷ [])) (Err (UnknownSpecification (codes "http://a/meta"))) }
+    ensures no_other_limit { ¬ (IsOutcome (given_with 2) (Err (RetrievalLimit (codes "http://a/c") 1))) }
     ensures as_a_reference { refusal_fault Reference (codes "a:b") (codes "no document under this URI") ≡ Unretrievable (codes "a:b") (codes "no document under this URI") }
     ensures as_a_meta_schema { refusal_fault MetaSchema (codes "a:b") (codes "no document under this URI") ≡ UnknownSpecification (codes "a:b") }
 {}
@@ -66,6 +69,8 @@ pub fn closures()
     ensures nothing_retrieved { IsClosure (given_with 2) 0 (refers_to_b ∷ []) }
     ensures one_retrieved { IsClosure (given_with 2) 1 (refers_to_b ∷ b_refers_to_c ∷ []) }
     ensures two_retrieved { IsClosure (given has_b_and_c 2 (refers_to_b ∷ [])) 2 (refers_to_b ∷ b_refers_to_c ∷ c_is_true ∷ []) }
+    ensures not_without_what_was_added { ¬ (IsClosure (given_with 2) 0 []) }
+    ensures not_counted_twice { ¬ (IsClosure (given_with 2) 2 (refers_to_b ∷ b_refers_to_c ∷ [])) }
     ensures none_behind { AreRetrieved (given_with 2) (refers_to_b ∷ []) [] }
     ensures no_refusal_without_a_test { ¬ ((given_by (λ uri tree. true) (λ uri text. false) 3 Draft7 [] []).retriever.may_refuse (codes "a:b") (codes "no")) }
     ensures answer_by_a_test { (given_by (λ uri tree. true) (λ uri text. false) 3 Draft7 [] []).retriever.may_answer (codes "a:b") yes }
@@ -80,6 +85,7 @@ pub fn retrieved_documents()
     ensures behind_the_first { IsRetrieved (given_with 2) (refers_to_b ∷ []) b_refers_to_c }
     ensures behind_the_second { IsRetrieved (given has_b_and_c 2 (refers_to_b ∷ [])) (refers_to_b ∷ b_refers_to_c ∷ []) c_is_true }
     ensures not_twice { ¬ (IsRetrieved (given_with 2) (refers_to_b ∷ b_refers_to_c ∷ []) b_refers_to_c) }
+    ensures not_both { ¬ (AreRetrieved (given_with 2) (refers_to_b ∷ []) (b_refers_to_c ∷ b_refers_to_c ∷ [])) }
     ensures each { AreRetrieved (given has_b_and_c 2 (refers_to_b ∷ [])) (refers_to_b ∷ []) (b_refers_to_c ∷ c_is_true ∷ []) }
     ensures ready_at_once { IsReady (given_alone (c_is_true ∷ [])) (c_is_true ∷ []) }
     ensures ready_after_two { IsReady (given has_b_and_c 2 (refers_to_b ∷ [])) (refers_to_b ∷ b_refers_to_c ∷ c_is_true ∷ []) }

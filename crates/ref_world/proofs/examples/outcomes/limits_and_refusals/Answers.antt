@@ -4,7 +4,8 @@ use Rattle.ref_draft.specs.declared.draft.Draft.TheVariants.{Draft202012}
 use Rattle.ref_world.proofs.OnLiterals.{world_on_literals}
 use Rattle.ref_world.specs.Wants.{Want, MetaSchema}
 use Rattle.ref_world.specs.Preparing.{begun, limited, refused}
-use Rattle.ref_world.specs.Rows.{at, one, text, refers_to_b, b_refers_to_c}
+use Rattle.ref_world.specs.Rows.{at, one, text, given_with, refers_to_b, b_refers_to_c}
+use Rattle.ref_world.proofs.Closure.{outcome_laws}
 use Rattle.ref_world.proofs.Retrieval.{want_of_b, want_of_c, first_retrieved}
 use Rattle.ref_world.proofs.examples.outcomes.limits_and_refusals.Goals as goal
 
@@ -21,6 +22,7 @@ returns c = record {
   refused_meta_schema = refused 0 (at Draft202012 "http://a/r" (one "$schema" (text "http://a/meta#")) ∷ []) want_of_meta [] (codes "Default retriever does not fetch resources") begun (omega arith) refl refl refl;
   refused_relative_meta_schema = refused 0 (at Draft202012 "http://a/r" (one "$schema" (text "invalid")) ∷ []) (record { cause = MetaSchema; uri = codes "json-schema:///invalid" }) [] (codes "Default retriever does not fetch resources") begun (omega arith) refl refl refl;
   missing_meta_schema = refused 0 (at Draft202012 "http://a/r" (one "$schema" (text "http://a/meta#")) ∷ []) want_of_meta [] (codes "no document under this URI") begun (omega arith) refl refl (refl, refl);
+  no_other_limit = λ outcome. let up = (outcome_laws (given_with 2)).used_up (codes "http://a/c") 1 outcome in omega (arith, up.is);
   as_a_reference = refl;
   as_a_meta_schema = refl;
 }

@@ -24,6 +24,10 @@ second : IsRetrieved (given has_b_and_c 2 (refers_to_b ∷ [])) (refers_to_b ∷
 unfolding world_on_literals
 second = record { cause = Reference; tree = yes; wanted = (1, omega arith, refl); no_place = refl; answered = refl; is = refl }
 
+twice : IsRetrieved (given_with 2) (refers_to_b ∷ b_refers_to_c ∷ []) b_refers_to_c → ⊥
+unfolding world_on_literals
+twice is = cc
+
 abbrev faulty_alone : Layer
 faulty_alone = at Draft202012 "http://a/r" (one "$ref" (text "c d")) ∷ []
 
@@ -32,7 +36,8 @@ unfolding world_on_literals
 returns c = record {
   behind_the_first = first;
   behind_the_second = second;
-  not_twice = λ is. cc;
+  not_twice = twice;
+  not_both = λ each. twice each.1.0;
   each = (first_of_two, (second, tt));
   ready_at_once = (outcome_laws (given_alone (c_is_true ∷ []))).ready (c_is_true ∷ []) (ready 0 (c_is_true ∷ []) begun (omega arith) refl refl);
   ready_after_two = (outcome_laws (given has_b_and_c 2 (refers_to_b ∷ []))).ready (refers_to_b ∷ b_refers_to_c ∷ c_is_true ∷ []) (ready 2 (refers_to_b ∷ b_refers_to_c ∷ c_is_true ∷ []) second_retrieved (omega arith) refl refl);
