@@ -58,11 +58,20 @@ fn pair() -> [(&'static str, Value); 1] {
     [("http://a/y", Value::Null)]
 }
 
+fn pairs() -> [(&'static str, Value); 3] {
+    [
+        ("http://a/x", Value::Null),
+        ("http://a/y", Value::Null),
+        ("http://a/x#", Value::Null),
+    ]
+}
+
 fn above(alloc: Global, parent: &Registry<'_>, call: &str) -> Result<String, Stop> {
     match call {
         "add" => ready(alloc, parent.add(alloc, "http://a/r", Value::Null)),
         "add invalid" => ready(alloc, parent.add(alloc, "a b", Value::Null)),
         "extend" => ready(alloc, parent.extend(alloc, pair())),
+        "extend several" => ready(alloc, parent.extend(alloc, pairs())),
         "contains_resource" => known(alloc, parent),
         "find_vocabularies" => declared(alloc, parent),
         "lookup" => looked_up(alloc, parent),
@@ -84,6 +93,7 @@ fn built(
             builder(alloc, parent)?.add("http://a/x", Value::Null),
         ),
         "extend" => ready(alloc, builder(alloc, parent)?.extend(pair())),
+        "extend several" => ready(alloc, builder(alloc, parent)?.extend(pairs())),
         "clone" => match given.clone() {
             Ok(copy) => outcome(alloc, copy),
             Err(error) => Err(refused(&error, true)),

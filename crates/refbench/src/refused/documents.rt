@@ -31,7 +31,7 @@ pub fn uri(alloc: Global, text: &str) -> Result<Uri, Stop> {
 }
 
 /// One pair in a list.
-fn list_of(alloc: Global, pair: (Uri, Value)) -> Result<Vec<(Uri, Value)>, AllocError> {
+pub fn list_of(alloc: Global, pair: (Uri, Value)) -> Result<Vec<(Uri, Value)>, AllocError> {
     let mut list = Vec::new(alloc);
     list.push(pair)?;
     Ok(list)

@@ -41,6 +41,7 @@ impl Calls for Drafts {
             "segments.push" => pushed(alloc, &mut self.segments),
             "resource.clone" => copied(alloc, &self.resource),
             "readers" => read(alloc),
+            "keywords" => ruled(alloc),
             _ => Err(Stop::Wrong),
         }
     }
@@ -149,4 +150,17 @@ fn read_of(alloc: Global, value: &Value) -> Result<String, AllocError> {
     let children = children_of(draft, value);
     let anchors = anchors_of(value);
     format!(in alloc; "{draft:?} {id} {children} {anchors}")
+}
+
+/// The draft of a meta-schema's URI, whether it knows a keyword, and whether `$id` of an object under `not` changes the base in it.
+fn ruled(alloc: Global) -> Result<String, Stop> {
+    let value = Value::from_str(alloc, r#"{"$id":"a"}"#)?;
+    let mut segments = Segments::new(alloc);
+    segments.push(CowStr::Borrowed("not"))?;
+    let draft = Draft::from_schema_uri("http://json-schema.org/draft-07/schema#");
+    let (knows, rebases) = (
+        draft.is_known_keyword("contains"),
+        draft.rebases(&segments, &value),
+    );
+    after(format!(in alloc; "{draft:?} {knows} {rebases}"))
 }

@@ -37,6 +37,7 @@ impl Calls for Maps {
             "clone" => copied_map(alloc, &self.three),
             "readers" => read(alloc, &self.three),
             "table.from_entries" => table(alloc),
+            "table.readers" => read_table(alloc),
             _ => Err(Stop::Wrong),
         }
     }
@@ -116,4 +117,12 @@ fn table(alloc: Global) -> Result<String, Stop> {
         }
         Err(error) => Err(refused(&error, true)),
     }
+}
+
+/// How many pairs a table has, and what stands under one of them and under none.
+fn read_table(alloc: Global) -> Result<String, Stop> {
+    let table = SortedTable::from_entries(alloc, entries(alloc)?)?;
+    let len = table.len();
+    let (second, none) = (table.get("b", "").0.copied(), table.get("c", "").0.copied());
+    after(format!(in alloc; "{len} {second:?} {none:?}"))
 }

@@ -5,6 +5,7 @@ mod builders;
 mod documents;
 mod drafts;
 mod kinds;
+mod lints;
 mod lists;
 mod maps;
 mod registries;
@@ -13,6 +14,7 @@ mod resolvers;
 mod retrievers;
 mod stop;
 mod texts;
+mod told;
 mod trial;
 mod uris;
 mod vocabularies;
@@ -22,7 +24,7 @@ pub use stop::Stop;
 pub use trial::Trial;
 
 /// The names of the groups of calls.
-const GROUPS: [&str; 11] = [
+const GROUPS: [&str; 13] = [
     "uris",
     "lists",
     "maps",
@@ -34,6 +36,8 @@ const GROUPS: [&str; 11] = [
     "retrievers",
     "kinds",
     "reports",
+    "lints",
+    "told",
 ];
 
 /// Whether a word is the name of a group of calls.
@@ -62,6 +66,8 @@ fn of_registries(alloc: Global, group: &str, call: &str) -> Result<Trial, Stop> 
         "retrievers" => retrievers::row(alloc, call),
         "kinds" => kinds::row(alloc, call),
         "reports" => reports::row(alloc, call),
+        "lints" => lints::row(alloc, call),
+        "told" => told::row(alloc, call),
         _ => Err(Stop::Wrong),
     }
 }

@@ -9,6 +9,7 @@ use ref_lint::{Dangling, dangling};
 use ref_retrieve::Error;
 use ref_uri::Uri;
 use referencing::{Draft, JsonPointerSegment, Registry, Resolver};
+use serde_json::Value;
 use std::alloc::{AllocError, Global};
 use std::rc::Rc;
 
@@ -101,7 +102,10 @@ fn registry(alloc: Global, registry: &Registry<'_>, call: &str) -> Result<String
         "contains_resource each" => known(alloc, registry),
         "resolve_uri" => at(alloc, &uri(alloc, "http://a/r")?, registry, "z"),
         "resolve_uri cached" => at(alloc, &uri(alloc, "http://a/r")?, registry, "x"),
+        "resolve_uri cached by a copy" => by_copy(alloc, registry, "x"),
         "resolve_uri invalid" => at(alloc, &uri(alloc, "http://a/r")?, registry, "a b"),
+        "resolved_uri" => lent(alloc, registry, "x"),
+        "value_at" => valued(alloc, registry),
         "clone" => cloned(alloc, registry),
         "places" => listed(alloc, registry),
         "locate" => located(alloc, registry, "x"),
@@ -118,7 +122,8 @@ fn registry(alloc: Global, registry: &Registry<'_>, call: &str) -> Result<String
     }
 }
 
-fn contained(alloc: Global, registry: &Registry<'_>, uri: &str) -> Result<String, Stop> {
+/// Whether a URI means a place.
+pub fn contained(alloc: Global, registry: &Registry<'_>, uri: &str) -> Result<String, Stop> {
     match registry.contains_resource(alloc, uri) {
         Ok(true) => after(String::from_str(alloc, "true")),
         Ok(false) => after(String::from_str(alloc, "false")),
@@ -136,6 +141,29 @@ pub fn resolved(alloc: Global, resolved: Result<Rc<Uri>, Error>) -> Result<Strin
 
 fn at(alloc: Global, base: &Uri, registry: &Registry<'_>, text: &str) -> Result<String, Stop> {
     resolved(alloc, registry.resolve_uri(alloc, base.borrow(), text))
+}
+
+/// By a copy, which is made before.
+fn by_copy(alloc: Global, registry: &Registry<'_>, text: &str) -> Result<String, Stop> {
+    let base = uri(alloc, "http://a/r")?;
+    at(alloc, &base, &registry.clone()?, text)
+}
+
+fn lent(alloc: Global, registry: &Registry<'_>, text: &str) -> Result<String, Stop> {
+    let base = uri(alloc, "http://a/r")?;
+    match registry.resolved_uri(&base.borrow(), text) {
+        Some(uri) => after(String::from_str(alloc, uri.as_str())),
+        None => after(String::from_str(alloc, "none")),
+    }
+}
+
+fn valued(alloc: Global, registry: &Registry<'_>) -> Result<String, Stop> {
+    let path = [
+        JsonPointerSegment::from("enum"),
+        JsonPointerSegment::from(0usize),
+    ];
+    let text = registry.value_at(0, &path).and_then(Value::as_str);
+    after(String::from_str(alloc, text.unwrap_or("none")))
 }
 
 fn cloned(alloc: Global, registry: &Registry<'_>) -> Result<String, Stop> {
@@ -175,7 +203,8 @@ fn entries(alloc: Global, dangling: &[Dangling<'_>]) -> Result<String, AllocErro
     Ok(text)
 }
 
-fn leading_nowhere(alloc: Global, registry: &Registry<'_>) -> Result<String, Stop> {
+/// The references of a registry that lead nowhere.
+pub fn leading_nowhere(alloc: Global, registry: &Registry<'_>) -> Result<String, Stop> {
     match dangling(alloc, registry) {
         Ok(dangling) => after(entries(alloc, dangling.as_slice())),
         Err(error) => fault(alloc, &error),

@@ -28,8 +28,20 @@ pub fn resolver(alloc: Global, resolver: &Resolver<'_>, call: &str) -> Result<St
             )
         }
         "readers" => after(format!(in alloc; "{resolver:?}")),
+        "at_base" => based(alloc, resolver),
         _ => Err(Stop::Wrong),
     }
+}
+
+/// The title of what a resolver's base means, its draft, the base, and whether the scope has no URI.
+fn based(alloc: Global, resolver: &Resolver<'_>) -> Result<String, Stop> {
+    let (title, draft) = match resolver.at_base() {
+        Some((value, draft)) => (title_of(value), Some(draft)),
+        None => ("none", None),
+    };
+    let base = resolver.base_uri().as_str();
+    let is_outermost = resolver.dynamic_scope().is_empty();
+    after(format!(in alloc; "{title} {draft:?} {base} {is_outermost}"))
 }
 
 fn at(alloc: Global, resolver: &Resolver<'_>, text: &str) -> Result<String, Stop> {

@@ -1,7 +1,10 @@
 //! Calls of pointer text and of buffers of `ref_parts`.
 use crate::refused::stop::{Stop, after, refused};
 use crate::refused::trial::{Calls, Trial, tried};
-use ref_parts::{EncodedBuffer, pointer, unescape_segment, write_escaped_str, write_index};
+use ref_parts::{
+    EncodedBuffer, first_escape, parse_index, pointer, unescape_segment, write_escaped_str,
+    write_index,
+};
 use serde_json::Value;
 use std::alloc::Global;
 
@@ -41,6 +44,7 @@ impl Calls for Texts {
             "encoded_buffer.push_str" => pushed(alloc, &mut self.grown),
             "encoded_buffer.decode" => decoded(alloc, &self.encoded),
             "pointer" => pointed(alloc, &self.document),
+            "readers" => read(alloc),
             _ => Err(Stop::Wrong),
         }
     }
@@ -100,4 +104,10 @@ fn pointed(alloc: Global, document: &Value) -> Result<String, Stop> {
         }
         Err(error) => Err(refused(&error, true)),
     }
+}
+
+/// An index, and where the first byte stands that is written escaped.
+fn read(alloc: Global) -> Result<String, Stop> {
+    let (index, escape) = (parse_index("10"), first_escape(b"a/b~"));
+    after(format!(in alloc; "{index:?} {escape:?}"))
 }
