@@ -1,11 +1,12 @@
 //! Reads and writes that fail, at each place, and sinks whose room was reserved before.
 ghost use Rattle.std.specs.Prelude.{None};
+ghost use Rattle.ref_streams.specs.Memory.{is_at_end};
 
 use crate::answers::expect;
 use crate::fault::Fault;
 use crate::reports::Ending;
 use ref_report::run::{RunError, run};
-use ref_report::{Failed, Input, MemorySink, MemorySource, Output, Sink, Status};
+use ref_report::{Failed, Input, MemorySink, MemorySource, Output, Sink, Source, Status};
 use std::alloc::{AllocError, Global};
 use std::io::{self, ErrorKind, Read, Write};
 
@@ -28,6 +29,54 @@ impl Read for FailsAfter<'_> {
         self.left -= 1;
         let room = buffer.len().min(1);
         self.bytes.read(&mut buffer[..room])
+    }
+}
+
+// A source of the tests' own that gives a byte at a time, and fails once it gave so many.
+#[derive(Drop)]
+struct Faulty<'a> {
+    inner: MemorySource<'a>,
+    left: usize,
+    failures: u64,
+}
+
+impl Source for Faulty<'_> {
+    ghost remaining = { λ _. None };
+
+    ghost ended = { λ s. is_at_end s.inner };
+
+    ghost failures = { λ s. s.failures };
+
+    fn read(&mut self, buffer: &mut [u8]) -> Result<usize, Failed> {
+        if self.left == 0 {
+            self.failures = self.failures.saturating_add(1);
+            return Err(Failed);
+        }
+        self.left -= 1;
+        let room = buffer.len().min(1);
+        self.inner.read(&mut buffer[..room])
+    }
+}
+
+// A sink that has room for so many bytes, of which a write fails that has more.
+#[derive(Drop)]
+struct Small {
+    room: usize,
+    failures: u64,
+}
+
+impl Sink for Small {
+    ghost taken = { λ _. None };
+
+    ghost failures = { λ s. s.failures };
+
+    fn write_all(&mut self, bytes: &[u8]) -> Result<(), Failed> {
+        if bytes.len() > self.room {
+            self.failures = self.failures.saturating_add(1);
+            return Err(Failed);
+        }
+        self.room -= bytes.len();
+        Ok(())
     }
 }
 
@@ -77,7 +126,8 @@ impl Write for Narrow {
     }
 }
 
-// Whether a request, of which a read fails behind so many bytes, ends as one that failed, with nothing written and no other failure.
+// Whether a request, of which a read fails behind so many bytes, ends as one that failed, with nothing written and no other failure. A reader
+// whose read failed isn't at its end.
 fn is_refused(alloc: Global, request: &str, left: usize, is_for_ever: bool) -> bool {
     let mut reader = Input::new(FailsAfter {
         bytes: request.as_bytes(),
@@ -86,7 +136,10 @@ fn is_refused(alloc: Global, request: &str, left: usize, is_for_ever: bool) -> b
     });
     let mut writer = MemorySink::new(alloc);
     let answer = run(alloc, &mut reader, &mut writer);
-    answer == Err(RunError::Read) && reader.failures == 1 && writer.bytes.is_empty()
+    answer == Err(RunError::Read)
+        && reader.failures == 1
+        && !reader.ended
+        && writer.bytes.is_empty()
 }
 
 // Whether a request is refused so whichever read fails, the one at its end included, once and for ever.
@@ -97,6 +150,51 @@ fn is_refused_at_each_read(alloc: Global, request: &str) -> bool {
         }
     }
     true
+}
+
+// The same of a source of the tests' own.
+fn is_refused_by_a_source(alloc: Global, request: &str, left: usize) -> bool {
+    let mut reader = Faulty {
+        inner: MemorySource::new(request.as_bytes()),
+        left,
+        failures: 0,
+    };
+    let mut writer = MemorySink::new(alloc);
+    let answer = run(alloc, &mut reader, &mut writer);
+    answer == Err(RunError::Read) && reader.failures == 1 && writer.bytes.is_empty()
+}
+
+// Whether that is so whichever read fails.
+fn is_refused_by_each_source(alloc: Global, request: &str) -> bool {
+    for left in 0..request.len() + 1 {
+        if !is_refused_by_a_source(alloc, request, left) {
+            return false;
+        }
+    }
+    true
+}
+
+// Whether a run on a request, whose sink has so much room, ends so, with so many writes that failed.
+fn is_ended_by_a_sink(
+    alloc: Global,
+    request: &str,
+    room: usize,
+    ended: (Result<Status, RunError>, u64),
+) -> bool {
+    let mut reader = MemorySource::new(request.as_bytes());
+    let mut writer = Small { room, failures: 0 };
+    let answer = run(alloc, &mut reader, &mut writer);
+    (answer, writer.failures) == ended
+}
+
+// Whether a failure is told by a sink that has less room than a report has bytes, and none by one that has as much.
+fn is_told_by_each_sink(alloc: Global, request: &str, ending: &Ending<'_>) -> bool {
+    for room in 0..ending.report.len() {
+        if !is_ended_by_a_sink(alloc, request, room, (Err(RunError::Write), 1)) {
+            return false;
+        }
+    }
+    is_ended_by_a_sink(alloc, request, ending.report.len(), (Ok(ending.status), 0))
 }
 
 // Whether a failed write is told, of a sink of which each fails.
@@ -175,6 +273,10 @@ fn is_written_into_its_room(
 pub fn each(alloc: Global, request: &str, ending: &Ending<'_>) -> Result<(), Fault> {
     let reads = is_refused_at_each_read(alloc, request);
     expect(reads, "a failed read isn't told")?;
+    let sources = is_refused_by_each_source(alloc, request);
+    expect(sources, "a source that failed isn't told")?;
+    let sinks = is_told_by_each_sink(alloc, request, ending);
+    expect(sinks, "a sink that failed isn't told")?;
     let write = is_told(alloc, request);
     expect(write, "a failed write isn't told")?;
     let bytes = is_told_at_each_byte(alloc, request, ending);

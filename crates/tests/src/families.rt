@@ -1,7 +1,8 @@
 //! What is asked of registries and of those above them.
+use crate::answers::agreed;
 use crate::fault::Fault;
 use crate::registries::{child, known, unretrieving};
-use crate::vocabularies;
+use crate::{resources, vocabularies};
 use referencing::Registry;
 use serde_json::Value;
 use std::alloc::{AllocError, Global};
@@ -49,8 +50,30 @@ fn of_child(
     match table {
         "vocabularies" => vocabularies::by_registry(alloc, &child, row),
         "vocabularies at bases" => vocabularies::at_bases(alloc, &child, row),
+        "shown registries" => shown(alloc, parent, &child),
+        "texts by children" => by_copies(alloc, &child, row),
         _ => of_generations(alloc, parent, &child, row),
     }
+}
+
+/// How a registry is shown, and one above it.
+fn shown(alloc: Global, parent: &Registry<'_>, child: &Registry<'_>) -> Result<String, Fault> {
+    Ok(format!(in alloc; "{parent:?} {child:?}")?)
+}
+
+/// Which URIs are known to a registry, and what a text means against a base.
+fn known_and_meant(alloc: Global, registry: &Registry<'_>, row: &Value) -> Result<String, Fault> {
+    let known = known(alloc, registry, row, 3)?;
+    let meant = resources::resolved(alloc, registry, row)?;
+    Ok(format!(in alloc; "{known} {meant}")?)
+}
+
+/// The same by a registry and by its copy.
+fn by_copies(alloc: Global, registry: &Registry<'_>, row: &Value) -> Result<String, Fault> {
+    let copy = registry.clone()?;
+    let first = known_and_meant(alloc, registry, row)?;
+    let again = known_and_meant(alloc, &copy, row)?;
+    agreed(alloc, first, again, ["at first", "by the copy"])
 }
 
 /// Which URIs are known to the registry of a column's documents above a registry.

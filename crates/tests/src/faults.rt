@@ -36,7 +36,7 @@ fn invalid(uri: String) -> Error {
 
 /// A URI whose document can't be retrieved, for the reason that a row names.
 fn unretrievable(alloc: Global, row: &Value) -> Result<Error, Fault> {
-    let source = RetrieveError::Refused(reason_of(alloc, row, 3)?);
+    let source = RetrieveError::Refused(reason_of(alloc, row::text(row, 3)?)?);
     Ok(Error::unretrievable(owned(alloc, row, 2)?, source))
 }
 
@@ -70,10 +70,11 @@ pub fn shown(alloc: Global, row: &Value) -> Result<String, Fault> {
     Ok(format!(in alloc; "{error}\n{error:?}")?)
 }
 
-/// The reason that a column names, or one of that text.
-fn reason_of(alloc: Global, row: &Value, number: usize) -> Result<Reason, Fault> {
-    match row::text(row, number)? {
+/// The reason that a text names, or one of that text.
+pub fn reason_of(alloc: Global, text: &str) -> Result<Reason, AllocError> {
+    match text {
         "NotFetched" => Ok(Reason::NotFetched),
+        "NoDocument" => Ok(Reason::NoDocument),
         "NotSupported" => Ok(Reason::NotSupported),
         text => Ok(Reason::from(String::from_str(alloc, text)?)),
     }
@@ -81,7 +82,7 @@ fn reason_of(alloc: Global, row: &Value, number: usize) -> Result<Reason, Fault>
 
 /// Of a row of a reason: how it is displayed.
 pub fn reason(alloc: Global, row: &Value) -> Result<String, Fault> {
-    let reason = reason_of(alloc, row, 1)?;
+    let reason = reason_of(alloc, row::text(row, 1)?)?;
     Ok(format!(in alloc; "{reason}")?)
 }
 
@@ -90,7 +91,7 @@ fn refusal_of(alloc: Global, row: &Value) -> Result<RetrieveError, Fault> {
     if row::text(row, 1)? == "Memory" {
         return Ok(RetrieveError::from(AllocError));
     }
-    Ok(RetrieveError::from(reason_of(alloc, row, 1)?))
+    Ok(RetrieveError::from(reason_of(alloc, row::text(row, 1)?)?))
 }
 
 /// Of a row of a reason, or of want of memory: how a refusal for it is displayed, and its debug text in the next line.

@@ -5,7 +5,7 @@ use crate::registries::resolver;
 use crate::row;
 use ref_draft::{Draft, ResourceRef};
 use ref_retrieve::Error;
-use referencing::{FollowError, Followed, Registry, Step, follow};
+use referencing::{FollowError, Followed, Registry, Resolver, Step, follow};
 use serde_json::Value;
 use std::alloc::{AllocError, Global};
 
@@ -116,4 +116,24 @@ fn answered(
 pub fn answers(alloc: Global, registry: &Registry<'_>, row: &Value) -> Result<String, Fault> {
     let (base, first, second) = (row::text(row, 4)?, row::text(row, 5)?, row::text(row, 6)?);
     done(alloc, answered(alloc, registry, base, [first, second]))
+}
+
+/// The base of a resolver, and behind it the URIs of its scope, the innermost first.
+fn base_and_scope(alloc: Global, resolver: &Resolver<'_>) -> Result<String, AllocError> {
+    let mut text = String::from_str(alloc, resolver.base_uri().as_str())?;
+    for uri in resolver.dynamic_scope() {
+        text.push(' ')?;
+        text.push_str(uri.as_str())?;
+    }
+    Ok(text)
+}
+
+/// The same of the resolver to which the steps of a row lead from the base in the column before them.
+pub fn scoped(alloc: Global, registry: &Registry<'_>, row: &Value) -> Result<String, Fault> {
+    let base = row::uri(alloc, row, 4)?;
+    let steps = steps_of(alloc, row::list(row, 5)?)?;
+    match follow(alloc, registry, base, steps.as_slice()) {
+        Ok(followed) => Ok(base_and_scope(alloc, &followed.resolver)?),
+        Err(_) => Err(Fault::Form("a step leads nowhere")),
+    }
 }

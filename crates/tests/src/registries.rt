@@ -109,3 +109,10 @@ pub fn known(
     }
     Ok(marks)
 }
+
+/// Of a row of meta-schemas and URIs: which of the URIs are known to the registry of the meta-schemas.
+pub fn of_meta_schemas(alloc: Global, row: &Value) -> Result<String, Fault> {
+    let pairs = row::documents(alloc, row, 1)?;
+    let registry = done(alloc, Registry::from_meta_schemas(alloc, pairs.as_slice()))?;
+    known(alloc, &registry, row, 2)
+}

@@ -2,7 +2,8 @@
 ghost use Rattle.std.specs.Prelude.{⊤};
 
 use crate::fault::Fault;
-use crate::registries::prepared;
+use crate::faults::reason_of;
+use crate::registries::{known, prepared};
 use crate::row;
 use ref_retrieve::{Error, MapRetriever, Retrieve, RetrieveError};
 use ref_uri::Uri;
@@ -31,7 +32,19 @@ impl Retrieve for Counting {
     }
 }
 
-/// How often a retriever is asked: of a row of documents, what can be retrieved, and how many of it may be.
+/// Which URIs of a row are known to a registry that is prepared, or the text of the fault.
+fn outcome(
+    alloc: Global,
+    prepared: Result<Registry<'_>, Error>,
+    row: &Value,
+) -> Result<String, Fault> {
+    match prepared {
+        Ok(registry) => known(alloc, &registry, row, 4),
+        Err(error) => Ok(format!(in alloc; "{error}")?),
+    }
+}
+
+/// How often a retriever is asked, and what comes of it: of a row of documents, what can be retrieved, how many of it may be, and URIs.
 pub fn calls(alloc: Global, row: &Value) -> Result<String, Fault> {
     let limit = row::number(row, 3)?;
     let documents = row::documents(alloc, row, 1)?;
@@ -42,9 +55,9 @@ pub fn calls(alloc: Global, row: &Value) -> Result<String, Fault> {
     let builder = Registry::new(alloc)
         .retrieval_limit(limit)
         .retriever(&retriever);
-    let _ = prepared(builder, documents);
+    let outcome = outcome(alloc, prepared(builder, documents), row)?;
     let calls = retriever.calls.get();
-    Ok(format!(in alloc; "{calls}")?)
+    Ok(format!(in alloc; "{calls} {outcome}")?)
 }
 
 /// Has no memory for any document.
@@ -69,4 +82,37 @@ pub fn is_exhausted(alloc: Global, row: &Value) -> Result<String, Fault> {
     let registry = prepared(Registry::new(alloc).retriever(Exhausted), documents);
     let is_exhausted = matches!(registry, Err(Error::Memory(_)));
     Ok(format!(in alloc; "{is_exhausted}")?)
+}
+
+/// Refuses each document for one reason.
+#[derive(Drop)]
+struct Refusing<'r> {
+    reason: &'r str,
+}
+
+impl Retrieve for Refusing<'_> {
+    ghost use Rattle.std.specs.Prelude.{⊤};
+
+    ghost may_answer = { λ _ _ _. ⊤ };
+
+    ghost may_refuse = { λ _ _ _. ⊤ };
+
+    fn retrieve(&self, alloc: Global, _uri: &Uri) -> Result<Value, RetrieveError> {
+        let reason = reason_of(alloc, self.reason)?;
+        Err(RetrieveError::Refused(reason))
+    }
+}
+
+/// Of a row of documents and a reason: the fault with which preparing them ends, where each retrieval is refused for that reason, and its debug
+/// text in the next line.
+pub fn refused(alloc: Global, row: &Value) -> Result<String, Fault> {
+    let documents = row::documents(alloc, row, 1)?;
+    let reason = row::text(row, 2)?;
+    match prepared(
+        Registry::new(alloc).retriever(Refusing { reason }),
+        documents,
+    ) {
+        Ok(_registry) => Err(Fault::Form("nothing is refused")),
+        Err(error) => Ok(format!(in alloc; "{error}\n{error:?}")?),
+    }
 }

@@ -43,19 +43,25 @@ fn bits_of(row: &Value, number: usize) -> Result<u16, Fault> {
     Ok((row::number(row, number)? & 0xffff) as u16)
 }
 
-/// Of a row of bits: the set of them.
+/// The set of the bits in a row's first column and of the vocabularies that the texts in the next one name.
+fn of_bits_and_texts(alloc: Global, row: &Value) -> Result<VocabularySet, Fault> {
+    let known = VocabularySet::from_known(bits_of(row, 1)?);
+    set_of(alloc, known, row, 2)
+}
+
+/// Of a row of bits and texts: the set of them.
 pub fn of_bits(alloc: Global, row: &Value) -> Result<String, Fault> {
-    let set = VocabularySet::from_known(bits_of(row, 1)?);
+    let set = of_bits_and_texts(alloc, row)?;
     Ok(format!(in alloc; "{set:?}")?)
 }
 
-/// Of a row of a bit and a text: whether the set of the bit has the vocabulary of the text, whether that of the other eight has it, and whether
-/// it is equal to its copy.
+/// Of a row of a bit, a text and other bits: whether the set of the bit has the vocabulary of the text, whether that of the others has it, and
+/// whether it is equal to its copy.
 pub fn of_a_bit(alloc: Global, row: &Value) -> Result<String, Fault> {
-    let bit = bits_of(row, 1)?;
+    let (bit, others) = (bits_of(row, 1)?, bits_of(row, 3)?);
     let vocabulary = vocabulary(alloc, row, 2)?;
     let is_in = VocabularySet::from_known(bit).contains(&vocabulary);
-    let is_in_others = VocabularySet::from_known(0x1ff ^ bit).contains(&vocabulary);
+    let is_in_others = VocabularySet::from_known(others).contains(&vocabulary);
     let is_same = vocabulary.clone()? == vocabulary;
     Ok(format!(in alloc; "{is_in} {is_in_others} {is_same}")?)
 }
@@ -79,9 +85,34 @@ pub fn are_equal(alloc: Global, row: &Value) -> Result<String, Fault> {
     Ok(format!(in alloc; "{}", set == other)?)
 }
 
-/// Of a row of texts and one more: whether the set of them has the vocabulary of that.
+/// Of a row of bits, texts and one more: whether the set of them has the vocabulary of that.
 pub fn contains(alloc: Global, row: &Value) -> Result<String, Fault> {
-    let set = set_of(alloc, VocabularySet::new(), row, 1)?;
-    let vocabulary = vocabulary(alloc, row, 2)?;
+    let set = of_bits_and_texts(alloc, row)?;
+    let vocabulary = vocabulary(alloc, row, 3)?;
     Ok(format!(in alloc; "{}", set.contains(&vocabulary))?)
+}
+
+/// Adds the vocabulary that a text names: whether the set had it before, and whether it has it then.
+fn grown_by(alloc: Global, set: &mut VocabularySet, text: &str) -> Result<[bool; 2], Error> {
+    let vocabulary = Vocabulary::from_text(alloc, text)?;
+    let had = set.contains(&vocabulary);
+    set.add(alloc, vocabulary.clone()?)?;
+    Ok([had, set.contains(&vocabulary)])
+}
+
+/// The same of texts in turn: a `+` for each that it has, and a `-` for each that it hasn't.
+fn grown_by_each(alloc: Global, set: &mut VocabularySet, texts: &[Value]) -> Result<String, Error> {
+    let mut marks = String::new(alloc);
+    for text in texts {
+        let [had, has] = grown_by(alloc, set, text.as_str().unwrap_or("no text"))?;
+        marks.push(if had { '+' } else { '-' })?;
+        marks.push(if has { '+' } else { '-' })?;
+    }
+    Ok(marks)
+}
+
+/// Of a row of texts, and of others that are added to their set in turn.
+pub fn grown(alloc: Global, row: &Value) -> Result<String, Fault> {
+    let mut set = set_of(alloc, VocabularySet::new(), row, 1)?;
+    done(alloc, grown_by_each(alloc, &mut set, row::list(row, 2)?))
 }

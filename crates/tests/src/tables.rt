@@ -22,7 +22,8 @@ fn of_families(alloc: Global, given: &Value, table: &str, row: &Value) -> Result
         "vocabularies" | "vocabularies by the parent" | "vocabularies at bases" => {
             families::of_documents(alloc, given, table, row)
         }
-        "children" | "generations" => families::of_documents(alloc, row, table, row),
+        "children" | "generations" | "shown registries" | "texts by children" =>
+            families::of_documents(alloc, row, table, row),
         _ => of_faults(alloc, table, row),
     }
 }
@@ -62,6 +63,7 @@ fn of_sets(alloc: Global, table: &str, row: &Value) -> Result<String, Fault> {
         "custom vocabularies" => sets::custom(alloc, row),
         "equal sets" => sets::are_equal(alloc, row),
         "contained vocabularies" => sets::contains(alloc, row),
+        "grown sets" => sets::grown(alloc, row),
         _ => of_builders(alloc, table, row),
     }
 }
@@ -74,6 +76,8 @@ fn of_builders(alloc: Global, table: &str, row: &Value) -> Result<String, Fault>
         "kinds" | "kinds with titles" => inputs::of_kinds(alloc, row),
         "calls of a retriever" => retrieval::calls(alloc, row),
         "retrievers without memory" => retrieval::is_exhausted(alloc, row),
+        "refusing retrievers" => retrieval::refused(alloc, row),
+        "meta-schemas" => registries::of_meta_schemas(alloc, row),
         _ => of_texts(alloc, table, row),
     }
 }
@@ -112,6 +116,7 @@ fn of_registry(
         "copies" => resources::copies(alloc, registry, row),
         "answers" => lookups::answers(alloc, registry, row),
         "lookups" => lookups::led(alloc, registry, row),
+        "scopes" => lookups::scoped(alloc, registry, row),
         _ => Err(Fault::Form("no such table")),
     }
 }
