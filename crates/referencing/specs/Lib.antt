@@ -4,3 +4,4 @@ pub mod Following
 pub mod Answering
 pub mod MetaSchemas
 pub mod Listed
+pub mod Rows

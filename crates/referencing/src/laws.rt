@@ -5,6 +5,7 @@ ghost use Rattle.std.specs.declared.alloc.Global as global;
 ghost use Rattle.std.specs.declared.rc.Rc as rc;
 ghost use Rattle.serde_json.specs.View.{view};
 ghost use Rattle.ref_draft.specs.Views.{resource, resource_ref};
+ghost use Rattle.referencing.specs.Rows.{PreparingRows, StepRows, PlaceRows};
 
 use crate::input::IntoRegistryResource;
 use ref_draft::{Resource, ResourceRef};
@@ -29,4 +30,19 @@ pub fn resources_are_added_with_their_drafts()
         × (⟦<&'static Resource as IntoRegistryResource<'static>>⟧.given_draft r ≡ Some (resource r.now).draft) }
     ensures lent { (r : ResourceRef) → (⟦<ResourceRef<'static> as IntoRegistryResource<'static>>⟧.tree r ≡ (resource_ref r).contents)
         × (⟦<ResourceRef<'static> as IntoRegistryResource<'static>>⟧.given_draft r ≡ Some (resource_ref r).draft) }
+{}
+
+/// Rows of what preparing may answer, of its faults and of those of meta-schemas, and of a limit that is used up.
+pub fn preparing_rows()
+    ensures rows { PreparingRows }
+{}
+
+/// Rows of the faults of steps, and of the errors of preparing and following at once.
+pub fn step_rows()
+    ensures rows { StepRows }
+{}
+
+/// Rows of which answers are a place's, and agree with the places below a resource.
+pub fn place_rows()
+    ensures rows { PlaceRows }
 {}

@@ -1,0 +1,47 @@
+-- Worked rows of what the calls of a registry answer, for texts that stand for any.
+use Rattle.std.specs.Prelude.{◌≡◌, true, codes, [], ◌∷◌, Ok, Err, String, string_bytes}
+use Rattle.std.specs.declared.alloc.AllocError.{AllocError}
+use Rattle.std.specs.declared.alloc.Global.{Global}
+use Rattle.ref_draft.specs.declared.draft.Draft.TheVariants.{Draft7}
+use Rattle.ref_uri.specs.Targets.{unparsed}
+use Rattle.ref_uri.specs.declared.error.UriError.TheVariants.{Parse}
+use Rattle.ref_uri.specs.declared.error.ParseError.TheVariants.{Syntax}
+use Rattle.ref_world.specs.Fault as fault
+use Rattle.ref_world.specs.Places.{root}
+use Rattle.ref_world.specs.Rows.{at, world, yes, empty, c_is_true, given_alone, given_with, look, found, resolver}
+use Rattle.ref_retrieve.specs.declared.error.Error.TheVariants.{PointerToNowhere, NoSuchAnchor, InvalidUri, RetrievalLimit, Memory}
+use Rattle.ref_index.specs.Retrieval.{IsFaultyOutcome}
+use Rattle.ref_resolver.specs.declared.resolver.Resolved.{Resolved}
+use Rattle.ref_resolver.specs.Resolving.{found_of}
+use Rattle.referencing.specs.declared.answer.AnswerError.TheVariants as answer_error
+use Rattle.referencing.specs.Prepared.{IsPreparedOf, LimitIsUsedUp}
+use Rattle.referencing.specs.MetaSchemas.{IsMetaSchemaFault}
+use Rattle.referencing.specs.Following.{IsStepFaultOf}
+use Rattle.referencing.specs.Listed.{AnswersPlace, Agrees}
+use Rattle.referencing.specs.Answering.{IsFailureOf}
+
+-- which worlds and errors preparing may answer
+pub record PreparingRows : Type 0 where
+  pub prepared : IsPreparedOf (given_alone (c_is_true ∷ [])) (world (c_is_true ∷ []))
+  pub not_prepared : ¬ (IsPreparedOf (given_alone (c_is_true ∷ [])) (world []))
+  pub limit : (uri : String Global) → string_bytes uri ≡ codes "http://a/b" → IsFaultyOutcome (given_with 0) (RetrievalLimit uri 0)
+  pub no_fault : (uri : String Global) → ¬ (IsFaultyOutcome (given_alone (c_is_true ∷ [])) (RetrievalLimit uri 0))
+  pub used_up : (uri : String Global) → string_bytes uri ≡ codes "http://a/b" → LimitIsUsedUp (given_with 0) (RetrievalLimit uri 0)
+  pub not_used_up : (uri : String Global) → ¬ (LimitIsUsedUp (given_with 2) (RetrievalLimit uri 1))
+  pub refused_uri_of_a_meta_schema : (u : String Global) → string_bytes u ≡ codes "a b" → IsMetaSchemaFault (Err (unparsed (codes "a b"))) (InvalidUri (Parse u true Syntax))
+  pub no_other_fault_of_a_meta_schema : (p : String Global) → ¬ (IsMetaSchemaFault (Err (unparsed (codes "a b"))) (NoSuchAnchor p))
+
+-- which errors following may answer
+pub record StepRows : Type 0 where
+  pub second_step : (p : String Global) → string_bytes p ≡ codes "/a" → IsStepFaultOf (Err (1, fault.PointerToNowhere (codes "/a"))) (record { step = 1; error = PointerToNowhere p })
+  pub not_the_first : (p : String Global) → ¬ (IsStepFaultOf (Err (1, fault.PointerToNowhere (codes "/a"))) (record { step = 0; error = PointerToNowhere p }))
+  pub failed_step : (p : String Global) → string_bytes p ≡ codes "/x" → IsFailureOf (given_alone (c_is_true ∷ [])) (codes "http://a/c") (look "#/x" ∷ []) (answer_error.Follow (record { step = 0; error = PointerToNowhere p }))
+  pub no_step : (p : String Global) → ¬ (IsFailureOf (given_alone (c_is_true ∷ [])) (codes "http://a/c") [] (answer_error.Follow (record { step = 0; error = PointerToNowhere p })))
+
+-- which answers are a place's
+pub record PlaceRows : Type 0 where
+  pub of_the_place : (r : Resolved) → found_of r ≡ found yes Draft7 (resolver "http://a/r" (codes "http://a/r" ∷ [])) → AnswersPlace (root (at Draft7 "http://a/r" yes)) (codes "http://a/r") (Ok r)
+  pub of_another_value : (r : Resolved) → found_of r ≡ found empty Draft7 (resolver "http://a/r" (codes "http://a/r" ∷ [])) → ¬ (AnswersPlace (root (at Draft7 "http://a/r" yes)) (codes "http://a/r") (Ok r))
+  pub want_of_memory : (e : AllocError) → Agrees (at Draft7 "http://a/r" yes ∷ []) (codes "http://a/r") [] (Err (Memory e))
+  pub no_other_error : (p : String Global) → ¬ (Agrees (at Draft7 "http://a/r" yes ∷ []) (codes "http://a/r") [] (Err (NoSuchAnchor p)))
+  pub no_other_value : (r : Resolved) → found_of r ≡ found empty Draft7 (resolver "http://a/r" (codes "http://a/r" ∷ [])) → ¬ (Agrees (at Draft7 "http://a/r" yes ∷ []) (codes "http://a/r") [] (Ok r))
