@@ -1,5 +1,5 @@
 -- A root that the pointer and the keywords read alike, in a layer of its document alone, told by what computes.
-use Rattle.std.proofs.Common.{◌≡◌, ℕ, false, List, [], ◌∷◌, Some, None, Ok, ◌⊎◌, inl, inr, ⊎_elim, IsTrue, refl, sym, ap, subst, ◌∙◌, true≢false, bytes_eq, arith, Ordering, Less, Equal, Greater, nat_cmp}
+use Rattle.std.proofs.Common.{◌≡◌, ℕ, false, List, [], ◌∷◌, Some, None, is_some, Ok, ◌⊎◌, inl, inr, ⊎_elim, IsTrue, refl, sym, ap, subst, ◌∙◌, true≢false, bytes_eq, arith, Ordering, Less, Equal, Greater, nat_cmp}
 use Rattle.std.specs.Bool.{⊤}
 use Rattle.std.specs.List.{Contains, AllByRecursion}
 use Rattle.std.specs.Ordering.{match_ordering}
@@ -12,7 +12,7 @@ use Rattle.ref_draft.specs.declared.draft.Draft.{Draft}
 use Rattle.ref_draft.specs.Keywords.{is_before_2020, id_keyword}
 use Rattle.ref_draft.specs.Schema.{text_under}
 use Rattle.ref_world.specs.World.{Document}
-use Rattle.ref_world.specs.Places.{Place, root, places}
+use Rattle.ref_world.specs.Places.{Place, root, places, identifier_of}
 use Rattle.ref_world.specs.Resources.{resources}
 use Rattle.ref_world.specs.Agreement.{HasPlainMaps, IsReadAlike}
 use Rattle.ref_world.proofs.Alone.{first_or_later}
@@ -64,19 +64,21 @@ alone_of uri r p [] each there = absurd (omega (arith, there.1))
 alone_of uri r p (e ∷ es) each there =
     ⊎_elim (of_entry uri r p e each.0) (alone_of uri r p es each.1) (first_or_later e es (uri, p) there)
 
--- ---- the root
+-- ---- a place
+
+pub read_alike_at : (d : Document) (r : Place) (uri : List ℕ) → Contains (places d) r → (r ≡ root d) ⊎ IsTrue (is_some (identifier_of r)) → r.base ≡ Ok uri → AreOf uri r (resources (d ∷ []))
+    → AllByRecursion (λ p. p.draft ≡ r.draft) (places d) → (IsTrue (is_before_2020 r.draft) → AllByRecursion (λ p. IsPlain (id_keyword r.draft) p.value) (places d)) → IsReadAlike (d ∷ []) d r uri
+read_alike_at d r uri there resource base alone drafts plain = record {
+  document = (0, omega arith, refl);
+  place = there;
+  resource = resource;
+  base = base;
+  alone = λ p at. alone_of uri r p (resources (d ∷ [])) alone at;
+  one_draft = λ p under. All-contains (λ q. q.draft ≡ r.draft) (places d) p (All-from_recursion _ (places d) drafts) (below_is_place d p r there under);
+  plain_maps = λ before p under. plain_maps r.draft p.value
+      (All-contains (λ q. IsPlain (id_keyword r.draft) q.value) (places d) p (All-from_recursion _ (places d) (plain before)) (below_is_place d p r there under));
+}
 
 pub read_alike : (d : Document) (uri : List ℕ) → (root d).base ≡ Ok uri → AreOf uri (root d) (resources (d ∷ [])) → AllByRecursion (λ p. p.draft ≡ d.draft) (places d)
     → (IsTrue (is_before_2020 d.draft) → AllByRecursion (λ p. IsPlain (id_keyword d.draft) p.value) (places d)) → IsReadAlike (d ∷ []) d (root d) uri
-read_alike d uri base alone drafts plain =
-    let first : Contains (places d) (root d) = (0, omega arith, refl) in
-    record {
-      document = (0, omega arith, refl);
-      place = first;
-      resource = inl refl;
-      base = base;
-      alone = λ p there. alone_of uri (root d) p (resources (d ∷ [])) alone there;
-      one_draft = λ p under. All-contains (λ q. q.draft ≡ d.draft) (places d) p (All-from_recursion _ (places d) drafts) (below_is_place d p (root d) first under);
-      plain_maps = λ before p under. plain_maps d.draft p.value
-          (All-contains (λ q. IsPlain (id_keyword d.draft) q.value) (places d) p (All-from_recursion _ (places d) (plain before)) (below_is_place d p (root d) first under));
-    }
+read_alike d uri base alone drafts plain = read_alike_at d (root d) uri (0, omega arith, refl) (inl refl) base alone drafts plain

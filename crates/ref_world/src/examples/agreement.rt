@@ -67,6 +67,7 @@ pub fn resources_read_alike()
     ensures draft_7 { IsReadAlike (at Draft7 "http://a/b" identified ∷ []) (at Draft7 "http://a/b" identified) (root (at Draft7 "http://a/b" identified)) (codes "http://a/r") }
     ensures draft_2019 { IsReadAlike (at Draft201909 "http://a/b" identified_2020 ∷ []) (at Draft201909 "http://a/b" identified_2020) (root (at Draft201909 "http://a/b" identified_2020)) (codes "http://a/r") }
     ensures draft_2020 { IsReadAlike (at Draft202012 "http://a/b" identified_2020 ∷ []) (at Draft202012 "http://a/b" identified_2020) (root (at Draft202012 "http://a/b" identified_2020)) (codes "http://a/r") }
+    ensures below_the_root { IsReadAlike (at Draft202012 "http://a/r" (one "not" (one "$id" (text "s"))) ∷ []) (at Draft202012 "http://a/r" (one "not" (one "$id" (text "s")))) (place_below "not" (one "$id" (text "s")) "http://a/r" "http://a/s") (codes "http://a/s") }
     ensures without_an_identifier { IsReadAlike (at Draft7 "http://a/r" yes ∷ []) (at Draft7 "http://a/r" yes) (root (at Draft7 "http://a/r" yes)) (codes "http://a/r") }
     ensures map_with_an_identifier_in_2020 { IsReadAlike (at Draft202012 "http://a/r" (one "properties" (one "$id" (text "m"))) ∷ []) (at Draft202012 "http://a/r" (one "properties" (one "$id" (text "m")))) (root (at Draft202012 "http://a/r" (one "properties" (one "$id" (text "m"))))) (codes "http://a/r") }
 {}
