@@ -3,9 +3,9 @@
 
     suite/run --answers python3 suite/adapters/python-referencing.py
 
-The package tells no draft of what it finds, has no limit of retrieved documents, and no list of the references that lead nowhere: the
-draft is that of the document where the lookup ended, where that is known, and the other two fields are read and not used. It retrieves a
-document when a reference to it is looked up. suite/PEERS.md lists what it answers otherwise.
+The package has no limit of retrieved documents, and no list of the references that lead nowhere: these two fields are read and not used.
+The draft that is told is that of the resource under the base at the end, or else that of the request. A document is retrieved when a
+reference to it is looked up. suite/PEERS.md lists what it answers otherwise.
 """
 import json
 import sys
@@ -95,6 +95,12 @@ def registry_of(request, specification):
     return registry
 
 
+def draft_of(resolver, specification):
+    """The draft of the resource under the base, or else that of the request."""
+    resource = resolver._registry.get(resolver._base_uri)
+    return NAMES.get((resource._specification if resource else specification).name, "unknown")
+
+
 def answer(request):
     """The lines of a report."""
     specification = DRAFTS[request.get("draft", "2020-12")]
@@ -112,7 +118,7 @@ def answer(request):
     lines = ["no value"]
     if resolved is not None:
         value = json.dumps(resolved.contents, ensure_ascii=False, sort_keys=True, separators=(",", ":"))
-        lines = [f"value {value}", f"draft {NAMES[specification.name]}"]
+        lines = [f"value {value}", f"draft {draft_of(resolver, specification)}"]
     scope = [uri for uri, _ in resolver.dynamic_scope()]
     return lines + [f"base {resolver._base_uri}", " ".join(["scope", *scope])]
 
