@@ -5,7 +5,7 @@
 //! for memory, with that request refused. Where the call wants memory, it is made again, and behind it other calls on the same values.
 //!
 //! A line `CALL TEXT SIZE TIMES`, as `parse names 100 1`, is a workload, whose answer is how much the calls answered together; `nothing` as
-//! the call measures the workload itself. It prints the same on every run; `docs/DEVELOPING.md` says how it is run under `valgrind
+//! the call measures the workload itself. It prints the same on every run; `docs/MEASUREMENTS.md` says how it is run under `valgrind
 //! --tool=callgrind`, and what it showed.
 //!
 //! The exit status is 0 where every call has its answer, 3 where one wanted memory and these are the answers afterwards, 4 where memory was refused
