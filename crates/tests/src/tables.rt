@@ -87,9 +87,8 @@ fn of_texts(alloc: Global, table: &str, row: &Value) -> Result<String, Fault> {
     match table {
         "texts by resolvers" => resources::resolved_by_resolvers(alloc, row),
         "paths of places" => places::agreeing(alloc, row),
-        "validator" | "bundler" | "openapi" | "dialect" | "editor" | "shown faults" => {
-            used::found(alloc, table, row)
-        }
+        "validator" | "bundler" | "openapi" | "dialect" | "editor" | "bookmarks" | "shown faults" =>
+            { used::found(alloc, table, row) }
         _ => of_registries(alloc, table, row),
     }
 }

@@ -7,6 +7,7 @@ use ref_uri::uri::from_str;
 use referencing::{Draft, Registry, Step};
 use serde_json::Value;
 use std::alloc::{AllocError, Global};
+use uses::bookmarks::{bookmark_of, opened};
 use uses::bundler::referred_documents;
 use uses::dialect::vocabularies_of;
 use uses::editor::value_and_base;
@@ -86,6 +87,23 @@ fn edited(alloc: Global, document: &Value, fragment: &str) -> Result<String, Err
     Ok(format!(in alloc; "{found} {base}")?)
 }
 
+/// The value, the draft and the base at the bookmark of the place with this number, below the root.
+fn marked(alloc: Global, document: &Value, number: usize) -> Result<String, Error> {
+    let registry = registry_of(alloc, "http://a/r", document)?;
+    let places = registry.places(alloc)?;
+    let mut kept = None;
+    if let (Some(root), Some(place)) = (places.first(), places.get(number)) {
+        kept = bookmark_of(root, place);
+    }
+    let Some(kept) = kept else {
+        return Ok(String::from_str(alloc, "no bookmark")?);
+    };
+    let (found, draft, base) = opened(alloc, &registry, kept)?;
+    let found = found.to_string(alloc)?;
+    let base = base.as_str();
+    Ok(format!(in alloc; "{found} {draft:?} {base}")?)
+}
+
 /// What is shown where an empty reference leads from a document, and from there another.
 fn asked(alloc: Global, document: &Value, reference: &str) -> Result<String, Error> {
     let builder = Registry::new(alloc).add("http://a/r", document)?;
@@ -103,6 +121,7 @@ fn answered(alloc: Global, name: &str, document: &Value, asked: &Value) -> Resul
         "openapi" => described(alloc, document, asked),
         "dialect" => declared(alloc, document, asked),
         "editor" => edited(alloc, document, text),
+        "bookmarks" => marked(alloc, document, asked.as_u64().unwrap_or(0) as usize),
         _ => self::asked(alloc, document, text),
     }
 }

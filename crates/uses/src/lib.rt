@@ -2,6 +2,7 @@
 //! the program `tests`.
 #![tactic(auto)]
 
+pub mod bookmarks;
 pub mod bundler;
 pub mod dialect;
 pub mod editor;
