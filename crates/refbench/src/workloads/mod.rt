@@ -1,6 +1,7 @@
 //! Workloads by which the cost of this project's calls is measured: of lines `CALL TEXT SIZE TIMES`, how long the texts are that the calls
 //! answered, together.
 
+mod deep;
 mod line;
 mod lookups;
 mod parts;
@@ -121,6 +122,7 @@ fn answer(alloc: Global, line: Line<'_>) -> Option<u64> {
     match line.call {
         "get" | "scan" | "plain_scan" => parts::answer(alloc, line),
         "find" => vocabularies::answer(alloc, line),
+        "deep" => deep::answer(alloc, line),
         "add" | "extend" | "prepare" => registries::answer(alloc, line),
         "lookup" | "lookup-owned" | "dynamic" | "dynamic-owned" => lookups::answer(alloc, line),
         "places" | "locate" | "dangling" => places::answer(alloc, line),
