@@ -1,2 +1,3 @@
 pub mod Bundling
+pub mod Paths
 pub mod Validating

@@ -25,8 +25,8 @@ pub struct Bookmark<'p> {
 /// The bookmark of a place of [`Registry::places`] that is at or below another of the same document, such as the root of its
 /// resource; `None` where its path doesn't begin with the other's. Takes no memory.
 pub fn bookmark_of<'p>(resource: &'p Place<'p>, place: &'p Place<'p>) -> Option<Bookmark<'p>>
-    ensures resource { IfSome result (λ kept. kept.resource.now ≡ resource.base.value) }
-    ensures path { IfSome result (λ kept. map part_of place.path.items ≡ map part_of resource.path.items ++ map part_of kept.path.now) }
+    ensures resource { IfSome result (λ kept. kept.resource.now ≡ resource.now.base.value) }
+    ensures path { IfSome result (λ kept. map part_of place.now.path.items ≡ map part_of resource.now.path.items ++ map part_of kept.path.now) }
 {
     if place.document != resource.document {
         return None;
@@ -49,9 +49,9 @@ pub fn opened<'r>(
     registry: &'r Registry<'_>,
     kept: Bookmark<'_>,
 ) -> Result<(&'r Value, Draft, Rc<Uri>), Error>
-    ensures place { (d : Document) (r q : WorldPlace) → IsReadAlike (own registry.now) d r kept.resource.now → IsAtOrBelow q r → q.path ≡ r.path ++ map part_of kept.path.now
+    ensures place { (d : Document) (r q : WorldPlace) → IsReadAlike (own registry.now) d r kept.entry.resource.now → IsAtOrBelow q r → q.path ≡ r.path ++ map part_of kept.entry.path.now
         → IfOk result (λ found. (view found.0.now ≡ q.value) × (found.1 ≡ q.draft) × (q.base ≡ Ok found.2.value)) }
-    ensures memory { (d : Document) (r q : WorldPlace) → IsReadAlike (own registry.now) d r kept.resource.now → IsAtOrBelow q r → q.path ≡ r.path ++ map part_of kept.path.now
+    ensures memory { (d : Document) (r q : WorldPlace) → IsReadAlike (own registry.now) d r kept.entry.resource.now → IsAtOrBelow q r → q.path ≡ r.path ++ map part_of kept.entry.path.now
         → IfErr result IsMemory }
 {
     let (value, inner, draft) = registry
