@@ -1,54 +1,62 @@
 //! Builders that are made here, since no row can tell how a document is lent: what they hold, and how they and their copies are shown.
-use crate::fault::{Fault, done};
+use crate::fault::{Fault, done, made};
 use crate::inputs::held;
 use crate::registries::known;
 use crate::row;
 use ref_draft::Draft;
-use ref_retrieve::{Error, MapRetriever};
+use ref_retrieve::MapRetriever;
 use referencing::{Registry, RegistryBuilder};
 use serde_json::Value;
-use std::alloc::{AllocError, Global};
+use std::alloc::Global;
 
 /// A builder that borrows for long takes a value that is lent for less.
 fn with_lent<'a: 'b, 'b>(
+    alloc: Global,
     builder: RegistryBuilder<'a>,
     value: &'b Value,
-) -> Result<RegistryBuilder<'b>, Error> {
-    builder.add("urn:b", value)
+) -> Result<RegistryBuilder<'b>, Fault> {
+    done(alloc, builder.add("urn:b", value))
 }
 
-/// What the registry of it then holds.
-fn lent_for_less(alloc: Global) -> Result<String, Error> {
-    let builder = Registry::new(alloc).add("urn:a", Value::Null)?;
-    let value = Value::Bool(true);
-    let registry = with_lent(builder, &value)?.prepare()?;
+/// What the registry of a builder and of a value that is lent then holds.
+fn held_with(alloc: Global, builder: RegistryBuilder<'_>, value: &Value) -> Result<String, Fault> {
+    let builder = with_lent(alloc, builder, value)?;
+    let registry = done(alloc, builder.prepare())?;
     held(alloc, &registry)
 }
 
+/// What the registry of it then holds.
+fn lent_for_less(alloc: Global) -> Result<String, Fault> {
+    let builder = done(alloc, Registry::new(alloc).add("urn:a", Value::Null))?;
+    held_with(alloc, builder, &Value::Bool(true))
+}
+
 /// A builder with a draft and a document.
-fn with_draft(alloc: Global) -> Result<RegistryBuilder<'static>, Error> {
+fn with_draft(alloc: Global) -> Result<RegistryBuilder<'static>, Fault> {
     let builder = Registry::new(alloc).draft(Draft::Draft7);
-    builder.add("http://a/r", Value::Null)
+    done(alloc, builder.add("http://a/r", Value::Null))
 }
 
 /// How a builder is shown.
-fn shown(alloc: Global, builder: &RegistryBuilder<'_>) -> Result<String, AllocError> {
-    format!(in alloc; "{builder:?}")
+fn shown(alloc: Global, builder: &RegistryBuilder<'_>) -> Result<String, Fault> {
+    made(format!(in alloc; "{builder:?}"))
 }
 
 /// How a builder above a registry is shown.
-fn shown_above(alloc: Global) -> Result<String, Error> {
-    let parent = Registry::new(alloc).prepare()?;
-    let builder = parent.add(alloc, "http://a/r", Value::Null)?;
-    Ok(shown(alloc, &builder)?)
+fn shown_above(alloc: Global) -> Result<String, Fault> {
+    let parent = done(alloc, Registry::new(alloc).prepare())?;
+    let builder = done(alloc, parent.add(alloc, "http://a/r", Value::Null))?;
+    shown(alloc, &builder)
 }
 
 /// What a builder becomes with another document.
 fn becoming<'a>(
+    alloc: Global,
     builder: RegistryBuilder<'a, &MapRetriever>,
     uri: &str,
-) -> Result<Registry<'a>, Error> {
-    builder.add(uri, Value::Null)?.prepare()
+) -> Result<Registry<'a>, Fault> {
+    let builder = done(alloc, builder.add(uri, Value::Null))?;
+    done(alloc, builder.prepare())
 }
 
 /// Which URIs of a row are known to that.
@@ -58,7 +66,7 @@ fn with_another(
     uri: &str,
     row: &Value,
 ) -> Result<String, Fault> {
-    let registry = done(alloc, becoming(builder, uri))?;
+    let registry = becoming(alloc, builder, uri)?;
     known(alloc, &registry, row, 2)
 }
 
@@ -71,7 +79,7 @@ fn both(
     let copy = builder.clone()?;
     let first = with_another(alloc, builder, "http://a/c", row)?;
     let second = with_another(alloc, copy, "http://a/d", row)?;
-    Ok(format!(in alloc; "{first} {second}")?)
+    made(format!(in alloc; "{first} {second}"))
 }
 
 /// The same of a builder of one document and what can be retrieved.
@@ -79,29 +87,35 @@ fn apart(alloc: Global, row: &Value) -> Result<String, Fault> {
     let retriever = row::retriever(alloc, row, 3)?;
     let document = row::column(row, 4)?;
     let builder = Registry::new(alloc).retriever(&retriever);
-    match builder.add("http://a/r", document) {
-        Ok(builder) => both(alloc, builder, row),
-        Err(_) => Err(Fault::Form("the document is refused")),
-    }
+    both(
+        alloc,
+        done(alloc, builder.add("http://a/r", document))?,
+        row,
+    )
+}
+
+/// How a builder's copy is shown.
+fn shown_by_copy(alloc: Global, builder: &RegistryBuilder<'_>) -> Result<String, Fault> {
+    let copy = builder.clone()?;
+    shown(alloc, &copy)
 }
 
 /// How a builder with a draft and a document is shown, or its copy.
-fn shown_with_draft(alloc: Global, is_copy: bool) -> Result<String, Error> {
+fn shown_with_draft(alloc: Global, is_copy: bool) -> Result<String, Fault> {
     let builder = with_draft(alloc)?;
     if is_copy {
-        return Ok(shown(alloc, &builder.clone()?)?);
+        return shown_by_copy(alloc, &builder);
     }
-    Ok(shown(alloc, &builder)?)
+    shown(alloc, &builder)
 }
 
 /// What is asked of the builder that a row names.
-pub fn made(alloc: Global, row: &Value) -> Result<String, Fault> {
-    let answer = match row::text(row, 1)? {
+pub fn of_name(alloc: Global, row: &Value) -> Result<String, Fault> {
+    match row::text(row, 1)? {
         "lent for less" => lent_for_less(alloc),
         "shown" => shown_with_draft(alloc, false),
         "shown by its copy" => shown_with_draft(alloc, true),
         "shown above a registry" => shown_above(alloc),
-        _ => return apart(alloc, row),
-    };
-    done(alloc, answer)
+        _ => apart(alloc, row),
+    }
 }

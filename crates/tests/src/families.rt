@@ -1,6 +1,6 @@
 //! What is asked of registries and of those above them.
 use crate::answers::agreed;
-use crate::fault::Fault;
+use crate::fault::{Fault, made};
 use crate::registries::{child, known, unretrieving};
 use crate::{resources, vocabularies};
 use referencing::Registry;
@@ -35,7 +35,7 @@ fn outcome(alloc: Global, parent: &Registry<'_>, row: &Value) -> Result<String, 
 fn of_children(alloc: Global, parent: &Registry<'_>, row: &Value) -> Result<String, Fault> {
     let child = outcome(alloc, parent, row)?;
     let still = known(alloc, parent, row, 3)?;
-    Ok(format!(in alloc; "{child} {still}")?)
+    made(format!(in alloc; "{child} {still}"))
 }
 
 /// The same of the tables on the child.
@@ -58,14 +58,14 @@ fn of_child(
 
 /// How a registry is shown, and one above it.
 fn shown(alloc: Global, parent: &Registry<'_>, child: &Registry<'_>) -> Result<String, Fault> {
-    Ok(format!(in alloc; "{parent:?} {child:?}")?)
+    made(format!(in alloc; "{parent:?} {child:?}"))
 }
 
 /// Which URIs are known to a registry, and what a text means against a base.
 fn known_and_meant(alloc: Global, registry: &Registry<'_>, row: &Value) -> Result<String, Fault> {
     let known = known(alloc, registry, row, 3)?;
     let meant = resources::resolved(alloc, registry, row)?;
-    Ok(format!(in alloc; "{known} {meant}")?)
+    made(format!(in alloc; "{known} {meant}"))
 }
 
 /// The same by a registry and by its copy.
@@ -92,5 +92,5 @@ fn of_generations(
     let third = of_grandchild(alloc, child, row)?;
     let second = known(alloc, child, row, 4)?;
     let first = known(alloc, parent, row, 4)?;
-    Ok(format!(in alloc; "{first} {second} {third}")?)
+    made(format!(in alloc; "{first} {second} {third}"))
 }

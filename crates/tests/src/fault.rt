@@ -1,5 +1,4 @@
 //! Why a row has no answer.
-use ref_retrieve::Error;
 use std::alloc::{AllocError, AllocFailed, Global};
 use std::fmt;
 
@@ -46,17 +45,25 @@ impl<T: Drop> From<AllocFailed<T>> for Fault {
 }
 
 /// What is asked is refused, or there is no memory to say so.
-pub fn refused(alloc: Global, error: Error) -> Fault {
+pub fn refused<E: fmt::Display + Drop>(alloc: Global, error: E) -> Fault {
     match format!(in alloc; "{error}") {
         Ok(text) => Fault::Text(text),
         Err(_) => Fault::Memory,
     }
 }
 
-/// What a call answers, which may be refused.
-pub fn done<T>(alloc: Global, answer: Result<T, Error>) -> Result<T, Fault> {
+/// What a call answers, which may be refused. Of any kind of answer and of refusal, so that it is proved once.
+pub fn done<T, E: fmt::Display + Drop>(alloc: Global, answer: Result<T, E>) -> Result<T, Fault> {
     match answer {
         Ok(value) => Ok(value),
         Err(error) => Err(refused(alloc, error)),
+    }
+}
+
+/// What is made wherever there is memory.
+pub fn made<T>(answer: Result<T, AllocError>) -> Result<T, Fault> {
+    match answer {
+        Ok(value) => Ok(value),
+        Err(_) => Err(Fault::Memory),
     }
 }

@@ -1,5 +1,5 @@
 //! Faults and reasons, as they are displayed and as their debug texts are.
-use crate::fault::Fault;
+use crate::fault::{Fault, made};
 use crate::row;
 use ref_retrieve::{Error, Reason, RetrieveError};
 use ref_uri::{ParseError, UriError, UriFault};
@@ -8,7 +8,7 @@ use std::alloc::{AllocError, Global};
 
 /// A text of a row.
 fn owned(alloc: Global, row: &Value, number: usize) -> Result<String, Fault> {
-    Ok(String::from_str(alloc, row::text(row, number)?)?)
+    made(String::from_str(alloc, row::text(row, number)?))
 }
 
 /// A fault of a text, by its kind.
@@ -67,7 +67,7 @@ fn fault_of(alloc: Global, row: &Value) -> Result<Error, Fault> {
 /// Of a row of a fault's kind and its parts: the fault as it is displayed, and its debug text in the next line.
 pub fn shown(alloc: Global, row: &Value) -> Result<String, Fault> {
     let error = fault_of(alloc, row)?;
-    Ok(format!(in alloc; "{error}\n{error:?}")?)
+    made(format!(in alloc; "{error}\n{error:?}"))
 }
 
 /// The reason that a text names, or one of that text.
@@ -83,7 +83,7 @@ pub fn reason_of(alloc: Global, text: &str) -> Result<Reason, AllocError> {
 /// Of a row of a reason: how it is displayed.
 pub fn reason(alloc: Global, row: &Value) -> Result<String, Fault> {
     let reason = reason_of(alloc, row::text(row, 1)?)?;
-    Ok(format!(in alloc; "{reason}")?)
+    made(format!(in alloc; "{reason}"))
 }
 
 /// Why a retriever gives no document: want of memory, or else a reason.
@@ -97,5 +97,5 @@ fn refusal_of(alloc: Global, row: &Value) -> Result<RetrieveError, Fault> {
 /// Of a row of a reason, or of want of memory: how a refusal for it is displayed, and its debug text in the next line.
 pub fn refusal(alloc: Global, row: &Value) -> Result<String, Fault> {
     let refusal = refusal_of(alloc, row)?;
-    Ok(format!(in alloc; "{refusal}\n{refusal:?}")?)
+    made(format!(in alloc; "{refusal}\n{refusal:?}"))
 }

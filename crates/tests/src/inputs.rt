@@ -1,10 +1,9 @@
 //! What is added to builders, and what they then hold.
 use crate::answers::agreed;
-use crate::fault::{Fault, done};
+use crate::fault::{Fault, done, made};
 use crate::registries::{holding, known, prepared, resolver};
 use crate::row;
 use ref_draft::{Draft, ResourceRef};
-use ref_retrieve::Error;
 use referencing::{Place, Registry, Step, follow};
 use serde_json::Value;
 use std::alloc::{AllocError, Global};
@@ -27,8 +26,8 @@ fn document_of(
 }
 
 /// The documents that a registry holds in their order, none of which has a subschema.
-pub fn held(alloc: Global, registry: &Registry<'_>) -> Result<String, Error> {
-    let places = registry.places(alloc)?;
+pub fn held(alloc: Global, registry: &Registry<'_>) -> Result<String, Fault> {
+    let places = done(alloc, registry.places(alloc))?;
     let mut text = String::new(alloc);
     for place in places.as_slice() {
         let item = document_of(alloc, registry, place)?;
@@ -40,8 +39,8 @@ pub fn held(alloc: Global, registry: &Registry<'_>) -> Result<String, Error> {
 /// What a builder holds after the documents of a row were added, as the registry that is prepared of it has them.
 pub fn added(alloc: Global, row: &Value) -> Result<String, Fault> {
     let documents = row::documents(alloc, row, 1)?;
-    let registry = done(alloc, prepared(Registry::new(alloc), documents))?;
-    done(alloc, held(alloc, &registry))
+    let registry = prepared(alloc, Registry::new(alloc), documents)?;
+    held(alloc, &registry)
 }
 
 /// The title of a value.
@@ -50,10 +49,10 @@ fn title_of(alloc: Global, value: &Value) -> Result<String, AllocError> {
 }
 
 /// The title of what a reference leads to from `http://a/r`, by a call on a resolver.
-fn title_by_call(alloc: Global, registry: &Registry<'_>, reference: &str) -> Result<String, Error> {
+fn title_by_call(alloc: Global, registry: &Registry<'_>, reference: &str) -> Result<String, Fault> {
     let resolver = resolver(alloc, registry, "http://a/r")?;
-    let found = resolver.lookup(alloc, reference)?;
-    Ok(title_of(alloc, found.contents())?)
+    let found = done(alloc, resolver.lookup(alloc, reference))?;
+    made(title_of(alloc, found.contents()))
 }
 
 /// The same by a step.
@@ -63,7 +62,7 @@ fn title_by_step(alloc: Global, registry: &Registry<'_>, reference: &str) -> Res
         return Err(Fault::Form("a step leads nowhere"));
     };
     match followed.last {
-        Some((value, _)) => Ok(title_of(alloc, value)?),
+        Some((value, _)) => made(title_of(alloc, value)),
         None => Err(Fault::Form("a step leads to no value")),
     }
 }
@@ -71,7 +70,7 @@ fn title_by_step(alloc: Global, registry: &Registry<'_>, reference: &str) -> Res
 /// The title of what a reference leads to from `http://a/r`, by a call on a resolver and by a step.
 fn title(alloc: Global, registry: &Registry<'_>, reference: &str) -> Result<String, Fault> {
     let by_steps = title_by_step(alloc, registry, reference)?;
-    let by_calls = done(alloc, title_by_call(alloc, registry, reference))?;
+    let by_calls = title_by_call(alloc, registry, reference)?;
     agreed(alloc, by_steps, by_calls, ["by steps", "by calls"])
 }
 
@@ -94,7 +93,7 @@ fn of_kind<'a>(
     kind: &str,
     draft: Option<Draft>,
     value: &'a Value,
-) -> Result<Registry<'a>, Error> {
+) -> Result<Registry<'a>, Fault> {
     match kind {
         "a value" => holding(alloc, draft, value.clone()?),
         "a value that is lent" => holding(alloc, draft, value),
@@ -110,7 +109,7 @@ fn of_kind<'a>(
 /// The same where a resource is lent, which has to live as long.
 fn of_lent_resource(alloc: Global, draft: Option<Draft>, row: &Value) -> Result<String, Fault> {
     let resource = Draft::Draft202012.create_resource(row::column(row, 3)?.clone()?);
-    let registry = done(alloc, holding(alloc, draft, &resource))?;
+    let registry = holding(alloc, draft, &resource)?;
     asked(alloc, &registry, row)
 }
 
@@ -121,6 +120,6 @@ pub fn of_kinds(alloc: Global, row: &Value) -> Result<String, Fault> {
     if kind == "a resource that is lent" {
         return of_lent_resource(alloc, draft, row);
     }
-    let registry = done(alloc, of_kind(alloc, kind, draft, row::column(row, 3)?))?;
+    let registry = of_kind(alloc, kind, draft, row::column(row, 3)?)?;
     asked(alloc, &registry, row)
 }

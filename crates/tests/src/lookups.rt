@@ -1,13 +1,13 @@
 //! Where references lead, step by step from a base.
 use crate::answers::agreed;
-use crate::fault::{Fault, done};
+use crate::fault::{Fault, done, made};
 use crate::registries::resolver;
 use crate::row;
 use ref_draft::{Draft, ResourceRef};
-use ref_retrieve::Error;
-use referencing::{FollowError, Followed, Registry, Resolver, Step, follow};
+use referencing::{FollowError, Followed, Registry, Resolved, Resolver, Step, follow};
 use serde_json::Value;
 use std::alloc::{AllocError, Global};
+use std::fmt;
 
 /// The steps of a row: a reference that is looked up, `*` for a recursive one, or else a schema of 2020-12 that is entered.
 fn steps_of<'r>(alloc: Global, values: &'r [Value]) -> Result<Vec<Step<'r>>, AllocError> {
@@ -36,37 +36,50 @@ fn shown(alloc: Global, followed: &Followed<'_>) -> Result<String, AllocError> {
 }
 
 /// The number of a step, and the text of its fault.
-fn faulted(alloc: Global, step: usize, error: &Error) -> Result<String, AllocError> {
-    format!(in alloc; "{step}: {error}")
+fn faulted<E: fmt::Display>(alloc: Global, step: usize, error: &E) -> Result<String, Fault> {
+    made(format!(in alloc; "{step}: {error}"))
 }
 
-/// Where steps lead, or the number and the text of a fault.
+/// Where steps led, or the number and the text of a fault.
+fn told(alloc: Global, answer: &Result<Followed<'_>, FollowError>) -> Result<String, Fault> {
+    match answer {
+        Ok(followed) => made(shown(alloc, followed)),
+        Err(ended) => faulted(alloc, ended.step, &ended.error),
+    }
+}
+
+/// Where steps lead.
 fn led_by_steps(
     alloc: Global,
     registry: &Registry<'_>,
     base: &str,
     steps: &[Step<'_>],
 ) -> Result<String, Fault> {
-    match follow(alloc, registry, row::uri_of(alloc, base)?, steps) {
-        Ok(followed) => Ok(shown(alloc, &followed)?),
-        Err(FollowError { step, error }) => Ok(faulted(alloc, step, &error)?),
-    }
+    let base = row::uri_of(alloc, base)?;
+    told(alloc, &follow(alloc, registry, base, steps))
+}
+
+/// Where a look-up leads.
+fn found_by<'r>(found: Result<Resolved<'r>, Fault>) -> Result<Followed<'r>, Fault> {
+    let (value, resolver, draft) = found?.into_inner();
+    let last = Some((value, draft));
+    Ok(Followed { last, resolver })
 }
 
 /// One step by a call on a resolver: what it leads to, or for one that enters a schema what the step before led to.
-fn stepped<'r>(alloc: Global, from: Followed<'r>, step: &Step<'_>) -> Result<Followed<'r>, Error> {
-    let Followed { last, resolver } = from;
-    let found = match step {
-        Step::Lookup(reference) => resolver.lookup(alloc, reference)?,
-        Step::Recursive => resolver.lookup_recursive_ref(alloc)?,
+fn stepped<'r>(alloc: Global, from: &Followed<'r>, step: &Step<'_>) -> Result<Followed<'r>, Fault> {
+    let resolver = &from.resolver;
+    match step {
+        Step::Lookup(reference) => found_by(done(alloc, resolver.lookup(alloc, reference))),
+        Step::Recursive => found_by(done(alloc, resolver.lookup_recursive_ref(alloc))),
         Step::Enter(resource) => {
-            let resolver = resolver.in_subresource(alloc, *resource)?;
-            return Ok(Followed { last, resolver });
+            let resolver = done(alloc, resolver.in_subresource(alloc, *resource))?;
+            Ok(Followed {
+                last: from.last,
+                resolver,
+            })
         }
-    };
-    let (value, resolver, draft) = found.into_inner();
-    let last = Some((value, draft));
-    Ok(Followed { last, resolver })
+    }
 }
 
 /// The same by calls on resolvers, each on the one that the last call answered.
@@ -76,18 +89,17 @@ fn led_by_calls(
     base: &str,
     steps: &[Step<'_>],
 ) -> Result<String, Fault> {
-    let resolver = done(alloc, resolver(alloc, registry, base))?;
     let mut at = Followed {
         last: None,
-        resolver,
+        resolver: resolver(alloc, registry, base)?,
     };
     for (number, step) in steps.iter().enumerate() {
-        at = match stepped(alloc, at, step) {
+        at = match stepped(alloc, &at, step) {
             Ok(next) => next,
-            Err(error) => return Ok(faulted(alloc, number, &error)?),
+            Err(fault) => return faulted(alloc, number, &fault),
         };
     }
-    Ok(shown(alloc, &at)?)
+    made(shown(alloc, &at))
 }
 
 /// Where the steps of a row lead from the base in the column before them, by `follow` and by calls on resolvers.
@@ -99,23 +111,29 @@ pub fn led(alloc: Global, registry: &Registry<'_>, row: &Value) -> Result<String
     agreed(alloc, by_steps, by_calls, ["by steps", "by calls"])
 }
 
+/// The debug texts of an answer and of the one to a reference that is looked up from its resolver.
+fn both(alloc: Global, first: &Resolved<'_>, second: &str) -> Result<String, Fault> {
+    let second = done(alloc, first.resolver().lookup(alloc, second))?;
+    made(format!(in alloc; "{first:?} {second:?}"))
+}
+
 /// The debug texts of the answers to two references, the second looked up from the resolver of the first one's answer.
 fn answered(
     alloc: Global,
     registry: &Registry<'_>,
     base: &str,
     references: [&str; 2],
-) -> Result<String, Error> {
+) -> Result<String, Fault> {
     let [first, second] = references;
-    let first = resolver(alloc, registry, base)?.lookup(alloc, first)?;
-    let second = first.resolver().lookup(alloc, second)?;
-    Ok(format!(in alloc; "{first:?} {second:?}")?)
+    let resolver = resolver(alloc, registry, base)?;
+    let first = done(alloc, resolver.lookup(alloc, first))?;
+    both(alloc, &first, second)
 }
 
 /// The same of a base and the references in a row's columns behind those of the registry.
 pub fn answers(alloc: Global, registry: &Registry<'_>, row: &Value) -> Result<String, Fault> {
     let (base, first, second) = (row::text(row, 4)?, row::text(row, 5)?, row::text(row, 6)?);
-    done(alloc, answered(alloc, registry, base, [first, second]))
+    answered(alloc, registry, base, [first, second])
 }
 
 /// The base of a resolver, and behind it the URIs of its scope, the innermost first.
@@ -133,7 +151,7 @@ pub fn scoped(alloc: Global, registry: &Registry<'_>, row: &Value) -> Result<Str
     let base = row::uri(alloc, row, 4)?;
     let steps = steps_of(alloc, row::list(row, 5)?)?;
     match follow(alloc, registry, base, steps.as_slice()) {
-        Ok(followed) => Ok(base_and_scope(alloc, &followed.resolver)?),
+        Ok(followed) => made(base_and_scope(alloc, &followed.resolver)),
         Err(_) => Err(Fault::Form("a step leads nowhere")),
     }
 }

@@ -1,12 +1,10 @@
 //! The places of own documents, where their paths lead, and values at paths.
 use crate::answers::agreed;
-use crate::fault::{Fault, done};
+use crate::fault::{Fault, done, made};
 use crate::registries::holding;
 use crate::row;
 use ref_draft::Draft;
-use ref_retrieve::Error;
 use ref_uri::Uri;
-use ref_uri::uri::from_str;
 use referencing::{JsonPointerSegment, Place, Registry, Resolved, parse_index, write_index};
 use serde_json::Value;
 use std::alloc::{AllocError, Global};
@@ -60,11 +58,10 @@ fn place_text(
     format!(in alloc; "{number}{path} {base} {draft:?}; ")
 }
 
-/// The texts of the places of a registry.
-fn told(alloc: Global, registry: &Registry<'_>) -> Result<String, Error> {
-    let places = registry.places(alloc)?;
+/// The texts of places.
+fn told(alloc: Global, places: &[Place<'_>]) -> Result<String, AllocError> {
     let mut text = String::new(alloc);
-    for place in places.as_slice() {
+    for place in places {
         let line = place_text(alloc, place, place.base.as_str(), place.draft)?;
         text.push_str(line.as_str())?;
     }
@@ -73,7 +70,8 @@ fn told(alloc: Global, registry: &Registry<'_>) -> Result<String, Error> {
 
 /// The places of a registry.
 pub fn listed(alloc: Global, registry: &Registry<'_>) -> Result<String, Fault> {
-    done(alloc, told(alloc, registry))
+    let places = done(alloc, registry.places(alloc))?;
+    made(told(alloc, places.as_slice()))
 }
 
 /// A place as its path leads to it from a base.
@@ -82,33 +80,43 @@ fn located_place(
     registry: &Registry<'_>,
     base: &Uri,
     place: &Place<'_>,
-) -> Result<String, Error> {
+) -> Result<String, Fault> {
     let path = place.path.as_slice();
-    let (value, resolver, draft) = registry.locate(alloc, base, path)?.into_inner();
+    let (value, resolver, draft) = done(alloc, registry.locate(alloc, base, path))?.into_inner();
     if registry.value_at(place.document, path) != Some(value) {
-        return Ok(String::from_str(alloc, "another value; ")?);
+        return Err(Fault::Form("a path leads to another value"));
     }
-    Ok(place_text(alloc, place, resolver.base_uri().as_str(), draft)?)
+    made(place_text(alloc, place, resolver.base_uri().as_str(), draft))
 }
 
-/// The places of a registry as their paths lead to them from `http://a/r`.
-fn located_places(alloc: Global, registry: &Registry<'_>) -> Result<String, Error> {
-    let base = from_str(alloc, "http://a/r")?;
-    let places = registry.places(alloc)?;
+/// Places as their paths lead to them from a base.
+fn located_from(
+    alloc: Global,
+    registry: &Registry<'_>,
+    base: &Uri,
+    places: &[Place<'_>],
+) -> Result<String, Fault> {
     let mut text = String::new(alloc);
-    for place in places.as_slice() {
-        let line = located_place(alloc, registry, &base, place)?;
+    for place in places {
+        let line = located_place(alloc, registry, base, place)?;
         text.push_str(line.as_str())?;
     }
     Ok(text)
 }
 
+/// The places of a registry as their paths lead to them from `http://a/r`.
+fn located_places(alloc: Global, registry: &Registry<'_>) -> Result<String, Fault> {
+    let base = row::uri_of(alloc, "http://a/r")?;
+    let places = done(alloc, registry.places(alloc))?;
+    located_from(alloc, registry, &base, places.as_slice())
+}
+
 /// The places of a document at `http://a/r`, which is lent, by a draft: as they are listed, and as their paths lead to them.
 pub fn agreeing(alloc: Global, row: &Value) -> Result<String, Fault> {
     let (draft, document) = (row::draft(row, 1)?, row::column(row, 2)?);
-    let registry = done(alloc, holding(alloc, draft, document))?;
+    let registry = holding(alloc, draft, document)?;
     let listed = listed(alloc, &registry)?;
-    let located = done(alloc, located_places(alloc, &registry))?;
+    let located = located_places(alloc, &registry)?;
     agreed(alloc, listed, located, ["as listed", "as located"])
 }
 
@@ -125,7 +133,7 @@ pub fn located(alloc: Global, registry: &Registry<'_>, row: &Value) -> Result<St
     let base = row::uri(alloc, row, 4)?;
     let path = path_of(alloc, row::text(row, 5)?)?;
     let found = done(alloc, registry.locate(alloc, &base, path.as_slice()))?;
-    Ok(shown(alloc, found)?)
+    made(shown(alloc, found))
 }
 
 /// The value at a path, or `none`: of a document's number and the path.
@@ -133,7 +141,7 @@ pub fn value(alloc: Global, registry: &Registry<'_>, row: &Value) -> Result<Stri
     let number = row::number(row, 4)?;
     let path = path_of(alloc, row::text(row, 5)?)?;
     match registry.value_at(number, path.as_slice()) {
-        Some(value) => Ok(value.to_string(alloc)?),
-        None => Ok(String::from_str(alloc, "none")?),
+        Some(value) => made(value.to_string(alloc)),
+        None => made(String::from_str(alloc, "none")),
     }
 }

@@ -1,8 +1,8 @@
 //! Registries of the documents of a row, and which URIs mean places.
-use crate::fault::{Fault, done};
+use crate::fault::{Fault, done, made};
 use crate::row;
 use ref_draft::Draft;
-use ref_retrieve::{Error, Retrieve};
+use ref_retrieve::Retrieve;
 use ref_uri::uri::from_str;
 use referencing::{IntoRegistryResource, Registry, RegistryBuilder, Resolver};
 use serde_json::Value;
@@ -21,16 +21,19 @@ pub fn holding<'a, T: IntoRegistryResource<'a>>(
     alloc: Global,
     draft: Option<Draft>,
     document: T,
-) -> Result<Registry<'a>, Error> {
-    builder(alloc, draft).add("http://a/r", document)?.prepare()
+) -> Result<Registry<'a>, Fault> {
+    let builder = builder(alloc, draft).add("http://a/r", document);
+    done(alloc, done(alloc, builder)?.prepare())
 }
 
 /// The registry of what a builder holds and of these documents.
 pub fn prepared<'a, R: Retrieve + Drop>(
+    alloc: Global,
     builder: RegistryBuilder<'a, R>,
     documents: Vec<(&'a str, &'a Value)>,
-) -> Result<Registry<'a>, Error> {
-    builder.extend(documents)?.prepare()
+) -> Result<Registry<'a>, Fault> {
+    let builder = done(alloc, builder.extend(documents))?;
+    done(alloc, builder.prepare())
 }
 
 /// The registry of a column's documents, where nothing is retrieved.
@@ -41,7 +44,7 @@ pub fn unretrieving<'v>(
     number: usize,
 ) -> Result<Registry<'v>, Fault> {
     let documents = row::documents(alloc, row, number)?;
-    done(alloc, prepared(builder(alloc, draft), documents))
+    prepared(alloc, builder(alloc, draft), documents)
 }
 
 /// The registry of a row's documents, where those of the next column can be retrieved.
@@ -53,7 +56,7 @@ fn retrieving<'v>(
     let documents = row::documents(alloc, row, 2)?;
     let retriever = row::retriever(alloc, row, 3)?;
     let builder = builder(alloc, draft).retriever(retriever);
-    done(alloc, prepared(builder, documents))
+    prepared(alloc, builder, documents)
 }
 
 /// The registry of a row that begins with a draft, documents, and what can be retrieved, or `null` where no retriever is given.
@@ -70,8 +73,9 @@ fn above<'b>(
     alloc: Global,
     parent: &'b Registry<'_>,
     documents: Vec<(&'b str, &'b Value)>,
-) -> Result<Registry<'b>, Error> {
-    parent.extend(alloc, documents)?.prepare()
+) -> Result<Registry<'b>, Fault> {
+    let builder = done(alloc, parent.extend(alloc, documents))?;
+    done(alloc, builder.prepare())
 }
 
 /// The registry of a column's documents above another.
@@ -82,7 +86,7 @@ pub fn child<'b>(
     number: usize,
 ) -> Result<Registry<'b>, Fault> {
     let documents = row::documents(alloc, row, number)?;
-    done(alloc, above(alloc, parent, documents))
+    above(alloc, parent, documents)
 }
 
 /// A resolver at the URI of a text.
@@ -90,9 +94,9 @@ pub fn resolver<'r>(
     alloc: Global,
     registry: &'r Registry<'_>,
     uri: &str,
-) -> Result<Resolver<'r>, Error> {
-    let base = from_str(alloc, uri)?;
-    Ok(registry.resolver(alloc, base)?)
+) -> Result<Resolver<'r>, Fault> {
+    let base = done(alloc, from_str(alloc, uri))?;
+    made(registry.resolver(alloc, base))
 }
 
 /// Of each URI in a column whether it means a place: `+` where it does, and `-` where it doesn't.

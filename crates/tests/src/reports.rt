@@ -1,5 +1,5 @@
 //! Runs on requests: how each ends, and what it reports.
-use crate::fault::Fault;
+use crate::fault::{Fault, made};
 use crate::{failing, parts, row, ways};
 use ref_report::Status;
 use serde_json::Value;
@@ -28,7 +28,7 @@ pub fn of_request(alloc: Global, request: &str, table: &str, row: &Value) -> Res
         report: row::text(row, 2)?,
     };
     compare(alloc, request, table, &ending)?;
-    Ok(String::from_str(alloc, ending.report)?)
+    made(String::from_str(alloc, ending.report))
 }
 
 /// Compares the runs of a table.

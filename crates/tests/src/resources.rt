@@ -1,13 +1,12 @@
 //! Which URIs mean places, and what texts mean against a base.
 use crate::answers::agreed;
-use crate::fault::{Fault, done};
+use crate::fault::{Fault, done, made};
 use crate::registries::{known, resolver};
 use crate::row;
-use ref_retrieve::Error;
 use ref_uri::UriRef;
 use referencing::{Registry, Resolver};
 use serde_json::Value;
-use std::alloc::{AllocError, Global};
+use std::alloc::Global;
 
 /// Which URIs mean places, by a registry and by its copy.
 pub fn known_twice(alloc: Global, registry: &Registry<'_>, row: &Value) -> Result<String, Fault> {
@@ -31,9 +30,9 @@ fn meant(
     registry: &Registry<'_>,
     base: UriRef<'_>,
     text: &str,
-) -> Result<String, Error> {
-    let uri = registry.resolve_uri(alloc, base, text)?;
-    Ok(String::from_str(alloc, uri.as_str())?)
+) -> Result<String, Fault> {
+    let uri = done(alloc, registry.resolve_uri(alloc, base, text))?;
+    made(String::from_str(alloc, uri.as_str()))
 }
 
 /// The same by a resolver.
@@ -42,24 +41,24 @@ fn meant_to(
     resolver: &Resolver<'_>,
     base: UriRef<'_>,
     text: &str,
-) -> Result<String, Error> {
-    let uri = resolver.resolve_uri(alloc, base, text)?;
-    Ok(String::from_str(alloc, uri.as_str())?)
+) -> Result<String, Fault> {
+    let uri = done(alloc, resolver.resolve_uri(alloc, base, text))?;
+    made(String::from_str(alloc, uri.as_str()))
 }
 
 /// What a text means against a base, with `+` in front where that was resolved before.
 pub fn resolved(alloc: Global, registry: &Registry<'_>, row: &Value) -> Result<String, Fault> {
     let (base, text) = (base_of(row, 4)?, row::text(row, 5)?);
     let is_held = registry.resolved_uri(&base, text).is_some();
-    let uri = done(alloc, meant(alloc, registry, base, text))?;
-    Ok(format!(in alloc; "{}{uri}", if is_held { "+" } else { "" })?)
+    let uri = meant(alloc, registry, base, text)?;
+    made(format!(in alloc; "{}{uri}", if is_held { "+" } else { "" }))
 }
 
 /// The text of a refusal, or what was resolved.
-fn told(alloc: Global, answer: Result<String, Error>) -> Result<String, AllocError> {
+fn told(answer: Result<String, Fault>) -> Result<String, Fault> {
     match answer {
-        Ok(text) => Ok(text),
-        Err(error) => format!(in alloc; "{error}"),
+        Ok(text) | Err(Fault::Text(text)) => Ok(text),
+        Err(fault) => Err(fault),
     }
 }
 
@@ -67,24 +66,24 @@ fn told(alloc: Global, answer: Result<String, Error>) -> Result<String, AllocErr
 pub fn resolved_by_resolvers(alloc: Global, row: &Value) -> Result<String, Fault> {
     let (base, again, text) = (base_of(row, 1)?, base_of(row, 1)?, row::text(row, 2)?);
     let registry = done(alloc, Registry::new(alloc).prepare())?;
-    let resolver = done(alloc, resolver(alloc, &registry, "http://o/"))?;
-    let first = told(alloc, meant(alloc, &registry, base, text))?;
-    let other = told(alloc, meant_to(alloc, &resolver, again, text))?;
+    let resolver = resolver(alloc, &registry, "http://o/")?;
+    let first = told(meant(alloc, &registry, base, text))?;
+    let other = told(meant_to(alloc, &resolver, again, text))?;
     agreed(alloc, first, other, ["at first", "by the resolver"])
 }
 
 /// A resolver's copy, and the resolver of an answer; then whether the copy is equal to the first, and the answer's to the copy.
-fn copied(alloc: Global, resolver: &Resolver<'_>, reference: &str) -> Result<String, Error> {
+fn copied(alloc: Global, resolver: &Resolver<'_>, reference: &str) -> Result<String, Fault> {
     let copy = resolver.clone()?;
-    let found = resolver.lookup(alloc, reference)?;
+    let found = done(alloc, resolver.lookup(alloc, reference))?;
     let inner = found.resolver();
     let (copied, moved) = (copy == *resolver, *inner == copy);
-    Ok(format!(in alloc; "{copy:?} {inner:?} {copied} {moved}")?)
+    made(format!(in alloc; "{copy:?} {inner:?} {copied} {moved}"))
 }
 
 /// Of the resolver at a base, and of a reference.
 pub fn copies(alloc: Global, registry: &Registry<'_>, row: &Value) -> Result<String, Fault> {
     let (base, reference) = (row::text(row, 4)?, row::text(row, 5)?);
-    let resolver = done(alloc, resolver(alloc, registry, base))?;
-    done(alloc, copied(alloc, &resolver, reference))
+    let resolver = resolver(alloc, registry, base)?;
+    copied(alloc, &resolver, reference)
 }

@@ -1,7 +1,7 @@
 //! Retrievers of the tests' own: one that counts, and one that has no memory.
 ghost use Rattle.std.specs.Prelude.{⊤};
 
-use crate::fault::Fault;
+use crate::fault::{Fault, done, made};
 use crate::faults::reason_of;
 use crate::registries::{known, prepared};
 use crate::row;
@@ -35,12 +35,13 @@ impl Retrieve for Counting {
 /// Which URIs of a row are known to a registry that is prepared, or the text of the fault.
 fn outcome(
     alloc: Global,
-    prepared: Result<Registry<'_>, Error>,
+    prepared: Result<Registry<'_>, Fault>,
     row: &Value,
 ) -> Result<String, Fault> {
     match prepared {
         Ok(registry) => known(alloc, &registry, row, 4),
-        Err(error) => Ok(format!(in alloc; "{error}")?),
+        Err(Fault::Text(text)) => Ok(text),
+        Err(fault) => Err(fault),
     }
 }
 
@@ -55,9 +56,9 @@ pub fn calls(alloc: Global, row: &Value) -> Result<String, Fault> {
     let builder = Registry::new(alloc)
         .retrieval_limit(limit)
         .retriever(&retriever);
-    let outcome = outcome(alloc, prepared(builder, documents), row)?;
+    let outcome = outcome(alloc, prepared(alloc, builder, documents), row)?;
     let calls = retriever.calls.get();
-    Ok(format!(in alloc; "{calls} {outcome}")?)
+    made(format!(in alloc; "{calls} {outcome}"))
 }
 
 /// Has no memory for any document.
@@ -79,9 +80,10 @@ impl Retrieve for Exhausted {
 /// Whether preparing a row's documents ends with the retriever's want of memory.
 pub fn is_exhausted(alloc: Global, row: &Value) -> Result<String, Fault> {
     let documents = row::documents(alloc, row, 1)?;
-    let registry = prepared(Registry::new(alloc).retriever(Exhausted), documents);
-    let is_exhausted = matches!(registry, Err(Error::Memory(_)));
-    Ok(format!(in alloc; "{is_exhausted}")?)
+    let builder = Registry::new(alloc).retriever(Exhausted);
+    let builder = done(alloc, builder.extend(documents))?;
+    let is_exhausted = matches!(builder.prepare(), Err(Error::Memory(_)));
+    made(format!(in alloc; "{is_exhausted}"))
 }
 
 /// Refuses each document for one reason.
@@ -103,16 +105,19 @@ impl Retrieve for Refusing<'_> {
     }
 }
 
+/// A fault, and its debug text in the next line.
+fn told(alloc: Global, prepared: &Result<Registry<'_>, Error>) -> Result<String, Fault> {
+    match prepared {
+        Ok(_) => Err(Fault::Form("nothing is refused")),
+        Err(error) => made(format!(in alloc; "{error}\n{error:?}")),
+    }
+}
+
 /// Of a row of documents and a reason: the fault with which preparing them ends, where each retrieval is refused for that reason, and its debug
 /// text in the next line.
 pub fn refused(alloc: Global, row: &Value) -> Result<String, Fault> {
     let documents = row::documents(alloc, row, 1)?;
     let reason = row::text(row, 2)?;
-    match prepared(
-        Registry::new(alloc).retriever(Refusing { reason }),
-        documents,
-    ) {
-        Ok(_registry) => Err(Fault::Form("nothing is refused")),
-        Err(error) => Ok(format!(in alloc; "{error}\n{error:?}")?),
-    }
+    let builder = Registry::new(alloc).retriever(Refusing { reason });
+    told(alloc, &done(alloc, builder.extend(documents))?.prepare())
 }

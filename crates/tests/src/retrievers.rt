@@ -1,5 +1,5 @@
 //! What retrievers answer.
-use crate::fault::Fault;
+use crate::fault::{Fault, done, made};
 use crate::row;
 use ref_retrieve::{DefaultRetriever, MapRetriever, Retrieve};
 use serde_json::Value;
@@ -8,9 +8,10 @@ use std::alloc::Global;
 /// What a retriever answers for a URI, or the text of its refusal.
 fn retrieved<R: Retrieve + Drop>(alloc: Global, retriever: R, uri: &str) -> Result<String, Fault> {
     let uri = row::uri_of(alloc, uri)?;
-    match retriever.retrieve(alloc, &uri) {
-        Ok(value) => Ok(value.to_string(alloc)?),
-        Err(error) => Ok(format!(in alloc; "{error}")?),
+    match done(alloc, retriever.retrieve(alloc, &uri)) {
+        Ok(value) => made(value.to_string(alloc)),
+        Err(Fault::Text(text)) => Ok(text),
+        Err(fault) => Err(fault),
     }
 }
 
@@ -19,7 +20,7 @@ pub fn by_default(alloc: Global, row: &Value) -> Result<String, Fault> {
     let retriever = DefaultRetriever;
     let same = retriever;
     let answer = retrieved(alloc, &retriever, row::text(row, 1)?)?;
-    Ok(format!(in alloc; "{} {retriever:?} {answer}", same == retriever)?)
+    made(format!(in alloc; "{} {retriever:?} {answer}", same == retriever))
 }
 
 /// What a retriever answers for URIs, a line for each.
@@ -43,5 +44,5 @@ pub fn of_documents(alloc: Global, row: &Value) -> Result<String, Fault> {
     let retriever = row::retriever(alloc, row, 1)?;
     let answers = each_retrieved(alloc, &retriever, row::list(row, 2)?)?;
     let last = retrieved(alloc, retriever, row::text(row, 3)?)?;
-    Ok(format!(in alloc; "{answers}{last}")?)
+    made(format!(in alloc; "{answers}{last}"))
 }

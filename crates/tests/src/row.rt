@@ -1,5 +1,5 @@
 //! The columns of a row, of which the first has the name of its table and the last the answer that is expected.
-use crate::fault::Fault;
+use crate::fault::{Fault, made};
 use ref_draft::Draft;
 use ref_retrieve::MapRetriever;
 use ref_uri::Uri;
@@ -109,5 +109,5 @@ pub fn retriever(alloc: Global, row: &Value, number: usize) -> Result<MapRetriev
     for pair in list(row, number)? {
         documents.push(retrievable(alloc, pair)?)?;
     }
-    Ok(MapRetriever::from_pairs(alloc, documents)?)
+    made(MapRetriever::from_pairs(alloc, documents))
 }

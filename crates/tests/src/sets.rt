@@ -1,16 +1,16 @@
 //! Sets of vocabularies.
-use crate::fault::{Fault, done};
+use crate::fault::{Fault, done, made};
 use crate::row;
-use ref_retrieve::Error;
 use ref_vocabularies::{Vocabulary, VocabularySet};
 use serde_json::Value;
 use std::alloc::Global;
 
 /// Adds the vocabularies that texts name, in turn.
-fn add_each(alloc: Global, set: &mut VocabularySet, texts: &[Value]) -> Result<(), Error> {
+fn add_each(alloc: Global, set: &mut VocabularySet, texts: &[Value]) -> Result<(), Fault> {
     for text in texts {
         let text = text.as_str().unwrap_or("no text");
-        set.add(alloc, Vocabulary::from_text(alloc, text)?)?;
+        let vocabulary = done(alloc, Vocabulary::from_text(alloc, text))?;
+        set.add(alloc, vocabulary)?;
     }
     Ok(())
 }
@@ -23,7 +23,7 @@ fn set_of(
     number: usize,
 ) -> Result<VocabularySet, Fault> {
     let mut set = empty;
-    done(alloc, add_each(alloc, &mut set, row::list(row, number)?))?;
+    add_each(alloc, &mut set, row::list(row, number)?)?;
     Ok(set)
 }
 
@@ -35,7 +35,7 @@ fn vocabulary(alloc: Global, row: &Value, number: usize) -> Result<Vocabulary, F
 /// Of a row of texts: the set of the vocabularies that they name.
 pub fn of_texts(alloc: Global, row: &Value) -> Result<String, Fault> {
     let set = set_of(alloc, VocabularySet::new(), row, 1)?;
-    Ok(format!(in alloc; "{set:?}")?)
+    made(format!(in alloc; "{set:?}"))
 }
 
 /// The bits of a column.
@@ -52,7 +52,7 @@ fn of_bits_and_texts(alloc: Global, row: &Value) -> Result<VocabularySet, Fault>
 /// Of a row of bits and texts: the set of them.
 pub fn of_bits(alloc: Global, row: &Value) -> Result<String, Fault> {
     let set = of_bits_and_texts(alloc, row)?;
-    Ok(format!(in alloc; "{set:?}")?)
+    made(format!(in alloc; "{set:?}"))
 }
 
 /// Of a row of a bit, a text and other bits: whether the set of the bit has the vocabulary of the text, whether that of the others has it, and
@@ -63,7 +63,7 @@ pub fn of_a_bit(alloc: Global, row: &Value) -> Result<String, Fault> {
     let is_in = VocabularySet::from_known(bit).contains(&vocabulary);
     let is_in_others = VocabularySet::from_known(others).contains(&vocabulary);
     let is_same = vocabulary.clone()? == vocabulary;
-    Ok(format!(in alloc; "{is_in} {is_in_others} {is_same}")?)
+    made(format!(in alloc; "{is_in} {is_in_others} {is_same}"))
 }
 
 /// Of a row of texts: the URIs of the custom vocabularies in the set of them, a line for each, and a copy of the set.
@@ -75,33 +75,33 @@ pub fn custom(alloc: Global, row: &Value) -> Result<String, Fault> {
         uris.push_str("\n")?;
     }
     let copy = set.clone()?;
-    Ok(format!(in alloc; "{uris}{copy:?}")?)
+    made(format!(in alloc; "{uris}{copy:?}"))
 }
 
 /// Of a row of two lists of texts: whether the sets of them are equal. One begins as the default set, and one as a new one.
 pub fn are_equal(alloc: Global, row: &Value) -> Result<String, Fault> {
     let set = set_of(alloc, VocabularySet::default(), row, 1)?;
     let other = set_of(alloc, VocabularySet::new(), row, 2)?;
-    Ok(format!(in alloc; "{}", set == other)?)
+    made(format!(in alloc; "{}", set == other))
 }
 
 /// Of a row of bits, texts and one more: whether the set of them has the vocabulary of that.
 pub fn contains(alloc: Global, row: &Value) -> Result<String, Fault> {
     let set = of_bits_and_texts(alloc, row)?;
     let vocabulary = vocabulary(alloc, row, 3)?;
-    Ok(format!(in alloc; "{}", set.contains(&vocabulary))?)
+    made(format!(in alloc; "{}", set.contains(&vocabulary)))
 }
 
 /// Adds the vocabulary that a text names: whether the set had it before, and whether it has it then.
-fn grown_by(alloc: Global, set: &mut VocabularySet, text: &str) -> Result<[bool; 2], Error> {
-    let vocabulary = Vocabulary::from_text(alloc, text)?;
+fn grown_by(alloc: Global, set: &mut VocabularySet, text: &str) -> Result<[bool; 2], Fault> {
+    let vocabulary = done(alloc, Vocabulary::from_text(alloc, text))?;
     let had = set.contains(&vocabulary);
     set.add(alloc, vocabulary.clone()?)?;
     Ok([had, set.contains(&vocabulary)])
 }
 
 /// The same of texts in turn: a `+` for each that it has, and a `-` for each that it hasn't.
-fn grown_by_each(alloc: Global, set: &mut VocabularySet, texts: &[Value]) -> Result<String, Error> {
+fn grown_by_each(alloc: Global, set: &mut VocabularySet, texts: &[Value]) -> Result<String, Fault> {
     let mut marks = String::new(alloc);
     for text in texts {
         let [had, has] = grown_by(alloc, set, text.as_str().unwrap_or("no text"))?;
@@ -114,5 +114,5 @@ fn grown_by_each(alloc: Global, set: &mut VocabularySet, texts: &[Value]) -> Res
 /// Of a row of texts, and of others that are added to their set in turn.
 pub fn grown(alloc: Global, row: &Value) -> Result<String, Fault> {
     let mut set = set_of(alloc, VocabularySet::new(), row, 1)?;
-    done(alloc, grown_by_each(alloc, &mut set, row::list(row, 2)?))
+    grown_by_each(alloc, &mut set, row::list(row, 2)?)
 }

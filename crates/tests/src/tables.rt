@@ -72,7 +72,7 @@ fn of_sets(alloc: Global, table: &str, row: &Value) -> Result<String, Fault> {
 fn of_builders(alloc: Global, table: &str, row: &Value) -> Result<String, Fault> {
     match table {
         "builders" => inputs::added(alloc, row),
-        "made builders" => builders::made(alloc, row),
+        "made builders" => builders::of_name(alloc, row),
         "kinds" | "kinds with titles" => inputs::of_kinds(alloc, row),
         "calls of a retriever" => retrieval::calls(alloc, row),
         "retrievers without memory" => retrieval::is_exhausted(alloc, row),

@@ -2,33 +2,27 @@
 ghost use Rattle.std.specs.Prelude.{◌≡◌, [], ◌∷◌, IfOk, IsTrue};
 
 use crate::asserts::{assert_shown, same, shown};
-use crate::row::{Row, for_each_row};
+use crate::row::Row;
 use ref_parts::List;
 use std::alloc::{AllocError, Global};
 use std::hash::{DefaultHasher, Hash, Hasher};
 use std::process::Abort;
 use std::rc::Rc;
-use std::test::Fail;
 
-const ROWS: &str = r##"
-# lists
+pub const ROWS: &str = r##"
+# lists: 3
 // The items of a list, the front, their sum, and what the list is shown as.
 [[],null,0,"[]"]
 [[2],2,2,"[2]"]
 [[1,2],1,3,"[1, 2]"]
 
-# equal lists
+# equal lists: 4
 // How many items two lists have, the same from their ends, and whether they are equal.
 [1,1,true]
 [1,2,false]
 [3,3,true]
 [3,2,false]
 "##;
-
-#[test]
-fn rows_hold(rt: HostRuntime) -> Result<(), Fail> {
-    for_each_row(&rt, rt.alloc(), ROWS)
-}
 
 // ---- each call through the bounds of a generic caller
 
@@ -151,29 +145,44 @@ fn assert_two_texts(
     assert_shown(rt, alloc, &front_of(list), "Some(\"a\")")
 }
 
-// A list of two texts whose copy is asked.
+// A list of `a` and `b`.
+fn list_of_two(alloc: Global, first: Rc<String>) -> Result<List<String>, AllocError> {
+    let second = Rc::new(alloc, String::from_str(alloc, "b")?)?;
+    pair_of(alloc, first, second)
+}
+
+// A copy of a list of two texts, which is asked and let go.
 fn copy_of_two(
     rt: &impl Abort,
     alloc: Global,
-    first: Rc<String>,
+    list: List<String>,
 ) -> Result<List<String>, AllocError> {
-    let second = Rc::new(alloc, String::from_str(alloc, "b")?)?;
-    let list = pair_of(alloc, first, second)?;
     let copy = copy_of(&list)?;
     assert_two_texts(rt, alloc, &list, &copy)?;
     let_go(list);
     Ok(copy)
 }
 
+// Ends the test where a copy is shown otherwise, or a longer list once the copy is gone.
+fn assert_longer(
+    rt: &impl Abort,
+    alloc: Global,
+    copy: List<String>,
+    first: Rc<String>,
+) -> Result<(), AllocError> {
+    let longer = copy.push_front(alloc, first)?;
+    assert_shown(rt, alloc, &copy, "[\"a\", \"b\"]")?;
+    let_go(copy);
+    assert_shown(rt, alloc, &longer, "[\"a\", \"a\", \"b\"]")
+}
+
 // How a copy is shown once its list is gone, and a longer one once the copy is gone.
 #[test]
 fn a_list_of_texts_serves_generic_callers(rt: HostRuntime) -> Result<(), AllocError> {
     let first = Rc::new(rt.alloc(), String::from_str(rt.alloc(), "a")?)?;
-    let copy = copy_of_two(&rt, rt.alloc(), first.clone()?)?;
-    let longer = copy.push_front(rt.alloc(), first)?;
-    assert_shown(&rt, rt.alloc(), &copy, "[\"a\", \"b\"]")?;
-    let_go(copy);
-    assert_shown(&rt, rt.alloc(), &longer, "[\"a\", \"a\", \"b\"]")
+    let list = list_of_two(rt.alloc(), first.clone()?)?;
+    let copy = copy_of_two(&rt, rt.alloc(), list)?;
+    assert_longer(&rt, rt.alloc(), copy, first)
 }
 
 // A list with the numbers below a count in front of another list, the greatest in front.

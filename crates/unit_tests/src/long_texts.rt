@@ -3,15 +3,15 @@ ghost use Rattle.std.specs.Prelude.{◌<◌, length};
 
 use crate::asserts::same_at;
 use crate::grammar::accepts;
-use crate::row::{Row, for_each_row};
+use crate::row::Row;
 use crate::uris::{meaning, target};
 use ref_uri::{Uri, UriRef, uri};
 use std::alloc::{AllocError, Global};
 use std::process::Abort;
 use std::test::Fail;
 
-const ROWS: &str = r##"
-# places
+pub const ROWS: &str = r##"
+# places: 8
 // A front, and pieces that stand at each place of a text behind it: a bad byte, a lone `%`, a triple, marks and none.
 ["",""," ","%","%4","%7e",":","@","~","=","?","#","é","`","/"]
 ["/",""," ","%","%4","%7e",":","@","~","=","?","#","é","`","/"]
@@ -22,24 +22,24 @@ const ROWS: &str = r##"
 ["#",""," ","%","%4","%7e",":","@","~","=","?","#","é","`","/"]
 ["/%41",""," ","%","%4","%7e",":","@","~","=","?","#","é","`","/"]
 
-# short texts
+# short texts: 2
 // A front, an alphabet, how many of its characters stand behind the front at most, how many such texts there are, and how many of
 // them are references, by a regular expression.
 ["","a:/?#@[]%1",5,111111,13326]
 ["//","[]v1.:@",6,137257,7619]
 
-# repeated references
+# repeated references: 1
 // A piece, how often it stands in a path, and the path that this leads to: another piece, how often it stands, and the rest.
 // A path of `..` and `a` in turn leads to `a` at the root.
 ["/../a",1500,"/a",1,""]
 
-# repeated texts
+# repeated texts: 2
 // The same of texts.
 // Each `..` behind `/a/%2e%2e` takes `%2e%2e` away, so each `a` stays. Without those `..`, only the last `a` stays.
 ["/a/%2e%2e/..",1500,"/a",1500,"/"]
 ["/%2e%2e/a",1500,"/a",1,""]
 
-# names of each length
+# names of each length: 15
 // What stands behind the name, what the target begins with, whether the name stays in it, and what is behind that.
 ["/../x","http://h/",false,"x"]
 ["/%2e%2E/x","http://h/",false,"x"]
@@ -57,11 +57,6 @@ const ROWS: &str = r##"
 ["/%7e%2f","http://h/g",true,"/~%2F"]
 ["","http://h/g",true,""]
 "##;
-
-#[test]
-fn rows_hold(rt: HostRuntime) -> Result<(), Fail> {
-    for_each_row(&rt, rt.alloc(), ROWS)
-}
 
 /// Ends the test where a text is a reference and the grammar has it otherwise. Whether it is one.
 fn agrees(rt: &impl Abort, text: &str) -> bool {

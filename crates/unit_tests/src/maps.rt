@@ -3,15 +3,15 @@ ghost use Rattle.std.specs.Prelude.{◌≡◌, [], IfOk, IsTrue};
 ghost use Rattle.ref_parts.specs.FiniteMap.{IsClone, Puts};
 
 use crate::asserts::{assert_shown, same};
-use crate::row::{Row, for_each_row};
+use crate::row::Row;
 use ref_parts::{BorrowedKey, SmallMap};
 use std::alloc::{AllocError, Global};
 use std::hash::Hash;
 use std::process::Abort;
 use std::test::Fail;
 
-const ROWS: &str = r##"
-# maps of texts
+pub const ROWS: &str = r##"
+# maps of texts: 11
 // Pairs that are put into a map with two slots, a key, its value, and what the map is shown as.
 [[],"key",null,"{}"]
 [[["key",1]],"key",1,"{\"key\": 1}"]
@@ -25,7 +25,7 @@ const ROWS: &str = r##"
 [[["a",10],["b",20],["c",30]],"c",30,"{\"a\": 10, \"b\": 20, \"c\": 30}"]
 [[["a",10],["b",20],["c",30]],"d",null,"{\"a\": 10, \"b\": 20, \"c\": 30}"]
 
-# maps with two slots
+# maps with two slots: 5
 // Pairs, and what a map of them tells: whether it is small, and its values at 0 to 4.
 [[],[true,null,null,null,null,null]]
 [[[1,10],[2,20]],[true,null,10,20,null,null]]
@@ -33,34 +33,29 @@ const ROWS: &str = r##"
 [[[1,10],[2,20],[2,21],[3,30]],[false,null,10,21,30,null]]
 [[[1,10],[2,20],[2,21],[3,30],[1,11]],[false,null,11,21,30,null]]
 
-# maps without slots
+# maps without slots: 2
 // The same of a map with none.
 [[],[true,null,null,null,null,null]]
 [[[1,10]],[false,null,10,null,null,null]]
 
-# copies
+# copies: 3
 // Pairs, what a map of them with four slots tells and its copy, what the map tells once 7 is put at 0, and what the copy tells once
 // 40 is put at 4.
 [[[0,0],[1,10]],[true,0,10,null,null,null],[true,7,10,null,null,null],[true,0,10,null,null,40]]
 [[[0,0],[1,10],[2,20],[3,30]],[true,0,10,20,30,null],[true,7,10,20,30,null],[false,0,10,20,30,40]]
 [[[0,0],[1,10],[2,20],[3,30],[4,40]],[false,0,10,20,30,40],[false,7,10,20,30,40],[false,0,10,20,30,40]]
 
-# copies of texts
+# copies of texts: 2
 // Pairs, a key that `other` is put at in the map of them, once it is copied, what the copy tells, and what the map tells: whether it
 // is small, and its texts at `a`, `b` and `c`.
 [[["a","one"],["b","two"]],"a",[true,"one","two",null],[true,"other","two",null]]
 [[["a","one"],["b","two"],["c","three"]],"b",[false,"one","two","three"],[false,"one","other","three"]]
 
-# defaults
+# defaults: 2
 // A key that is written in a map with 42 at `key`, the value, what was found there, and the values at `key` and `missing`.
 ["key",42,42,42,null]
 ["missing",7,0,42,7]
 "##;
-
-#[test]
-fn rows_hold(rt: HostRuntime) -> Result<(), Fail> {
-    for_each_row(&rt, rt.alloc(), ROWS)
-}
 
 // ---- each call through the bounds of a generic caller
 
@@ -145,14 +140,24 @@ fn value_at_owned(
     Ok(value_at(map, &key))
 }
 
-/// A map answers by text and by key.
+/// Ends the test where a map answers otherwise than its row, by text or by key.
+fn assert_counts(
+    rt: &impl Abort,
+    alloc: Global,
+    map: &SmallMap<String, usize, 2>,
+    row: &Row<'_>,
+) -> Result<(), AllocError> {
+    let wanted = (row.row(0).len() < 3, row.number(2));
+    row.same(rt, (is_inline(map), value_at(map, row.text(1))), wanted);
+    let by_key = value_at_owned(alloc, map, row.text(1))?;
+    row.same(rt, by_key, row.number(2));
+    assert_shown(rt, alloc, map, row.text(3))
+}
+
 pub fn maps_of_texts(rt: &impl Abort, alloc: Global, row: &Row<'_>) -> Result<(), AllocError> {
     let mut map = made();
     put_counts(&mut map, alloc, &row.row(0))?;
-    row.same(rt, is_inline(&map), row.row(0).len() < 3);
-    row.same(rt, value_at(&map, row.text(1)), row.number(2));
-    row.same(rt, value_at_owned(alloc, &map, row.text(1))?, row.number(2));
-    assert_shown(rt, alloc, &map, row.text(3))
+    assert_counts(rt, alloc, &map, row)
 }
 
 // ---- maps from numbers to numbers
@@ -265,9 +270,9 @@ fn text_at<'m>(map: &'m SmallMap<String, String, 2>, key: &str) -> Option<&'m st
 /// Ends the test where a map tells something else.
 fn assert_texts(rt: &impl Abort, map: &SmallMap<String, String, 2>, told: &Row<'_>) {
     told.same(rt, is_inline(map), told.is_true(0));
-    told.same(rt, text_at(map, "a"), told.optional(1));
-    told.same(rt, text_at(map, "b"), told.optional(2));
-    told.same(rt, text_at(map, "c"), told.optional(3));
+    let texts = [text_at(map, "a"), text_at(map, "b"), text_at(map, "c")];
+    let wanted = [told.optional(1), told.optional(2), told.optional(3)];
+    told.same(rt, texts, wanted);
 }
 
 /// Puts these pairs in turn.

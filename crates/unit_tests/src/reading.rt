@@ -1,16 +1,15 @@
 //! Anchors, scans along pointers, and resources. The expected values are those of the drafts' tables.
 
 use crate::asserts::{assert_shown, same};
-use crate::row::{Row, for_each_row};
+use crate::row::Row;
 use ref_draft::{Anchor, Draft, Resource, ResourceRef, Segment, Segments};
 use serde_json::Value;
 use std::alloc::{AllocError, Global};
 use std::borrow::CowStr;
 use std::process::Abort;
-use std::test::Fail;
 
-const ROWS: &str = r##"
-# anchors
+pub const ROWS: &str = r##"
+# anchors: 10
 // A draft, a value, and the names of its anchors, with a star before those that are dynamic.
 ["7",{"$id":"#f","$ref":"x"},["f"]]
 ["6",{"$id":"#"},[""]]
@@ -23,7 +22,7 @@ const ROWS: &str = r##"
 ["2020-12",{"$anchor":7,"$id":"#f"},[]]
 ["2020-12",[],[]]
 
-# scans
+# scans: 38
 // A draft, a path, and whether it may change the base at what is given.
 {"given":{}}
 ["2020-12",["properties"],false]
@@ -67,15 +66,10 @@ const ROWS: &str = r##"
 ["4",["const"],false]
 ["unknown",["prefixItems",0],true]
 
-# resources
+# resources: 1
 // A value, its draft and its identifier.
 [{"$schema":"http://json-schema.org/draft-06/schema#","$id":"k#"},"6","k"]
 "##;
-
-#[test]
-fn rows_hold(rt: HostRuntime) -> Result<(), Fail> {
-    for_each_row(&rt, rt.alloc(), ROWS)
-}
 
 /// Ends the test where an anchor isn't of this draft and value, or has another name than the row, whose names have a star where they
 /// are dynamic.
@@ -136,18 +130,43 @@ fn is_copied(resource: &Resource) -> Result<bool, AllocError> {
     Ok(resource.clone()? == *resource)
 }
 
-/// What is owned has the draft of its value, and is equal to its copy and to none of Draft 7.
-pub fn resources(rt: &impl Abort, alloc: Global, row: &Row<'_>) -> Result<(), AllocError> {
-    let value = row.document(0);
-    assert_lent(rt, value, row);
-    let owned = Resource::from_contents(value.clone()?);
-    row.same(rt, (owned.draft(), owned.contents()), (row.draft(1), value));
-    row.same(rt, is_copied(&owned)?, true);
-    let (draft, contents) = owned.into_inner();
-    row.same(rt, (draft, &contents), (row.draft(1), value));
-    let other = Draft::Draft7.create_resource(contents);
-    row.same(rt, other != Resource::from_contents(value.clone()?), true);
+/// Ends the test where a resource hasn't the draft and the contents of its row.
+fn assert_owned(rt: &impl Abort, draft: Draft, contents: &Value, row: &Row<'_>) {
+    row.same(rt, (draft, contents), (row.draft(1), row.document(0)));
+}
+
+/// Ends the test where a resource isn't equal to its copy.
+fn assert_copied(rt: &impl Abort, owned: &Resource, row: &Row<'_>) -> Result<(), AllocError> {
+    assert_owned(rt, owned.draft(), owned.contents(), row);
+    row.same(rt, is_copied(owned)?, true);
     Ok(())
+}
+
+/// Ends the test where a resource is equal to one of the same contents and of Draft 7.
+fn assert_other(rt: &impl Abort, owned: Resource, row: &Row<'_>) -> Result<(), AllocError> {
+    let other = Draft::Draft7.create_resource(row.document(0).clone()?);
+    row.same(rt, other != owned, true);
+    Ok(())
+}
+
+/// Ends the test where a resource gives back other contents than it was made of.
+fn assert_given_back(rt: &impl Abort, owned: Resource, row: &Row<'_>) {
+    let (draft, contents) = owned.into_inner();
+    assert_owned(rt, draft, &contents, row);
+}
+
+/// A resource of the value of a row.
+fn resource_of(row: &Row<'_>) -> Result<Resource, AllocError> {
+    Ok(Resource::from_contents(row.document(0).clone()?))
+}
+
+/// What is owned has the draft of its value, and is equal to its copy and to none of Draft 7.
+pub fn resources(rt: &impl Abort, row: &Row<'_>) -> Result<(), AllocError> {
+    assert_lent(rt, row.document(0), row);
+    let owned = resource_of(row)?;
+    assert_copied(rt, &owned, row)?;
+    assert_given_back(rt, owned, row);
+    assert_other(rt, resource_of(row)?, row)
 }
 
 #[test]

@@ -153,12 +153,22 @@ fn ask_table<R: Abort>(rt: &R, alloc: Global, table: &str, lines: &str) -> Resul
     Ok(())
 }
 
-/// Asks each row of a text. A line that begins with `# ` names the table of the rows behind it, one that begins with `//` is skipped.
-pub fn for_each_row<R: Abort>(rt: &R, alloc: Global, rows: &str) -> Result<(), Fail> {
+/// How many of these lines are rows. Ends the test where the heading has another number.
+fn count_of(rt: &impl Abort, heading: &str, number: &str, lines: &str) -> usize {
+    let count = lines.lines().filter(|line| line.starts_with('[')).count();
+    same_at(rt, Some(count), number.parse().ok(), heading);
+    count
+}
+
+/// Asks each row of a text, and counts them. A line that begins with `# ` names the table of the rows behind it, with their number behind a
+/// colon; one that begins with `//` is skipped.
+pub fn for_each_row<R: Abort>(rt: &R, alloc: Global, rows: &str) -> Result<usize, Fail> {
+    let mut count = 0usize;
     for section in rows.split("\n# ") {
-        if let Some((table, lines)) = section.split_once('\n') {
-            ask_table(rt, alloc, table, lines)?;
-        }
+        let (heading, lines) = section.split_once('\n').unwrap_or((section, ""));
+        let (table, number) = heading.split_once(": ").unwrap_or((heading, "0"));
+        count = count.saturating_add(count_of(rt, heading, number, lines));
+        ask_table(rt, alloc, table, lines)?;
     }
-    Ok(())
+    Ok(count)
 }

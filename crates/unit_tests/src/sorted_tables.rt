@@ -3,15 +3,14 @@ ghost use Rattle.std.specs.Prelude.{◌≡◌, IfOk, option_copied};
 ghost use Rattle.ref_parts.specs.Table.{entries_of, last_value, pair_count};
 
 use crate::asserts::same;
-use crate::row::{Row, for_each_row};
+use crate::row::Row;
 use ref_parts::SortedTable;
 use std::alloc::{AllocError, Global};
 use std::fmt;
 use std::process::Abort;
-use std::test::Fail;
 
-const ROWS: &str = r##"
-# tables
+pub const ROWS: &str = r##"
+# tables: 14
 // Entries, how many pairs of texts they have, the most probes that an answer may take, two texts, and the value of the last entry under
 // them, if there is one.
 [[],0,0,"a","",null]
@@ -29,11 +28,6 @@ const ROWS: &str = r##"
 [[["ab","",1],["a","b",2],["","ab",3],["abc","",4]],4,3,"abc","",4]
 [[["ab","",1],["a","b",2],["","ab",3],["abc","",4]],4,3,"a","",null]
 "##;
-
-#[test]
-fn rows_hold(rt: HostRuntime) -> Result<(), Fail> {
-    for_each_row(&rt, rt.alloc(), ROWS)
-}
 
 // ---- each call through the bounds of a generic caller
 

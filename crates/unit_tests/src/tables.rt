@@ -1,12 +1,36 @@
-//! How a row is asked, by its table.
+//! The rows of all tables, and how a row is asked, by its table.
 
-use crate::row::Row;
+use crate::asserts::same;
+use crate::row::{Row, for_each_row};
 use crate::{
     children, drafts, lists, long_texts, map_defaults, maps, reading, sorted_tables, texts, uris,
 };
 use std::alloc::{AllocError, Global};
 use std::process::Abort;
 use std::test::Fail;
+
+/// The texts that have rows.
+const TEXTS: [&str; 9] = [
+    uris::ROWS,
+    texts::ROWS,
+    long_texts::ROWS,
+    lists::ROWS,
+    maps::ROWS,
+    sorted_tables::ROWS,
+    drafts::ROWS,
+    children::ROWS,
+    reading::ROWS,
+];
+
+#[test]
+fn rows_hold(rt: HostRuntime) -> Result<(), Fail> {
+    let mut count = 0usize;
+    for rows in TEXTS {
+        count = count.saturating_add(for_each_row(&rt, rt.alloc(), rows)?);
+    }
+    same(&rt, count, 520);
+    Ok(())
+}
 
 /// Asks a row. Ends the test where an answer is another.
 pub fn ask<R: Abort>(rt: &R, alloc: Global, row: &Row<'_>) -> Result<(), Fail> {
@@ -68,7 +92,7 @@ fn ask_of_drafts<R: Abort>(rt: &R, alloc: Global, row: &Row<'_>) -> Result<(), A
         "children" => children::children(rt, alloc, row),
         "paths of children" => children::paths(rt, alloc, row),
         "scans" => reading::scans(rt, alloc, row),
-        "resources" => reading::resources(rt, alloc, row),
+        "resources" => reading::resources(rt, row),
         _ => {
             ask_without_memory(rt, row);
             Ok(())

@@ -1,11 +1,14 @@
 //! Calls of builders above a registry.
 use crate::refused::documents::{DOCUMENT, META, builder_of, retrieving, title_of, uri, value};
-use crate::refused::stop::{Refusal, Stop, after, fault, refused};
+use crate::refused::stop::{
+    Refusal, Stop, Told, after, before, fault, outcome, outcome_after, refused,
+};
 use crate::refused::trial::{Calls, Trial, tried};
-use ref_retrieve::{Error, MapRetriever};
-use referencing::{Answer, AnswerError, Draft, Registry, RegistryBuilder, Step};
+use ref_retrieve::MapRetriever;
+use referencing::{Answer, Draft, Registry, RegistryBuilder, Step};
 use serde_json::Value;
 use std::alloc::{AllocError, Global};
+use std::fmt;
 
 /// A registry of a meta-schema, and a builder above it with a document.
 #[derive(Drop)]
@@ -18,7 +21,7 @@ struct Builders<'p, 'a> {
 pub fn row(alloc: Global, call: &str) -> Result<Trial, Stop> {
     let meta = value(alloc, META)?;
     let pairs = [("http://a/m", &meta)];
-    let parent = Registry::from_meta_schemas(alloc, &pairs)?;
+    let parent = before(Registry::from_meta_schemas(alloc, &pairs))?;
     row_above(alloc, &parent, call)
 }
 
@@ -51,7 +54,7 @@ impl Calls for Builders<'_, '_> {
 
 /// A builder with a document above a registry.
 fn builder<'b>(alloc: Global, parent: &'b Registry<'_>) -> Result<RegistryBuilder<'b>, Stop> {
-    Ok(parent.add(alloc, "http://a/r", Value::Null)?)
+    before(parent.add(alloc, "http://a/r", Value::Null))
 }
 
 fn pair() -> [(&'static str, Value); 1] {
@@ -94,10 +97,7 @@ fn built(
         ),
         "extend" => ready(alloc, builder(alloc, parent)?.extend(pair())),
         "extend several" => ready(alloc, builder(alloc, parent)?.extend(pairs())),
-        "clone" => match given.clone() {
-            Ok(copy) => outcome(alloc, copy),
-            Err(error) => Err(refused(&error, true)),
-        },
+        "clone" => ready(alloc, given.clone()),
         _ => Err(Stop::Wrong),
     }
 }
@@ -120,26 +120,19 @@ pub fn marks(alloc: Global, registry: &Registry<'_>) -> Result<String, AllocErro
     Ok(text)
 }
 
-/// Which URIs are known once a builder is prepared, which only want of memory may refuse.
-fn outcome(alloc: Global, builder: RegistryBuilder<'_>) -> Result<String, Stop> {
-    match builder.prepare() {
-        Ok(registry) => after(marks(alloc, &registry)),
-        Err(error) if error.is_memory() => Err(Stop::After),
-        Err(_) => Err(Stop::Wrong),
+impl Told for Registry<'_> {
+    fn told(&self, alloc: Global) -> Result<String, AllocError> {
+        marks(alloc, self)
     }
 }
 
-fn ready(alloc: Global, built: Result<RegistryBuilder<'_>, Error>) -> Result<String, Stop> {
+/// Which URIs are known once a builder that was made is prepared, or the fault.
+fn ready<E: Refusal + fmt::Display + Drop>(
+    alloc: Global,
+    built: Result<RegistryBuilder<'_>, E>,
+) -> Result<String, Stop> {
     match built {
-        Ok(builder) => outcome(alloc, builder),
-        Err(error) => fault(alloc, &error),
-    }
-}
-
-/// The URIs of a registry that was made, or the fault.
-fn made(alloc: Global, made: Result<Registry<'_>, Error>) -> Result<String, Stop> {
-    match made {
-        Ok(registry) => after(marks(alloc, &registry)),
+        Ok(builder) => outcome_after(alloc, builder.prepare()),
         Err(error) => fault(alloc, &error),
     }
 }
@@ -147,16 +140,16 @@ fn made(alloc: Global, made: Result<Registry<'_>, Error>) -> Result<String, Stop
 fn meta_schemas(alloc: Global, uri: &str) -> Result<String, Stop> {
     let meta = value(alloc, META)?;
     let pairs = [(uri, &meta)];
-    made(alloc, Registry::from_meta_schemas(alloc, &pairs))
+    outcome(alloc, Registry::from_meta_schemas(alloc, &pairs))
 }
 
 /// The vocabularies of a schema whose meta-schema is in a registry.
 fn declared(alloc: Global, registry: &Registry<'_>) -> Result<String, Stop> {
     let schema = value(alloc, r#"{"$schema":"http://a/m"}"#)?;
-    match registry.find_vocabularies(alloc, Draft::Unknown, &schema) {
-        Ok(set) => after(format!(in alloc; "{set:?}")),
-        Err(error) => Err(refused(&error, true)),
-    }
+    outcome(
+        alloc,
+        registry.find_vocabularies(alloc, Draft::Unknown, &schema),
+    )
 }
 
 /// The title of the meta-schema.
@@ -172,7 +165,7 @@ fn prepared(alloc: Global, parent: &Registry<'_>, call: &str) -> Result<String, 
     let document = value(alloc, DOCUMENT)?;
     match call {
         "prepare without a retriever" => {
-            made(alloc, builder_of(alloc, parent, &document)?.prepare())
+            outcome(alloc, builder_of(alloc, parent, &document)?.prepare())
         }
         "prepare without the document" => prepared_without(alloc, parent, &document),
         _ => prepared_by(alloc, retrieving(alloc, parent, &document)?, call),
@@ -186,8 +179,8 @@ fn prepared_without(
     document: &Value,
 ) -> Result<String, Stop> {
     let reference = value(alloc, r#"{"$ref":"w"}"#)?;
-    let builder = retrieving(alloc, parent, document)?.add("http://a/z", reference);
-    made(alloc, builder?.prepare())
+    let builder = before(retrieving(alloc, parent, document)?.add("http://a/z", reference))?;
+    outcome(alloc, builder.prepare())
 }
 
 fn prepared_by(
@@ -196,8 +189,8 @@ fn prepared_by(
     call: &str,
 ) -> Result<String, Stop> {
     match call {
-        "prepare" => made(alloc, builder.prepare()),
-        "prepare to the limit" => made(alloc, builder.retrieval_limit(0).prepare()),
+        "prepare" => outcome(alloc, builder.prepare()),
+        "prepare to the limit" => outcome(alloc, builder.retrieval_limit(0).prepare()),
         "prepare_and_follow" => answered(alloc, builder),
         _ => Err(Stop::Wrong),
     }
@@ -205,20 +198,18 @@ fn prepared_by(
 
 fn answered(alloc: Global, builder: RegistryBuilder<'_, MapRetriever>) -> Result<String, Stop> {
     let base = uri(alloc, "http://a/r")?;
-    match builder.prepare_and_follow(base, &[Step::Lookup("x"), Step::Lookup("y")]) {
-        Ok(answer) => after(told(alloc, &answer)),
-        Err(AnswerError::Prepare(error)) => Err(refused(&error, true)),
-        Err(AnswerError::Follow(error)) => Err(refused(&error.error, true)),
-        Err(AnswerError::Memory(error)) => Err(refused(&error, true)),
-    }
+    let steps = [Step::Lookup("x"), Step::Lookup("y")];
+    outcome(alloc, builder.prepare_and_follow(base, &steps))
 }
 
 /// The title of the last value, and the base there.
-fn told(alloc: Global, answer: &Answer) -> Result<String, AllocError> {
-    let title = match &answer.last {
-        Some((value, _)) => title_of(value),
-        None => "none",
-    };
-    let base = answer.base.as_str();
-    format!(in alloc; "{title} {base}")
+impl Told for Answer {
+    fn told(&self, alloc: Global) -> Result<String, AllocError> {
+        let title = match &self.last {
+            Some((value, _)) => title_of(value),
+            None => "none",
+        };
+        let base = self.base.as_str();
+        format!(in alloc; "{title} {base}")
+    }
 }

@@ -1,5 +1,6 @@
 //! Calls of `ref_draft`.
-use crate::refused::stop::{Stop, after, refused};
+use crate::refused::documents::value;
+use crate::refused::stop::{Stop, Told, after, outcome, refused};
 use crate::refused::trial::{Calls, Trial, tried};
 use ref_draft::{Child, Draft, Resource, Segment, Segments};
 use ref_parts::path::JsonPointerSegment;
@@ -19,9 +20,9 @@ struct Drafts {
 
 /// The row of a call.
 pub fn row(alloc: Global, call: &str) -> Result<Trial, Stop> {
-    let titled = Value::from_str(alloc, r#"{"title":"a"}"#)?;
+    let titled = value(alloc, r#"{"title":"a"}"#)?;
     let mut drafts = Drafts {
-        parent: Value::from_str(alloc, PARENT)?,
+        parent: value(alloc, PARENT)?,
         segments: four(alloc)?,
         resource: Draft::Draft7.create_resource(titled),
     };
@@ -39,7 +40,7 @@ impl Calls for Drafts {
         match call {
             "walk_children" => children(alloc, &self.parent),
             "segments.push" => pushed(alloc, &mut self.segments),
-            "resource.clone" => copied(alloc, &self.resource),
+            "resource.clone" => outcome(alloc, self.resource.clone()),
             "readers" => read(alloc),
             "keywords" => ruled(alloc),
             _ => Err(Stop::Wrong),
@@ -73,11 +74,14 @@ fn listing(alloc: Global, children: &[Child<'_>]) -> Result<String, AllocError> 
     Ok(text)
 }
 
-fn children(alloc: Global, parent: &Value) -> Result<String, Stop> {
-    match Draft::Draft201909.walk_children(alloc, parent) {
-        Ok(children) => after(listing(alloc, children.as_slice())),
-        Err(error) => Err(refused(&error, true)),
+impl Told for Vec<Child<'_>> {
+    fn told(&self, alloc: Global) -> Result<String, AllocError> {
+        listing(alloc, self.as_slice())
     }
+}
+
+fn children(alloc: Global, parent: &Value) -> Result<String, Stop> {
+    outcome(alloc, Draft::Draft201909.walk_children(alloc, parent))
 }
 
 /// How many segments there are, and whether the first is the index 3.
@@ -104,23 +108,17 @@ fn pushed(alloc: Global, segments: &mut Segments<'_>) -> Result<String, Stop> {
 }
 
 /// The draft and the title of a resource.
-fn titled(alloc: Global, resource: &Resource) -> Result<String, AllocError> {
-    let draft = resource.draft();
-    let title = resource.contents().get("title").and_then(Value::as_str);
-    let title = title.unwrap_or("none");
-    format!(in alloc; "{draft:?} {title}")
-}
-
-fn copied(alloc: Global, resource: &Resource) -> Result<String, Stop> {
-    match resource.clone() {
-        Ok(copy) => after(titled(alloc, &copy)),
-        Err(error) => Err(refused(&error, true)),
+impl Told for Resource {
+    fn told(&self, alloc: Global) -> Result<String, AllocError> {
+        let draft = self.draft();
+        let title = self.contents().get("title").and_then(Value::as_str);
+        let title = title.unwrap_or("none");
+        format!(in alloc; "{draft:?} {title}")
     }
 }
 
 fn read(alloc: Global) -> Result<String, Stop> {
-    let text = r#"{"$id":"a","$anchor":"b","not":true}"#;
-    let value = Value::from_str(alloc, text)?;
+    let value = value(alloc, r#"{"$id":"a","$anchor":"b","not":true}"#)?;
     after(read_of(alloc, &value))
 }
 
@@ -154,7 +152,7 @@ fn read_of(alloc: Global, value: &Value) -> Result<String, AllocError> {
 
 /// The draft of a meta-schema's URI, whether it knows a keyword, and whether `$id` of an object under `not` changes the base in it.
 fn ruled(alloc: Global) -> Result<String, Stop> {
-    let value = Value::from_str(alloc, r#"{"$id":"a"}"#)?;
+    let value = value(alloc, r#"{"$id":"a"}"#)?;
     let mut segments = Segments::new(alloc);
     segments.push(CowStr::Borrowed("not"))?;
     let draft = Draft::from_schema_uri("http://json-schema.org/draft-07/schema#");

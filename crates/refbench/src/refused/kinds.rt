@@ -1,7 +1,7 @@
 //! The six kinds of input: a document with a list of no text or of a hundred is added, prepared, and looked up. No value is copied
 //! where both make as many requests.
 use crate::refused::documents::value;
-use crate::refused::stop::{Stop, after, fault};
+use crate::refused::stop::{Stop, outcome};
 use crate::refused::trial::{Calls, Trial, tried};
 use ref_draft::{Draft, Resource, ResourceRef};
 use ref_retrieve::Error;
@@ -26,12 +26,8 @@ impl Calls for Kinds {
             return Err(Stop::Wrong);
         };
         let size = if size == "of 100" { 100 } else { 0 };
-        let document = document_of(alloc, size)?;
-        let value = value(alloc, document.as_str())?;
-        match found_of(alloc, kind, value) {
-            Ok(count) => after(format!(in alloc; "{count}")),
-            Err(error) => fault(alloc, &error),
-        }
+        let document = document_of_size(alloc, size)?;
+        outcome(alloc, found_of(alloc, kind, document))
     }
 }
 
@@ -43,6 +39,12 @@ fn document_of(alloc: Global, size: usize) -> Result<String, AllocError> {
     }
     text.push_str("]}")?;
     Ok(text)
+}
+
+/// That document.
+fn document_of_size(alloc: Global, size: usize) -> Result<Value, Stop> {
+    let text = document_of(alloc, size)?;
+    value(alloc, text.as_str())
 }
 
 /// Adds a document, and prepares it.

@@ -1,7 +1,7 @@
 //! The references that lead nowhere, of a document that the line gives.
 use crate::refused::documents::{list_of, uri, value};
 use crate::refused::registries::{contained, leading_nowhere};
-use crate::refused::stop::{Stop, after};
+use crate::refused::stop::{Stop, after, before};
 use crate::refused::trial::{Calls, Trial, tried};
 use ref_retrieve::MapRetriever;
 use referencing::{Draft, Registry};
@@ -43,7 +43,7 @@ fn registry_of(alloc: Global, given: &Value) -> Result<Registry<'_>, Stop> {
     };
     let retriever = retriever(alloc, given)?;
     let builder = Registry::new(alloc).draft(draft).retriever(retriever);
-    Ok(builder.add("http://a/r", document)?.prepare()?)
+    before(before(builder.add("http://a/r", document))?.prepare())
 }
 
 impl Calls for Linted<'_, '_> {

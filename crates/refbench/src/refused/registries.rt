@@ -1,14 +1,12 @@
 //! Calls of a registry of a document and of one that was retrieved, above one of a meta-schema; and of resolvers in it.
-use crate::refused::builders::{known, marks};
+use crate::refused::builders::known;
 use crate::refused::documents::{DOCUMENT, META, SUBRESOURCE, retrieving, uri, value};
-use crate::refused::resolvers::{found, resolver, steps};
-use crate::refused::stop::{Stop, after, fault, refused};
+use crate::refused::resolvers::{resolver, steps};
+use crate::refused::stop::{Stop, Told, after, before, outcome};
 use crate::refused::trial::{Calls, Trial, tried};
-use crate::refused::vocabularies::shown_set;
 use ref_lint::{Dangling, dangling};
-use ref_retrieve::Error;
 use ref_uri::Uri;
-use referencing::{Draft, JsonPointerSegment, Registry, Resolver};
+use referencing::{Draft, JsonPointerSegment, Place, Registry, Resolver};
 use serde_json::Value;
 use std::alloc::{AllocError, Global};
 use std::rc::Rc;
@@ -61,20 +59,20 @@ const NEIGHBOURS: [&str; 32] = [
 pub fn row(alloc: Global, call: &str) -> Result<Trial, Stop> {
     let meta = value(alloc, META)?;
     let pairs = [("http://a/m", &meta)];
-    let parent = Registry::from_meta_schemas(alloc, &pairs)?;
+    let parent = before(Registry::from_meta_schemas(alloc, &pairs))?;
     row_above(alloc, &parent, call)
 }
 
 /// The row of a call above a registry.
 fn row_above(alloc: Global, parent: &Registry<'_>, call: &str) -> Result<Trial, Stop> {
     let document = value(alloc, DOCUMENT)?;
-    let registry = retrieving(alloc, parent, &document)?.prepare()?;
+    let registry = before(retrieving(alloc, parent, &document)?.prepare())?;
     among(alloc, &registry, call)
 }
 
 fn among(alloc: Global, registry: &Registry<'_>, call: &str) -> Result<Trial, Stop> {
     let outer = registry.resolver(alloc, uri(alloc, "http://a/r")?)?;
-    let (_, inner, _) = outer.lookup(alloc, "x")?.into_inner();
+    let (_, inner, _) = before(outer.lookup(alloc, "x"))?.into_inner();
     let mut scene = Scene {
         registry,
         outer,
@@ -100,53 +98,51 @@ fn registry(alloc: Global, registry: &Registry<'_>, call: &str) -> Result<String
         "contains_resource" => contained(alloc, registry, "HTTP://a/%78"),
         "contains_resource none" => contained(alloc, registry, "http://a/none"),
         "contains_resource each" => known(alloc, registry),
-        "resolve_uri" => at(alloc, &uri(alloc, "http://a/r")?, registry, "z"),
-        "resolve_uri cached" => at(alloc, &uri(alloc, "http://a/r")?, registry, "x"),
+        "resolve_uri" => at(alloc, registry, "z"),
+        "resolve_uri cached" => at(alloc, registry, "x"),
         "resolve_uri cached by a copy" => by_copy(alloc, registry, "x"),
-        "resolve_uri invalid" => at(alloc, &uri(alloc, "http://a/r")?, registry, "a b"),
+        "resolve_uri invalid" => at(alloc, registry, "a b"),
         "resolved_uri" => lent(alloc, registry, "x"),
         "value_at" => valued(alloc, registry),
-        "clone" => cloned(alloc, registry),
-        "places" => listed(alloc, registry),
+        "clone" => outcome(alloc, registry.clone()),
+        "places" => outcome(alloc, registry.places(alloc)),
         "locate" => located(alloc, registry, "x"),
         "locate nothing" => located(alloc, registry, "z"),
         "dangling" => leading_nowhere(alloc, registry),
-        "find_vocabularies" => {
-            let schema = value(alloc, SUBRESOURCE)?;
-            shown_set(
-                alloc,
-                registry.find_vocabularies(alloc, Draft::Unknown, &schema),
-            )
-        }
+        "find_vocabularies" => declared(alloc, registry),
         _ => steps(alloc, registry, call),
     }
 }
 
 /// Whether a URI means a place.
 pub fn contained(alloc: Global, registry: &Registry<'_>, uri: &str) -> Result<String, Stop> {
-    match registry.contains_resource(alloc, uri) {
-        Ok(true) => after(String::from_str(alloc, "true")),
-        Ok(false) => after(String::from_str(alloc, "false")),
-        Err(error) => Err(refused(&error, true)),
+    outcome(alloc, registry.contains_resource(alloc, uri))
+}
+
+impl Told for Rc<Uri> {
+    fn told(&self, alloc: Global) -> Result<String, AllocError> {
+        String::from_str(alloc, self.as_str())
     }
 }
 
-/// The text of a URI that was resolved, or the fault.
-pub fn resolved(alloc: Global, resolved: Result<Rc<Uri>, Error>) -> Result<String, Stop> {
-    match resolved {
-        Ok(uri) => after(String::from_str(alloc, uri.as_str())),
-        Err(error) => fault(alloc, &error),
-    }
-}
-
-fn at(alloc: Global, base: &Uri, registry: &Registry<'_>, text: &str) -> Result<String, Stop> {
-    resolved(alloc, registry.resolve_uri(alloc, base.borrow(), text))
+fn at(alloc: Global, registry: &Registry<'_>, text: &str) -> Result<String, Stop> {
+    let base = uri(alloc, "http://a/r")?;
+    outcome(alloc, registry.resolve_uri(alloc, base.borrow(), text))
 }
 
 /// By a copy, which is made before.
 fn by_copy(alloc: Global, registry: &Registry<'_>, text: &str) -> Result<String, Stop> {
-    let base = uri(alloc, "http://a/r")?;
-    at(alloc, &base, &registry.clone()?, text)
+    let copy = registry.clone()?;
+    at(alloc, &copy, text)
+}
+
+/// The vocabularies of a schema.
+fn declared(alloc: Global, registry: &Registry<'_>) -> Result<String, Stop> {
+    let schema = value(alloc, SUBRESOURCE)?;
+    outcome(
+        alloc,
+        registry.find_vocabularies(alloc, Draft::Unknown, &schema),
+    )
 }
 
 fn lent(alloc: Global, registry: &Registry<'_>, text: &str) -> Result<String, Stop> {
@@ -166,20 +162,10 @@ fn valued(alloc: Global, registry: &Registry<'_>) -> Result<String, Stop> {
     after(String::from_str(alloc, text.unwrap_or("none")))
 }
 
-fn cloned(alloc: Global, registry: &Registry<'_>) -> Result<String, Stop> {
-    match registry.clone() {
-        Ok(copy) => after(marks(alloc, &copy)),
-        Err(error) => Err(refused(&error, true)),
-    }
-}
-
-fn listed(alloc: Global, registry: &Registry<'_>) -> Result<String, Stop> {
-    match registry.places(alloc) {
-        Ok(places) => {
-            let count = places.len();
-            after(format!(in alloc; "{count}"))
-        }
-        Err(error) => fault(alloc, &error),
+/// How many places there are.
+impl Told for Vec<Place<'_>> {
+    fn told(&self, alloc: Global) -> Result<String, AllocError> {
+        self.len().told(alloc)
     }
 }
 
@@ -189,7 +175,7 @@ fn located(alloc: Global, registry: &Registry<'_>, key: &str) -> Result<String, 
         JsonPointerSegment::from("$defs"),
         JsonPointerSegment::from(key),
     ];
-    found(alloc, registry.locate(alloc, &base, &path))
+    outcome(alloc, registry.locate(alloc, &base, &path))
 }
 
 /// The references that lead nowhere, each with its document and its fault.
@@ -203,10 +189,13 @@ fn entries(alloc: Global, dangling: &[Dangling<'_>]) -> Result<String, AllocErro
     Ok(text)
 }
 
+impl Told for Vec<Dangling<'_>> {
+    fn told(&self, alloc: Global) -> Result<String, AllocError> {
+        entries(alloc, self.as_slice())
+    }
+}
+
 /// The references of a registry that lead nowhere.
 pub fn leading_nowhere(alloc: Global, registry: &Registry<'_>) -> Result<String, Stop> {
-    match dangling(alloc, registry) {
-        Ok(dangling) => after(entries(alloc, dangling.as_slice())),
-        Err(error) => fault(alloc, &error),
-    }
+    outcome(alloc, dangling(alloc, registry))
 }

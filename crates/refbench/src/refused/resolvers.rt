@@ -1,33 +1,26 @@
 //! Calls of resolvers, and steps.
 use crate::refused::documents::{SUBRESOURCE, title_of, uri, value};
-use crate::refused::registries::resolved;
-use crate::refused::stop::{Refusal, Stop, after, fault, refused};
-use crate::refused::vocabularies::shown_set;
-use ref_retrieve::Error;
+use crate::refused::stop::{Refusal, Stop, Told, after, outcome};
 use ref_uri::Uri;
-use referencing::{Draft, FollowError, Registry, Resolved, Resolver, ResourceRef, Step, follow};
+use referencing::{
+    Draft, FollowError, Followed, Registry, Resolved, Resolver, ResourceRef, Step, follow,
+};
 use std::alloc::{AllocError, Global};
 
 /// What a call of a resolver answers.
 pub fn resolver(alloc: Global, resolver: &Resolver<'_>, call: &str) -> Result<String, Stop> {
     if let Some(reference) = call.strip_prefix("lookup ") {
-        return found(alloc, resolver.lookup(alloc, reference));
+        return outcome(alloc, resolver.lookup(alloc, reference));
     }
     match call {
         "resolve_uri" => at(alloc, resolver, "z"),
         "resolve_uri cached" => at(alloc, resolver, "x"),
         "resolve_uri invalid" => at(alloc, resolver, "a b"),
-        "lookup_recursive_ref" => found(alloc, resolver.lookup_recursive_ref(alloc)),
+        "lookup_recursive_ref" => outcome(alloc, resolver.lookup_recursive_ref(alloc)),
         "in_subresource" => entered(alloc, resolver),
-        "clone" => shown(alloc, resolver.clone()),
-        "find_vocabularies" => {
-            let schema = value(alloc, SUBRESOURCE)?;
-            shown_set(
-                alloc,
-                resolver.find_vocabularies(alloc, Draft::Unknown, &schema),
-            )
-        }
-        "readers" => after(format!(in alloc; "{resolver:?}")),
+        "clone" => outcome(alloc, resolver.clone()),
+        "find_vocabularies" => declared(alloc, resolver),
+        "readers" => after(resolver.told(alloc)),
         "at_base" => based(alloc, resolver),
         _ => Err(Stop::Wrong),
     }
@@ -46,45 +39,51 @@ fn based(alloc: Global, resolver: &Resolver<'_>) -> Result<String, Stop> {
 
 fn at(alloc: Global, resolver: &Resolver<'_>, text: &str) -> Result<String, Stop> {
     let base = uri(alloc, "http://a/r")?;
-    resolved(alloc, resolver.resolve_uri(alloc, base.borrow(), text))
+    outcome(alloc, resolver.resolve_uri(alloc, base.borrow(), text))
 }
 
 /// The title of what was found with the resolver there.
-fn place(alloc: Global, found: &Resolved<'_>) -> Result<String, AllocError> {
-    let title = title_of(found.contents());
-    let resolver = found.resolver();
-    format!(in alloc; "{title} {resolver:?}")
-}
-
-/// The title of what was looked up with the resolver there, or the fault.
-pub fn found(alloc: Global, looked_up: Result<Resolved<'_>, Error>) -> Result<String, Stop> {
-    match looked_up {
-        Ok(found) => after(place(alloc, &found)),
-        Err(error) => fault(alloc, &error),
+impl Told for Resolved<'_> {
+    fn told(&self, alloc: Global) -> Result<String, AllocError> {
+        let title = title_of(self.contents());
+        let resolver = self.resolver();
+        format!(in alloc; "{title} {resolver:?}")
     }
 }
 
-/// A resolver, or that memory was wanted.
-fn shown(alloc: Global, resolver: Result<Resolver<'_>, AllocError>) -> Result<String, Stop> {
-    match resolver {
-        Ok(resolver) => after(format!(in alloc; "{resolver:?}")),
-        Err(error) => Err(refused(&error, true)),
+impl Told for Resolver<'_> {
+    fn told(&self, alloc: Global) -> Result<String, AllocError> {
+        format!(in alloc; "{self:?}")
     }
+}
+
+/// The resolver to which steps lead.
+impl Told for Followed<'_> {
+    fn told(&self, alloc: Global) -> Result<String, AllocError> {
+        self.resolver.told(alloc)
+    }
+}
+
+/// The vocabularies of a schema.
+fn declared(alloc: Global, resolver: &Resolver<'_>) -> Result<String, Stop> {
+    let schema = value(alloc, SUBRESOURCE)?;
+    outcome(
+        alloc,
+        resolver.find_vocabularies(alloc, Draft::Unknown, &schema),
+    )
 }
 
 fn entered(alloc: Global, resolver: &Resolver<'_>) -> Result<String, Stop> {
     let schema = value(alloc, SUBRESOURCE)?;
-    match resolver.in_subresource(alloc, ResourceRef::new(&schema, Draft::Draft202012)) {
-        Ok(resolver) => after(format!(in alloc; "{resolver:?}")),
-        Err(error) => fault(alloc, &error),
-    }
+    let resource = ResourceRef::new(&schema, Draft::Draft202012);
+    outcome(alloc, resolver.in_subresource(alloc, resource))
 }
 
 /// What steps answer, and a new resolver.
 pub fn steps(alloc: Global, registry: &Registry<'_>, call: &str) -> Result<String, Stop> {
     let base = uri(alloc, "http://a/r")?;
     match call {
-        "resolver" => shown(alloc, registry.resolver(alloc, base)),
+        "resolver" => outcome(alloc, registry.resolver(alloc, base)),
         "follow" => followed(alloc, registry, base),
         "follow to a fault" => followed_to_fault(alloc, registry, base),
         _ => Err(Stop::Wrong),
@@ -99,13 +98,7 @@ fn followed(alloc: Global, registry: &Registry<'_>, base: Uri) -> Result<String,
         Step::Lookup("y"),
         Step::Enter(ResourceRef::new(&schema, Draft::Draft202012)),
     ];
-    match follow(alloc, registry, base, &steps) {
-        Ok(followed) => {
-            let resolver = &followed.resolver;
-            after(format!(in alloc; "{resolver:?}"))
-        }
-        Err(ended) => fault(alloc, &ended.error),
-    }
+    outcome(alloc, follow(alloc, registry, base, &steps))
 }
 
 fn followed_to_fault(alloc: Global, registry: &Registry<'_>, base: Uri) -> Result<String, Stop> {

@@ -1,10 +1,11 @@
 //! Calls of retrievers.
 use crate::refused::documents::{pairs, retriever, title_of, uri};
-use crate::refused::stop::{Stop, after, fault, refused};
+use crate::refused::stop::{Stop, Told, outcome, refused};
 use crate::refused::trial::{Calls, Trial, tried};
 use ref_retrieve::{DefaultRetriever, MapRetriever, Retrieve};
 use ref_uri::Uri;
-use std::alloc::Global;
+use serde_json::Value;
+use std::alloc::{AllocError, Global};
 
 /// A retriever of one document, its URI, and another.
 #[derive(Drop)]
@@ -33,13 +34,7 @@ pub fn row(alloc: Global, call: &str) -> Result<Trial, Stop> {
 impl Calls for Retrievers {
     fn answer(&mut self, alloc: Global, call: &str) -> Result<String, Stop> {
         match call {
-            "from_pairs" => {
-                let pairs = pairs(alloc)?;
-                match MapRetriever::from_pairs(alloc, pairs) {
-                    Ok(map) => after_retrieval(retrieved(alloc, &map, &self.there)),
-                    Err(error) => Err(refused(&error, true)),
-                }
-            }
+            "from_pairs" => made(alloc, &self.there),
             "map" => retrieved(alloc, &self.map, &self.there),
             "map without the document" => retrieved(alloc, &self.map, &self.missing),
             "default" => retrieved(alloc, &DefaultRetriever, &self.there),
@@ -50,9 +45,21 @@ impl Calls for Retrievers {
 
 /// The title of what is retrieved, or the fault.
 fn retrieved<R: Retrieve>(alloc: Global, retriever: &R, uri: &Uri) -> Result<String, Stop> {
-    match retriever.retrieve(alloc, uri) {
-        Ok(value) => after(String::from_str(alloc, title_of(&value))),
-        Err(error) => fault(alloc, &error),
+    outcome(alloc, retriever.retrieve(alloc, uri))
+}
+
+/// The title of what a new retriever retrieves.
+fn made(alloc: Global, uri: &Uri) -> Result<String, Stop> {
+    let pairs = pairs(alloc)?;
+    match MapRetriever::from_pairs(alloc, pairs) {
+        Ok(map) => after_retrieval(retrieved(alloc, &map, uri)),
+        Err(error) => Err(refused(&error, true)),
+    }
+}
+
+impl Told for Value {
+    fn told(&self, alloc: Global) -> Result<String, AllocError> {
+        String::from_str(alloc, title_of(self))
     }
 }
 

@@ -3,6 +3,7 @@ ghost use Rattle.std.specs.Prelude.{⊤};
 
 use ref_retrieve::{Error, RetrieveError};
 use ref_uri::{ResolveFault, UriFault, UriParseFault};
+use referencing::{AnswerError, FollowError};
 use serde_json::Category;
 use std::alloc::{AllocError, Global};
 use std::fmt;
@@ -39,46 +40,6 @@ impl From<AllocError> for Stop {
 
     fn from(_refused: AllocError) -> Stop {
         Stop::Before
-    }
-}
-
-impl From<serde_json::Error> for Stop {
-    ghost use Rattle.std.specs.Prelude.{⊤};
-
-    ghost from_gives = { λ _ _. ⊤ };
-
-    fn from(error: serde_json::Error) -> Stop {
-        unmade(error.is_memory())
-    }
-}
-
-impl From<UriParseFault> for Stop {
-    ghost use Rattle.std.specs.Prelude.{⊤};
-
-    ghost from_gives = { λ _ _. ⊤ };
-
-    fn from(error: UriParseFault) -> Stop {
-        unmade(error.is_memory())
-    }
-}
-
-impl From<UriFault> for Stop {
-    ghost use Rattle.std.specs.Prelude.{⊤};
-
-    ghost from_gives = { λ _ _. ⊤ };
-
-    fn from(error: UriFault) -> Stop {
-        unmade(error.is_memory())
-    }
-}
-
-impl From<Error> for Stop {
-    ghost use Rattle.std.specs.Prelude.{⊤};
-
-    ghost from_gives = { λ _ _. ⊤ };
-
-    fn from(error: Error) -> Stop {
-        unmade(error.is_memory())
     }
 }
 
@@ -130,6 +91,40 @@ impl Refusal for Error {
     }
 }
 
+impl Refusal for FollowError {
+    fn is_memory(&self) -> bool {
+        self.error.is_memory()
+    }
+}
+
+impl Refusal for AnswerError {
+    fn is_memory(&self) -> bool {
+        match self {
+            AnswerError::Prepare(error) => error.is_memory(),
+            AnswerError::Follow(ended) => ended.is_memory(),
+            AnswerError::Memory(_) => true,
+        }
+    }
+}
+
+/// What a call answers.
+pub trait Told {
+    /// What is printed of it.
+    fn told(&self, alloc: Global) -> Result<String, AllocError>;
+}
+
+impl Told for bool {
+    fn told(&self, alloc: Global) -> Result<String, AllocError> {
+        String::from_str(alloc, if *self { "true" } else { "false" })
+    }
+}
+
+impl Told for usize {
+    fn told(&self, alloc: Global) -> Result<String, AllocError> {
+        format!(in alloc; "{self}")
+    }
+}
+
 /// Why a refused call has no answer: only want of memory is right, and only where what it would have changed is as it was.
 pub fn refused<E: Refusal>(refusal: &E, stands: bool) -> Stop {
     if refusal.is_memory() && stands {
@@ -152,6 +147,37 @@ pub fn after(made: Result<String, AllocError>) -> Result<String, Stop> {
     match made {
         Ok(text) => Ok(text),
         Err(_) => Err(Stop::After),
+    }
+}
+
+/// What is printed of a call's answer, or the text of its fault. Of any kind of answer and of fault, so that it is proved once.
+pub fn outcome<T: Told + Drop, E: Refusal + fmt::Display + Drop>(
+    alloc: Global,
+    answer: Result<T, E>,
+) -> Result<String, Stop> {
+    match answer {
+        Ok(value) => after(value.told(alloc)),
+        Err(error) => fault(alloc, &error),
+    }
+}
+
+/// The same once the call has answered, where only want of memory may be in the way.
+pub fn outcome_after<T: Told + Drop, E: Refusal + Drop>(
+    alloc: Global,
+    answer: Result<T, E>,
+) -> Result<String, Stop> {
+    match answer {
+        Ok(value) => after(value.told(alloc)),
+        Err(error) if error.is_memory() => Err(Stop::After),
+        Err(_) => Err(Stop::Wrong),
+    }
+}
+
+/// A value that is made before the call: only want of memory may keep it from that.
+pub fn before<T, E: Refusal + Drop>(made: Result<T, E>) -> Result<T, Stop> {
+    match made {
+        Ok(value) => Ok(value),
+        Err(error) => Err(unmade(error.is_memory())),
     }
 }
 

@@ -1,4 +1,5 @@
 //! Calls of pointer text and of buffers of `ref_parts`.
+use crate::refused::documents::value;
 use crate::refused::stop::{Stop, after, refused};
 use crate::refused::trial::{Calls, Trial, tried};
 use ref_parts::{
@@ -23,7 +24,7 @@ pub fn row(alloc: Global, call: &str) -> Result<Trial, Stop> {
         pointer: String::from_str(alloc, "/")?,
         grown: encoded(alloc, "a")?,
         encoded: encoded(alloc, "~ ?")?,
-        document: Value::from_str(alloc, r#"{"a/b":"c"}"#)?,
+        document: value(alloc, r#"{"a/b":"c"}"#)?,
     };
     tried(
         alloc,

@@ -1,10 +1,10 @@
 //! Where memory was wanted, as a call tells it: while documents are prepared, at which step, or for the copy of an answer.
 use crate::refused::documents::{DOCUMENT, SUBRESOURCE, retriever, uri, value};
-use crate::refused::stop::{Refusal, Stop, after};
+use crate::refused::stop::{Refusal, Stop, after, before};
 use crate::refused::trial::Trial;
 use ref_retrieve::MapRetriever;
 use referencing::{
-    AnswerError, Draft, FollowError, Registry, RegistryBuilder, ResourceRef, Step, follow,
+    Answer, AnswerError, Draft, FollowError, Registry, RegistryBuilder, ResourceRef, Step, follow,
 };
 use std::alloc::Global;
 
@@ -12,7 +12,7 @@ use std::alloc::Global;
 pub fn row(alloc: Global, call: &str) -> Result<Trial, Stop> {
     let document = value(alloc, DOCUMENT)?;
     let schema = value(alloc, SUBRESOURCE)?;
-    let builder = Registry::new(alloc).add("http://a/r", &document)?;
+    let builder = before(Registry::new(alloc).add("http://a/r", &document))?;
     let builder = builder.retriever(retriever(alloc)?);
     let steps = [
         Step::Lookup("x"),
@@ -61,17 +61,37 @@ fn at_step(alloc: Global, call: &str, ended: &FollowError) -> Result<Trial, Stop
     wanted(alloc, call, &ended.error, place.as_str())
 }
 
+/// The line of steps in a registry.
+fn stepped(
+    alloc: Global,
+    call: &str,
+    registry: &Registry<'_>,
+    steps: &[Step<'_>],
+) -> Result<Trial, Stop> {
+    let base = uri(alloc, "http://a/r")?;
+    match follow(alloc, registry, base, steps) {
+        Ok(followed) => line(alloc, call, followed.resolver.base_uri().as_str(), false),
+        Err(ended) => at_step(alloc, call, &ended),
+    }
+}
+
 fn followed(
     alloc: Global,
     call: &str,
     builder: RegistryBuilder<'_, MapRetriever>,
     steps: &[Step<'_>],
 ) -> Result<Trial, Stop> {
-    let base = uri(alloc, "http://a/r")?;
-    let registry = builder.prepare()?;
-    match follow(alloc, &registry, base, steps) {
-        Ok(followed) => line(alloc, call, followed.resolver.base_uri().as_str(), false),
-        Err(ended) => at_step(alloc, call, &ended),
+    let registry = before(builder.prepare())?;
+    stepped(alloc, call, &registry, steps)
+}
+
+/// The line of an answer.
+fn placed(alloc: Global, answer: &Result<Answer, AnswerError>) -> Result<Trial, Stop> {
+    match answer {
+        Ok(answer) => line(alloc, "answer", answer.base.as_str(), false),
+        Err(AnswerError::Prepare(error)) => wanted(alloc, "answer", error, "Prepare"),
+        Err(AnswerError::Follow(ended)) => at_step(alloc, "answer", ended),
+        Err(AnswerError::Memory(error)) => wanted(alloc, "answer", error, "Copy"),
     }
 }
 
@@ -81,10 +101,5 @@ fn answered(
     steps: &[Step<'_>],
 ) -> Result<Trial, Stop> {
     let base = uri(alloc, "http://a/r")?;
-    match builder.prepare_and_follow(base, steps) {
-        Ok(answer) => line(alloc, "answer", answer.base.as_str(), false),
-        Err(AnswerError::Prepare(error)) => wanted(alloc, "answer", &error, "Prepare"),
-        Err(AnswerError::Follow(ended)) => at_step(alloc, "answer", &ended),
-        Err(AnswerError::Memory(error)) => wanted(alloc, "answer", &error, "Copy"),
-    }
+    placed(alloc, &builder.prepare_and_follow(base, steps))
 }

@@ -1,10 +1,9 @@
 //! Calls of `ref_uri`.
-use crate::refused::stop::{Refusal, Stop, after, fault, refused};
+use crate::refused::stop::{Stop, Told, after, before, outcome, refused};
 use crate::refused::trial::{Calls, Trial, tried};
 use ref_uri::uri::{from_str, resolve_against};
 use ref_uri::{Uri, UriRef};
-use std::alloc::Global;
-use std::fmt;
+use std::alloc::{AllocError, Global};
 
 /// URIs that stand before a call.
 #[derive(Drop)]
@@ -20,9 +19,9 @@ struct Uris {
 /// The row of a call.
 pub fn row(alloc: Global, call: &str) -> Result<Trial, Stop> {
     let mut uris = Uris {
-        given: Uri::parse(alloc, "HTTP://A/./%7e")?,
-        whole: Uri::parse(alloc, "http://a:1/b?c#d")?,
-        set: Uri::parse(alloc, "http://a/r#x")?,
+        given: before(Uri::parse(alloc, "HTTP://A/./%7e"))?,
+        whole: before(Uri::parse(alloc, "http://a:1/b?c#d"))?,
+        set: before(Uri::parse(alloc, "http://a/r#x"))?,
     };
     tried(
         alloc,
@@ -36,16 +35,16 @@ pub fn row(alloc: Global, call: &str) -> Result<Trial, Stop> {
 impl Calls for Uris {
     fn answer(&mut self, alloc: Global, call: &str) -> Result<String, Stop> {
         match call {
-            "parse" => shown(alloc, Uri::parse(alloc, "http://a/r")),
-            "from_str" => shown(alloc, from_str(alloc, "HTTP://A/x/../%72")),
-            "from_str invalid" => shown(alloc, from_str(alloc, "a b")),
+            "parse" => outcome(alloc, Uri::parse(alloc, "http://a/r")),
+            "from_str" => outcome(alloc, from_str(alloc, "HTTP://A/x/../%72")),
+            "from_str invalid" => outcome(alloc, from_str(alloc, "a b")),
             "resolve_against" => meant_against(alloc, "http://a/b/c/d;p?q", "../g"),
             "resolve_against invalid" => meant_against(alloc, "http://a/b/c/d;p?q", "a b"),
             "resolve_against without a scheme" => meant_against(alloc, "b", "../g"),
             "reference.resolve_against" => resolved(alloc),
             "reference.normalize" => normal_text(alloc),
-            "normalize" => shown(alloc, self.given.normalize(alloc)),
-            "clone" => shown(alloc, self.whole.clone()),
+            "normalize" => outcome(alloc, self.given.normalize(alloc)),
+            "clone" => outcome(alloc, self.whole.clone()),
             "set_fragment" => with_fragment(alloc, &mut self.set, Some("/properties/name")),
             "set_fragment none" => with_fragment(alloc, &mut self.set, None),
             "readers" => read(alloc, &self.whole),
@@ -54,14 +53,9 @@ impl Calls for Uris {
     }
 }
 
-/// The text of a URI, or of a fault.
-fn shown<E: Refusal + fmt::Display + Drop>(
-    alloc: Global,
-    uri: Result<Uri, E>,
-) -> Result<String, Stop> {
-    match uri {
-        Ok(uri) => after(String::from_str(alloc, uri.as_str())),
-        Err(error) => fault(alloc, &error),
+impl Told for Uri {
+    fn told(&self, alloc: Global) -> Result<String, AllocError> {
+        String::from_str(alloc, self.as_str())
     }
 }
 
@@ -71,12 +65,12 @@ fn reference(text: &str) -> Result<UriRef<'_>, Stop> {
 }
 
 fn meant_against(alloc: Global, base: &str, text: &str) -> Result<String, Stop> {
-    shown(alloc, resolve_against(alloc, reference(base)?, text))
+    outcome(alloc, resolve_against(alloc, reference(base)?, text))
 }
 
 fn resolved(alloc: Global) -> Result<String, Stop> {
     let base = reference("http://a/b/c/d;p?q")?;
-    shown(alloc, reference("g;x=1/../y")?.resolve_against(alloc, base))
+    outcome(alloc, reference("g;x=1/../y")?.resolve_against(alloc, base))
 }
 
 fn normal_text(alloc: Global) -> Result<String, Stop> {

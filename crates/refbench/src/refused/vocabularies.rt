@@ -1,8 +1,8 @@
 //! Calls of vocabularies.
-use crate::refused::stop::{Stop, after, fault, refused};
+use crate::refused::documents::value;
+use crate::refused::stop::{Stop, Told, after, before, fault, outcome, refused};
 use crate::refused::trial::{Calls, Trial, tried};
 use ref_draft::Draft;
-use ref_retrieve::Error;
 use ref_vocabularies::{
     Dialect, Vocabulary, VocabularySet, declared_or_default, default_vocabularies, find,
 };
@@ -33,7 +33,7 @@ pub fn row(alloc: Global, call: &str) -> Result<Trial, Stop> {
         empty: VocabularySet::new(),
         one,
         custom: custom(alloc, CUSTOM)?,
-        meta: Value::from_str(alloc, META)?,
+        meta: value(alloc, META)?,
     };
     tried(
         alloc,
@@ -45,53 +45,46 @@ pub fn row(alloc: Global, call: &str) -> Result<Trial, Stop> {
 }
 
 fn custom(alloc: Global, text: &str) -> Result<Vocabulary, Stop> {
-    Ok(Vocabulary::from_text(alloc, text)?)
+    before(Vocabulary::from_text(alloc, text))
 }
 
 impl Calls for Vocabularies {
     fn answer(&mut self, alloc: Global, call: &str) -> Result<String, Stop> {
         match call {
-            "from_text" => shown(alloc, Vocabulary::from_text(alloc, CUSTOM)),
-            "from_text known" => shown(alloc, Vocabulary::from_text(alloc, CORE)),
-            "from_text invalid" => shown(alloc, Vocabulary::from_text(alloc, "a b")),
-            "vocabulary.clone" => copied(alloc, &self.custom),
-            "vocabulary.clone known" => copied(alloc, &Vocabulary::Core),
+            "from_text" => outcome(alloc, Vocabulary::from_text(alloc, CUSTOM)),
+            "from_text known" => outcome(alloc, Vocabulary::from_text(alloc, CORE)),
+            "from_text invalid" => outcome(alloc, Vocabulary::from_text(alloc, "a b")),
+            "vocabulary.clone" => outcome(alloc, self.custom.clone()),
+            "vocabulary.clone known" => outcome(alloc, Vocabulary::Core.clone()),
             "set.add" => added(alloc, &mut self.empty, CUSTOM, 0),
             "set.add known" => added(alloc, &mut self.one, CORE, 1),
             "set.add again" => added(alloc, &mut self.one, CUSTOM, 1),
             "set.clone" => copied_set(alloc, &self.one),
-            "set.clone known" => shown_set(alloc, default_vocabularies(Draft::Draft7).clone()),
+            "set.clone known" => outcome(alloc, default_vocabularies(Draft::Draft7).clone()),
             "find" => found(alloc, &self.meta),
-            "declared_or_default" => shown_set(alloc, declared_or_default(alloc, Some(&self.meta))),
+            "declared_or_default" => outcome(alloc, declared_or_default(alloc, Some(&self.meta))),
             "dialect" => spoken(alloc),
             _ => Err(Stop::Wrong),
         }
     }
 }
 
-/// The text of a vocabulary, or of a fault.
-fn shown(alloc: Global, named: Result<Vocabulary, Error>) -> Result<String, Stop> {
-    match named {
-        Ok(vocabulary) => after(told(alloc, &vocabulary)),
-        Err(error) => fault(alloc, &error),
-    }
-}
-
 /// The URI of a vocabulary that isn't known, and whether another is `core`.
-fn told(alloc: Global, vocabulary: &Vocabulary) -> Result<String, AllocError> {
-    match vocabulary {
-        Vocabulary::Custom(uri) => String::from_str(alloc, uri.as_str()),
-        _ => {
-            let is_core = matches!(vocabulary, Vocabulary::Core);
-            format!(in alloc; "core {is_core}")
+impl Told for Vocabulary {
+    fn told(&self, alloc: Global) -> Result<String, AllocError> {
+        match self {
+            Vocabulary::Custom(uri) => String::from_str(alloc, uri.as_str()),
+            _ => {
+                let is_core = matches!(self, Vocabulary::Core);
+                format!(in alloc; "core {is_core}")
+            }
         }
     }
 }
 
-fn copied(alloc: Global, vocabulary: &Vocabulary) -> Result<String, Stop> {
-    match vocabulary.clone() {
-        Ok(copy) => after(told(alloc, &copy)),
-        Err(error) => Err(refused(&error, true)),
+impl Told for VocabularySet {
+    fn told(&self, alloc: Global) -> Result<String, AllocError> {
+        format!(in alloc; "{self:?}")
     }
 }
 
@@ -109,7 +102,7 @@ fn has(set: &VocabularySet, count: usize) -> bool {
 
 fn copied_set(alloc: Global, set: &VocabularySet) -> Result<String, Stop> {
     match set.clone() {
-        Ok(copy) => after(format!(in alloc; "{copy:?}")),
+        Ok(copy) => after(copy.told(alloc)),
         Err(error) => Err(refused(&error, has(set, 1))),
     }
 }
@@ -117,22 +110,14 @@ fn copied_set(alloc: Global, set: &VocabularySet) -> Result<String, Stop> {
 fn added(alloc: Global, set: &mut VocabularySet, text: &str, count: usize) -> Result<String, Stop> {
     let vocabulary = custom(alloc, text)?;
     match set.add(alloc, vocabulary) {
-        Ok(()) => after(format!(in alloc; "{set:?}")),
+        Ok(()) => after(set.told(alloc)),
         Err(error) => Err(refused(&error, has(set, count))),
-    }
-}
-
-/// The text of a set.
-pub fn shown_set(alloc: Global, set: Result<VocabularySet, AllocError>) -> Result<String, Stop> {
-    match set {
-        Ok(set) => after(format!(in alloc; "{set:?}")),
-        Err(error) => Err(refused(&error, true)),
     }
 }
 
 fn found(alloc: Global, meta: &Value) -> Result<String, Stop> {
     match find(alloc, meta) {
-        Ok(Some(found)) => shown_set(alloc, Ok(found)),
+        Ok(Some(found)) => after(found.told(alloc)),
         Ok(None) => Err(Stop::Wrong),
         Err(error) => fault(alloc, &error),
     }
@@ -140,7 +125,7 @@ fn found(alloc: Global, meta: &Value) -> Result<String, Stop> {
 
 /// The URI under which the vocabularies of a schema are declared.
 fn spoken(alloc: Global) -> Result<String, Stop> {
-    let schema = Value::from_str(alloc, r#"{"$schema":"http://a/m#"}"#)?;
+    let schema = value(alloc, r#"{"$schema":"http://a/m#"}"#)?;
     match Dialect::of(alloc, Draft::Unknown, &schema) {
         Ok(Dialect::MetaSchema(uri)) => after(String::from_str(alloc, uri.as_str())),
         Ok(_) => Err(Stop::Wrong),

@@ -28,35 +28,75 @@ fn reference_of(alloc: Global, number: usize, size: usize) -> Result<String, All
     format!(in alloc; "../d{next}/k{key}")
 }
 
+/// The URI of a definition with its anchor behind it.
+fn anchor_of(alloc: Global, number: usize) -> Result<String, AllocError> {
+    let (document, key) = (number / DEFINITIONS, number % DEFINITIONS);
+    format!(in alloc; "http://example.com/d{document}/k{key}#a{key}")
+}
+
+/// How many references a kind of look-up has in turn.
+fn count_of(kind: &str, size: usize) -> usize {
+    match kind {
+        "pointer" | "pointer-type" | "pointer-plain" => 1,
+        "anchor" => DEFINITIONS,
+        _ => size.saturating_mul(DEFINITIONS),
+    }
+}
+
+/// The reference of a number.
+fn numbered(alloc: Global, kind: &str, number: usize, size: usize) -> Result<String, AllocError> {
+    match kind {
+        "pointer" => String::from_str(alloc, "#/definitions/k7"),
+        "pointer-type" => String::from_str(alloc, "#/definitions/k7/type"),
+        "pointer-plain" => String::from_str(alloc, "#/definitions"),
+        "anchor" => format!(in alloc; "#a{number}"),
+        "flat-ref" => reference_of(alloc, number, size),
+        "chain-anchor" => anchor_of(alloc, number),
+        _ => definition_of(alloc, number),
+    }
+}
+
 /// What a kind of look-up refers to, one after another.
 fn references_of(alloc: Global, kind: &str, size: usize) -> Result<Vec<String>, AllocError> {
     let mut references = Vec::new(alloc);
-    match kind {
-        "pointer" => references.push(String::from_str(alloc, "#/definitions/k7")?)?,
-        "pointer-type" => references.push(String::from_str(alloc, "#/definitions/k7/type")?)?,
-        "pointer-plain" => references.push(String::from_str(alloc, "#/definitions")?)?,
-        "anchor" => {
-            for key in 0..DEFINITIONS {
-                references.push(format!(in alloc; "#a{key}")?)?;
-            }
-        }
-        "flat-ref" => {
-            for number in 0..size.saturating_mul(DEFINITIONS) {
-                references.push(reference_of(alloc, number, size)?)?;
-            }
-        }
-        _ => {
-            for number in 0..size.saturating_mul(DEFINITIONS) {
-                let mut text = definition_of(alloc, number)?;
-                if kind == "chain-anchor" {
-                    let anchor = format!(in alloc; "#a{}", number % DEFINITIONS)?;
-                    text.push_str(anchor.as_str())?;
-                }
-                references.push(text)?;
-            }
-        }
+    for number in 0..count_of(kind, size) {
+        references.push(numbered(alloc, kind, number, size)?)?;
     }
     Ok(references)
+}
+
+/// How many resolvers a kind of look-up starts from.
+fn starts_in(kind: &str, size: usize) -> usize {
+    match kind {
+        "pointer" | "pointer-type" | "pointer-plain" => size,
+        "anchor" | "flat-ref" => size.saturating_mul(DEFINITIONS),
+        _ => 1,
+    }
+}
+
+/// The base of the resolver of a number.
+fn base_of(alloc: Global, kind: &str, number: usize) -> Result<String, AllocError> {
+    match kind {
+        "anchor" | "flat-ref" => definition_of(alloc, number),
+        _ => format!(in alloc; "http://example.com/d{number}/"),
+    }
+}
+
+/// The resolver at the URI of a text.
+fn resolver_at<'r>(alloc: Global, registry: &'r Registry<'_>, base: &str) -> Option<Resolver<'r>> {
+    let base = from_str(alloc, base).ok()?;
+    registry.resolver(alloc, base).ok()
+}
+
+/// The resolver of a number.
+fn resolver_of<'r>(
+    alloc: Global,
+    registry: &'r Registry<'_>,
+    kind: &str,
+    number: usize,
+) -> Option<Resolver<'r>> {
+    let base = base_of(alloc, kind, number).ok()?;
+    resolver_at(alloc, registry, base.as_str())
 }
 
 /// The resolvers from which a kind of look-up starts, one after another.
@@ -65,22 +105,13 @@ fn resolvers_of<'r>(
     registry: &'r Registry<'_>,
     kind: &str,
     size: usize,
-) -> Result<Vec<Resolver<'r>>, Error> {
-    let count = match kind {
-        "pointer" | "pointer-type" | "pointer-plain" => size,
-        "anchor" | "flat-ref" => size.saturating_mul(DEFINITIONS),
-        _ => 1,
-    };
-    let mut resolvers = Vec::with_capacity(alloc, count)?;
-    for number in 0..count {
-        let base = match kind {
-            "anchor" | "flat-ref" => definition_of(alloc, number)?,
-            _ => format!(in alloc; "http://example.com/d{number}/")?,
-        };
-        let resolver = registry.resolver(alloc, from_str(alloc, base.as_str())?)?;
-        push(&mut resolvers, resolver)?;
+) -> Option<Vec<Resolver<'r>>> {
+    let mut resolvers = Vec::new(alloc);
+    for number in 0..starts_in(kind, size) {
+        let resolver = resolver_of(alloc, registry, kind, number)?;
+        push(&mut resolvers, resolver).ok()?;
     }
-    Ok(resolvers)
+    Some(resolvers)
 }
 
 /// Adds a resolver behind the others.
@@ -172,6 +203,36 @@ fn here(alloc: Global, start: Resolver<'_>, is_lookup: bool, times: u32) -> Resu
     Ok(sum)
 }
 
+/// How many look-ups of a kind are answered, each from the answer of the last.
+fn chained(alloc: Global, start: Resolver<'_>, kind: &str, size: usize, times: u32) -> Option<u64> {
+    let references = references_of(alloc, kind, size).ok()?;
+    in_turn(alloc, start, references.as_slice(), times).ok()
+}
+
+/// How many look-ups are answered that start from resolvers in turn, each with its reference.
+fn spread(
+    alloc: Global,
+    resolvers: &[Resolver<'_>],
+    references: &[String],
+    times: u32,
+) -> Option<u64> {
+    let starts = starts_of(alloc, resolvers, references).ok()?;
+    from_each(alloc, starts.as_slice(), times).ok()
+}
+
+/// How many look-ups of a kind are answered that start from resolvers in turn.
+fn from_resolvers(
+    alloc: Global,
+    registry: &Registry<'_>,
+    kind: &str,
+    size: usize,
+    times: u32,
+) -> Option<u64> {
+    let references = references_of(alloc, kind, size).ok()?;
+    let resolvers = resolvers_of(alloc, registry, kind, size)?;
+    spread(alloc, resolvers.as_slice(), references.as_slice(), times)
+}
+
 /// How many look-ups of a kind are answered in a registry.
 fn looked_up(
     alloc: Global,
@@ -179,23 +240,16 @@ fn looked_up(
     kind: &str,
     size: usize,
     times: u32,
-) -> Result<u64, Error> {
-    let references = references_of(alloc, kind, size)?;
+) -> Option<u64> {
+    if !["chain", "chain-anchor", "chain-ref", "here", "resolved"].contains(&kind) {
+        return from_resolvers(alloc, registry, kind, size, times);
+    }
+    let start = resolver_at(alloc, registry, "http://example.com/d0/k0")?;
     match kind {
-        "chain" | "chain-anchor" | "chain-ref" | "here" | "resolved" => {
-            let start = registry.resolver(alloc, from_str(alloc, "http://example.com/d0/k0")?)?;
-            match kind {
-                "chain-ref" => along_references(alloc, start, times),
-                "here" => here(alloc, start, true, times),
-                "resolved" => here(alloc, start, false, times),
-                _ => in_turn(alloc, start, references.as_slice(), times),
-            }
-        }
-        _ => {
-            let resolvers = resolvers_of(alloc, registry, kind, size)?;
-            let starts = starts_of(alloc, resolvers.as_slice(), references.as_slice())?;
-            from_each(alloc, starts.as_slice(), times)
-        }
+        "chain-ref" => along_references(alloc, start, times).ok(),
+        "here" => here(alloc, start, true, times).ok(),
+        "resolved" => here(alloc, start, false, times).ok(),
+        _ => chained(alloc, start, kind, size, times),
     }
 }
 
@@ -204,30 +258,41 @@ fn node_uri_of(alloc: Global, number: usize) -> Result<String, AllocError> {
     format!(in alloc; "http://example.com/t{number}")
 }
 
+/// A document with a dynamic anchor, under its URI.
+fn node_of(alloc: Global, number: usize) -> Option<(String, Value)> {
+    let uri = node_uri_of(alloc, number).ok()?;
+    let text = format!(in alloc; "{{\"$id\":\"{uri}\",\"$dynamicAnchor\":\"node\"}}").ok()?;
+    let value = Value::from_str(alloc, text.as_str()).ok()?;
+    Some((uri, value))
+}
+
 /// So many documents, each with the same dynamic anchor.
 fn nodes_of(alloc: Global, size: usize) -> Option<Vec<(String, Value)>> {
-    let mut documents = Vec::with_capacity(alloc, size).ok()?;
+    let mut documents = Vec::new(alloc);
     for number in 0..size {
-        let uri = node_uri_of(alloc, number).ok()?;
-        let text = format!(in alloc; "{{\"$id\":\"{uri}\",\"$dynamicAnchor\":\"node\"}}").ok()?;
-        let value = Value::from_str(alloc, text.as_str()).ok()?;
-        documents.push((uri, value)).ok()?;
+        documents.push(node_of(alloc, number)?).ok()?;
     }
     Some(documents)
 }
 
-/// How many times a dynamic anchor is found in a scope of so many URIs that all have it.
-fn dynamically(
-    alloc: Global,
-    registry: &Registry<'_>,
-    size: usize,
-    times: u32,
-) -> Result<u64, Error> {
-    let mut resolver = registry.resolver(alloc, from_str(alloc, "http://example.com/t0")?)?;
+/// The resolver to which the URI of the document of a number leads.
+fn at_node<'r>(alloc: Global, resolver: &Resolver<'r>, number: usize) -> Option<Resolver<'r>> {
+    let uri = node_uri_of(alloc, number).ok()?;
+    let found = resolver.lookup(alloc, uri.as_str()).ok()?;
+    Some(found.into_inner().1)
+}
+
+/// A resolver whose scope has the URIs of so many such documents.
+fn among_nodes<'r>(alloc: Global, registry: &'r Registry<'_>, size: usize) -> Option<Resolver<'r>> {
+    let mut resolver = resolver_at(alloc, registry, "http://example.com/t0")?;
     for number in 0..size {
-        let uri = node_uri_of(alloc, number)?;
-        resolver = resolver.lookup(alloc, uri.as_str())?.into_inner().1;
+        resolver = at_node(alloc, &resolver, number)?;
     }
+    Some(resolver)
+}
+
+/// How many times a dynamic anchor is found in a scope of so many URIs that all have it.
+fn dynamically(alloc: Global, resolver: &Resolver<'_>, times: u32) -> Result<u64, Error> {
     let mut sum: u64 = 0;
     for _ in 0..times {
         resolver.lookup(alloc, "#node")?;
@@ -237,13 +302,13 @@ fn dynamically(
 }
 
 /// How many look-ups of a line are answered in the registry that a builder prepares.
-fn prepared(alloc: Global, builder: RegistryBuilder<'_>, line: Line<'_>) -> Result<u64, Error> {
-    let registry = builder.prepare()?;
+fn prepared(alloc: Global, builder: RegistryBuilder<'_>, line: Line<'_>) -> Option<u64> {
+    let registry = builder.prepare().ok()?;
     if is_dynamic(line.call) {
-        dynamically(alloc, &registry, line.size, line.times)
-    } else {
-        looked_up(alloc, &registry, line.text, line.size, line.times)
+        let resolver = among_nodes(alloc, &registry, line.size)?;
+        return dynamically(alloc, &resolver, line.times).ok();
     }
+    looked_up(alloc, &registry, line.text, line.size, line.times)
 }
 
 /// Whether a dynamic anchor is looked up.
@@ -251,20 +316,33 @@ fn is_dynamic(call: &str) -> bool {
     call.starts_with("dynamic")
 }
 
+/// The documents of a line.
+fn documents_for(alloc: Global, line: Line<'_>) -> Option<Vec<(String, Value)>> {
+    if is_dynamic(line.call) {
+        nodes_of(alloc, line.size)
+    } else {
+        documents_of(alloc, line.size)
+    }
+}
+
+/// How many look-ups of a line are answered in documents that are owned.
+fn owned(alloc: Global, documents: Vec<(String, Value)>, line: Line<'_>) -> Option<u64> {
+    let builder = Registry::new(alloc).draft(Draft::Draft202012);
+    prepared(alloc, builder.extend(documents).ok()?, line)
+}
+
+/// The same in documents that are borrowed.
+fn borrowed(alloc: Global, documents: &[(String, Value)], line: Line<'_>) -> Option<u64> {
+    let documents = lent(alloc, documents).ok()?;
+    let builder = Registry::new(alloc).draft(Draft::Draft202012);
+    prepared(alloc, builder.extend(documents).ok()?, line)
+}
+
 /// How many look-ups of a line are answered; nothing where one is refused.
 pub fn answer(alloc: Global, line: Line<'_>) -> Option<u64> {
-    let documents = if is_dynamic(line.call) {
-        nodes_of(alloc, line.size)?
-    } else {
-        documents_of(alloc, line.size)?
-    };
-    let builder = Registry::new(alloc).draft(Draft::Draft202012);
-    let done = if line.call.ends_with("-owned") {
-        let builder = builder.extend(documents);
-        builder.and_then(|builder| prepared(alloc, builder, line))
-    } else {
-        let builder = builder.extend(lent(alloc, documents.as_slice()).ok()?);
-        builder.and_then(|builder| prepared(alloc, builder, line))
-    };
-    done.ok()
+    let documents = documents_for(alloc, line)?;
+    if line.call.ends_with("-owned") {
+        return owned(alloc, documents, line);
+    }
+    borrowed(alloc, documents.as_slice(), line)
 }

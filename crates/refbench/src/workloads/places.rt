@@ -10,8 +10,9 @@ use serde_json::Value;
 use std::alloc::Global;
 
 /// The registry of documents.
-fn registry_of<'a>(alloc: Global, documents: Vec<(String, Value)>) -> Result<Registry<'a>, Error> {
-    Registry::new(alloc).extend(documents)?.prepare()
+fn registry_of<'a>(alloc: Global, documents: Vec<(String, Value)>) -> Option<Registry<'a>> {
+    let builder = Registry::new(alloc).extend(documents).ok()?;
+    builder.prepare().ok()
 }
 
 /// How many places so many lists have together.
@@ -50,7 +51,7 @@ fn linted(alloc: Global, registry: &Registry<'_>, times: u32) -> Result<u64, Err
 
 /// What so many calls answer together over so many documents; nothing where one is refused.
 pub fn answer(alloc: Global, line: Line<'_>) -> Option<u64> {
-    let registry = registry_of(alloc, documents_of(alloc, line.size)?).ok()?;
+    let registry = registry_of(alloc, documents_of(alloc, line.size)?)?;
     let sum = match line.call {
         "places" => listed(alloc, &registry, line.times),
         "dangling" => linted(alloc, &registry, line.times),
