@@ -3,10 +3,10 @@ use crate::fault::{Fault, done, made};
 use crate::registries::resolver;
 use crate::row;
 use ref_uri::Uri;
-use referencing::{Draft, Registry, Resolver, Step};
+use referencing::{Draft, Place, Registry, Resolver, Step};
 use serde_json::Value;
 use std::alloc::{AllocError, Global};
-use uses::bookmarks::{bookmark_of, opened};
+use uses::bookmarks::{Bookmark, bookmark_of, opened};
 use uses::bundler::referred_documents;
 use uses::dialect::vocabularies_of;
 use uses::editor::value_and_base;
@@ -147,21 +147,37 @@ fn edited(alloc: Global, document: &Value, fragment: &str) -> Result<String, Fau
     made(shown_place(alloc, found, &base))
 }
 
-/// The value, the draft and the base at the bookmark of the place with this number, below the root.
-fn marked(alloc: Global, document: &Value, number: usize) -> Result<String, Error> {
-    let registry = registry_of(alloc, "http://a/r", document)?;
-    let places = registry.places(alloc)?;
-    let mut kept = None;
-    if let (Some(root), Some(place)) = (places.first(), places.get(number)) {
-        kept = bookmark_of(root, place);
-    }
-    let Some(kept) = kept else {
-        return Ok(String::from_str(alloc, "no bookmark")?);
-    };
-    let (found, draft, base) = opened(alloc, &registry, kept)?;
+/// A value, a draft and a base.
+fn shown_mark(
+    alloc: Global,
+    found: &Value,
+    draft: Draft,
+    base: &Uri,
+) -> Result<String, AllocError> {
     let found = found.to_string(alloc)?;
     let base = base.as_str();
-    Ok(format!(in alloc; "{found} {draft:?} {base}")?)
+    format!(in alloc; "{found} {draft:?} {base}")
+}
+
+/// What is found at a bookmark.
+fn at_mark(alloc: Global, registry: &Registry<'_>, kept: Bookmark<'_>) -> Result<String, Fault> {
+    let (found, draft, base) = done(alloc, opened(alloc, registry, kept))?;
+    made(shown_mark(alloc, found, draft, &base))
+}
+
+/// The bookmark of the place with this number, below the first.
+fn mark_of<'p>(places: &'p [Place<'p>], number: usize) -> Option<Bookmark<'p>> {
+    bookmark_of(places.first()?, places.get(number)?)
+}
+
+/// The value, the draft and the base at the bookmark of the place with this number, below the root.
+fn marked(alloc: Global, document: &Value, number: usize) -> Result<String, Fault> {
+    let registry = registry_of(alloc, "http://a/r", document)?;
+    let places = done(alloc, registry.places(alloc))?;
+    match mark_of(places.as_slice(), number) {
+        Some(kept) => at_mark(alloc, &registry, kept),
+        None => made(String::from_str(alloc, "no bookmark")),
+    }
 }
 
 /// What is shown where an empty reference leads from a document, and from there another.
