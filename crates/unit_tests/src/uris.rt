@@ -309,21 +309,16 @@ pub fn references(rt: &impl Abort, row: &Row<'_>) {
     row.same(rt, found, row.text(1));
 }
 
-/// The first six columns of a row: a text, its scheme, authority, path, query and fragment.
-fn wanted_components<'a>(row: &Row<'a>) -> [Option<&'a str>; 6] {
-    [
-        row.optional(0),
-        row.optional(1),
-        row.optional(2),
-        row.optional(3),
-        row.optional(4),
-        row.optional(5),
-    ]
+/// Ends the test where a text, its scheme, authority, path, query and fragment aren't those of the first six columns.
+fn assert_texts(rt: &impl Abort, texts: [Option<&str>; 6], row: &Row<'_>) {
+    for column in 0..6usize {
+        row.same(rt, texts[column], row.optional(column));
+    }
 }
 
 /// Ends the test where a reference has other components than its row.
 fn assert_components(rt: &impl Abort, reference: &UriRef<'_>, row: &Row<'_>) {
-    let found = [
+    let texts = [
         Some(reference.as_str()),
         reference.scheme(),
         reference.authority(),
@@ -331,10 +326,10 @@ fn assert_components(rt: &impl Abort, reference: &UriRef<'_>, row: &Row<'_>) {
         reference.query(),
         reference.fragment(),
     ];
-    let wanted = wanted_components(row);
-    row.same(rt, found, wanted);
-    let has = [reference.has_scheme(), reference.has_fragment()];
-    row.same(rt, has, [wanted[1].is_some(), wanted[5].is_some()]);
+    assert_texts(rt, texts, row);
+    let has = (reference.has_scheme(), reference.has_fragment());
+    let wanted = (row.optional(1).is_some(), row.optional(5).is_some());
+    row.same(rt, has, wanted);
 }
 
 pub fn components(rt: &impl Abort, row: &Row<'_>) -> Result<(), Fail> {
@@ -349,7 +344,7 @@ pub fn components(rt: &impl Abort, row: &Row<'_>) -> Result<(), Fail> {
 
 /// Ends the test where a URI has other components than its row.
 fn assert_uri(rt: &impl Abort, uri: &Uri, row: &Row<'_>) {
-    let found = [
+    let texts = [
         Some(uri.as_str()),
         Some(uri.scheme()),
         uri.authority(),
@@ -357,16 +352,15 @@ fn assert_uri(rt: &impl Abort, uri: &Uri, row: &Row<'_>) {
         uri.query(),
         uri.fragment(),
     ];
-    let wanted = wanted_components(row);
-    row.same(rt, found, wanted);
-    let has = [uri.has_scheme(), uri.has_fragment()];
-    row.same(rt, has, [true, wanted[5].is_some()]);
+    assert_texts(rt, texts, row);
+    let has = (uri.has_scheme(), uri.has_fragment());
+    row.same(rt, has, (true, row.optional(5).is_some()));
 }
 
 /// Ends the test where a URI has other texts than its row, without its fragment or as a reference.
 fn assert_lent(rt: &impl Abort, alloc: Global, uri: &Uri, row: &Row<'_>) -> Result<(), AllocError> {
-    let texts = [uri.strip_fragment().as_str(), uri.borrow().as_str()];
-    row.same(rt, texts, [row.text(6), row.text(0)]);
+    row.same(rt, uri.strip_fragment().as_str(), row.text(6));
+    row.same(rt, uri.borrow().as_str(), row.text(0));
     assert_displayed(rt, alloc, &uri.borrow(), row.text(0))
 }
 
