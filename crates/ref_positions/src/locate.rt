@@ -28,14 +28,10 @@ impl<'a> Places<'a> {
     ///
     /// One pass over the text: it costs a step for each byte, and a look-up for each key and each item of what is asked for or has below it what is
     /// asked for.
-    pub fn locate(
-        &self,
-        alloc: Global,
-        text: &'a str,
-        scratch: &'a mut Scratch,
-    ) -> Result<Located<'a>, AllocError> {
+    pub fn locate<'t>(&self, alloc: Global, text: &'t str) -> Result<Located<'t>, AllocError> {
+        let mut scratch = Scratch::new(alloc);
         let mut walk = Walk::new(alloc, self, text)?;
-        let mut reader = Reader::new(text, scratch)?;
+        let mut reader = Reader::new(text, &mut scratch)?;
         // Each token has a byte at least.
         for _ in 0..=text.len() {
             let offset = reader.offset();
@@ -50,7 +46,7 @@ impl<'a> Places<'a> {
     }
 
     // Leaves out what was found in a member whose key came again behind it.
-    fn leave_last(&self, found: &mut Vec<Found<'a>>) {
+    fn leave_last(&self, found: &mut Vec<Found<'_>>) {
         for number in 1..found.len() {
             let above = self.above.get(number).copied().unwrap_or(0);
             let within = match found.get(above) {

@@ -26,6 +26,13 @@ impl<'a> Position<'a> {
         }
     }
 
+    /// The place at an offset, or the end of the text. It costs a step for each byte before it.
+    pub fn at(text: &'a str, offset: usize) -> Position<'a>
+        ensures text { result.text.now ≡ text.now }
+    {
+        Position::start(text).moved_to(offset)
+    }
+
     /// How many bytes of the text stand before it.
     pub fn offset(&self) -> usize
         ensures value { result ≡ self.now.offset }

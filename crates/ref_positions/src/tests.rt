@@ -1,6 +1,5 @@
 //! Where the values of a text stand.
 use crate::places::{Places, Step};
-use json::Scratch;
 use std::alloc::{AllocError, Global};
 
 fn shown(alloc: Global, text: &str) -> Result<String, AllocError> {
@@ -9,8 +8,7 @@ fn shown(alloc: Global, text: &str) -> Result<String, AllocError> {
     let b = places.below(a, Step::Key("é\"/"))?;
     let item = places.below(b, Step::Index(1))?;
     let gone = places.below(a, Step::Key("gone"))?;
-    let mut scratch = Scratch::new(alloc);
-    let located = places.locate(alloc, text, &mut scratch)?;
+    let located = places.locate(alloc, text)?;
     let mut out = String::new(alloc);
     for place in [0, a, b, item, gone] {
         match located.value(place) {

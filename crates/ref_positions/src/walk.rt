@@ -24,23 +24,23 @@ struct Level {
 }
 
 #[derive(Drop)]
-pub(crate) struct Walk<'p, 'a> {
-    places: &'p Places<'a>,
+pub(crate) struct Walk<'p, 's, 't> {
+    places: &'p Places<'s>,
     // Of each place, by its number.
-    pub(crate) found: Vec<Found<'a>>,
+    pub(crate) found: Vec<Found<'t>>,
     levels: Vec<Level>,
     // The place of the next value, where it isn't an array's item.
     coming: Option<usize>,
     // The last position that was noted.
-    last: Position<'a>,
+    last: Position<'t>,
 }
 
-impl<'p, 'a> Walk<'p, 'a> {
+impl<'p, 's, 't> Walk<'p, 's, 't> {
     pub(crate) fn new(
         alloc: Global,
-        places: &'p Places<'a>,
-        text: &'a str,
-    ) -> Result<Walk<'p, 'a>, AllocError> {
+        places: &'p Places<'s>,
+        text: &'t str,
+    ) -> Result<Walk<'p, 's, 't>, AllocError> {
         let nothing = Found {
             key: None,
             value: None,
@@ -56,12 +56,12 @@ impl<'p, 'a> Walk<'p, 'a> {
         })
     }
 
-    pub(crate) fn into_found(self) -> Vec<Found<'a>> {
+    pub(crate) fn into_found(self) -> Vec<Found<'t>> {
         self.found
     }
 
     // Passes a token that begins at the offset.
-    pub(crate) fn pass(&mut self, token: &Token<'a>, offset: usize) -> Result<(), AllocError> {
+    pub(crate) fn pass(&mut self, token: &Token<'s>, offset: usize) -> Result<(), AllocError> {
         match token {
             Token::Key(key) => self.pass_key(*key, offset),
             Token::EndObject | Token::EndArray => {
@@ -77,7 +77,7 @@ impl<'p, 'a> Walk<'p, 'a> {
         }
     }
 
-    fn pass_key(&mut self, key: &'a str, offset: usize) -> Result<(), AllocError> {
+    fn pass_key(&mut self, key: &'s str, offset: usize) -> Result<(), AllocError> {
         self.coming = self.place_below(Step::Key(key));
         if let Some(number) = self.coming {
             let position = self.position_at(offset);
@@ -95,7 +95,7 @@ impl<'p, 'a> Walk<'p, 'a> {
     }
 
     // The place below the innermost object or array that is open.
-    fn place_below(&self, step: Step<'a>) -> Option<usize> {
+    fn place_below(&self, step: Step<'s>) -> Option<usize> {
         let level = self.levels.last()?;
         let place = level.place?;
         self.places.find(place, step)
@@ -130,7 +130,7 @@ impl<'p, 'a> Walk<'p, 'a> {
         self.found.get(*above)?.start()
     }
 
-    fn position_at(&mut self, offset: usize) -> Position<'a> {
+    fn position_at(&mut self, offset: usize) -> Position<'t> {
         self.last = self.last.moved_to(offset);
         self.last
     }
