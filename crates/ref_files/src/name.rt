@@ -1,6 +1,6 @@
 //! The names of files and folders that a URI's path means.
-ghost use Rattle.std.specs.Prelude.{◌≡◌, IfSome, IsTrue, string_bytes};
-ghost use Rattle.ref_files.specs.Plain.{IsPlain, is_within_name};
+ghost use Rattle.std.specs.Prelude.{◌≡◌, ◌↔◌, IfSome, IsTrue, string_bytes};
+ghost use Rattle.ref_files.specs.Plain.{IsPlain, Lacks};
 
 use percent_encoding::percent_decode_str;
 use std::alloc::{AllocError, Global};
@@ -36,16 +36,16 @@ impl Name {
 fn is_plain(text: &str) -> bool
     ensures value { IsTrue result → IsPlain text.now }
 {
-    !text.is_empty()
-        && text != "."
-        && text != ".."
-        && text.as_bytes().iter().all(|b| is_within_name(*b))
+    if text.is_empty() || text == "." || text == ".." {
+        return false;
+    }
+    lacks(text.as_bytes(), b'/') && lacks(text.as_bytes(), 0)
 }
 
-fn is_within_name(byte: u8) -> bool
-    ensures value { result ≡ is_within_name byte }
+fn lacks(text: &[u8], byte: u8) -> bool
+    ensures value { IsTrue result ↔ Lacks byte text.now }
 {
-    byte != b'/' && byte != 0
+    text.iter().all(|b| *b != byte)
 }
 
 /// The names that a URI's path means, each segment decoded (RFC 3986, 2.1). Nothing where a segment is no [`Name`], as `..` or one with an encoded

@@ -12,5 +12,5 @@ mod tests;
 mod walk;
 
 pub use locate::Located;
-pub use places::{Places, Step};
+pub use places::Places;
 pub use position::Position;

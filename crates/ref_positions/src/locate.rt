@@ -23,7 +23,7 @@ impl<'a> Located<'a> {
     }
 }
 
-impl<'a> Places<'a> {
+impl Places {
     /// Where these places stand in a JSON text. Of a text that is no JSON, those are told that stand before the fault.
     ///
     /// One pass over the text: it costs a step for each byte, and a look-up for each key and each item of what is asked for or has below it what is

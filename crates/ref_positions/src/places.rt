@@ -1,47 +1,68 @@
 //! The paths that are asked for, as a tree in which paths share their beginnings.
-ghost use Rattle.std.specs.Prelude.{◌≡◌, ◌<◌, IfOk, vec_len};
-
 use std::alloc::{AllocError, Global};
 use std::collections::BTreeMap;
 
-/// A step into a value: the key of an object's member, as it reads without escapes, or the index of an array's item.
-#[derive(Clone, Copy, Debug, Drop, PartialEq, Eq, PartialOrd, Ord)]
-pub enum Step<'a> {
-    Key(&'a str),
-    Index(usize),
-}
-
 /// The paths that are asked for. A place has a number, and 0 is the whole value.
 #[derive(Drop)]
-pub struct Places<'a> {
+pub struct Places {
+    alloc: Global,
     // The place that each place is below; that of the whole value is its own.
     pub(crate) above: Vec<usize>,
-    pub(crate) below: BTreeMap<(usize, Step<'a>), usize>,
+    // Of each place, those below it by the keys of an object's members, as they read without escapes.
+    members: Vec<BTreeMap<String, usize>>,
+    // By the number of a place and an index, those below it in an array.
+    items: BTreeMap<(usize, usize), usize>,
 }
 
-impl<'a> Places<'a> {
+impl Places {
     /// The whole value alone.
-    pub fn new(alloc: Global) -> Result<Places<'a>, AllocError> {
-        let mut above = Vec::new(alloc);
-        above.push(0usize)?;
-        Ok(Places {
-            above,
-            below: BTreeMap::new(alloc),
-        })
+    pub fn new(alloc: Global) -> Result<Places, AllocError> {
+        let mut places = Places {
+            alloc,
+            above: Vec::new(alloc),
+            members: Vec::new(alloc),
+            items: BTreeMap::new(alloc),
+        };
+        places.push(0)?;
+        Ok(places)
     }
 
-    /// The number of the place a step below another one. It costs a look-up.
-    pub fn below(&mut self, place: usize, step: Step<'a>) -> Result<usize, AllocError> {
-        if let Some(found) = self.below.get(&(place, step)) {
-            return Ok(*found);
+    /// The number of the member of a place with a key. It costs a look-up, and a copy of the key where the place is new.
+    pub fn member(&mut self, place: usize, key: &str) -> Result<usize, AllocError> {
+        if let Some(number) = self.find_member(place, key) {
+            return Ok(number);
         }
-        let number = self.above.len();
-        self.above.push(place)?;
-        self.below.insert((place, step), number)?;
+        let number = self.push(place)?;
+        let key = String::from_str(self.alloc, key)?;
+        if let Some(members) = self.members.get_mut(place) {
+            members.insert(key, number)?;
+        }
         Ok(number)
     }
 
-    pub(crate) fn find(&self, place: usize, step: Step<'a>) -> Option<usize> {
-        self.below.get(&(place, step)).copied()
+    /// The number of the item of a place with an index. It costs a look-up.
+    pub fn item(&mut self, place: usize, index: usize) -> Result<usize, AllocError> {
+        if let Some(number) = self.find_item(place, index) {
+            return Ok(number);
+        }
+        let number = self.push(place)?;
+        self.items.insert((place, index), number)?;
+        Ok(number)
+    }
+
+    pub(crate) fn find_member(&self, place: usize, key: &str) -> Option<usize> {
+        self.members.get(place)?.get(key).copied()
+    }
+
+    pub(crate) fn find_item(&self, place: usize, index: usize) -> Option<usize> {
+        self.items.get(&(place, index)).copied()
+    }
+
+    // Adds a place below another one.
+    fn push(&mut self, above: usize) -> Result<usize, AllocError> {
+        let number = self.above.len();
+        self.above.push(above)?;
+        self.members.push(BTreeMap::new(self.alloc))?;
+        Ok(number)
     }
 }

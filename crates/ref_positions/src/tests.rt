@@ -1,13 +1,13 @@
 //! Where the values of a text stand.
-use crate::places::{Places, Step};
+use crate::places::Places;
 use std::alloc::{AllocError, Global};
 
 fn shown(alloc: Global, text: &str) -> Result<String, AllocError> {
     let mut places = Places::new(alloc)?;
-    let a = places.below(0, Step::Key("a"))?;
-    let b = places.below(a, Step::Key("é\"/"))?;
-    let item = places.below(b, Step::Index(1))?;
-    let gone = places.below(a, Step::Key("gone"))?;
+    let a = places.member(0, "a")?;
+    let b = places.member(a, "é\"/")?;
+    let item = places.item(b, 1)?;
+    let gone = places.member(a, "gone")?;
     let located = places.locate(alloc, text)?;
     let mut out = String::new(alloc);
     for place in [0, a, b, item, gone] {

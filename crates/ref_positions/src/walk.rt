@@ -1,7 +1,7 @@
 //! The walk over the tokens of a text, which notes where the places stand that are asked for.
 ghost use Rattle.std.specs.Prelude.{◌≡◌, vec_len};
 
-use crate::places::{Places, Step};
+use crate::places::Places;
 use crate::position::Position;
 use json::Token;
 use std::alloc::{AllocError, Global};
@@ -24,8 +24,8 @@ struct Level {
 }
 
 #[derive(Drop)]
-pub(crate) struct Walk<'p, 's, 't> {
-    places: &'p Places<'s>,
+pub(crate) struct Walk<'p, 't> {
+    places: &'p Places,
     // Of each place, by its number.
     pub(crate) found: Vec<Found<'t>>,
     levels: Vec<Level>,
@@ -35,12 +35,12 @@ pub(crate) struct Walk<'p, 's, 't> {
     last: Position<'t>,
 }
 
-impl<'p, 's, 't> Walk<'p, 's, 't> {
+impl<'p, 't> Walk<'p, 't> {
     pub(crate) fn new(
         alloc: Global,
-        places: &'p Places<'s>,
+        places: &'p Places,
         text: &'t str,
-    ) -> Result<Walk<'p, 's, 't>, AllocError> {
+    ) -> Result<Walk<'p, 't>, AllocError> {
         let nothing = Found {
             key: None,
             value: None,
@@ -61,7 +61,7 @@ impl<'p, 's, 't> Walk<'p, 's, 't> {
     }
 
     // Passes a token that begins at the offset.
-    pub(crate) fn pass(&mut self, token: &Token<'s>, offset: usize) -> Result<(), AllocError> {
+    pub(crate) fn pass(&mut self, token: &Token<'_>, offset: usize) -> Result<(), AllocError> {
         match token {
             Token::Key(key) => self.pass_key(*key, offset),
             Token::EndObject | Token::EndArray => {
@@ -77,8 +77,11 @@ impl<'p, 's, 't> Walk<'p, 's, 't> {
         }
     }
 
-    fn pass_key(&mut self, key: &'s str, offset: usize) -> Result<(), AllocError> {
-        self.coming = self.place_below(Step::Key(key));
+    fn pass_key(&mut self, key: &str, offset: usize) -> Result<(), AllocError> {
+        self.coming = match self.innermost() {
+            Some(place) => self.places.find_member(place, key),
+            None => None,
+        };
         if let Some(number) = self.coming {
             let position = self.position_at(offset);
             if let Some(found) = self.found.get_mut(number) {
@@ -94,11 +97,9 @@ impl<'p, 's, 't> Walk<'p, 's, 't> {
         Ok(())
     }
 
-    // The place below the innermost object or array that is open.
-    fn place_below(&self, step: Step<'s>) -> Option<usize> {
-        let level = self.levels.last()?;
-        let place = level.place?;
-        self.places.find(place, step)
+    // The place that the innermost object or array has, where it is open and asked for.
+    fn innermost(&self) -> Option<usize> {
+        self.levels.last()?.place
     }
 
     // The place of the value that comes next.
@@ -110,7 +111,7 @@ impl<'p, 's, 't> Walk<'p, 's, 't> {
             return self.coming.take();
         };
         level.next = Some(index.saturating_add(1));
-        self.place_below(Step::Index(index))
+        self.places.find_item(self.innermost()?, index)
     }
 
     fn pass_value(&mut self, offset: usize) -> Option<usize> {

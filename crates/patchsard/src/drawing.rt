@@ -1,0 +1,203 @@
+//! `patchsard graph`.
+use crate::console::Console;
+use crate::document::{Document, push_source, read_all, sources_of};
+use crate::files::files_of;
+use crate::lint::gathered;
+use crate::options::{reading_of, repeated};
+use crate::stop::Stop;
+use crate::world::{World, bearers, faulty_of, nothing, without_fragment, world_of};
+use clap::ArgMatches;
+use ref_draft::Draft;
+use ref_findings::{Finding, Problem, Source, as_sources, findings};
+use ref_messages::{Edge, Graph, Node, push_dot, push_mermaid};
+use ref_uri::Uri;
+use serde_json::Value;
+use std::alloc::{AllocError, Global};
+use std::collections::BTreeMap;
+
+/// Draws which file refers to which. The status is 0, or 2 where a path couldn't be read.
+pub fn graph(
+    rt: &HostRuntime,
+    console: &mut Console<'_>,
+    given: &ArgMatches<'_>,
+) -> Result<u8, Stop> {
+    let reading = reading_of(rt, given)?;
+    let (files, mut has_failed) = files_of(
+        rt,
+        repeated(given, "paths"),
+        repeated(given, "exclude"),
+    )?;
+    let documents = read_all(rt, &reading, files, &mut has_failed)?;
+    let graph = drawn(rt, given, reading.draft, documents.as_slice())?;
+    if given.get_str("format") == Some("dot") {
+        push_dot(&mut console.out, &graph)?;
+    } else {
+        push_mermaid(&mut console.out, &graph)?;
+    }
+    Ok(if has_failed { 2 } else { 0 })
+}
+
+fn drawn(
+    rt: &HostRuntime,
+    given: &ArgMatches<'_>,
+    draft: Draft,
+    documents: &[Document],
+) -> Result<Graph, Stop> {
+    let alloc = rt.alloc();
+    let own = sources_of(alloc, documents)?;
+    let held = gathered(rt, given, draft, own.as_slice())?;
+    let others = as_sources(alloc, held.as_slice())?;
+    let list = findings(alloc, draft, own.as_slice(), others.as_slice())?;
+    let faulty = faulty_of(alloc, own.len(), list.as_slice())?;
+    let mut all = sources_of(alloc, documents)?;
+    for other in others {
+        push_source(&mut all, other)?;
+    }
+    let empty = nothing(alloc);
+    let world = world_of(rt, draft, all.as_slice(), faulty.as_slice(), &empty)?;
+    let mut drawing = Drawing::new(alloc, documents, all.as_slice(), &world)?;
+    drawing.add_references(&world)?;
+    drawing.add_broken(list.as_slice())?;
+    Ok(drawing.finish()?)
+}
+
+// What is drawn so far.
+#[derive(Drop)]
+struct Drawing {
+    alloc: Global,
+    nodes: Vec<Node>,
+    // The node of each source, by the source's number.
+    numbers: Vec<usize>,
+    // The node of each URI that a document bears.
+    bearers: BTreeMap<String, usize>,
+    // How many references there are between two nodes, and how many of them lead nowhere.
+    edges: BTreeMap<(usize, usize), (usize, usize)>,
+}
+
+impl Drawing {
+    // The documents alone: files by their paths, and what was read from maps by its URI.
+    fn new(
+        alloc: Global,
+        documents: &[Document],
+        sources: &[Source<'_>],
+        world: &World<'_>,
+    ) -> Result<Drawing, Stop> {
+        let mut nodes = Vec::new(alloc);
+        let mut numbers = vec![in alloc; 0usize; sources.len()]?;
+        for (node, number) in world.sources.iter().enumerate() {
+            let name = match documents.get(*number) {
+                Some(document) => document.shown.as_str(),
+                None => sources
+                    .get(*number)
+                    .map_or("", |source| source.uri.as_str()),
+            };
+            push_node(alloc, &mut nodes, name, false)?;
+            if let Some(slot) = numbers.get_mut(*number) {
+                *slot = node;
+            }
+        }
+        Ok(Drawing {
+            alloc,
+            nodes,
+            numbers,
+            bearers: bearers(alloc, world)?,
+            edges: BTreeMap::new(alloc),
+        })
+    }
+
+    // Adds the references of the documents.
+    fn add_references(&mut self, world: &World<'_>) -> Result<(), AllocError> {
+        for place in world.places(self.alloc)? {
+            if place.document >= world.sources.len() {
+                continue;
+            }
+            let value = world
+                .registry
+                .value_at(place.document, place.path.as_slice());
+            if let Some(reference) = reference_of(value) {
+                let uri = world
+                    .registry
+                    .resolve_uri(self.alloc, place.base.borrow(), reference);
+                if let Ok(uri) = uri {
+                    self.add(place.document, &uri)?;
+                }
+            }
+        }
+        Ok(())
+    }
+
+    // Adds a reference from a document to a URI.
+    fn add(&mut self, from: usize, uri: &Uri) -> Result<(), AllocError> {
+        let to = self.node(without_fragment(uri.as_str()))?;
+        let counts = self.edges.entry((from, to))?.or_insert((0, 0));
+        counts.0 = counts.0.saturating_add(1);
+        Ok(())
+    }
+
+    // The node that bears a URI: one that is missing where there is none.
+    fn node(&mut self, uri: &str) -> Result<usize, AllocError> {
+        if let Some(node) = self.bearers.get(uri) {
+            return Ok(*node);
+        }
+        let node = self.nodes.len();
+        let is_missing = Draft::from_schema_uri(uri) == Draft::Unknown;
+        push_node(self.alloc, &mut self.nodes, uri, is_missing)?;
+        self.bearers
+            .insert(String::from_str(self.alloc, uri)?, node)?;
+        Ok(node)
+    }
+
+    // Counts the references that lead nowhere.
+    fn add_broken(&mut self, findings: &[Finding<'_>]) -> Result<(), AllocError> {
+        for finding in findings {
+            match &finding.problem {
+                Problem::MissingDocument { uri } => self.count_broken(finding.source, uri)?,
+                Problem::LeadsNowhere { uri, .. } => self.count_broken(finding.source, uri)?,
+                _ => {}
+            }
+        }
+        Ok(())
+    }
+
+    fn count_broken(&mut self, source: usize, uri: &Uri) -> Result<(), AllocError> {
+        let from = self.numbers.get(source).copied().unwrap_or(0);
+        let to = self.node(uri.as_str())?;
+        if let Some(counts) = self.edges.get_mut(&(from, to)) {
+            counts.1 = counts.1.saturating_add(1);
+        }
+        Ok(())
+    }
+
+    fn finish(self) -> Result<Graph, AllocError> {
+        let mut edges = Vec::new(self.alloc);
+        for ((from, to), (count, broken)) in self.edges {
+            edges.push(Edge {
+                from,
+                to,
+                count,
+                broken,
+            })?;
+        }
+        Ok(Graph {
+            nodes: self.nodes,
+            edges,
+        })
+    }
+}
+
+fn push_node(
+    alloc: Global,
+    nodes: &mut Vec<Node>,
+    name: &str,
+    is_missing: bool,
+) -> Result<(), AllocError> {
+    nodes.push(Node {
+        name: String::from_str(alloc, name)?,
+        is_missing,
+    })?;
+    Ok(())
+}
+
+fn reference_of(value: Option<&Value>) -> Option<&str> {
+    value?.get("$ref")?.as_str()
+}
