@@ -134,7 +134,7 @@ impl<'d, 'v> Describer<'d, 'v> {
             },
             None => "",
         };
-        format!(in self.alloc; "The file is {why}")
+        String::from_str(self.alloc, why)
     }
 
     fn suggestion(&mut self, problem: &Problem<'_>) -> Result<Option<String>, AllocError> {

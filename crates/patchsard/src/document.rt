@@ -2,6 +2,7 @@
 use crate::files::File;
 use crate::options::Reading;
 use crate::stop::Stop;
+use json::{Reader, Scratch, Token};
 use ref_files::{file_uri, uri_below};
 use ref_findings::Source;
 use ref_positions::Position;
@@ -108,7 +109,12 @@ fn utf8(alloc: Global, bytes: Vec<u8>) -> Result<(String, Option<Fault>), AllocE
             let mut bytes = error.into_bytes();
             bytes.truncate(end);
             let text = String::from_utf8_lossy(alloc, bytes.as_slice())?;
-            let fault = fault_at(alloc, text.as_str(), text.len(), "not UTF-8 from here on")?;
+            let fault = fault_at(
+                alloc,
+                text.as_str(),
+                text.len(),
+                "The text is not UTF-8 from here on",
+            )?;
             Ok((text, Some(fault)))
         }
     }
@@ -135,13 +141,41 @@ pub fn parsed(alloc: Global, text: &str) -> Result<Result<Value, Fault>, AllocEr
 // The reader counts bytes on a line, where people count characters.
 fn fault_of(alloc: Global, text: &str, error: &serde_json::Error) -> Result<Fault, AllocError> {
     let said = error.to_string(alloc)?;
-    let why = match said.as_str().rsplit_once(" at line ") {
-        Some(("invalid JSON", _)) => "not JSON from here on",
-        Some((why, _)) => why,
-        None => said.as_str(),
+    let why = if is_deep(alloc, text)? {
+        "The text nests more than 127 levels deep"
+    } else {
+        reason(said.as_str())
     };
     let offset = line_start(text, error.line()).saturating_add(error.column().saturating_sub(1));
     fault_at(alloc, text, offset, why)
+}
+
+// What is wrong, by what the reader says.
+fn reason(said: &str) -> &str {
+    match said.rsplit_once(" at line ") {
+        Some(("EOF while parsing", _)) => "The text ends before its value does",
+        Some(("number out of range", _)) => "The number is out of range",
+        _ => "The text is not JSON from here on",
+    }
+}
+
+// Whether a text nests more than 127 levels deep before anything else is wrong with it.
+fn is_deep(alloc: Global, text: &str) -> Result<bool, AllocError> {
+    let mut scratch = Scratch::new(alloc);
+    let mut reader = Reader::new(text, &mut scratch)?;
+    let mut depth = 0usize;
+    for _ in 0..=text.len() {
+        match reader.next() {
+            Some(Token::BeginObject | Token::BeginArray) => depth = depth.saturating_add(1),
+            Some(Token::EndObject | Token::EndArray) => depth = depth.saturating_sub(1),
+            Some(Token::Bad) | None => return Ok(false),
+            Some(_) => {}
+        }
+        if depth > 127 {
+            return Ok(true);
+        }
+    }
+    Ok(false)
 }
 
 // How many bytes stand before a line, whose number is from 1.

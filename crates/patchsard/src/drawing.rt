@@ -119,7 +119,7 @@ impl Drawing {
                     .registry
                     .resolve_uri(self.alloc, place.base.borrow(), reference);
                 if let Ok(uri) = uri {
-                    self.add(place.document, &uri)?;
+                    self.add(place.document, reference, &uri)?;
                 }
             }
         }
@@ -127,11 +127,19 @@ impl Drawing {
     }
 
     // Adds a reference from a document to a URI.
-    fn add(&mut self, from: usize, uri: &Uri) -> Result<(), AllocError> {
-        let to = self.node(without_fragment(uri.as_str()))?;
+    fn add(&mut self, from: usize, reference: &str, uri: &Uri) -> Result<(), AllocError> {
+        let to = self.target(from, reference, without_fragment(uri.as_str()))?;
         let counts = self.edges.entry((from, to))?.or_insert((0, 0));
         counts.0 = counts.0.saturating_add(1);
         Ok(())
+    }
+
+    // The node that a reference leads into: the document's own where it is a fragment alone.
+    fn target(&mut self, from: usize, reference: &str, uri: &str) -> Result<usize, AllocError> {
+        if reference.starts_with('#') {
+            return Ok(from);
+        }
+        self.node(uri)
     }
 
     // The node that bears a URI: one that is missing where there is none.
@@ -151,17 +159,17 @@ impl Drawing {
     fn add_broken(&mut self, findings: &[Finding<'_>]) -> Result<(), AllocError> {
         for finding in findings {
             match &finding.problem {
-                Problem::MissingDocument { uri } => self.count_broken(finding.source, uri)?,
-                Problem::LeadsNowhere { uri, .. } => self.count_broken(finding.source, uri)?,
+                Problem::MissingDocument { uri } => self.count_broken(finding, uri)?,
+                Problem::LeadsNowhere { uri, .. } => self.count_broken(finding, uri)?,
                 _ => {}
             }
         }
         Ok(())
     }
 
-    fn count_broken(&mut self, source: usize, uri: &Uri) -> Result<(), AllocError> {
-        let from = self.numbers.get(source).copied().unwrap_or(0);
-        let to = self.node(uri.as_str())?;
+    fn count_broken(&mut self, finding: &Finding<'_>, uri: &Uri) -> Result<(), AllocError> {
+        let from = self.numbers.get(finding.source).copied().unwrap_or(0);
+        let to = self.target(from, finding.text.unwrap_or(""), uri.as_str())?;
         if let Some(counts) = self.edges.get_mut(&(from, to)) {
             counts.1 = counts.1.saturating_add(1);
         }

@@ -1,4 +1,6 @@
 //! `patchsard places`.
+ghost use Rattle.std.specs.Prelude.{◌≤◌, length};
+
 use crate::console::Console;
 use crate::document::{Document, read_all, sources_of};
 use crate::files::files_of;

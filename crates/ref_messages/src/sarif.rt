@@ -121,12 +121,13 @@ fn rules_of<'m>(alloc: Global, rules: &[Rule]) -> Result<Vec<Described<'m>>, All
 
 fn push_result(alloc: Global, out: &mut String, message: &Message<'_>) -> Result<(), Error> {
     let text = text_of(alloc, message)?;
+    let said = Text {
+        text: text.as_str(),
+    };
     let found = Found {
         rule_id: message.code,
         level: message.level.name(),
-        message: Text {
-            text: text.as_str(),
-        },
+        message: said,
         locations: one_location(alloc, message.file, message.line, message.column)?,
         related_locations: related(alloc, &message.first)?,
     };
