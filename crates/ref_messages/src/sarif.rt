@@ -19,6 +19,11 @@ struct Text<'m> {
 }
 
 #[derive(Drop, Serialize)]
+struct Said {
+    text: String,
+}
+
+#[derive(Drop, Serialize)]
 #[serde(rename_all = "camelCase")]
 struct Described<'m> {
     id: &'m str,
@@ -64,7 +69,7 @@ struct Location {
 struct Found<'m> {
     rule_id: &'m str,
     level: &'m str,
-    message: Text<'m>,
+    message: Said,
     locations: Vec<Location>,
     #[serde(skip_serializing_if = "Vec::is_empty")]
     related_locations: Vec<Location>,
@@ -120,9 +125,8 @@ fn rules_of<'m>(alloc: Global, rules: &[Rule]) -> Result<Vec<Described<'m>>, All
 }
 
 fn push_result(alloc: Global, out: &mut String, message: &Message<'_>) -> Result<(), Error> {
-    let text = text_of(alloc, message)?;
-    let said = Text {
-        text: text.as_str(),
+    let said = Said {
+        text: text_of(alloc, message)?,
     };
     let found = Found {
         rule_id: message.code,
