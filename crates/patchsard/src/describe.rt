@@ -11,7 +11,7 @@ use std::alloc::{AllocError, Global};
 use std::collections::BTreeMap;
 
 // How many comparisons suggestions may take in all.
-const COMPARISONS: usize = 2_000_000;
+const COMPARISONS: usize = 200_000;
 
 /// What findings are told from.
 #[derive(Drop)]

@@ -1,9 +1,7 @@
 //! `patchsard graph`.
 use crate::console::Console;
-use crate::document::{Document, push_source, read_all, sources_of};
-use crate::files::files_of;
+use crate::document::{Document, push_source, read_given, sources_of};
 use crate::lint::gathered;
-use crate::options::{reading_of, repeated};
 use crate::stop::Stop;
 use crate::world::{World, bearers, faulty_of, nothing, without_fragment, world_of};
 use clap::ArgMatches;
@@ -16,25 +14,19 @@ use std::alloc::{AllocError, Global};
 use std::collections::BTreeMap;
 
 /// Draws which file refers to which. The status is 0, or 2 where a path couldn't be read.
-pub fn graph(
+pub fn draw(
     rt: &HostRuntime,
     console: &mut Console<'_>,
     given: &ArgMatches<'_>,
 ) -> Result<u8, Stop> {
-    let reading = reading_of(rt, given)?;
-    let (files, mut has_failed) = files_of(
-        rt,
-        repeated(given, "paths"),
-        repeated(given, "exclude"),
-    )?;
-    let documents = read_all(rt, &reading, files, &mut has_failed)?;
-    let graph = drawn(rt, given, reading.draft, documents.as_slice())?;
+    let read = read_given(rt, given)?;
+    let graph = drawn(rt, given, read.draft, read.documents.as_slice())?;
     if given.get_str("format") == Some("dot") {
         push_dot(&mut console.out, &graph)?;
     } else {
         push_mermaid(&mut console.out, &graph)?;
     }
-    Ok(if has_failed { 2 } else { 0 })
+    Ok(if read.has_failed { 2 } else { 0 })
 }
 
 fn drawn(

@@ -1,9 +1,8 @@
 //! `patchsard lint`.
 use crate::console::Console;
 use crate::describe::Describer;
-use crate::document::{Document, read_all, sources_of};
-use crate::files::files_of;
-use crate::options::{maps, reading_of, repeated};
+use crate::document::{Document, read_given, sources_of};
+use crate::options::maps;
 use crate::rules::RULES;
 use crate::spots::spots_of;
 use crate::stop::Stop;
@@ -13,6 +12,7 @@ use ref_findings::{Finding, Held, Problem, Source, as_sources, findings, gather}
 use ref_messages::{Level, Message, push_annotation, push_line, push_sarif, push_text};
 use serde_json::Value;
 use std::alloc::{AllocError, Global};
+use std::io;
 use std::time::Instant;
 
 // How many documents are read from maps at most.
@@ -42,25 +42,41 @@ pub fn lint(
     given: &ArgMatches<'_>,
 ) -> Result<u8, Stop> {
     let begin = Instant::now(rt);
-    let reading = reading_of(rt, given)?;
-    let (files, mut has_failed) = files_of(
-        rt,
-        repeated(given, "paths"),
-        repeated(given, "exclude"),
-    )?;
-    let documents = read_all(rt, &reading, files, &mut has_failed)?;
-    let count = tell_all(rt, console, given, reading.draft, documents.as_slice())?;
-    console.finish()?;
-    summary(rt, documents.as_slice(), count)?;
-    if let Ok(begin) = begin {
-        if let Ok(time) = begin.elapsed(rt) {
-            let _ = eprintln!(rt; " in {}.{:02} s", time.as_secs(), time.subsec_millis() / 10);
-        }
+    let read = read_given(rt, given)?;
+    let documents = read.documents.as_slice();
+    let Some(count) = count_of(tell_all(rt, console, given, read.draft, documents))? else {
+        console.out.clear();
+        return Ok(1);
+    };
+    summary(rt, documents, count)?;
+    tell_time(rt, begin);
+    Ok(status_of(count, read.has_failed))
+}
+
+// The count, or nothing where standard output is closed.
+fn count_of(count: Result<Count, Stop>) -> Result<Option<Count>, Stop> {
+    match count {
+        Ok(count) => Ok(Some(count)),
+        Err(Stop::Closed) => Ok(None),
+        Err(stop) => Err(stop),
     }
+}
+
+fn status_of(count: Count, has_failed: bool) -> u8 {
     if has_failed {
-        return Ok(2);
+        return 2;
     }
-    Ok(if count.errors == 0 { 0 } else { 1 })
+    if count.errors == 0 { 0 } else { 1 }
+}
+
+// Ends the last line on standard error with the time since it began.
+fn tell_time(rt: &HostRuntime, begin: io::Result<Instant>) {
+    let Ok(begin) = begin else {
+        return;
+    };
+    if let Ok(time) = begin.elapsed(rt) {
+        let _ = eprintln!(rt; " in {}.{:02} s", time.as_secs(), time.subsec_millis() / 10);
+    }
 }
 
 // Prints the findings of files.
@@ -163,6 +179,7 @@ fn print(
     if form == Form::Sarif {
         push_sarif(alloc, &mut console.out, "0.1.0", RULES, messages.as_slice())?;
     }
+    console.finish()?;
     Ok(count)
 }
 

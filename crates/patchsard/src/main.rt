@@ -63,7 +63,7 @@ fn asked(rt: &HostRuntime, matches: &ArgMatches<'_>) -> Result<u8, Stop> {
         Some(("lint", given)) => lint::lint(rt, &mut console, given)?,
         Some(("resolve", given)) => resolve::resolve(rt, &mut console, given)?,
         Some(("places", given)) => places::places(rt, &mut console, given)?,
-        Some((_, given)) => drawing::graph(rt, &mut console, given)?,
+        Some((_, given)) => drawing::draw(rt, &mut console, given)?,
         None => 2,
     };
     console.finish()?;

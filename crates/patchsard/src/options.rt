@@ -4,6 +4,7 @@ use crate::stop::Stop;
 use clap::ArgMatches;
 use ref_draft::Draft;
 use ref_uri::uri::from_str;
+use std::fs;
 
 /// How files are read.
 #[derive(Drop)]
@@ -64,16 +65,25 @@ pub fn repeated<'m, 'a>(given: &'m ArgMatches<'a>, id: &str) -> &'m [&'a str] {
     given.get_strs(id).unwrap_or(&[])
 }
 
+fn is_folder(rt: &HostRuntime, path: &str) -> bool {
+    match fs::metadata(rt, path) {
+        Ok(data) => data.is_dir(),
+        Err(_) => false,
+    }
+}
+
 /// The folders from which documents are read under URIs that begin so.
 pub fn maps<'r>(rt: &'r HostRuntime, given: &ArgMatches<'_>) -> Result<Maps<'r>, Stop> {
     let mut maps = Maps::new(rt);
     for text in repeated(given, "map") {
         match text.split_once('=') {
-            Some((prefix, folder)) if !prefix.is_empty() && !folder.is_empty() => {
+            Some((prefix, folder)) if !prefix.is_empty() && is_folder(rt, folder) => {
                 maps.push(Map::new(rt.alloc(), prefix, folder)?)?;
             }
             _ => {
-                let _ = eprintln!(rt; "patchsard: --map {text}: not of the form PREFIX=FOLDER");
+                let _ = eprintln!(rt;
+                    "patchsard: --map {text}: not of the form PREFIX=FOLDER with a folder that is there"
+                );
                 return Err(Stop::Told);
             }
         }

@@ -2,9 +2,8 @@
 ghost use Rattle.std.specs.Prelude.{◌≤◌, length};
 
 use crate::console::Console;
-use crate::document::{Document, read_all, sources_of};
-use crate::files::files_of;
-use crate::options::{draft_name, reading_of, repeated};
+use crate::document::{Document, read_given, sources_of};
+use crate::options::draft_name;
 use crate::pointer::{place_of, pointer_of};
 use crate::stop::Stop;
 use crate::world::{World, faulty_of, nothing, world_of};
@@ -23,30 +22,25 @@ pub fn places(
     console: &mut Console<'_>,
     given: &ArgMatches<'_>,
 ) -> Result<u8, Stop> {
+    let read = read_given(rt, given)?;
+    let status = listed(rt, console, read.draft, read.documents.as_slice())?;
+    Ok(if read.has_failed { 2 } else { status })
+}
+
+fn listed(
+    rt: &HostRuntime,
+    console: &mut Console<'_>,
+    draft: Draft,
+    documents: &[Document],
+) -> Result<u8, Stop> {
     let alloc = rt.alloc();
-    let reading = reading_of(rt, given)?;
-    let (files, mut has_failed) = files_of(
-        rt,
-        repeated(given, "paths"),
-        repeated(given, "exclude"),
-    )?;
-    let documents = read_all(rt, &reading, files, &mut has_failed)?;
-    let sources = sources_of(alloc, documents.as_slice())?;
-    let list = findings(alloc, reading.draft, sources.as_slice(), &[])?;
+    let sources = sources_of(alloc, documents)?;
+    let list = findings(alloc, draft, sources.as_slice(), &[])?;
     let faulty = faulty_of(alloc, sources.len(), list.as_slice())?;
     let empty = nothing(alloc);
-    let world = world_of(
-        rt,
-        reading.draft,
-        sources.as_slice(),
-        faulty.as_slice(),
-        &empty,
-    )?;
-    tell_all(alloc, console, documents.as_slice(), &world)?;
-    if has_failed {
-        return Ok(2);
-    }
-    Ok(tell_left_out(rt, documents.as_slice(), faulty.as_slice()))
+    let world = world_of(rt, draft, sources.as_slice(), faulty.as_slice(), &empty)?;
+    tell_all(alloc, console, documents, &world)?;
+    Ok(tell_left_out(rt, documents, faulty.as_slice()))
 }
 
 // Tells which files were left out, and answers the status.

@@ -29,6 +29,7 @@ impl<'a> Position<'a> {
     /// The place at an offset, or the end of the text. It costs a step for each byte before it.
     pub fn at(text: &'a str, offset: usize) -> Position<'a>
         ensures text { result.text.now ≡ text.now }
+        ensures offset { offset ≤ length text.now → result.offset ≡ offset }
     {
         Position::start(text).moved_to(offset)
     }
@@ -79,9 +80,10 @@ impl<'a> Position<'a> {
     /// The place at an offset from here on, or the end of the text. It costs a step for each byte between.
     pub(crate) fn moved_to(self, offset: usize) -> Position<'a>
         ensures text { result.text.now ≡ self.entry.text.now }
+        ensures offset { self.entry.offset ≤ offset → offset ≤ length self.entry.text.now → result.offset ≡ offset }
     {
         let mut place = self;
-        for _ in self.offset..offset {
+        for at in self.offset..offset {
             place = place.after_byte();
         }
         place
