@@ -9,7 +9,7 @@ const DRAWINGS: &[&str] = &["mermaid", "dot"];
 const DRAFTS: &[&str] = &["4", "6", "7", "2019-09", "2020-12"];
 
 /// The whole command line.
-pub fn patchsard(alloc: Global) -> Result<Command<'static>, AllocError> {
+pub fn patchsard<'c>(alloc: Global) -> Result<Command<'c>, AllocError> {
     let directory = Arg::new(alloc, "directory")
         .short('C')
         .long("directory")
@@ -29,7 +29,7 @@ pub fn patchsard(alloc: Global) -> Result<Command<'static>, AllocError> {
         .subcommand(graph(alloc)?)
 }
 
-fn lint(alloc: Global) -> Result<Command<'static>, AllocError> {
+fn lint<'c>(alloc: Global) -> Result<Command<'c>, AllocError> {
     let format = Arg::new(alloc, "format")
         .long("format")
         .value_name("FORMAT")
@@ -49,7 +49,7 @@ fn lint(alloc: Global) -> Result<Command<'static>, AllocError> {
     reading(alloc, command)
 }
 
-fn resolve(alloc: Global) -> Result<Command<'static>, AllocError> {
+fn resolve<'c>(alloc: Global) -> Result<Command<'c>, AllocError> {
     let file = Arg::new(alloc, "file")
         .value_name("FILE")
         .required(true)
@@ -81,7 +81,7 @@ fn resolve(alloc: Global) -> Result<Command<'static>, AllocError> {
     reading(alloc, command)
 }
 
-fn places(alloc: Global) -> Result<Command<'static>, AllocError> {
+fn places<'c>(alloc: Global) -> Result<Command<'c>, AllocError> {
     let command = Command::new(alloc, "places")
         .about(
             "Lists each subschema of schema files: file, line and column, pointer, draft, base URI, identifier and anchors",
@@ -91,7 +91,7 @@ fn places(alloc: Global) -> Result<Command<'static>, AllocError> {
     reading(alloc, command)
 }
 
-fn graph(alloc: Global) -> Result<Command<'static>, AllocError> {
+fn graph<'c>(alloc: Global) -> Result<Command<'c>, AllocError> {
     let format = Arg::new(alloc, "format")
         .long("format")
         .value_name("FORMAT")
@@ -108,7 +108,7 @@ fn graph(alloc: Global) -> Result<Command<'static>, AllocError> {
 }
 
 // The options by which files are read.
-fn reading(alloc: Global, command: Command<'static>) -> Result<Command<'static>, AllocError> {
+fn reading<'c>(alloc: Global, command: Command<'c>) -> Result<Command<'c>, AllocError> {
     let base = Arg::new(alloc, "base")
         .long("base")
         .value_name("URI")
@@ -131,7 +131,7 @@ fn reading(alloc: Global, command: Command<'static>) -> Result<Command<'static>,
     command.arg(base)?.arg(draft)?.arg(map)
 }
 
-fn paths(alloc: Global) -> Arg<'static> {
+fn paths<'c>(alloc: Global) -> Arg<'c> {
     Arg::new(alloc, "paths")
         .value_name("PATH")
         .required(true)
@@ -142,7 +142,7 @@ fn paths(alloc: Global) -> Arg<'static> {
         )
 }
 
-fn exclude(alloc: Global) -> Arg<'static> {
+fn exclude<'c>(alloc: Global) -> Arg<'c> {
     Arg::new(alloc, "exclude")
         .long("exclude")
         .value_name("PATH")
@@ -150,7 +150,7 @@ fn exclude(alloc: Global) -> Arg<'static> {
         .help("Leave out this file, or what is below this folder; may be repeated")
 }
 
-fn verbose(alloc: Global) -> Arg<'static> {
+fn verbose<'c>(alloc: Global) -> Arg<'c> {
     Arg::new(alloc, "verbose")
         .short('v')
         .long("verbose")

@@ -1,9 +1,9 @@
 //! Findings as messages.
-use crate::document::Document;
+use crate::given::Given;
 use crate::rules::code_of;
 use crate::spots::{Spots, first_of};
 use crate::suggestions::suggestion;
-use ref_findings::{Bearer, Finding, Problem, Source};
+use ref_findings::{Bearer, Finding, Problem};
 use ref_messages::{Level, Message, Other, Suggester};
 use ref_retrieve::Error;
 use ref_uri::Uri;
@@ -15,35 +15,31 @@ const COMPARISONS: usize = 200_000;
 
 /// What findings are told from.
 #[derive(Drop)]
-pub struct Describer<'d, 'v> {
+pub struct Describer<'d> {
     alloc: Global,
-    documents: &'d [Document],
-    held: &'d [Source<'v>],
+    given: &'d Given,
     spots: Spots<'d>,
-    // The numbers of the files and, behind them, of what was retrieved, by their URIs.
+    // The numbers of the documents by their URIs.
     numbers: BTreeMap<&'d str, usize>,
     suggester: Suggester,
 }
 
-impl<'d, 'v> Describer<'d, 'v> {
+impl<'d> Describer<'d> {
     /// What findings in these files are told from.
     pub fn new(
         alloc: Global,
-        documents: &'d [Document],
-        held: &'d [Source<'v>],
+        given: &'d Given,
         spots: Spots<'d>,
-    ) -> Result<Describer<'d, 'v>, AllocError> {
+    ) -> Result<Describer<'d>, AllocError> {
         let mut numbers = BTreeMap::new(alloc);
-        for (number, document) in documents.iter().enumerate() {
-            numbers.insert(document.uri.as_str(), number)?;
-        }
-        for (number, source) in held.iter().enumerate() {
-            numbers.insert(source.uri.as_str(), documents.len().saturating_add(number))?;
+        for number in 0..given.len() {
+            if let Some(uri) = given.uri(number) {
+                numbers.insert(uri.as_str(), number)?;
+            }
         }
         Ok(Describer {
             alloc,
-            documents,
-            held,
+            given,
             spots,
             numbers,
             suggester: Suggester::new(COMPARISONS),
@@ -51,21 +47,14 @@ impl<'d, 'v> Describer<'d, 'v> {
     }
 
     /// The message on the finding with a number.
-    pub fn message<'m>(
+    pub fn message(
         &mut self,
         number: usize,
-        finding: &Finding<'m>,
-    ) -> Result<Message<'m>, AllocError>
-    where
-        'd: 'm,
-    {
+        finding: &Finding<'d>,
+    ) -> Result<Message<'d>, AllocError> {
         let (line, column) = self.place(number, finding);
-        let file = match self.documents.get(finding.source) {
-            Some(document) => document.shown.as_str(),
-            None => "",
-        };
         Ok(Message {
-            file,
+            file: self.given.name(finding.source),
             line,
             column,
             level: level_of(&finding.problem),
@@ -92,7 +81,7 @@ impl<'d, 'v> Describer<'d, 'v> {
 
     // Where the text of a file stops to be JSON.
     fn fault(&self, finding: &Finding<'_>) -> Option<(usize, usize)> {
-        match &self.documents.get(finding.source)?.value {
+        match &self.given.documents.get(finding.source)?.value {
             Ok(_) => None,
             Err(fault) => Some((fault.line, fault.column)),
         }
@@ -127,7 +116,7 @@ impl<'d, 'v> Describer<'d, 'v> {
     }
 
     fn not_json(&self, source: usize) -> Result<String, AllocError> {
-        let why = match self.documents.get(source) {
+        let why = match self.given.documents.get(source) {
             Some(document) => match &document.value {
                 Ok(_) => "",
                 Err(fault) => fault.text.as_str(),
@@ -148,13 +137,7 @@ impl<'d, 'v> Describer<'d, 'v> {
         let Some(number) = self.numbers.get(uri.as_str()).copied() else {
             return Ok(None);
         };
-        let root = match self.documents.get(number) {
-            Some(document) => document.value(),
-            None => match self.held.get(number.saturating_sub(self.documents.len())) {
-                Some(source) => source.value,
-                None => None,
-            },
-        };
+        let root = self.given.value(number);
         match root {
             Some(root) => suggestion(self.alloc, &mut self.suggester, root, error),
             None => Ok(None),
@@ -173,19 +156,8 @@ impl<'d, 'v> Describer<'d, 'v> {
             Some(position) => (position.line(), position.column()),
             None => (0, 0),
         };
-        let file = String::from_str(self.alloc, self.file_name(bearer.source))?;
+        let file = String::from_str(self.alloc, self.given.name(bearer.source))?;
         Ok(Other { file, line, column })
-    }
-
-    // The path of a file, or the URI of what was retrieved.
-    fn file_name(&self, source: usize) -> &str {
-        if let Some(document) = self.documents.get(source) {
-            return document.shown.as_str();
-        }
-        match self.held.get(source.saturating_sub(self.documents.len())) {
-            Some(source) => source.uri.as_str(),
-            None => "",
-        }
     }
 }
 

@@ -1,12 +1,9 @@
 //! The files that were read.
-use crate::files::{File, files_of};
-use crate::options::{Reading, reading_of, repeated};
+use crate::files::File;
+use crate::options::Reading;
 use crate::stop::Stop;
-use clap::ArgMatches;
 use json::{Reader, Scratch, Token};
-use ref_draft::Draft;
 use ref_files::{file_uri, uri_below};
-use ref_findings::Source;
 use ref_positions::Position;
 use ref_uri::Uri;
 use ref_uri::uri::from_str;
@@ -43,33 +40,6 @@ impl Document {
             Err(_) => None,
         }
     }
-}
-
-/// What a command line asks to be read.
-#[derive(Drop)]
-pub struct Given {
-    /// The files that were read, in byte order of their paths.
-    pub documents: Vec<Document>,
-    /// The draft of files that name none.
-    pub draft: Draft,
-    /// Whether a path couldn't be read, which was told.
-    pub has_failed: bool,
-}
-
-/// Reads what a command line asks for.
-pub fn read_given(rt: &HostRuntime, given: &ArgMatches<'_>) -> Result<Given, Stop> {
-    let reading = reading_of(rt, given)?;
-    let (files, mut has_failed) = files_of(
-        rt,
-        repeated(given, "paths"),
-        repeated(given, "exclude"),
-    )?;
-    let documents = read_all(rt, &reading, files, &mut has_failed)?;
-    Ok(Given {
-        documents,
-        draft: reading.draft,
-        has_failed,
-    })
 }
 
 /// Reads files. Of one that can't be read it is told why, and the flag is set.
@@ -221,27 +191,4 @@ fn line_start(text: &str, line: usize) -> usize {
         }
     }
     start
-}
-
-/// The files as sources of findings.
-pub fn sources_of<'v>(
-    alloc: Global,
-    documents: &'v [Document],
-) -> Result<Vec<Source<'v>>, AllocError> {
-    let mut sources = Vec::new(alloc);
-    for document in documents {
-        let uri = document.uri.clone()?;
-        let value = document.value();
-        push_source(&mut sources, Source { uri, value })?;
-    }
-    Ok(sources)
-}
-
-/// Adds a source.
-pub fn push_source<'v>(
-    sources: &mut Vec<Source<'v>>,
-    source: Source<'v>,
-) -> Result<(), AllocError> {
-    sources.push(source)?;
-    Ok(())
 }

@@ -1,12 +1,11 @@
 //! `patchsard graph`.
 use crate::console::Console;
-use crate::document::{Document, push_source, read_given, sources_of};
-use crate::lint::gathered;
+use crate::given::{Given, read_given};
 use crate::stop::Stop;
-use crate::world::{World, bearers, faulty_of, nothing, without_fragment, world_of};
+use crate::world::{World, bearers, faulty_of, without_fragment, world_of};
 use clap::ArgMatches;
 use ref_draft::Draft;
-use ref_findings::{Finding, Problem, Source, as_sources, findings};
+use ref_findings::{Finding, Problem};
 use ref_messages::{Edge, Graph, Node, push_dot, push_mermaid};
 use ref_uri::Uri;
 use serde_json::Value;
@@ -20,7 +19,7 @@ pub fn draw(
     given: &ArgMatches<'_>,
 ) -> Result<u8, Stop> {
     let read = read_given(rt, given)?;
-    let graph = drawn(rt, given, read.draft, read.documents.as_slice())?;
+    let graph = drawn(rt, &read)?;
     if given.get_str("format") == Some("dot") {
         push_dot(&mut console.out, &graph)?;
     } else {
@@ -29,25 +28,12 @@ pub fn draw(
     Ok(if read.has_failed { 2 } else { 0 })
 }
 
-fn drawn(
-    rt: &HostRuntime,
-    given: &ArgMatches<'_>,
-    draft: Draft,
-    documents: &[Document],
-) -> Result<Graph, Stop> {
+fn drawn(rt: &HostRuntime, given: &Given) -> Result<Graph, Stop> {
     let alloc = rt.alloc();
-    let own = sources_of(alloc, documents)?;
-    let held = gathered(rt, given, draft, own.as_slice())?;
-    let others = as_sources(alloc, held.as_slice())?;
-    let list = findings(alloc, draft, own.as_slice(), others.as_slice())?;
-    let faulty = faulty_of(alloc, own.len(), list.as_slice())?;
-    let mut all = sources_of(alloc, documents)?;
-    for other in others {
-        push_source(&mut all, other)?;
-    }
-    let empty = nothing(alloc);
-    let world = world_of(rt, draft, all.as_slice(), faulty.as_slice(), &empty)?;
-    let mut drawing = Drawing::new(alloc, documents, all.as_slice(), &world)?;
+    let list = given.findings(alloc)?;
+    let faulty = faulty_of(alloc, given.len(), list.as_slice())?;
+    let world = world_of(rt, given, faulty.as_slice())?;
+    let mut drawing = Drawing::new(alloc, given, &world)?;
     drawing.add_references(&world)?;
     drawing.add_broken(list.as_slice())?;
     Ok(drawing.finish()?)
@@ -68,21 +54,11 @@ struct Drawing {
 
 impl Drawing {
     // The documents alone: files by their paths, and what was read from maps by its URI.
-    fn new(
-        alloc: Global,
-        documents: &[Document],
-        sources: &[Source<'_>],
-        world: &World<'_>,
-    ) -> Result<Drawing, Stop> {
+    fn new(alloc: Global, given: &Given, world: &World<'_>) -> Result<Drawing, Stop> {
         let mut nodes = Vec::new(alloc);
-        let mut numbers = vec![in alloc; 0usize; sources.len()]?;
+        let mut numbers = vec![in alloc; 0usize; given.len()]?;
         for (node, number) in world.sources.iter().enumerate() {
-            let name = match documents.get(*number) {
-                Some(document) => document.shown.as_str(),
-                None => sources
-                    .get(*number)
-                    .map_or("", |source| source.uri.as_str()),
-            };
+            let name = given.name(*number);
             push_node(alloc, &mut nodes, name, false)?;
             if let Some(slot) = numbers.get_mut(*number) {
                 *slot = node;

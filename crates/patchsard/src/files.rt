@@ -1,5 +1,5 @@
 //! The files that paths name, and those below folders.
-use crate::stop::Stop;
+use clap::ArgMatches;
 use std::alloc::{AllocError, Global};
 use std::collections::BTreeMap;
 use std::fs;
@@ -37,21 +37,23 @@ pub struct Listing<'r> {
 }
 
 impl<'r> Listing<'r> {
-    /// No files, and what is to be left out. A path that isn't there leaves out nothing.
-    pub fn new(rt: &'r HostRuntime, excluded: &[&str]) -> Result<Listing<'r>, AllocError> {
-        let mut listing = Listing {
+    /// No files.
+    pub fn new(rt: &'r HostRuntime) -> Listing<'r> {
+        Listing {
             rt,
             files: BTreeMap::new(rt.alloc()),
             folders: Vec::new(rt.alloc()),
             excluded: Vec::new(rt.alloc()),
             has_failed: false,
-        };
-        for path in excluded {
-            if let Ok(real) = fs::canonicalize(rt, *path) {
-                listing.excluded.push(real.into_string())?;
-            }
         }
-        Ok(listing)
+    }
+
+    /// Leaves out the file at a path, or the files below a folder. A path that isn't there leaves out nothing.
+    pub fn exclude(&mut self, path: &str) -> Result<(), AllocError> {
+        if let Ok(real) = fs::canonicalize(self.rt, path) {
+            self.excluded.push(real.into_string())?;
+        }
+        Ok(())
     }
 
     /// Adds the file at a path, or the files below a folder.
@@ -200,18 +202,19 @@ impl<'r> Listing<'r> {
     }
 }
 
-/// The files that paths name, in byte order, and whether one couldn't be read.
-pub fn files_of(
-    rt: &HostRuntime,
-    paths: &[&str],
-    excluded: &[&str],
-) -> Result<(Vec<File>, bool), Stop> {
-    let mut listing = Listing::new(rt, excluded)?;
-    for path in paths {
-        listing.add(*path)?;
+/// Adds to a listing what a command line names.
+pub fn list_given(listing: &mut Listing<'_>, given: &ArgMatches<'_>) -> Result<(), AllocError> {
+    if let Some(paths) = given.get_strs("exclude") {
+        for path in paths {
+            listing.exclude(*path)?;
+        }
     }
-    let has_failed = listing.has_failed;
-    Ok((listing.into_files()?, has_failed))
+    if let Some(paths) = given.get_strs("paths") {
+        for path in paths {
+            listing.add(*path)?;
+        }
+    }
+    Ok(())
 }
 
 fn without_slash(path: &str) -> &str {

@@ -1,22 +1,18 @@
 //! `patchsard lint`.
 use crate::console::Console;
 use crate::describe::Describer;
-use crate::document::{Document, read_given, sources_of};
-use crate::options::maps;
+use crate::document::Document;
+use crate::given::{Given, read_given};
 use crate::rules::RULES;
 use crate::spots::spots_of;
 use crate::stop::Stop;
 use clap::ArgMatches;
-use ref_draft::Draft;
-use ref_findings::{Finding, Held, Problem, Source, as_sources, findings, gather};
+use ref_findings::{Finding, Problem};
 use ref_messages::{Level, Message, push_annotation, push_line, push_sarif, push_text};
 use serde_json::Value;
 use std::alloc::{AllocError, Global};
 use std::io;
 use std::time::Instant;
-
-// How many documents are read from maps at most.
-const MOST_HELD: usize = 10_000;
 
 // How findings are printed.
 #[derive(Clone, Copy, Drop, PartialEq, Eq)]
@@ -43,12 +39,13 @@ pub fn lint(
 ) -> Result<u8, Stop> {
     let begin = Instant::now(rt);
     let read = read_given(rt, given)?;
-    let documents = read.documents.as_slice();
-    let Some(count) = count_of(tell_all(rt, console, given, read.draft, documents))? else {
+    let is_verbose = given.get_flag("verbose");
+    let told = tell_all(rt.alloc(), console, form_of(given), is_verbose, &read);
+    let Some(count) = count_of(told)? else {
         console.out.clear();
         return Ok(1);
     };
-    summary(rt, documents, count)?;
+    summary(rt, read.documents.as_slice(), count)?;
     tell_time(rt, begin);
     Ok(status_of(count, read.has_failed))
 }
@@ -81,53 +78,30 @@ fn tell_time(rt: &HostRuntime, begin: io::Result<Instant>) {
 
 // Prints the findings of files.
 fn tell_all(
-    rt: &HostRuntime,
+    alloc: Global,
     console: &mut Console<'_>,
-    given: &ArgMatches<'_>,
-    draft: Draft,
-    documents: &[Document],
+    form: Form,
+    is_verbose: bool,
+    given: &Given,
 ) -> Result<Count, Stop> {
-    let alloc = rt.alloc();
-    let sources = sources_of(alloc, documents)?;
-    let held = gathered(rt, given, draft, sources.as_slice())?;
-    let others = as_sources(alloc, held.as_slice())?;
-    let list = findings(alloc, draft, sources.as_slice(), others.as_slice())?;
-    let spots = spots_of(alloc, documents, list.as_slice())?;
-    let mut describer = Describer::new(alloc, documents, others.as_slice(), spots)?;
-    let order = order_of(
-        alloc,
-        &describer,
-        list.as_slice(),
-        given.get_flag("verbose"),
-    )?;
+    let list = given.findings(alloc)?;
+    let spots = spots_of(alloc, given.documents.as_slice(), list.as_slice())?;
+    let mut describer = Describer::new(alloc, given, spots)?;
+    let order = order_of(alloc, &describer, list.as_slice(), is_verbose)?;
     print(
         alloc,
         console,
-        form_of(given),
+        form,
         &mut describer,
         list.as_slice(),
         order.as_slice(),
     )
 }
 
-/// The documents that sources want and that stand in maps.
-pub fn gathered(
-    rt: &HostRuntime,
-    given: &ArgMatches<'_>,
-    draft: Draft,
-    sources: &[Source<'_>],
-) -> Result<Vec<Held>, Stop> {
-    let maps = maps(rt, given)?;
-    if maps.is_empty() {
-        return Ok(Vec::new(rt.alloc()));
-    }
-    Ok(gather(rt.alloc(), draft, sources, &maps, MOST_HELD)?)
-}
-
 // The numbers of the findings that are told, by file, line and column.
 fn order_of(
     alloc: Global,
-    describer: &Describer<'_, '_>,
+    describer: &Describer<'_>,
     list: &[Finding<'_>],
     is_verbose: bool,
 ) -> Result<Vec<(usize, usize, usize, usize)>, AllocError> {
@@ -151,12 +125,12 @@ fn form_of(given: &ArgMatches<'_>) -> Form {
     }
 }
 
-fn print(
+fn print<'d>(
     alloc: Global,
     console: &mut Console<'_>,
     form: Form,
-    describer: &mut Describer<'_, '_>,
-    list: &[Finding<'_>],
+    describer: &mut Describer<'d>,
+    list: &[Finding<'d>],
     order: &[(usize, usize, usize, usize)],
 ) -> Result<Count, Stop> {
     let mut count = Count {

@@ -8,6 +8,7 @@ mod describe;
 mod document;
 mod drawing;
 mod files;
+mod given;
 mod lint;
 mod maps;
 mod options;

@@ -60,11 +60,6 @@ pub fn draft_name(draft: Draft) -> &'static str {
     }
 }
 
-/// The texts of an option that may be repeated.
-pub fn repeated<'m, 'a>(given: &'m ArgMatches<'a>, id: &str) -> &'m [&'a str] {
-    given.get_strs(id).unwrap_or(&[])
-}
-
 fn is_folder(rt: &HostRuntime, path: &str) -> bool {
     match fs::metadata(rt, path) {
         Ok(data) => data.is_dir(),
@@ -75,7 +70,10 @@ fn is_folder(rt: &HostRuntime, path: &str) -> bool {
 /// The folders from which documents are read under URIs that begin so.
 pub fn maps<'r>(rt: &'r HostRuntime, given: &ArgMatches<'_>) -> Result<Maps<'r>, Stop> {
     let mut maps = Maps::new(rt);
-    for text in repeated(given, "map") {
+    let Some(texts) = given.get_strs("map") else {
+        return Ok(maps);
+    };
+    for text in texts {
         match text.split_once('=') {
             Some((prefix, folder)) if !prefix.is_empty() && is_folder(rt, folder) => {
                 maps.push(Map::new(rt.alloc(), prefix, folder)?)?;

@@ -2,14 +2,14 @@
 ghost use Rattle.std.specs.Prelude.{◌≤◌, length};
 
 use crate::console::Console;
-use crate::document::{Document, read_given, sources_of};
+use crate::document::Document;
+use crate::given::{Given, read_given};
 use crate::options::draft_name;
 use crate::pointer::{place_of, pointer_of};
 use crate::stop::Stop;
-use crate::world::{World, faulty_of, nothing, world_of};
+use crate::world::{World, faulty_of, world_of};
 use clap::ArgMatches;
 use ref_draft::Draft;
-use ref_findings::findings;
 use ref_index::Place;
 use ref_positions::{Places, Position};
 use serde_json::Value;
@@ -23,22 +23,16 @@ pub fn places(
     given: &ArgMatches<'_>,
 ) -> Result<u8, Stop> {
     let read = read_given(rt, given)?;
-    let status = listed(rt, console, read.draft, read.documents.as_slice())?;
+    let status = listed(rt, console, &read)?;
     Ok(if read.has_failed { 2 } else { status })
 }
 
-fn listed(
-    rt: &HostRuntime,
-    console: &mut Console<'_>,
-    draft: Draft,
-    documents: &[Document],
-) -> Result<u8, Stop> {
+fn listed(rt: &HostRuntime, console: &mut Console<'_>, given: &Given) -> Result<u8, Stop> {
     let alloc = rt.alloc();
-    let sources = sources_of(alloc, documents)?;
-    let list = findings(alloc, draft, sources.as_slice(), &[])?;
-    let faulty = faulty_of(alloc, sources.len(), list.as_slice())?;
-    let empty = nothing(alloc);
-    let world = world_of(rt, draft, sources.as_slice(), faulty.as_slice(), &empty)?;
+    let list = given.findings(alloc)?;
+    let faulty = faulty_of(alloc, given.len(), list.as_slice())?;
+    let world = world_of(rt, given, faulty.as_slice())?;
+    let documents = given.documents.as_slice();
     tell_all(alloc, console, documents, &world)?;
     Ok(tell_left_out(rt, documents, faulty.as_slice()))
 }

@@ -1,18 +1,17 @@
 //! `patchsard resolve`.
 use crate::console::Console;
-use crate::document::{Document, push, push_source, read_all, sources_of};
-use crate::files::files_of;
-use crate::lint::gathered;
-use crate::options::{Reading, draft_name, reading_of, repeated};
+use crate::document::Document;
+use crate::given::{Given, read_file};
 use crate::pointer::path_to;
 use crate::shown::push_found;
 use crate::stop::Stop;
-use crate::world::{World, bearers, faulty_of, nothing, without_fragment, world_of};
+use crate::world::{World, bearers, faulty_of, without_fragment, world_of};
 use clap::ArgMatches;
-use ref_findings::{as_sources, findings};
 use ref_retrieve::Error;
+use ref_uri::Uri;
 use referencing::Resolved;
 use std::alloc::{AllocError, Global};
+use std::rc::Rc;
 
 /// Follows a reference from a place of a file. The status is 0 where it leads somewhere, 1 where it leads nowhere, and 2 where a path couldn't be
 /// read.
@@ -21,58 +20,31 @@ pub fn resolve(
     console: &mut Console<'_>,
     given: &ArgMatches<'_>,
 ) -> Result<u8, Stop> {
-    let reading = reading_of(rt, given)?;
-    let documents = read_given(rt, &reading, given)?;
-    let alloc = rt.alloc();
-    let own = sources_of(alloc, documents.as_slice())?;
-    let held = gathered(rt, given, reading.draft, own.as_slice())?;
-    let others = as_sources(alloc, held.as_slice())?;
-    let list = findings(alloc, reading.draft, own.as_slice(), others.as_slice())?;
-    let faulty = faulty_of(alloc, own.len(), list.as_slice())?;
-    let mut all = sources_of(alloc, documents.as_slice())?;
-    for other in others {
-        push_source(&mut all, other)?;
+    let read = read_file(rt, given)?;
+    if read.has_failed {
+        return Ok(2);
     }
-    let empty = nothing(alloc);
-    let world = world_of(rt, reading.draft, all.as_slice(), faulty.as_slice(), &empty)?;
-    follow(rt, console, given, documents.as_slice(), &world)
-}
-
-// The file that the reference stands in, and behind it those that it may lead into.
-fn read_given(
-    rt: &HostRuntime,
-    reading: &Reading<'_>,
-    given: &ArgMatches<'_>,
-) -> Result<Vec<Document>, Stop> {
-    let mut has_failed = false;
-    let file = given.get_str("file").unwrap_or("");
-    let (files, is_missing) = files_of(rt, &[file], &[])?;
-    let mut documents = read_all(rt, reading, files, &mut has_failed)?;
-    let (others, others_missing) = files_of(rt, repeated(given, "with"), &[])?;
-    for document in read_all(rt, reading, others, &mut has_failed)? {
-        push(&mut documents, document)?;
-    }
-    if has_failed || is_missing || others_missing {
-        return Err(Stop::Told);
-    }
-    Ok(documents)
+    follow(rt, console, given, &read)
 }
 
 fn follow(
     rt: &HostRuntime,
     console: &mut Console<'_>,
     given: &ArgMatches<'_>,
-    documents: &[Document],
-    world: &World<'_>,
+    read: &Given,
 ) -> Result<u8, Stop> {
+    let alloc = rt.alloc();
+    let list = read.findings(alloc)?;
+    let faulty = faulty_of(alloc, read.len(), list.as_slice())?;
+    let world = world_of(rt, read, faulty.as_slice())?;
     let reference = given.get_str("reference").unwrap_or("");
     let from = given.get_str("from").unwrap_or("");
-    let Some(document) = documents.first() else {
-        return Err(Stop::Told);
+    let Some(document) = read.documents.first() else {
+        return Ok(2);
     };
-    match found(rt.alloc(), document, world, from, reference) {
+    match followed(alloc, document, &world, from, reference) {
         Ok(Some(found)) => {
-            push_found(rt.alloc(), &mut console.out, documents, world, found)?;
+            push_found(alloc, &mut console.out, read, &world, found)?;
             Ok(0)
         }
         Ok(None) => {
@@ -90,26 +62,35 @@ fn follow(
     }
 }
 
+/// What a reference leads to.
+#[derive(Drop)]
+pub struct Found<'w> {
+    /// The value, with its draft, its base URI and the dynamic scope.
+    pub resolved: Resolved<'w>,
+    /// The URI that the reference means.
+    pub uri: Rc<Uri>,
+}
+
 // What a reference leads to from a place of a document, or nothing where it leads into a document that isn't there.
-fn found<'w>(
+fn followed<'w>(
     alloc: Global,
     document: &Document,
     world: &'w World<'_>,
     from: &str,
     reference: &str,
-) -> Result<Option<Resolved<'w>>, Error> {
+) -> Result<Option<Found<'w>>, Error> {
     let path = path_to(alloc, document.value(), from)?;
     let place = world
         .registry
         .locate(alloc, &document.uri, path.as_slice())?;
-    let (_, resolver, _) = place.into_inner();
-    let uri = world
-        .registry
-        .resolve_uri(alloc, resolver.base_uri().borrow(), reference)?;
+    let base = place.resolver().base_uri();
+    let uri = world.registry.resolve_uri(alloc, base.borrow(), reference)?;
     if !is_there(alloc, world, uri.as_str())? {
         return Ok(None);
     }
-    Ok(Some(resolver.lookup(alloc, reference)?))
+    let own = (**base).clone()?;
+    let resolved = world.registry.lookup(alloc, own, reference)?;
+    Ok(Some(Found { resolved, uri }))
 }
 
 // Whether a document that is there bears a URI.

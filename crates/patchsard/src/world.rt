@@ -1,10 +1,10 @@
 //! The registry of the files, for what goes on from one document to the next.
+use crate::given::Given;
 use crate::stop::Stop;
-use ref_draft::Draft;
-use ref_findings::{Finding, Problem, Source};
+use ref_findings::{Finding, Problem};
 use ref_retrieve::{Error, Retrieve, RetrieveError};
 use ref_uri::Uri;
-use referencing::Registry;
+use referencing::{Registry, RegistryBuilder};
 use serde_json::{Map, Value};
 use std::alloc::{AllocError, Global};
 use std::collections::BTreeMap;
@@ -21,13 +21,8 @@ impl Retrieve for StandIns {
     ghost may_refuse = { λ _ _ _. ⊤ };
 
     fn retrieve(&self, alloc: Global, _uri: &Uri) -> Result<Value, RetrieveError> {
-        Ok(nothing(alloc))
+        Ok(Value::Object(Map::new(alloc)))
     }
-}
-
-/// An empty document.
-pub fn nothing(alloc: Global) -> Value {
-    Value::Object(Map::new(alloc))
 }
 
 /// The documents of files, and of what was read from maps.
@@ -39,16 +34,14 @@ pub struct World<'d> {
     pub sources: Vec<usize>,
 }
 
-/// The registry of sources. One that is no JSON or has a text that means no URI stands as an empty document; of those under one URI the first
-/// is taken. Refuses with a text on standard error.
+/// The registry of what was read. A document that is no JSON or has a text that means no URI stands as an empty one; of those under one URI the
+/// first is taken. Refuses with a text on standard error.
 pub fn world_of<'d>(
     rt: &HostRuntime,
-    draft: Draft,
-    sources: &'d [Source<'d>],
+    given: &'d Given,
     faulty: &[bool],
-    empty: &'d Value,
 ) -> Result<World<'d>, Stop> {
-    match prepared(rt.alloc(), draft, sources, faulty, empty) {
+    match prepared(rt.alloc(), given, faulty) {
         Ok(world) => Ok(world),
         Err(Error::Memory(_)) => Err(Stop::Memory),
         Err(error) => {
@@ -58,44 +51,41 @@ pub fn world_of<'d>(
     }
 }
 
-fn prepared<'d>(
+fn prepared<'d>(alloc: Global, given: &'d Given, faulty: &[bool]) -> Result<World<'d>, Error> {
+    let sources = first_of_each(alloc, given)?;
+    let builder = filled(alloc, given, faulty, sources.as_slice())?;
+    let registry = builder.retriever(StandIns).prepare()?;
+    Ok(World { registry, sources })
+}
+
+fn filled<'d>(
     alloc: Global,
-    draft: Draft,
-    sources: &'d [Source<'d>],
+    given: &'d Given,
     faulty: &[bool],
-    empty: &'d Value,
-) -> Result<World<'d>, Error> {
-    let numbers = first_of_each(alloc, sources)?;
+    numbers: &[usize],
+) -> Result<RegistryBuilder<'d>, Error> {
     let mut builder = Registry::new(alloc)
-        .draft(draft)
+        .draft(given.draft)
         .retrieval_limit(usize::MAX);
-    for number in &numbers {
-        if let Some(source) = sources.get(*number) {
-            let value = sound_value(source, faulty.get(*number).copied(), empty);
-            builder = builder.add(source.uri.as_str(), value)?;
+    for number in numbers {
+        if let Some(uri) = given.uri(*number) {
+            let is_faulty = faulty.get(*number).copied().unwrap_or(false);
+            let value = given.sound_value(*number, is_faulty);
+            builder = builder.add(uri.as_str(), value)?;
         }
     }
-    let registry = builder.retriever(StandIns).prepare()?;
-    Ok(World {
-        registry,
-        sources: numbers,
-    })
+    Ok(builder)
 }
 
-fn sound_value<'d>(source: &Source<'d>, is_faulty: Option<bool>, empty: &'d Value) -> &'d Value {
-    match source.value {
-        Some(value) if is_faulty != Some(true) => value,
-        _ => empty,
-    }
-}
-
-// The numbers of the first sources under each URI.
-fn first_of_each(alloc: Global, sources: &[Source<'_>]) -> Result<Vec<usize>, AllocError> {
+// The numbers of the first documents under each URI.
+fn first_of_each(alloc: Global, given: &Given) -> Result<Vec<usize>, AllocError> {
     let mut seen = BTreeMap::new(alloc);
     let mut numbers = Vec::new(alloc);
-    for (number, source) in sources.iter().enumerate() {
-        if seen.insert(source.uri.as_str(), ())?.is_none() {
-            numbers.push(number)?;
+    for number in 0..given.len() {
+        if let Some(uri) = given.uri(number) {
+            if seen.insert(uri.as_str(), ())?.is_none() {
+                numbers.push(number)?;
+            }
         }
     }
     Ok(numbers)
