@@ -1,0 +1,194 @@
+//! Findings as messages.
+use crate::given::Given;
+use crate::rules::code_of;
+use crate::spots::{Spots, first_of};
+use crate::suggestions::suggestion;
+use ref_findings::{Bearer, Finding, Problem};
+use ref_messages::{Level, Message, Other, Suggester};
+use ref_retrieve::Error;
+use ref_uri::Uri;
+use std::alloc::{AllocError, Global};
+use std::collections::BTreeMap;
+
+// How many comparisons suggestions may take in all.
+const COMPARISONS: usize = 200_000;
+
+/// What findings are told from.
+#[derive(Drop)]
+pub struct Describer<'d> {
+    alloc: Global,
+    given: &'d Given,
+    spots: Spots<'d>,
+    // The numbers of the documents by their URIs.
+    numbers: BTreeMap<&'d str, usize>,
+    suggester: Suggester,
+}
+
+impl<'d> Describer<'d> {
+    /// What findings in these files are told from.
+    pub fn new(
+        alloc: Global,
+        given: &'d Given,
+        spots: Spots<'d>,
+    ) -> Result<Describer<'d>, AllocError> {
+        let mut numbers = BTreeMap::new(alloc);
+        for number in 0..given.len() {
+            if let Some(uri) = given.uri(number) {
+                numbers.insert(uri.as_str(), number)?;
+            }
+        }
+        Ok(Describer {
+            alloc,
+            given,
+            spots,
+            numbers,
+            suggester: Suggester::new(COMPARISONS),
+        })
+    }
+
+    /// The message on the finding with a number.
+    pub fn message(
+        &mut self,
+        number: usize,
+        finding: &Finding<'d>,
+    ) -> Result<Message<'d>, AllocError> {
+        let (line, column) = self.place(number, finding);
+        Ok(Message {
+            file: self.given.name(finding.source),
+            line,
+            column,
+            level: level_of(&finding.problem),
+            code: code_of(&finding.problem),
+            text: self.text(finding)?,
+            keyword: finding.keyword,
+            reference: finding.text,
+            resolved: resolved(self.alloc, finding)?,
+            suggestion: self.suggestion(&finding.problem)?,
+            first: self.first(number, &finding.problem)?,
+        })
+    }
+
+    /// The line and the column of the finding with a number.
+    pub fn place(&self, number: usize, finding: &Finding<'_>) -> (usize, usize) {
+        if let Some(fault) = self.fault(finding) {
+            return fault;
+        }
+        match self.spots.own(number, finding) {
+            Some(position) => (position.line(), position.column()),
+            None => (1, 1),
+        }
+    }
+
+    // Where the text of a file stops to be JSON.
+    fn fault(&self, finding: &Finding<'_>) -> Option<(usize, usize)> {
+        match &self.given.documents.get(finding.source)?.value {
+            Ok(_) => None,
+            Err(fault) => Some((fault.line, fault.column)),
+        }
+    }
+
+    fn text(&self, finding: &Finding<'_>) -> Result<String, AllocError> {
+        let alloc = self.alloc;
+        match &finding.problem {
+            Problem::NotJson => self.not_json(finding.source),
+            Problem::InvalidUri(error) => error.to_string(alloc),
+            Problem::LeadsNowhere { error, .. } => error.to_string(alloc),
+            Problem::MissingDocument { uri } => {
+                format!(in alloc; "Document '{}' is not among the given files", uri.as_str())
+            }
+            Problem::Unchecked { uri } => {
+                format!(in alloc;
+                    "Meta-schema '{}' is not among the given files: the fragment is not checked",
+                    uri.as_str()
+                )
+            }
+            Problem::UnknownDialect { uri } => {
+                format!(in alloc;
+                    "Meta-schema '{}' is not among the given files: read as Draft 2020-12",
+                    uri.as_str()
+                )
+            }
+            Problem::DuplicateIdentifier { uri, .. } => {
+                format!(in alloc; "Another place stands under the URI '{}'", uri.as_str())
+            }
+            Problem::DuplicateAnchor { uri, .. } => anchor_text(alloc, uri, finding.text),
+        }
+    }
+
+    fn not_json(&self, source: usize) -> Result<String, AllocError> {
+        let why = match self.given.documents.get(source) {
+            Some(document) => match &document.value {
+                Ok(_) => "",
+                Err(fault) => fault.text.as_str(),
+            },
+            None => "",
+        };
+        String::from_str(self.alloc, why)
+    }
+
+    fn suggestion(&mut self, problem: &Problem<'_>) -> Result<Option<String>, AllocError> {
+        let Problem::LeadsNowhere { uri, error } = problem else {
+            return Ok(None);
+        };
+        self.suggestion_in(uri, error)
+    }
+
+    fn suggestion_in(&mut self, uri: &Uri, error: &Error) -> Result<Option<String>, AllocError> {
+        let Some(number) = self.numbers.get(uri.as_str()).copied() else {
+            return Ok(None);
+        };
+        let root = self.given.value(number);
+        match root {
+            Some(root) => suggestion(self.alloc, &mut self.suggester, root, error),
+            None => Ok(None),
+        }
+    }
+
+    fn first(&self, number: usize, problem: &Problem<'_>) -> Result<Option<Other>, AllocError> {
+        match first_of(problem) {
+            Some(bearer) => Ok(Some(self.other(number, bearer)?)),
+            None => Ok(None),
+        }
+    }
+
+    fn other(&self, number: usize, bearer: &Bearer<'_>) -> Result<Other, AllocError> {
+        let (line, column) = match self.spots.first(number, bearer) {
+            Some(position) => (position.line(), position.column()),
+            None => (0, 0),
+        };
+        let file = String::from_str(self.alloc, self.given.name(bearer.source))?;
+        Ok(Other { file, line, column })
+    }
+}
+
+fn level_of(problem: &Problem<'_>) -> Level {
+    if problem.is_note() {
+        Level::Note
+    } else {
+        Level::Error
+    }
+}
+
+fn anchor_text(alloc: Global, uri: &Uri, name: Option<&str>) -> Result<String, AllocError> {
+    let name = name.unwrap_or("").trim_start_matches('#');
+    format!(in alloc;
+        "Another place under '{}' has the anchor '{name}'",
+        uri.as_str()
+    )
+}
+
+// What the text under a keyword was resolved to, where that is told by nothing else.
+fn resolved(alloc: Global, finding: &Finding<'_>) -> Result<Option<String>, AllocError> {
+    let uri = match &finding.problem {
+        Problem::MissingDocument { uri } => uri,
+        Problem::LeadsNowhere { uri, .. } => uri,
+        Problem::Unchecked { uri } => uri,
+        _ => return Ok(None),
+    };
+    let mut text = String::from_str(alloc, uri.as_str())?;
+    if let Some((_, fragment)) = finding.text.unwrap_or("").split_once('#') {
+        text.push('#')?;
+        text.push_str(fragment)?;
+    }
+    Ok(Some(text))
+}

@@ -1,0 +1,194 @@
+//! The files that were read.
+use crate::files::File;
+use crate::options::Reading;
+use crate::stop::Stop;
+use json::{Reader, Scratch, Token};
+use ref_files::{file_uri, uri_below};
+use ref_positions::Position;
+use ref_uri::Uri;
+use ref_uri::uri::from_str;
+use serde_json::Value;
+use std::alloc::{AllocError, Global};
+use std::fs;
+
+/// Why a text is no JSON, and where.
+#[derive(Drop)]
+pub struct Fault {
+    pub text: String,
+    pub line: usize,
+    pub column: usize,
+}
+
+/// A file that was read.
+#[derive(Drop)]
+pub struct Document {
+    /// Its path as it is shown.
+    pub shown: String,
+    /// The URI that it stands under.
+    pub uri: Uri,
+    /// Its text, or what of it is UTF-8.
+    pub text: String,
+    /// Its value, or why there is none.
+    pub value: Result<Value, Fault>,
+}
+
+impl Document {
+    /// Its value.
+    pub fn value(&self) -> Option<&Value> {
+        match &self.value {
+            Ok(value) => Some(value),
+            Err(_) => None,
+        }
+    }
+}
+
+/// Reads files. Of one that can't be read it is told why, and the flag is set.
+pub fn read_all(
+    rt: &HostRuntime,
+    reading: &Reading<'_>,
+    files: Vec<File>,
+    has_failed: &mut bool,
+) -> Result<Vec<Document>, Stop> {
+    let mut documents = Vec::new(rt.alloc());
+    for file in files {
+        match read(rt, reading, file)? {
+            Some(document) => push(&mut documents, document)?,
+            None => *has_failed = true,
+        }
+    }
+    Ok(documents)
+}
+
+/// Adds a document.
+pub fn push(documents: &mut Vec<Document>, document: Document) -> Result<(), AllocError> {
+    documents.push(document)?;
+    Ok(())
+}
+
+fn read(rt: &HostRuntime, reading: &Reading<'_>, file: File) -> Result<Option<Document>, Stop> {
+    let alloc = rt.alloc();
+    let bytes = match fs::read(rt, file.path.as_str()) {
+        Ok(bytes) => bytes,
+        Err(error) => {
+            let _ = eprintln!(rt; "patchsard: {}: {error}", file.shown);
+            return Ok(None);
+        }
+    };
+    let text = match reading.base {
+        Some(base) => uri_below(alloc, base, file.below.as_str())?,
+        None => file_uri(alloc, file.path.as_str())?,
+    };
+    let Ok(uri) = from_str(alloc, text.as_str()) else {
+        let _ = eprintln!(rt; "patchsard: {}: no URI can be made of its path", file.shown);
+        return Ok(None);
+    };
+    Ok(Some(made(alloc, file.shown, uri, bytes)?))
+}
+
+fn made(alloc: Global, shown: String, uri: Uri, bytes: Vec<u8>) -> Result<Document, AllocError> {
+    let (text, fault) = utf8(alloc, bytes)?;
+    let value = match fault {
+        Some(fault) => Err(fault),
+        None => parsed(alloc, text.as_str())?,
+    };
+    Ok(Document {
+        shown,
+        uri,
+        text,
+        value,
+    })
+}
+
+// The bytes as text, or what of them is UTF-8 and where that ends.
+fn utf8(alloc: Global, bytes: Vec<u8>) -> Result<(String, Option<Fault>), AllocError> {
+    match String::from_utf8(bytes) {
+        Ok(text) => Ok((text, None)),
+        Err(error) => {
+            let end = error.utf8_error().valid_up_to();
+            let mut bytes = error.into_bytes();
+            bytes.truncate(end);
+            let text = String::from_utf8_lossy(alloc, bytes.as_slice())?;
+            let fault = fault_at(
+                alloc,
+                text.as_str(),
+                text.len(),
+                "The text is not UTF-8 from here on",
+            )?;
+            Ok((text, Some(fault)))
+        }
+    }
+}
+
+fn fault_at(alloc: Global, text: &str, offset: usize, why: &str) -> Result<Fault, AllocError> {
+    let position = Position::at(text, offset);
+    Ok(Fault {
+        text: String::from_str(alloc, why)?,
+        line: position.line(),
+        column: position.column(),
+    })
+}
+
+/// The value of a text, or why it is no JSON.
+pub fn parsed(alloc: Global, text: &str) -> Result<Result<Value, Fault>, AllocError> {
+    match Value::from_str(alloc, text) {
+        Ok(value) => Ok(Ok(value)),
+        Err(error) if error.is_memory() => Err(AllocError),
+        Err(error) => Ok(Err(fault_of(alloc, text, &error)?)),
+    }
+}
+
+// The reader counts bytes on a line, where people count characters.
+fn fault_of(alloc: Global, text: &str, error: &serde_json::Error) -> Result<Fault, AllocError> {
+    let said = error.to_string(alloc)?;
+    let why = if is_deep(alloc, text)? {
+        "The text nests more than 127 levels deep"
+    } else {
+        reason(said.as_str())
+    };
+    let offset = line_start(text, error.line()).saturating_add(error.column().saturating_sub(1));
+    fault_at(alloc, text, offset, why)
+}
+
+// What is wrong, by what the reader says.
+fn reason(said: &str) -> &str {
+    match said.rsplit_once(" at line ") {
+        Some(("EOF while parsing", _)) => "The text ends before its value does",
+        Some(("number out of range", _)) => "The number is out of range",
+        _ => "The text is not JSON from here on",
+    }
+}
+
+// Whether a text nests more than 127 levels deep before anything else is wrong with it.
+fn is_deep(alloc: Global, text: &str) -> Result<bool, AllocError> {
+    let mut scratch = Scratch::new(alloc);
+    let mut reader = Reader::new(text, &mut scratch)?;
+    let mut depth = 0usize;
+    for _ in 0..=text.len() {
+        match reader.next() {
+            Some(Token::BeginObject | Token::BeginArray) => depth = depth.saturating_add(1),
+            Some(Token::EndObject | Token::EndArray) => depth = depth.saturating_sub(1),
+            Some(Token::Bad) | None => return Ok(false),
+            Some(_) => {}
+        }
+        if depth > 127 {
+            return Ok(true);
+        }
+    }
+    Ok(false)
+}
+
+// How many bytes stand before a line, whose number is from 1.
+fn line_start(text: &str, line: usize) -> usize {
+    let mut left = line;
+    let mut start = 0;
+    for i in 0..text.len() {
+        if left <= 1 {
+            break;
+        }
+        if text.as_bytes()[i] == b'\n' {
+            left -= 1;
+            start = i + 1;
+        }
+    }
+    start
+}

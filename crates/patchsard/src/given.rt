@@ -1,0 +1,159 @@
+//! What a command line asks to be read.
+use crate::document::{Document, push, read_all};
+use crate::files::{Listing, list_given};
+use crate::maps::Maps;
+use crate::options::{maps, reading_of};
+use crate::stop::Stop;
+use clap::ArgMatches;
+use ref_draft::Draft;
+use ref_findings::{Finding, Held, Source, as_sources, findings, gather};
+use ref_uri::Uri;
+use serde_json::{Map, Value};
+use std::alloc::{AllocError, Global};
+
+// How many documents are read from maps at most.
+const MOST_HELD: usize = 10_000;
+
+/// What was read for a command line.
+#[derive(Drop)]
+pub struct Given {
+    /// The files, in byte order of their paths.
+    pub documents: Vec<Document>,
+    /// What was read from maps.
+    pub held: Vec<Held>,
+    /// The draft of files that name none.
+    pub draft: Draft,
+    /// Whether a path couldn't be read, which was told.
+    pub has_failed: bool,
+    // What stands for a document with a fault of its own.
+    empty: Value,
+}
+
+/// Reads the paths of a command line.
+pub fn read_given(rt: &HostRuntime, given: &ArgMatches<'_>) -> Result<Given, Stop> {
+    let reading = reading_of(rt, given)?;
+    let mut listing = Listing::new(rt);
+    list_given(&mut listing, given)?;
+    let mut has_failed = listing.has_failed;
+    let documents = read_all(rt, &reading, listing.into_files()?, &mut has_failed)?;
+    with_held(rt, given, reading.draft, documents, has_failed)
+}
+
+/// Reads the file that a reference stands in, and behind it those that it may lead into.
+pub fn read_file(rt: &HostRuntime, given: &ArgMatches<'_>) -> Result<Given, Stop> {
+    let reading = reading_of(rt, given)?;
+    let mut has_failed = false;
+    let mut listing = Listing::new(rt);
+    listing.add(given.get_str("file").unwrap_or(""))?;
+    has_failed |= listing.has_failed;
+    let mut documents = read_all(rt, &reading, listing.into_files()?, &mut has_failed)?;
+    let mut others = Listing::new(rt);
+    if let Some(paths) = given.get_strs("with") {
+        for path in paths {
+            others.add(*path)?;
+        }
+    }
+    has_failed |= others.has_failed;
+    for document in read_all(rt, &reading, others.into_files()?, &mut has_failed)? {
+        push(&mut documents, document)?;
+    }
+    with_held(rt, given, reading.draft, documents, has_failed)
+}
+
+// Reads what files want from maps.
+fn with_held(
+    rt: &HostRuntime,
+    given: &ArgMatches<'_>,
+    draft: Draft,
+    documents: Vec<Document>,
+    has_failed: bool,
+) -> Result<Given, Stop> {
+    let maps = maps(rt, given)?;
+    let held = gathered(rt.alloc(), &maps, draft, documents.as_slice())?;
+    Ok(Given {
+        documents,
+        held,
+        draft,
+        has_failed,
+        empty: Value::Object(Map::new(rt.alloc())),
+    })
+}
+
+fn gathered(
+    alloc: Global,
+    maps: &Maps<'_>,
+    draft: Draft,
+    documents: &[Document],
+) -> Result<Vec<Held>, AllocError> {
+    if maps.is_empty() {
+        return Ok(Vec::new(alloc));
+    }
+    let sources = sources_of(alloc, documents)?;
+    gather(alloc, draft, sources.as_slice(), maps, MOST_HELD)
+}
+
+fn sources_of<'d>(alloc: Global, documents: &'d [Document]) -> Result<Vec<Source<'d>>, AllocError> {
+    let mut sources = Vec::new(alloc);
+    for document in documents {
+        let uri = document.uri.clone()?;
+        let value = document.value();
+        sources.push(Source { uri, value })?;
+    }
+    Ok(sources)
+}
+
+impl Given {
+    /// What is wrong with the files.
+    pub fn findings<'d>(&'d self, alloc: Global) -> Result<Vec<Finding<'d>>, AllocError> {
+        let own = sources_of(alloc, self.documents.as_slice())?;
+        let others = as_sources(alloc, self.held.as_slice())?;
+        findings(alloc, self.draft, own.as_slice(), others.as_slice())
+    }
+
+    /// How many documents there are: files, and behind them what was read from maps.
+    pub fn len(&self) -> usize {
+        self.documents.len().saturating_add(self.held.len())
+    }
+
+    fn held(&self, number: usize) -> Option<&Held> {
+        self.held.get(number.checked_sub(self.documents.len())?)
+    }
+
+    /// The URI of the document with a number.
+    pub fn uri(&self, number: usize) -> Option<&Uri> {
+        match self.documents.get(number) {
+            Some(document) => Some(&document.uri),
+            None => Some(&self.held(number)?.uri),
+        }
+    }
+
+    /// The value of the document with a number.
+    pub fn value(&self, number: usize) -> Option<&Value> {
+        match self.documents.get(number) {
+            Some(document) => document.value(),
+            None => Some(&self.held(number)?.value),
+        }
+    }
+
+    /// The value of the document with a number, or an empty one where it has a fault.
+    pub fn sound_value(&self, number: usize, is_faulty: bool) -> &Value {
+        if is_faulty {
+            return &self.empty;
+        }
+        match self.value(number) {
+            Some(value) => value,
+            None => &self.empty,
+        }
+    }
+
+    /// The path of the file with a number as it is shown, or the URI of what was read from a map.
+    pub fn name(&self, number: usize) -> &str {
+        if let Some(document) = self.documents.get(number) {
+            return document.shown.as_str();
+        }
+        match self.held(number) {
+            Some(held) => held.uri.as_str(),
+            None => "",
+        }
+    }
+}

@@ -1,0 +1,229 @@
+//! `patchsard lint`.
+use crate::console::Console;
+use crate::describe::Describer;
+use crate::document::Document;
+use crate::given::{Given, read_given};
+use crate::rules::RULES;
+use crate::spots::spots_of;
+use crate::stop::Stop;
+use clap::ArgMatches;
+use ref_findings::{Finding, Problem};
+use ref_messages::{Level, Message, push_annotation, push_line, push_sarif, push_text};
+use serde_json::Value;
+use std::alloc::{AllocError, Global};
+use std::io;
+use std::time::Instant;
+
+// How findings are printed.
+#[derive(Clone, Copy, Drop, PartialEq, Eq)]
+enum Form {
+    Text,
+    Lines,
+    Sarif,
+    GitHub,
+}
+
+// How many findings of each kind there are.
+#[derive(Clone, Copy, Drop)]
+struct Count {
+    errors: usize,
+    notes: usize,
+}
+
+/// Lists what is wrong with the references of files. The status is 0 where nothing is, 1 where something is, and 2 where a path
+/// couldn't be read.
+pub fn lint(
+    rt: &HostRuntime,
+    console: &mut Console<'_>,
+    given: &ArgMatches<'_>,
+) -> Result<u8, Stop> {
+    let begin = Instant::now(rt);
+    let read = read_given(rt, given)?;
+    let is_verbose = given.get_flag("verbose");
+    let told = tell_all(rt.alloc(), console, form_of(given), is_verbose, &read);
+    let Some(count) = count_of(told)? else {
+        console.out.clear();
+        return Ok(1);
+    };
+    summary(rt, read.documents.as_slice(), count)?;
+    tell_time(rt, begin);
+    Ok(status_of(count, read.has_failed))
+}
+
+// The count, or nothing where standard output is closed.
+fn count_of(count: Result<Count, Stop>) -> Result<Option<Count>, Stop> {
+    match count {
+        Ok(count) => Ok(Some(count)),
+        Err(Stop::Closed) => Ok(None),
+        Err(stop) => Err(stop),
+    }
+}
+
+fn status_of(count: Count, has_failed: bool) -> u8 {
+    if has_failed {
+        return 2;
+    }
+    if count.errors == 0 { 0 } else { 1 }
+}
+
+// Ends the last line on standard error with the time since it began.
+fn tell_time(rt: &HostRuntime, begin: io::Result<Instant>) {
+    let Ok(begin) = begin else {
+        return;
+    };
+    if let Ok(time) = begin.elapsed(rt) {
+        let _ = eprintln!(rt; " in {}.{:02} s", time.as_secs(), time.subsec_millis() / 10);
+    }
+}
+
+// Prints the findings of files.
+fn tell_all(
+    alloc: Global,
+    console: &mut Console<'_>,
+    form: Form,
+    is_verbose: bool,
+    given: &Given,
+) -> Result<Count, Stop> {
+    let list = given.findings(alloc)?;
+    let spots = spots_of(alloc, given.documents.as_slice(), list.as_slice())?;
+    let mut describer = Describer::new(alloc, given, spots)?;
+    let order = order_of(alloc, &describer, list.as_slice(), is_verbose)?;
+    print(
+        alloc,
+        console,
+        form,
+        &mut describer,
+        list.as_slice(),
+        order.as_slice(),
+    )
+}
+
+// The numbers of the findings that are told, by file, line and column.
+fn order_of(
+    alloc: Global,
+    describer: &Describer<'_>,
+    list: &[Finding<'_>],
+    is_verbose: bool,
+) -> Result<Vec<(usize, usize, usize, usize)>, AllocError> {
+    let mut order = Vec::new(alloc);
+    for (number, finding) in list.iter().enumerate() {
+        if is_verbose || !matches!(finding.problem, Problem::Unchecked { .. }) {
+            let (line, column) = describer.place(number, finding);
+            order.push((finding.source, line, column, number))?;
+        }
+    }
+    order.sort_unstable();
+    Ok(order)
+}
+
+fn form_of(given: &ArgMatches<'_>) -> Form {
+    match given.get_str("format") {
+        Some("json") => Form::Lines,
+        Some("sarif") => Form::Sarif,
+        Some("github") => Form::GitHub,
+        _ => Form::Text,
+    }
+}
+
+fn print<'d>(
+    alloc: Global,
+    console: &mut Console<'_>,
+    form: Form,
+    describer: &mut Describer<'d>,
+    list: &[Finding<'d>],
+    order: &[(usize, usize, usize, usize)],
+) -> Result<Count, Stop> {
+    let mut count = Count {
+        errors: 0,
+        notes: 0,
+    };
+    let mut messages = Vec::new(alloc);
+    for place in order {
+        let Some(finding) = list.get(place.3) else {
+            continue;
+        };
+        let message = describer.message(place.3, finding)?;
+        count.add(message.level);
+        if form == Form::Sarif {
+            keep(&mut messages, message)?;
+        } else {
+            push_message(alloc, console, form, &message)?;
+        }
+    }
+    if form == Form::Sarif {
+        push_sarif(alloc, &mut console.out, "0.1.0", RULES, messages.as_slice())?;
+    }
+    console.finish()?;
+    Ok(count)
+}
+
+fn keep<'m>(messages: &mut Vec<Message<'m>>, message: Message<'m>) -> Result<(), AllocError> {
+    messages.push(message)?;
+    Ok(())
+}
+
+fn push_message(
+    alloc: Global,
+    console: &mut Console<'_>,
+    form: Form,
+    message: &Message<'_>,
+) -> Result<(), Stop> {
+    match form {
+        Form::Lines => push_line(alloc, &mut console.out, message)?,
+        Form::GitHub => push_annotation(&mut console.out, message)?,
+        _ => push_text(&mut console.out, message)?,
+    }
+    console.pass()
+}
+
+impl Count {
+    fn add(&mut self, level: Level) {
+        match level {
+            Level::Error => self.errors = self.errors.saturating_add(1),
+            Level::Note => self.notes = self.notes.saturating_add(1),
+        }
+    }
+}
+
+// The last line on standard error, but for the time.
+fn summary(rt: &HostRuntime, documents: &[Document], count: Count) -> Result<(), Stop> {
+    let files = documents.len();
+    let mut references = 0usize;
+    for document in documents {
+        if let Some(value) = document.value() {
+            references = references.saturating_add(references_in(rt.alloc(), value)?);
+        }
+    }
+    let mut line = String::new(rt.alloc());
+    push_count(&mut line, files, "file")?;
+    line.push_str(", ")?;
+    push_count(&mut line, references, "reference")?;
+    line.push_str(", ")?;
+    push_count(&mut line, count.errors, "error")?;
+    line.push_str(", ")?;
+    push_count(&mut line, count.notes, "note")?;
+    let _ = eprint!(rt; "{line}");
+    Ok(())
+}
+
+fn push_count(line: &mut String, count: usize, what: &str) -> Result<(), AllocError> {
+    write!(line, "{count} {what}")?;
+    if count == 1 { Ok(()) } else { line.push('s') }
+}
+
+// How many texts stand under `$ref` in a value.
+fn references_in(alloc: Global, root: &Value) -> Result<usize, AllocError> {
+    let mut count = 0usize;
+    let mut values = Vec::new(alloc);
+    values.push(root)?;
+    for _ in 0..u64::MAX {
+        let Some(value) = values.pop() else {
+            break;
+        };
+        if value.get("$ref").and_then(Value::as_str).is_some() {
+            count = count.saturating_add(1);
+        }
+        crate::suggestions::push_below(&mut values, value)?;
+    }
+    Ok(count)
+}

@@ -1,0 +1,148 @@
+//! Documents that are read from folders by their URIs.
+use ref_files::{below_prefix, names_of, path_below};
+use ref_retrieve::{Reason, Retrieve, RetrieveError};
+use ref_uri::Uri;
+use ref_uri::uri::from_str;
+use serde_json::Value;
+use std::alloc::{AllocError, Global};
+use std::fs;
+
+/// A folder from which documents are read whose URIs begin with a prefix.
+#[derive(Drop)]
+pub struct Map {
+    prefix: String,
+    folder: String,
+}
+
+impl Map {
+    /// The map of a prefix, which is compared in normal form where it is a URI.
+    pub fn new(alloc: Global, prefix: &str, folder: &str) -> Result<Map, AllocError> {
+        let prefix = match from_str(alloc, prefix) {
+            Ok(uri) => String::from_str(alloc, uri.as_str())?,
+            Err(_) => String::from_str(alloc, prefix)?,
+        };
+        let folder = String::from_str(alloc, folder)?;
+        Ok(Map { prefix, folder })
+    }
+}
+
+/// The folders from which documents are read.
+#[derive(Drop)]
+pub struct Maps<'r> {
+    rt: &'r HostRuntime,
+    maps: Vec<Map>,
+}
+
+impl<'r> Maps<'r> {
+    /// None.
+    pub fn new(rt: &'r HostRuntime) -> Maps<'r> {
+        Maps {
+            rt,
+            maps: Vec::new(rt.alloc()),
+        }
+    }
+
+    /// Adds one.
+    pub fn push(&mut self, map: Map) -> Result<(), AllocError> {
+        self.maps.push(map)?;
+        Ok(())
+    }
+
+    /// Whether there is none.
+    pub fn is_empty(&self) -> bool {
+        self.maps.is_empty()
+    }
+
+    // The path of the file that a URI means, by the longest prefix.
+    fn path_of(&self, alloc: Global, uri: &str) -> Result<Option<String>, AllocError> {
+        let mut best: Option<(&Map, &str)> = None;
+        for map in &self.maps {
+            if let Some(rest) = below_prefix(map.prefix.as_str(), uri) {
+                if is_longer(map, &best) {
+                    best = Some((map, rest));
+                }
+            }
+        }
+        match best {
+            Some((map, rest)) => self.plain_file(alloc, map.folder.as_str(), rest),
+            None => Ok(None),
+        }
+    }
+
+    // The path of a file below a folder, where no name on the way is a link or leads out of it.
+    fn plain_file(
+        &self,
+        alloc: Global,
+        folder: &str,
+        rest: &str,
+    ) -> Result<Option<String>, AllocError> {
+        let Some(names) = names_of(alloc, rest)? else {
+            return Ok(None);
+        };
+        for length in 1..=names.len() {
+            let path = path_below(alloc, folder, &names.as_slice()[..length])?;
+            if !self.is_plain(path.as_str(), length == names.len()) {
+                return Ok(None);
+            }
+        }
+        Ok(Some(path_below(alloc, folder, names.as_slice())?))
+    }
+
+    // Whether a path is a file, or a folder on the way to one, and no link.
+    fn is_plain(&self, path: &str, is_last: bool) -> bool {
+        match fs::symlink_metadata(self.rt, path) {
+            Ok(data) if is_last => data.is_file(),
+            Ok(data) => data.is_dir(),
+            Err(_) => false,
+        }
+    }
+
+    // Reads a file. Of one that can't be read it is told why.
+    fn read(&self, alloc: Global, path: &str) -> Result<Option<Value>, AllocError> {
+        let text = match fs::read_to_string(self.rt, path) {
+            Ok(text) => text,
+            Err(error) => {
+                let _ = eprintln!(self.rt; "patchsard: {path}: {error}");
+                return Ok(None);
+            }
+        };
+        match Value::from_str(alloc, text.as_str()) {
+            Ok(value) => Ok(Some(value)),
+            Err(error) if error.is_memory() => Err(AllocError),
+            Err(error) => {
+                let _ = eprintln!(self.rt; "patchsard: {path}: {error}");
+                Ok(None)
+            }
+        }
+    }
+
+    fn document(&self, alloc: Global, uri: &str) -> Result<Option<Value>, AllocError> {
+        match self.path_of(alloc, uri)? {
+            Some(path) => self.read(alloc, path.as_str()),
+            None => Ok(None),
+        }
+    }
+}
+
+fn is_longer(map: &Map, best: &Option<(&Map, &str)>) -> bool {
+    match best {
+        Some((other, _)) => map.prefix.len() > other.prefix.len(),
+        None => true,
+    }
+}
+
+/// It answers what stands in the files, and refuses what no file has.
+impl Retrieve for Maps<'_> {
+    ghost use Rattle.std.specs.Prelude.{⊤};
+
+    ghost may_answer = { λ _ _ _. ⊤ };
+
+    ghost may_refuse = { λ _ _ _. ⊤ };
+
+    fn retrieve(&self, alloc: Global, uri: &Uri) -> Result<Value, RetrieveError> {
+        match self.document(alloc, uri.as_str())? {
+            Some(value) => Ok(value),
+            None => Err(RetrieveError::Refused(Reason::NoDocument)),
+        }
+    }
+}

@@ -1,0 +1,104 @@
+//! Paths as JSON pointers, and as steps.
+use ref_parts::path::JsonPointerSegment;
+use ref_positions::Places;
+use ref_retrieve::Error;
+use referencing::{unescape_segment, write_escaped_str, write_index};
+use serde_json::Value;
+use std::alloc::{AllocError, Global};
+
+/// The pointer of a path (RFC 6901, 3).
+pub fn pointer_of(alloc: Global, path: &[JsonPointerSegment<'_>]) -> Result<String, AllocError> {
+    let mut pointer = String::new(alloc);
+    for segment in path {
+        pointer.push('/')?;
+        match segment {
+            JsonPointerSegment::Key(key) => write_escaped_str(&mut pointer, key.as_str())?,
+            JsonPointerSegment::Index(index) => write_index(&mut pointer, *index)?,
+        }
+    }
+    Ok(pointer)
+}
+
+/// The number of the place at the end of a path, which is asked for from here on.
+pub fn place_of(places: &mut Places, path: &[JsonPointerSegment<'_>]) -> Result<usize, AllocError> {
+    let mut place = 0;
+    for segment in path {
+        place = match segment {
+            JsonPointerSegment::Key(key) => places.member(place, key.as_str())?,
+            JsonPointerSegment::Index(index) => places.item(place, *index)?,
+        };
+    }
+    Ok(place)
+}
+
+/// The value at the end of a path.
+pub fn value_at<'v>(root: &'v Value, path: &[JsonPointerSegment<'_>]) -> Option<&'v Value> {
+    let mut value = root;
+    for segment in path {
+        value = child(value, segment)?;
+    }
+    Some(value)
+}
+
+/// The path that a pointer means in a value (RFC 6901, 4). `PointerToNowhere` where it leads to none.
+pub fn path_to<'p>(
+    alloc: Global,
+    root: Option<&Value>,
+    pointer: &'p str,
+) -> Result<Vec<JsonPointerSegment<'p>>, Error> {
+    let mut path = Vec::new(alloc);
+    let mut value = root;
+    for (number, segment) in pointer.split('/').enumerate() {
+        if number == 0 {
+            if !segment.is_empty() {
+                return Err(nowhere(alloc, pointer)?);
+            }
+            continue;
+        }
+        let Some(here) = value else {
+            return Err(nowhere(alloc, pointer)?);
+        };
+        let part = part_of(alloc, here, segment)?;
+        value = child(here, &part);
+        push(&mut path, part)?;
+    }
+    if value.is_none() {
+        return Err(nowhere(alloc, pointer)?);
+    }
+    Ok(path)
+}
+
+fn nowhere(alloc: Global, pointer: &str) -> Result<Error, AllocError> {
+    Ok(Error::PointerToNowhere {
+        pointer: String::from_str(alloc, pointer)?,
+    })
+}
+
+// The step that a segment means in a value.
+fn part_of<'p>(
+    alloc: Global,
+    value: &Value,
+    segment: &'p str,
+) -> Result<JsonPointerSegment<'p>, AllocError> {
+    if value.is_array() {
+        if let Ok(index) = segment.parse::<usize>() {
+            return Ok(JsonPointerSegment::Index(index));
+        }
+    }
+    Ok(JsonPointerSegment::Key(unescape_segment(alloc, segment)?))
+}
+
+fn child<'v>(value: &'v Value, part: &JsonPointerSegment<'_>) -> Option<&'v Value> {
+    match part {
+        JsonPointerSegment::Key(key) => value.get(key.as_str()),
+        JsonPointerSegment::Index(index) => value.get(*index),
+    }
+}
+
+fn push<'p>(
+    path: &mut Vec<JsonPointerSegment<'p>>,
+    part: JsonPointerSegment<'p>,
+) -> Result<(), AllocError> {
+    path.push(part)?;
+    Ok(())
+}

@@ -1,0 +1,82 @@
+//! The kinds of findings.
+use ref_findings::Problem;
+use ref_messages::Rule;
+use ref_retrieve::Error;
+
+/// The kinds of findings, each with what it says.
+pub const RULES: &[Rule] = &[
+    Rule {
+        code: "not-json",
+        text: "The file is not JSON",
+    },
+    Rule {
+        code: "invalid-uri",
+        text: "The text of an identifier, a $ref or a $schema means no URI",
+    },
+    Rule {
+        code: "missing-document",
+        text: "A $ref leads into a document that is not among the given files",
+    },
+    Rule {
+        code: "pointer-to-nowhere",
+        text: "The pointer of a $ref leads to no value",
+    },
+    Rule {
+        code: "no-such-anchor",
+        text: "A $ref names an anchor that is not there",
+    },
+    Rule {
+        code: "invalid-anchor",
+        text: "The fragment of a $ref is neither a pointer nor the name of an anchor",
+    },
+    Rule {
+        code: "invalid-array-index",
+        text: "The pointer of a $ref goes into an array by what is no index",
+    },
+    Rule {
+        code: "invalid-percent-encoding",
+        text: "The fragment of a $ref is not UTF-8 when it is decoded",
+    },
+    Rule {
+        code: "duplicate-identifier",
+        text: "Two places stand under one URI",
+    },
+    Rule {
+        code: "duplicate-anchor",
+        text: "Two places under one base URI have an anchor of the same name",
+    },
+    Rule {
+        code: "unknown-dialect",
+        text: "A $schema names a meta-schema that is not among the given files",
+    },
+    Rule {
+        code: "unchecked-reference",
+        text: "A $ref leads into a meta-schema that is not among the given files",
+    },
+];
+
+/// The kind of a problem.
+pub fn code_of(problem: &Problem<'_>) -> &'static str {
+    match problem {
+        Problem::NotJson => "not-json",
+        Problem::InvalidUri(_) => "invalid-uri",
+        Problem::MissingDocument { .. } => "missing-document",
+        Problem::LeadsNowhere { error, .. } => code_of_fault(error),
+        Problem::Unchecked { .. } => "unchecked-reference",
+        Problem::UnknownDialect { .. } => "unknown-dialect",
+        Problem::DuplicateIdentifier { .. } => "duplicate-identifier",
+        Problem::DuplicateAnchor { .. } => "duplicate-anchor",
+    }
+}
+
+fn code_of_fault(error: &Error) -> &'static str {
+    match error {
+        Error::PointerToNowhere { .. } => "pointer-to-nowhere",
+        Error::NoSuchAnchor { .. } => "no-such-anchor",
+        Error::InvalidAnchor { .. } => "invalid-anchor",
+        Error::InvalidArrayIndex { .. } => "invalid-array-index",
+        Error::InvalidPercentEncoding { .. } => "invalid-percent-encoding",
+        Error::InvalidUri(_) => "invalid-uri",
+        _ => "missing-document",
+    }
+}

@@ -1,0 +1,130 @@
+//! What a reference leads to, as it is printed.
+use crate::given::Given;
+use crate::options::draft_name;
+use crate::pointer::{path_to, place_of, pointer_of};
+use crate::resolve::Found;
+use crate::stop::Stop;
+use crate::world::{World, without_fragment};
+use percent_encoding::percent_decode_str;
+use ref_index::Place;
+use ref_positions::Places;
+use std::alloc::{AllocError, Global};
+
+/// Adds the value that was found, and where it stands: its file, line, column and pointer, its draft, its base URI and the dynamic scope.
+pub fn push_found(
+    alloc: Global,
+    out: &mut String,
+    given: &Given,
+    world: &World<'_>,
+    found: Found<'_>,
+) -> Result<(), Stop> {
+    let (value, resolver, draft) = found.resolved.into_inner();
+    let text = value.to_string_pretty(alloc)?;
+    out.push_str(text.as_str())?;
+    out.push('\n')?;
+    push_place(alloc, out, given, world, found.uri.as_str())?;
+    let (name, base) = (draft_name(draft), resolver.base_uri());
+    write!(out, "draft {name}\nbase {}\nscope", base.as_str())?;
+    for uri in resolver.dynamic_scope().iter() {
+        write!(out, " {}", uri.as_str())?;
+    }
+    out.push('\n')?;
+    Ok(())
+}
+
+// Adds where the place stands that a URI means.
+fn push_place(
+    alloc: Global,
+    out: &mut String,
+    given: &Given,
+    world: &World<'_>,
+    uri: &str,
+) -> Result<(), AllocError> {
+    let fragment = fragment_of(alloc, uri)?;
+    for place in world.places(alloc)? {
+        if place.base.as_str() == without_fragment(uri)
+            && is_meant(world, &place, fragment.as_str())
+        {
+            let mut pointer = pointer_of(alloc, place.path.as_slice())?;
+            if fragment.as_str().starts_with('/') {
+                pointer.push_str(fragment.as_str())?;
+            }
+            let number = world.sources.get(place.document).copied().unwrap_or(0);
+            return push_line(alloc, out, given, number, pointer.as_str());
+        }
+    }
+    push_in_document(alloc, out, given, uri, fragment.as_str())
+}
+
+// Adds where the place stands that a pointer means in the document under a URI, whose identifier gives it another base.
+fn push_in_document(
+    alloc: Global,
+    out: &mut String,
+    given: &Given,
+    uri: &str,
+    fragment: &str,
+) -> Result<(), AllocError> {
+    for number in 0..given.len() {
+        if let Some(own) = given.uri(number) {
+            if own.as_str() == without_fragment(uri) {
+                return push_line(alloc, out, given, number, fragment);
+            }
+        }
+    }
+    Ok(())
+}
+
+// Whether a fragment is a pointer from a place or the name of an anchor there.
+fn is_meant(world: &World<'_>, place: &Place<'_>, fragment: &str) -> bool {
+    if fragment.is_empty() || fragment.starts_with('/') {
+        return true;
+    }
+    let Some(value) = world
+        .registry
+        .value_at(place.document, place.path.as_slice())
+    else {
+        return false;
+    };
+    for anchor in place.draft.anchors(value) {
+        if anchor.name() == fragment {
+            return true;
+        }
+    }
+    false
+}
+
+// The fragment of a URI, decoded.
+fn fragment_of(alloc: Global, uri: &str) -> Result<String, AllocError> {
+    let fragment = match uri.split_once('#') {
+        Some((_, fragment)) => fragment,
+        None => "",
+    };
+    match percent_decode_str(fragment).decode_utf8(alloc) {
+        Ok(text) => text.into_owned(alloc),
+        Err(_) => String::from_str(alloc, fragment),
+    }
+}
+
+fn push_line(
+    alloc: Global,
+    out: &mut String,
+    given: &Given,
+    number: usize,
+    pointer: &str,
+) -> Result<(), AllocError> {
+    let name = given.name(number);
+    let Some(document) = given.documents.get(number) else {
+        return write!(out, "at {name}: '{pointer}'\n");
+    };
+    let Ok(path) = path_to(alloc, document.value(), pointer) else {
+        return write!(out, "at {name}: '{pointer}'\n");
+    };
+    let mut places = Places::new(alloc)?;
+    let place = place_of(&mut places, path.as_slice())?;
+    let located = places.locate(alloc, document.text.as_str())?;
+    let (line, column) = match located.value(place) {
+        Some(position) => (position.line(), position.column()),
+        None => (1, 1),
+    };
+    write!(out, "at {name}:{line}:{column}: '{pointer}'\n")
+}

@@ -1,0 +1,203 @@
+//! What may be meant by a pointer or an anchor that isn't there.
+use ref_messages::Suggester;
+use ref_retrieve::Error;
+use referencing::{unescape_segment, write_escaped_str};
+use serde_json::{Map, Value};
+use std::alloc::{AllocError, Global};
+
+/// What may be meant where a reference into a value leads nowhere: a pointer with another key, or another anchor.
+pub fn suggestion(
+    alloc: Global,
+    suggester: &mut Suggester,
+    root: &Value,
+    error: &Error,
+) -> Result<Option<String>, AllocError> {
+    match error {
+        Error::PointerToNowhere { pointer } => {
+            close_pointer(alloc, suggester, root, pointer.as_str())
+        }
+        Error::NoSuchAnchor { anchor } => close_anchor(alloc, suggester, root, anchor.as_str()),
+        _ => Ok(None),
+    }
+}
+
+// A pointer with another key in the place of the first that isn't there, where it leads somewhere.
+fn close_pointer(
+    alloc: Global,
+    suggester: &mut Suggester,
+    root: &Value,
+    pointer: &str,
+) -> Result<Option<String>, AllocError> {
+    let mut value = root;
+    for (number, segment) in pointer.split('/').enumerate() {
+        if number == 0 {
+            continue;
+        }
+        let key = unescape_segment(alloc, segment)?;
+        match below(value, key.as_str()) {
+            Some(next) => value = next,
+            None => return with_close_key(
+                alloc,
+                suggester,
+                (root, value),
+                (pointer, number),
+                key.as_str(),
+            ),
+        }
+    }
+    Ok(None)
+}
+
+fn below<'v>(value: &'v Value, key: &str) -> Option<&'v Value> {
+    match key.parse::<usize>() {
+        Ok(index) if value.is_array() => value.get(index),
+        _ => value.get(key),
+    }
+}
+
+// The pointer with a close key of the value in the place of the segment with a number.
+fn with_close_key(
+    alloc: Global,
+    suggester: &mut Suggester,
+    (root, value): (&Value, &Value),
+    (pointer, number): (&str, usize),
+    key: &str,
+) -> Result<Option<String>, AllocError> {
+    let Some(members) = value.as_object() else {
+        return Ok(None);
+    };
+    let Some(close) = close_key(alloc, suggester, members, key)? else {
+        return Ok(None);
+    };
+    let meant = with_segment(alloc, pointer, number, close)?;
+    if root.pointer(meant.as_str()).is_some() {
+        Ok(Some(meant))
+    } else {
+        Ok(None)
+    }
+}
+
+fn with_segment(
+    alloc: Global,
+    pointer: &str,
+    number: usize,
+    key: &str,
+) -> Result<String, AllocError> {
+    let mut text = String::new(alloc);
+    for (at, segment) in pointer.split('/').enumerate() {
+        if at != 0 {
+            text.push('/')?;
+        }
+        if at == number {
+            write_escaped_str(&mut text, key)?;
+        } else {
+            text.push_str(segment)?;
+        }
+    }
+    Ok(text)
+}
+
+// The key that is the fewest letters away, of several the first.
+fn close_key<'v>(
+    alloc: Global,
+    suggester: &mut Suggester,
+    members: &'v Map<String, Value>,
+    wanted: &str,
+) -> Result<Option<&'v str>, AllocError> {
+    let mut best = Best::new();
+    for (key, _) in members {
+        best.try_name(alloc, suggester, wanted, key.as_str())?;
+    }
+    Ok(best.name)
+}
+
+// The closest name so far.
+#[derive(Drop)]
+struct Best<'v> {
+    name: Option<&'v str>,
+    edits: usize,
+}
+
+impl<'v> Best<'v> {
+    fn new() -> Best<'v> {
+        Best {
+            name: None,
+            edits: usize::MAX,
+        }
+    }
+
+    fn try_name(
+        &mut self,
+        alloc: Global,
+        suggester: &mut Suggester,
+        wanted: &str,
+        name: &'v str,
+    ) -> Result<(), AllocError> {
+        if let Some(edits) = suggester.distance(alloc, wanted, name)? {
+            if edits < self.edits {
+                self.edits = edits;
+                self.name = Some(name);
+            }
+        }
+        Ok(())
+    }
+}
+
+// The anchor anywhere in a document that is the fewest letters away.
+fn close_anchor(
+    alloc: Global,
+    suggester: &mut Suggester,
+    root: &Value,
+    wanted: &str,
+) -> Result<Option<String>, AllocError> {
+    let mut best = Best::new();
+    let mut values = Vec::new(alloc);
+    values.push(root)?;
+    for _ in 0..u64::MAX {
+        let Some(value) = values.pop() else {
+            break;
+        };
+        if !suggester.step() {
+            break;
+        }
+        if let Some(name) = anchor_of(value) {
+            best.try_name(alloc, suggester, wanted, name)?;
+        }
+        push_below(&mut values, value)?;
+    }
+    match best.name {
+        Some(name) => Ok(Some(String::from_str(alloc, name)?)),
+        None => Ok(None),
+    }
+}
+
+// The name that a schema bears.
+fn anchor_of(value: &Value) -> Option<&str> {
+    for keyword in ["$anchor", "$dynamicAnchor"] {
+        if let Some(name) = value.get(keyword).and_then(Value::as_str) {
+            return Some(name);
+        }
+    }
+    for keyword in ["$id", "id"] {
+        if let Some(id) = value.get(keyword).and_then(Value::as_str) {
+            if let Some(name) = id.strip_prefix('#') {
+                return Some(name);
+            }
+        }
+    }
+    None
+}
+
+pub fn push_below<'v>(values: &mut Vec<&'v Value>, value: &'v Value) -> Result<(), AllocError> {
+    if let Some(members) = value.as_object() {
+        for (_, below) in members {
+            values.push(below)?;
+        }
+    }
+    if let Some(items) = value.as_array() {
+        for below in items {
+            values.push(below)?;
+        }
+    }
+    Ok(())
+}

@@ -1,0 +1,90 @@
+//! What is found.
+use ref_parts::path::JsonPointerSegment;
+use ref_retrieve::Error;
+use ref_uri::{Uri, UriError};
+use serde_json::Value;
+use std::rc::Rc;
+
+/// Something that is wrong with a source, or a note on it.
+#[derive(Debug, Drop)]
+pub struct Finding<'v> {
+    /// The number of its source, counted from 0.
+    pub source: usize,
+    /// The path in the source of the schema that it is about.
+    pub path: Vec<JsonPointerSegment<'v>>,
+    /// The keyword there whose text is the culprit; `None` where it is the source as a whole.
+    pub keyword: Option<&'static str>,
+    /// The text under that keyword, which is the source's own.
+    pub text: Option<&'v str>,
+    /// What is wrong.
+    pub problem: Problem<'v>,
+}
+
+/// What is wrong, or is noted.
+#[derive(Debug, Drop)]
+pub enum Problem<'v> {
+    /// The source is no JSON.
+    NotJson,
+    /// An identifier, a `$ref` or a `$schema` means no URI.
+    InvalidUri(UriError),
+    /// A `$ref` leads to a URI under which there is no document and no schema.
+    MissingDocument {
+        /// The URI.
+        uri: Rc<Uri>,
+    },
+    /// A `$ref` leads nowhere in a document that is there.
+    LeadsNowhere {
+        /// The URI of what it points into.
+        uri: Rc<Uri>,
+        /// The fault of the look-up: neither `Unretrievable` nor `Memory`.
+        error: Error,
+    },
+    /// A note: a `$ref` leads into a meta-schema of a draft that isn't among the documents, so that its fragment isn't looked up.
+    Unchecked {
+        /// The URI of the meta-schema.
+        uri: Rc<Uri>,
+    },
+    /// A note: a `$schema` names a meta-schema that is neither known nor among the documents.
+    UnknownDialect {
+        /// The URI of the meta-schema.
+        uri: Rc<Uri>,
+    },
+    /// An earlier place bears the URI of this one.
+    DuplicateIdentifier {
+        /// The URI.
+        uri: Rc<Uri>,
+        /// The first place that bears it.
+        first: Bearer<'v>,
+    },
+    /// An earlier place under the same base URI bears the anchor's name.
+    DuplicateAnchor {
+        /// The base URI.
+        uri: Rc<Uri>,
+        /// The first place that bears the name.
+        first: Bearer<'v>,
+    },
+}
+
+/// A place that bears a URI or the name of an anchor.
+#[derive(Debug, Drop)]
+pub struct Bearer<'v> {
+    /// The number of its source, counted from 0.
+    pub source: usize,
+    /// Its path in the source.
+    pub path: Vec<JsonPointerSegment<'v>>,
+}
+
+impl Problem<'_> {
+    /// Whether it is a note, and no error. Takes no memory.
+    pub fn is_note(&self) -> bool {
+        matches!(
+            self,
+            Problem::Unchecked { .. } | Problem::UnknownDialect { .. }
+        )
+    }
+}
+
+/// The text under a keyword of a value.
+pub(crate) fn text_under<'v>(value: &'v Value, keyword: &str) -> Option<&'v str> {
+    value.get(keyword).and_then(Value::as_str)
+}

@@ -1,0 +1,24 @@
+//! What is wrong with the references of JSON documents, for linters: identifiers, references and names of meta-schemas that mean
+//! no URI, documents that aren't there, pointers and anchors that lead nowhere, and URIs and names that two places bear. No
+//! finding hides another.
+#![tactic(auto)]
+
+mod base;
+mod bearers;
+mod fault;
+mod finding;
+mod gather;
+mod list;
+mod problem;
+mod site;
+mod source;
+mod survey;
+mod walk;
+
+pub use finding::{Bearer, Finding, Problem};
+pub use gather::{Held, as_sources, gather};
+pub use list::findings;
+pub use source::Source;
+
+#[cfg(test)]
+mod tries;

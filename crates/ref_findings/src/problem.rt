@@ -1,0 +1,192 @@
+//! What is wrong at a place, text by text.
+use crate::base::{base_of, meta_schema_uri, settled, target_of};
+use crate::finding::{Bearer, Problem};
+use crate::site::{Site, segments_of};
+use ref_draft::{Draft, trim_hashes};
+use ref_index::reference::parts;
+use ref_parts::SortedTable;
+use ref_resolver::{Layers, Resolver};
+use ref_retrieve::Error;
+use ref_uri::Uri;
+use referencing::meta;
+use std::alloc::{AllocError, Global};
+use std::rc::Rc;
+
+/// What is known of all sources: the places of those that are read for findings, the documents that have no fault, the URIs of the
+/// others, and which place is the first to bear each URI and each name.
+#[derive(Drop)]
+pub(crate) struct Known<'k, 'v> {
+    pub sites: &'k [Site<'v>],
+    pub layers: Layers<'k>,
+    pub unsound: &'k SortedTable<usize>,
+    pub uris: &'k SortedTable<usize>,
+    pub names: &'k SortedTable<usize>,
+}
+
+// Whether a URI is that of a meta-schema of a draft.
+fn is_meta_schema(uri: &str) -> bool {
+    Draft::from_schema_uri(uri) != Draft::Unknown
+        || meta::URIS.iter().any(|known| trim_hashes(known) == uri)
+}
+
+// Whether an error is that a document could not be retrieved.
+fn is_unretrievable(error: &Error) -> bool {
+    matches!(error, Error::Unretrievable { .. })
+}
+
+// Why a reference leads nowhere from a base, with an empty dynamic scope, where it does.
+fn fault_at(
+    alloc: Global,
+    layers: Layers<'_>,
+    base: &Uri,
+    reference: &str,
+) -> Result<Option<Error>, AllocError> {
+    let resolver = Resolver::new(alloc, layers, base.clone()?)?;
+    match resolver.lookup(alloc, reference) {
+        Ok(_) => Ok(None),
+        Err(Error::Memory(error)) => Err(error),
+        Err(error) => Ok(Some(error)),
+    }
+}
+
+// A reference to a URI under which nothing is.
+fn missing<'v>(uri: Rc<Uri>, reference: &str) -> Option<Problem<'v>> {
+    if !is_meta_schema(uri.as_str()) {
+        return Some(Problem::MissingDocument { uri });
+    }
+    if parts(reference).1.is_empty() {
+        return None;
+    }
+    Some(Problem::Unchecked { uri })
+}
+
+// What a reference that leads nowhere means, by the URI that it points into and its fault.
+fn leads_nowhere<'v>(uri: Rc<Uri>, reference: &str, error: Error) -> Option<Problem<'v>> {
+    if is_unretrievable(&error) {
+        return missing(uri, reference);
+    }
+    Some(Problem::LeadsNowhere { uri, error })
+}
+
+impl<'k, 'v> Known<'k, 'v> {
+    // Whether a URI is one of a source that is no JSON or has a fault, or of its places.
+    fn is_unsound(&self, uri: &str) -> bool {
+        self.unsound.get(uri, "").0.is_some()
+    }
+
+    // What is wrong with a reference whose URI is known.
+    fn followed(
+        &self,
+        alloc: Global,
+        base: &Rc<Uri>,
+        reference: &str,
+        uri: Rc<Uri>,
+    ) -> Result<Option<Problem<'v>>, AllocError> {
+        if self.is_unsound(uri.as_str()) {
+            return Ok(None);
+        }
+        match fault_at(alloc, self.layers, base, reference)? {
+            Some(error) => Ok(leads_nowhere(uri, reference, error)),
+            None => Ok(None),
+        }
+    }
+
+    /// What is wrong with a text under `$ref`, from a base.
+    pub fn of_reference(
+        &self,
+        alloc: Global,
+        base: &Rc<Uri>,
+        reference: &str,
+    ) -> Result<Option<Problem<'v>>, AllocError> {
+        match settled(target_of(alloc, base, reference))? {
+            Ok(uri) => self.followed(alloc, base, reference, uri),
+            Err(error) => Ok(Some(Problem::InvalidUri(error))),
+        }
+    }
+
+    // Whether a URI is known as that of a meta-schema.
+    fn is_dialect(&self, uri: &str) -> bool {
+        is_meta_schema(uri) || self.is_unsound(uri) || self.layers.has_resource(uri)
+    }
+
+    /// What is wrong with a text under `$schema`, or is noted on it.
+    pub fn of_schema(&self, alloc: Global, text: &str) -> Result<Option<Problem<'v>>, AllocError> {
+        if Draft::from_schema_uri(text) != Draft::Unknown {
+            return Ok(None);
+        }
+        match settled(meta_schema_uri(alloc, text))? {
+            Ok(uri) if self.is_dialect(uri.as_str()) => Ok(None),
+            Ok(uri) => Ok(Some(Problem::UnknownDialect { uri })),
+            Err(error) => Ok(Some(Problem::InvalidUri(error))),
+        }
+    }
+
+    // The place with a number as a bearer, unless it is this one.
+    fn bearer(
+        &self,
+        alloc: Global,
+        number: usize,
+        first: Option<&usize>,
+    ) -> Result<Option<Bearer<'v>>, AllocError> {
+        let Some(first) = first else {
+            return Ok(None);
+        };
+        if *first == number {
+            return Ok(None);
+        }
+        let Some(site) = self.sites.get(*first) else {
+            return Ok(None);
+        };
+        Ok(Some(Bearer {
+            source: site.source,
+            path: segments_of(alloc, &site.path)?,
+        }))
+    }
+
+    /// What is wrong with a URI that the place with a number bears: another place is the first to bear it.
+    pub fn of_uri(
+        &self,
+        alloc: Global,
+        number: usize,
+        uri: &Rc<Uri>,
+    ) -> Result<Option<Problem<'v>>, AllocError> {
+        match self.bearer(alloc, number, self.uris.get(uri.as_str(), "").0)? {
+            Some(first) => Ok(Some(Problem::DuplicateIdentifier {
+                uri: uri.clone()?,
+                first,
+            })),
+            None => Ok(None),
+        }
+    }
+
+    /// What is wrong with an identifier of the place with a number.
+    pub fn of_identifier(
+        &self,
+        alloc: Global,
+        number: usize,
+        outer: &Rc<Uri>,
+        id: &str,
+    ) -> Result<Option<Problem<'v>>, AllocError> {
+        match settled(base_of(alloc, outer, Some(id)))? {
+            Ok(uri) => self.of_uri(alloc, number, &uri),
+            Err(error) => Ok(Some(Problem::InvalidUri(error))),
+        }
+    }
+
+    /// What is wrong with the name of an anchor that the place with a number bears under a base.
+    pub fn of_name(
+        &self,
+        alloc: Global,
+        number: usize,
+        base: &Rc<Uri>,
+        name: &str,
+    ) -> Result<Option<Problem<'v>>, AllocError> {
+        match self.bearer(alloc, number, self.names.get(base.as_str(), name).0)? {
+            Some(first) => Ok(Some(Problem::DuplicateAnchor {
+                uri: base.clone()?,
+                first,
+            })),
+            None => Ok(None),
+        }
+    }
+}

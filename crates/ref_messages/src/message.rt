@@ -1,0 +1,58 @@
+//! A message about a place in a file.
+
+/// How much a message weighs.
+#[derive(Clone, Copy, Debug, Drop, PartialEq, Eq)]
+pub enum Level {
+    /// Something is wrong.
+    Error,
+    /// Something is worth knowing.
+    Note,
+}
+
+impl Level {
+    /// Its name, as all forms but GitHub's have it.
+    pub fn name(self) -> &'static str {
+        match self {
+            Level::Error => "error",
+            Level::Note => "note",
+        }
+    }
+}
+
+/// Another place that a message speaks of.
+#[derive(Debug, Drop)]
+pub struct Other {
+    /// The file, as it is shown.
+    pub file: String,
+    /// The line, from 1; 0 where it isn't known.
+    pub line: usize,
+    /// The column, from 1; 0 where it isn't known.
+    pub column: usize,
+}
+
+/// A message about a place in a file.
+#[derive(Debug, Drop)]
+pub struct Message<'m> {
+    /// The file, as it is shown.
+    pub file: &'m str,
+    /// The line, from 1.
+    pub line: usize,
+    /// The column in Unicode characters, from 1.
+    pub column: usize,
+    /// How much it weighs.
+    pub level: Level,
+    /// The name of its kind, as `missing-document`.
+    pub code: &'static str,
+    /// What is wrong.
+    pub text: String,
+    /// The keyword whose text is the culprit.
+    pub keyword: Option<&'static str>,
+    /// The text under the keyword, as it stands in the file.
+    pub reference: Option<&'m str>,
+    /// The URI that the text was resolved to.
+    pub resolved: Option<String>,
+    /// What may be meant.
+    pub suggestion: Option<String>,
+    /// The place that it clashes with.
+    pub first: Option<Other>,
+}

@@ -1,0 +1,36 @@
+//! Messages as text for people.
+use crate::message::{Message, Other};
+use std::alloc::AllocError;
+
+/// Adds a message: a line with its place, and lines with what belongs to it, four blanks in.
+pub fn push_text(out: &mut String, message: &Message<'_>) -> Result<(), AllocError> {
+    let (file, line, column) = (message.file, message.line, message.column);
+    let (level, code, text) = (message.level.name(), message.code, message.text.as_str());
+    write!(out, "{file}:{line}:{column}: {level}[{code}]: {text}\n")?;
+    push_reference(out, message)?;
+    if let Some(first) = &message.first {
+        push_first(out, first)?;
+    }
+    if let Some(suggestion) = &message.suggestion {
+        write!(out, "    did you mean '{suggestion}'?\n")?;
+    }
+    Ok(())
+}
+
+fn push_reference(out: &mut String, message: &Message<'_>) -> Result<(), AllocError> {
+    let (Some(keyword), Some(reference)) = (message.keyword, message.reference) else {
+        return Ok(());
+    };
+    match &message.resolved {
+        Some(resolved) => write!(out, "    {keyword} '{reference}' is {resolved}\n"),
+        None => write!(out, "    {keyword} '{reference}'\n"),
+    }
+}
+
+fn push_first(out: &mut String, first: &Other) -> Result<(), AllocError> {
+    let (file, line, column) = (first.file.as_str(), first.line, first.column);
+    if line == 0 {
+        return write!(out, "    first: {file}\n");
+    }
+    write!(out, "    first: {file}:{line}:{column}\n")
+}

@@ -1,0 +1,33 @@
+-- Lines and columns of the bytes of a text.
+use Rattle.std.specs.Prelude.{◌≡◌, ◌≤◌, ◌+◌, ◌==◌, ◌||◌, ℕ, List, Bool, cond, take, length, nat_lt, nat_le}
+use Rattle.std.specs.List.{fold}
+
+-- the first byte of a character (RFC 3629, 3)
+abbrev pub begins_character : ℕ → Bool
+begins_character b = nat_lt b 128 || nat_le 192 b
+
+-- the line behind a byte: a line feed ends one
+abbrev pub next_line : ℕ → ℕ → ℕ
+next_line line b = cond (b == 10) (line + 1) line
+
+-- the column behind a byte: 1 behind a line feed, and else one more for each character
+abbrev pub next_column : ℕ → ℕ → ℕ
+next_column column b = cond (b == 10) 1 (cond (begins_character b) (column + 1) column)
+
+-- the line at an offset of a text
+abbrev pub line_of : List ℕ → ℕ → ℕ
+line_of text offset = fold next_line 1 (take offset text)
+
+-- the column at an offset of a text
+abbrev pub column_of : List ℕ → ℕ → ℕ
+column_of text offset = fold next_column 1 (take offset text)
+
+-- the line and the column at an offset within a text
+pub record IsAt (text : List ℕ) (offset on at : ℕ) : Type 0 where
+  pub within : offset ≤ length text
+  pub line : on ≡ line_of text offset
+  pub column : at ≡ column_of text offset
+  pub first_line : 1 ≤ on
+  pub first_column : 1 ≤ at
+  pub few_lines : on ≤ offset + 1
+  pub few_columns : at ≤ offset + 1

@@ -1,0 +1,118 @@
+//! A place in a text, as a line and a column.
+ghost use Rattle.std.specs.Prelude.{◌≡◌, ◌≤◌, ◌<◌, ◌+◌, ◌^◌, length};
+ghost use Rattle.ref_positions.specs.Lines.{line_of, column_of, next_line, next_column, begins_character, IsAt};
+
+/// A place in a text: its offset in bytes, its line and its column. An offset is at most the text's length.
+#[derive(Clone, Copy, Debug, Drop)]
+pub struct Position<'a> {
+    text: &'a str,
+    offset: usize,
+    line: usize,
+    column: usize,
+    ghost exact: { IsAt text.now offset line column },
+}
+
+impl<'a> Position<'a> {
+    /// The beginning of a text: line 1, column 1.
+    pub fn start(text: &'a str) -> Position<'a>
+        ensures offset { result.offset ≡ 0 }
+        ensures text { result.text.now ≡ text.now }
+    {
+        Position {
+            text,
+            offset: 0,
+            line: 1,
+            column: 1,
+        }
+    }
+
+    /// The place at an offset, or the end of the text. It costs a step for each byte before it.
+    pub fn at(text: &'a str, offset: usize) -> Position<'a>
+        ensures text { result.text.now ≡ text.now }
+        ensures offset { offset ≤ length text.now → result.offset ≡ offset }
+    {
+        Position::start(text).moved_to(offset)
+    }
+
+    /// How many bytes of the text stand before it.
+    pub fn offset(&self) -> usize
+        ensures value { result ≡ self.now.offset }
+        ensures within { result ≤ length self.now.text.now }
+    {
+        self.offset
+    }
+
+    /// The number of its line, counted from 1: one more than the line feeds before it.
+    pub fn line(&self) -> usize
+        ensures value { result ≡ line_of self.now.text.now self.now.offset }
+        ensures first { 1 ≤ result }
+    {
+        self.line
+    }
+
+    /// The number of its column, counted from 1: one more than the characters before it on its line.
+    pub fn column(&self) -> usize
+        ensures value { result ≡ column_of self.now.text.now self.now.offset }
+        ensures first { 1 ≤ result }
+    {
+        self.column
+    }
+
+    /// The place behind the next byte, or the end of the text.
+    pub(crate) fn after_byte(self) -> Position<'a>
+        ensures text { result.text.now ≡ self.entry.text.now }
+        ensures offset { self.entry.offset ≤ result.offset }
+        ensures next { self.entry.offset < length self.entry.text.now → result.offset ≡ self.entry.offset + 1 }
+    {
+        let bytes = self.text.as_bytes();
+        if self.offset >= bytes.len() {
+            return self;
+        }
+        let byte = bytes[self.offset];
+        Position {
+            text: self.text,
+            offset: self.offset + 1,
+            line: next_line(self.line, byte),
+            column: next_column(self.column, byte),
+        }
+    }
+
+    /// The place at an offset from here on, or the end of the text. It costs a step for each byte between.
+    pub(crate) fn moved_to(self, offset: usize) -> Position<'a>
+        ensures text { result.text.now ≡ self.entry.text.now }
+        ensures offset { self.entry.offset ≤ offset → offset ≤ length self.entry.text.now → result.offset ≡ offset }
+    {
+        let mut place = self;
+        for at in self.offset..offset {
+            place = place.after_byte();
+        }
+        place
+    }
+}
+
+fn next_line(line: usize, byte: u8) -> usize
+    requires { line < 2 ^ 63 + 1 }
+    ensures value { result ≡ next_line line byte }
+{
+    if byte == b'\n' { line + 1 } else { line }
+}
+
+fn next_column(column: usize, byte: u8) -> usize
+    requires { column < 2 ^ 63 + 1 }
+    ensures value { result ≡ next_column column byte }
+{
+    if byte == b'\n' {
+        1
+    } else if begins_character(byte) {
+        column + 1
+    } else {
+        column
+    }
+}
+
+// The bytes 128 to 191 go on with a character that began before.
+fn begins_character(byte: u8) -> bool
+    ensures value { result ≡ begins_character byte }
+{
+    byte < 128 || 192 <= byte
+}
