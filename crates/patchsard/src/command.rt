@@ -20,7 +20,6 @@ pub fn patchsard<'c>(alloc: Global) -> Result<Command<'c>, AllocError> {
         .bin_name("patchsard")?
         .version("0.1.0")
         .about("Lints, follows, lists and draws the references of JSON Schema files")
-        .subcommand_required(true)
         .arg_required_else_help(true)
         .arg(directory)?
         .subcommand(lint(alloc)?)?
@@ -114,7 +113,7 @@ fn reading<'c>(alloc: Global, command: Command<'c>) -> Result<Command<'c>, Alloc
         .value_name("URI")
         .action(ArgAction::Set)
         .help(
-            "The URI that files stand under, with their paths from the folder given; without it they stand under file: URIs",
+            "The URI of the folder given, below which files have theirs by their paths; without it they have file: URIs",
         );
     let draft = Arg::new(alloc, "draft")
         .long("draft")
@@ -155,5 +154,5 @@ fn verbose<'c>(alloc: Global) -> Arg<'c> {
         .short('v')
         .long("verbose")
         .action(ArgAction::SetTrue)
-        .help("Tell also which references were not checked")
+        .help("Also list references that were not checked")
 }

@@ -1,12 +1,15 @@
 //! Findings as messages.
 use crate::given::Given;
+use crate::pointer::pointer_of;
 use crate::rules::code_of;
 use crate::spots::{Spots, first_of};
 use crate::suggestions::suggestion;
+use crate::world::without_fragment;
 use ref_findings::{Bearer, Finding, Problem};
 use ref_messages::{Level, Message, Other, Suggester};
 use ref_retrieve::Error;
 use ref_uri::Uri;
+use ref_uri::uri::resolve_against;
 use std::alloc::{AllocError, Global};
 use std::collections::BTreeMap;
 
@@ -20,7 +23,7 @@ pub struct Describer<'d> {
     given: &'d Given,
     spots: Spots<'d>,
     // The numbers of the documents by their URIs.
-    numbers: BTreeMap<&'d str, usize>,
+    numbers: BTreeMap<String, usize>,
     suggester: Suggester,
 }
 
@@ -34,7 +37,11 @@ impl<'d> Describer<'d> {
         let mut numbers = BTreeMap::new(alloc);
         for number in 0..given.len() {
             if let Some(uri) = given.uri(number) {
-                numbers.insert(uri.as_str(), number)?;
+                numbers.insert(String::from_str(alloc, uri.as_str())?, number)?;
+            }
+            if let Some(uri) = identifier_of(alloc, given, number) {
+                let uri = String::from_str(alloc, without_fragment(uri.as_str()))?;
+                numbers.insert(uri, number)?;
             }
         }
         Ok(Describer {
@@ -57,6 +64,7 @@ impl<'d> Describer<'d> {
             file: self.given.name(finding.source),
             line,
             column,
+            pointer: pointer_of(self.alloc, finding.path.as_slice())?,
             level: level_of(&finding.problem),
             code: code_of(&finding.problem),
             text: self.text(finding)?,
@@ -109,7 +117,7 @@ impl<'d> Describer<'d> {
                 )
             }
             Problem::DuplicateIdentifier { uri, .. } => {
-                format!(in alloc; "Another place stands under the URI '{}'", uri.as_str())
+                format!(in alloc; "Two schemas have the identifier '{}'", uri.as_str())
             }
             Problem::DuplicateAnchor { uri, .. } => anchor_text(alloc, uri, finding.text),
         }
@@ -157,7 +165,26 @@ impl<'d> Describer<'d> {
             None => (0, 0),
         };
         let file = String::from_str(self.alloc, self.given.name(bearer.source))?;
-        Ok(Other { file, line, column })
+        let pointer = pointer_of(self.alloc, bearer.path.as_slice())?;
+        Ok(Other {
+            file,
+            line,
+            column,
+            pointer,
+        })
+    }
+}
+
+// The URI that the identifier of a document's root means.
+fn identifier_of(alloc: Global, given: &Given, number: usize) -> Option<Uri> {
+    let root = given.value(number)?;
+    let id = match root.get("$id") {
+        Some(id) => id.as_str()?,
+        None => root.get("id")?.as_str()?,
+    };
+    match resolve_against(alloc, given.uri(number)?.borrow(), id) {
+        Ok(uri) => Some(uri),
+        Err(_) => None,
     }
 }
 
@@ -172,7 +199,7 @@ fn level_of(problem: &Problem<'_>) -> Level {
 fn anchor_text(alloc: Global, uri: &Uri, name: Option<&str>) -> Result<String, AllocError> {
     let name = name.unwrap_or("").trim_start_matches('#');
     format!(in alloc;
-        "Another place under '{}' has the anchor '{name}'",
+        "Two schemas of '{}' have the anchor '{name}'",
         uri.as_str()
     )
 }

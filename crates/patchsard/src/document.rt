@@ -108,12 +108,7 @@ fn utf8(alloc: Global, bytes: Vec<u8>) -> Result<(String, Option<Fault>), AllocE
             let mut bytes = error.into_bytes();
             bytes.truncate(end);
             let text = String::from_utf8_lossy(alloc, bytes.as_slice())?;
-            let fault = fault_at(
-                alloc,
-                text.as_str(),
-                text.len(),
-                "The text is not UTF-8 from here on",
-            )?;
+            let fault = fault_at(alloc, text.as_str(), text.len(), "Not UTF-8 from here on")?;
             Ok((text, Some(fault)))
         }
     }
@@ -141,7 +136,7 @@ pub fn parsed(alloc: Global, text: &str) -> Result<Result<Value, Fault>, AllocEr
 fn fault_of(alloc: Global, text: &str, error: &serde_json::Error) -> Result<Fault, AllocError> {
     let said = error.to_string(alloc)?;
     let why = if is_deep(alloc, text)? {
-        "The text nests more than 127 levels deep"
+        "Not JSON: nested more than 127 levels deep"
     } else {
         reason(said.as_str())
     };
@@ -152,9 +147,9 @@ fn fault_of(alloc: Global, text: &str, error: &serde_json::Error) -> Result<Faul
 // What is wrong, by what the reader says.
 fn reason(said: &str) -> &str {
     match said.rsplit_once(" at line ") {
-        Some(("EOF while parsing", _)) => "The text ends before its value does",
-        Some(("number out of range", _)) => "The number is out of range",
-        _ => "The text is not JSON from here on",
+        Some(("EOF while parsing", _)) => "Not JSON: the text ends too early",
+        Some(("number out of range", _)) => "Not JSON: the number is out of range",
+        _ => "Not JSON from here on",
     }
 }
 

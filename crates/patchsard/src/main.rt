@@ -65,7 +65,11 @@ fn asked(rt: &HostRuntime, matches: &ArgMatches<'_>) -> Result<u8, Stop> {
         Some(("resolve", given)) => resolve::resolve(rt, &mut console, given)?,
         Some(("places", given)) => places::places(rt, &mut console, given)?,
         Some((_, given)) => drawing::draw(rt, &mut console, given)?,
-        None => 2,
+        None => {
+            let help = command::patchsard(rt.alloc())?.render_help()?;
+            let _ = eprint!(rt; "{help}");
+            2
+        }
     };
     console.finish()?;
     Ok(status)

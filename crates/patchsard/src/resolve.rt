@@ -7,6 +7,7 @@ use crate::shown::push_found;
 use crate::stop::Stop;
 use crate::world::{World, bearers, faulty_of, without_fragment, world_of};
 use clap::ArgMatches;
+use ref_parts::path::JsonPointerSegment;
 use ref_retrieve::Error;
 use ref_uri::Uri;
 use referencing::Resolved;
@@ -80,17 +81,42 @@ fn followed<'w>(
     reference: &str,
 ) -> Result<Option<Found<'w>>, Error> {
     let path = path_to(alloc, document.value(), from)?;
-    let place = world
-        .registry
-        .locate(alloc, &document.uri, path.as_slice())?;
-    let base = place.resolver().base_uri();
+    let base = base_at(alloc, &document.uri, world, path.as_slice())?;
     let uri = world.registry.resolve_uri(alloc, base.borrow(), reference)?;
     if !is_there(alloc, world, uri.as_str())? {
         return Ok(None);
     }
-    let own = (**base).clone()?;
-    let resolved = world.registry.lookup(alloc, own, reference)?;
+    let resolved = world.registry.lookup(alloc, base, reference)?;
     Ok(Some(Found { resolved, uri }))
+}
+
+// The base URI at a path of the first document: that of the innermost schema there.
+fn base_at(
+    alloc: Global,
+    own: &Uri,
+    world: &World<'_>,
+    path: &[JsonPointerSegment<'_>],
+) -> Result<Uri, AllocError> {
+    let mut base = own.clone()?;
+    for place in world.places(alloc)? {
+        if place.document == 0 && is_beginning(place.path.as_slice(), path) {
+            base = (*place.base).clone()?;
+        }
+    }
+    Ok(base)
+}
+
+// Whether a path begins with another. Places come level by level, so that the last one with such a path is the innermost.
+fn is_beginning(front: &[JsonPointerSegment<'_>], path: &[JsonPointerSegment<'_>]) -> bool {
+    if front.len() > path.len() {
+        return false;
+    }
+    for (part, other) in front.iter().zip(path.iter()) {
+        if part != other {
+            return false;
+        }
+    }
+    true
 }
 
 // Whether a document that is there bears a URI.

@@ -11,7 +11,7 @@ pub const RULES: &[Rule] = &[
     },
     Rule {
         code: "invalid-uri",
-        text: "The text of an identifier, a $ref or a $schema means no URI",
+        text: "The text of an identifier, a $ref or a $schema is not a valid URI reference",
     },
     Rule {
         code: "missing-document",
@@ -39,11 +39,11 @@ pub const RULES: &[Rule] = &[
     },
     Rule {
         code: "duplicate-identifier",
-        text: "Two places stand under one URI",
+        text: "Two schemas have the same identifier",
     },
     Rule {
         code: "duplicate-anchor",
-        text: "Two places under one base URI have an anchor of the same name",
+        text: "Two schemas of one resource have the same anchor",
     },
     Rule {
         code: "unknown-dialect",

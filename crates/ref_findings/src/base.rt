@@ -1,25 +1,29 @@
 //! The URIs that the texts of a place mean.
+ghost use Rattle.std.specs.Prelude.{◌≡◌, IfOk, None, option_map};
+ghost use Rattle.ref_uri.specs.Reference.{with_fragment};
+ghost use Rattle.ref_uri.specs.Targets.{against, target};
+ghost use Rattle.ref_world.specs.Places.{base_within};
+ghost use Rattle.ref_findings.specs.Places.{nearest_of};
+ghost use Rattle.ref_findings.specs.inner.Meanings.{meta_schema_uri, IsMeaning};
+
 use ref_index::reference::{shared, uri_part};
 use ref_uri::uri::{from_str, resolve_against};
 use ref_uri::{Uri, UriError, UriFault};
 use std::alloc::{AllocError, Global};
 use std::rc::Rc;
 
-/// The URI, or why a text means none; want of memory apart.
-pub(crate) fn settled(
-    answer: Result<Rc<Uri>, UriFault>,
-) -> Result<Result<Rc<Uri>, UriError>, AllocError> {
-    match answer {
-        Ok(uri) => Ok(Ok(uri)),
+/// The URI that a text means, or why it means none.
+pub(crate) type Meaning = Result<Rc<Uri>, UriError>;
+
+// The URI that a text means against a base.
+fn resolved(alloc: Global, base: &Rc<Uri>, text: &str) -> Result<Meaning, AllocError>
+    ensures { IfOk result (IsMeaning (against base.now.value text.now)) }
+{
+    match resolve_against(alloc, base.borrow(), text) {
+        Ok(uri) => Ok(Ok(shared(alloc, uri)?)),
         Err(UriFault::Invalid(error)) => Ok(Err(error)),
         Err(UriFault::Memory(error)) => Err(error),
     }
-}
-
-// The URI that a text means against a base, shared.
-fn resolved(alloc: Global, base: &Rc<Uri>, text: &str) -> Result<Rc<Uri>, UriFault> {
-    let uri = resolve_against(alloc, base.borrow(), text)?;
-    Ok(shared(alloc, uri)?)
 }
 
 /// The base of a place: its identifier against the base around it, or that base (2020-12 Core, 8.2.1).
@@ -27,10 +31,12 @@ pub(crate) fn base_of(
     alloc: Global,
     outer: &Rc<Uri>,
     id: Option<&str>,
-) -> Result<Rc<Uri>, UriFault> {
+) -> Result<Meaning, AllocError>
+    ensures value { IfOk result (IsMeaning (base_within outer.now.value (option_map (λ text. text.now) id.entry))) }
+{
     match id {
         Some(id) => resolved(alloc, outer, id),
-        None => Ok(outer.clone()?),
+        None => Ok(Ok(outer.clone()?)),
     }
 }
 
@@ -39,11 +45,12 @@ pub(crate) fn nearest_base(
     alloc: Global,
     outer: &Rc<Uri>,
     id: Option<&str>,
-) -> Result<Rc<Uri>, AllocError> {
-    match base_of(alloc, outer, id) {
+) -> Result<Rc<Uri>, AllocError>
+    ensures value { IfOk result (λ base. base.value ≡ nearest_of outer.now.value (base_within outer.now.value (option_map (λ text. text.now) id.entry))) }
+{
+    match base_of(alloc, outer, id)? {
         Ok(base) => Ok(base),
-        Err(UriFault::Invalid(_)) => outer.clone(),
-        Err(UriFault::Memory(error)) => Err(error),
+        Err(_) => outer.clone(),
     }
 }
 
@@ -52,18 +59,33 @@ pub(crate) fn target_of(
     alloc: Global,
     base: &Rc<Uri>,
     reference: &str,
-) -> Result<Rc<Uri>, UriFault> {
+) -> Result<Meaning, AllocError>
+    ensures value { IfOk result (IsMeaning (target base.now.value reference.now)) }
+{
     if reference.starts_with('#') {
-        return Ok(base.clone()?);
+        return Ok(Ok(base.clone()?));
     }
     resolved(alloc, base, uri_part(reference))
 }
 
-/// The URI that a text names a meta-schema by: its fragment takes no part (2020-12 Core, 8.1.1).
-pub(crate) fn meta_schema_uri(alloc: Global, text: &str) -> Result<Rc<Uri>, UriFault> {
-    let mut uri = from_str(alloc, text)?;
+// The URI without its fragment, shared.
+fn without_fragment(alloc: Global, uri: Uri) -> Result<Rc<Uri>, AllocError>
+    ensures { IfOk result (λ u. u.value ≡ with_fragment uri None) }
+{
+    let mut uri = uri;
     if let Err(error) = uri.set_fragment(None) {
         unreachable!("{error}");
     }
-    Ok(shared(alloc, uri)?)
+    shared(alloc, uri)
+}
+
+/// The URI that a text names a meta-schema by: its fragment takes no part (2020-12 Core, 8.1.1).
+pub(crate) fn meta_schema_uri(alloc: Global, text: &str) -> Result<Meaning, AllocError>
+    ensures value { IfOk result (IsMeaning (meta_schema_uri text.now)) }
+{
+    match from_str(alloc, text) {
+        Ok(uri) => Ok(Ok(without_fragment(alloc, uri)?)),
+        Err(UriFault::Invalid(error)) => Ok(Err(error)),
+        Err(UriFault::Memory(error)) => Err(error),
+    }
 }

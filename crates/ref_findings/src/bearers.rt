@@ -1,7 +1,16 @@
 //! Which places bear which URIs, and which names of anchors.
-use crate::base::{base_of, nearest_base, settled};
-use crate::site::Site;
+ghost use Rattle.std.specs.Prelude.{◌≡◌, [], ◌∷◌, ◌++◌, map, flat_map, reverse, option_map, IfOk, OnOk};
+ghost use Rattle.std.specs.Option.{option_to_list};
+ghost use Rattle.ref_parts.specs.Table.{entries_of};
+ghost use Rattle.ref_world.specs.Resources.{own_uri};
+ghost use Rattle.ref_findings.specs.Sources.{under_uri};
+ghost use Rattle.ref_findings.specs.Bearers.{source_uri, uris_of, names_at, uris_borne, names_borne};
+ghost use Rattle.ref_findings.specs.inner.Seen.{place_of, site_of, seen, unsound_in};
+
+use crate::base::{base_of, nearest_base};
+use crate::site::{Place, Site};
 use crate::survey::Survey;
+use ref_draft::AnchorIter;
 use ref_parts::SortedTable;
 use ref_uri::Uri;
 use std::alloc::{AllocError, Global};
@@ -11,21 +20,26 @@ use std::rc::Rc;
 type Entries = Vec<(String, String, usize)>;
 
 /// The URI that a place bears by its own identifier, where that means one.
-pub(crate) fn own_uri(alloc: Global, site: &Site<'_>) -> Result<Option<Rc<Uri>>, AllocError> {
-    if site.id().is_none() {
+pub(crate) fn own_uri(alloc: Global, place: &Place<'_>) -> Result<Option<Rc<Uri>>, AllocError>
+    ensures value { IfOk result (λ own. option_map (λ u. u.value) own ≡ own_uri (place_of place.now)) }
+{
+    let Some(id) = place.id() else {
         return Ok(None);
-    }
-    Ok(settled(base_of(alloc, &site.outer, site.id()))?.ok())
+    };
+    let base = base_of(alloc, &place.outer, Some(id))?;
+    Ok(base.ok())
 }
 
 /// The URI of its source, which the root bears too, where its own is another one.
-pub(crate) fn source_uri<'s>(site: &'s Site<'_>, own: Option<&Rc<Uri>>) -> Option<&'s Rc<Uri>> {
-    if !site.is_root() {
+pub(crate) fn source_uri<'p>(place: &'p Place<'_>, own: Option<&Rc<Uri>>) -> Option<&'p Rc<Uri>>
+    ensures value { option_map (λ u. u.now.value) own.entry ≡ own_uri (place_of place.now) → option_map (λ u. u.now.value) result ≡ source_uri (place_of place.now) }
+{
+    if !place.is_root() {
         return None;
     }
     match own {
-        Some(own) if own.as_str() == site.outer.as_str() => None,
-        _ => Some(&site.outer),
+        Some(own) if own.as_str() == place.outer.as_str() => None,
+        _ => Some(&place.outer),
     }
 }
 
@@ -36,7 +50,9 @@ fn push(
     first: &str,
     second: &str,
     number: usize,
-) -> Result<(), AllocError> {
+) -> Result<(), AllocError>
+    ensures { OnOk result (entries_of entries.new.items ≡ entries_of entries.old.items ++ (first.now, second.now, number) ∷ []) }
+{
     let first = String::from_str(alloc, first)?;
     let second = String::from_str(alloc, second)?;
     entries.push((first, second, number))?;
@@ -49,7 +65,9 @@ fn push_uri(
     entries: &mut Entries,
     uri: Option<&Rc<Uri>>,
     number: usize,
-) -> Result<(), AllocError> {
+) -> Result<(), AllocError>
+    ensures { OnOk result (entries_of entries.new.items ≡ entries_of entries.old.items ++ map (under_uri number) (option_to_list (option_map (λ u. u.now.value) uri.entry))) }
+{
     match uri {
         Some(uri) => push(alloc, entries, uri.as_str(), "", number),
         None => Ok(()),
@@ -60,11 +78,13 @@ fn push_uri(
 fn push_uris(
     alloc: Global,
     entries: &mut Entries,
-    site: &Site<'_>,
+    place: &Place<'_>,
     number: usize,
-) -> Result<(), AllocError> {
-    let own = own_uri(alloc, site)?;
-    push_uri(alloc, entries, source_uri(site, own.as_ref()), number)?;
+) -> Result<(), AllocError>
+    ensures { OnOk result (entries_of entries.new.items ≡ entries_of entries.old.items ++ map (under_uri number) (uris_of (place_of place.now))) }
+{
+    let own = own_uri(alloc, place)?;
+    push_uri(alloc, entries, source_uri(place, own.as_ref()), number)?;
     push_uri(alloc, entries, own.as_ref(), number)
 }
 
@@ -72,37 +92,63 @@ fn push_uris(
 fn push_names(
     alloc: Global,
     entries: &mut Entries,
-    site: &Site<'_>,
+    place: &Place<'_>,
     number: usize,
-) -> Result<(), AllocError> {
-    let base = nearest_base(alloc, &site.outer, site.id())?;
-    for anchor in site.draft.anchors(site.value) {
-        push(alloc, entries, base.as_str(), anchor.name(), number)?;
+) -> Result<(), AllocError>
+    ensures { OnOk result (entries_of entries.new.items ≡ entries_of entries.old.items
+        ++ names_at number (place_of place.now)) }
+{
+    let base = nearest_base(alloc, &place.outer, place.id())?;
+    match place.draft.anchors(place.value) {
+        AnchorIter::Empty => Ok(()),
+        AnchorIter::One(anchor) => push(alloc, entries, base.as_str(), anchor.name(), number),
+        AnchorIter::Two(plain, dynamic) => {
+            push(alloc, entries, base.as_str(), plain.name(), number)?;
+            push(alloc, entries, base.as_str(), dynamic.name(), number)
+        }
     }
-    Ok(())
 }
 
-/// The table of the URIs that places bear, each with the number of the first that bears it.
-pub(crate) fn uris_of(alloc: Global, sites: &[Site<'_>]) -> Result<SortedTable<usize>, AllocError> {
+/// The table of the URIs that places bear, made from the last to the first: each has the number of the first that bears it.
+pub(crate) fn uris_of(
+    alloc: Global,
+    sites: &[Site<'_, '_>],
+) -> Result<SortedTable<usize>, AllocError>
+    ensures value { IfOk result (λ table. table ≡ reverse (uris_borne (map site_of sites.now))) }
+{
     let mut entries = Vec::new(alloc);
     for (number, site) in sites.iter().enumerate() {
-        push_uris(alloc, &mut entries, site, number)?;
+        push_uris(alloc, &mut entries, site.place, number)?;
     }
     entries.reverse();
     SortedTable::from_entries(alloc, entries)
 }
 
-/// The table of the names that places bear under their bases, each with the number of the first that bears it.
+/// The table of the names that places bear under their bases, made from the last to the first.
 pub(crate) fn names_of(
     alloc: Global,
-    sites: &[Site<'_>],
-) -> Result<SortedTable<usize>, AllocError> {
+    sites: &[Site<'_, '_>],
+) -> Result<SortedTable<usize>, AllocError>
+    ensures value { IfOk result (λ table. table ≡ reverse (names_borne (map site_of sites.now))) }
+{
     let mut entries = Vec::new(alloc);
     for (number, site) in sites.iter().enumerate() {
-        push_names(alloc, &mut entries, site, number)?;
+        push_names(alloc, &mut entries, site.place, number)?;
     }
     entries.reverse();
     SortedTable::from_entries(alloc, entries)
+}
+
+// Adds the URIs that places bear by their identifiers.
+fn push_own(alloc: Global, entries: &mut Entries, places: &[Place<'_>]) -> Result<(), AllocError>
+    ensures { OnOk result (entries_of entries.new.items ≡ entries_of entries.old.items
+        ++ map (under_uri 0) (flat_map (λ p. option_to_list (own_uri p)) (map place_of places.now))) }
+{
+    for place in places {
+        let own = own_uri(alloc, place)?;
+        push_uri(alloc, entries, own.as_ref(), 0)?;
+    }
+    Ok(())
 }
 
 // Adds the URI of a source that isn't sound, and those that its places bear.
@@ -110,15 +156,14 @@ fn push_unsound(
     alloc: Global,
     entries: &mut Entries,
     survey: &Survey<'_, '_>,
-) -> Result<(), AllocError> {
+) -> Result<(), AllocError>
+    ensures { OnOk result (entries_of entries.new.items ≡ entries_of entries.old.items ++ unsound_in (seen survey.now)) }
+{
     if survey.is_sound {
         return Ok(());
     }
     push(alloc, entries, survey.source.uri.as_str(), "", 0)?;
-    for site in &survey.sites {
-        push_uri(alloc, entries, own_uri(alloc, site)?.as_ref(), 0)?;
-    }
-    Ok(())
+    push_own(alloc, entries, survey.places.as_slice())
 }
 
 // Adds those of sources that aren't sound.
@@ -126,19 +171,23 @@ fn push_all_unsound(
     alloc: Global,
     entries: &mut Entries,
     surveys: &[Survey<'_, '_>],
-) -> Result<(), AllocError> {
+) -> Result<(), AllocError>
+    ensures { OnOk result (entries_of entries.new.items ≡ entries_of entries.old.items ++ flat_map unsound_in (map seen surveys.now)) }
+{
     for survey in surveys {
         push_unsound(alloc, entries, survey)?;
     }
     Ok(())
 }
 
-/// The table of the URIs of sources that are no JSON or have a fault, and of those that their places bear.
+/// The table of the URIs of sources that aren't sound, and of those that their places bear.
 pub(crate) fn unsound_of(
     alloc: Global,
     surveys: &[Survey<'_, '_>],
     others: &[Survey<'_, '_>],
-) -> Result<SortedTable<usize>, AllocError> {
+) -> Result<SortedTable<usize>, AllocError>
+    ensures value { IfOk result (λ table. table ≡ flat_map unsound_in (map seen surveys.now) ++ flat_map unsound_in (map seen others.now)) }
+{
     let mut entries = Vec::new(alloc);
     push_all_unsound(alloc, &mut entries, surveys)?;
     push_all_unsound(alloc, &mut entries, others)?;

@@ -1,7 +1,15 @@
 //! Whether a place has a text that means no URI.
-use crate::base::{base_of, meta_schema_uri, nearest_base, settled, target_of};
+ghost use Rattle.std.specs.Prelude.{◌≡◌, map, Some, IfOk, option_map};
+ghost use Rattle.std.specs.List.{list_any};
+ghost use Rattle.serde_json.specs.View.{view};
+ghost use Rattle.ref_world.specs.Places.{base_within};
+ghost use Rattle.ref_world.specs.Wants.{reference_at, schema_at};
+ghost use Rattle.ref_findings.specs.Places.{is_refused, is_faulty};
+ghost use Rattle.ref_findings.specs.inner.Seen.{place_of};
+
+use crate::base::{base_of, meta_schema_uri, nearest_base, target_of};
 use crate::finding::text_under;
-use crate::site::Site;
+use crate::site::Place;
 use ref_draft::Draft;
 use ref_uri::Uri;
 use serde_json::Value;
@@ -13,44 +21,58 @@ fn is_identifier_faulty(
     alloc: Global,
     outer: &Rc<Uri>,
     id: Option<&str>,
-) -> Result<bool, AllocError> {
-    Ok(settled(base_of(alloc, outer, id))?.is_err())
+) -> Result<bool, AllocError>
+    ensures { IfOk result (λ faulty. faulty ≡ is_refused (Some (base_within outer.now.value (option_map (λ text. text.now) id.entry)))) }
+{
+    let base = base_of(alloc, outer, id)?;
+    Ok(base.is_err())
 }
 
 // Whether its reference means no URI.
-fn is_reference_faulty(alloc: Global, base: &Rc<Uri>, value: &Value) -> Result<bool, AllocError> {
+fn is_reference_faulty(alloc: Global, base: &Rc<Uri>, value: &Value) -> Result<bool, AllocError>
+    ensures { IfOk result (λ faulty. faulty ≡ is_refused (reference_at base.now.value (view value.now))) }
+{
     let Some(reference) = text_under(value, "$ref") else {
         return Ok(false);
     };
-    Ok(settled(target_of(alloc, base, reference))?.is_err())
+    let target = target_of(alloc, base, reference)?;
+    Ok(target.is_err())
 }
 
 // Whether its `$schema`, where that is no known draft, means no URI.
-fn is_schema_faulty(alloc: Global, value: &Value) -> Result<bool, AllocError> {
+fn is_schema_faulty(alloc: Global, value: &Value) -> Result<bool, AllocError>
+    ensures { IfOk result (λ faulty. faulty ≡ is_refused (schema_at (view value.now))) }
+{
     let Some(text) = text_under(value, "$schema") else {
         return Ok(false);
     };
     if Draft::from_schema_uri(text) != Draft::Unknown {
         return Ok(false);
     }
-    Ok(settled(meta_schema_uri(alloc, text))?.is_err())
+    let uri = meta_schema_uri(alloc, text)?;
+    Ok(uri.is_err())
 }
 
 // Whether a place has a text that means no URI.
-fn is_faulty(alloc: Global, site: &Site<'_>) -> Result<bool, AllocError> {
-    if is_identifier_faulty(alloc, &site.outer, site.id())? {
-        return Ok(true);
-    }
-    let base = nearest_base(alloc, &site.outer, site.id())?;
-    Ok(is_reference_faulty(alloc, &base, site.value)? || is_schema_faulty(alloc, site.value)?)
+fn is_faulty(alloc: Global, place: &Place<'_>) -> Result<bool, AllocError>
+    ensures { IfOk result (λ faulty. faulty ≡ is_faulty (place_of place.now)) }
+{
+    let id = place.id();
+    let of_identifier = is_identifier_faulty(alloc, &place.outer, id)?;
+    let base = nearest_base(alloc, &place.outer, id)?;
+    let of_reference = is_reference_faulty(alloc, &base, place.value)?;
+    let of_schema = is_schema_faulty(alloc, place.value)?;
+    Ok(of_identifier || (of_reference || of_schema))
 }
 
 /// Whether one of these places has an identifier, a `$ref` or a `$schema` that means no URI.
-pub(crate) fn is_any_faulty(alloc: Global, sites: &[Site<'_>]) -> Result<bool, AllocError> {
-    for site in sites {
-        if is_faulty(alloc, site)? {
-            return Ok(true);
-        }
+pub(crate) fn is_any_faulty(alloc: Global, places: &[Place<'_>]) -> Result<bool, AllocError>
+    ensures value { IfOk result (λ any. any ≡ list_any is_faulty (map place_of places.now)) }
+{
+    let mut any = false;
+    for place in places {
+        let faulty = is_faulty(alloc, place)?;
+        any = any || faulty;
     }
-    Ok(false)
+    Ok(any)
 }

@@ -1,4 +1,9 @@
 //! What is found.
+ghost use Rattle.std.specs.Prelude.{◌≡◌, option_map};
+ghost use Rattle.serde_json.specs.View.{view};
+ghost use Rattle.ref_draft.specs.Schema.{text_under};
+ghost use Rattle.ref_findings.specs.Entries.{is_note};
+
 use ref_parts::path::JsonPointerSegment;
 use ref_retrieve::Error;
 use ref_uri::{Uri, UriError};
@@ -76,7 +81,9 @@ pub struct Bearer<'v> {
 
 impl Problem<'_> {
     /// Whether it is a note, and no error. Takes no memory.
-    pub fn is_note(&self) -> bool {
+    pub fn is_note(&self) -> bool
+        ensures value { result ≡ is_note self.now }
+    {
         matches!(
             self,
             Problem::Unchecked { .. } | Problem::UnknownDialect { .. }
@@ -85,6 +92,8 @@ impl Problem<'_> {
 }
 
 /// The text under a keyword of a value.
-pub(crate) fn text_under<'v>(value: &'v Value, keyword: &str) -> Option<&'v str> {
+pub(crate) fn text_under<'v>(value: &'v Value, keyword: &str) -> Option<&'v str>
+    ensures value { option_map (λ text. text.now) result ≡ text_under keyword.now (view value.now) }
+{
     value.get(keyword).and_then(Value::as_str)
 }

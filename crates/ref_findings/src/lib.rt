@@ -5,9 +5,11 @@
 
 mod base;
 mod bearers;
+pub mod examples;
 mod fault;
 mod finding;
-mod gather;
+mod gathering;
+mod keyword;
 mod list;
 mod problem;
 mod site;
@@ -16,7 +18,7 @@ mod survey;
 mod walk;
 
 pub use finding::{Bearer, Finding, Problem};
-pub use gather::{Held, as_sources, gather};
+pub use gathering::{Held, as_sources, gather};
 pub use list::findings;
 pub use source::Source;
 

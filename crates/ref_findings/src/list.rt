@@ -1,40 +1,66 @@
 //! The list of all that is found.
+ghost use Rattle.std.specs.Prelude.{◌≡◌, List, [], ◌∷◌, ◌++◌, Some, map, option_map, Option, IfOk, OnOk};
+ghost use Rattle.std.specs.List.{AllZip};
+ghost use Rattle.ref_draft.specs.declared.anchor.Anchor.{Anchor};
+ghost use Rattle.ref_draft.specs.Views.{anchor_name};
+ghost use Rattle.ref_findings.specs.Places.{nearest};
+ghost use Rattle.ref_findings.specs.Findings as spec;
+ghost use Rattle.ref_findings.specs.Findings.{finding_at, anchor_finding, source_findings, identifier_findings, reference_findings, schema_findings, anchor_findings, findings_at, place_findings, not_json, unread, findings};
+ghost use Rattle.ref_findings.specs.Entries.{source_of, IsProblemOf, IsFindingOf};
+ghost use Rattle.ref_findings.specs.inner.Keywords.{keyword_text};
+ghost use Rattle.ref_findings.specs.inner.Meanings.{IsMaybe};
+ghost use Rattle.ref_findings.specs.inner.Seen.{site_of, known_in};
+
 use crate::base::nearest_base;
 use crate::bearers::{names_of, own_uri, source_uri, unsound_of, uris_of};
 use crate::finding::{Finding, Problem, text_under};
+use crate::keyword::{Keyword, keyword_at};
 use crate::problem::Known;
 use crate::site::{Site, segments_of};
 use crate::source::Source;
-use crate::survey::{index_of, joined, surveys_of};
-use ref_draft::{Anchor, Draft};
+use crate::survey::{index_of, sites_of, surveys_of};
+use ref_draft::{Anchor, AnchorIter, Draft};
 use ref_resolver::Layers;
 use ref_uri::Uri;
 use std::alloc::{AllocError, Global};
 use std::rc::Rc;
 
-// Adds what is wrong with a text of a place, where something is.
-fn add<'v>(
+// The finding at a place.
+fn finding<'v>(
     alloc: Global,
-    list: &mut Vec<Finding<'v>>,
-    site: &Site<'v>,
-    keyword: Option<&'static str>,
-    problem: Option<Problem<'v>>,
-) -> Result<(), AllocError> {
-    let Some(problem) = problem else {
-        return Ok(());
-    };
-    let path = segments_of(alloc, &site.path)?;
-    let text = match keyword {
-        Some(keyword) => text_under(site.value, keyword),
-        None => None,
-    };
-    list.push(Finding {
+    site: &Site<'_, 'v>,
+    keyword: Option<Keyword>,
+    problem: Problem<'v>,
+) -> Result<Finding<'v>, AllocError>
+    ensures { (p : spec.Problem) → IsProblemOf problem.entry p → IfOk result (λ f. AllZip IsFindingOf (f ∷ []) (finding_at (site_of site.now) (option_map keyword_text keyword) (Some p))) }
+{
+    let path = segments_of(alloc, &site.place.path)?;
+    let (keyword, text) = keyword_at(site.place.value, keyword);
+    Ok(Finding {
         source: site.source,
         path,
         keyword,
         text,
         problem,
-    })?;
+    })
+}
+
+// Adds what is wrong with a text of a place, where something is.
+fn add<'v>(
+    alloc: Global,
+    list: &mut Vec<Finding<'v>>,
+    site: &Site<'_, 'v>,
+    keyword: Option<Keyword>,
+    problem: Option<Problem<'v>>,
+) -> Result<(), AllocError>
+    ensures { (p : Option spec.Problem) (fs : List spec.Finding) → IsMaybe p problem.entry → AllZip IsFindingOf list.old.items fs
+        → OnOk result (AllZip IsFindingOf list.new.items (fs ++ finding_at (site_of site.now) (option_map keyword_text keyword) p)) }
+{
+    let Some(problem) = problem else {
+        return Ok(());
+    };
+    let finding = finding(alloc, site, keyword, problem)?;
+    list.push(finding)?;
     Ok(())
 }
 
@@ -44,10 +70,12 @@ fn add_source_uri<'v>(
     list: &mut Vec<Finding<'v>>,
     known: &Known<'_, 'v>,
     number: usize,
-    site: &Site<'v>,
-) -> Result<(), AllocError> {
-    let own = own_uri(alloc, site)?;
-    let Some(uri) = source_uri(site, own.as_ref()) else {
+    site: &Site<'_, 'v>,
+) -> Result<(), AllocError>
+    ensures { (fs : List spec.Finding) → AllZip IsFindingOf list.old.items fs → OnOk result (AllZip IsFindingOf list.new.items (fs ++ source_findings (known_in known.now) number (site_of site.now))) }
+{
+    let own = own_uri(alloc, site.place)?;
+    let Some(uri) = source_uri(site.place, own.as_ref()) else {
         return Ok(());
     };
     let problem = known.of_uri(alloc, number, uri)?;
@@ -60,13 +88,16 @@ fn add_identifier<'v>(
     list: &mut Vec<Finding<'v>>,
     known: &Known<'_, 'v>,
     number: usize,
-    site: &Site<'v>,
-) -> Result<(), AllocError> {
-    let Some(id) = site.id() else {
+    site: &Site<'_, 'v>,
+) -> Result<(), AllocError>
+    ensures { (fs : List spec.Finding) → AllZip IsFindingOf list.old.items fs → OnOk result (AllZip IsFindingOf list.new.items (fs ++ identifier_findings (known_in known.now) number (site_of site.now))) }
+{
+    let Some(id) = site.place.id() else {
         return Ok(());
     };
-    let problem = known.of_identifier(alloc, number, &site.outer, id)?;
-    add(alloc, list, site, Some(site.draft.id_keyword()), problem)
+    let problem = known.of_identifier(alloc, number, &site.place.outer, id)?;
+    let keyword = Keyword::of_identifier(site.place.draft);
+    add(alloc, list, site, Some(keyword), problem)
 }
 
 // Adds what is wrong with its reference.
@@ -74,14 +105,16 @@ fn add_reference<'v>(
     alloc: Global,
     list: &mut Vec<Finding<'v>>,
     known: &Known<'_, 'v>,
-    site: &Site<'v>,
-    base: &Rc<Uri>,
-) -> Result<(), AllocError> {
-    let Some(reference) = text_under(site.value, "$ref") else {
+    site: &Site<'_, 'v>,
+) -> Result<(), AllocError>
+    ensures { (fs : List spec.Finding) → AllZip IsFindingOf list.old.items fs → OnOk result (AllZip IsFindingOf list.new.items (fs ++ reference_findings (known_in known.now) (site_of site.now))) }
+{
+    let Some(reference) = text_under(site.place.value, "$ref") else {
         return Ok(());
     };
-    let problem = known.of_reference(alloc, base, reference)?;
-    add(alloc, list, site, Some("$ref"), problem)
+    let base = nearest_base(alloc, &site.place.outer, site.place.id())?;
+    let problem = known.of_reference(alloc, &base, reference)?;
+    add(alloc, list, site, Some(Keyword::Ref), problem)
 }
 
 // Adds what is wrong with the name of its meta-schema.
@@ -89,24 +122,33 @@ fn add_schema<'v>(
     alloc: Global,
     list: &mut Vec<Finding<'v>>,
     known: &Known<'_, 'v>,
-    site: &Site<'v>,
-) -> Result<(), AllocError> {
-    let Some(text) = text_under(site.value, "$schema") else {
+    site: &Site<'_, 'v>,
+) -> Result<(), AllocError>
+    ensures { (fs : List spec.Finding) → AllZip IsFindingOf list.old.items fs → OnOk result (AllZip IsFindingOf list.new.items (fs ++ schema_findings (known_in known.now) (site_of site.now))) }
+{
+    let Some(text) = text_under(site.place.value, "$schema") else {
         return Ok(());
     };
     let problem = known.of_schema(alloc, text)?;
-    add(alloc, list, site, Some("$schema"), problem)
+    add(alloc, list, site, Some(Keyword::Schema), problem)
 }
 
-// The keyword that an anchor of a draft stands under.
-fn anchor_keyword(draft: Draft, anchor: &Anchor<'_>) -> &'static str {
-    match anchor {
-        Anchor::Dynamic { .. } => "$dynamicAnchor",
-        Anchor::Default { .. } => match draft {
-            Draft::Draft4 | Draft::Draft6 | Draft::Draft7 => draft.id_keyword(),
-            _ => "$anchor",
-        },
-    }
+// Adds what is wrong with one anchor.
+fn add_anchor<'v>(
+    alloc: Global,
+    list: &mut Vec<Finding<'v>>,
+    known: &Known<'_, 'v>,
+    number: usize,
+    site: &Site<'_, 'v>,
+    base: &Rc<Uri>,
+    anchor: Anchor<'v>,
+) -> Result<(), AllocError>
+    ensures { (fs : List spec.Finding) → base.now.value ≡ nearest (site_of site.now).1 → AllZip IsFindingOf list.old.items fs
+        → OnOk result (AllZip IsFindingOf list.new.items (fs ++ anchor_finding (known_in known.now) number (site_of site.now) (anchor_name anchor.entry))) }
+{
+    let problem = known.of_name(alloc, number, base, anchor.name())?;
+    let keyword = Keyword::of_anchor(site.place.draft, &anchor);
+    add(alloc, list, site, Some(keyword), problem)
 }
 
 // Adds what is wrong with its anchors.
@@ -115,15 +157,19 @@ fn add_anchors<'v>(
     list: &mut Vec<Finding<'v>>,
     known: &Known<'_, 'v>,
     number: usize,
-    site: &Site<'v>,
-    base: &Rc<Uri>,
-) -> Result<(), AllocError> {
-    for anchor in site.draft.anchors(site.value) {
-        let problem = known.of_name(alloc, number, base, anchor.name())?;
-        let keyword = anchor_keyword(site.draft, &anchor);
-        add(alloc, list, site, Some(keyword), problem)?;
+    site: &Site<'_, 'v>,
+) -> Result<(), AllocError>
+    ensures { (fs : List spec.Finding) → AllZip IsFindingOf list.old.items fs → OnOk result (AllZip IsFindingOf list.new.items (fs ++ anchor_findings (known_in known.now) number (site_of site.now))) }
+{
+    let base = nearest_base(alloc, &site.place.outer, site.place.id())?;
+    match site.place.draft.anchors(site.place.value) {
+        AnchorIter::Empty => Ok(()),
+        AnchorIter::One(anchor) => add_anchor(alloc, list, known, number, site, &base, anchor),
+        AnchorIter::Two(plain, dynamic) => {
+            add_anchor(alloc, list, known, number, site, &base, plain)?;
+            add_anchor(alloc, list, known, number, site, &base, dynamic)
+        }
     }
-    Ok(())
 }
 
 // Adds what is wrong at the place with a number.
@@ -132,14 +178,15 @@ fn add_site<'v>(
     list: &mut Vec<Finding<'v>>,
     known: &Known<'_, 'v>,
     number: usize,
-    site: &Site<'v>,
-) -> Result<(), AllocError> {
+    site: &Site<'_, 'v>,
+) -> Result<(), AllocError>
+    ensures { (fs : List spec.Finding) → AllZip IsFindingOf list.old.items fs → OnOk result (AllZip IsFindingOf list.new.items (fs ++ findings_at (known_in known.now) number (site_of site.now))) }
+{
     add_source_uri(alloc, list, known, number, site)?;
     add_identifier(alloc, list, known, number, site)?;
-    let base = nearest_base(alloc, &site.outer, site.id())?;
-    add_reference(alloc, list, known, site, &base)?;
+    add_reference(alloc, list, known, site)?;
     add_schema(alloc, list, known, site)?;
-    add_anchors(alloc, list, known, number, site, &base)
+    add_anchors(alloc, list, known, number, site)
 }
 
 // Adds that a source is no JSON, where it isn't.
@@ -148,7 +195,9 @@ fn add_source<'v>(
     list: &mut Vec<Finding<'v>>,
     number: usize,
     source: &Source<'v>,
-) -> Result<(), AllocError> {
+) -> Result<(), AllocError>
+    ensures { (fs : List spec.Finding) → AllZip IsFindingOf list.old.items fs → OnOk result (AllZip IsFindingOf list.new.items (fs ++ not_json (number, source_of source.now))) }
+{
     if source.value.is_some() {
         return Ok(());
     }
@@ -162,20 +211,29 @@ fn add_source<'v>(
     Ok(())
 }
 
-// All that is found, by what is known of the sources.
-fn listed<'v>(
-    alloc: Global,
-    sources: &[Source<'v>],
-    known: &Known<'_, 'v>,
-) -> Result<Vec<Finding<'v>>, AllocError> {
+// Which sources are no JSON.
+fn unread<'v>(alloc: Global, sources: &[Source<'v>]) -> Result<Vec<Finding<'v>>, AllocError>
+    ensures { IfOk result (λ list. AllZip IsFindingOf list.items (unread (map source_of sources.now))) }
+{
     let mut list = Vec::new(alloc);
     for (number, source) in sources.iter().enumerate() {
         add_source(alloc, &mut list, number, source)?;
     }
-    for (number, site) in known.sites.iter().enumerate() {
-        add_site(alloc, &mut list, known, number, site)?;
-    }
     Ok(list)
+}
+
+// Adds what is wrong at all places.
+fn add_sites<'v>(
+    alloc: Global,
+    list: &mut Vec<Finding<'v>>,
+    known: &Known<'_, 'v>,
+) -> Result<(), AllocError>
+    ensures { (fs : List spec.Finding) → AllZip IsFindingOf list.old.items fs → OnOk result (AllZip IsFindingOf list.new.items (fs ++ place_findings (known_in known.now) (known_in known.now).sites)) }
+{
+    for (number, site) in known.sites.iter().enumerate() {
+        add_site(alloc, list, known, number, site)?;
+    }
+    Ok(())
 }
 
 /// All that is wrong with the references of sources, and what is to be noted: first those sources that are no JSON, then source by
@@ -194,15 +252,17 @@ pub fn findings<'v>(
     draft: Draft,
     sources: &[Source<'v>],
     held: &[Source<'v>],
-) -> Result<Vec<Finding<'v>>, AllocError> {
+) -> Result<Vec<Finding<'v>>, AllocError>
+    ensures value { IfOk result (λ list. AllZip IsFindingOf list.items (findings draft (map source_of sources.now) (map source_of held.now))) }
+{
     let surveys = surveys_of(alloc, draft, sources)?;
     let others = surveys_of(alloc, draft, held)?;
     let index = index_of(alloc, draft, surveys.as_slice(), others.as_slice())?;
     let unsound = unsound_of(alloc, surveys.as_slice(), others.as_slice())?;
-    drop(others);
-    let sites = joined(alloc, surveys)?;
+    let sites = sites_of(alloc, surveys.as_slice())?;
     let uris = uris_of(alloc, sites.as_slice())?;
     let names = names_of(alloc, sites.as_slice())?;
+    let mut list = unread(alloc, sources)?;
     let parents = Vec::new(alloc);
     let known = Known {
         sites: sites.as_slice(),
@@ -211,5 +271,6 @@ pub fn findings<'v>(
         uris: &uris,
         names: &names,
     };
-    listed(alloc, sources, &known)
+    add_sites(alloc, &mut list, &known)?;
+    Ok(list)
 }

@@ -1,5 +1,17 @@
 //! What is wrong at a place, text by text.
-use crate::base::{base_of, meta_schema_uri, settled, target_of};
+ghost use Rattle.std.specs.Prelude.{◌≡◌, [], IfOk, option_map, option_copied, Some, Ok};
+ghost use Rattle.ref_uri.specs.Targets.{target};
+ghost use Rattle.ref_retrieve.specs.Errors.{SaysFault};
+ghost use Rattle.ref_world.specs.Places.{base_within};
+ghost use Rattle.ref_world.specs.Fault.{Fault};
+ghost use Rattle.ref_world.specs.Lookup.{lookup};
+ghost use Rattle.ref_resolver.specs.Layered.{world_in};
+ghost use Rattle.ref_findings.specs.Bearers.{first_under, other_bearer};
+ghost use Rattle.ref_findings.specs.Findings.{is_among, is_meta_schema, missing, by_fault, by_target, is_dialect, reference_problem, schema_problem, uri_problem, by_base, name_problem};
+ghost use Rattle.ref_findings.specs.inner.Meanings.{IsMaybe, IsWhy, IsBearer, is_unretrievable};
+ghost use Rattle.ref_findings.specs.inner.Seen.{known_in};
+
+use crate::base::{base_of, meta_schema_uri, target_of};
 use crate::finding::{Bearer, Problem};
 use crate::site::{Site, segments_of};
 use ref_draft::{Draft, trim_hashes};
@@ -12,11 +24,11 @@ use referencing::meta;
 use std::alloc::{AllocError, Global};
 use std::rc::Rc;
 
-/// What is known of all sources: the places of those that are read for findings, the documents that have no fault, the URIs of the
+/// What is known of all sources: the places of those that are read for findings, the documents that are sound, the URIs of the
 /// others, and which place is the first to bear each URI and each name.
 #[derive(Drop)]
 pub(crate) struct Known<'k, 'v> {
-    pub sites: &'k [Site<'v>],
+    pub sites: &'k [Site<'k, 'v>],
     pub layers: Layers<'k>,
     pub unsound: &'k SortedTable<usize>,
     pub uris: &'k SortedTable<usize>,
@@ -24,13 +36,18 @@ pub(crate) struct Known<'k, 'v> {
 }
 
 // Whether a URI is that of a meta-schema of a draft.
-fn is_meta_schema(uri: &str) -> bool {
+fn is_meta_schema(uri: &str) -> bool
+    ensures { result ≡ is_meta_schema uri.now }
+{
+    meta::uris_are_of_all_drafts();
     Draft::from_schema_uri(uri) != Draft::Unknown
         || meta::URIS.iter().any(|known| trim_hashes(known) == uri)
 }
 
 // Whether an error is that a document could not be retrieved.
-fn is_unretrievable(error: &Error) -> bool {
+fn is_unretrievable(error: &Error) -> bool
+    ensures { result ≡ is_unretrievable error.now }
+{
     matches!(error, Error::Unretrievable { .. })
 }
 
@@ -40,8 +57,11 @@ fn fault_at(
     layers: Layers<'_>,
     base: &Uri,
     reference: &str,
-) -> Result<Option<Error>, AllocError> {
-    let resolver = Resolver::new(alloc, layers, base.clone()?)?;
+) -> Result<Option<Error>, AllocError>
+    ensures { IfOk result (IsWhy (lookup (world_in layers.entry) (record { base = base.now; scope = [] }) reference.now)) }
+{
+    let base = base.clone()?;
+    let resolver = Resolver::new(alloc, layers, base)?;
     match resolver.lookup(alloc, reference) {
         Ok(_) => Ok(None),
         Err(Error::Memory(error)) => Err(error),
@@ -50,7 +70,9 @@ fn fault_at(
 }
 
 // A reference to a URI under which nothing is.
-fn missing<'v>(uri: Rc<Uri>, reference: &str) -> Option<Problem<'v>> {
+fn missing<'v>(uri: Rc<Uri>, reference: &str) -> Option<Problem<'v>>
+    ensures { IsMaybe (missing uri.value reference.now) result }
+{
     if !is_meta_schema(uri.as_str()) {
         return Some(Problem::MissingDocument { uri });
     }
@@ -60,8 +82,10 @@ fn missing<'v>(uri: Rc<Uri>, reference: &str) -> Option<Problem<'v>> {
     Some(Problem::Unchecked { uri })
 }
 
-// What a reference that leads nowhere means, by the URI that it points into and its fault.
-fn leads_nowhere<'v>(uri: Rc<Uri>, reference: &str, error: Error) -> Option<Problem<'v>> {
+// What is wrong with a reference that leads nowhere, by the URI that it points into and its fault.
+fn leads_nowhere<'v>(uri: Rc<Uri>, reference: &str, error: Error) -> Option<Problem<'v>>
+    ensures { (fault : Fault) → SaysFault error fault → IsMaybe (by_fault uri.value reference.now fault) result }
+{
     if is_unretrievable(&error) {
         return missing(uri, reference);
     }
@@ -69,8 +93,10 @@ fn leads_nowhere<'v>(uri: Rc<Uri>, reference: &str, error: Error) -> Option<Prob
 }
 
 impl<'k, 'v> Known<'k, 'v> {
-    // Whether a URI is one of a source that is no JSON or has a fault, or of its places.
-    fn is_unsound(&self, uri: &str) -> bool {
+    // Whether a URI is one of a source that isn't sound, or of its places.
+    fn is_unsound(&self, uri: &str) -> bool
+        ensures { result ≡ is_among uri.now (known_in self.now).unsound }
+    {
         self.unsound.get(uri, "").0.is_some()
     }
 
@@ -81,7 +107,9 @@ impl<'k, 'v> Known<'k, 'v> {
         base: &Rc<Uri>,
         reference: &str,
         uri: Rc<Uri>,
-    ) -> Result<Option<Problem<'v>>, AllocError> {
+    ) -> Result<Option<Problem<'v>>, AllocError>
+        ensures { IfOk result (IsMaybe (by_target (known_in self.now) base.now.value reference.now (Ok uri.value))) }
+    {
         if self.is_unsound(uri.as_str()) {
             return Ok(None);
         }
@@ -97,26 +125,37 @@ impl<'k, 'v> Known<'k, 'v> {
         alloc: Global,
         base: &Rc<Uri>,
         reference: &str,
-    ) -> Result<Option<Problem<'v>>, AllocError> {
-        match settled(target_of(alloc, base, reference))? {
+    ) -> Result<Option<Problem<'v>>, AllocError>
+        ensures value { IfOk result (IsMaybe (reference_problem (known_in self.now) base.now.value reference.now)) }
+    {
+        match target_of(alloc, base, reference)? {
             Ok(uri) => self.followed(alloc, base, reference, uri),
             Err(error) => Ok(Some(Problem::InvalidUri(error))),
         }
     }
 
     // Whether a URI is known as that of a meta-schema.
-    fn is_dialect(&self, uri: &str) -> bool {
-        is_meta_schema(uri) || self.is_unsound(uri) || self.layers.has_resource(uri)
+    fn is_dialect(&self, uri: &str) -> bool
+        ensures { result ≡ is_dialect (known_in self.now) uri.now }
+    {
+        is_meta_schema(uri) || (self.is_unsound(uri) || self.layers.has_resource(uri))
     }
 
     /// What is wrong with a text under `$schema`, or is noted on it.
-    pub fn of_schema(&self, alloc: Global, text: &str) -> Result<Option<Problem<'v>>, AllocError> {
+    pub fn of_schema(&self, alloc: Global, text: &str) -> Result<Option<Problem<'v>>, AllocError>
+        ensures value { IfOk result (IsMaybe (schema_problem (known_in self.now) text.now)) }
+    {
         if Draft::from_schema_uri(text) != Draft::Unknown {
             return Ok(None);
         }
-        match settled(meta_schema_uri(alloc, text))? {
-            Ok(uri) if self.is_dialect(uri.as_str()) => Ok(None),
-            Ok(uri) => Ok(Some(Problem::UnknownDialect { uri })),
+        match meta_schema_uri(alloc, text)? {
+            Ok(uri) => {
+                if self.is_dialect(uri.as_str()) {
+                    Ok(None)
+                } else {
+                    Ok(Some(Problem::UnknownDialect { uri }))
+                }
+            }
             Err(error) => Ok(Some(Problem::InvalidUri(error))),
         }
     }
@@ -127,7 +166,9 @@ impl<'k, 'v> Known<'k, 'v> {
         alloc: Global,
         number: usize,
         first: Option<&usize>,
-    ) -> Result<Option<Bearer<'v>>, AllocError> {
+    ) -> Result<Option<Bearer<'v>>, AllocError>
+        ensures { IfOk result (IsBearer (other_bearer (known_in self.now).sites number (option_copied first.entry))) }
+    {
         let Some(first) = first else {
             return Ok(None);
         };
@@ -137,9 +178,10 @@ impl<'k, 'v> Known<'k, 'v> {
         let Some(site) = self.sites.get(*first) else {
             return Ok(None);
         };
+        let path = segments_of(alloc, &site.place.path)?;
         Ok(Some(Bearer {
             source: site.source,
-            path: segments_of(alloc, &site.path)?,
+            path,
         }))
     }
 
@@ -149,14 +191,15 @@ impl<'k, 'v> Known<'k, 'v> {
         alloc: Global,
         number: usize,
         uri: &Rc<Uri>,
-    ) -> Result<Option<Problem<'v>>, AllocError> {
-        match self.bearer(alloc, number, self.uris.get(uri.as_str(), "").0)? {
-            Some(first) => Ok(Some(Problem::DuplicateIdentifier {
-                uri: uri.clone()?,
-                first,
-            })),
-            None => Ok(None),
-        }
+    ) -> Result<Option<Problem<'v>>, AllocError>
+        ensures value { IfOk result (IsMaybe (uri_problem (known_in self.now) number uri.now.value)) }
+    {
+        let first = self.uris.get(uri.as_str(), "").0;
+        let Some(first) = self.bearer(alloc, number, first)? else {
+            return Ok(None);
+        };
+        let uri = uri.clone()?;
+        Ok(Some(Problem::DuplicateIdentifier { uri, first }))
     }
 
     /// What is wrong with an identifier of the place with a number.
@@ -166,8 +209,10 @@ impl<'k, 'v> Known<'k, 'v> {
         number: usize,
         outer: &Rc<Uri>,
         id: &str,
-    ) -> Result<Option<Problem<'v>>, AllocError> {
-        match settled(base_of(alloc, outer, Some(id)))? {
+    ) -> Result<Option<Problem<'v>>, AllocError>
+        ensures value { IfOk result (IsMaybe (by_base (known_in self.now) number (base_within outer.now.value (Some id.now)))) }
+    {
+        match base_of(alloc, outer, Some(id))? {
             Ok(uri) => self.of_uri(alloc, number, &uri),
             Err(error) => Ok(Some(Problem::InvalidUri(error))),
         }
@@ -180,13 +225,14 @@ impl<'k, 'v> Known<'k, 'v> {
         number: usize,
         base: &Rc<Uri>,
         name: &str,
-    ) -> Result<Option<Problem<'v>>, AllocError> {
-        match self.bearer(alloc, number, self.names.get(base.as_str(), name).0)? {
-            Some(first) => Ok(Some(Problem::DuplicateAnchor {
-                uri: base.clone()?,
-                first,
-            })),
-            None => Ok(None),
-        }
+    ) -> Result<Option<Problem<'v>>, AllocError>
+        ensures value { IfOk result (IsMaybe (name_problem (known_in self.now) number base.now.value name.now)) }
+    {
+        let first = self.names.get(base.as_str(), name).0;
+        let Some(first) = self.bearer(alloc, number, first)? else {
+            return Ok(None);
+        };
+        let uri = base.clone()?;
+        Ok(Some(Problem::DuplicateAnchor { uri, first }))
     }
 }

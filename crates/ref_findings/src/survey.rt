@@ -1,8 +1,17 @@
-//! The places of sources, and the index of those sources that have no fault.
+//! The places of sources, and the index of those sources that are sound.
+ghost use Rattle.std.specs.Prelude.{◌≡◌, [], ◌∷◌, ◌++◌, map, flat_map, IfOk, OnOk};
+ghost use Rattle.std.specs.List.{enumerate_from};
+ghost use Rattle.serde_json.specs.View.{view};
+ghost use Rattle.ref_world.specs.World.{document};
+ghost use Rattle.ref_world.specs.Wants.{faults};
+ghost use Rattle.ref_findings.specs.Bearers.{numbered};
+ghost use Rattle.ref_findings.specs.Entries.{source_of};
+ghost use Rattle.ref_findings.specs.inner.Seen.{place_of, site_of, seen, survey_in, sound_in, AreSurveys};
+
 use crate::fault::is_any_faulty;
-use crate::site::Site;
+use crate::site::{Place, Site};
 use crate::source::Source;
-use crate::walk::sites_of;
+use crate::walk::places_of;
 use ref_draft::Draft;
 use ref_index::walked::Walked;
 use ref_index::{Contents, Document, Index};
@@ -10,34 +19,35 @@ use ref_uri::UriFault;
 use serde_json::Value;
 use std::alloc::{AllocError, Global};
 
-/// A source with its places, and whether it is JSON without a fault.
+/// A source with its places, and whether it is JSON without a text that means no URI.
 #[derive(Drop)]
 pub(crate) struct Survey<'s, 'v> {
     pub source: &'s Source<'v>,
-    pub sites: Vec<Site<'v>>,
+    pub places: Vec<Place<'v>>,
     pub is_sound: bool,
 }
 
-// The source with its places, whose number is given.
+// The source with its places.
 fn survey_of<'s, 'v>(
     alloc: Global,
     draft: Draft,
-    number: usize,
     source: &'s Source<'v>,
-) -> Result<Survey<'s, 'v>, AllocError> {
+) -> Result<Survey<'s, 'v>, AllocError>
+    ensures { IfOk result (λ s. seen s ≡ survey_in draft (source_of source.now)) }
+{
     let Some(value) = source.value else {
         return Ok(Survey {
             source,
-            sites: Vec::new(alloc),
+            places: Vec::new(alloc),
             is_sound: false,
         });
     };
-    let sites = sites_of(alloc, number, &source.uri, value, draft.detect(value))?;
-    let is_sound = !is_any_faulty(alloc, sites.as_slice())?;
+    let places = places_of(alloc, &source.uri, value, draft.detect(value))?;
+    let any = is_any_faulty(alloc, places.as_slice())?;
     Ok(Survey {
         source,
-        sites,
-        is_sound,
+        places,
+        is_sound: !any,
     })
 }
 
@@ -46,23 +56,28 @@ pub(crate) fn surveys_of<'s, 'v>(
     alloc: Global,
     draft: Draft,
     sources: &'s [Source<'v>],
-) -> Result<Vec<Survey<'s, 'v>>, AllocError> {
+) -> Result<Vec<Survey<'s, 'v>>, AllocError>
+    ensures value { IfOk result (λ surveys. map seen surveys.items ≡ map (survey_in draft) (map source_of sources.now)) }
+{
     let mut surveys = Vec::with_capacity(alloc, sources.len())?;
-    for (number, source) in sources.iter().enumerate() {
-        let survey = survey_of(alloc, draft, number, source)?;
+    for source in sources {
+        let survey = survey_of(alloc, draft, source)?;
         surveys.push(survey)?;
     }
     Ok(surveys)
 }
 
-// The documents with one more behind them.
+// The documents with one more behind them, which has no fault.
 fn with_document<'v>(
     alloc: Global,
     draft: Draft,
     walked: Walked<'v>,
     source: &Source<'v>,
     value: &'v Value,
-) -> Result<Walked<'v>, AllocError> {
+) -> Result<Walked<'v>, AllocError>
+    requires { faults (walked ++ document draft source.now.uri (view value.now) ∷ []) ≡ [] }
+    ensures { IfOk result (λ more. more ≡ walked.entry ++ document draft source.now.uri (view value.now) ∷ []) }
+{
     let uri = source.uri.clone()?;
     let document = Document {
         uri,
@@ -76,13 +91,18 @@ fn with_document<'v>(
     }
 }
 
-// The documents with a source behind them, where it has no fault.
+// The documents with a source behind them, where it is sound.
 fn with_source<'v>(
     alloc: Global,
     draft: Draft,
     walked: Walked<'v>,
     survey: &Survey<'_, 'v>,
-) -> Result<Walked<'v>, AllocError> {
+) -> Result<Walked<'v>, AllocError>
+    requires faultless { faults walked ≡ [] }
+    requires survey { seen survey.now ≡ survey_in draft (source_of survey.now.source.now) }
+    ensures value { IfOk result (λ more. more ≡ walked.entry ++ sound_in draft (seen survey.now)) }
+    ensures faultless { IfOk result (λ more. faults more ≡ []) }
+{
     if !survey.is_sound {
         return Ok(walked);
     }
@@ -92,13 +112,18 @@ fn with_source<'v>(
     }
 }
 
-// The documents with the sources behind them that have no fault.
+// The documents with the sources behind them that are sound.
 fn with_sources<'v>(
     alloc: Global,
     draft: Draft,
     walked: Walked<'v>,
     surveys: &[Survey<'_, 'v>],
-) -> Result<Walked<'v>, AllocError> {
+) -> Result<Walked<'v>, AllocError>
+    requires faultless { faults walked ≡ [] }
+    requires surveys { AreSurveys draft (map seen surveys.now) }
+    ensures value { IfOk result (λ more. more ≡ walked.entry ++ flat_map (sound_in draft) (map seen surveys.now)) }
+    ensures faultless { IfOk result (λ more. faults more ≡ []) }
+{
     let mut walked = walked;
     for survey in surveys {
         walked = with_source(alloc, draft, walked, survey)?;
@@ -106,33 +131,46 @@ fn with_sources<'v>(
     Ok(walked)
 }
 
-/// The index of the sources that have no fault, and of such others behind them. No value is copied.
+/// The index of the sources that are sound, and of such others behind them. No value is copied.
 pub(crate) fn index_of<'v>(
     alloc: Global,
     draft: Draft,
     surveys: &[Survey<'_, 'v>],
     others: &[Survey<'_, 'v>],
-) -> Result<Index<'v>, AllocError> {
+) -> Result<Index<'v>, AllocError>
+    requires surveys { AreSurveys draft (map seen surveys.now) }
+    requires others { AreSurveys draft (map seen others.now) }
+    ensures value { IfOk result (λ index. index ≡ flat_map (sound_in draft) (map seen surveys.now) ++ flat_map (sound_in draft) (map seen others.now)) }
+{
     let walked = with_sources(alloc, draft, Walked::new(alloc), surveys)?;
     let walked = with_sources(alloc, draft, walked, others)?;
     walked.into_index(alloc)
 }
 
-/// The places of all sources, one source after another.
-pub(crate) fn joined<'v>(
+// Adds places behind others, with the number of their source.
+fn push_sites<'p, 'v>(
+    sites: &mut Vec<Site<'p, 'v>>,
+    source: usize,
+    places: &'p [Place<'v>],
+) -> Result<(), AllocError>
+    ensures { OnOk result (map site_of sites.new.items ≡ map site_of sites.old.items ++ numbered (source, map place_of places.now)) }
+{
+    for place in places {
+        sites.push(Site { source, place })?;
+    }
+    Ok(())
+}
+
+/// The places of all sources, one source after another, with the numbers of these.
+pub(crate) fn sites_of<'p, 'v>(
     alloc: Global,
-    surveys: Vec<Survey<'_, 'v>>,
-) -> Result<Vec<Site<'v>>, AllocError> {
+    surveys: &'p [Survey<'_, 'v>],
+) -> Result<Vec<Site<'p, 'v>>, AllocError>
+    ensures value { IfOk result (λ sites. map site_of sites.items ≡ flat_map numbered (enumerate_from 0 (map (λ s. (seen s).places) surveys.now))) }
+{
     let mut sites = Vec::new(alloc);
-    for survey in surveys {
-        let Survey {
-            source: _,
-            sites: own,
-            is_sound: _,
-        } = survey;
-        for site in own {
-            sites.push(site)?;
-        }
+    for (number, survey) in surveys.iter().enumerate() {
+        push_sites(&mut sites, number, survey.places.as_slice())?;
     }
     Ok(sites)
 }

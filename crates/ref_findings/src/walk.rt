@@ -1,6 +1,16 @@
 //! The places of a source where schemas stand.
+ghost use Rattle.std.specs.Prelude.{◌≡◌, ◌<◌, List, [], ◌∷◌, ◌++◌, map, length, slice_get, Some, IfOk, OnOk};
+ghost use Rattle.serde_json.specs.View.{view};
+ghost use Rattle.ref_parts.specs.Path.{Key};
+ghost use Rattle.ref_draft.specs.Children.{walked};
+ghost use Rattle.ref_draft.specs.Views.{segment_parts, walked_child};
+ghost use Rattle.ref_world.specs.Places.{child_place, root};
+ghost use Rattle.ref_findings.specs.Places.{children_near, places_near};
+ghost use Rattle.ref_findings.specs.declared.site.Place.{Place};
+ghost use Rattle.ref_findings.specs.inner.Seen.{place_of};
+
 use crate::base::nearest_base;
-use crate::site::Site;
+use crate::site::Place;
 use ref_draft::{Child, Draft};
 use ref_index::reference::shared;
 use ref_parts::path::{JsonPointerNode, JsonPointerSegment};
@@ -15,7 +25,9 @@ fn path_below<'v>(
     path: &JsonPointerNode<'v>,
     keyword: &'v str,
     segment: Option<JsonPointerSegment<'v>>,
-) -> Result<JsonPointerNode<'v>, AllocError> {
+) -> Result<JsonPointerNode<'v>, AllocError>
+    ensures { IfOk result (λ below. below ≡ path.now ++ Key keyword.now ∷ segment_parts segment.entry) }
+{
     let keyword = path.push(alloc, keyword)?;
     match segment {
         Some(segment) => keyword.push(alloc, segment),
@@ -24,20 +36,23 @@ fn path_below<'v>(
 }
 
 // Adds a place behind the others.
-fn push<'v>(sites: &mut Vec<Site<'v>>, site: Site<'v>) -> Result<(), AllocError> {
-    sites.push(site)?;
+fn push<'v>(places: &mut Vec<Place<'v>>, place: Place<'v>) -> Result<(), AllocError>
+    ensures { OnOk result (places.new.items ≡ places.old.items ++ place.entry ∷ []) }
+{
+    places.push(place)?;
     Ok(())
 }
 
 // Adds a child of a place behind the others.
 fn push_child<'v>(
     alloc: Global,
-    sites: &mut Vec<Site<'v>>,
-    source: usize,
+    places: &mut Vec<Place<'v>>,
     path: &JsonPointerNode<'v>,
     child: Child<'v>,
     base: &Rc<Uri>,
-) -> Result<(), AllocError> {
+) -> Result<(), AllocError>
+    ensures { OnOk result ((p : Place) × (places.new.items ≡ places.old.items ++ p ∷ []) × (place_of p ≡ child_place path.now base.now.value (walked_child child.entry))) }
+{
     let Child {
         keyword,
         segment,
@@ -47,9 +62,8 @@ fn push_child<'v>(
     let outer = base.clone()?;
     let path = path_below(alloc, path, keyword, segment)?;
     push(
-        sites,
-        Site {
-            source,
+        places,
+        Place {
             path,
             value,
             draft,
@@ -61,15 +75,16 @@ fn push_child<'v>(
 // Adds the children of a value behind the others.
 fn push_children<'v>(
     alloc: Global,
-    sites: &mut Vec<Site<'v>>,
-    source: usize,
+    places: &mut Vec<Place<'v>>,
     path: &JsonPointerNode<'v>,
     value: &'v Value,
     draft: Draft,
     base: &Rc<Uri>,
-) -> Result<(), AllocError> {
+) -> Result<(), AllocError>
+    ensures { OnOk result ((more : List Place) × (places.new.items ≡ places.old.items ++ more) × (map place_of more ≡ map (child_place path.now base.now.value) (walked draft (view value.now)))) }
+{
     for child in draft.walk_children(alloc, value)? {
-        push_child(alloc, sites, source, path, child, base)?;
+        push_child(alloc, places, path, child, base)?;
     }
     Ok(())
 }
@@ -77,27 +92,32 @@ fn push_children<'v>(
 // Adds the children of a place, whose number is given, behind the others.
 fn push_below<'v>(
     alloc: Global,
-    sites: &mut Vec<Site<'v>>,
+    places: &mut Vec<Place<'v>>,
     number: usize,
-) -> Result<(), AllocError> {
-    let site = &sites[number];
-    let base = nearest_base(alloc, &site.outer, site.id())?;
-    let path = site.path.clone()?;
-    let (source, value, draft) = (site.source, site.value, site.draft);
-    push_children(alloc, sites, source, &path, value, draft, &base)
+) -> Result<(), AllocError>
+    requires { number < length places.old.items }
+    ensures { (p : Place) → slice_get places.old.items number ≡ Some p
+        → OnOk result ((more : List Place) × (places.new.items ≡ places.old.items ++ more) × (map place_of more ≡ children_near (place_of p))) }
+{
+    let place = &places[number];
+    let base = nearest_base(alloc, &place.outer, place.id())?;
+    let path = place.path.clone()?;
+    let (value, draft) = (place.value, place.draft);
+    push_children(alloc, places, &path, value, draft, &base)
 }
 
 // The root of a source.
 fn root_of<'v>(
     alloc: Global,
-    source: usize,
     uri: &Uri,
     value: &'v Value,
     draft: Draft,
-) -> Result<Site<'v>, AllocError> {
-    let outer = shared(alloc, uri.clone()?)?;
-    Ok(Site {
-        source,
+) -> Result<Place<'v>, AllocError>
+    ensures { IfOk result (λ p. place_of p ≡ root (record { uri = uri.now; tree = view value.now; draft = draft })) }
+{
+    let uri = uri.clone()?;
+    let outer = shared(alloc, uri)?;
+    Ok(Place {
         path: JsonPointerNode::new(),
         value,
         draft,
@@ -105,22 +125,23 @@ fn root_of<'v>(
     })
 }
 
-/// The places of a source, whose number is given: the root, then its children by the keywords that hold subschemas, and so on
-/// level by level. Each is visited once; keys are lent, and paths and URIs shared.
-pub(crate) fn sites_of<'v>(
+/// The places of a source: the root, then its children by the keywords that hold subschemas, and so on level by level. Each is
+/// visited once; keys are lent, and paths and URIs shared.
+pub(crate) fn places_of<'v>(
     alloc: Global,
-    source: usize,
     uri: &Uri,
     value: &'v Value,
     draft: Draft,
-) -> Result<Vec<Site<'v>>, AllocError> {
-    let root = root_of(alloc, source, uri, value, draft)?;
-    let mut sites = Vec::new(alloc);
-    push(&mut sites, root)?;
+) -> Result<Vec<Place<'v>>, AllocError>
+    ensures value { IfOk result (λ places. map place_of places.items ≡ places_near (record { uri = uri.now; tree = view value.now; draft = draft })) }
+{
+    let root = root_of(alloc, uri, value, draft)?;
+    let mut places = Vec::new(alloc);
+    push(&mut places, root)?;
     let mut head = 0;
-    while head < sites.len() {
-        push_below(alloc, &mut sites, head)?;
+    while head < places.len() {
+        push_below(alloc, &mut places, head)?;
         head += 1;
     }
-    Ok(sites)
+    Ok(places)
 }

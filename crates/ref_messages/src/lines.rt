@@ -9,6 +9,7 @@ struct Line<'m> {
     file: &'m str,
     line: usize,
     column: usize,
+    pointer: &'m str,
     level: &'m str,
     code: &'m str,
     message: &'m str,
@@ -31,6 +32,7 @@ struct Place<'m> {
     line: Option<usize>,
     #[serde(skip_serializing_if = "Option::is_none")]
     column: Option<usize>,
+    pointer: &'m str,
 }
 
 /// Adds a message as an object on a line of its own.
@@ -39,6 +41,7 @@ pub fn push_line(alloc: Global, out: &mut String, message: &Message<'_>) -> Resu
         file: message.file,
         line: message.line,
         column: message.column,
+        pointer: message.pointer.as_str(),
         level: message.level.name(),
         code: message.code,
         message: message.text.as_str(),
@@ -67,6 +70,7 @@ fn place_of(other: &Option<Other>) -> Option<Place<'_>> {
             file: other.file.as_str(),
             line: known(other.line),
             column: known(other.column),
+            pointer: other.pointer.as_str(),
         }),
         None => None,
     }

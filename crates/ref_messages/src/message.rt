@@ -28,6 +28,8 @@ pub struct Other {
     pub line: usize,
     /// The column, from 1; 0 where it isn't known.
     pub column: usize,
+    /// The pointer of the schema there (RFC 6901).
+    pub pointer: String,
 }
 
 /// A message about a place in a file.
@@ -39,6 +41,8 @@ pub struct Message<'m> {
     pub line: usize,
     /// The column in Unicode characters, from 1.
     pub column: usize,
+    /// The pointer of the schema that it is about (RFC 6901).
+    pub pointer: String,
     /// How much it weighs.
     pub level: Level,
     /// The name of its kind, as `missing-document`.

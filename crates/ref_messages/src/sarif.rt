@@ -60,8 +60,15 @@ struct Physical {
 
 #[derive(Drop, Serialize)]
 #[serde(rename_all = "camelCase")]
+struct Logical {
+    fully_qualified_name: String,
+}
+
+#[derive(Drop, Serialize)]
+#[serde(rename_all = "camelCase")]
 struct Location {
     physical_location: Physical,
+    logical_locations: Vec<Logical>,
 }
 
 #[derive(Drop, Serialize)]
@@ -132,7 +139,12 @@ fn push_result(alloc: Global, out: &mut String, message: &Message<'_>) -> Result
         rule_id: message.code,
         level: message.level.name(),
         message: said,
-        locations: one_location(alloc, message.file, message.line, message.column)?,
+        locations: one_location(
+            alloc,
+            message.file,
+            (message.line, message.column),
+            message.pointer.as_str(),
+        )?,
         related_locations: related(alloc, &message.first)?,
     };
     let text = serde_json::to_string(alloc, &found)?;
@@ -155,8 +167,8 @@ fn text_of(alloc: Global, message: &Message<'_>) -> Result<String, AllocError> {
 fn location_at(
     alloc: Global,
     file: &str,
-    line: usize,
-    column: usize,
+    (line, column): (usize, usize),
+    pointer: &str,
 ) -> Result<Location, AllocError> {
     let region = if line == 0 {
         None
@@ -167,28 +179,43 @@ fn location_at(
         })
     };
     let uri = uri_of(alloc, file)?;
+    let logical_locations = logical(alloc, pointer)?;
     Ok(Location {
         physical_location: Physical {
             artifact_location: Artifact { uri },
             region,
         },
+        logical_locations,
     })
+}
+
+fn logical(alloc: Global, pointer: &str) -> Result<Vec<Logical>, AllocError> {
+    let mut list = Vec::new(alloc);
+    list.push(Logical {
+        fully_qualified_name: String::from_str(alloc, pointer)?,
+    })?;
+    Ok(list)
 }
 
 fn one_location(
     alloc: Global,
     file: &str,
-    line: usize,
-    column: usize,
+    place: (usize, usize),
+    pointer: &str,
 ) -> Result<Vec<Location>, AllocError> {
     let mut locations = Vec::new(alloc);
-    locations.push(location_at(alloc, file, line, column)?)?;
+    locations.push(location_at(alloc, file, place, pointer)?)?;
     Ok(locations)
 }
 
 fn related(alloc: Global, first: &Option<Other>) -> Result<Vec<Location>, AllocError> {
     match first {
-        Some(first) => one_location(alloc, first.file.as_str(), first.line, first.column),
+        Some(first) => one_location(
+            alloc,
+            first.file.as_str(),
+            (first.line, first.column),
+            first.pointer.as_str(),
+        ),
         None => Ok(Vec::new(alloc)),
     }
 }

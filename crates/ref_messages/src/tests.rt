@@ -8,6 +8,7 @@ fn sample(alloc: Global) -> Result<Message<'static>, AllocError> {
         file: "a b,c.json",
         line: 12,
         column: 14,
+        pointer: String::from_str(alloc, "/a")?,
         level: Level::Error,
         code: "pointer-to-nowhere",
         text: String::from_str(alloc, "Pointer '/x%' does not exist")?,
@@ -19,6 +20,7 @@ fn sample(alloc: Global) -> Result<Message<'static>, AllocError> {
             file: String::from_str(alloc, "d.json")?,
             line: 1,
             column: 2,
+            pointer: String::new(alloc),
         }),
     })
 }

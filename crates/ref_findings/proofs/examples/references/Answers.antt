@@ -1,0 +1,7 @@
+use Rattle.std.proofs.Common.{refl}
+use Rattle.ref_world.proofs.OnLiterals.{world_on_literals}
+use Rattle.ref_findings.proofs.examples.references.Goals as goal
+
+pub returns : goal.returns
+unfolding world_on_literals
+returns c = record { pointer = refl; anchor = refl; missing = refl; held = refl; no_uri = refl; meta_schema = refl; fragment_of_a_meta_schema = refl; }

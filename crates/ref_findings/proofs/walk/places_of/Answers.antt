@@ -1,0 +1,42 @@
+use Rattle.std.proofs.Common.{◌≡◌, ◌∙◌, ◌∷◌, ◌++◌, [], ◌+◌, ◌<◌, ap, sym, subst, map, get_or, length, option_map, arith}
+use Rattle.std.proofs.lemmas.Option.{slice_get-get_or, slice_get-map}
+use Rattle.std.proofs.lemmas.List.{length-map, map-append}
+use Rattle.serde_json.specs.View.{view}
+use Rattle.ref_world.specs.World.{Document}
+use Rattle.ref_findings.specs.Places.{places_near}
+use Rattle.ref_findings.specs.inner.Queue.{IsAt}
+use Rattle.ref_findings.specs.inner.Seen.{place_of}
+use Rattle.ref_findings.proofs.Queues.{begins, goes_on, ends, left_in}
+use Rattle.ref_findings.proofs.walk.places_of.Goals as goal
+
+pub loop-head-init : goal.loop-head-init
+loop-head-init c =
+    let d : Document = record { uri = c.args.uri.now; tree = view c.args.value.now; draft = c.args.draft } in
+    begins d (map place_of c.push.new.places.items)
+    (ap (map place_of) (c.in_ok-push.ensures ∙ ap (λ l. l ++ c.in_ok-root.root ∷ []) c.new-places.ensures.items) ∙ ap (λ p. p ∷ []) c.in_ok-root.ensures)
+
+pub loop-head-smaller : goal.loop-head-smaller
+loop-head-smaller c =
+    let d : Document = record { uri = c.args.uri.now; tree = view c.args.value.now; draft = c.args.draft } in
+    let queue = c.loop-head.places.items in
+    let more : c.loop-head.head < length (places_near d) = left_in d (map place_of queue) c.loop-head.head (omega (arith, length-map queue place_of)) c.loop-head.invariant in
+    omega (arith, more)
+
+pub loop-head-preserved : goal.loop-head-preserved
+loop-head-preserved c =
+    let d : Document = record { uri = c.args.uri.now; tree = view c.args.value.now; draft = c.args.draft } in
+    let queue = c.loop-head.places.items in
+    let head = c.loop-head.head in
+    let within : head < length queue = omega arith in
+    let p = get_or queue head c.in_ok-root.root in
+    let here = slice_get-get_or queue head c.in_ok-root.root within in
+    let next = c.in_ok-push_below.ensures p here in
+    let grown : map place_of c.push_below.new.places.items ≡ map place_of queue ++ map place_of next.0 = ap (map place_of) next.1.0 ∙ map-append place_of queue next.0 in
+    subst (λ l. IsAt d l (head + 1)) (sym grown)
+    (goes_on d (map place_of queue) (map place_of next.0) head (place_of p) (omega (arith, length-map queue place_of)) (slice_get-map place_of queue head ∙ ap (option_map place_of) here) next.1.1
+    c.loop-head.invariant)
+
+pub returns : goal.returns
+returns c =
+    let d : Document = record { uri = c.args.uri.now; tree = view c.args.value.now; draft = c.args.draft } in
+    record { value = ends d (map place_of c.loop-head.places.items) c.loop-head.head (omega (arith, length-map c.loop-head.places.items place_of)) c.loop-head.invariant }

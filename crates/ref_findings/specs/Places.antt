@@ -1,0 +1,41 @@
+-- The places of a document where schemas stand, also below identifiers that mean no URI, and which of them have a text that means
+-- none.
+use Rattle.std.specs.Prelude.{ℕ, zero, suc, Bool, true, false, ◌||◌, List, [], ◌∷◌, ◌++◌, flat_map, map, Option, Some, None, Result, Ok, Err}
+use Rattle.serde_json.specs.Data.{depth}
+use Rattle.ref_draft.specs.Children.{walked}
+use Rattle.ref_uri.specs.Targets.{Refusal}
+use Rattle.ref_world.specs.World.{Document}
+use Rattle.ref_world.specs.Places.{Place, root, child_place}
+use Rattle.ref_world.specs.Wants.{reference_at, schema_at}
+
+-- a base, or the base around it where there is none
+abbrev pub nearest_of : List ℕ → Result (List ℕ) Refusal → List ℕ
+nearest_of outer (Ok base) = base
+nearest_of outer (Err refusal) = outer
+
+-- the base of a place (2020-12 Core, 8.2.1), or the base around it where its identifier means no URI
+abbrev pub nearest : Place → List ℕ
+nearest p = nearest_of p.outer p.base
+
+-- the children of a place, under that base
+abbrev pub children_near : Place → List Place
+children_near p = map (child_place p.path (nearest p)) (walked p.draft p.value)
+
+-- n levels below places, each the joined children of the one above
+abbrev pub levels_near : ℕ → List Place → List Place
+levels_near zero places = []
+levels_near (suc n) places = flat_map children_near places ++ levels_near n (flat_map children_near places)
+
+-- the places of a document: its levels joined, which end at the depth of the tree
+abbrev pub places_near : Document → List Place
+places_near d = root d ∷ levels_near (depth d.tree) (root d ∷ [])
+
+-- whether a text means no URI, where there is one
+abbrev pub is_refused : Option (Result (List ℕ) Refusal) → Bool
+is_refused None = false
+is_refused (Some (Ok uri)) = false
+is_refused (Some (Err refusal)) = true
+
+-- whether the identifier of a place, its `$ref` or its `$schema` means no URI
+abbrev pub is_faulty : Place → Bool
+is_faulty p = is_refused (Some p.base) || (is_refused (reference_at (nearest p) p.value) || is_refused (schema_at p.value))

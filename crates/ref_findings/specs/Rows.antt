@@ -1,0 +1,22 @@
+-- Literal sources and findings for rows that compute.
+use Prim.Native.String.{String as Literal}
+use Rattle.std.specs.Prelude.{ℕ, List, [], codes, Some, None}
+use Rattle.serde_json.specs.Data.{Data}
+use Rattle.ref_parts.specs.Path.{Part}
+use Rattle.ref_findings.specs.Sources.{Source}
+use Rattle.ref_findings.specs.Findings.{Finding, Problem, NotJson}
+
+-- a source that is JSON, and one that isn't
+abbrev pub source : Literal → Data → Source
+source uri tree = record { uri = codes uri; tree = Some tree }
+
+abbrev pub unread : Literal → Source
+unread uri = record { uri = codes uri; tree = None }
+
+-- a finding on the text under a keyword
+abbrev pub told : ℕ → List Part → Literal → Literal → Problem → Finding
+told number path keyword text problem = record { source = number; path = path; keyword = Some (codes keyword); text = Some (codes text); problem = problem }
+
+-- a finding on a source as a whole
+abbrev pub told_whole : ℕ → Problem → Finding
+told_whole number problem = record { source = number; path = []; keyword = None; text = None; problem = problem }

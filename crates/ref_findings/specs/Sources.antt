@@ -1,0 +1,48 @@
+-- The documents that are read, and which of them references are looked up in.
+use Rattle.std.specs.Prelude.{ℕ, Bool, not, ◌&&◌, is_some, if◌then◌else◌, List, [], ◌∷◌, ◌++◌, flat_map, map, Option, option_map}
+use Rattle.std.specs.Option.{option_to_list, option_map_or}
+use Rattle.std.specs.List.{list_any}
+use Rattle.serde_json.specs.Data.{Data}
+use Rattle.ref_draft.specs.declared.draft.Draft.{Draft}
+use Rattle.ref_parts.specs.Table.{Entry}
+use Rattle.ref_world.specs.World.{Document, World, document}
+use Rattle.ref_world.specs.Places.{Place}
+use Rattle.ref_world.specs.Resources.{own_uri}
+use Rattle.ref_findings.specs.Places.{places_near, is_faulty}
+
+-- a source: its URI, and its tree, where it is JSON
+pub record Source : Type 0 where
+  pub uri : List ℕ
+  pub tree : Option Data
+
+-- its document, whose draft is detected on it
+abbrev pub document_in : Draft → Source → Option Document
+document_in draft s = option_map (document draft s.uri) s.tree
+
+-- its places
+abbrev pub places_in : Draft → Source → List Place
+places_in draft s = option_map_or places_near (document_in draft s) []
+
+-- whether it is JSON, and each identifier, `$ref` and `$schema` of its places means a URI
+abbrev pub is_sound : Draft → Source → Bool
+is_sound draft s = is_some s.tree && not (list_any is_faulty (places_in draft s))
+
+-- its document, where it is sound
+abbrev pub sound_document : Draft → Source → List Document
+sound_document draft s = if is_sound draft s then option_to_list (document_in draft s) else []
+
+-- what references are looked up in: the sound ones of the sources and of those that are held beside them
+abbrev pub world_of : Draft → List Source → List Source → World
+world_of draft sources held = flat_map (sound_document draft) (sources ++ held) ∷ []
+
+-- an entry of a URI alone
+abbrev pub under_uri : ℕ → List ℕ → Entry ℕ
+under_uri number uri = (uri, [], number)
+
+-- the URI of a source that isn't sound, and those that its places bear by their identifiers
+abbrev pub unsound_uris : Draft → Source → List (Entry ℕ)
+unsound_uris draft s = if is_sound draft s then [] else map (under_uri 0) (s.uri ∷ flat_map (λ p. option_to_list (own_uri p)) (places_in draft s))
+
+-- those of all sources that aren't
+abbrev pub unsound : Draft → List Source → List Source → List (Entry ℕ)
+unsound draft sources held = flat_map (unsound_uris draft) (sources ++ held)

@@ -1,0 +1,5 @@
+-- What no public clause cites.
+pub mod Keywords
+pub mod Meanings
+pub mod Seen
+pub mod Queue

@@ -1,0 +1,50 @@
+-- What texts are settled to mean.
+use Rattle.std.specs.Prelude.{◌≡◌, ℕ, Bool, true, false, List, map, Option, Some, None, Result, Ok, Err}
+use Rattle.ref_parts.specs.Segment.{part_of}
+use Rattle.ref_retrieve.specs.declared.error.Error.{Error}
+use Rattle.ref_retrieve.specs.declared.error.Error.TheVariants as error
+use Rattle.ref_retrieve.specs.Errors.{SaysFault}
+use Rattle.ref_world.specs.Fault.{Fault}
+use Rattle.ref_world.specs.Lookup.{Found}
+use Rattle.ref_findings.specs.Bearers.{Site}
+use Rattle.ref_findings.specs.declared.finding.Bearer.{Bearer}
+use Rattle.ref_uri.specs.Reference.{with_fragment}
+use Rattle.ref_uri.specs.Targets.{Refusal, parsed}
+use Rattle.ref_uri.specs.Errors.{SaysRefusal}
+use Rattle.ref_uri.specs.declared.error.UriError.{UriError}
+use Rattle.ref_uri.specs.declared.uri.Uri.{Uri}
+use Rattle.std.specs.declared.rc.Rc.{Rc}
+use Rattle.std.specs.declared.alloc.Global.{Global}
+use Rattle.ref_world.specs.Results.{◌>>=◌}
+use Rattle.ref_findings.specs.declared.finding.Problem as rust_problem
+use Rattle.ref_findings.specs.Findings.{Problem}
+use Rattle.ref_findings.specs.Entries.{IsProblemOf}
+
+-- the URI that a text names a meta-schema by: its fragment takes no part
+abbrev pub meta_schema_uri : List ℕ → Result (List ℕ) Refusal
+meta_schema_uri text = parsed text >>= λ uri. Ok (with_fragment uri None)
+
+-- what is settled is the meaning
+abbrev pub IsMeaning : Result (List ℕ) Refusal → Result (Rc Uri Global) UriError → Type 0
+IsMeaning meaning (Ok uri) = meaning ≡ Ok uri.value
+IsMeaning meaning (Err error) = (refusal : Refusal) × (meaning ≡ Err refusal) × SaysRefusal error refusal
+
+-- the program says what is wrong, or nothing is
+abbrev pub IsMaybe : Option Problem → Option rust_problem.Problem → Type 0
+IsMaybe problem None = problem ≡ None
+IsMaybe problem (Some said) = (p : Problem) × (problem ≡ Some p) × IsProblemOf said p
+
+-- whether an error is that a document could not be retrieved
+abbrev pub is_unretrievable : Error → Bool
+is_unretrievable (error.Unretrievable uri source) = true
+is_unretrievable other = false
+
+-- the error says the fault that an answer is, or there is none of either
+abbrev pub IsWhy : Result Found Fault → Option Error → Type 0
+IsWhy answer None = (found : Found) × (answer ≡ Ok found)
+IsWhy answer (Some said) = (fault : Fault) × (answer ≡ Err fault) × SaysFault said fault
+
+-- the bearer is the place, or there is none of either
+abbrev pub IsBearer : Option Site → Option Bearer → Type 0
+IsBearer site None = site ≡ None
+IsBearer site (Some bearer) = (s : Site) × (site ≡ Some s) × (bearer.source ≡ s.0) × (map part_of bearer.path.items ≡ s.1.path)
