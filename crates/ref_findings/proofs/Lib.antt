@@ -2,6 +2,11 @@ pub mod Placing
 pub mod Levels
 pub mod Queues
 pub mod Lists
+pub mod Tables
+pub mod Zips
 pub mod Sound
 pub mod Saying
 pub mod Knowing
+pub mod Dialects
+pub mod Missing
+pub mod Duplicates

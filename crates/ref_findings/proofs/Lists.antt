@@ -1,8 +1,8 @@
 -- Lists that are numbered, and first and last entries.
-use Rattle.std.proofs.Common.{◌≡◌, ℕ, zero, suc, ◌+◌, ◌<◌, Bool, true, false, ◌||◌, cond, List, [], ◌∷◌, ◌++◌, map, flat_map, filter, take, length, get_or, reverse, Option, Some, None, is_some, refl, sym, ap, ◌∙◌, append-nil, append_assoc, arith}
-use Rattle.std.specs.List.{find, last_or, list_any, enumerate_from}
+use Rattle.std.proofs.Common.{◌≡◌, ℕ, zero, suc, ◌+◌, ◌<◌, ◌≤◌, Bool, true, false, ◌||◌, cond, List, [], ◌∷◌, ◌++◌, map, flat_map, filter, take, length, get_or, reverse, Option, Some, None, is_some, refl, sym, ap, subst, ◌∙◌, append-nil, append_assoc, arith}
+use Rattle.std.specs.List.{find, last_or, list_any, enumerate_from, AllByRecursion}
 use Rattle.std.specs.Option.{option_or}
-use Rattle.std.proofs.lemmas.List.{map_more, take_more, length-take-le, length-map, reverse-append, map-append}
+use Rattle.std.proofs.lemmas.List.{take_all, take_more, length-take-le, length-map, reverse-append, map-append}
 use Rattle.std.proofs.lemmas.List.Folds.{find-append, list_any-append}
 use Rattle.std.proofs.lemmas.List.Concat.{flat_map-append}
 
@@ -20,7 +20,7 @@ taken_more v xs i d within = ap (map v) (take_more xs i d within) ∙ map-append
 numbered_more : {X Y : Type 0} (v : X → Y) (xs : List X) (i : ℕ) (d : X) → i < length xs
     → enumerate_from 0 (map v (take (i + 1) xs)) ≡ enumerate_from 0 (map v (take i xs)) ++ (i, v (get_or xs i d)) ∷ []
 numbered_more v xs i d within =
-    let long : 0 + length (map v (take i xs)) ≡ i = ap (λ n. 0 + n) (length-map (take i xs) v ∙ length-take-le i xs (omega (arith, within))) in
+    let long : 0 + length (map v (take i xs)) ≡ i = omega (arith, length-map (take i xs) v, length-take-le i xs (omega (arith, within))) in
     ap (enumerate_from 0) (taken_more v xs i d within) ∙ enumerate-push 0 (map v (take i xs)) (v (get_or xs i d))
     ∙ ap (λ k. enumerate_from 0 (map v (take i xs)) ++ (k, v (get_or xs i d)) ∷ []) long
 
@@ -86,3 +86,23 @@ pub any_more : {X Y : Type 0} (test : Y → Bool) (v : X → Y) (xs : List X) (i
 any_more test v xs i d within =
     ap (list_any test) (taken_more v xs i d within) ∙ list_any-append test (map v (take i xs)) (v (get_or xs i d) ∷ [])
     ∙ ap (λ b. list_any test (map v (take i xs)) || b) (or_false (test (v (get_or xs i d))))
+
+-- ---- the steps of loops
+
+pub joined_step : {X Y A : Type 0} (f : ℕ × Y → List A) (v : X → Y) (xs : List X) (i : ℕ) (x : X) → i < length xs → x ≡ get_or xs i x
+    → flat_map f (enumerate_from 0 (map v (take (i + 1) xs))) ≡ flat_map f (enumerate_from 0 (map v (take i xs))) ++ f (i, v x)
+joined_step f v xs i x within is =
+    joined_numbered f v xs i x within ∙ ap (λ y. flat_map f (enumerate_from 0 (map v (take i xs))) ++ f (i, v y)) (sym is)
+
+pub joined_end : {X Y A : Type 0} (f : ℕ × Y → List A) (v : X → Y) (xs : List X) (i : ℕ) → length xs ≤ i
+    → flat_map f (enumerate_from 0 (map v (take i xs))) ≡ flat_map f (enumerate_from 0 (map v xs))
+joined_end f v xs i all = ap (λ l. flat_map f (enumerate_from 0 (map v l))) (take_all i xs all)
+
+all_here : {X Y : Type 0} (P : Y → Type 0) (f : X → Y) (xs : List X) (i : ℕ) (d : X) → AllByRecursion P (map f xs) → i < length xs → P (f (get_or xs i d))
+all_here P f [] i d all within = absurd (omega (arith, within))
+all_here P f (x ∷ xs) zero d all within = all.0
+all_here P f (x ∷ xs) (suc i) d all within = all_here P f xs i d all.1 (omega (arith, within))
+
+-- what holds of each of a list holds of the one at a place
+pub all_at : {X Y : Type 0} (P : Y → Type 0) (f : X → Y) (xs : List X) (i : ℕ) (x : X) → AllByRecursion P (map f xs) → i < length xs → x ≡ get_or xs i x → P (f x)
+all_at P f xs i x all within is = subst (λ y. P (f y)) (sym is) (all_here P f xs i x all within)

@@ -55,7 +55,7 @@ abbrev pub is_among : List ℕ → List (Entry ℕ) → Bool
 is_among uri entries = list_any (is_under uri []) entries
 
 -- whether a URI is that of a meta-schema of a draft
-abbrev pub is_meta_schema : List ℕ → Bool
+unfoldable pub is_meta_schema : List ℕ → Bool
 is_meta_schema uri = not (is_unknown (from_schema_uri uri)) || list_any (λ known. bytes_eq (trimmed known) uri) meta_schemas.uris
 
 -- ---- a `$ref`
@@ -174,8 +174,12 @@ abbrev pub place_findings : Known → List Site → List Finding
 place_findings known sites = flat_map (λ e. findings_at known e.0 e.1) (enumerate_from 0 sites)
 
 -- that the source with a number is no JSON
+abbrev pub no_json : ℕ → Finding
+no_json number = record { source = number; path = []; keyword = None; text = None; problem = NotJson }
+
+-- where it is none
 abbrev pub not_json : ℕ × Source → List Finding
-not_json e = if is_some e.1.tree then [] else record { source = e.0; path = []; keyword = None; text = None; problem = NotJson } ∷ []
+not_json e = if is_some e.1.tree then [] else no_json e.0 ∷ []
 
 -- which sources are none
 abbrev pub unread : List Source → List Finding

@@ -121,7 +121,8 @@ pub(crate) fn uris_of(
         push_uris(alloc, &mut entries, site.place, number)?;
     }
     entries.reverse();
-    SortedTable::from_entries(alloc, entries)
+    let table = SortedTable::from_entries(alloc, entries)?;
+    Ok(table)
 }
 
 /// The table of the names that places bear under their bases, made from the last to the first.
@@ -136,7 +137,8 @@ pub(crate) fn names_of(
         push_names(alloc, &mut entries, site.place, number)?;
     }
     entries.reverse();
-    SortedTable::from_entries(alloc, entries)
+    let table = SortedTable::from_entries(alloc, entries)?;
+    Ok(table)
 }
 
 // Adds the URIs that places bear by their identifiers.

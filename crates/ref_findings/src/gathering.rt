@@ -158,24 +158,13 @@ fn retrieve_next<R: Retrieve>(
 }
 
 // Adds what a document that was retrieved bears and wants.
-fn add_held(
-    alloc: Global,
-    draft: Draft,
-    wants: &mut Wants,
-    held: &Held,
-) -> Result<(), AllocError>
-{
+fn add_held(alloc: Global, draft: Draft, wants: &mut Wants, held: &Held) -> Result<(), AllocError> {
     let places = places_of(alloc, &held.uri, &held.value, draft.detect(&held.value))?;
     wants.add_document(alloc, held.uri.as_str(), places.as_slice())
 }
 
 // Adds what the places of sources bear and want.
-fn wants_of(
-    alloc: Global,
-    draft: Draft,
-    sources: &[Source<'_>],
-) -> Result<Wants, AllocError>
-{
+fn wants_of(alloc: Global, draft: Draft, sources: &[Source<'_>]) -> Result<Wants, AllocError> {
     let surveys = surveys_of(alloc, draft, sources)?;
     let mut wants = Wants {
         wanted: Vec::new(alloc),
@@ -206,7 +195,8 @@ pub fn gather<R: Retrieve>(
 {
     let mut wants = wants_of(alloc, draft, sources)?;
     let mut list = Vec::new(alloc);
-    for _count in 0..limit {
+    for count in 0..limit {
+        let _ = count;
         let Some(held) = retrieve_next(alloc, retriever, &mut wants)? else {
             return Ok(list);
         };

@@ -21,6 +21,3 @@ pub use finding::{Bearer, Finding, Problem};
 pub use gathering::{Held, as_sources, gather};
 pub use list::findings;
 pub use source::Source;
-
-#[cfg(test)]
-mod tries;

@@ -5,7 +5,7 @@ ghost use Rattle.ref_draft.specs.declared.anchor.Anchor.{Anchor};
 ghost use Rattle.ref_draft.specs.Views.{anchor_name};
 ghost use Rattle.ref_findings.specs.Places.{nearest};
 ghost use Rattle.ref_findings.specs.Findings as spec;
-ghost use Rattle.ref_findings.specs.Findings.{finding_at, anchor_finding, source_findings, identifier_findings, reference_findings, schema_findings, anchor_findings, findings_at, place_findings, not_json, unread, findings};
+ghost use Rattle.ref_findings.specs.Findings.{finding_at, anchor_finding, source_findings, identifier_findings, reference_findings, schema_findings, anchor_findings, findings_at, place_findings, no_json, not_json, unread, findings};
 ghost use Rattle.ref_findings.specs.Entries.{source_of, IsProblemOf, IsFindingOf};
 ghost use Rattle.ref_findings.specs.inner.Keywords.{keyword_text};
 ghost use Rattle.ref_findings.specs.inner.Meanings.{IsMaybe};
@@ -189,6 +189,19 @@ fn add_site<'v>(
     add_anchors(alloc, list, known, number, site)
 }
 
+// That the source with a number is no JSON.
+fn no_json<'v>(alloc: Global, number: usize) -> Finding<'v>
+    ensures { IsFindingOf result (no_json number) }
+{
+    Finding {
+        source: number,
+        path: Vec::new(alloc),
+        keyword: None,
+        text: None,
+        problem: Problem::NotJson,
+    }
+}
+
 // Adds that a source is no JSON, where it isn't.
 fn add_source<'v>(
     alloc: Global,
@@ -201,13 +214,8 @@ fn add_source<'v>(
     if source.value.is_some() {
         return Ok(());
     }
-    list.push(Finding {
-        source: number,
-        path: Vec::new(alloc),
-        keyword: None,
-        text: None,
-        problem: Problem::NotJson,
-    })?;
+    let finding = no_json(alloc, number);
+    list.push(finding)?;
     Ok(())
 }
 
@@ -227,10 +235,11 @@ fn add_sites<'v>(
     alloc: Global,
     list: &mut Vec<Finding<'v>>,
     known: &Known<'_, 'v>,
+    sites: &[Site<'_, 'v>],
 ) -> Result<(), AllocError>
-    ensures { (fs : List spec.Finding) → AllZip IsFindingOf list.old.items fs → OnOk result (AllZip IsFindingOf list.new.items (fs ++ place_findings (known_in known.now) (known_in known.now).sites)) }
+    ensures { (fs : List spec.Finding) → AllZip IsFindingOf list.old.items fs → OnOk result (AllZip IsFindingOf list.new.items (fs ++ place_findings (known_in known.now) (map site_of sites.now))) }
 {
-    for (number, site) in known.sites.iter().enumerate() {
+    for (number, site) in sites.iter().enumerate() {
         add_site(alloc, list, known, number, site)?;
     }
     Ok(())
@@ -264,13 +273,14 @@ pub fn findings<'v>(
     let names = names_of(alloc, sites.as_slice())?;
     let mut list = unread(alloc, sources)?;
     let parents = Vec::new(alloc);
+    let layers = Layers::new(&index, parents.as_slice());
     let known = Known {
         sites: sites.as_slice(),
-        layers: Layers::new(&index, parents.as_slice()),
+        layers,
         unsound: &unsound,
         uris: &uris,
         names: &names,
     };
-    add_sites(alloc, &mut list, &known)?;
+    add_sites(alloc, &mut list, &known, sites.as_slice())?;
     Ok(list)
 }

@@ -1,5 +1,8 @@
 //! What is wrong at a place, text by text.
-ghost use Rattle.std.specs.Prelude.{◌≡◌, [], IfOk, option_map, option_copied, Some, Ok};
+ghost use Rattle.std.specs.Prelude.{◌≡◌, ◌==◌, ◌||◌, [], IfOk, map, not, bytes_eq, option_map, option_copied, Some, Ok};
+ghost use Rattle.std.specs.List.{list_any};
+ghost use Rattle.ref_draft.specs.Keywords.{is_unknown};
+ghost use Rattle.ref_draft.specs.Schema.{trimmed, from_schema_uri};
 ghost use Rattle.ref_uri.specs.Targets.{target};
 ghost use Rattle.ref_retrieve.specs.Errors.{SaysFault};
 ghost use Rattle.ref_world.specs.Places.{base_within};
@@ -7,8 +10,9 @@ ghost use Rattle.ref_world.specs.Fault.{Fault};
 ghost use Rattle.ref_world.specs.Lookup.{lookup};
 ghost use Rattle.ref_resolver.specs.Layered.{world_in};
 ghost use Rattle.ref_findings.specs.Bearers.{first_under, other_bearer};
-ghost use Rattle.ref_findings.specs.Findings.{is_among, is_meta_schema, missing, by_fault, by_target, is_dialect, reference_problem, schema_problem, uri_problem, by_base, name_problem};
+ghost use Rattle.ref_findings.specs.Findings.{is_among, is_meta_schema, missing, by_fault, by_target, is_dialect, by_dialect, reference_problem, schema_problem, uri_problem, by_base, name_problem};
 ghost use Rattle.ref_findings.specs.inner.Meanings.{IsMaybe, IsWhy, IsBearer, is_unretrievable};
+ghost use Rattle.ref_findings.specs.inner.Meanings as meanings;
 ghost use Rattle.ref_findings.specs.inner.Seen.{known_in};
 
 use crate::base::{base_of, meta_schema_uri, target_of};
@@ -35,13 +39,47 @@ pub(crate) struct Known<'k, 'v> {
     pub names: &'k SortedTable<usize>,
 }
 
+// Whether a URI is that of a draft's own meta-schema.
+fn is_of_draft(uri: &str) -> bool
+    ensures { result ≡ not (is_unknown (from_schema_uri uri.now)) }
+{
+    !matches!(Draft::from_schema_uri(uri), Draft::Unknown)
+}
+
+// Whether a URI is one of these, the `#` characters at their ends dropped.
+fn is_one_of(uris: &[&str; 19], uri: &str) -> bool
+    ensures { result ≡ list_any (λ known. bytes_eq (trimmed known) uri.now) (map (λ u. u.now) uris.now) }
+{
+    let mut any = false;
+    for known in uris {
+        let same = trim_hashes(known) == uri;
+        any = any || same;
+    }
+    any
+}
+
+// Whether two numbers are the same.
+fn is_number(first: usize, number: usize) -> bool
+    ensures { result ≡ (first == number) }
+{
+    first == number
+}
+
+// Whether one of two holds.
+fn either(first: bool, second: bool) -> bool
+    ensures { result ≡ (first || second) }
+{
+    first || second
+}
+
 // Whether a URI is that of a meta-schema of a draft.
 fn is_meta_schema(uri: &str) -> bool
     ensures { result ≡ is_meta_schema uri.now }
 {
     meta::uris_are_of_all_drafts();
-    Draft::from_schema_uri(uri) != Draft::Unknown
-        || meta::URIS.iter().any(|known| trim_hashes(known) == uri)
+    let of_draft = is_of_draft(uri);
+    let listed = is_one_of(&meta::URIS, uri);
+    either(of_draft, listed)
 }
 
 // Whether an error is that a document could not be retrieved.
@@ -138,24 +176,39 @@ impl<'k, 'v> Known<'k, 'v> {
     fn is_dialect(&self, uri: &str) -> bool
         ensures { result ≡ is_dialect (known_in self.now) uri.now }
     {
-        is_meta_schema(uri) || (self.is_unsound(uri) || self.layers.has_resource(uri))
+        let of_draft = is_meta_schema(uri);
+        let unsound = self.is_unsound(uri);
+        let there = self.layers.has_resource(uri);
+        let other = either(unsound, there);
+        either(of_draft, other)
     }
 
     /// What is wrong with a text under `$schema`, or is noted on it.
     pub fn of_schema(&self, alloc: Global, text: &str) -> Result<Option<Problem<'v>>, AllocError>
         ensures value { IfOk result (IsMaybe (schema_problem (known_in self.now) text.now)) }
     {
-        if Draft::from_schema_uri(text) != Draft::Unknown {
+        if is_of_draft(text) {
             return Ok(None);
         }
+        self.of_dialect(alloc, text)
+    }
+
+    // What is noted on the URI of a meta-schema.
+    fn of_dialect_uri(&self, uri: Rc<Uri>) -> Option<Problem<'v>>
+        ensures { IsMaybe (by_dialect (known_in self.now) (Ok uri.value)) result }
+    {
+        if self.is_dialect(uri.as_str()) {
+            return None;
+        }
+        Some(Problem::UnknownDialect { uri })
+    }
+
+    // What is wrong with a text that names the meta-schema of no draft.
+    fn of_dialect(&self, alloc: Global, text: &str) -> Result<Option<Problem<'v>>, AllocError>
+        ensures { IfOk result (IsMaybe (by_dialect (known_in self.now) (meanings.meta_schema_uri text.now))) }
+    {
         match meta_schema_uri(alloc, text)? {
-            Ok(uri) => {
-                if self.is_dialect(uri.as_str()) {
-                    Ok(None)
-                } else {
-                    Ok(Some(Problem::UnknownDialect { uri }))
-                }
-            }
+            Ok(uri) => Ok(self.of_dialect_uri(uri)),
             Err(error) => Ok(Some(Problem::InvalidUri(error))),
         }
     }
@@ -172,7 +225,7 @@ impl<'k, 'v> Known<'k, 'v> {
         let Some(first) = first else {
             return Ok(None);
         };
-        if *first == number {
+        if is_number(*first, number) {
             return Ok(None);
         }
         let Some(site) = self.sites.get(*first) else {

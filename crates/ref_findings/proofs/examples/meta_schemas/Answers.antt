@@ -1,7 +1,8 @@
 use Rattle.std.proofs.Common.{refl}
+use Rattle.ref_findings.specs.Findings.{is_meta_schema}
 use Rattle.ref_world.proofs.OnLiterals.{world_on_literals}
 use Rattle.ref_findings.proofs.examples.meta_schemas.Goals as goal
 
 pub returns : goal.returns
-unfolding world_on_literals
-returns c = record { unknown = refl; among_the_sources = refl; known = refl; }
+unfolding world_on_literals is_meta_schema
+returns c = record { unknown = refl; among_the_sources = refl; known = refl }

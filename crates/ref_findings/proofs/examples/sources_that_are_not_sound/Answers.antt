@@ -1,7 +1,8 @@
 use Rattle.std.proofs.Common.{refl}
+use Rattle.ref_findings.specs.Findings.{is_meta_schema}
 use Rattle.ref_world.proofs.OnLiterals.{world_on_literals}
 use Rattle.ref_findings.proofs.examples.sources_that_are_not_sound.Goals as goal
 
 pub returns : goal.returns
-unfolding world_on_literals
-returns c = record { no_json = refl; faulty = refl; below_a_faulty_identifier = refl; }
+unfolding world_on_literals is_meta_schema
+returns c = record { no_json = refl; faulty = refl; below_a_faulty_identifier = refl }

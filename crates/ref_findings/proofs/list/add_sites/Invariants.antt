@@ -8,4 +8,4 @@ use Rattle.ref_findings.proofs.list.add_sites.Given as goal
 abbrev pub invariant-loop-number : goal.invariant-loop-number
 invariant-loop-number l =
     (fs : List Finding) → AllZip IsFindingOf l.initial.list.items fs
-    → AllZip IsFindingOf l.list.items (fs ++ flat_map (λ e. findings_at (known_in l.known) e.0 e.1) (enumerate_from 0 (map site_of (take l.number l.known.sites.now))))
+    → AllZip IsFindingOf l.list.items (fs ++ flat_map (λ e. findings_at (known_in l.known) e.0 e.1) (enumerate_from 0 (map site_of (take l.number l.sites))))

@@ -31,9 +31,9 @@ loop-head-preserved c =
     let p = get_or queue head c.in_ok-root.root in
     let here = slice_get-get_or queue head c.in_ok-root.root within in
     let next = c.in_ok-push_below.ensures p here in
-    let grown : map place_of c.push_below.new.places.items ≡ map place_of queue ++ map place_of next.0 = ap (map place_of) next.1.0 ∙ map-append place_of queue next.0 in
+    let grown : map place_of c.push_below.new.places.items ≡ map place_of queue ++ map place_of next.0 = ap (map place_of) next.1 ∙ map-append place_of queue next.0 in
     subst (λ l. IsAt d l (head + 1)) (sym grown)
-    (goes_on d (map place_of queue) (map place_of next.0) head (place_of p) (omega (arith, length-map queue place_of)) (slice_get-map place_of queue head ∙ ap (option_map place_of) here) next.1.1
+    (goes_on d (map place_of queue) (map place_of next.0) head (place_of p) (omega (arith, length-map queue place_of)) (slice_get-map place_of queue head ∙ ap (option_map place_of) here) next.2
     c.loop-head.invariant)
 
 pub returns : goal.returns

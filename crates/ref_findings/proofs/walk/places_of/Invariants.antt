@@ -6,7 +6,7 @@ use Rattle.ref_findings.specs.inner.Seen.{place_of}
 use Rattle.ref_findings.proofs.walk.places_of.Given as goal
 
 abbrev pub invariant-loop-head : goal.invariant-loop-head
-invariant-loop-head l = IsAt (record { uri = l.uri; tree = view l.value; draft = l.draft }) (map place_of l.places.items) l.head
+invariant-loop-head l = IsAt (record { uri = l.uri; tree = view l.value; draft = l.fn.draft }) (map place_of l.places.items) l.head
 
 abbrev pub decreases-loop-head : goal.decreases-loop-head
-decreases-loop-head l = length (places_near (record { uri = l.uri; tree = view l.value; draft = l.draft })) - l.head
+decreases-loop-head l = length (places_near (record { uri = l.uri; tree = view l.value; draft = l.fn.draft })) - l.head

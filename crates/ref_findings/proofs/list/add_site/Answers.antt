@@ -1,0 +1,24 @@
+use Rattle.std.proofs.Common.{◌≡◌, ◌++◌, ◌∙◌, List, OnOk, subst, append_assoc}
+use Rattle.std.specs.List.{AllZip}
+use Rattle.ref_findings.specs.Findings.{source_findings, identifier_findings, reference_findings, schema_findings, anchor_findings}
+use Rattle.ref_findings.specs.Entries.{IsFindingOf}
+use Rattle.ref_findings.specs.inner.Seen.{site_of, known_in}
+use Rattle.ref_findings.proofs.Zips.{five}
+use Rattle.ref_findings.proofs.list.add_site.Goals as goal
+
+pub returns : goal.returns
+returns c = λ fs zip.
+    let k = known_in c.args.known.now in
+    let n = c.args.number in
+    let s = site_of c.args.site.now in
+    let one = source_findings k n s in
+    let two = identifier_findings k n s in
+    let three = reference_findings k s in
+    let four = schema_findings k s in
+    let last = anchor_findings k n s in
+    subst (λ l. OnOk c.add_anchors.result (AllZip IsFindingOf c.add_anchors.new.list.items l)) (five fs one two three four last)
+    (c.add_anchors.ensures ((((fs ++ one) ++ two) ++ three) ++ four)
+    (c.in_ok-add_schema.ensures (((fs ++ one) ++ two) ++ three)
+    (c.in_ok-add_reference.ensures ((fs ++ one) ++ two)
+    (c.in_ok-add_identifier.ensures (fs ++ one)
+    (c.in_ok-add_source_uri.ensures fs zip)))))

@@ -1,0 +1,19 @@
+use Rattle.std.proofs.Common.{◌≡◌, ◌∙◌, ◌==◌, false, Some, ap, map, option_map, refl, rules}
+use Rattle.std.specs.Prelude.{slice_get}
+use Rattle.std.proofs.lemmas.Option.{slice_get-map}
+use Rattle.ref_findings.specs.inner.Seen.{site_of}
+use Rattle.ref_findings.proofs.Tables.{other_is}
+use Rattle.ref_findings.proofs.problem.Known.bearer.Goals as goal
+
+pub returns : goal.returns
+returns c =
+    let sites = c.args.self.now.sites.now in
+    let first = c.in-Some.first.now in
+    let site = c.in-Some-2.site.now in
+    let differ : (first == c.args.number) ≡ false = search rules in
+    let got : slice_get sites first ≡ Some site = search rules in (
+      site_of site,
+      other_is (map site_of sites) c.args.number first (site_of site) differ (slice_get-map site_of sites first ∙ ap (option_map site_of) got),
+      refl,
+      c.in_ok-path.ensures.value,
+    )
