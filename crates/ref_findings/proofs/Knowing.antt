@@ -40,7 +40,7 @@ sites_are draft ss ts ls first is =
     is ∙ ap (λ l. flat_map numbered (enumerate_from 0 (map (λ (t : Survey). t.places) l))) first
     ∙ ap (λ l. flat_map numbered (enumerate_from 0 l)) (map-map (λ (t : Survey). t.places) (survey_in draft) ss)
 
-abbrev known_with : World → List (Entry ℕ) → List Site → List (Entry ℕ) → List (Entry ℕ) → Known
+abbrev pub known_with : World → List (Entry ℕ) → List Site → List (Entry ℕ) → List (Entry ℕ) → Known
 known_with world entries ls uris names = record { world = world; unsound = entries; sites = ls; uris = uris; names = names }
 
 pub same_known : (world : World) (entries : List (Entry ℕ)) (ls : List Site) (uris names : List (Entry ℕ)) (w : World) (e : List (Entry ℕ)) (l : List Site) → world ≡ w → entries ≡ e → ls ≡ l

@@ -245,6 +245,20 @@ fn add_sites<'v>(
     Ok(())
 }
 
+// All that is found, by what is known.
+fn listed<'v>(
+    alloc: Global,
+    sources: &[Source<'v>],
+    known: &Known<'_, 'v>,
+    sites: &[Site<'_, 'v>],
+) -> Result<Vec<Finding<'v>>, AllocError>
+    ensures { IfOk result (λ list. AllZip IsFindingOf list.items (unread (map source_of sources.now) ++ place_findings (known_in known.now) (map site_of sites.now))) }
+{
+    let mut list = unread(alloc, sources)?;
+    add_sites(alloc, &mut list, known, sites)?;
+    Ok(list)
+}
+
 /// All that is wrong with the references of sources, and what is to be noted: first those sources that are no JSON, then source by
 /// source what is wrong at its places, level by level. `held` are other documents that references may lead to.
 ///
@@ -271,7 +285,6 @@ pub fn findings<'v>(
     let sites = sites_of(alloc, surveys.as_slice())?;
     let uris = uris_of(alloc, sites.as_slice())?;
     let names = names_of(alloc, sites.as_slice())?;
-    let mut list = unread(alloc, sources)?;
     let parents = Vec::new(alloc);
     let layers = Layers::new(&index, parents.as_slice());
     let known = Known {
@@ -281,6 +294,6 @@ pub fn findings<'v>(
         uris: &uris,
         names: &names,
     };
-    add_sites(alloc, &mut list, &known, sites.as_slice())?;
+    let list = listed(alloc, sources, &known, sites.as_slice())?;
     Ok(list)
 }

@@ -7,14 +7,18 @@ use Rattle.ref_findings.specs.Bearers.{numbered, sites, uris_borne, names_borne}
 use Rattle.ref_findings.specs.Findings.{Known, unread, place_findings, known_of, findings}
 use Rattle.ref_findings.specs.Entries.{source_of, IsFindingOf}
 use Rattle.ref_findings.specs.inner.Seen.{Survey, seen, site_of, known_in, sound_in, unsound_in, AreSurveys}
-use Rattle.ref_findings.proofs.Knowing.{world_is, unsound_is, sites_are, same_known, surveys_are}
+use Rattle.ref_findings.proofs.Knowing.{known_with, world_is, unsound_is, sites_are, same_known, surveys_are}
 use Rattle.ref_findings.proofs.list.findings.Goals as goal
 
 pub index_of-requires-clause-surveys : goal.index_of-requires-clause-surveys
-index_of-requires-clause-surveys c = subst (AreSurveys c.args.draft) (sym c.in_ok-surveys.ensures.value) (surveys_are c.args.draft (map source_of c.args.sources.now))
+index_of-requires-clause-surveys c =
+    let lent : c.as_slice.result.now ≡ c.in_ok-surveys.surveys.items = search rules in
+    subst (AreSurveys c.args.draft) (sym (ap (map seen) lent ∙ c.in_ok-surveys.ensures.value)) (surveys_are c.args.draft (map source_of c.args.sources.now))
 
 pub index_of-requires-clause-others : goal.index_of-requires-clause-others
-index_of-requires-clause-others c = subst (AreSurveys c.args.draft) (sym c.in_ok-others.ensures.value) (surveys_are c.args.draft (map source_of c.args.held.now))
+index_of-requires-clause-others c =
+    let lent : c.as_slice-2.result.now ≡ c.in_ok-others.others.items = search rules in
+    subst (AreSurveys c.args.draft) (sym (ap (map seen) lent ∙ c.in_ok-others.ensures.value)) (surveys_are c.args.draft (map source_of c.args.held.now))
 
 pub returns : goal.returns
 returns c =
@@ -39,7 +43,5 @@ returns c =
     (unsound_is draft ss hs ts us bad c.in_ok-surveys.ensures.value c.in_ok-others.ensures.value entries)
     (sites_are draft ss ts ls c.in_ok-surveys.ensures.value (placed ∙ ap (λ l. flat_map numbered (enumerate_from 0 l)) (sym (map-map (λ (t : Survey). t.places) seen c.in_ok-surveys.surveys.items))))
     first second in
-    let zipped = c.in_ok-add_sites.ensures (unread ss) c.in_ok-list.ensures in
-    record {
-      value = subst (λ (k : Known). AllZip IsFindingOf c.add_sites.new.list.items (unread ss ++ place_findings k k.sites)) same zipped;
-    }
+    let zipped : AllZip IsFindingOf c.in_ok-list.list.items (unread ss ++ place_findings (known_with (world_in c.new-layers.result) bad ls (reverse uris) (reverse names)) ls) = search rules in
+    record { value = subst (λ (k : Known). AllZip IsFindingOf c.in_ok-list.list.items (unread ss ++ place_findings k k.sites)) same zipped }

@@ -12,4 +12,4 @@ returns-then-is_unretrievable c = λ fault says.
 pub returns : goal.returns
 returns c = λ fault says.
     let other : is_unretrievable c.args.error ≡ false = search rules in
-    (LeadsNowhere c.args.uri.value fault, says_nowhere c.args.uri.value c.args.reference.now c.args.error fault other says, refl, says)
+    (LeadsNowhere c.args.uri.value fault, says_nowhere c.args.uri.value c.args.reference.now c.args.error fault other says, (refl, says))

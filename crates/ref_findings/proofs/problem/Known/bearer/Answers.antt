@@ -9,7 +9,7 @@ pub returns : goal.returns
 returns c =
     let sites = c.args.self.now.sites.now in
     let first = c.in-Some.first.now in
-    let site = c.in-Some-2.site.now in
+    let site = c.in-Some-get.site.now in
     let differ : (first == c.args.number) ≡ false = search rules in
     let got : slice_get sites first ≡ Some site = search rules in (
       site_of site,

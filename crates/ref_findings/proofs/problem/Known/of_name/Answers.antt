@@ -1,4 +1,5 @@
-use Rattle.std.proofs.Common.{◌≡◌, ◌∙◌, [], None, Some, option_copied, rules}
+use Rattle.std.proofs.Common.{◌≡◌, ◌∙◌, [], None, Some, ap, option_copied, rules}
+use Rattle.ref_parts.specs.Table.{last_value}
 use Rattle.ref_findings.specs.Bearers.{first_under, other_bearer}
 use Rattle.ref_findings.specs.Findings.{DuplicateAnchor}
 use Rattle.ref_findings.specs.inner.Meanings.{IsBearer}
@@ -10,14 +11,16 @@ use Rattle.ref_findings.proofs.problem.Known.of_name.Goals as goal
 pub returns-in_default : goal.returns-in_default
 returns-in_default c =
     let k = known_in c.args.self.now in
-    let found = c.get.ensures.value ∙ last_is_first c.args.base.now.value c.args.name.now c.args.self.now.names.now in
+    let text : c.as_str.result.now ≡ c.args.base.now.value = search rules in
+    let found = c.get.ensures.value ∙ ap (λ t. last_value t c.args.name.now c.args.self.now.names.now) text ∙ last_is_first c.args.base.now.value c.args.name.now c.args.self.now.names.now in
     let none : other_bearer k.sites c.args.number (option_copied c.get.result.0) ≡ None = search rules in
     record { value = name_problem_is k c.args.number c.args.base.now.value c.args.name.now None (option_copied c.get.result.0) found none }
 
 pub returns : goal.returns
 returns c =
     let k = known_in c.args.self.now in
-    let found = c.get.ensures.value ∙ last_is_first c.args.base.now.value c.args.name.now c.args.self.now.names.now in
+    let text : c.as_str.result.now ≡ c.args.base.now.value = search rules in
+    let found = c.get.ensures.value ∙ ap (λ t. last_value t c.args.name.now c.args.self.now.names.now) text ∙ last_is_first c.args.base.now.value c.args.name.now c.args.self.now.names.now in
     let is : IsBearer (other_bearer k.sites c.args.number (option_copied c.get.result.0)) (Some c.in-Some.first) = search rules in
     let same : c.in_ok-uri.uri.value ≡ c.args.base.now.value = search rules in
-    record { value = (DuplicateAnchor c.args.base.now.value is.0.0 is.0.1.path, name_problem_is k c.args.number c.args.base.now.value c.args.name.now (Some is.0) (option_copied c.get.result.0) found is.1, same, is.2, is.3) }
+    record { value = (DuplicateAnchor c.args.base.now.value is.0.0 is.0.1.path, name_problem_is k c.args.number c.args.base.now.value c.args.name.now (Some is.0) (option_copied c.get.result.0) found is.1, (same, is.2, is.3)) }
