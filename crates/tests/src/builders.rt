@@ -4,7 +4,7 @@ use crate::inputs::held;
 use crate::registries::known;
 use crate::row;
 use ref_draft::Draft;
-use ref_retrieve::MapRetriever;
+use ref_retrieve::{Error, MapRetriever};
 use referencing::{Registry, RegistryBuilder};
 use serde_json::Value;
 use std::alloc::Global;
@@ -51,12 +51,10 @@ fn shown_above(alloc: Global) -> Result<String, Fault> {
 
 /// What a builder becomes with another document.
 fn becoming<'a>(
-    alloc: Global,
     builder: RegistryBuilder<'a, &MapRetriever>,
     uri: &str,
-) -> Result<Registry<'a>, Fault> {
-    let builder = done(alloc, builder.add(uri, Value::Null))?;
-    done(alloc, builder.prepare())
+) -> Result<Registry<'a>, Error> {
+    builder.add(uri, Value::Null)?.prepare()
 }
 
 /// Which URIs of a row are known to that.
@@ -66,7 +64,7 @@ fn with_another(
     uri: &str,
     row: &Value,
 ) -> Result<String, Fault> {
-    let registry = becoming(alloc, builder, uri)?;
+    let registry = done(alloc, becoming(builder, uri))?;
     known(alloc, &registry, row, 2)
 }
 
@@ -87,11 +85,10 @@ fn apart(alloc: Global, row: &Value) -> Result<String, Fault> {
     let retriever = row::retriever(alloc, row, 3)?;
     let document = row::column(row, 4)?;
     let builder = Registry::new(alloc).retriever(&retriever);
-    both(
-        alloc,
-        done(alloc, builder.add("http://a/r", document))?,
-        row,
-    )
+    match builder.add("http://a/r", document) {
+        Ok(builder) => both(alloc, builder, row),
+        Err(_) => Err(Fault::Form("the document is refused")),
+    }
 }
 
 /// How a builder's copy is shown.

@@ -4,6 +4,7 @@ use crate::fault::{Fault, done, made};
 use crate::registries::{holding, known, prepared, resolver};
 use crate::row;
 use ref_draft::{Draft, ResourceRef};
+use ref_retrieve::Error;
 use referencing::{Place, Registry, Step, follow};
 use serde_json::Value;
 use std::alloc::{AllocError, Global};
@@ -39,7 +40,7 @@ pub fn held(alloc: Global, registry: &Registry<'_>) -> Result<String, Fault> {
 /// What a builder holds after the documents of a row were added, as the registry that is prepared of it has them.
 pub fn added(alloc: Global, row: &Value) -> Result<String, Fault> {
     let documents = row::documents(alloc, row, 1)?;
-    let registry = prepared(alloc, Registry::new(alloc), documents)?;
+    let registry = done(alloc, prepared(Registry::new(alloc), documents))?;
     held(alloc, &registry)
 }
 
@@ -93,7 +94,7 @@ fn of_kind<'a>(
     kind: &str,
     draft: Option<Draft>,
     value: &'a Value,
-) -> Result<Registry<'a>, Fault> {
+) -> Result<Registry<'a>, Error> {
     match kind {
         "a value" => holding(alloc, draft, value.clone()?),
         "a value that is lent" => holding(alloc, draft, value),
@@ -109,7 +110,7 @@ fn of_kind<'a>(
 /// The same where a resource is lent, which has to live as long.
 fn of_lent_resource(alloc: Global, draft: Option<Draft>, row: &Value) -> Result<String, Fault> {
     let resource = Draft::Draft202012.create_resource(row::column(row, 3)?.clone()?);
-    let registry = holding(alloc, draft, &resource)?;
+    let registry = done(alloc, holding(alloc, draft, &resource))?;
     asked(alloc, &registry, row)
 }
 
@@ -120,6 +121,6 @@ pub fn of_kinds(alloc: Global, row: &Value) -> Result<String, Fault> {
     if kind == "a resource that is lent" {
         return of_lent_resource(alloc, draft, row);
     }
-    let registry = of_kind(alloc, kind, draft, row::column(row, 3)?)?;
+    let registry = done(alloc, of_kind(alloc, kind, draft, row::column(row, 3)?))?;
     asked(alloc, &registry, row)
 }

@@ -114,7 +114,7 @@ fn located_places(alloc: Global, registry: &Registry<'_>) -> Result<String, Faul
 /// The places of a document at `http://a/r`, which is lent, by a draft: as they are listed, and as their paths lead to them.
 pub fn agreeing(alloc: Global, row: &Value) -> Result<String, Fault> {
     let (draft, document) = (row::draft(row, 1)?, row::column(row, 2)?);
-    let registry = holding(alloc, draft, document)?;
+    let registry = done(alloc, holding(alloc, draft, document))?;
     let listed = listed(alloc, &registry)?;
     let located = located_places(alloc, &registry)?;
     agreed(alloc, listed, located, ["as listed", "as located"])

@@ -2,7 +2,7 @@
 use crate::fault::{Fault, done, made};
 use crate::row;
 use ref_draft::Draft;
-use ref_retrieve::Retrieve;
+use ref_retrieve::{Error, Retrieve};
 use ref_uri::uri::from_str;
 use referencing::{IntoRegistryResource, Registry, RegistryBuilder, Resolver};
 use serde_json::Value;
@@ -21,19 +21,16 @@ pub fn holding<'a, T: IntoRegistryResource<'a>>(
     alloc: Global,
     draft: Option<Draft>,
     document: T,
-) -> Result<Registry<'a>, Fault> {
-    let builder = builder(alloc, draft).add("http://a/r", document);
-    done(alloc, done(alloc, builder)?.prepare())
+) -> Result<Registry<'a>, Error> {
+    builder(alloc, draft).add("http://a/r", document)?.prepare()
 }
 
 /// The registry of what a builder holds and of these documents.
 pub fn prepared<'a, R: Retrieve + Drop>(
-    alloc: Global,
     builder: RegistryBuilder<'a, R>,
     documents: Vec<(&'a str, &'a Value)>,
-) -> Result<Registry<'a>, Fault> {
-    let builder = done(alloc, builder.extend(documents))?;
-    done(alloc, builder.prepare())
+) -> Result<Registry<'a>, Error> {
+    builder.extend(documents)?.prepare()
 }
 
 /// The registry of a column's documents, where nothing is retrieved.
@@ -44,7 +41,7 @@ pub fn unretrieving<'v>(
     number: usize,
 ) -> Result<Registry<'v>, Fault> {
     let documents = row::documents(alloc, row, number)?;
-    prepared(alloc, builder(alloc, draft), documents)
+    done(alloc, prepared(builder(alloc, draft), documents))
 }
 
 /// The registry of a row's documents, where those of the next column can be retrieved.
@@ -56,7 +53,7 @@ fn retrieving<'v>(
     let documents = row::documents(alloc, row, 2)?;
     let retriever = row::retriever(alloc, row, 3)?;
     let builder = builder(alloc, draft).retriever(retriever);
-    prepared(alloc, builder, documents)
+    done(alloc, prepared(builder, documents))
 }
 
 /// The registry of a row that begins with a draft, documents, and what can be retrieved, or `null` where no retriever is given.

@@ -56,7 +56,7 @@ pub fn calls(alloc: Global, row: &Value) -> Result<String, Fault> {
     let builder = Registry::new(alloc)
         .retrieval_limit(limit)
         .retriever(&retriever);
-    let outcome = outcome(alloc, prepared(alloc, builder, documents), row)?;
+    let outcome = outcome(alloc, done(alloc, prepared(builder, documents)), row)?;
     let calls = retriever.calls.get();
     made(format!(in alloc; "{calls} {outcome}"))
 }
@@ -80,9 +80,8 @@ impl Retrieve for Exhausted {
 /// Whether preparing a row's documents ends with the retriever's want of memory.
 pub fn is_exhausted(alloc: Global, row: &Value) -> Result<String, Fault> {
     let documents = row::documents(alloc, row, 1)?;
-    let builder = Registry::new(alloc).retriever(Exhausted);
-    let builder = done(alloc, builder.extend(documents))?;
-    let is_exhausted = matches!(builder.prepare(), Err(Error::Memory(_)));
+    let registry = prepared(Registry::new(alloc).retriever(Exhausted), documents);
+    let is_exhausted = matches!(registry, Err(Error::Memory(_)));
     made(format!(in alloc; "{is_exhausted}"))
 }
 
@@ -119,5 +118,5 @@ pub fn refused(alloc: Global, row: &Value) -> Result<String, Fault> {
     let documents = row::documents(alloc, row, 1)?;
     let reason = row::text(row, 2)?;
     let builder = Registry::new(alloc).retriever(Refusing { reason });
-    told(alloc, &done(alloc, builder.extend(documents))?.prepare())
+    told(alloc, &prepared(builder, documents))
 }

@@ -160,13 +160,17 @@ fn shown_mark(
 }
 
 /// What is found at a bookmark.
-fn at_mark(alloc: Global, registry: &Registry<'_>, kept: Bookmark<'_>) -> Result<String, Fault> {
+fn at_mark(
+    alloc: Global,
+    registry: &Registry<'_>,
+    kept: Bookmark<'_, '_>,
+) -> Result<String, Fault> {
     let (found, draft, base) = done(alloc, opened(alloc, registry, kept))?;
     made(shown_mark(alloc, found, draft, &base))
 }
 
 /// The bookmark of the place with this number, below the first.
-fn mark_of<'p>(places: &'p [Place<'p>], number: usize) -> Option<Bookmark<'p>> {
+fn mark_of<'p, 'k>(places: &'p [Place<'k>], number: usize) -> Option<Bookmark<'p, 'k>> {
     bookmark_of(places.first()?, places.get(number)?)
 }
 

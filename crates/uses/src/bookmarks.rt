@@ -15,16 +15,19 @@ use std::rc::Rc;
 
 /// A place as the tool keeps it.
 #[derive(Clone, Copy, Debug, Drop)]
-pub struct Bookmark<'p> {
+pub struct Bookmark<'p, 'k> {
     /// The base URI of the resource that it belongs to.
     pub resource: &'p Uri,
     /// Its path from there.
-    pub path: &'p [JsonPointerSegment<'p>],
+    pub path: &'p [JsonPointerSegment<'k>],
 }
 
 /// The bookmark of a place of [`Registry::places`] that is at or below another of the same document, such as the root of its
 /// resource; `None` where its path doesn't begin with the other's. Takes no memory.
-pub fn bookmark_of<'p>(resource: &'p Place<'p>, place: &'p Place<'p>) -> Option<Bookmark<'p>>
+pub fn bookmark_of<'p, 'k>(
+    resource: &'p Place<'k>,
+    place: &'p Place<'k>,
+) -> Option<Bookmark<'p, 'k>>
     ensures resource { IfSome result (λ kept. kept.resource.now ≡ resource.now.base.value) }
     ensures path { IfSome result (λ kept. map part_of place.now.path.items ≡ map part_of resource.now.path.items ++ map part_of kept.path.now) }
 {
@@ -47,7 +50,7 @@ pub fn bookmark_of<'p>(resource: &'p Place<'p>, place: &'p Place<'p>) -> Option<
 pub fn opened<'r>(
     alloc: Global,
     registry: &'r Registry<'_>,
-    kept: Bookmark<'_>,
+    kept: Bookmark<'_, '_>,
 ) -> Result<(&'r Value, Draft, Rc<Uri>), Error>
     ensures place { (d : Document) (r q : WorldPlace) → IsReadAlike (own registry.now) d r kept.entry.resource.now → IsAtOrBelow q r → q.path ≡ r.path ++ map part_of kept.entry.path.now
         → IfOk result (λ found. (view found.0.now ≡ q.value) × (found.1 ≡ q.draft) × (q.base ≡ Ok found.2.value)) }
