@@ -1,6 +1,6 @@
 -- What the program knows of all sources is what is known of them.
 use Rattle.std.proofs.Common.{◌≡◌, ℕ, List, [], ◌∷◌, ◌++◌, map, flat_map, reverse, refl, sym, ap, ◌∙◌}
-use Rattle.std.specs.List.{AllByRecursion, enumerate_from}
+use Rattle.std.specs.List.{enumerate_from}
 use Rattle.std.proofs.lemmas.List.{reverse-reverse}
 use Rattle.std.proofs.lemmas.List.Concat.{flat_map-append}
 use Rattle.std.proofs.lemmas.List.Folds.{flat_map-map}
@@ -8,9 +8,9 @@ use Rattle.std.proofs.lemmas.Simd.{map-map}
 use Rattle.ref_parts.specs.Table.{Entry}
 use Rattle.ref_draft.specs.declared.draft.Draft.{Draft}
 use Rattle.ref_world.specs.World.{Layer, World}
-use Rattle.ref_findings.specs.Sources.{Source, places_in, sound_document, unsound_uris, world_of, unsound}
+use Rattle.ref_findings.specs.Sources.{Source, world_of, unsound}
 use Rattle.ref_findings.specs.Bearers.{Site, numbered, sites, uris_borne, names_borne}
-use Rattle.ref_findings.specs.Findings.{Known, known_of}
+use Rattle.ref_findings.specs.Findings.{Known}
 use Rattle.ref_findings.specs.inner.Seen.{Survey, survey_in, sound_in, unsound_in, AreSurveys}
 
 -- of sources and of others, one after the other

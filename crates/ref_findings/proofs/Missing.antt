@@ -1,5 +1,5 @@
 -- A reference to a URI under which nothing is.
-use Rattle.std.proofs.Common.{◌≡◌, ◌∙◌, ◌==◌, ℕ, List, Bool, true, false, Some, None, length, ap}
+use Rattle.std.proofs.Common.{◌≡◌, ◌∙◌, ◌==◌, ℕ, List, true, false, Some, None, length, ap}
 use Rattle.std.specs.Prelude.{if◌then◌else◌}
 use Rattle.ref_uri.specs.Targets.{fragment_part}
 use Rattle.ref_findings.specs.Findings.{MissingDocument, Unchecked, is_meta_schema, missing}

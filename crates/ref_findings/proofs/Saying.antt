@@ -1,12 +1,11 @@
 -- What errors say of references that are looked up, and of findings one after another.
-use Rattle.std.proofs.Common.{◌≡◌, ℕ, List, [], ◌∷◌, ◌++◌, Bool, true, false, Option, Some, None, refl, sym, ap, ◌∙◌, subst, append-nil, append_assoc}
-use Rattle.std.specs.List.{AllZip}
+use Rattle.std.proofs.Common.{◌≡◌, ℕ, List, true, false, Some, refl}
 use Rattle.ref_world.specs.Fault as fault
 use Rattle.ref_world.specs.Fault.{Fault}
 use Rattle.ref_retrieve.specs.declared.error.Error.{Error}
 use Rattle.ref_retrieve.specs.declared.error.Error.TheVariants as error
 use Rattle.ref_retrieve.specs.Errors.{SaysFault}
-use Rattle.ref_findings.specs.Findings.{Problem, LeadsNowhere, missing, by_fault}
+use Rattle.ref_findings.specs.Findings.{LeadsNowhere, missing, by_fault}
 use Rattle.ref_findings.specs.inner.Meanings.{is_unretrievable}
 
 pub says_missing : (uri reference : List ℕ) (e : Error) (f : Fault) → is_unretrievable e ≡ true → SaysFault e f → by_fault uri reference f ≡ missing uri reference

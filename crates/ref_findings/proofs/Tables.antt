@@ -1,7 +1,7 @@
 -- The tables of URIs and names.
 use Rattle.std.specs.Prelude.{slice_get, if◌then◌else◌}
-use Rattle.std.proofs.Common.{◌==◌, Bool, false, Bor, option_copied, ◌≡◌, ℕ, List, [], ◌++◌, reverse, String, string_bytes, Option, Some, None, option_map, is_some, filter, refl, sym, ap, ◌∙◌}
-use Rattle.std.specs.List.{list_any, find, last_or}
+use Rattle.std.proofs.Common.{◌==◌, Bool, false, Bor, option_copied, ◌≡◌, ℕ, List, [], reverse, String, string_bytes, Option, Some, None, option_map, is_some, filter, refl, sym, ap, ◌∙◌}
+use Rattle.std.specs.List.{last_or}
 use Rattle.std.specs.declared.alloc.Global.{Global}
 use Rattle.ref_parts.specs.Table.{Entry, entries_of, is_under, last_value}
 use Rattle.ref_index.proofs.Paths.{map-reverse}

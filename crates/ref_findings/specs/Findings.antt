@@ -1,9 +1,8 @@
 -- What is wrong with the references of documents, and what is to be noted.
-use Rattle.std.specs.Prelude.{ℕ, Bool, ◌||◌, not, is_some, ◌==◌, List, [], ◌∷◌, ◌++◌, map, flat_map, length, codes, bytes_eq, if◌then◌else◌, Option, Some, None, option_map, option_and_then, Result, Ok, Err}
+use Rattle.std.specs.Prelude.{ℕ, Bool, ◌||◌, not, is_some, ◌==◌, List, [], ◌∷◌, ◌++◌, flat_map, length, codes, bytes_eq, if◌then◌else◌, Option, Some, None, option_map, option_and_then, Result, Ok, Err}
 use Rattle.std.specs.Option.{option_to_list}
 use Rattle.std.specs.List.{list_any, enumerate_from}
 use Rattle.ref_draft.specs.declared.draft.Draft.{Draft}
-use Rattle.ref_draft.specs.declared.draft.Draft.TheVariants.{Draft4, Draft6, Draft7, Draft201909, Draft202012, Unknown}
 use Rattle.ref_draft.specs.Keywords.{is_unknown, id_keyword, is_before_2019}
 use Rattle.ref_draft.specs.Schema.{text_under, trimmed, from_schema_uri}
 use Rattle.ref_draft.specs.Anchors.{Kind, Plain, Dynamic, anchors}

@@ -4,7 +4,7 @@ use Rattle.std.specs.Prelude.{ℕ, List, [], codes, Some, None}
 use Rattle.serde_json.specs.Data.{Data}
 use Rattle.ref_parts.specs.Path.{Part}
 use Rattle.ref_findings.specs.Sources.{Source}
-use Rattle.ref_findings.specs.Findings.{Finding, Problem, NotJson}
+use Rattle.ref_findings.specs.Findings.{Finding, Problem}
 
 -- a source that is JSON, and one that isn't
 abbrev pub source : Literal → Data → Source

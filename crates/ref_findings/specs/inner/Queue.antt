@@ -1,5 +1,5 @@
 -- The places that were found while they are gone through, for private clauses.
-use Rattle.std.specs.Prelude.{◌≡◌, ℕ, ◌≤◌, List, ◌++◌, flat_map, map, take, drop, length}
+use Rattle.std.specs.Prelude.{◌≡◌, ℕ, ◌≤◌, List, ◌++◌, flat_map, take, drop, length}
 use Rattle.serde_json.specs.Data.{depth}
 use Rattle.ref_world.specs.World.{Document}
 use Rattle.ref_world.specs.Places.{Place}

@@ -1,6 +1,4 @@
 use Rattle.std.proofs.Common.{◌∙◌, ◌++◌, ap, sym, arith}
-use Rattle.ref_parts.specs.Table.{entries_of}
-use Rattle.ref_index.proofs.Paths.{map-reverse}
 use Rattle.ref_findings.specs.Bearers.{uri_entries}
 use Rattle.ref_findings.specs.inner.Seen.{site_of}
 use Rattle.ref_findings.proofs.Lists.{joined_step, joined_end}

@@ -1,4 +1,4 @@
-use Rattle.std.proofs.Common.{◌≡◌, ◌++◌, Some, OnOk, sym, subst}
+use Rattle.std.proofs.Common.{◌++◌, Some, OnOk, subst}
 use Rattle.ref_draft.specs.Views.{anchor_name}
 use Rattle.ref_findings.specs.Findings.{name_problem, finding_at}
 use Rattle.std.specs.List.{AllZip}

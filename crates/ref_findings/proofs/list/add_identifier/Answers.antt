@@ -3,7 +3,6 @@ use Rattle.std.specs.Prelude.{option_and_then}
 use Rattle.ref_world.specs.Places.{base_within, identifier_of}
 use Rattle.ref_findings.specs.Findings.{by_base, finding_at, identifier_problem}
 use Rattle.std.specs.List.{AllZip}
-use Rattle.ref_findings.specs.Places.{nearest}
 use Rattle.ref_findings.specs.Entries.{IsFindingOf}
 use Rattle.ref_findings.specs.inner.Meanings.{IsMaybe}
 use Rattle.ref_findings.specs.inner.Seen.{site_of, known_in}

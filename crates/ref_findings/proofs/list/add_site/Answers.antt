@@ -1,4 +1,4 @@
-use Rattle.std.proofs.Common.{◌≡◌, ◌++◌, ◌∙◌, List, OnOk, subst, append_assoc}
+use Rattle.std.proofs.Common.{◌++◌, OnOk, subst}
 use Rattle.std.specs.List.{AllZip}
 use Rattle.ref_findings.specs.Findings.{source_findings, identifier_findings, reference_findings, schema_findings, anchor_findings}
 use Rattle.ref_findings.specs.Entries.{IsFindingOf}

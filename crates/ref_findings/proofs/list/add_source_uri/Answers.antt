@@ -2,9 +2,6 @@ use Rattle.std.proofs.Common.{◌≡◌, Some, sym, subst, rules}
 use Rattle.std.specs.Prelude.{option_and_then}
 use Rattle.ref_findings.specs.Bearers.{source_uri}
 use Rattle.ref_findings.specs.Findings.{uri_problem}
-use Rattle.std.specs.List.{AllZip}
-use Rattle.ref_findings.specs.Places.{nearest}
-use Rattle.ref_findings.specs.Entries.{IsFindingOf}
 use Rattle.ref_findings.specs.inner.Meanings.{IsMaybe}
 use Rattle.ref_findings.specs.inner.Seen.{site_of, known_in}
 use Rattle.ref_findings.proofs.list.add_source_uri.Goals as goal

@@ -4,9 +4,9 @@ use Rattle.std.proofs.lemmas.Simd.{map-map}
 use Rattle.ref_resolver.specs.Layered.{world_in}
 use Rattle.ref_findings.specs.Sources.{world_of, unsound}
 use Rattle.ref_findings.specs.Bearers.{numbered, sites, uris_borne, names_borne}
-use Rattle.ref_findings.specs.Findings.{Known, unread, place_findings, known_of, findings}
+use Rattle.ref_findings.specs.Findings.{Known, unread, place_findings}
 use Rattle.ref_findings.specs.Entries.{source_of, IsFindingOf}
-use Rattle.ref_findings.specs.inner.Seen.{Survey, seen, site_of, known_in, sound_in, unsound_in, AreSurveys}
+use Rattle.ref_findings.specs.inner.Seen.{Survey, seen, site_of, sound_in, unsound_in, AreSurveys}
 use Rattle.ref_findings.proofs.Knowing.{known_with, world_is, unsound_is, sites_are, same_known, surveys_are}
 use Rattle.ref_findings.proofs.list.findings.Goals as goal
 

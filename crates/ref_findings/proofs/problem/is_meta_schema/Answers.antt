@@ -1,4 +1,4 @@
-use Rattle.std.proofs.Common.{◌≡◌, ◌∙◌, ◌||◌, ap, map, not, bytes_eq}
+use Rattle.std.proofs.Common.{◌∙◌, ◌||◌, ap, not, bytes_eq}
 use Rattle.std.specs.List.{list_any}
 use Rattle.ref_draft.specs.Keywords.{is_unknown}
 use Rattle.ref_draft.specs.Schema.{trimmed, from_schema_uri}

@@ -1,5 +1,4 @@
-use Rattle.std.proofs.Common.{◌≡◌, ◌∙◌, ◌==◌, true, false, None, Some, length, ap, refl, rules}
-use Rattle.std.specs.Prelude.{if◌then◌else◌}
+use Rattle.std.proofs.Common.{◌≡◌, ◌==◌, true, false, length, refl, rules}
 use Rattle.ref_uri.specs.Targets.{fragment_part}
 use Rattle.ref_findings.specs.Findings.{MissingDocument, Unchecked, is_meta_schema}
 use Rattle.ref_findings.proofs.Missing.{missing_document, unchecked, whole}

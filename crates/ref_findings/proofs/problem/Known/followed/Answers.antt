@@ -1,7 +1,7 @@
-use Rattle.std.proofs.Common.{◌≡◌, ◌∙◌, [], false, None, Some, Ok, ap, sym, subst, rules}
+use Rattle.std.proofs.Common.{◌≡◌, ◌∙◌, [], false, None, Some, ap, sym, subst, rules}
 use Rattle.std.specs.Prelude.{if◌then◌else◌}
 use Rattle.ref_world.specs.Lookup.{lookup}
-use Rattle.ref_findings.specs.Findings.{is_among, by_answer, by_target}
+use Rattle.ref_findings.specs.Findings.{is_among, by_answer}
 use Rattle.ref_findings.specs.inner.Meanings.{IsMaybe, IsWhy}
 use Rattle.ref_findings.specs.inner.Seen.{known_in}
 use Rattle.ref_findings.proofs.problem.Known.followed.Goals as goal

@@ -1,4 +1,4 @@
-use Rattle.std.proofs.Common.{◌≡◌, ◌∙◌, ◌||◌, ap}
+use Rattle.std.proofs.Common.{◌∙◌, ◌||◌, ap}
 use Rattle.ref_findings.specs.Findings.{is_among, is_meta_schema}
 use Rattle.ref_findings.specs.inner.Seen.{known_in}
 use Rattle.ref_findings.proofs.problem.Known.is_dialect.Goals as goal

@@ -1,4 +1,4 @@
-use Rattle.std.proofs.Common.{◌≡◌, ◌∙◌, [], is_some, rules}
+use Rattle.std.proofs.Common.{◌∙◌, []}
 use Rattle.ref_parts.specs.Table.{last_value}
 use Rattle.ref_findings.proofs.Tables.{among_is, copied_some}
 use Rattle.ref_findings.proofs.problem.Known.is_unsound.Goals as goal

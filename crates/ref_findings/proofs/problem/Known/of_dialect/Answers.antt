@@ -1,6 +1,6 @@
-use Rattle.std.proofs.Common.{◌≡◌, Err, Ok, ap, sym, subst, rules}
+use Rattle.std.proofs.Common.{Err, ap, rules}
 use Rattle.ref_findings.specs.Findings.{InvalidUri, by_dialect}
-use Rattle.ref_findings.specs.inner.Meanings.{meta_schema_uri, IsMeaning, IsMaybe}
+use Rattle.ref_findings.specs.inner.Meanings.{meta_schema_uri, IsMeaning}
 use Rattle.ref_findings.specs.inner.Seen.{known_in}
 use Rattle.ref_findings.proofs.problem.Known.of_dialect.Goals as goal
 

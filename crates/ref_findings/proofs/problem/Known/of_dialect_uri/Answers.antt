@@ -1,4 +1,4 @@
-use Rattle.std.proofs.Common.{◌≡◌, false, None, Some, Ok, ap, refl, rules}
+use Rattle.std.proofs.Common.{◌≡◌, false, None, Some, ap, refl, rules}
 use Rattle.std.specs.Prelude.{if◌then◌else◌}
 use Rattle.ref_findings.specs.Findings.{UnknownDialect, is_dialect}
 use Rattle.ref_findings.specs.inner.Seen.{known_in}

@@ -1,4 +1,4 @@
-use Rattle.std.proofs.Common.{◌≡◌, Err, Some, ap, rules}
+use Rattle.std.proofs.Common.{Err, Some, ap, rules}
 use Rattle.ref_world.specs.Places.{base_within}
 use Rattle.ref_findings.specs.Findings.{InvalidUri, by_base}
 use Rattle.ref_findings.specs.inner.Meanings.{IsMeaning}

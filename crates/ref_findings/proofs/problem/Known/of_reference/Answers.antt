@@ -1,4 +1,4 @@
-use Rattle.std.proofs.Common.{◌≡◌, Err, ap, rules}
+use Rattle.std.proofs.Common.{Err, ap, rules}
 use Rattle.ref_uri.specs.Targets.{target}
 use Rattle.ref_findings.specs.Findings.{InvalidUri, by_target}
 use Rattle.ref_findings.specs.inner.Meanings.{IsMeaning}

@@ -1,4 +1,4 @@
-use Rattle.std.proofs.Common.{◌≡◌, ◌∙◌, Bool, true, false, not, Some, None, sym, subst, refl, IfOk, rules}
+use Rattle.std.proofs.Common.{◌≡◌, true, false, not, sym, subst, IfOk, rules}
 use Rattle.ref_draft.specs.Keywords.{is_unknown}
 use Rattle.ref_draft.specs.Schema.{from_schema_uri}
 use Rattle.ref_findings.specs.inner.Meanings.{IsMaybe}

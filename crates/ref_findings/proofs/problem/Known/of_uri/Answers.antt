@@ -1,6 +1,6 @@
 use Rattle.std.proofs.Common.{◌≡◌, ◌∙◌, [], None, Some, ap, option_copied, rules}
 use Rattle.ref_parts.specs.Table.{last_value}
-use Rattle.ref_findings.specs.Bearers.{first_under, other_bearer}
+use Rattle.ref_findings.specs.Bearers.{other_bearer}
 use Rattle.ref_findings.specs.Findings.{DuplicateIdentifier}
 use Rattle.ref_findings.specs.inner.Meanings.{IsBearer}
 use Rattle.ref_findings.specs.inner.Seen.{known_in}
