@@ -179,7 +179,7 @@ fn location_at(
         })
     };
     let uri = uri_of(alloc, file)?;
-    let logical_locations = logical(alloc, pointer)?;
+    let logical_locations = logical_of(alloc, pointer)?;
     Ok(Location {
         physical_location: Physical {
             artifact_location: Artifact { uri },
@@ -189,7 +189,7 @@ fn location_at(
     })
 }
 
-fn logical(alloc: Global, pointer: &str) -> Result<Vec<Logical>, AllocError> {
+fn logical_of(alloc: Global, pointer: &str) -> Result<Vec<Logical>, AllocError> {
     let mut list = Vec::new(alloc);
     list.push(Logical {
         fully_qualified_name: String::from_str(alloc, pointer)?,
