@@ -5,6 +5,7 @@
 use ref_report::run::{exit_status, run};
 use ref_report::{Input, Output};
 use std::env;
+use std::io::ErrorKind;
 use std::process::ExitCode;
 
 const HELP: &str = "Follows references through JSON Schema documents.
@@ -51,13 +52,22 @@ fn report(rt: &HostRuntime) -> ExitCode {
     ExitCode::from(exit_status(&answer))
 }
 
+// Says why the words behind the program's name can't be had.
+fn without_words(rt: &HostRuntime, kind: ErrorKind) -> ExitCode {
+    if kind == ErrorKind::OutOfMemory {
+        let _ = eprintln!(rt; "refwalk: out of memory");
+        return ExitCode::from(3);
+    }
+    let _ = eprintln!(rt; "refwalk: an argument is not UTF-8");
+    ExitCode::from(2)
+}
+
 fn main(rt: HostRuntime) -> ExitCode {
-    let word = match env::args(&rt) {
-        Ok(words) => words.skip(1).next(),
-        Err(_) => return print_for(&rt, "(not UTF-8)"),
-    };
-    match word {
-        Some(word) => print_for(&rt, word.as_str()),
-        None => report(&rt),
+    match env::args(&rt) {
+        Ok(words) => match words.skip(1).next() {
+            Some(word) => print_for(&rt, word.as_str()),
+            None => report(&rt),
+        },
+        Err(error) => without_words(&rt, error.kind()),
     }
 }
