@@ -1,5 +1,4 @@
 //! `patchsard places`.
-ghost use Rattle.std.specs.Prelude.{◌≤◌, length};
 
 use crate::console::Console;
 use crate::document::Document;
@@ -63,20 +62,22 @@ fn tell_all(
     for (number, source) in world.sources.iter().enumerate() {
         let count = count_of(rest, number);
         if let Some(document) = documents.get(*source) {
-            tell_document(alloc, console, document, world, &rest[..count])?;
+            let own = rest.get(..count).unwrap_or(rest);
+            tell_document(alloc, console, document, world, own)?;
         }
-        rest = &rest[count..];
+        rest = rest.get(count..).unwrap_or(&[]);
     }
     Ok(())
 }
 
 // How many places come first that are those of a document.
-fn count_of(places: &[Place<'_>], document: usize) -> usize
-    ensures { result ≤ length places.now }
-{
-    let mut count = 0;
-    while count < places.len() && places[count].document == document {
-        count += 1;
+fn count_of(places: &[Place<'_>], document: usize) -> usize {
+    let mut count: usize = 0;
+    for place in places {
+        if place.document != document {
+            break;
+        }
+        count = count.saturating_add(1);
     }
     count
 }
