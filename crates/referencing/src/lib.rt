@@ -23,7 +23,7 @@ pub use ref_draft::{
     Anchor, AnchorIter, Child, ChildIter, ChildIterInner, Draft, Resource, ResourceRef, Segment,
     Segments, trim_hashes,
 };
-pub use ref_index::{Contents, Place};
+pub use ref_index::{Contents, Document, Place};
 pub use ref_parts::path::{JsonPointerNode, JsonPointerSegment};
 pub use ref_parts::{
     BorrowedKey, Iter, List, SmallMap, SortedTable, first_escape, parse_index, pointer,

@@ -4,11 +4,12 @@ ghost use Rattle.std.specs.List.{Contains};
 ghost use Rattle.serde_json.specs.View.{view};
 ghost use Rattle.ref_parts.specs.Path.{child_at, value_at};
 ghost use Rattle.ref_parts.specs.Segment.{part_of};
-ghost use Rattle.ref_world.specs.World.{Document};
+ghost use Rattle.ref_world.specs.World.{Document as WorldDocument};
 ghost use Rattle.ref_world.specs.Places.{Place as WorldPlace, places};
 ghost use Rattle.ref_world.specs.Listing.{own_places};
 ghost use Rattle.ref_world.specs.Lookup.{located};
 ghost use Rattle.ref_retrieve.specs.Errors.{IsFaultOf};
+ghost use Rattle.ref_index.specs.Document.{document_of};
 ghost use Rattle.ref_index.specs.Listing.{listed_of};
 ghost use Rattle.ref_resolver.specs.Layered.{own};
 ghost use Rattle.ref_resolver.specs.Resolving.{found_of, world_found};
@@ -16,7 +17,7 @@ ghost use Rattle.referencing.specs.Listed.{IsMemory, Agrees};
 
 use crate::registry::Registry;
 use crate::written::reference_of;
-use ref_index::Place;
+use ref_index::{Document, Place};
 use ref_parts::path::JsonPointerSegment;
 use ref_resolver::Resolved;
 use ref_retrieve::Error;
@@ -46,6 +47,15 @@ fn value_along<'v>(value: &'v Value, path: &[JsonPointerSegment<'_>]) -> Option<
 }
 
 impl<'a> Registry<'a> {
+    /// The own documents, in the order in which their URIs were first added, and behind them those retrieved: of each the URI that it was
+    /// added or retrieved under, which an identifier of its root may replace as the base, its value, and the draft of its root. Those of
+    /// parents are left out. Takes no memory.
+    pub fn documents(&self) -> &[Document<'a>]
+        ensures value { map document_of result.now ≡ own self.now }
+    {
+        self.own_index().documents()
+    }
+
     /// The value at a path of an own document, which is counted from 0 in the order in which their URIs were first added, and
     /// behind them those retrieved. `None` for a number without a document, and where a part leads nowhere: a key steps into an object alone, an
     /// index into an array alone (RFC 6901, section 4). A look-up for each part; takes no memory.
@@ -64,7 +74,7 @@ impl<'a> Registry<'a> {
     /// keys are lent, and the other URIs shared.
     pub fn places(&self, alloc: Global) -> Result<Vec<Place<'_>>, Error>
         ensures value { IfOk result (λ places. map listed_of places.items ≡ own_places (own self.now)) }
-        ensures stand { (d : Document) (p : WorldPlace) → Contains (own self.now) d → Contains (places d) p → value_at d.tree p.path ≡ Some p.value }
+        ensures stand { (d : WorldDocument) (p : WorldPlace) → Contains (own self.now) d → Contains (places d) p → value_at d.tree p.path ≡ Some p.value }
         ensures memory { IfErr result IsMemory }
     {
         Ok(self.own_index().places(alloc)?)
