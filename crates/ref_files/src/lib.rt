@@ -6,8 +6,6 @@
 
 mod name;
 mod prefix;
-#[cfg(test)]
-mod tests;
 mod uri;
 
 pub use name::{Name, names_of};

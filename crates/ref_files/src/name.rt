@@ -1,5 +1,5 @@
 //! The names of files and folders that a URI's path means.
-ghost use Rattle.std.specs.Prelude.{◌≡◌, ◌↔◌, IfSome, IsTrue, string_bytes};
+ghost use Rattle.std.specs.Prelude.{◌≡◌, ◌↔◌, IfSome, IsSome, IsTrue, string_bytes};
 ghost use Rattle.ref_files.specs.Plain.{IsPlain, Lacks};
 
 use percent_encoding::percent_decode_str;
@@ -17,6 +17,7 @@ impl Name {
     /// The text as a name, where it is one.
     pub fn new(text: String) -> Option<Name>
         ensures value { IfSome result (λ name. name.text ≡ text) }
+        ensures plain { IsSome result ↔ IsPlain (string_bytes text) }
     {
         if !is_plain(text.as_str()) {
             return None;
@@ -34,7 +35,7 @@ impl Name {
 
 // Whether a text is a plain name.
 fn is_plain(text: &str) -> bool
-    ensures value { IsTrue result → IsPlain text.now }
+    ensures value { IsTrue result ↔ IsPlain text.now }
 {
     if text.is_empty() || text == "." || text == ".." {
         return false;

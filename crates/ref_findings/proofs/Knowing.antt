@@ -43,13 +43,18 @@ sites_are draft ss ts ls first is =
 abbrev pub known_with : World → List (Entry ℕ) → List Site → List (Entry ℕ) → List (Entry ℕ) → Known
 known_with world entries ls uris names = record { world = world; unsound = entries; sites = ls; uris = uris; names = names }
 
-pub same_known : (world : World) (entries : List (Entry ℕ)) (ls : List Site) (uris names : List (Entry ℕ)) (w : World) (e : List (Entry ℕ)) (l : List Site) → world ≡ w → entries ≡ e → ls ≡ l
+pub same_known : (world : World) (entries : List (Entry ℕ)) (ls : List Site) (uris names : List (Entry ℕ)) (w : World) → world ≡ w
     → uris ≡ reverse (uris_borne ls) → names ≡ reverse (names_borne ls)
-    → known_with world entries ls (reverse uris) (reverse names) ≡ known_with w e l (uris_borne l) (names_borne l)
-same_known world entries ls uris names w e l first second third fourth fifth =
-    ap (λ x. known_with x entries ls (reverse uris) (reverse names)) first ∙ ap (λ x. known_with w x ls (reverse uris) (reverse names)) second
-    ∙ ap (λ x. known_with w e ls x (reverse names)) (ap reverse fourth ∙ reverse-reverse (uris_borne ls))
-    ∙ ap (λ x. known_with w e ls (uris_borne ls) x) (ap reverse fifth ∙ reverse-reverse (names_borne ls))
+    → known_with world entries ls (reverse uris) (reverse names) ≡ known_with w entries ls (uris_borne ls) (names_borne ls)
+same_known world entries ls uris names w first second third =
+    ap (λ x. known_with x entries ls (reverse uris) (reverse names)) first
+    ∙ ap (λ x. known_with w entries ls x (reverse names)) (ap reverse second ∙ reverse-reverse (uris_borne ls))
+    ∙ ap (λ x. known_with w entries ls (uris_borne ls) x) (ap reverse third ∙ reverse-reverse (names_borne ls))
+
+pub known_is : (world : World) (entries : List (Entry ℕ)) (ls : List Site) (w : World) (e : List (Entry ℕ)) (l : List Site) → world ≡ w → entries ≡ e → ls ≡ l
+    → known_with world entries ls (uris_borne ls) (names_borne ls) ≡ known_with w e l (uris_borne l) (names_borne l)
+known_is world entries ls w e l first second third =
+    ap (λ x. known_with x entries ls (uris_borne ls) (names_borne ls)) first ∙ ap (λ x. known_with w x ls (uris_borne ls) (names_borne ls)) second
     ∙ ap (λ x. known_with w e x (uris_borne x) (names_borne x)) third
 
 pub surveys_are : (draft : Draft) (ss : List Source) → AreSurveys draft (map (survey_in draft) ss)

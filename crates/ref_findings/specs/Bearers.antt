@@ -1,9 +1,9 @@
 -- Which places bear which URIs (2020-12 Core, 8.2.1), and which names of anchors (8.2.2).
-use Rattle.std.specs.Prelude.{ℕ, Bool, true, false, ◌&&◌, not, ◌==◌, List, [], ◌∷◌, ◌++◌, map, flat_map, bytes_eq, if◌then◌else◌, Option, Some, None, option_map, option_and_then, slice_get}
+use Rattle.std.specs.Prelude.{ℕ, Bool, true, false, ◌&&◌, not, ◌==◌, List, [], ◌∷◌, ◌++◌, map, flat_map, length, bytes_eq, if◌then◌else◌, Option, Some, None, option_map, option_and_then, slice_get}
 use Rattle.std.specs.Option.{option_to_list, option_map_or}
 use Rattle.std.specs.List.{find, enumerate_from}
 use Rattle.ref_draft.specs.declared.draft.Draft.{Draft}
-use Rattle.ref_draft.specs.Anchors.{anchors}
+use Rattle.ref_draft.specs.Anchors.{Kind, anchors}
 use Rattle.ref_parts.specs.Path.{Part}
 use Rattle.ref_parts.specs.Table.{Entry, is_under}
 use Rattle.ref_world.specs.Places.{Place}
@@ -48,9 +48,13 @@ uri_entries e = map (under_uri e.0) (uris_of e.1.1)
 abbrev pub uris_borne : List Site → List (Entry ℕ)
 uris_borne sites = flat_map uri_entries (enumerate_from 0 sites)
 
+-- the entry of an anchor under a base, where it has a name: `"$id": "#"` of Drafts 4 to 7 has none
+abbrev pub name_at : ℕ → List ℕ → List ℕ × Kind → List (Entry ℕ)
+name_at number base a = if length a.0 == 0 then [] else (base, a.0, number) ∷ []
+
 -- the entries of the names that a place bears, under its base
 abbrev pub names_at : ℕ → Place → List (Entry ℕ)
-names_at number p = map (λ a. (nearest p, a.0, number)) (anchors p.draft p.value)
+names_at number p = flat_map (name_at number (nearest p)) (anchors p.draft p.value)
 
 -- those of the place with a number
 abbrev pub name_entries : ℕ × Site → List (Entry ℕ)

@@ -1,5 +1,5 @@
 -- What is wrong with the references of documents, and what is to be noted.
-use Rattle.std.specs.Prelude.{ℕ, Bool, ◌||◌, not, is_some, ◌==◌, List, [], ◌∷◌, ◌++◌, flat_map, length, codes, bytes_eq, if◌then◌else◌, Option, Some, None, option_map, option_and_then, Result, Ok, Err}
+use Rattle.std.specs.Prelude.{ℕ, Bool, ◌||◌, not, is_some, ◌==◌, List, [], ◌∷◌, ◌++◌, flat_map, filter, length, codes, bytes_eq, if◌then◌else◌, Option, Some, None, option_map, option_and_then, Result, Ok, Err}
 use Rattle.std.specs.Option.{option_to_list}
 use Rattle.std.specs.List.{list_any, enumerate_from}
 use Rattle.ref_draft.specs.declared.draft.Draft.{Draft}
@@ -183,6 +183,14 @@ not_json e = if is_some e.1.tree then [] else no_json e.0 ∷ []
 -- which sources are none
 abbrev pub unread : List Source → List Finding
 unread sources = flat_map not_json (enumerate_from 0 sources)
+
+-- whether a place has a text under `$ref`
+abbrev pub has_reference : Site → Bool
+has_reference s = is_some (text_under (codes "$ref") s.1.value)
+
+-- how many references sources have
+abbrev pub references : Draft → List Source → ℕ
+references draft sources = length (filter has_reference (sites draft sources))
 
 -- what is known of sources, and of others that are held beside them
 abbrev pub known_of : Draft → List Source → List Source → Known

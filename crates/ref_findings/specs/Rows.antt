@@ -14,9 +14,9 @@ abbrev pub unread : Literal → Source
 unread uri = record { uri = codes uri; tree = None }
 
 -- a finding on the text under a keyword
-abbrev pub told : ℕ → List Part → Literal → Literal → Problem → Finding
-told number path keyword text problem = record { source = number; path = path; keyword = Some (codes keyword); text = Some (codes text); problem = problem }
+abbrev pub finding_on : ℕ → List Part → Literal → Literal → Problem → Finding
+finding_on number path keyword text problem = record { source = number; path = path; keyword = Some (codes keyword); text = Some (codes text); problem = problem }
 
 -- a finding on a source as a whole
-abbrev pub told_whole : ℕ → Problem → Finding
-told_whole number problem = record { source = number; path = []; keyword = None; text = None; problem = problem }
+abbrev pub finding_whole : ℕ → Problem → Finding
+finding_whole number problem = record { source = number; path = []; keyword = None; text = None; problem = problem }

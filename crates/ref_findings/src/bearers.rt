@@ -4,13 +4,14 @@ ghost use Rattle.std.specs.Option.{option_to_list};
 ghost use Rattle.ref_parts.specs.Table.{entries_of};
 ghost use Rattle.ref_world.specs.Resources.{own_uri};
 ghost use Rattle.ref_findings.specs.Sources.{under_uri};
-ghost use Rattle.ref_findings.specs.Bearers.{source_uri, uris_of, names_at, uris_borne, names_borne};
+ghost use Rattle.ref_draft.specs.Views.{anchor_name};
+ghost use Rattle.ref_findings.specs.Bearers.{source_uri, uris_of, name_at, names_at, uris_borne, names_borne};
 ghost use Rattle.ref_findings.specs.inner.Seen.{place_of, site_of, seen, unsound_in};
 
 use crate::base::{base_of, nearest_base};
 use crate::site::{Place, Site};
 use crate::survey::Survey;
-use ref_draft::AnchorIter;
+use ref_draft::{Anchor, AnchorIter};
 use ref_parts::SortedTable;
 use ref_uri::Uri;
 use std::alloc::{AllocError, Global};
@@ -88,6 +89,24 @@ fn push_uris(
     push_uri(alloc, entries, own.as_ref(), number)
 }
 
+// Adds an anchor under a base, where it has a name.
+fn push_name(
+    alloc: Global,
+    entries: &mut Entries,
+    base: &Rc<Uri>,
+    anchor: Anchor<'_>,
+    number: usize,
+) -> Result<(), AllocError>
+    ensures { OnOk result (entries_of entries.new.items ≡ entries_of entries.old.items
+        ++ name_at number base.now.value (anchor_name anchor.entry)) }
+{
+    let name = anchor.name();
+    if name.is_empty() {
+        return Ok(());
+    }
+    push(alloc, entries, base.as_str(), name, number)
+}
+
 // Adds the names that a place bears, under its base.
 fn push_names(
     alloc: Global,
@@ -101,12 +120,22 @@ fn push_names(
     let base = nearest_base(alloc, &place.outer, place.id())?;
     match place.draft.anchors(place.value) {
         AnchorIter::Empty => Ok(()),
-        AnchorIter::One(anchor) => push(alloc, entries, base.as_str(), anchor.name(), number),
+        AnchorIter::One(anchor) => push_name(alloc, entries, &base, anchor, number),
         AnchorIter::Two(plain, dynamic) => {
-            push(alloc, entries, base.as_str(), plain.name(), number)?;
-            push(alloc, entries, base.as_str(), dynamic.name(), number)
+            push_name(alloc, entries, &base, plain, number)?;
+            push_name(alloc, entries, &base, dynamic, number)
         }
     }
+}
+
+// The table of entries, of which the first under two texts counts: they are put in from the last on.
+fn table_of(alloc: Global, entries: Entries) -> Result<SortedTable<usize>, AllocError>
+    ensures { IfOk result (λ table. table ≡ reverse (entries_of entries.items)) }
+{
+    let mut entries = entries;
+    entries.reverse();
+    let table = SortedTable::from_entries(alloc, entries)?;
+    Ok(table)
 }
 
 /// The table of the URIs that places bear, made from the last to the first: each has the number of the first that bears it.
@@ -120,9 +149,7 @@ pub(crate) fn uris_of(
     for (number, site) in sites.iter().enumerate() {
         push_uris(alloc, &mut entries, site.place, number)?;
     }
-    entries.reverse();
-    let table = SortedTable::from_entries(alloc, entries)?;
-    Ok(table)
+    table_of(alloc, entries)
 }
 
 /// The table of the names that places bear under their bases, made from the last to the first.
@@ -136,9 +163,7 @@ pub(crate) fn names_of(
     for (number, site) in sites.iter().enumerate() {
         push_names(alloc, &mut entries, site.place, number)?;
     }
-    entries.reverse();
-    let table = SortedTable::from_entries(alloc, entries)?;
-    Ok(table)
+    table_of(alloc, entries)
 }
 
 // Adds the URIs that places bear by their identifiers.

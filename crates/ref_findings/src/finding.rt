@@ -10,6 +10,15 @@ use ref_uri::{Uri, UriError};
 use serde_json::Value;
 use std::rc::Rc;
 
+/// What is found in sources.
+#[derive(Debug, Drop)]
+pub struct Report<'v> {
+    /// What is wrong, and what is noted.
+    pub findings: Vec<Finding<'v>>,
+    /// How many references the sources have: texts under `$ref` where schemas stand.
+    pub references: usize,
+}
+
 /// Something that is wrong with a source, or a note on it.
 #[derive(Debug, Drop)]
 pub struct Finding<'v> {
@@ -17,7 +26,7 @@ pub struct Finding<'v> {
     pub source: usize,
     /// The path in the source of the schema that it is about.
     pub path: Vec<JsonPointerSegment<'v>>,
-    /// The keyword there whose text is the culprit; `None` where it is the source as a whole.
+    /// The keyword there whose text it is about; `None` where it is the source as a whole.
     pub keyword: Option<&'static str>,
     /// The text under that keyword, which is the source's own.
     pub text: Option<&'v str>,
@@ -32,19 +41,19 @@ pub enum Problem<'v> {
     NotJson,
     /// An identifier, a `$ref` or a `$schema` means no URI.
     InvalidUri(UriError),
-    /// A `$ref` leads to a URI under which there is no document and no schema.
+    /// The URI of a `$ref` is that of no document and no schema.
     MissingDocument {
         /// The URI.
         uri: Rc<Uri>,
     },
-    /// A `$ref` leads nowhere in a document that is there.
+    /// A `$ref` is unresolvable in a document that is there.
     LeadsNowhere {
         /// The URI of what it points into.
         uri: Rc<Uri>,
         /// The fault of the look-up: neither `Unretrievable` nor `Memory`.
         error: Error,
     },
-    /// A note: a `$ref` leads into a meta-schema of a draft that isn't among the documents, so that its fragment isn't looked up.
+    /// A note: a `$ref` points into a meta-schema of a draft that isn't among the documents, so that its fragment isn't looked up.
     Unchecked {
         /// The URI of the meta-schema.
         uri: Rc<Uri>,

@@ -181,7 +181,7 @@ fn wants_of(alloc: Global, draft: Draft, sources: &[Source<'_>]) -> Result<Wants
 /// points into or an unknown `$schema` names and that no document or place bears, the retriever is asked once, and what it gives is
 /// read before the next. At most `limit` documents are retrieved. A document that the retriever refuses is left out.
 ///
-/// Refuses for want of memory alone, the retriever's too. Each place is visited once, with a look-up in a hashed map for each URI
+/// Fails only if out of memory, here or in the retriever. Each place is visited once, with a look-up in a hashed map for each URI
 /// that it bears or wants.
 pub fn gather<R: Retrieve>(
     alloc: Global,
@@ -206,7 +206,7 @@ pub fn gather<R: Retrieve>(
     Ok(list)
 }
 
-/// Documents that were retrieved, as sources. Their values are lent, and their URIs copied. Refuses for want of memory alone.
+/// Documents that were retrieved, as sources. Their values are lent, and their URIs copied. Fails only if out of memory.
 pub fn as_sources<'h>(alloc: Global, held: &'h [Held]) -> Result<Vec<Source<'h>>, AllocError>
     ensures value { IfOk result (λ sources. map source_of sources.items ≡ map held_source held.now) }
 {

@@ -1,5 +1,5 @@
 //! What is wrong with the references of JSON documents, for linters: identifiers, references and names of meta-schemas that mean
-//! no URI, documents that aren't there, pointers and anchors that lead nowhere, and URIs and names that two places bear. No
+//! no URI, documents that aren't there, unresolvable pointers and anchors, and URIs and names that two places bear. No
 //! finding hides another.
 #![tactic(auto)]
 
@@ -17,7 +17,7 @@ mod source;
 mod survey;
 mod walk;
 
-pub use finding::{Bearer, Finding, Problem};
+pub use finding::{Bearer, Finding, Problem, Report};
 pub use gathering::{Held, as_sources, gather};
-pub use list::findings;
+pub use list::{findings, report};
 pub use source::Source;

@@ -1,25 +1,27 @@
 //! The list of all that is found.
-ghost use Rattle.std.specs.Prelude.{◌≡◌, List, [], ◌∷◌, ◌++◌, Some, map, option_map, Option, IfOk, OnOk};
+ghost use Rattle.std.specs.Prelude.{◌≡◌, List, [], ◌∷◌, ◌++◌, Some, map, filter, length, option_map, Option, IfOk, OnOk};
 ghost use Rattle.std.specs.List.{AllZip};
 ghost use Rattle.ref_draft.specs.declared.anchor.Anchor.{Anchor};
 ghost use Rattle.ref_draft.specs.Views.{anchor_name};
 ghost use Rattle.ref_findings.specs.Places.{nearest};
 ghost use Rattle.ref_findings.specs.Findings as spec;
-ghost use Rattle.ref_findings.specs.Findings.{finding_at, anchor_finding, source_findings, identifier_findings, reference_findings, schema_findings, anchor_findings, findings_at, place_findings, no_json, not_json, unread, findings};
+ghost use Rattle.ref_findings.specs.Findings.{finding_at, anchor_finding, source_findings, identifier_findings, reference_findings, schema_findings, anchor_findings, findings_at, place_findings, no_json, not_json, unread, has_reference, references, findings};
 ghost use Rattle.ref_findings.specs.Entries.{source_of, IsProblemOf, IsFindingOf};
 ghost use Rattle.ref_findings.specs.inner.Keywords.{keyword_text};
 ghost use Rattle.ref_findings.specs.inner.Meanings.{IsMaybe};
-ghost use Rattle.ref_findings.specs.inner.Seen.{site_of, known_in};
+ghost use Rattle.ref_findings.specs.inner.Seen.{site_of, known_in, known_among};
 
 use crate::base::nearest_base;
 use crate::bearers::{names_of, own_uri, source_uri, unsound_of, uris_of};
-use crate::finding::{Finding, Problem, text_under};
+use crate::finding::{Finding, Problem, Report, text_under};
 use crate::keyword::{Keyword, keyword_at};
 use crate::problem::Known;
 use crate::site::{Site, segments_of};
 use crate::source::Source;
 use crate::survey::{index_of, sites_of, surveys_of};
 use ref_draft::{Anchor, AnchorIter, Draft};
+use ref_index::Index;
+use ref_parts::SortedTable;
 use ref_resolver::Layers;
 use ref_uri::Uri;
 use std::alloc::{AllocError, Global};
@@ -259,17 +261,78 @@ fn listed<'v>(
     Ok(list)
 }
 
+// How many places have a reference.
+fn count_references(sites: &[Site<'_, '_>]) -> usize
+    ensures { result ≡ length (filter has_reference (map site_of sites.now)) }
+{
+    let mut count = 0;
+    for site in sites {
+        if text_under(site.place.value, "$ref").is_some() {
+            count += 1;
+        }
+    }
+    count
+}
+
+// What is found at places, by the index of the sources that are sound and the URIs of the others.
+fn reported<'k, 'v>(
+    alloc: Global,
+    sources: &[Source<'v>],
+    index: &'k Index<'v>,
+    unsound: &'k SortedTable<usize>,
+    sites: &'k [Site<'k, 'v>],
+) -> Result<Report<'v>, AllocError>
+    ensures findings { IfOk result (λ report. AllZip IsFindingOf report.findings.items (unread (map source_of sources.now)
+        ++ place_findings (known_among index.now unsound.now (map site_of sites.now)) (map site_of sites.now))) }
+    ensures references { IfOk result (λ report. report.references ≡ length (filter has_reference (map site_of sites.now))) }
+{
+    let uris = uris_of(alloc, sites)?;
+    let names = names_of(alloc, sites)?;
+    let parents = Vec::new(alloc);
+    let layers = Layers::new(&*index, parents.as_slice());
+    let known = Known {
+        sites: &*sites,
+        layers,
+        unsound: &*unsound,
+        uris: &uris,
+        names: &names,
+    };
+    let findings = listed(alloc, sources, &known, sites)?;
+    Ok(Report {
+        findings,
+        references: count_references(sites),
+    })
+}
+
 /// All that is wrong with the references of sources, and what is to be noted: first those sources that are no JSON, then source by
 /// source what is wrong at its places, level by level. `held` are other documents that references may lead to.
 ///
 /// At a place these come in order: that the URI of its source is that of an earlier place, where it is the root; that its identifier
-/// means no URI, or that of an earlier place; that its `$ref` means no URI or leads nowhere; that its `$schema` means no URI, or no
+/// means no URI, or that of an earlier place; that its `$ref` means no URI or is unresolvable; that its `$schema` means no URI, or no
 /// dialect that is known; and that each of its anchors bears the name of an earlier place with the same base.
 ///
 /// A document that is no JSON or has a text that means no URI is no part of what references are looked up in, and a reference to a
-/// URI of it is not told. Below a place whose identifier means no URI the base stays that of the place around it.
+/// URI of it is not listed. Below a place whose identifier means no URI the base stays that of the place around it.
 ///
-/// Refuses for want of memory alone. Each place is visited twice, each reference looked up once; no value is copied.
+/// Fails only if out of memory. Each place is visited twice, each reference looked up once; no value is copied.
+pub fn report<'v>(
+    alloc: Global,
+    draft: Draft,
+    sources: &[Source<'v>],
+    held: &[Source<'v>],
+) -> Result<Report<'v>, AllocError>
+    ensures findings { IfOk result (λ report. AllZip IsFindingOf report.findings.items (findings draft (map source_of sources.now) (map source_of held.now))) }
+    ensures references { IfOk result (λ report. report.references ≡ references draft (map source_of sources.now)) }
+{
+    let surveys = surveys_of(alloc, draft, sources)?;
+    let others = surveys_of(alloc, draft, held)?;
+    let index = index_of(alloc, draft, surveys.as_slice(), others.as_slice())?;
+    let unsound = unsound_of(alloc, surveys.as_slice(), others.as_slice())?;
+    let sites = sites_of(alloc, surveys.as_slice())?;
+    reported(alloc, sources, &index, &unsound, sites.as_slice())
+}
+
+/// All that is wrong with the references of sources, and what is to be noted, as [`report`] lists it.
 pub fn findings<'v>(
     alloc: Global,
     draft: Draft,
@@ -278,22 +341,6 @@ pub fn findings<'v>(
 ) -> Result<Vec<Finding<'v>>, AllocError>
     ensures value { IfOk result (λ list. AllZip IsFindingOf list.items (findings draft (map source_of sources.now) (map source_of held.now))) }
 {
-    let surveys = surveys_of(alloc, draft, sources)?;
-    let others = surveys_of(alloc, draft, held)?;
-    let index = index_of(alloc, draft, surveys.as_slice(), others.as_slice())?;
-    let unsound = unsound_of(alloc, surveys.as_slice(), others.as_slice())?;
-    let sites = sites_of(alloc, surveys.as_slice())?;
-    let uris = uris_of(alloc, sites.as_slice())?;
-    let names = names_of(alloc, sites.as_slice())?;
-    let parents = Vec::new(alloc);
-    let layers = Layers::new(&index, parents.as_slice());
-    let known = Known {
-        sites: sites.as_slice(),
-        layers,
-        unsound: &unsound,
-        uris: &uris,
-        names: &names,
-    };
-    let list = listed(alloc, sources, &known, sites.as_slice())?;
-    Ok(list)
+    let report = report(alloc, draft, sources, held)?;
+    Ok(report.findings)
 }

@@ -89,7 +89,7 @@ fn is_unretrievable(error: &Error) -> bool
     matches!(error, Error::Unretrievable { .. })
 }
 
-// Why a reference leads nowhere from a base, with an empty dynamic scope, where it does.
+// Why a reference is unresolvable from a base, with an empty dynamic scope, where it is.
 fn fault_at(
     alloc: Global,
     layers: Layers<'_>,
@@ -120,7 +120,7 @@ fn missing<'v>(uri: Rc<Uri>, reference: &str) -> Option<Problem<'v>>
     Some(Problem::Unchecked { uri })
 }
 
-// What is wrong with a reference that leads nowhere, by the URI that it points into and its fault.
+// What is wrong with an unresolvable reference, by the URI that it points into and its fault.
 fn leads_nowhere<'v>(uri: Rc<Uri>, reference: &str, error: Error) -> Option<Problem<'v>>
     ensures { (fault : Fault) → SaysFault error fault → IsMaybe (by_fault uri.value reference.now fault) result }
 {

@@ -4,21 +4,30 @@ use std::alloc::AllocError;
 
 /// Adds a message as a workflow command on a line of its own: `::error file=..,line=..,col=..,title=..::..`.
 pub fn push_annotation(out: &mut String, message: &Message<'_>) -> Result<(), AllocError> {
+    push_place(out, message)?;
+    push_data(out, message.text.as_str())?;
+    push_reference(out, message)?;
+    if let Some(suggestion) = &message.suggestion {
+        push_suggestion(out, suggestion.as_str())?;
+    }
+    out.push('\n')
+}
+
+// Adds the command with its properties.
+fn push_place(out: &mut String, message: &Message<'_>) -> Result<(), AllocError> {
     out.push_str(match message.level {
         Level::Error => "::error file=",
         Level::Note => "::notice file=",
     })?;
     push_property(out, message.file)?;
     let (line, column, code) = (message.line, message.column, message.code);
-    write!(out, ",line={line},col={column},title={code}::")?;
-    push_data(out, message.text.as_str())?;
-    push_reference(out, message)?;
-    if let Some(suggestion) = &message.suggestion {
-        out.push_str(", did you mean '")?;
-        push_data(out, suggestion.as_str())?;
-        out.push_str("'?")?;
-    }
-    out.push('\n')
+    write!(out, ",line={line},col={column},title={code}::")
+}
+
+fn push_suggestion(out: &mut String, suggestion: &str) -> Result<(), AllocError> {
+    out.push_str(", did you mean '")?;
+    push_data(out, suggestion)?;
+    out.push_str("'?")
 }
 
 fn push_reference(out: &mut String, message: &Message<'_>) -> Result<(), AllocError> {

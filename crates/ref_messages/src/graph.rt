@@ -19,7 +19,7 @@ pub struct Edge {
     pub to: usize,
     /// How many there are.
     pub count: usize,
-    /// How many of them lead nowhere.
+    /// How many of them are unresolvable.
     pub broken: usize,
 }
 

@@ -4,11 +4,10 @@
 mod github;
 mod graph;
 mod lines;
+mod members;
 mod message;
 mod sarif;
 mod suggest;
-#[cfg(test)]
-mod tests;
 mod text;
 
 pub use github::push_annotation;

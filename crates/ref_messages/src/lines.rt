@@ -1,60 +1,61 @@
 //! Messages as objects in JSON, one a line.
+use crate::members::{push_number, push_option, push_text};
 use crate::message::{Message, Other};
-use serde::Serialize;
-use serde_json::Error;
-use std::alloc::Global;
-
-#[derive(Drop, Serialize)]
-struct Line<'m> {
-    file: &'m str,
-    line: usize,
-    column: usize,
-    pointer: &'m str,
-    level: &'m str,
-    code: &'m str,
-    message: &'m str,
-    #[serde(skip_serializing_if = "Option::is_none")]
-    keyword: Option<&'m str>,
-    #[serde(skip_serializing_if = "Option::is_none")]
-    reference: Option<&'m str>,
-    #[serde(skip_serializing_if = "Option::is_none")]
-    resolved: Option<&'m str>,
-    #[serde(skip_serializing_if = "Option::is_none")]
-    suggestion: Option<&'m str>,
-    #[serde(skip_serializing_if = "Option::is_none")]
-    first: Option<Place<'m>>,
-}
-
-#[derive(Drop, Serialize)]
-struct Place<'m> {
-    file: &'m str,
-    #[serde(skip_serializing_if = "Option::is_none")]
-    line: Option<usize>,
-    #[serde(skip_serializing_if = "Option::is_none")]
-    column: Option<usize>,
-    pointer: &'m str,
-}
+use std::alloc::{AllocError, Global};
 
 /// Adds a message as an object on a line of its own.
-pub fn push_line(alloc: Global, out: &mut String, message: &Message<'_>) -> Result<(), Error> {
-    let line = Line {
-        file: message.file,
-        line: message.line,
-        column: message.column,
-        pointer: message.pointer.as_str(),
-        level: message.level.name(),
-        code: message.code,
-        message: message.text.as_str(),
-        keyword: message.keyword,
-        reference: message.reference,
-        resolved: text_of(&message.resolved),
-        suggestion: text_of(&message.suggestion),
-        first: place_of(&message.first),
-    };
-    let text = serde_json::to_string(alloc, &line)?;
-    out.push_str(text.as_str())?;
-    out.push('\n')?;
-    Ok(())
+pub fn push_line(alloc: Global, out: &mut String, message: &Message<'_>) -> Result<(), AllocError> {
+    push_place(
+        alloc,
+        out,
+        message.file,
+        (message.line, message.column),
+        message.pointer.as_str(),
+    )?;
+    push_kind(alloc, out, message)?;
+    push_reference(alloc, out, message)?;
+    if let Some(first) = &message.first {
+        push_first(alloc, out, first)?;
+    }
+    out.push_str("}\n")
+}
+
+// Adds an object's beginning with a place; a line or a column that isn't known is left out.
+fn push_place(
+    alloc: Global,
+    out: &mut String,
+    file: &str,
+    (line, column): (usize, usize),
+    pointer: &str,
+) -> Result<(), AllocError> {
+    push_text(alloc, out, "{\"file\":", file)?;
+    push_known(out, ",\"line\":", line)?;
+    push_known(out, ",\"column\":", column)?;
+    push_text(alloc, out, ",\"pointer\":", pointer)
+}
+
+fn push_known(out: &mut String, before: &str, number: usize) -> Result<(), AllocError> {
+    if number == 0 {
+        return Ok(());
+    }
+    push_number(out, before, number)
+}
+
+fn push_kind(alloc: Global, out: &mut String, message: &Message<'_>) -> Result<(), AllocError> {
+    push_text(alloc, out, ",\"level\":", message.level.name())?;
+    push_text(alloc, out, ",\"code\":", message.code)?;
+    push_text(alloc, out, ",\"message\":", message.text.as_str())
+}
+
+fn push_reference(
+    alloc: Global,
+    out: &mut String,
+    message: &Message<'_>,
+) -> Result<(), AllocError> {
+    push_option(alloc, out, ",\"keyword\":", message.keyword)?;
+    push_option(alloc, out, ",\"reference\":", message.reference)?;
+    push_option(alloc, out, ",\"resolved\":", text_of(&message.resolved))?;
+    push_option(alloc, out, ",\"suggestion\":", text_of(&message.suggestion))
 }
 
 fn text_of(text: &Option<String>) -> Option<&str> {
@@ -64,18 +65,14 @@ fn text_of(text: &Option<String>) -> Option<&str> {
     }
 }
 
-fn place_of(other: &Option<Other>) -> Option<Place<'_>> {
-    match other {
-        Some(other) => Some(Place {
-            file: other.file.as_str(),
-            line: known(other.line),
-            column: known(other.column),
-            pointer: other.pointer.as_str(),
-        }),
-        None => None,
-    }
-}
-
-fn known(number: usize) -> Option<usize> {
-    if number == 0 { None } else { Some(number) }
+fn push_first(alloc: Global, out: &mut String, first: &Other) -> Result<(), AllocError> {
+    out.push_str(",\"first\":")?;
+    push_place(
+        alloc,
+        out,
+        first.file.as_str(),
+        (first.line, first.column),
+        first.pointer.as_str(),
+    )?;
+    out.push('}')
 }

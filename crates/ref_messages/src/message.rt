@@ -1,6 +1,6 @@
 //! A message about a place in a file.
 
-/// How much a message weighs.
+/// The level of a message.
 #[derive(Clone, Copy, Debug, Drop, PartialEq, Eq)]
 pub enum Level {
     /// Something is wrong.
@@ -43,13 +43,13 @@ pub struct Message<'m> {
     pub column: usize,
     /// The pointer of the schema that it is about (RFC 6901).
     pub pointer: String,
-    /// How much it weighs.
+    /// Its level.
     pub level: Level,
     /// The name of its kind, as `missing-document`.
     pub code: &'static str,
     /// What is wrong.
     pub text: String,
-    /// The keyword whose text is the culprit.
+    /// The keyword whose text it is about.
     pub keyword: Option<&'static str>,
     /// The text under the keyword, as it stands in the file.
     pub reference: Option<&'m str>,

@@ -1,7 +1,6 @@
 //! Messages as a SARIF log (2.1.0).
+use crate::members::{push_number, push_text};
 use crate::message::{Message, Other};
-use serde::Serialize;
-use serde_json::Error;
 use std::alloc::{AllocError, Global};
 
 /// A kind of messages.
@@ -13,77 +12,8 @@ pub struct Rule {
     pub text: &'static str,
 }
 
-#[derive(Drop, Serialize)]
-struct Text<'m> {
-    text: &'m str,
-}
-
-#[derive(Drop, Serialize)]
-struct Said {
-    text: String,
-}
-
-#[derive(Drop, Serialize)]
-#[serde(rename_all = "camelCase")]
-struct Described<'m> {
-    id: &'m str,
-    short_description: Text<'m>,
-}
-
-#[derive(Drop, Serialize)]
-#[serde(rename_all = "camelCase")]
-struct Driver<'m> {
-    name: &'m str,
-    version: &'m str,
-    rules: Vec<Described<'m>>,
-}
-
-#[derive(Drop, Serialize)]
-struct Artifact {
-    uri: String,
-}
-
-#[derive(Drop, Serialize)]
-#[serde(rename_all = "camelCase")]
-struct Region {
-    start_line: usize,
-    start_column: usize,
-}
-
-#[derive(Drop, Serialize)]
-#[serde(rename_all = "camelCase")]
-struct Physical {
-    artifact_location: Artifact,
-    #[serde(skip_serializing_if = "Option::is_none")]
-    region: Option<Region>,
-}
-
-#[derive(Drop, Serialize)]
-#[serde(rename_all = "camelCase")]
-struct Logical {
-    fully_qualified_name: String,
-}
-
-#[derive(Drop, Serialize)]
-#[serde(rename_all = "camelCase")]
-struct Location {
-    physical_location: Physical,
-    logical_locations: Vec<Logical>,
-}
-
-#[derive(Drop, Serialize)]
-#[serde(rename_all = "camelCase")]
-struct Found<'m> {
-    rule_id: &'m str,
-    level: &'m str,
-    message: Said,
-    locations: Vec<Location>,
-    #[serde(skip_serializing_if = "Vec::is_empty")]
-    related_locations: Vec<Location>,
-}
-
 const HEAD: &str =
-    "{\"$schema\":\"https://json.schemastore.org/sarif-2.1.0.json\",\"version\":\"2.1.0\",\"runs\":[{\"tool\":{\"driver\":";
+    "{\"$schema\":\"https://json.schemastore.org/sarif-2.1.0.json\",\"version\":\"2.1.0\",\"runs\":[{\"tool\":{\"driver\":{\"name\":\"patchsard\"";
 
 /// Adds a log of messages, one result a line. Files' names go into it as relative URIs, or `file:` URIs where they are absolute paths.
 pub fn push_sarif(
@@ -92,68 +22,78 @@ pub fn push_sarif(
     version: &str,
     rules: &[Rule],
     messages: &[Message<'_>],
-) -> Result<(), Error> {
+) -> Result<(), AllocError> {
     out.push_str(HEAD)?;
-    push_driver(alloc, out, version, rules)?;
-    out.push_str("},\"columnKind\":\"unicodeCodePoints\",\"results\":[")?;
+    push_text(alloc, out, ",\"version\":", version)?;
+    push_rules(alloc, out, rules)?;
+    push_results(alloc, out, messages)
+}
+
+// Adds the rules, and what ends the driver.
+fn push_rules(alloc: Global, out: &mut String, rules: &[Rule]) -> Result<(), AllocError> {
+    out.push_str(",\"rules\":[")?;
+    for number in 0..rules.len() {
+        out.push_str(if number == 0 { "" } else { "," })?;
+        push_rule(alloc, out, rules[number])?;
+    }
+    out.push_str("]}}")
+}
+
+fn push_rule(alloc: Global, out: &mut String, rule: Rule) -> Result<(), AllocError> {
+    push_text(alloc, out, "{\"id\":", rule.code)?;
+    push_text(alloc, out, ",\"shortDescription\":{\"text\":", rule.text)?;
+    out.push_str("}}")
+}
+
+// Adds the results, and what ends the log.
+fn push_results(
+    alloc: Global,
+    out: &mut String,
+    messages: &[Message<'_>],
+) -> Result<(), AllocError> {
+    out.push_str(",\"columnKind\":\"unicodeCodePoints\",\"results\":[")?;
     for number in 0..messages.len() {
         out.push_str(if number == 0 { "\n" } else { ",\n" })?;
         push_result(alloc, out, &messages[number])?;
     }
-    out.push_str("\n]}]}\n")?;
-    Ok(())
+    out.push_str("\n]}]}\n")
 }
 
-fn push_driver(
-    alloc: Global,
-    out: &mut String,
-    version: &str,
-    rules: &[Rule],
-) -> Result<(), Error> {
-    let driver = Driver {
-        name: "patchsard",
-        version,
-        rules: rules_of(alloc, rules)?,
-    };
-    let text = serde_json::to_string(alloc, &driver)?;
-    out.push_str(text.as_str())?;
-    Ok(())
-}
-
-fn rules_of<'m>(alloc: Global, rules: &[Rule]) -> Result<Vec<Described<'m>>, AllocError> {
-    let mut list = Vec::new(alloc);
-    for rule in rules {
-        list.push(Described {
-            id: rule.code,
-            short_description: Text { text: rule.text },
-        })?;
+fn push_result(alloc: Global, out: &mut String, message: &Message<'_>) -> Result<(), AllocError> {
+    push_text(alloc, out, "{\"ruleId\":", message.code)?;
+    push_text(alloc, out, ",\"level\":", message.level.name())?;
+    push_said(alloc, out, message)?;
+    push_location(
+        alloc,
+        out,
+        (",\"locations\":[", message.file),
+        (message.line, message.column),
+        message.pointer.as_str(),
+    )?;
+    if let Some(first) = &message.first {
+        push_related(alloc, out, first)?;
     }
-    Ok(list)
+    out.push('}')
 }
 
-fn push_result(alloc: Global, out: &mut String, message: &Message<'_>) -> Result<(), Error> {
-    let said = Said {
-        text: text_of(alloc, message)?,
-    };
-    let found = Found {
-        rule_id: message.code,
-        level: message.level.name(),
-        message: said,
-        locations: one_location(
-            alloc,
-            message.file,
-            (message.line, message.column),
-            message.pointer.as_str(),
-        )?,
-        related_locations: related(alloc, &message.first)?,
-    };
-    let text = serde_json::to_string(alloc, &found)?;
-    out.push_str(text.as_str())?;
-    Ok(())
+fn push_related(alloc: Global, out: &mut String, first: &Other) -> Result<(), AllocError> {
+    push_location(
+        alloc,
+        out,
+        (",\"relatedLocations\":[", first.file.as_str()),
+        (first.line, first.column),
+        first.pointer.as_str(),
+    )
+}
+
+fn push_said(alloc: Global, out: &mut String, message: &Message<'_>) -> Result<(), AllocError> {
+    let text = text_of(message)?;
+    push_text(alloc, out, ",\"message\":{\"text\":", text.as_str())?;
+    out.push('}')
 }
 
 // What a message says, in one text.
-fn text_of(alloc: Global, message: &Message<'_>) -> Result<String, AllocError> {
+fn text_of(message: &Message<'_>) -> Result<String, AllocError> {
     let mut text = message.text.clone()?;
     if let (Some(keyword), Some(reference)) = (message.keyword, message.reference) {
         write!(text, " ({keyword} '{reference}')")?;
@@ -164,60 +104,43 @@ fn text_of(alloc: Global, message: &Message<'_>) -> Result<String, AllocError> {
     Ok(text)
 }
 
-fn location_at(
+// Adds a list of one location. A line of 0 isn't known.
+fn push_location(
     alloc: Global,
-    file: &str,
+    out: &mut String,
+    (before, file): (&str, &str),
     (line, column): (usize, usize),
     pointer: &str,
-) -> Result<Location, AllocError> {
-    let region = if line == 0 {
-        None
-    } else {
-        Some(Region {
-            start_line: line,
-            start_column: column,
-        })
-    };
-    let uri = uri_of(alloc, file)?;
-    let logical_locations = logical_of(alloc, pointer)?;
-    Ok(Location {
-        physical_location: Physical {
-            artifact_location: Artifact { uri },
-            region,
-        },
-        logical_locations,
-    })
-}
-
-fn logical_of(alloc: Global, pointer: &str) -> Result<Vec<Logical>, AllocError> {
-    let mut list = Vec::new(alloc);
-    list.push(Logical {
-        fully_qualified_name: String::from_str(alloc, pointer)?,
-    })?;
-    Ok(list)
-}
-
-fn one_location(
-    alloc: Global,
-    file: &str,
-    place: (usize, usize),
-    pointer: &str,
-) -> Result<Vec<Location>, AllocError> {
-    let mut locations = Vec::new(alloc);
-    locations.push(location_at(alloc, file, place, pointer)?)?;
-    Ok(locations)
-}
-
-fn related(alloc: Global, first: &Option<Other>) -> Result<Vec<Location>, AllocError> {
-    match first {
-        Some(first) => one_location(
-            alloc,
-            first.file.as_str(),
-            (first.line, first.column),
-            first.pointer.as_str(),
-        ),
-        None => Ok(Vec::new(alloc)),
+) -> Result<(), AllocError> {
+    out.push_str(before)?;
+    push_file(alloc, out, file)?;
+    if line != 0 {
+        push_region(out, line, column)?;
     }
+    push_text(
+        alloc,
+        out,
+        "},\"logicalLocations\":[{\"fullyQualifiedName\":",
+        pointer,
+    )?;
+    out.push_str("}]}]")
+}
+
+fn push_file(alloc: Global, out: &mut String, file: &str) -> Result<(), AllocError> {
+    let uri = uri_of(alloc, file)?;
+    push_text(
+        alloc,
+        out,
+        "{\"physicalLocation\":{\"artifactLocation\":{\"uri\":",
+        uri.as_str(),
+    )?;
+    out.push('}')
+}
+
+fn push_region(out: &mut String, line: usize, column: usize) -> Result<(), AllocError> {
+    push_number(out, ",\"region\":{\"startLine\":", line)?;
+    push_number(out, ",\"startColumn\":", column)?;
+    out.push('}')
 }
 
 // A file's name as a URI: one that is there already as it is, and a path encoded.

@@ -8,30 +8,51 @@ const MOST_EDITS: usize = 2;
 // How many bytes a name may have that is compared.
 const MOST_BYTES: usize = 64;
 
-/// Looks for names that are one or two letters away from another. It makes so many comparisons in all, and none after that, so that many names
-/// among many cost no more than that.
+// How many steps one search takes at most.
+const STEPS_OF_A_SEARCH: usize = 65_536;
+
+// How many steps a comparison counts as.
+const STEPS_OF_A_COMPARISON: usize = 16;
+
+/// Searches for names that are one or two letters away from another. A name that is passed is a step, and one that is compared 16. A search
+/// takes 65,536 steps at most, and all searches together a number that is given, so that many searches among many names cost no more than that:
+/// what is not reached by then is not suggested.
 #[derive(Debug, Drop)]
 pub struct Suggester {
+    // How many steps all searches may take yet, and this one.
     left: usize,
+    left_here: usize,
 }
 
 impl Suggester {
-    /// One that makes at most so many comparisons.
-    pub fn new(most: usize) -> Suggester {
-        Suggester { left: most }
+    /// One whose searches take at most so many steps in all.
+    pub fn new(steps: usize) -> Suggester {
+        Suggester {
+            left: steps,
+            left_here: 0,
+        }
     }
 
-    /// How many edits a name is away from what is wanted: one or two. Nothing where it is more.
+    /// Begins another search.
+    pub fn begin(&mut self) {
+        self.left_here = STEPS_OF_A_SEARCH;
+    }
+
+    /// Counts a step, and says whether the search may take it.
+    pub fn step(&mut self) -> bool {
+        self.take(1)
+    }
+
+    /// How many edits a name is away from what is wanted: one or two. Nothing where it is more, or where the search is at its end.
     pub fn distance(
         &mut self,
         alloc: Global,
         wanted: &str,
         name: &str,
     ) -> Result<Option<usize>, AllocError> {
-        if self.left == 0 || !may_be_close(wanted, name) {
+        if !may_be_close(wanted, name) || !self.take(STEPS_OF_A_COMPARISON) {
             return Ok(None);
         }
-        self.left -= 1;
         let edits = levenshtein(alloc, wanted, name)?;
         if edits == 0 || edits > MOST_EDITS {
             return Ok(None);
@@ -39,10 +60,16 @@ impl Suggester {
         Ok(Some(edits))
     }
 
-    /// Counts a step that isn't a comparison, and tells whether there may be more.
-    pub fn step(&mut self) -> bool {
-        self.left = self.left.saturating_sub(1);
-        self.left != 0
+    fn take(&mut self, steps: usize) -> bool {
+        let (Some(left), Some(left_here)) = (
+            self.left.checked_sub(steps),
+            self.left_here.checked_sub(steps),
+        ) else {
+            return false;
+        };
+        self.left = left;
+        self.left_here = left_here;
+        true
     }
 }
 

@@ -4,17 +4,21 @@ use std::alloc::AllocError;
 
 /// Adds a message: a line with its place, and lines with what belongs to it, four blanks in.
 pub fn push_text(out: &mut String, message: &Message<'_>) -> Result<(), AllocError> {
-    let (file, line, column) = (message.file, message.line, message.column);
-    let (level, code, text) = (message.level.name(), message.code, message.text.as_str());
-    write!(out, "{file}:{line}:{column}: {level}[{code}]: {text}\n")?;
+    push_head(out, message)?;
     push_reference(out, message)?;
     if let Some(first) = &message.first {
         push_first(out, first)?;
     }
-    if let Some(suggestion) = &message.suggestion {
-        write!(out, "    did you mean '{suggestion}'?\n")?;
+    match &message.suggestion {
+        Some(suggestion) => write!(out, "    did you mean '{suggestion}'?\n"),
+        None => Ok(()),
     }
-    Ok(())
+}
+
+fn push_head(out: &mut String, message: &Message<'_>) -> Result<(), AllocError> {
+    let (file, line, column) = (message.file, message.line, message.column);
+    let (level, code, text) = (message.level.name(), message.code, message.text.as_str());
+    write!(out, "{file}:{line}:{column}: {level}[{code}]: {text}\n")
 }
 
 fn push_reference(out: &mut String, message: &Message<'_>) -> Result<(), AllocError> {

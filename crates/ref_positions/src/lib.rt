@@ -7,8 +7,6 @@
 mod locate;
 mod places;
 mod position;
-#[cfg(test)]
-mod tests;
 mod walk;
 
 pub use locate::Located;

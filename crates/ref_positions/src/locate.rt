@@ -24,7 +24,7 @@ impl<'a> Located<'a> {
 }
 
 impl Places {
-    /// Where these places stand in a JSON text. Of a text that is no JSON, those are told that stand before the fault.
+    /// Where these places stand in a JSON text. Of a text that is no JSON, those are found that come before the fault.
     ///
     /// One pass over the text: it costs a step for each byte, and a look-up for each key and each item of what is asked for or has below it what is
     /// asked for.

@@ -3,7 +3,7 @@ use Rattle.std.specs.Prelude.{◌≡◌, ℕ, Bool, List, [], ◌∷◌, map, fl
 use Rattle.std.specs.List.{AllByRecursion}
 use Rattle.std.specs.Option.{option_to_list}
 use Rattle.ref_parts.specs.Table.{Entry}
-use Rattle.ref_world.specs.World.{Document}
+use Rattle.ref_world.specs.World.{Document, Layer}
 use Rattle.ref_world.specs.Resources.{own_uri}
 use Rattle.serde_json.specs.View.{view}
 use Rattle.ref_draft.specs.Schema.{identifier}
@@ -15,7 +15,7 @@ use Rattle.ref_findings.specs.declared.site.Site as rust_site
 use Rattle.ref_findings.specs.declared.survey.Survey as rust_survey
 use Rattle.ref_findings.specs.declared.problem.Known as rust_known
 use Rattle.ref_findings.specs.Sources.{Source, document_in, places_in, is_sound, under_uri}
-use Rattle.ref_findings.specs.Bearers.{Site}
+use Rattle.ref_findings.specs.Bearers.{Site, uris_borne, names_borne}
 use Rattle.ref_findings.specs.Findings.{Known}
 use Rattle.ref_findings.specs.Entries.{source_of}
 
@@ -68,3 +68,7 @@ known_in k = record {
   uris = reverse k.uris.now;
   names = reverse k.names.now;
 }
+
+-- what is known of places, by the documents that are sound and the URIs of the others
+abbrev pub known_among : Layer → List (Entry ℕ) → List Site → Known
+known_among layer unsound sites = record { world = layer ∷ []; unsound = unsound; sites = sites; uris = uris_borne sites; names = names_borne sites }

@@ -1,8 +1,7 @@
-use Rattle.std.proofs.Common.{◌∙◌, ◌++◌, ap, sym, arith}
+use Rattle.std.proofs.Common.{◌≡◌, ◌∙◌, ◌++◌, ap, sym, subst, reverse, IfOk, arith}
 use Rattle.ref_findings.specs.Bearers.{uri_entries}
 use Rattle.ref_findings.specs.inner.Seen.{site_of}
 use Rattle.ref_findings.proofs.Lists.{joined_step, joined_end}
-use Rattle.ref_findings.proofs.Tables.{entries_of-reverse}
 use Rattle.ref_findings.proofs.bearers.uris_of.Goals as goal
 
 pub loop-number-preserved : goal.loop-number-preserved
@@ -16,6 +15,5 @@ pub returns : goal.returns
 returns c =
     let l = c.loop-number in
     record {
-      value = c.in_ok-table.ensures.entered
-          ∙ entries_of-reverse l.entries.items c.reverse.new.self.items c.reverse.ensures.items (l.invariant ∙ joined_end uri_entries site_of c.args.sites.now l.number (omega arith));
+      value = subst (λ es. IfOk c.table_of.result (λ table. table ≡ reverse es)) (l.invariant ∙ joined_end uri_entries site_of c.args.sites.now l.number (omega arith)) c.table_of.ensures;
     }

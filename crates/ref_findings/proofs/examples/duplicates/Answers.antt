@@ -5,4 +5,4 @@ use Rattle.ref_findings.proofs.examples.duplicates.Goals as goal
 
 pub returns : goal.returns
 unfolding world_on_literals is_meta_schema
-returns c = record { identifiers = refl; uri_of_a_source = refl; its_own = refl; anchors = refl; of_two_resources = refl; plain_and_dynamic = refl }
+returns c = record { identifiers = refl; uri_of_a_source = refl; its_own = refl; anchors = refl; no_name = refl; of_two_resources = refl; plain_and_dynamic = refl }

@@ -1,47 +1,4 @@
-use Rattle.std.proofs.Common.{◌≡◌, ◌∙◌, ◌∷◌, ◌++◌, [], map, flat_map, reverse, ap, sym, subst, rules}
-use Rattle.std.specs.List.{AllZip, enumerate_from}
-use Rattle.std.proofs.lemmas.Simd.{map-map}
-use Rattle.ref_resolver.specs.Layered.{world_in}
-use Rattle.ref_findings.specs.Sources.{world_of, unsound}
-use Rattle.ref_findings.specs.Bearers.{numbered, sites, uris_borne, names_borne}
-use Rattle.ref_findings.specs.Findings.{Known, unread, place_findings}
-use Rattle.ref_findings.specs.Entries.{source_of, IsFindingOf}
-use Rattle.ref_findings.specs.inner.Seen.{Survey, seen, site_of, sound_in, unsound_in, AreSurveys}
-use Rattle.ref_findings.proofs.Knowing.{known_with, world_is, unsound_is, sites_are, same_known, surveys_are}
 use Rattle.ref_findings.proofs.list.findings.Goals as goal
 
-pub index_of-requires-clause-surveys : goal.index_of-requires-clause-surveys
-index_of-requires-clause-surveys c =
-    let lent : c.as_slice.result.now ≡ c.in_ok-surveys.surveys.items = search rules in
-    subst (AreSurveys c.args.draft) (sym (ap (map seen) lent ∙ c.in_ok-surveys.ensures.value)) (surveys_are c.args.draft (map source_of c.args.sources.now))
-
-pub index_of-requires-clause-others : goal.index_of-requires-clause-others
-index_of-requires-clause-others c =
-    let lent : c.as_slice-2.result.now ≡ c.in_ok-others.others.items = search rules in
-    subst (AreSurveys c.args.draft) (sym (ap (map seen) lent ∙ c.in_ok-others.ensures.value)) (surveys_are c.args.draft (map source_of c.args.held.now))
-
 pub returns : goal.returns
-returns c =
-    let draft = c.args.draft in
-    let ss = map source_of c.args.sources.now in
-    let hs = map source_of c.args.held.now in
-    let ts = map seen c.in_ok-surveys.surveys.items in
-    let us = map seen c.in_ok-others.others.items in
-    let ls = map site_of c.in_ok-sites.sites.items in
-    let index = c.in_ok-index.index in
-    let bad = c.in_ok-unsound.unsound in
-    let uris = c.in_ok-uris.uris in
-    let names = c.in_ok-names.names in
-    let world : world_in c.new-layers.result ≡ index ∷ [] = search rules in
-    let layer : index ≡ flat_map (sound_in draft) ts ++ flat_map (sound_in draft) us = search rules in
-    let entries : bad ≡ flat_map unsound_in ts ++ flat_map unsound_in us = search rules in
-    let placed : ls ≡ flat_map numbered (enumerate_from 0 (map (λ s. (seen s).places) c.in_ok-surveys.surveys.items)) = search rules in
-    let first : uris ≡ reverse (uris_borne ls) = search rules in
-    let second : names ≡ reverse (names_borne ls) = search rules in
-    let same = same_known (world_in c.new-layers.result) bad ls uris names (world_of draft ss hs) (unsound draft ss hs) (sites draft ss)
-    (world ∙ world_is draft ss hs ts us index c.in_ok-surveys.ensures.value c.in_ok-others.ensures.value layer)
-    (unsound_is draft ss hs ts us bad c.in_ok-surveys.ensures.value c.in_ok-others.ensures.value entries)
-    (sites_are draft ss ts ls c.in_ok-surveys.ensures.value (placed ∙ ap (λ l. flat_map numbered (enumerate_from 0 l)) (sym (map-map (λ (t : Survey). t.places) seen c.in_ok-surveys.surveys.items))))
-    first second in
-    let zipped : AllZip IsFindingOf c.in_ok-list.list.items (unread ss ++ place_findings (known_with (world_in c.new-layers.result) bad ls (reverse uris) (reverse names)) ls) = search rules in
-    record { value = subst (λ (k : Known). AllZip IsFindingOf c.in_ok-list.list.items (unread ss ++ place_findings k k.sites)) same zipped }
+returns c = record { value = c.in_ok-report.ensures.findings }

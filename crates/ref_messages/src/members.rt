@@ -1,0 +1,40 @@
+//! Members of JSON objects.
+use serde_json::Value;
+use std::alloc::{AllocError, Global};
+
+/// Adds what stands before a text, as `,"file":`, and the text as a JSON string.
+pub(crate) fn push_text(
+    alloc: Global,
+    out: &mut String,
+    before: &str,
+    text: &str,
+) -> Result<(), AllocError> {
+    out.push_str(before)?;
+    let text = quoted(alloc, text)?;
+    out.push_str(text.as_str())
+}
+
+/// Adds what stands before a text, and the text, where there is one.
+pub(crate) fn push_option(
+    alloc: Global,
+    out: &mut String,
+    before: &str,
+    text: Option<&str>,
+) -> Result<(), AllocError> {
+    match text {
+        Some(text) => push_text(alloc, out, before, text),
+        None => Ok(()),
+    }
+}
+
+/// Adds what stands before a number, and the number.
+pub(crate) fn push_number(out: &mut String, before: &str, number: usize) -> Result<(), AllocError> {
+    out.push_str(before)?;
+    write!(out, "{number}")
+}
+
+// A text as a JSON string.
+fn quoted(alloc: Global, text: &str) -> Result<String, AllocError> {
+    let text = String::from_str(alloc, text)?;
+    Value::String(text).to_string(alloc)
+}
