@@ -1,0 +1,111 @@
+-- Which URIs mean in a bundle what they meant: those that needed places refer to, and those that they bear.
+use Rattle.std.proofs.Common.{◌≡◌, ℕ, Bool, true, false, not, cond, ◌&&◌, ◌==◌, eqb-true, eq-eqb, List, [], ◌∷◌, Option, Some, None, Ok, bytes_eq, slice_get, refl, sym, ap, subst, ◌∙◌, true≢false}
+use Rattle.std.specs.List.{AllByRecursion, Contains}
+use Rattle.std.specs.Option.{option_map_or}
+use Rattle.ref_draft.proofs.Lists.{all_filter}
+use Rattle.ref_world.specs.World.{Document, Layer}
+use Rattle.ref_world.specs.Places.{Place, places}
+use Rattle.ref_bundle.specs.Needed.{counted, document_under, targets, is_among, needed, needed_documents}
+use Rattle.ref_bundle.specs.Embedding.{base_uri}
+use Rattle.ref_bundle.specs.Bundle.{ReplacedUri, uris_of, replaced_in, replaced_at, to_embed}
+use Rattle.ref_bundle.proofs.LawEntries.{IsFree}
+use Rattle.ref_bundle.proofs.LawBorne.{IsPut}
+use Rattle.ref_bundle.proofs.LawEmbedded.{base_is}
+use Rattle.ref_bundle.proofs.LawMeans.{IsNoAlias}
+use Rattle.ref_bundle.proofs.LawPlaces.{put_in}
+use Rattle.ref_bundle.proofs.LawNeeded.{each_in, counted_one, counted_kept, IsAlone, alone_among, document_bears, none_bears}
+use Rattle.ref_bundle.proofs.LawClosed.{got_at, passes_kept, kept_in, target_needed}
+use Rattle.ref_bundle.proofs.LawBundled.{none_in, no_problem, not_replaced}
+use Rattle.ref_bundle.proofs.LawFacts.{IsMade, root_counted, needed_counted, embedded_needed, others_free, put_of, all_of}
+use Rattle.ref_bundle.proofs.LawMeaning.{IsClear, borne_by_none, borne_by_root, borne_by_embedded}
+
+-- ---- a URI that a needed place bears
+
+-- documents that are embedded have other numbers than the root
+embedded_free : (layer : Layer) (n : ℕ) (uri : List ℕ) → AllByRecursion (λ e. ¬ (e.0 ≡ n) → IsFree uri e.1) (counted 0 layer) → AllByRecursion (λ e. IsFree uri e.1) (to_embed layer n)
+embedded_free layer n uri free_ =
+    all_of (λ e. IsFree uri e.1) (to_embed layer n)
+    (λ e there.
+    let need = embedded_needed layer n e there in
+    each_in (λ x. ¬ (x.0 ≡ n) → IsFree uri x.1) (counted 0 layer) e free_ (needed_counted layer n e need.0) need.1)
+
+alone_embedded : (layer : Layer) (n : ℕ) (uri : List ℕ) (x : ℕ × Document) → Contains (to_embed layer n) x → AllByRecursion (λ e. ¬ (e.0 ≡ x.0) → IsFree uri e.1) (counted 0 layer) → IsAlone uri (to_embed layer n) x
+alone_embedded layer n uri x there free_ =
+    let outer = passes_kept (λ (e : ℕ × Document). not (e.0 == n)) (needed_documents layer n) x there in
+    let inner = passes_kept (λ (e : ℕ × Document). is_among (needed layer n) e.0) (counted 0 layer) x outer.0 in
+    alone_among uri (to_embed layer n) x
+    (counted_kept (λ (e : ℕ × Document). not (e.0 == n)) (needed_documents layer n) x outer.1
+    (counted_kept (λ (e : ℕ × Document). is_among (needed layer n) e.0) (counted 0 layer) x inner.1 (counted_one 0 layer x inner.0)))
+    (all_filter (λ e. ¬ (e.0 ≡ x.0) → IsFree uri e.1) (λ (e : ℕ × Document). not (e.0 == n)) (needed_documents layer n)
+    (all_filter (λ e. ¬ (e.0 ≡ x.0) → IsFree uri e.1) (λ (e : ℕ × Document). is_among (needed layer n) e.0) (counted 0 layer) free_))
+
+-- an embedded document's identifier does not replace a URI by another
+abbrev pub Stays : ℕ → ℕ × Document → List ℕ → Type 0
+Stays n x uri = ¬ (x.0 ≡ n) → bytes_eq x.1.uri uri ≡ true → bytes_eq (base_uri x.1) uri ≡ true
+
+no_alias : (layer : Layer) (n : ℕ) (top : Document) (uri : List ℕ) (x : ℕ × Document) → IsPut (put_in top x) → ¬ (x.0 ≡ n) → Stays n x uri → IsNoAlias uri (put_in top x)
+no_alias layer n top uri x put other stays own base is =
+    let same : base_uri x.1 ≡ base =
+    base_is x.1 put.base put.same_base ∙ (let e : Ok put.base ≡ Ok base = sym put.has_base ∙ is in cc) in
+    subst (λ b. bytes_eq b uri ≡ true) same (stays other own)
+
+clear_by : (layer : Layer) (n : ℕ) (top : Document) → IsMade layer n top → (x : ℕ × Document) (uri : List ℕ) → Contains (needed_documents layer n) x → AllByRecursion (λ e. ¬ (e.0 ≡ x.0) → IsFree uri e.1) (counted 0 layer)
+    → Stays n x uri → (b : Bool) → (x.0 == n) ≡ b → IsClear layer n top (to_embed layer n) uri
+clear_by layer n top is x uri need free_ stays true own =
+    let own_number : x.0 ≡ n = eqb-true x.0 n own in
+    let there = needed_counted layer n x need in
+    let tops : Some x.1 ≡ Some top = sym (got_at layer x there) ∙ ap (slice_get layer) own_number ∙ is.at in
+    let own_document : x.1 ≡ top = cc in
+    let both : x ≡ (n, top) = ap (λ k. (k, x.1)) own_number ∙ ap (λ d. (n, d)) own_document in
+    borne_by_root (subst (IsAlone uri (counted 0 layer)) both (alone_among uri (counted 0 layer) x (counted_one 0 layer x there) free_))
+    (embedded_free layer n uri (subst (λ k. AllByRecursion (λ e. ¬ (e.0 ≡ k) → IsFree uri e.1) (counted 0 layer)) own_number free_))
+clear_by layer n top is x uri need free_ stays false own =
+    let other : ¬ (x.0 ≡ n) = λ same. true≢false (sym (eq-eqb x.0 n same) ∙ own) in
+    let there = needed_counted layer n x need in
+    let embedded = kept_in (λ (e : ℕ × Document). not (e.0 == n)) (needed_documents layer n) x need (ap not own) in
+    borne_by_embedded x embedded (alone_among uri (counted 0 layer) x (counted_one 0 layer x there) free_) (alone_embedded layer n uri x embedded free_)
+    (each_in (λ e. ¬ (e.0 ≡ x.0) → IsFree uri e.1) (counted 0 layer) (n, top) free_ (root_counted layer n top is.at) (λ same. other (sym same)))
+    (no_alias layer n top uri x (put_of layer n top is x embedded) other stays)
+
+pub clear_borne : (layer : Layer) (n : ℕ) (top : Document) → IsMade layer n top → (x : ℕ × Document) (p : Place) (uri : List ℕ) → Contains (needed_documents layer n) x → Contains (places x.1) p → Contains (uris_of x.1 p) uri
+    → Stays n x uri → IsClear layer n top (to_embed layer n) uri
+clear_borne layer n top is x p uri need place bears stays =
+    clear_by layer n top is x uri need (others_free layer n top is x p uri need place bears) stays (x.0 == n) refl
+
+-- ---- a URI that none bears
+
+pub clear_free : (layer : Layer) (n : ℕ) (top : Document) → IsMade layer n top → (uri : List ℕ) → AllByRecursion (λ e. IsFree uri e.1) (counted 0 layer) → IsClear layer n top (to_embed layer n) uri
+clear_free layer n top is uri free_ =
+    borne_by_none free_
+    (all_filter (λ e. IsFree uri e.1) (λ (e : ℕ × Document). not (e.0 == n)) (needed_documents layer n) (all_filter (λ e. IsFree uri e.1) (λ (e : ℕ × Document). is_among (needed layer n) e.0) (counted 0 layer) free_))
+    (each_in (λ e. IsFree uri e.1) (counted 0 layer) (n, top) free_ (root_counted layer n top is.at))
+
+-- ---- a URI that a needed place refers to
+
+not_both : (a b : Bool) (uri base : List ℕ) → cond (a && not b) (ReplacedUri uri base ∷ []) [] ≡ [] → a ≡ true → b ≡ true
+not_both true true uri base none is = refl
+not_both true false uri base none is = absurd (let e : ReplacedUri uri base ∷ [] ≡ [] = none in cc)
+not_both false b uri base none is = absurd (true≢false (sym is))
+
+stays_by : (layer : Layer) (n : ℕ) (uri : List ℕ) (x : ℕ × Document) (b : Bool) → (x.0 == n) ≡ b → cond b [] (option_map_or (replaced_in uri) (slice_get layer x.0) []) ≡ [] → slice_get layer x.0 ≡ Some x.1 → Stays n x uri
+stays_by layer n uri x true same none at other own = absurd (other (eqb-true x.0 n same))
+stays_by layer n uri x false same none at other own =
+    not_both (bytes_eq x.1.uri uri) (bytes_eq (base_uri x.1) uri) uri (base_uri x.1) (sym (ap (λ o. option_map_or (replaced_in uri) o []) at) ∙ none) own
+
+clear_target_by : (layer : Layer) (n : ℕ) (top : Document) → IsMade layer n top → (e : ℕ × Document) (p : Place) (uri : List ℕ) → Contains (needed_documents layer n) e → Contains (places e.1) p → Contains (targets p) uri
+    → (o : Option ℕ) → document_under layer uri ≡ o → IsClear layer n top (to_embed layer n) uri
+clear_target_by layer n top is e p uri need place target None means = clear_free layer n top is uri (none_bears layer uri means)
+clear_target_by layer n top is e p uri need place target (Some k) means =
+    let found = document_bears layer uri k means in
+    let x = found.0 in
+    let own : document_under layer uri ≡ Some x.0 = means ∙ ap (λ m. Some m) (sym found.2) in
+    let bearer = found.3 in
+    let at = got_at layer x bearer.document in
+    let x_needed = target_needed layer (n, top) e x p uri (root_counted layer n top is.at) need place target own bearer.document in
+    let none : replaced_at layer n uri (Some x.0) ≡ [] =
+    sym (ap (replaced_at layer n uri) own) ∙ not_replaced layer n e p uri (no_problem layer n top e p (none_in layer n top e is.unrefused need) place) target in
+    clear_borne layer n top is x found.1 uri x_needed bearer.place bearer.bears (stays_by layer n uri x (x.0 == n) refl none at)
+
+pub clear_target : (layer : Layer) (n : ℕ) (top : Document) → IsMade layer n top → (e : ℕ × Document) (p : Place) (uri : List ℕ) → Contains (needed_documents layer n) e → Contains (places e.1) p → Contains (targets p) uri
+    → IsClear layer n top (to_embed layer n) uri
+clear_target layer n top is e p uri need place target = clear_target_by layer n top is e p uri need place target (document_under layer uri) refl

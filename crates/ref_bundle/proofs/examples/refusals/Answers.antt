@@ -1,0 +1,16 @@
+use Rattle.std.proofs.Common.{refl}
+use Rattle.ref_world.proofs.OnLiterals.{world_on_literals}
+use Rattle.ref_bundle.proofs.examples.refusals.Goals as goal
+
+pub returns : goal.returns
+unfolding world_on_literals
+returns c = record {
+  no_document = refl;
+  no_map = refl;
+  key_taken = refl;
+  shared_by_another = refl;
+  shared_in_one = refl;
+  replaced = refl;
+  of_the_root = refl;
+  in_order = refl;
+}

@@ -1,0 +1,11 @@
+use Rattle.std.proofs.Common.{◌≡◌, ◌++◌, map, flat_map, take}
+use Rattle.std.specs.Option.{option_to_list}
+use Rattle.ref_world.specs.World.{Layer}
+use Rattle.ref_bundle.specs.Needed.{document_under}
+use Rattle.ref_bundle.specs.inner.Tables.{AreTables}
+use Rattle.ref_bundle.proofs.reach.push_meant.Given as goal
+
+abbrev pub invariant-loop-uri : goal.invariant-loop-uri
+invariant-loop-uri l =
+    (layer : Layer) → AreTables layer l.bearers
+    → l.numbers.items ≡ l.initial.numbers.items ++ flat_map (λ uri. option_to_list (document_under layer uri)) (map (λ u. u.value) (take l.uri-index l.uris))

@@ -1,0 +1,189 @@
+-- One document in place of several (2020-12 Core, 9.3), or why there is none.
+use Rattle.std.specs.Prelude.{ℕ, ◌==◌, Bool, not, ◌&&◌, if◌then◌else◌, List, [], ◌∷◌, ◌++◌, flat_map, map, filter, codes, bytes_eq, slice_get, is_some, Option, Some, None, option_and_then, Result, Ok, Err}
+use Rattle.std.specs.List.{last_or}
+use Rattle.std.specs.Option.{option_map_or, option_to_list}
+use Rattle.serde_json.specs.Data.{Data, object, Members, no_members, put}
+use Rattle.serde_json.specs.Find.{get, get_member, as_object}
+use Rattle.ref_parts.specs.Path.{Part, Key, path_eq}
+use Rattle.ref_draft.specs.declared.draft.Draft.{Draft}
+use Rattle.ref_draft.specs.Keywords.{id_keyword, is_before_2019}
+use Rattle.ref_world.specs.World.{Document, Layer}
+use Rattle.ref_world.specs.Places.{Place, places}
+use Rattle.ref_world.specs.Resources.{own_uri, resources_in}
+use Rattle.ref_bundle.specs.Needed.{counted, document_under, targets, needed_documents}
+use Rattle.ref_bundle.specs.Embedding.{Obstacle, base_uri, added_schema, embedded_tree, with_member, obstacle}
+
+-- a document that a bundle has under its definitions: its number, its base URI, whether a member for it was added or the one there
+-- replaced, and the `$schema` that was added
+pub record Embedded : Type 0 where
+  pub document : ℕ
+  pub uri : List ℕ
+  pub adds_id : Bool
+  pub schema : Option (List ℕ)
+
+-- a bundle: its tree, and the documents in it but for the root, in the order of documents
+pub record Bundle : Type 0 where
+  pub value : Data
+  pub embedded : List Embedded
+
+-- why there is no bundle
+pub data Problem : Type 0 where
+  -- no document has the number of the root
+  NoDocument : Problem
+  -- a document that is needed can't be embedded
+  NotEmbedded : Obstacle → Problem
+  -- what the root has under the keyword of definitions is no object
+  NoMap : Problem
+  -- the root's definitions have this key, which is the base URI of a document that is needed
+  KeyTaken : List ℕ → Problem
+  -- a place bears a URI that another bears too: that place's document and path
+  SharedUri : List ℕ → ℕ → List Part → Problem
+  -- a place refers to a document by its URI, in place of which its root's identifier gives another one
+  ReplacedUri : List ℕ → List ℕ → Problem
+
+-- a problem, with the document and the path that it is at
+pub record BundleRefusal : Type 0 where
+  pub document : ℕ
+  pub path : List Part
+  pub problem : Problem
+
+-- ---- the tree
+
+-- the keyword of definitions (Draft 7 Validation, 9; 2019-09 Core, 8.2.5)
+abbrev pub definitions_keyword : Draft → List ℕ
+definitions_keyword draft = if is_before_2019 draft then codes "definitions" else codes "$defs"
+
+-- members with these put among them
+abbrev pub with_all : List (List ℕ × Data) → Members → Members
+with_all [] ms = ms
+with_all (e ∷ es) ms = with_all es (put e.0 e.1 ms)
+
+-- the member of a document below a root of this draft
+abbrev pub member_of : Draft → ℕ × Document → List ℕ × Data
+member_of draft e = (base_uri e.1, embedded_tree draft e.1)
+
+-- the members of an object, or none
+abbrev pub members_or_none : Option Members → Members
+members_or_none None = no_members
+members_or_none (Some ms) = ms
+
+-- the definitions that a root has
+abbrev pub definitions_of : Document → Members
+definitions_of top = members_or_none (option_and_then as_object (get (definitions_keyword top.draft) top.tree))
+
+-- the tree of a root with documents under its definitions: its own where there are none
+abbrev pub tree_with : Document → List (ℕ × Document) → Data
+tree_with top [] = top.tree
+tree_with top (e ∷ es) = with_member (definitions_keyword top.draft) (object (with_all (map (member_of top.draft) (e ∷ es)) (definitions_of top))) top.tree
+
+-- what is listed of a document
+abbrev pub embedded : Draft → ℕ × Document → Embedded
+embedded draft e = record {
+  document = e.0;
+  uri = base_uri e.1;
+  adds_id = not (is_some (get (id_keyword e.1.draft) e.1.tree));
+  schema = added_schema draft e.1;
+}
+
+-- ---- the refusals
+
+-- a place of a layer: the number of its document, and its path there
+abbrev pub Site : Type 0
+Site = ℕ × List Part
+
+-- whether two are one
+abbrev pub is_site : Site → Site → Bool
+is_site s t = (s.0 == t.0) && path_eq s.1 t.1
+
+-- the URIs that identify places of a document, each with its place
+abbrev pub borne_in : ℕ × Document → List (List ℕ × Site)
+borne_in e = map (λ r. (r.0, (e.0, r.1.path))) (resources_in e.1)
+
+-- those of a layer
+abbrev pub borne : Layer → List (List ℕ × Site)
+borne layer = flat_map borne_in (counted 0 layer)
+
+-- the last of the other places that bear a URI
+abbrev pub other_bearer : List (List ℕ × Site) → List ℕ → Site → Option Site
+other_bearer entries uri site = option_map_or (λ e. Some e.1) (last_or None (filter (λ e. bytes_eq e.0 uri && not (is_site e.1 site)) entries)) None
+
+-- the problem of a URI that a place bears, where another bears it too
+abbrev pub shared : List (List ℕ × Site) → Site → List ℕ → List Problem
+shared entries site uri = option_map_or (λ other. SharedUri uri other.0 other.1 ∷ []) (other_bearer entries uri site) []
+
+-- the URIs that a place bears: at the root that of the document, and by its own identifier its base
+abbrev pub uris_of : Document → Place → List (List ℕ)
+uris_of d p = (if path_eq p.path [] then d.uri ∷ [] else []) ++ option_to_list (own_uri p)
+
+-- the problem of a URI that a place refers to, where it is that of an embedded document, in place of which its root's identifier
+-- gives another
+abbrev pub replaced_in : List ℕ → Document → List Problem
+replaced_in uri d = if bytes_eq d.uri uri && not (bytes_eq (base_uri d) uri) then ReplacedUri uri (base_uri d) ∷ [] else []
+
+abbrev pub replaced_at : Layer → ℕ → List ℕ → Option ℕ → List Problem
+replaced_at layer top uri None = []
+replaced_at layer top uri (Some n) = if n == top then [] else option_map_or (replaced_in uri) (slice_get layer n) []
+
+abbrev pub replaced : Layer → ℕ → List ℕ → List Problem
+replaced layer top uri = replaced_at layer top uri (document_under layer uri)
+
+-- the problems of a place of a needed document: of the URIs that it bears, then of those that it refers to
+abbrev pub place_problems : Layer → ℕ → ℕ × Document → Place → List Problem
+place_problems layer top e p = flat_map (shared (borne layer) (e.0, p.path)) (uris_of e.1 p) ++ flat_map (replaced layer top) (targets p)
+
+-- a problem at a path of a document
+abbrev pub at_path : ℕ → List Part → Problem → BundleRefusal
+at_path number path problem = record { document = number; path = path; problem = problem }
+
+-- the refusals of the places of a needed document
+abbrev pub place_refusals : Layer → ℕ → ℕ × Document → List BundleRefusal
+place_refusals layer top e = flat_map (λ p. map (at_path e.0 p.path) (place_problems layer top e p)) (places e.1)
+
+-- a key that the definitions have already
+abbrev pub taken : ℕ → List ℕ → Members → ℕ × Document → List BundleRefusal
+taken top keyword ms e = if is_some (get_member (base_uri e.1) ms) then at_path top (Key keyword ∷ Key (base_uri e.1) ∷ []) (KeyTaken (base_uri e.1)) ∷ [] else []
+
+-- the refusals of what a root has under the keyword of definitions, where documents have to stand there
+abbrev pub map_refusals : ℕ → List ℕ → Option Data → List (ℕ × Document) → List BundleRefusal
+map_refusals top keyword None es = []
+map_refusals top keyword (Some value) es =
+    option_map_or (λ ms. flat_map (taken top keyword ms) es) (as_object value) (at_path top (Key keyword ∷ []) NoMap ∷ [])
+
+-- those of a root: none where no document has to stand there
+abbrev pub root_refusals : ℕ × Document → List (ℕ × Document) → List BundleRefusal
+root_refusals top [] = []
+root_refusals top (e ∷ es) =
+    let keyword = definitions_keyword top.1.draft in map_refusals top.0 keyword (get keyword top.1.tree) (e ∷ es)
+
+-- the refusals of a needed document: as a whole, then of its places
+abbrev pub refusals_in : Layer → ℕ × Document → List (ℕ × Document) → ℕ × Document → List BundleRefusal
+refusals_in layer top es e =
+    (if e.0 == top.0 then root_refusals top es else map (λ o. at_path e.0 [] (NotEmbedded o)) (option_to_list (obstacle top.1 e.1)))
+    ++ place_refusals layer top.0 e
+
+-- all of them, in the order of documents and places
+abbrev pub refusals : Layer → ℕ × Document → List (ℕ × Document) → List BundleRefusal
+refusals layer top es = flat_map (refusals_in layer top es) (needed_documents layer top.0)
+
+-- ---- the bundle
+
+-- the documents that have to stand under the definitions of a root, in the order of documents
+abbrev pub to_embed : Layer → ℕ → List (ℕ × Document)
+to_embed layer top = filter (λ e. not (e.0 == top)) (needed_documents layer top)
+
+-- the first refusal, or else the bundle
+abbrev pub unless_refused : List BundleRefusal → Bundle → Result Bundle BundleRefusal
+unless_refused [] bundle = Ok bundle
+unless_refused (refusal ∷ more) bundle = Err refusal
+
+-- the bundle of a root with the documents that it needs
+abbrev pub bundle_of : Document → List (ℕ × Document) → Bundle
+bundle_of top es = record { value = tree_with top es; embedded = map (embedded top.draft) es }
+
+-- the bundle of the document with a number, or why there is none
+abbrev pub bundled : Layer → ℕ → Result Bundle BundleRefusal
+bundled layer number =
+    option_map_or
+    (λ top. let es = to_embed layer number in unless_refused (refusals layer (number, top) es) (bundle_of top es))
+    (slice_get layer number)
+    (Err (at_path number [] NoDocument))

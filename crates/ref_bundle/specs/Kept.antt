@@ -1,0 +1,188 @@
+-- What a bundle keeps of the documents that it is made of.
+use Rattle.std.specs.Prelude.{◌≡◌, ℕ, List, [], ◌∷◌, ◌++◌, map, filter, drop, not, ◌==◌, slice_get, codes, is_some, Some, None, Result, Ok, Err, IsTrue, ◌⊎◌}
+use Rattle.std.specs.List.{AllByRecursion, Contains}
+use Rattle.std.specs.List.Sorted.{IsStrictlyIncreasing}
+use Rattle.percent_encoding.specs.Percent.{percent_decode}
+use Rattle.serde_json.specs.Data.{Data}
+use Rattle.serde_json.specs.Find.{get}
+use Rattle.ref_parts.specs.Path.{Part, Key}
+use Rattle.ref_parts.specs.Pointer.{unescape, tokens}
+use Rattle.ref_draft.specs.Keywords.{id_keyword}
+use Rattle.ref_draft.specs.Schema.{text_under}
+use Rattle.ref_draft.specs.Children.{InKeyOrder, with_draft}
+use Rattle.ref_uri.specs.Targets.{target, fragment_part}
+use Rattle.ref_world.specs.World.{Document, Layer, World}
+use Rattle.ref_world.specs.Places.{Place, root, child_place, places}
+use Rattle.ref_world.specs.Resources.{own_uri, means}
+use Rattle.ref_world.specs.Wants.{faults, open_wants}
+use Rattle.ref_world.specs.Fault.{Fault}
+use Rattle.ref_world.specs.Lookup.{Resolver, Found, at_fragment, lookup}
+use Rattle.ref_bundle.specs.Merges.{IsMergeOf, below_path}
+use Rattle.ref_bundle.specs.Needed.{referred, needed, needed_documents}
+use Rattle.ref_bundle.specs.Embedding.{base_uri, added_schema, embedded_tree}
+use Rattle.ref_bundle.specs.Bundle.{Bundle, bundled, definitions_keyword, uris_of, to_embed}
+
+-- the bundle as a document: under the root's URI, of the root's draft
+abbrev pub document_of_bundle : Document → Bundle → Document
+document_of_bundle top bundle = record { uri = top.uri; tree = bundle.value; draft = top.draft }
+
+-- the bundle alone, over the parents of the documents that it is made of
+abbrev pub world_of_bundle : Document → Bundle → World → World
+world_of_bundle top bundle parents = (document_of_bundle top bundle ∷ []) ∷ parents
+
+-- A bundle of the document with a number, among the documents of a registry: they have no fault and no open want, and the
+-- members of the root are in byte order of their keys, as those of each value of `serde_json` are.
+pub record IsBundle (layer : Layer) (parents : World) (number : ℕ) (top : Document) (bundle : Bundle) : Type 0 where
+  pub no_fault : faults layer ≡ []
+  pub no_want : open_wants (layer ∷ parents) layer ≡ []
+  pub root : slice_get layer number ≡ Some top
+  pub in_order : InKeyOrder top.tree
+  pub is : bundled layer number ≡ Ok bundle
+
+-- the path of a document below the root's definitions
+abbrev pub path_in : Document → Document → List Part
+path_in top d = Key (definitions_keyword top.draft) ∷ Key (base_uri d) ∷ []
+
+-- its place there
+abbrev pub place_in : Document → Document → Place
+place_in top d = child_place [] (base_uri top) (with_draft top.draft (path_in top d, embedded_tree top.draft d))
+
+-- what the places of an embedded document are in the bundle: its root with what was added, and the others below its path
+abbrev pub places_of_embedded : Document → ℕ × Document → List Place
+places_of_embedded top e = place_in top e.1 ∷ map (below_path (path_in top e.1)) (drop 1 (places e.1))
+
+-- and those of the root: the root with what was added, and the others as they are
+abbrev pub places_of_root : Document → Bundle → List Place
+places_of_root top bundle = root (document_of_bundle top bundle) ∷ drop 1 (places top)
+
+-- The places of a bundle are those of its documents, merged, each document's in their order.
+abbrev pub HaveMergedPlaces : Type 0
+HaveMergedPlaces =
+    (layer : Layer) (parents : World) (number : ℕ) (top : Document) (bundle : Bundle) → IsBundle layer parents number top bundle
+    → IsMergeOf Place (places (document_of_bundle top bundle))
+    (places_of_root top bundle ∷ map (places_of_embedded top) (to_embed layer number))
+
+-- a bundle has no fault
+abbrev pub HaveNoFault : Type 0
+HaveNoFault =
+    (layer : Layer) (parents : World) (number : ℕ) (top : Document) (bundle : Bundle) → IsBundle layer parents number top bundle
+    → faults (document_of_bundle top bundle ∷ []) ≡ []
+
+-- nor an open want
+abbrev pub HaveNoOpenWant : Type 0
+HaveNoOpenWant =
+    (layer : Layer) (parents : World) (number : ℕ) (top : Document) (bundle : Bundle) → IsBundle layer parents number top bundle
+    → open_wants (world_of_bundle top bundle parents) (document_of_bundle top bundle ∷ []) ≡ []
+
+-- ---- look-ups
+
+-- What a value is in the bundle: the same; an embedded document as a whole has what was added; and so has the root, and what
+-- the root has under the keyword of definitions.
+pub data IsValueNow (layer : Layer) (number : ℕ) (top : Document) (bundle : Bundle) (now before : Data) : Type 0 where
+  the_same : now ≡ before → IsValueNow layer number top bundle now before
+  an_embedded : (e : ℕ × Document) → Contains (to_embed layer number) e → now ≡ embedded_tree top.draft e.1 → before ≡ e.1.tree → IsValueNow layer number top bundle now before
+  the_root : now ≡ bundle.value → before ≡ top.tree → IsValueNow layer number top bundle now before
+  the_definitions : get (definitions_keyword top.draft) bundle.value ≡ Some now → get (definitions_keyword top.draft) top.tree ≡ Some before → IsValueNow layer number top bundle now before
+
+-- What a look-up answers in the bundle, and what it answered: such a value, with the same draft, base and scope, or the same
+-- fault.
+abbrev pub IsAnswerNow : Layer → ℕ → Document → Bundle → Result Found Fault → Result Found Fault → Type 0
+IsAnswerNow layer number top bundle (Ok now) (Ok before) =
+    IsValueNow layer number top bundle now.value before.value × (now.draft ≡ before.draft) × (now.resolver ≡ before.resolver)
+IsAnswerNow layer number top bundle (Err now) (Err before) = now ≡ before
+IsAnswerNow layer number top bundle (Ok now) (Err before) = ⊥
+IsAnswerNow layer number top bundle (Err now) (Ok before) = ⊥
+
+-- a fragment that is a pointer whose first tokens are these keys (RFC 6901, section 4)
+pub record BeginsWith (fragment : List ℕ) (keys : List (List ℕ)) : Type 0 where
+  pub text : List ℕ
+  pub rest : List (List ℕ)
+  pub is : fragment ≡ 47 ∷ text
+  pub first : map unescape (tokens (percent_decode text)) ≡ keys ++ rest
+
+-- A pointer from the root, where documents are embedded: to definitions that it didn't have, or to an embedded document among them.
+pub data GoesIntoDefinitions (layer : Layer) (number : ℕ) (top : Document) (p : Place) (fragment : List ℕ) : Type 0 where
+  to_definitions : (e : ℕ × Document) → Contains (to_embed layer number) e → p ≡ root top → get (definitions_keyword top.draft) top.tree ≡ None → BeginsWith fragment (definitions_keyword top.draft ∷ []) → GoesIntoDefinitions layer number top p fragment
+  to_embedded : (e : ℕ × Document) → Contains (to_embed layer number) e → p ≡ root top → BeginsWith fragment (definitions_keyword top.draft ∷ base_uri e.1 ∷ []) → GoesIntoDefinitions layer number top p fragment
+
+-- A pointer from a place that goes into what was added: such a one, or one from an embedded document's root to its identifier or
+-- its `$schema`.
+pub data GoesIntoAdded (layer : Layer) (number : ℕ) (top : Document) (p : Place) (fragment : List ℕ) : Type 0 where
+  into_definitions : GoesIntoDefinitions layer number top p fragment → GoesIntoAdded layer number top p fragment
+  to_identifier : (e : ℕ × Document) → Contains (to_embed layer number) e → p ≡ root e.1 → BeginsWith fragment (id_keyword e.1.draft ∷ []) → GoesIntoAdded layer number top p fragment
+  to_schema : (e : ℕ × Document) → Contains (to_embed layer number) e → p ≡ root e.1 → IsTrue (is_some (added_schema top.draft e.1)) → BeginsWith fragment (codes "$schema" ∷ []) → GoesIntoAdded layer number top p fragment
+
+-- a text that a value has under `$ref` or `$dynamicRef`
+abbrev pub RefersBy : Data → List ℕ → Type 0
+RefersBy value reference =
+    (text_under (codes "$ref") value ≡ Some reference) ⊎ (text_under (codes "$dynamicRef") value ≡ Some reference)
+
+-- a URI that a place of a needed document bears, and that its root's identifier doesn't replace by another
+pub record IsBorneByNeeded (layer : Layer) (number : ℕ) (uri : List ℕ) : Type 0 where
+  pub document : ℕ × Document
+  pub needed : Contains (needed_documents layer number) document
+  pub place : Place
+  pub there : Contains (places document.1) place
+  pub bears : Contains (uris_of document.1 place) uri
+  pub stays : document.1.uri ≡ uri → base_uri document.1 ≡ uri
+
+-- Where a URI means a place of a parent, and no own document bears it, none bears that place's own URI either. Without parents
+-- this always holds.
+abbrev pub HasNoOtherName : Layer → World → List ℕ → Type 0
+HasNoOtherName layer parents uri =
+    (p : Place) (other : List ℕ) → means (layer ∷ []) uri ≡ None → means parents uri ≡ Some p → own_uri p ≡ Some other → means (layer ∷ []) other ≡ None
+
+-- a reference from a base whose pointer goes into what was added
+pub record PointsIntoAdded (layer : Layer) (parents : World) (number : ℕ) (top : Document) (base reference : List ℕ) : Type 0 where
+  pub uri : List ℕ
+  pub to : target base reference ≡ Ok uri
+  pub place : Place
+  pub meant : means (layer ∷ parents) uri ≡ Some place
+  pub goes : GoesIntoAdded layer number top place (fragment_part reference)
+
+-- A reference of a place of a needed document, from its base and a scope of URIs that needed places bear: the look-up in the
+-- bundle answers what it answered, unless its pointer goes into what was added.
+abbrev pub KeepsReferences : Type 0
+KeepsReferences =
+    (layer : Layer) (parents : World) (number : ℕ) (top : Document) (bundle : Bundle) → IsBundle layer parents number top bundle
+    → (e : ℕ × Document) (p : Place) (base reference : List ℕ) (scope : List (List ℕ))
+    → Contains (needed_documents layer number) e → Contains (places e.1) p → p.base ≡ Ok base → RefersBy p.value reference
+    → AllByRecursion (IsBorneByNeeded layer number) scope
+    → ((uri : List ℕ) → target base reference ≡ Ok uri → HasNoOtherName layer parents uri)
+    → let r : Resolver = record { base = base; scope = scope } in
+    IsAnswerNow layer number top bundle
+    (lookup (world_of_bundle top bundle parents) r reference) (lookup (layer ∷ parents) r reference)
+    ⊎ PointsIntoAdded layer parents number top base reference
+
+-- Among the documents, a pointer into definitions that were added was a fault.
+abbrev pub AddedDefinitionsWereFaults : Type 0
+AddedDefinitionsWereFaults =
+    (layer : Layer) (parents : World) (number : ℕ) (top : Document) (bundle : Bundle) → IsBundle layer parents number top bundle
+    → (r : Resolver) (p : Place) (fragment : List ℕ) → GoesIntoDefinitions layer number top p fragment
+    → (fault : Fault) × (at_fragment (layer ∷ parents) r p fragment ≡ Err fault)
+
+-- ---- what is embedded
+
+-- a document is needed: the root, or one that a needed one refers to
+pub data IsNeeded (layer : Layer) (number : ℕ) : ℕ → Type 0 where
+  root_is : IsNeeded layer number number
+  referred_by : (by next : ℕ) → IsNeeded layer number by → Contains (referred layer by) next → IsNeeded layer number next
+
+-- The numbers of what is needed are in the order of documents, each once, and are those of the root and of what needed
+-- documents refer to.
+pub record AreNeeded (layer : Layer) (number : ℕ) (numbers : List ℕ) : Type 0 where
+  pub in_order : IsStrictlyIncreasing numbers
+  pub all : (n : ℕ) → IsNeeded layer number n → Contains numbers n
+  pub only : (n : ℕ) → Contains numbers n → IsNeeded layer number n
+
+-- A bundle embeds what is needed but the root. One that embeds nothing is its document as it is.
+pub record EmbedsNeeded (layer : Layer) (number : ℕ) (top : Document) (bundle : Bundle) : Type 0 where
+  pub needed_numbers : AreNeeded layer number (needed layer number)
+  pub embeds : map (λ e. e.document) bundle.embedded ≡ filter (λ n. not (n == number)) (needed layer number)
+  pub alone : bundle.embedded ≡ [] → bundle.value ≡ top.tree
+
+-- so does each bundle
+abbrev pub EmbedWhatIsNeeded : Type 0
+EmbedWhatIsNeeded =
+    (layer : Layer) (parents : World) (number : ℕ) (top : Document) (bundle : Bundle) → IsBundle layer parents number top bundle
+    → EmbedsNeeded layer number top bundle

@@ -1,0 +1,52 @@
+-- What the program's bundles and errors say.
+use Rattle.std.specs.Prelude.{◌≡◌, map, option_map, Result, Err, ⊤}
+use Rattle.serde_json.specs.View.{view}
+use Rattle.ref_parts.specs.Segment.{part_of}
+use Rattle.ref_bundle.specs.Embedding as embedding
+use Rattle.ref_bundle.specs.Embedding.{Obstacle}
+use Rattle.ref_bundle.specs.Bundle as bundle
+use Rattle.ref_bundle.specs.Bundle.{Bundle, BundleRefusal, Problem, Embedded}
+use Rattle.ref_bundle.specs.declared.bundled.Bundle as rust_bundle
+use Rattle.ref_bundle.specs.declared.bundled.Embedded as rust_embedded
+use Rattle.ref_bundle.specs.declared.error.Obstacle as rust_obstacle
+use Rattle.ref_bundle.specs.declared.error.Obstacle.TheVariants as obstacles
+use Rattle.ref_bundle.specs.declared.error.Problem as rust_problem
+use Rattle.ref_bundle.specs.declared.error.Problem.TheVariants as problems
+use Rattle.ref_bundle.specs.declared.error.Refusal as rust_refusal
+use Rattle.ref_bundle.specs.declared.error.BundleError as rust_error
+use Rattle.ref_bundle.specs.declared.error.BundleError.TheVariants as errors
+
+-- why a document can't be embedded
+abbrev pub obstacle_said : rust_obstacle.Obstacle → Obstacle
+obstacle_said obstacles.NotAnObject = embedding.NotAnObject
+obstacle_said obstacles.IdentifierBesideRef = embedding.IdentifierBesideRef
+obstacle_said obstacles.NotAnIdentifier = embedding.NotAnIdentifier
+obstacle_said (obstacles.NotKept uri) = embedding.NotKept uri.value
+obstacle_said (obstacles.UntoldDraft draft) = embedding.UntoldDraft draft
+obstacle_said obstacles.ResolvedAgain = embedding.ResolvedAgain
+
+-- a problem
+abbrev pub problem_said : rust_problem.Problem → Problem
+problem_said problems.NoDocument = bundle.NoDocument
+problem_said (problems.NotEmbedded obstacle) = bundle.NotEmbedded (obstacle_said obstacle)
+problem_said problems.NoMap = bundle.NoMap
+problem_said (problems.KeyTaken uri) = bundle.KeyTaken uri.value
+problem_said (problems.SharedUri uri document path) = bundle.SharedUri uri.value document (map part_of path.items)
+problem_said (problems.ReplacedUri uri base) = bundle.ReplacedUri uri.value base.value
+
+-- a refusal
+abbrev pub refusal_said : rust_refusal.Refusal → BundleRefusal
+refusal_said r = record { document = r.document; path = map part_of r.path.items; problem = problem_said r.problem }
+
+-- what is listed of a document
+abbrev pub embedded_said : rust_embedded.Embedded → Embedded
+embedded_said e = record { document = e.document; uri = e.uri.value; adds_id = e.adds_id; schema = option_map (λ s. s.now) e.schema }
+
+-- a bundle
+abbrev pub bundle_said : rust_bundle.Bundle → Bundle
+bundle_said b = record { value = view b.value; embedded = map embedded_said b.embedded.items }
+
+-- the error says why there is no bundle, or is want of memory
+abbrev pub IsRefusalOf : Result Bundle BundleRefusal → rust_error.BundleError → Type 0
+IsRefusalOf answer (errors.Refused refusal) = answer ≡ Err (refusal_said refusal)
+IsRefusalOf answer (errors.Memory error) = ⊤

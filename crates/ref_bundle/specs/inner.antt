@@ -1,0 +1,6 @@
+-- What no public clause cites.
+pub mod Reach
+pub mod Seen
+pub mod Tables
+pub mod First
+pub mod Obstacles

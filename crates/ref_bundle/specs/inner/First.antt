@@ -1,0 +1,39 @@
+-- The first of the refusals.
+use Rattle.std.specs.Prelude.{ℕ, ◌==◌, List, [], ◌∷◌, ◌++◌, flat_map, map, is_some, if◌then◌else◌, Option, Some, None}
+use Rattle.std.specs.Option.{option_to_list}
+use Rattle.serde_json.specs.Data.{Data}
+use Rattle.serde_json.specs.Find.{get}
+use Rattle.ref_parts.specs.Path.{Key, path_eq}
+use Rattle.ref_world.specs.World.{Document, Layer}
+use Rattle.ref_bundle.specs.Needed.{targets_from}
+use Rattle.ref_bundle.specs.Embedding.{base_uri, obstacle}
+use Rattle.ref_bundle.specs.Bundle.{Problem, KeyTaken, NotEmbedded, root_refusals, BundleRefusal, at_path, borne, shared, replaced}
+use Rattle.ref_bundle.specs.inner.Seen.{Seen, own_uri_of}
+
+abbrev pub first : {X : Type 0} → List X → Option X
+first [] = None
+first (x ∷ xs) = Some x
+
+-- the URIs that a place bears, where its document has this one
+abbrev pub uris_seen : List ℕ → Seen → List (List ℕ)
+uris_seen uri s = (if path_eq s.path [] then uri ∷ [] else []) ++ option_to_list (own_uri_of s)
+
+-- the problems of the URIs that it bears
+abbrev pub shared_seen : Layer → List ℕ → Seen → List Problem
+shared_seen layer uri s = flat_map (shared (borne layer) (s.document, s.path)) (uris_seen uri s)
+
+-- and of those that it refers to
+abbrev pub replaced_seen : Layer → ℕ → Seen → List Problem
+replaced_seen layer top s = flat_map (replaced layer top) (targets_from s.base s.value)
+
+-- the refusals of a place
+abbrev pub refusals_seen : Layer → ℕ → List ℕ → Seen → List BundleRefusal
+refusals_seen layer top uri s = map (at_path s.document s.path) (shared_seen layer uri s ++ replaced_seen layer top s)
+
+-- a key that a value has already
+abbrev pub taken_in : ℕ → List ℕ → Data → ℕ × Document → List BundleRefusal
+taken_in top keyword value e = if is_some (get (base_uri e.1) value) then at_path top (Key keyword ∷ Key (base_uri e.1) ∷ []) (KeyTaken (base_uri e.1)) ∷ [] else []
+
+-- the refusals of a document as a whole
+abbrev pub whole_refusals : ℕ × Document → List (ℕ × Document) → ℕ × Document → List BundleRefusal
+whole_refusals top es e = if e.0 == top.0 then root_refusals top es else map (λ o. at_path e.0 [] (NotEmbedded o)) (option_to_list (obstacle top.1 e.1))

@@ -1,0 +1,101 @@
+-- The program's documents and places as the definitions see them.
+use Rattle.std.specs.Prelude.{◌≡◌, ℕ, List, [], ◌∷◌, ◌++◌, map, flat_map, nat_lt, length, slice_get, if◌then◌else◌, Option, option_map, option_and_then, Result, Ok}
+use Rattle.std.specs.List.{AllByRecursion}
+use Rattle.std.specs.Option.{option_to_list}
+use Rattle.std.specs.Result.{result_ok}
+use Rattle.serde_json.specs.Data.{Data}
+use Rattle.serde_json.specs.View.{view}
+use Rattle.ref_parts.specs.Path.{Part, value_at}
+use Rattle.ref_parts.specs.Segment.{part_of}
+use Rattle.ref_draft.specs.declared.draft.Draft.{Draft}
+use Rattle.ref_draft.specs.Schema.{identifier}
+use Rattle.ref_uri.specs.Targets.{Refusal}
+use Rattle.ref_world.specs.World.{Document, Layer}
+use Rattle.ref_world.specs.Places.{Place, places}
+use Rattle.ref_world.specs.Listing.{Listed}
+use Rattle.ref_bundle.specs.Needed.{counted}
+use Rattle.ref_bundle.specs.Embedding.{base_uri}
+use Rattle.ref_bundle.specs.declared.own.Spot.{Spot}
+use Rattle.ref_bundle.specs.declared.own.Own.{Own}
+use Rattle.ref_bundle.specs.declared.embedding.Part as rust_part
+
+-- a place with the number of its document
+pub record Seen : Type 0 where
+  pub document : ℕ
+  pub path : List Part
+  pub value : Data
+  pub draft : Draft
+  pub base : Result (List ℕ) Refusal
+
+-- one of the definition's
+abbrev pub see : ℕ → Place → Seen
+see number p = record { document = number; path = p.path; value = p.value; draft = p.draft; base = p.base }
+
+-- those of a document
+abbrev pub seen_in : ℕ × Document → List Seen
+seen_in e = map (see e.0) (places e.1)
+
+-- one of the program's
+abbrev pub seen : Spot → Seen
+seen s = record { document = s.document; path = map part_of s.path.items; value = view s.value.now; draft = s.draft; base = Ok s.base.value }
+
+-- the URI that it bears by its own identifier
+abbrev pub own_uri_of : Seen → Option (List ℕ)
+own_uri_of s = option_and_then (λ id. result_ok s.base) (identifier s.draft s.value)
+
+-- ---- documents
+
+abbrev pub document_in : Own → Document
+document_in own = record { uri = own.uri.now; tree = view own.tree.now; draft = own.draft }
+
+abbrev pub numbered : Own → ℕ × Document
+numbered own = (own.number, document_in own)
+
+-- its places are those of the document
+abbrev pub HasPlaces : Own → Type 0
+HasPlaces own = map seen own.places.items ≡ seen_in (numbered own)
+
+-- documents as a layer
+abbrev pub layer_in : List Own → Layer
+layer_in owns = map document_in owns
+
+-- they are numbered in their order, and have their places
+pub record AreOwn (owns : List Own) : Type 0 where
+  pub order : map numbered owns ≡ counted 0 (layer_in owns)
+  pub places : AllByRecursion HasPlaces owns
+
+-- a document that is to be embedded
+abbrev pub part_document : rust_part.Part → Document
+part_document p = record { uri = p.uri.now; tree = view p.tree.now; draft = p.draft }
+
+abbrev pub numbered_part : rust_part.Part → ℕ × Document
+numbered_part p = (p.number, part_document p)
+
+-- it has its base
+abbrev pub HasBase : rust_part.Part → Type 0
+HasBase p = p.base.value ≡ base_uri (part_document p)
+
+-- ---- places that are listed, document by document
+
+-- a place that is listed, where its value stands in its document
+abbrev pub see_listed : Layer → Listed → Option Seen
+see_listed layer l = option_map (λ v. record { document = l.document; path = l.path; value = v; draft = l.draft; base = l.base }) (option_and_then (λ d. value_at d.tree l.path) (slice_get layer l.document))
+
+-- those whose values stand there
+abbrev pub all_seen : Layer → List Listed → List Seen
+all_seen layer ls = flat_map (λ l. option_to_list (see_listed layer l)) ls
+
+-- groups with one more in the last of them
+abbrev pub put_last : {X : Type 0} → List (List X) → X → List (List X)
+put_last [] x = []
+put_last (g ∷ []) x = (g ++ x ∷ []) ∷ []
+put_last (g ∷ h ∷ gs) x = g ∷ put_last (h ∷ gs) x
+
+-- with a place in the last of them, where its document has been begun, or else in a new one
+abbrev pub put : List (List Seen) → Seen → List (List Seen)
+put gs s = if nat_lt s.document (length gs) then put_last gs s else gs ++ (s ∷ []) ∷ []
+
+-- with places, one after another
+abbrev pub gathered : List (List Seen) → List Seen → List (List Seen)
+gathered gs [] = gs
+gathered gs (s ∷ ss) = gathered (put gs s) ss

@@ -1,0 +1,170 @@
+//! The bundle of a document with those that it needs.
+ghost use Rattle.std.specs.Prelude.{◌≡◌, ◌==◌, ◌&&◌, [], ◌∷◌, ◌++◌, OnOk, map, slice_get, Some, filter, not, IfOk, IfErr, Ok};
+ghost use Rattle.std.specs.List.{AllByRecursion};
+ghost use Rattle.ref_resolver.specs.Layered.{own};
+ghost use Rattle.ref_bundle.specs.Bundle.{embedded, bundled, bundle_of, to_embed};
+ghost use Rattle.ref_bundle.specs.Saying.{embedded_said, bundle_said, IsRefusalOf};
+ghost use Rattle.ref_bundle.specs.inner.Reach.{is_marked, IsReach};
+ghost use Rattle.ref_bundle.specs.inner.Seen.{numbered, layer_in, part_document, numbered_part, HasPlaces, AreOwn, HasBase};
+ghost use Rattle.ref_bundle.specs.inner.Tables.{AreTables};
+ghost use Rattle.ref_bundle.specs.Needed.{referred_in};
+
+use crate::bundled::{Bundle, Embedded};
+use crate::embedding::{Part, added_schema, part_of, tree_with};
+use crate::error::{BundleError, Problem};
+use crate::own::{Own, owns_of};
+use crate::reach::{all_referred, reach};
+use crate::refusing::{at_root, first_refusal, is_marked};
+use crate::tables::{Bearers, bearers_of};
+use ref_draft::Draft;
+use referencing::Registry;
+use std::alloc::{AllocError, Global};
+
+// Whether a document is needed, and isn't the root.
+fn is_embedded(needed: &[bool], top: usize, number: usize) -> bool
+    ensures { result ≡ (not (number == top) && is_marked needed.now number) }
+{
+    number != top && is_marked(needed, number)
+}
+
+// Adds a document, where it is needed and isn't the root.
+fn push<'r>(
+    alloc: Global,
+    parts: &mut Vec<Part<'r>>,
+    needed: &[bool],
+    top: usize,
+    own: &Own<'r>,
+) -> Result<(), AllocError>
+    requires { HasPlaces own.now }
+    ensures parts { OnOk result (map numbered_part parts.new.items ≡ map numbered_part parts.old.items ++ filter (λ e. not (e.0 == top) && is_marked needed.now e.0) (numbered own.now ∷ [])) }
+    ensures bases { AllByRecursion HasBase parts.old.items → OnOk result (AllByRecursion HasBase parts.new.items) }
+{
+    if is_embedded(needed, top, own.number) {
+        let part = part_of(alloc, own)?;
+        parts.push(part)?;
+    }
+    Ok(())
+}
+
+// The needed documents but for the root.
+fn parts_of<'r>(
+    alloc: Global,
+    owns: &[Own<'r>],
+    needed: &[bool],
+    top: usize,
+) -> Result<Vec<Part<'r>>, AllocError>
+    requires { AllByRecursion HasPlaces owns.now }
+    ensures parts { IfOk result (λ parts. map numbered_part parts.items ≡ filter (λ e. not (e.0 == top) && is_marked needed.now e.0) (map numbered owns.now)) }
+    ensures bases { IfOk result (λ parts. AllByRecursion HasBase parts.items) }
+{
+    let mut parts = Vec::new(alloc);
+    for own in owns {
+        push(alloc, &mut parts, needed, top, own)?;
+    }
+    Ok(parts)
+}
+
+// What is listed of a document.
+fn embedded(draft: Draft, part: &Part<'_>) -> Result<Embedded, AllocError>
+    requires { HasBase part.now }
+    ensures { IfOk result (λ e. embedded_said e ≡ embedded draft (numbered_part part.now)) }
+{
+    Ok(Embedded {
+        document: part.number,
+        uri: part.base.clone()?,
+        adds_id: part.tree.get(part.draft.id_keyword()).is_none(),
+        schema: added_schema(draft, part),
+    })
+}
+
+// What is listed of documents.
+fn all_embedded(
+    alloc: Global,
+    draft: Draft,
+    parts: &[Part<'_>],
+) -> Result<Vec<Embedded>, AllocError>
+    requires { AllByRecursion HasBase parts.now }
+    ensures { IfOk result (λ list. map embedded_said list.items ≡ map (embedded draft) (map numbered_part parts.now)) }
+{
+    let mut list = Vec::with_capacity(alloc, parts.len())?;
+    for part in parts {
+        list.push(embedded(draft, part)?)?;
+    }
+    Ok(list)
+}
+
+// The bundle of a root with documents.
+fn bundle_of(alloc: Global, top: &Part<'_>, parts: &[Part<'_>]) -> Result<Bundle, AllocError>
+    requires { AllByRecursion HasBase parts.now }
+    ensures { IfOk result (λ b. bundle_said b ≡ bundle_of (part_document top.now) (map numbered_part parts.now)) }
+{
+    let value = tree_with(alloc, top, parts)?;
+    let embedded = all_embedded(alloc, top.draft, parts)?;
+    Ok(Bundle { value, embedded })
+}
+
+// The bundle of a root among documents, which bear URIs and are needed so.
+fn bundle_with<'r>(
+    alloc: Global,
+    bearers: &Bearers<'r>,
+    owns: &[Own<'r>],
+    needed: &[bool],
+    top: &Own<'r>,
+) -> Result<Bundle, BundleError<'r>>
+    requires own { AreOwn owns.now }
+    requires tables { AreTables (layer_in owns.now) bearers.now }
+    requires top { slice_get owns.now top.now.number ≡ Some top.now }
+    requires needed { IsReach (map (referred_in (layer_in owns.now)) (layer_in owns.now)) top.now.number needed.now }
+    ensures value { IfOk result (λ b. bundled (layer_in owns.now) top.now.number ≡ Ok (bundle_said b)) }
+    ensures fault { IfErr result (IsRefusalOf (bundled (layer_in owns.now) top.now.number)) }
+{
+    let parts = parts_of(alloc, owns, needed, top.number)?;
+    let top = part_of(alloc, top)?;
+    match first_refusal(alloc, bearers, owns, needed, &top, parts.as_slice())? {
+        Some(refusal) => Err(BundleError::Refused(refusal)),
+        None => Ok(bundle_of(alloc, &top, parts.as_slice())?),
+    }
+}
+
+// The bundle of a root among documents.
+fn bundle_among<'r>(
+    alloc: Global,
+    owns: &[Own<'r>],
+    top: &Own<'r>,
+) -> Result<Bundle, BundleError<'r>>
+    requires own { AreOwn owns.now }
+    requires top { slice_get owns.now top.now.number ≡ Some top.now }
+    ensures value { IfOk result (λ b. bundled (layer_in owns.now) top.now.number ≡ Ok (bundle_said b)) }
+    ensures fault { IfErr result (IsRefusalOf (bundled (layer_in owns.now) top.now.number)) }
+{
+    let bearers = bearers_of(alloc, owns)?;
+    let lists = all_referred(alloc, &bearers, owns)?;
+    let needed = reach(alloc, lists.as_slice(), top.number)?;
+    bundle_with(alloc, &bearers, owns, needed.as_slice(), top)
+}
+
+/// One document in place of those that an own document of a registry needs, which is counted from 0 in the order in which their URIs
+/// were first added, and behind them those retrieved (2020-12 Core, 9.3).
+///
+/// Needed are the root, and again and again the own documents that a needed place means by the text under its `$ref` or
+/// `$dynamicRef`, or by the URI of a custom meta-schema under its `$schema`; the documents of parents stay outside. The bundle is the
+/// root's tree with each other needed document as a member of its `$defs` (`definitions` where the root is of Draft 4, 6 or 7), under
+/// the document's base URI, which it also has as its identifier, and with the `$schema` of its draft where the root's draft wouldn't
+/// be detected as it and it has none. Nothing else changes; a document that needs no other is its own bundle.
+///
+/// Refuses by what [`Problem`] names, the first in the order of documents and places, and as `Memory`. This is the one call that copies
+/// trees. Each place of the registry is visited once, with look-ups in sorted tables for the URIs that it bears and refers to.
+pub fn bundle<'r>(
+    alloc: Global,
+    registry: &'r Registry<'_>,
+    root: usize,
+) -> Result<Bundle, BundleError<'r>>
+    ensures value { IfOk result (λ b. bundled (own registry.now) root ≡ Ok (bundle_said b)) }
+    ensures fault { IfErr result (IsRefusalOf (bundled (own registry.now) root)) }
+{
+    let owns = owns_of(alloc, registry)?;
+    match owns.get(root) {
+        Some(top) => bundle_among(alloc, owns.as_slice(), top),
+        None => Err(BundleError::Refused(at_root(alloc, root, Problem::NoDocument))),
+    }
+}

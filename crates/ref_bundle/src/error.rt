@@ -1,0 +1,153 @@
+//! Why there is no bundle.
+use ref_draft::Draft;
+use ref_parts::path::JsonPointerSegment;
+use ref_uri::Uri;
+use std::alloc::AllocError;
+use std::fmt;
+use std::rc::Rc;
+
+/// Why a document can't stand in a bundle.
+#[derive(Debug, Drop)]
+pub enum Obstacle {
+    /// It is no object, so it can't have an identifier. Make it an object: `{}` for `true`, `{"not": {}}` for `false`.
+    NotAnObject,
+    /// It is of Draft 4, 6 or 7 and has a `$ref` at its root, beside which an identifier doesn't count. Put the reference into an
+    /// `allOf`.
+    IdentifierBesideRef,
+    /// The keyword of its identifier holds what is no identifier: no text, or before 2019-09 an anchor. Move it elsewhere.
+    NotAnIdentifier,
+    /// Its base URI, which ends in `#`, can't be an identifier. Refer to it without the `#`.
+    NotKept(Rc<Uri>),
+    /// No `$schema` that could be added tells its draft: it has another one, or the draft is that of a custom meta-schema. Give it the
+    /// `$schema` of its draft.
+    UntoldDraft(Draft),
+    /// Its root has a dynamic anchor and an identifier that, against the base URI that it gave, gives another one, as the look-up of
+    /// such an anchor resolves it. Make the identifier absolute.
+    ResolvedAgain,
+}
+
+/// What keeps a registry's documents from being one.
+#[derive(Debug, Drop)]
+pub enum Problem<'r> {
+    /// There is no document with the root's number.
+    NoDocument,
+    /// The document, which is needed, can't stand in a bundle.
+    NotEmbedded(Obstacle),
+    /// What the root has here, under the keyword of definitions, is no object.
+    NoMap,
+    /// The root has a definition here whose key is the base URI of a document that is needed. Rename the definition.
+    KeyTaken {
+        /// The key.
+        uri: Rc<Uri>,
+    },
+    /// The place bears a URI that another place bears too, so it may mean another in the bundle. Give one of them another identifier.
+    SharedUri {
+        /// The URI.
+        uri: Rc<Uri>,
+        /// The number of the other place's document.
+        document: usize,
+        /// The other place's path there.
+        path: Vec<JsonPointerSegment<'r>>,
+    },
+    /// The place refers to a document by the URI that it was added or retrieved under, in place of which its root's identifier gives
+    /// another. Refer to it by that one.
+    ReplacedUri {
+        /// The URI that the place refers to.
+        uri: Rc<Uri>,
+        /// The URI that the document's root has.
+        base: Rc<Uri>,
+    },
+}
+
+/// A problem, and where it is.
+#[derive(Debug, Drop)]
+pub struct Refusal<'r> {
+    /// The number of its document in the registry.
+    pub document: usize,
+    /// Its path in the document.
+    pub path: Vec<JsonPointerSegment<'r>>,
+    /// What is wrong there.
+    pub problem: Problem<'r>,
+}
+
+/// Why there is no bundle.
+#[derive(Debug, Drop)]
+pub enum BundleError<'r> {
+    /// The documents can't be one.
+    Refused(Refusal<'r>),
+    /// Memory ran out.
+    Memory(AllocError),
+}
+
+impl fmt::Display for Obstacle {
+    fn fmt<W: fmt::Write>(&self, f: &mut fmt::Formatter<W>) -> fmt::Result {
+        match self {
+            Obstacle::NotAnObject => f.write_str("it is no object"),
+            Obstacle::IdentifierBesideRef => {
+                f.write_str("an identifier doesn't count beside the `$ref` at its root")
+            }
+            Obstacle::NotAnIdentifier => {
+                f.write_str("the keyword of its identifier holds what is no identifier")
+            }
+            Obstacle::NotKept(uri) => write!(f, "its URI '{uri}' can't be an identifier"),
+            Obstacle::UntoldDraft(_) => f.write_str("no `$schema` tells its draft"),
+            Obstacle::ResolvedAgain => {
+                f.write_str("its identifier is relative, and its root has a dynamic anchor")
+            }
+        }
+    }
+}
+
+impl fmt::Display for Problem<'_> {
+    fn fmt<W: fmt::Write>(&self, f: &mut fmt::Formatter<W>) -> fmt::Result {
+        match self {
+            Problem::NoDocument => f.write_str("there is no such document"),
+            Problem::NotEmbedded(obstacle) => {
+                write!(f, "the document can't stand in a bundle: {obstacle}")
+            }
+            Problem::NoMap => f.write_str(
+                "what stands under the keyword of definitions is no object",
+            ),
+            Problem::KeyTaken { uri } => write!(f, "there is a definition '{uri}' already"),
+            Problem::SharedUri { uri, document, .. } => {
+                write!(
+                    f,
+                    "a place of document {document} bears the URI '{uri}' too"
+                )
+            }
+            Problem::ReplacedUri { uri, base } => {
+                write!(
+                    f,
+                    "the identifier of the document '{uri}' replaces that URI by '{base}'"
+                )
+            }
+        }
+    }
+}
+
+impl fmt::Display for Refusal<'_> {
+    fn fmt<W: fmt::Write>(&self, f: &mut fmt::Formatter<W>) -> fmt::Result {
+        let (document, problem) = (self.document, &self.problem);
+        write!(f, "Document {document}: {problem}")
+    }
+}
+
+impl fmt::Display for BundleError<'_> {
+    fn fmt<W: fmt::Write>(&self, f: &mut fmt::Formatter<W>) -> fmt::Result {
+        match self {
+            BundleError::Refused(refusal) => write!(f, "{refusal}"),
+            BundleError::Memory(_) => f.write_str("Out of memory"),
+        }
+    }
+}
+
+impl From<AllocError> for BundleError<'_> {
+    ghost use Rattle.ref_bundle.specs.declared.error.BundleError.TheVariants as bundle_error;
+    ghost use Rattle.std.specs.Prelude.{◌≡◌};
+
+    ghost from_gives = { λ error given. given ≡ bundle_error.Memory error };
+
+    fn from(error: AllocError) -> Self {
+        BundleError::Memory(error)
+    }
+}

@@ -1,0 +1,23 @@
+//! Bundles: one self-contained document in place of several of a registry. It stands on the public calls of `referencing` alone.
+//!
+//! Read `specs/Needed.antt`, `specs/Embedding.antt` and `specs/Bundle.antt` first: which documents a bundle needs, how they stand in
+//! it, and what refuses one is told there over the plain documents.
+#![tactic(auto)]
+
+mod bundled;
+mod bundling;
+mod embedding;
+mod error;
+pub mod examples;
+mod keeping;
+pub mod laws;
+mod own;
+mod reach;
+mod refusing;
+mod tables;
+mod uris;
+
+pub use bundled::{Bundle, Embedded};
+pub use bundling::bundle;
+pub use error::{BundleError, Obstacle, Problem, Refusal};
+pub use keeping::bundle_is_lawful;

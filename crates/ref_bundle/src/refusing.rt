@@ -1,0 +1,469 @@
+//! What refuses a bundle: the first in the order of documents and places.
+ghost use Rattle.std.specs.Prelude.{◌≡◌, [], ◌∷◌, ◌++◌, map, flat_map, option_map, if◌then◌else◌, IfOk};
+ghost use Rattle.std.specs.List.{AllByRecursion};
+ghost use Rattle.std.specs.Option.{option_to_list};
+ghost use Rattle.serde_json.specs.View.{view};
+ghost use Rattle.ref_parts.specs.Path.{Key};
+ghost use Rattle.ref_parts.specs.Segment.{part_of};
+ghost use Rattle.ref_world.specs.World.{Layer};
+ghost use Rattle.ref_bundle.specs.Embedding.{obstacle};
+ghost use Rattle.ref_bundle.specs.Bundle as bundle;
+ghost use Rattle.ref_bundle.specs.Bundle.{at_path, borne, shared, replaced, replaced_in, place_refusals, map_refusals, root_refusals, refusals_in};
+ghost use Rattle.ref_bundle.specs.Saying.{problem_said, refusal_said};
+ghost use Rattle.ref_bundle.specs.inner.Reach.{is_marked};
+ghost use Rattle.ref_bundle.specs.inner.Seen.{seen, own_uri_of, numbered, document_in, layer_in, part_document, numbered_part, HasPlaces, AreOwn, HasBase};
+ghost use Rattle.ref_bundle.specs.inner.Tables.{AreTables};
+ghost use Rattle.ref_bundle.specs.inner.First.{first, shared_seen, replaced_seen, refusals_seen, taken_in, whole_refusals};
+
+use crate::embedding::{Part, definitions_keyword, obstacle, part_of};
+use crate::error::{Problem, Refusal};
+use crate::own::{Own, Spot};
+use crate::tables::Bearers;
+use crate::uris::{base_uri, own_uri, root_uri, targets};
+use ref_index::reference::shared;
+use ref_parts::path::JsonPointerSegment;
+use ref_uri::Uri;
+use serde_json::Value;
+use std::alloc::{AllocError, Global};
+use std::borrow::CowStr;
+use std::rc::Rc;
+
+/// A refusal at the root of a document.
+pub(crate) fn at_root<'r>(alloc: Global, document: usize, problem: Problem<'r>) -> Refusal<'r>
+    ensures value { refusal_said result ≡ at_path document [] (problem_said problem.entry) }
+{
+    Refusal {
+        document,
+        path: Vec::new(alloc),
+        problem,
+    }
+}
+
+// A copy of a path, whose keys are lent.
+fn copied<'r>(
+    alloc: Global,
+    path: &[JsonPointerSegment<'r>],
+) -> Result<Vec<JsonPointerSegment<'r>>, AllocError>
+    ensures { IfOk result (λ copy. map part_of copy.items ≡ map part_of path.now) }
+{
+    let copy = path.to_vec(alloc)?;
+    Ok(copy)
+}
+
+// The URI that a place bears by its own identifier.
+fn own_ref<'s>(spot: &'s Spot<'_>) -> Option<&'s Uri>
+    ensures { option_map (λ u. u.now) result ≡ own_uri_of (seen spot.now) }
+{
+    match own_uri(spot) {
+        Some(uri) => Some(&**uri),
+        None => None,
+    }
+}
+
+// The problem of a URI that a place bears, where another bears it too.
+fn shared_uri<'r>(
+    alloc: Global,
+    bearers: &Bearers<'r>,
+    spot: &Spot<'r>,
+    uri: Option<&Uri>,
+) -> Result<Option<Problem<'r>>, AllocError>
+    ensures { (layer : Layer) → AreTables layer bearers.now → IfOk result (λ o. option_map problem_said o
+        ≡ first (flat_map (shared (borne layer) ((seen spot.now).document, (seen spot.now).path)) (option_to_list (option_map (λ u. u.now) uri.entry)))) }
+{
+    let Some(uri) = uri else {
+        return Ok(None);
+    };
+    let Some(site) = bearers.other(uri.as_str(), spot.document, spot.path.as_slice()) else {
+        return Ok(None);
+    };
+    Ok(Some(Problem::SharedUri {
+        uri: shared(alloc, uri.clone()?)?,
+        document: site.document,
+        path: copied(alloc, site.path.as_slice())?,
+    }))
+}
+
+// The first problem of the URIs that a place bears.
+fn shared_uris<'r>(
+    alloc: Global,
+    bearers: &Bearers<'r>,
+    own: &Own<'r>,
+    spot: &Spot<'r>,
+) -> Result<Option<Problem<'r>>, AllocError>
+    ensures { (layer : Layer) → AreTables layer bearers.now → IfOk result (λ o. option_map problem_said o ≡ first (shared_seen layer own.now.uri.now (seen spot.now))) }
+{
+    match shared_uri(alloc, bearers, spot, root_uri(own.uri, spot))? {
+        Some(problem) => Ok(Some(problem)),
+        None => shared_uri(alloc, bearers, spot, own_ref(spot)),
+    }
+}
+
+// The problem of a URI that is that of a document, in place of which its root's identifier gives another.
+fn replaced_in<'r>(
+    alloc: Global,
+    own: &Own<'_>,
+    uri: &Rc<Uri>,
+) -> Result<Option<Problem<'r>>, AllocError>
+    requires { HasPlaces own.now }
+    ensures { IfOk result (λ o. option_map problem_said o ≡ first (replaced_in uri.now.value (document_in own.now))) }
+{
+    if own.uri.as_str() != uri.as_str() {
+        return Ok(None);
+    }
+    let base = base_uri(alloc, own)?;
+    if base.as_str() == uri.as_str() {
+        return Ok(None);
+    }
+    Ok(Some(Problem::ReplacedUri {
+        uri: uri.clone()?,
+        base,
+    }))
+}
+
+// The problem of a URI that a place refers to, where it is that of a document below a root with this number.
+fn replaced<'r>(
+    alloc: Global,
+    bearers: &Bearers<'_>,
+    owns: &[Own<'_>],
+    top: usize,
+    uri: &Rc<Uri>,
+) -> Result<Option<Problem<'r>>, AllocError>
+    requires own { AreOwn owns.now }
+    requires tables { AreTables (layer_in owns.now) bearers.now }
+    ensures { IfOk result (λ o. option_map problem_said o ≡ first (replaced (layer_in owns.now) top uri.now.value)) }
+{
+    match bearers.document_under(uri.as_str()) {
+        Some(number) if number != top => match owns.get(number) {
+            Some(own) => replaced_in(alloc, own, uri),
+            None => Ok(None),
+        },
+        _ => Ok(None),
+    }
+}
+
+// The first problem of the URIs that a place refers to.
+fn replaced_uris<'r>(
+    alloc: Global,
+    bearers: &Bearers<'_>,
+    owns: &[Own<'_>],
+    top: usize,
+    spot: &Spot<'_>,
+) -> Result<Option<Problem<'r>>, AllocError>
+    requires own { AreOwn owns.now }
+    requires tables { AreTables (layer_in owns.now) bearers.now }
+    ensures { IfOk result (λ o. option_map problem_said o ≡ first (replaced_seen (layer_in owns.now) top (seen spot.now))) }
+{
+    let uris = targets(alloc, spot)?;
+    for uri in &uris {
+        if let Some(problem) = replaced(alloc, bearers, owns, top, uri)? {
+            return Ok(Some(problem));
+        }
+    }
+    Ok(None)
+}
+
+// The first problem of a place.
+fn place_problem<'r>(
+    alloc: Global,
+    bearers: &Bearers<'r>,
+    owns: &[Own<'r>],
+    top: usize,
+    own: &Own<'r>,
+    spot: &Spot<'r>,
+) -> Result<Option<Problem<'r>>, AllocError>
+    requires own { AreOwn owns.now }
+    requires tables { AreTables (layer_in owns.now) bearers.now }
+    ensures { IfOk result (λ o. option_map problem_said o ≡ first (shared_seen (layer_in owns.now) own.now.uri.now (seen spot.now) ++ replaced_seen (layer_in owns.now) top (seen spot.now))) }
+{
+    match shared_uris(alloc, bearers, own, spot)? {
+        Some(problem) => Ok(Some(problem)),
+        None => replaced_uris(alloc, bearers, owns, top, spot),
+    }
+}
+
+// A refusal of a place.
+fn at_place<'r>(
+    alloc: Global,
+    spot: &Spot<'r>,
+    problem: Problem<'r>,
+) -> Result<Refusal<'r>, AllocError>
+    ensures { IfOk result (λ r. refusal_said r ≡ at_path (seen spot.now).document (seen spot.now).path (problem_said problem.entry)) }
+{
+    Ok(Refusal {
+        document: spot.document,
+        path: copied(alloc, spot.path.as_slice())?,
+        problem,
+    })
+}
+
+// The first refusal of a place.
+fn place_refusal<'r>(
+    alloc: Global,
+    bearers: &Bearers<'r>,
+    owns: &[Own<'r>],
+    top: usize,
+    own: &Own<'r>,
+    spot: &Spot<'r>,
+) -> Result<Option<Refusal<'r>>, AllocError>
+    requires own { AreOwn owns.now }
+    requires tables { AreTables (layer_in owns.now) bearers.now }
+    ensures { IfOk result (λ o. option_map refusal_said o ≡ first (refusals_seen (layer_in owns.now) top own.now.uri.now (seen spot.now))) }
+{
+    match place_problem(alloc, bearers, owns, top, own, spot)? {
+        Some(problem) => Ok(Some(at_place(alloc, spot, problem)?)),
+        None => Ok(None),
+    }
+}
+
+// The first refusal of the places of a document.
+fn places_refusal<'r>(
+    alloc: Global,
+    bearers: &Bearers<'r>,
+    owns: &[Own<'r>],
+    top: usize,
+    own: &Own<'r>,
+) -> Result<Option<Refusal<'r>>, AllocError>
+    requires own { AreOwn owns.now }
+    requires tables { AreTables (layer_in owns.now) bearers.now }
+    requires places { HasPlaces own.now }
+    ensures { IfOk result (λ o. option_map refusal_said o ≡ first (place_refusals (layer_in owns.now) top (numbered own.now))) }
+{
+    for spot in &own.places {
+        if let Some(refusal) = place_refusal(alloc, bearers, owns, top, own, spot)? {
+            return Ok(Some(refusal));
+        }
+    }
+    Ok(None)
+}
+
+// The path of a key of a root's definitions.
+fn key_path<'r>(
+    alloc: Global,
+    keyword: &'static str,
+    key: &str,
+) -> Result<Vec<JsonPointerSegment<'r>>, AllocError>
+    ensures { IfOk result (λ path. map part_of path.items ≡ Key keyword.now ∷ Key key.now ∷ []) }
+{
+    let mut path = Vec::new(alloc);
+    path.push(JsonPointerSegment::Key(CowStr::Borrowed(keyword)))?;
+    path.push(JsonPointerSegment::Key(CowStr::Owned(String::from_str(alloc, key)?)))?;
+    Ok(path)
+}
+
+// The refusal of what a root has under the keyword of definitions, which is no object.
+fn no_map<'r>(alloc: Global, top: usize, keyword: &'static str) -> Result<Refusal<'r>, AllocError>
+    ensures { IfOk result (λ r. refusal_said r ≡ at_path top (Key keyword.now ∷ []) bundle.NoMap) }
+{
+    let mut path = Vec::new(alloc);
+    path.push(JsonPointerSegment::Key(CowStr::Borrowed(keyword)))?;
+    Ok(Refusal {
+        document: top,
+        path,
+        problem: Problem::NoMap,
+    })
+}
+
+// The refusal of a key that a root's definitions have already.
+fn key_taken<'r>(
+    alloc: Global,
+    top: usize,
+    keyword: &'static str,
+    part: &Part<'_>,
+) -> Result<Refusal<'r>, AllocError>
+    ensures { IfOk result (λ r. refusal_said r ≡ at_path top (Key keyword.now ∷ Key part.now.base.value ∷ []) (bundle.KeyTaken part.now.base.value)) }
+{
+    Ok(Refusal {
+        document: top,
+        path: key_path(alloc, keyword, part.base.as_str())?,
+        problem: Problem::KeyTaken {
+            uri: part.base.clone()?,
+        },
+    })
+}
+
+// The refusal of a document whose key a root's definitions have already.
+fn taken_by<'r>(
+    alloc: Global,
+    top: usize,
+    keyword: &'static str,
+    value: &Value,
+    part: &Part<'_>,
+) -> Result<Option<Refusal<'r>>, AllocError>
+    requires { HasBase part.now }
+    ensures { IfOk result (λ o. option_map refusal_said o ≡ first (taken_in top keyword.now (view value.now) (numbered_part part.now))) }
+{
+    if value.get(part.base.as_str()).is_some() {
+        return Ok(Some(key_taken(alloc, top, keyword, part)?));
+    }
+    Ok(None)
+}
+
+// The first refusal of a key that a root's definitions have already.
+fn taken<'r>(
+    alloc: Global,
+    top: usize,
+    keyword: &'static str,
+    value: &Value,
+    parts: &[Part<'_>],
+) -> Result<Option<Refusal<'r>>, AllocError>
+    requires { AllByRecursion HasBase parts.now }
+    ensures { IfOk result (λ o. option_map refusal_said o ≡ first (flat_map (taken_in top keyword.now (view value.now)) (map numbered_part parts.now))) }
+{
+    for part in parts {
+        if let Some(refusal) = taken_by(alloc, top, keyword, value, part)? {
+            return Ok(Some(refusal));
+        }
+    }
+    Ok(None)
+}
+
+// The first refusal of what a root has under the keyword of definitions.
+fn map_refusal<'r>(
+    alloc: Global,
+    top: usize,
+    keyword: &'static str,
+    value: Option<&Value>,
+    parts: &[Part<'_>],
+) -> Result<Option<Refusal<'r>>, AllocError>
+    requires { AllByRecursion HasBase parts.now }
+    ensures { IfOk result (λ o. option_map refusal_said o ≡ first (map_refusals top keyword.now (option_map (λ v. view v.now) value.entry) (map numbered_part parts.now))) }
+{
+    let Some(value) = value else {
+        return Ok(None);
+    };
+    if !value.is_object() {
+        return Ok(Some(no_map(alloc, top, keyword)?));
+    }
+    taken(alloc, top, keyword, value, parts)
+}
+
+// The first refusal of a root's definitions.
+fn root_refusal<'r>(
+    alloc: Global,
+    top: &Part<'_>,
+    parts: &[Part<'_>],
+) -> Result<Option<Refusal<'r>>, AllocError>
+    requires { AllByRecursion HasBase parts.now }
+    ensures { IfOk result (λ o. option_map refusal_said o ≡ first (root_refusals (numbered_part top.now) (map numbered_part parts.now))) }
+{
+    if parts.is_empty() {
+        return Ok(None);
+    }
+    let keyword = definitions_keyword(top.draft);
+    map_refusal(alloc, top.number, keyword, top.tree.get(keyword), parts)
+}
+
+// The refusal of a document that can't be embedded.
+fn own_refusal<'r>(
+    alloc: Global,
+    top: &Part<'_>,
+    own: &Own<'_>,
+) -> Result<Option<Refusal<'r>>, AllocError>
+    requires top { HasBase top.now }
+    requires places { HasPlaces own.now }
+    ensures { IfOk result (λ o. option_map refusal_said o ≡ first (map (λ o. at_path own.now.number [] (bundle.NotEmbedded o)) (option_to_list (obstacle (part_document top.now) (document_in own.now))))) }
+{
+    let part = part_of(alloc, own)?;
+    match obstacle(alloc, top, &part)? {
+        Some(obstacle) => Ok(Some(at_root(alloc, own.number, Problem::NotEmbedded(obstacle)))),
+        None => Ok(None),
+    }
+}
+
+// The first refusal of a document as a whole.
+fn whole_refusal<'r>(
+    alloc: Global,
+    top: &Part<'_>,
+    parts: &[Part<'_>],
+    own: &Own<'_>,
+) -> Result<Option<Refusal<'r>>, AllocError>
+    requires top { HasBase top.now }
+    requires parts { AllByRecursion HasBase parts.now }
+    requires places { HasPlaces own.now }
+    ensures { IfOk result (λ o. option_map refusal_said o ≡ first (whole_refusals (numbered_part top.now) (map numbered_part parts.now) (numbered own.now))) }
+{
+    if own.number == top.number {
+        root_refusal(alloc, top, parts)
+    } else {
+        own_refusal(alloc, top, own)
+    }
+}
+
+// The first refusal of a needed document.
+fn refusal_in<'r>(
+    alloc: Global,
+    bearers: &Bearers<'r>,
+    owns: &[Own<'r>],
+    top: &Part<'_>,
+    parts: &[Part<'_>],
+    own: &Own<'r>,
+) -> Result<Option<Refusal<'r>>, AllocError>
+    requires own { AreOwn owns.now }
+    requires tables { AreTables (layer_in owns.now) bearers.now }
+    requires top { HasBase top.now }
+    requires parts { AllByRecursion HasBase parts.now }
+    requires places { HasPlaces own.now }
+    ensures { IfOk result (λ o. option_map refusal_said o ≡ first (refusals_in (layer_in owns.now) (numbered_part top.now) (map numbered_part parts.now) (numbered own.now))) }
+{
+    match whole_refusal(alloc, top, parts, own)? {
+        Some(refusal) => Ok(Some(refusal)),
+        None => places_refusal(alloc, bearers, owns, top.number, own),
+    }
+}
+
+// Whether a number is marked.
+pub(crate) fn is_marked(marks: &[bool], number: usize) -> bool
+    ensures value { result ≡ is_marked marks.now number }
+{
+    match marks.get(number) {
+        Some(mark) => *mark,
+        None => false,
+    }
+}
+
+// The first refusal of a document, where it is needed.
+fn refusal_if_needed<'r>(
+    alloc: Global,
+    bearers: &Bearers<'r>,
+    owns: &[Own<'r>],
+    needed: &[bool],
+    top: &Part<'_>,
+    parts: &[Part<'_>],
+    own: &Own<'r>,
+) -> Result<Option<Refusal<'r>>, AllocError>
+    requires own { AreOwn owns.now }
+    requires tables { AreTables (layer_in owns.now) bearers.now }
+    requires top { HasBase top.now }
+    requires parts { AllByRecursion HasBase parts.now }
+    requires places { HasPlaces own.now }
+    ensures { IfOk result (λ o. option_map refusal_said o ≡ first (if is_marked needed.now own.now.number then refusals_in (layer_in owns.now) (numbered_part top.now) (map numbered_part parts.now) (numbered own.now) else [])) }
+{
+    if is_marked(needed, own.number) {
+        return refusal_in(alloc, bearers, owns, top, parts, own);
+    }
+    Ok(None)
+}
+
+/// The first refusal of the needed documents.
+pub(crate) fn first_refusal<'r>(
+    alloc: Global,
+    bearers: &Bearers<'r>,
+    owns: &[Own<'r>],
+    needed: &[bool],
+    top: &Part<'_>,
+    parts: &[Part<'_>],
+) -> Result<Option<Refusal<'r>>, AllocError>
+    requires own { AreOwn owns.now }
+    requires tables { AreTables (layer_in owns.now) bearers.now }
+    requires top { HasBase top.now }
+    requires parts { AllByRecursion HasBase parts.now }
+    ensures value { IfOk result (λ o. option_map refusal_said o
+        ≡ first (flat_map (λ e. if is_marked needed.now e.0 then refusals_in (layer_in owns.now) (numbered_part top.now) (map numbered_part parts.now) e else []) (map numbered owns.now))) }
+{
+    for own in owns {
+        if let Some(refusal) = refusal_if_needed(alloc, bearers, owns, needed, top, parts, own)? {
+            return Ok(Some(refusal));
+        }
+    }
+    Ok(None)
+}

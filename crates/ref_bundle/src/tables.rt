@@ -1,0 +1,234 @@
+//! Which places bear which URIs.
+ghost use Rattle.std.specs.Prelude.{◌≡◌, [], ◌∷◌, ◌++◌, map, flat_map, filter, option_map, IfOk, OnOk};
+ghost use Rattle.std.specs.List.{AllByRecursion};
+ghost use Rattle.ref_parts.specs.Path.{part_eq, path_eq};
+ghost use Rattle.ref_parts.specs.Segment.{part_of};
+ghost use Rattle.ref_world.specs.World.{Layer};
+ghost use Rattle.ref_bundle.specs.Needed.{document_under};
+ghost use Rattle.ref_bundle.specs.Bundle.{is_site, borne, borne_in, other_bearer};
+ghost use Rattle.ref_bundle.specs.inner.Seen.{seen, own_uri_of, numbered, layer_in, HasPlaces, AreOwn};
+ghost use Rattle.ref_bundle.specs.inner.Tables.{site_of, entered, tabled, under, is_other, is_other_in, AreTables, borne_at};
+
+use crate::own::{Own, Spot};
+use crate::uris::own_uri;
+use ref_parts::SortedTable;
+use ref_parts::path::JsonPointerSegment;
+use std::alloc::{AllocError, Global};
+
+/// A place: the number of its document, and its path there.
+#[derive(Drop)]
+pub(crate) struct Site<'r> {
+    pub document: usize,
+    pub path: Vec<JsonPointerSegment<'r>>,
+}
+
+// The entries of a table: a URI, an empty text, and a place.
+type Entries<'r> = Vec<(String, String, Site<'r>)>;
+
+/// Which place is the last to bear each URI, and which is the last of those that aren't that one.
+#[derive(Drop)]
+pub(crate) struct Bearers<'r> {
+    pub last: SortedTable<Site<'r>>,
+    pub others: SortedTable<Site<'r>>,
+}
+
+// Whether two parts of paths are the same.
+fn is_part(part: &JsonPointerSegment<'_>, other: &JsonPointerSegment<'_>) -> bool
+    ensures { result ≡ part_eq (part_of part.now) (part_of other.now) }
+{
+    *part == *other
+}
+
+// Whether two paths are the same.
+fn is_path(path: &[JsonPointerSegment<'_>], other: &[JsonPointerSegment<'_>]) -> bool
+    ensures { result ≡ path_eq (map part_of path.now) (map part_of other.now) }
+{
+    if path.len() != other.len() {
+        return false;
+    }
+    for index in 0..path.len() {
+        if !is_part(&path[index], &other[index]) {
+            return false;
+        }
+    }
+    true
+}
+
+// Whether a place is the one at a path of a document.
+fn is_at(site: &Site<'_>, document: usize, path: &[JsonPointerSegment<'_>]) -> bool
+    ensures { result ≡ is_site (site_of site.now) (document, map part_of path.now) }
+{
+    site.document == document && is_path(site.path.as_slice(), path)
+}
+
+// Adds the entry of a URI.
+fn push<'r>(
+    alloc: Global,
+    entries: &mut Entries<'r>,
+    uri: &str,
+    document: usize,
+    path: &[JsonPointerSegment<'r>],
+) -> Result<(), AllocError>
+    ensures { OnOk result (entered entries.new.items ≡ entered entries.old.items ++ under (uri.now, (document, map part_of path.now)) ∷ []) }
+{
+    let uri = String::from_str(alloc, uri)?;
+    let second = String::from_str(alloc, "")?;
+    let path = path.to_vec(alloc)?;
+    entries.push((uri, second, Site { document, path }))?;
+    Ok(())
+}
+
+// Whether another place than the one at a path of a document is last under a URI in a table.
+fn is_other_in(
+    table: &SortedTable<Site<'_>>,
+    uri: &str,
+    document: usize,
+    path: &[JsonPointerSegment<'_>],
+) -> bool
+    ensures { result ≡ is_other_in (tabled table.now) uri.now (document, map part_of path.now) }
+{
+    match table.get(uri, "").0 {
+        Some(site) => !is_at(site, document, path),
+        None => true,
+    }
+}
+
+// The same where there is a table.
+fn is_other(
+    table: Option<&SortedTable<Site<'_>>>,
+    uri: &str,
+    document: usize,
+    path: &[JsonPointerSegment<'_>],
+) -> bool
+    ensures { result ≡ is_other (option_map (λ t. tabled t.now) table.entry) (uri.now, (document, map part_of path.now)) }
+{
+    match table {
+        Some(table) => is_other_in(table, uri, document, path),
+        None => true,
+    }
+}
+
+// Adds the entry of a URI, where there is no table, or another place is last under it there.
+fn push_other<'r>(
+    alloc: Global,
+    entries: &mut Entries<'r>,
+    last: Option<&SortedTable<Site<'r>>>,
+    uri: &str,
+    document: usize,
+    path: &[JsonPointerSegment<'r>],
+) -> Result<(), AllocError>
+    ensures { OnOk result (entered entries.new.items ≡ entered entries.old.items
+        ++ map under (filter (is_other (option_map (λ t. tabled t.now) last.entry)) ((uri.now, (document, map part_of path.now)) ∷ []))) }
+{
+    if is_other(last, uri, document, path) {
+        return push(alloc, entries, uri, document, path);
+    }
+    Ok(())
+}
+
+// Adds that of the URI that a place bears by its identifier.
+fn push_place<'r>(
+    alloc: Global,
+    entries: &mut Entries<'r>,
+    last: Option<&SortedTable<Site<'r>>>,
+    spot: &Spot<'r>,
+) -> Result<(), AllocError>
+    ensures { OnOk result (entered entries.new.items ≡ entered entries.old.items
+        ++ map under (filter (is_other (option_map (λ t. tabled t.now) last.entry)) (borne_at (seen spot.now)))) }
+{
+    match own_uri(spot) {
+        Some(uri) => push_other(
+            alloc,
+            entries,
+            last,
+            uri.as_str(),
+            spot.document,
+            spot.path.as_slice(),
+        ),
+        None => Ok(()),
+    }
+}
+
+// Adds those of the URIs that places bear by their identifiers.
+fn push_places<'r>(
+    alloc: Global,
+    entries: &mut Entries<'r>,
+    last: Option<&SortedTable<Site<'r>>>,
+    places: &[Spot<'r>],
+) -> Result<(), AllocError>
+    ensures { OnOk result (entered entries.new.items ≡ entered entries.old.items
+        ++ flat_map (λ s. map under (filter (is_other (option_map (λ t. tabled t.now) last.entry)) (borne_at s))) (map seen places.now)) }
+{
+    for spot in places {
+        push_place(alloc, entries, last, spot)?;
+    }
+    Ok(())
+}
+
+// Adds those of the URIs of a document and of its places.
+fn push_own<'r>(
+    alloc: Global,
+    entries: &mut Entries<'r>,
+    last: Option<&SortedTable<Site<'r>>>,
+    own: &Own<'r>,
+) -> Result<(), AllocError>
+    requires { HasPlaces own.now }
+    ensures { OnOk result (entered entries.new.items ≡ entered entries.old.items
+        ++ map under (filter (is_other (option_map (λ t. tabled t.now) last.entry)) (borne_in (numbered own.now)))) }
+{
+    push_other(alloc, entries, last, own.uri.as_str(), own.number, &[])?;
+    push_places(alloc, entries, last, own.places.as_slice())
+}
+
+// The table of the URIs of documents and of their places.
+fn table_of<'r>(
+    alloc: Global,
+    owns: &[Own<'r>],
+    last: Option<&SortedTable<Site<'r>>>,
+) -> Result<SortedTable<Site<'r>>, AllocError>
+    requires { AllByRecursion HasPlaces owns.now }
+    ensures { IfOk result (λ t. tabled t ≡ flat_map (λ e. map under (filter (is_other (option_map (λ t. tabled t.now) last.entry)) (borne_in e))) (map numbered owns.now)) }
+{
+    let mut entries = Vec::new(alloc);
+    for own in owns {
+        push_own(alloc, &mut entries, last, own)?;
+    }
+    let table = SortedTable::from_entries(alloc, entries)?;
+    Ok(table)
+}
+
+/// The tables of documents.
+pub(crate) fn bearers_of<'r>(alloc: Global, owns: &[Own<'r>]) -> Result<Bearers<'r>, AllocError>
+    requires { AreOwn owns.now }
+    ensures value { IfOk result (AreTables (layer_in owns.now)) }
+{
+    let last = table_of(alloc, owns, None)?;
+    let others = table_of(alloc, owns, Some(&last))?;
+    Ok(Bearers { last, others })
+}
+
+impl<'r> Bearers<'r> {
+    /// The number of the document that a URI means.
+    pub fn document_under(&self, uri: &str) -> Option<usize>
+        ensures value { (layer : Layer) → AreTables layer self.now → result ≡ document_under layer uri.now }
+    {
+        let site = self.last.get(uri, "").0?;
+        Some(site.document)
+    }
+
+    /// The last place that bears a URI but for the one at a path of a document.
+    pub fn other(
+        &self,
+        uri: &str,
+        document: usize,
+        path: &[JsonPointerSegment<'_>],
+    ) -> Option<&Site<'r>>
+        ensures value { (layer : Layer) → AreTables layer self.now → option_map (λ s. site_of s.now) result ≡ other_bearer (borne layer) uri.now (document, map part_of path.now) }
+    {
+        let site = self.last.get(uri, "").0?;
+        if is_at(site, document, path) {
+            return self.others.get(uri, "").0;
+        }
+        Some(site)
+    }
+}
