@@ -19,11 +19,12 @@ pub fn patchsard<'c>(alloc: Global) -> Result<Command<'c>, AllocError> {
     Command::new(alloc, "patchsard")
         .bin_name("patchsard")?
         .version("0.1.0")
-        .about("Lints, follows, lists and draws the references of JSON Schema files")
+        .about("Lints, follows, bundles, lists and draws the references of JSON Schema files")
         .arg_required_else_help(true)
         .arg(directory)?
         .subcommand(lint(alloc)?)?
         .subcommand(resolve(alloc)?)?
+        .subcommand(bundle(alloc)?)?
         .subcommand(places(alloc)?)?
         .subcommand(graph(alloc)?)
 }
@@ -49,11 +50,6 @@ fn lint<'c>(alloc: Global) -> Result<Command<'c>, AllocError> {
 }
 
 fn resolve<'c>(alloc: Global) -> Result<Command<'c>, AllocError> {
-    let file = Arg::new(alloc, "file")
-        .value_name("FILE")
-        .required(true)
-        .action(ArgAction::Set)
-        .help("The file that the reference stands in");
     let reference = Arg::new(alloc, "reference")
         .value_name("REF")
         .required(true)
@@ -66,17 +62,39 @@ fn resolve<'c>(alloc: Global) -> Result<Command<'c>, AllocError> {
         .default_value("")
         .allow_hyphen_values(true)
         .help("The place in the file that it is followed from, as a JSON pointer");
-    let with = Arg::new(alloc, "with")
-        .long("with")
-        .value_name("PATH")
-        .action(ArgAction::Append)
-        .help("Another file or folder that it may lead into; may be repeated");
     let command = Command::new(alloc, "resolve")
         .about("Follows one reference from a place of a file")
-        .arg(file)?
+        .arg(file(alloc, "The file that the reference stands in"))?
         .arg(reference)?
         .arg(from)?
-        .arg(with)?;
+        .arg(with(alloc))?;
+    reading(alloc, command)
+}
+
+fn bundle<'c>(alloc: Global) -> Result<Command<'c>, AllocError> {
+    let output = Arg::new(alloc, "output")
+        .short('o')
+        .long("output")
+        .value_name("OUT")
+        .action(ArgAction::Set)
+        .help(
+            "The file to write, in place of standard output; it stays as it was where there is no bundle",
+        );
+    let minify = Arg::new(alloc, "minify")
+        .long("minify")
+        .action(ArgAction::SetTrue)
+        .help(
+            "Write the bundle on one line, with the members of objects in byte order of their keys",
+        );
+    let command = Command::new(alloc, "bundle")
+        .about("Writes a schema file with all documents that it needs as one document")
+        .after_help(
+            "Exit status: 0 where the bundle is written, 1 where there is none, 2 where a path can't be read or written or the command line is wrong, 3 where the text that was made isn't that of the bundle.",
+        )
+        .arg(file(alloc, "The schema file that becomes the root of the bundle"))?
+        .arg(with(alloc))?
+        .arg(output)?
+        .arg(minify)?;
     reading(alloc, command)
 }
 
@@ -128,6 +146,22 @@ fn reading<'c>(alloc: Global, command: Command<'c>) -> Result<Command<'c>, Alloc
         .action(ArgAction::Append)
         .help("Read documents under URIs that begin so from this folder; may be repeated");
     command.arg(base)?.arg(draft)?.arg(map)
+}
+
+fn file<'c>(alloc: Global, help: &'c str) -> Arg<'c> {
+    Arg::new(alloc, "file")
+        .value_name("FILE")
+        .required(true)
+        .action(ArgAction::Set)
+        .help(help)
+}
+
+fn with<'c>(alloc: Global) -> Arg<'c> {
+    Arg::new(alloc, "with")
+        .long("with")
+        .value_name("PATH")
+        .action(ArgAction::Append)
+        .help("Another file or folder that references may lead into; may be repeated")
 }
 
 fn paths<'c>(alloc: Global) -> Arg<'c> {

@@ -47,7 +47,7 @@ pub fn go_to(rt: &HostRuntime, folder: &str) -> Result<(), Stop> {
         Ok(()) => Ok(()),
         Err(error) => {
             let _ = eprintln!(rt; "patchsard: {folder}: {error}");
-            Err(Stop::Told)
+            Err(Stop::Reported)
         }
     }
 }

@@ -1,56 +1,40 @@
 //! Findings as messages.
 use crate::given::Given;
 use crate::pointer::pointer_of;
+use crate::resources::Resources;
 use crate::rules::code_of;
 use crate::spots::{Spots, first_of};
 use crate::suggestions::suggestion;
-use crate::world::without_fragment;
 use ref_findings::{Bearer, Finding, Problem};
 use ref_messages::{Level, Message, Other, Suggester};
 use ref_retrieve::Error;
 use ref_uri::Uri;
-use ref_uri::uri::resolve_against;
 use std::alloc::{AllocError, Global};
-use std::collections::BTreeMap;
 
-// How many comparisons suggestions may take in all.
-const COMPARISONS: usize = 200_000;
+// How many steps suggestions may take in all.
+const STEPS: usize = 3_200_000;
 
-/// What findings are told from.
+/// What messages are made from.
 #[derive(Drop)]
 pub struct Describer<'d> {
     alloc: Global,
     given: &'d Given,
     spots: Spots<'d>,
-    // The numbers of the documents by their URIs.
-    numbers: BTreeMap<String, usize>,
+    // What references may mean, once something is to be suggested.
+    resources: Option<Resources<'d>>,
     suggester: Suggester,
 }
 
 impl<'d> Describer<'d> {
-    /// What findings in these files are told from.
-    pub fn new(
-        alloc: Global,
-        given: &'d Given,
-        spots: Spots<'d>,
-    ) -> Result<Describer<'d>, AllocError> {
-        let mut numbers = BTreeMap::new(alloc);
-        for number in 0..given.len() {
-            if let Some(uri) = given.uri(number) {
-                numbers.insert(String::from_str(alloc, uri.as_str())?, number)?;
-            }
-            if let Some(uri) = identifier_of(alloc, given, number) {
-                let uri = String::from_str(alloc, without_fragment(uri.as_str()))?;
-                numbers.insert(uri, number)?;
-            }
-        }
-        Ok(Describer {
+    /// What messages on findings in these files are made from.
+    pub fn new(alloc: Global, given: &'d Given, spots: Spots<'d>) -> Describer<'d> {
+        Describer {
             alloc,
             given,
             spots,
-            numbers,
-            suggester: Suggester::new(COMPARISONS),
-        })
+            resources: None,
+            suggester: Suggester::new(STEPS),
+        }
     }
 
     /// The message on the finding with a number.
@@ -60,20 +44,37 @@ impl<'d> Describer<'d> {
         finding: &Finding<'d>,
     ) -> Result<Message<'d>, AllocError> {
         let (line, column) = self.place(number, finding);
-        Ok(Message {
+        let mut message = Message {
             file: self.given.name(finding.source),
             line,
             column,
-            pointer: pointer_of(self.alloc, finding.path.as_slice())?,
+            pointer: String::new(self.alloc),
             level: level_of(&finding.problem),
             code: code_of(&finding.problem),
-            text: self.text(finding)?,
+            text: String::new(self.alloc),
             keyword: finding.keyword,
             reference: finding.text,
-            resolved: resolved(self.alloc, finding)?,
-            suggestion: self.suggestion(&finding.problem)?,
-            first: self.first(number, &finding.problem)?,
-        })
+            resolved: None,
+            suggestion: None,
+            first: None,
+        };
+        self.complete(&mut message, number, finding)?;
+        Ok(message)
+    }
+
+    // Adds to a message what takes memory.
+    fn complete(
+        &mut self,
+        message: &mut Message<'d>,
+        number: usize,
+        finding: &Finding<'d>,
+    ) -> Result<(), AllocError> {
+        message.pointer = pointer_of(self.alloc, finding.path.as_slice())?;
+        message.text = self.text(finding)?;
+        message.resolved = resolved(self.alloc, finding)?;
+        message.suggestion = self.suggestion(&finding.problem)?;
+        message.first = self.first(number, &finding.problem)?;
+        Ok(())
     }
 
     /// The line and the column of the finding with a number.
@@ -142,12 +143,14 @@ impl<'d> Describer<'d> {
     }
 
     fn suggestion_in(&mut self, uri: &Uri, error: &Error) -> Result<Option<String>, AllocError> {
-        let Some(number) = self.numbers.get(uri.as_str()).copied() else {
+        if self.resources.is_none() {
+            self.resources = Some(Resources::of(self.alloc, self.given)?);
+        }
+        let Some(resources) = &self.resources else {
             return Ok(None);
         };
-        let root = self.given.value(number);
-        match root {
-            Some(root) => suggestion(self.alloc, &mut self.suggester, root, error),
+        match resources.get(uri.as_str()) {
+            Some(resource) => suggestion(self.alloc, &mut self.suggester, resource, error),
             None => Ok(None),
         }
     }
@@ -175,19 +178,6 @@ impl<'d> Describer<'d> {
     }
 }
 
-// The URI that the identifier of a document's root means.
-fn identifier_of(alloc: Global, given: &Given, number: usize) -> Option<Uri> {
-    let root = given.value(number)?;
-    let id = match root.get("$id") {
-        Some(id) => id.as_str()?,
-        None => root.get("id")?.as_str()?,
-    };
-    match resolve_against(alloc, given.uri(number)?.borrow(), id) {
-        Ok(uri) => Some(uri),
-        Err(_) => None,
-    }
-}
-
 fn level_of(problem: &Problem<'_>) -> Level {
     if problem.is_note() {
         Level::Note
@@ -204,7 +194,7 @@ fn anchor_text(alloc: Global, uri: &Uri, name: Option<&str>) -> Result<String, A
     )
 }
 
-// What the text under a keyword was resolved to, where that is told by nothing else.
+// What the text under a keyword was resolved to, where nothing else says it.
 fn resolved(alloc: Global, finding: &Finding<'_>) -> Result<Option<String>, AllocError> {
     let uri = match &finding.problem {
         Problem::MissingDocument { uri } => uri,

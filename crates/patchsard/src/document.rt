@@ -1,15 +1,16 @@
 //! The files that were read.
+use crate::buffer::Buffer;
 use crate::files::File;
 use crate::options::Reading;
 use crate::stop::Stop;
 use json::{Reader, Scratch, Token};
 use ref_files::{file_uri, uri_below};
 use ref_positions::Position;
-use ref_uri::Uri;
 use ref_uri::uri::from_str;
+use ref_uri::{Uri, UriFault};
 use serde_json::Value;
+use simdutf8::compat::from_utf8;
 use std::alloc::{AllocError, Global};
-use std::fs;
 
 /// Why a text is no JSON, and where.
 #[derive(Drop)]
@@ -42,7 +43,7 @@ impl Document {
     }
 }
 
-/// Reads files. Of one that can't be read it is told why, and the flag is set.
+/// Reads files. Of one that can't be read standard error says why, and the flag is set.
 pub fn read_all(
     rt: &HostRuntime,
     reading: &Reading<'_>,
@@ -50,8 +51,9 @@ pub fn read_all(
     has_failed: &mut bool,
 ) -> Result<Vec<Document>, Stop> {
     let mut documents = Vec::new(rt.alloc());
+    let mut buffer = Buffer::new(rt.alloc());
     for file in files {
-        match read(rt, reading, file)? {
+        match read(rt, reading, &mut buffer, file)? {
             Some(document) => push(&mut documents, document)?,
             None => *has_failed = true,
         }
@@ -65,9 +67,14 @@ pub fn push(documents: &mut Vec<Document>, document: Document) -> Result<(), All
     Ok(())
 }
 
-fn read(rt: &HostRuntime, reading: &Reading<'_>, file: File) -> Result<Option<Document>, Stop> {
+fn read(
+    rt: &HostRuntime,
+    reading: &Reading<'_>,
+    buffer: &mut Buffer,
+    file: File,
+) -> Result<Option<Document>, Stop> {
     let alloc = rt.alloc();
-    let bytes = match fs::read(rt, file.path.as_str()) {
+    let bytes = match buffer.read(rt, file.path.as_str()) {
         Ok(bytes) => bytes,
         Err(error) => {
             let _ = eprintln!(rt; "patchsard: {}: {error}", file.shown);
@@ -78,14 +85,18 @@ fn read(rt: &HostRuntime, reading: &Reading<'_>, file: File) -> Result<Option<Do
         Some(base) => uri_below(alloc, base, file.below.as_str())?,
         None => file_uri(alloc, file.path.as_str())?,
     };
-    let Ok(uri) = from_str(alloc, text.as_str()) else {
-        let _ = eprintln!(rt; "patchsard: {}: no URI can be made of its path", file.shown);
-        return Ok(None);
+    let uri = match from_str(alloc, text.as_str()) {
+        Ok(uri) => uri,
+        Err(UriFault::Memory(error)) => return Err(error.into()),
+        Err(UriFault::Invalid(_)) => {
+            let _ = eprintln!(rt; "patchsard: {}: no URI can be made of its path", file.shown);
+            return Ok(None);
+        }
     };
     Ok(Some(made(alloc, file.shown, uri, bytes)?))
 }
 
-fn made(alloc: Global, shown: String, uri: Uri, bytes: Vec<u8>) -> Result<Document, AllocError> {
+fn made(alloc: Global, shown: String, uri: Uri, bytes: &[u8]) -> Result<Document, AllocError> {
     let (text, fault) = utf8(alloc, bytes)?;
     let value = match fault {
         Some(fault) => Err(fault),
@@ -100,14 +111,12 @@ fn made(alloc: Global, shown: String, uri: Uri, bytes: Vec<u8>) -> Result<Docume
 }
 
 // The bytes as text, or what of them is UTF-8 and where that ends.
-fn utf8(alloc: Global, bytes: Vec<u8>) -> Result<(String, Option<Fault>), AllocError> {
-    match String::from_utf8(bytes) {
-        Ok(text) => Ok((text, None)),
+fn utf8(alloc: Global, bytes: &[u8]) -> Result<(String, Option<Fault>), AllocError> {
+    match from_utf8(bytes) {
+        Ok(text) => Ok((String::from_str(alloc, text)?, None)),
         Err(error) => {
-            let end = error.utf8_error().valid_up_to();
-            let mut bytes = error.into_bytes();
-            bytes.truncate(end);
-            let text = String::from_utf8_lossy(alloc, bytes.as_slice())?;
+            let front = bytes.get(..error.valid_up_to()).unwrap_or(bytes);
+            let text = String::from_utf8_lossy(alloc, front)?;
             let fault = fault_at(alloc, text.as_str(), text.len(), "Not UTF-8 from here on")?;
             Ok((text, Some(fault)))
         }

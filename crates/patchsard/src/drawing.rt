@@ -48,7 +48,7 @@ struct Drawing {
     numbers: Vec<usize>,
     // The node of each URI that a document bears.
     bearers: BTreeMap<String, usize>,
-    // How many references there are between two nodes, and how many of them lead nowhere.
+    // How many references there are between two nodes, and how many of them are unresolvable.
     edges: BTreeMap<(usize, usize), (usize, usize)>,
 }
 
@@ -102,7 +102,7 @@ impl Drawing {
         Ok(())
     }
 
-    // The node that a reference leads into: the document's own where it is a fragment alone.
+    // The node that a reference points into: the document's own where it is a fragment alone.
     fn target(&mut self, from: usize, reference: &str, uri: &str) -> Result<usize, AllocError> {
         if reference.starts_with('#') {
             return Ok(from);
@@ -123,7 +123,7 @@ impl Drawing {
         Ok(node)
     }
 
-    // Counts the references that lead nowhere.
+    // Counts the unresolvable references.
     fn add_broken(&mut self, findings: &[Finding<'_>]) -> Result<(), AllocError> {
         for finding in findings {
             match &finding.problem {

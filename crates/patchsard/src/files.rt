@@ -2,8 +2,8 @@
 use clap::ArgMatches;
 use std::alloc::{AllocError, Global};
 use std::collections::BTreeMap;
-use std::fs;
 use std::fs::DirEntry;
+use std::{fs, io};
 
 /// A file that is to be read.
 #[derive(Debug, Drop, PartialEq, Eq, PartialOrd, Ord)]
@@ -32,7 +32,7 @@ pub struct Listing<'r> {
     files: BTreeMap<String, File>,
     folders: Vec<Folder>,
     excluded: Vec<String>,
-    /// Whether a path couldn't be read, which was told.
+    /// Whether a path couldn't be read, which standard error says.
     pub has_failed: bool,
 }
 
@@ -80,6 +80,17 @@ impl<'r> Listing<'r> {
                 self.fail(path, error);
                 Ok(())
             }
+        }
+    }
+
+    /// Adds the file at a path.
+    pub fn add_one(&mut self, path: &str) -> Result<(), AllocError> {
+        match fs::metadata(self.rt, path) {
+            Ok(data) if data.is_dir() => {
+                self.fail(path, "a folder, where one file is asked for");
+                Ok(())
+            }
+            _ => self.add(path),
         }
     }
 
@@ -152,6 +163,9 @@ impl<'r> Listing<'r> {
                 for entry in entries {
                     match entry {
                         Ok(entry) => self.take(folder, &entry)?,
+                        Err(error) if error.kind() == io::ErrorKind::OutOfMemory => {
+                            return Err(AllocError);
+                        }
                         Err(_) => self.fail(folder.shown.as_str(), "has a name that is not UTF-8"),
                     }
                 }
@@ -214,6 +228,45 @@ pub fn list_given(listing: &mut Listing<'_>, given: &ArgMatches<'_>) -> Result<(
             listing.add(*path)?;
         }
     }
+    Ok(())
+}
+
+/// The file that a command line names, and after it those of `--with` without a file that is to be written. Where it is among these, it has its path
+/// below their folder.
+pub fn list_file(
+    rt: &HostRuntime,
+    given: &ArgMatches<'_>,
+    output: Option<&str>,
+    has_failed: &mut bool,
+) -> Result<Vec<File>, AllocError> {
+    let mut own = Listing::new(rt);
+    own.add_one(given.get_str("file").unwrap_or(""))?;
+    let mut others = Listing::new(rt);
+    if let Some(path) = output {
+        others.exclude(path)?;
+    }
+    if let Some(paths) = given.get_strs("with") {
+        for path in paths {
+            others.add(*path)?;
+        }
+    }
+    *has_failed |= own.has_failed || others.has_failed;
+    let mut files = own.into_files()?;
+    for other in others.into_files()? {
+        put_other(&mut files, other)?;
+    }
+    Ok(files)
+}
+
+// Adds a file after the first, or takes its path below its folder where it is the first.
+fn put_other(files: &mut Vec<File>, other: File) -> Result<(), AllocError> {
+    if let Some(first) = files.first_mut() {
+        if first.path == other.path {
+            first.below = other.below;
+            return Ok(());
+        }
+    }
+    files.push(other)?;
     Ok(())
 }
 

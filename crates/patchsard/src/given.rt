@@ -1,12 +1,12 @@
 //! What a command line asks to be read.
-use crate::document::{Document, push, read_all};
-use crate::files::{Listing, list_given};
+use crate::document::{Document, read_all};
+use crate::files::{Listing, list_file, list_given};
 use crate::maps::Maps;
 use crate::options::{maps, reading_of};
 use crate::stop::Stop;
 use clap::ArgMatches;
 use ref_draft::Draft;
-use ref_findings::{Finding, Held, Source, as_sources, findings, gather};
+use ref_findings::{Finding, Held, Report, Source, as_sources, gather, report};
 use ref_uri::Uri;
 use serde_json::{Map, Value};
 use std::alloc::{AllocError, Global};
@@ -23,9 +23,9 @@ pub struct Given {
     pub held: Vec<Held>,
     /// The draft of files that name none.
     pub draft: Draft,
-    /// Whether a path couldn't be read, which was told.
+    /// Whether a path couldn't be read, which standard error says.
     pub has_failed: bool,
-    // What stands for a document with a fault of its own.
+    // What counts in place of a document with a fault of its own.
     empty: Value,
 }
 
@@ -39,24 +39,16 @@ pub fn read_given(rt: &HostRuntime, given: &ArgMatches<'_>) -> Result<Given, Sto
     with_held(rt, given, reading.draft, documents, has_failed)
 }
 
-/// Reads the file that a reference stands in, and behind it those that it may lead into.
-pub fn read_file(rt: &HostRuntime, given: &ArgMatches<'_>) -> Result<Given, Stop> {
+/// Reads the file that a command line names, and after it those of `--with`. A file that is to be written isn't read among these.
+pub fn read_file(
+    rt: &HostRuntime,
+    given: &ArgMatches<'_>,
+    output: Option<&str>,
+) -> Result<Given, Stop> {
     let reading = reading_of(rt, given)?;
     let mut has_failed = false;
-    let mut listing = Listing::new(rt);
-    listing.add(given.get_str("file").unwrap_or(""))?;
-    has_failed |= listing.has_failed;
-    let mut documents = read_all(rt, &reading, listing.into_files()?, &mut has_failed)?;
-    let mut others = Listing::new(rt);
-    if let Some(paths) = given.get_strs("with") {
-        for path in paths {
-            others.add(*path)?;
-        }
-    }
-    has_failed |= others.has_failed;
-    for document in read_all(rt, &reading, others.into_files()?, &mut has_failed)? {
-        push(&mut documents, document)?;
-    }
+    let files = list_file(rt, given, output, &mut has_failed)?;
+    let documents = read_all(rt, &reading, files, &mut has_failed)?;
     with_held(rt, given, reading.draft, documents, has_failed)
 }
 
@@ -103,14 +95,26 @@ fn sources_of<'d>(alloc: Global, documents: &'d [Document]) -> Result<Vec<Source
 }
 
 impl Given {
-    /// What is wrong with the files.
-    pub fn findings<'d>(&'d self, alloc: Global) -> Result<Vec<Finding<'d>>, AllocError> {
+    /// What is wrong with the files, and how many references they have.
+    pub fn report<'d>(&'d self, alloc: Global) -> Result<Report<'d>, AllocError> {
         let own = sources_of(alloc, self.documents.as_slice())?;
         let others = as_sources(alloc, self.held.as_slice())?;
-        findings(alloc, self.draft, own.as_slice(), others.as_slice())
+        report(alloc, self.draft, own.as_slice(), others.as_slice())
     }
 
-    /// How many documents there are: files, and behind them what was read from maps.
+    /// What is wrong with the files.
+    pub fn findings<'d>(&'d self, alloc: Global) -> Result<Vec<Finding<'d>>, AllocError> {
+        let report = self.report(alloc)?;
+        Ok(report.findings)
+    }
+
+    /// Keeps the files to the end of the program, which is faster than to free their values one by one, and answers how many there are.
+    pub fn keep(self) -> usize {
+        let kept = self.documents.leak();
+        kept.len()
+    }
+
+    /// How many documents there are: files, and after them what was read from maps.
     pub fn len(&self) -> usize {
         self.documents.len().saturating_add(self.held.len())
     }

@@ -1,7 +1,6 @@
 //! `patchsard lint`.
 use crate::console::Console;
 use crate::describe::Describer;
-use crate::document::Document;
 use crate::given::{Given, read_given};
 use crate::rules::RULES;
 use crate::spots::spots_of;
@@ -9,7 +8,6 @@ use crate::stop::Stop;
 use clap::ArgMatches;
 use ref_findings::{Finding, Problem};
 use ref_messages::{Level, Message, push_annotation, push_line, push_sarif, push_text};
-use serde_json::Value;
 use std::alloc::{AllocError, Global};
 use std::io;
 use std::time::Instant;
@@ -23,9 +21,10 @@ enum Form {
     GitHub,
 }
 
-// How many findings of each kind there are.
+// How many references and findings there are.
 #[derive(Clone, Copy, Drop)]
 struct Count {
+    references: usize,
     errors: usize,
     notes: usize,
 }
@@ -40,14 +39,16 @@ pub fn lint(
     let begin = Instant::now(rt);
     let read = read_given(rt, given)?;
     let is_verbose = given.get_flag("verbose");
-    let told = tell_all(rt.alloc(), console, form_of(given), is_verbose, &read);
-    let Some(count) = count_of(told)? else {
+    let listed = list_all(rt.alloc(), console, form_of(given), is_verbose, &read);
+    let has_failed = read.has_failed;
+    let files = read.keep();
+    let Some(count) = count_of(listed)? else {
         console.out.clear();
         return Ok(1);
     };
-    summary(rt, read.documents.as_slice(), count)?;
-    tell_time(rt, begin);
-    Ok(status_of(count, read.has_failed))
+    summary(rt, files, count)?;
+    print_time(rt, begin);
+    Ok(status_of(count, has_failed))
 }
 
 // The count, or nothing where standard output is closed.
@@ -67,7 +68,7 @@ fn status_of(count: Count, has_failed: bool) -> u8 {
 }
 
 // Ends the last line on standard error with the time since it began.
-fn tell_time(rt: &HostRuntime, begin: io::Result<Instant>) {
+fn print_time(rt: &HostRuntime, begin: io::Result<Instant>) {
     let Ok(begin) = begin else {
         return;
     };
@@ -77,29 +78,36 @@ fn tell_time(rt: &HostRuntime, begin: io::Result<Instant>) {
 }
 
 // Prints the findings of files.
-fn tell_all(
+fn list_all(
     alloc: Global,
     console: &mut Console<'_>,
     form: Form,
     is_verbose: bool,
     given: &Given,
 ) -> Result<Count, Stop> {
-    let list = given.findings(alloc)?;
-    let spots = spots_of(alloc, given.documents.as_slice(), list.as_slice())?;
-    let mut describer = Describer::new(alloc, given, spots)?;
-    let order = order_of(alloc, &describer, list.as_slice(), is_verbose)?;
+    let report = given.report(alloc)?;
+    let list = report.findings.as_slice();
+    let spots = spots_of(alloc, given.documents.as_slice(), list)?;
+    let mut describer = Describer::new(alloc, given, spots);
+    let order = order_of(alloc, &describer, list, is_verbose)?;
+    let mut count = Count {
+        references: report.references,
+        errors: 0,
+        notes: 0,
+    };
     print(
         alloc,
         console,
         form,
         &mut describer,
-        list.as_slice(),
-        order.as_slice(),
-    )
+        list,
+        (order.as_slice(), &mut count),
+    )?;
+    Ok(count)
 }
 
-// The numbers of the findings that are told, by file, line and column.
-fn order_of(
+/// The numbers of the findings that are listed, by file, line and column.
+pub fn order_of(
     alloc: Global,
     describer: &Describer<'_>,
     list: &[Finding<'_>],
@@ -131,12 +139,8 @@ fn print<'d>(
     form: Form,
     describer: &mut Describer<'d>,
     list: &[Finding<'d>],
-    order: &[(usize, usize, usize, usize)],
-) -> Result<Count, Stop> {
-    let mut count = Count {
-        errors: 0,
-        notes: 0,
-    };
+    (order, count): (&[(usize, usize, usize, usize)], &mut Count),
+) -> Result<(), Stop> {
     let mut messages = Vec::new(alloc);
     for place in order {
         let Some(finding) = list.get(place.3) else {
@@ -153,8 +157,7 @@ fn print<'d>(
     if form == Form::Sarif {
         push_sarif(alloc, &mut console.out, "0.1.0", RULES, messages.as_slice())?;
     }
-    console.finish()?;
-    Ok(count)
+    console.finish()
 }
 
 fn keep<'m>(messages: &mut Vec<Message<'m>>, message: Message<'m>) -> Result<(), AllocError> {
@@ -186,18 +189,11 @@ impl Count {
 }
 
 // The last line on standard error, but for the time.
-fn summary(rt: &HostRuntime, documents: &[Document], count: Count) -> Result<(), Stop> {
-    let files = documents.len();
-    let mut references = 0usize;
-    for document in documents {
-        if let Some(value) = document.value() {
-            references = references.saturating_add(references_in(rt.alloc(), value)?);
-        }
-    }
+fn summary(rt: &HostRuntime, files: usize, count: Count) -> Result<(), Stop> {
     let mut line = String::new(rt.alloc());
     push_count(&mut line, files, "file")?;
     line.push_str(", ")?;
-    push_count(&mut line, references, "reference")?;
+    push_count(&mut line, count.references, "reference")?;
     line.push_str(", ")?;
     push_count(&mut line, count.errors, "error")?;
     line.push_str(", ")?;
@@ -209,21 +205,4 @@ fn summary(rt: &HostRuntime, documents: &[Document], count: Count) -> Result<(),
 fn push_count(line: &mut String, count: usize, what: &str) -> Result<(), AllocError> {
     write!(line, "{count} {what}")?;
     if count == 1 { Ok(()) } else { line.push('s') }
-}
-
-// How many texts stand under `$ref` in a value.
-fn references_in(alloc: Global, root: &Value) -> Result<usize, AllocError> {
-    let mut count = 0usize;
-    let mut values = Vec::new(alloc);
-    values.push(root)?;
-    for _ in 0..u64::MAX {
-        let Some(value) = values.pop() else {
-            break;
-        };
-        if value.get("$ref").and_then(Value::as_str).is_some() {
-            count = count.saturating_add(1);
-        }
-        crate::suggestions::push_below(&mut values, value)?;
-    }
-    Ok(count)
 }

@@ -1,7 +1,9 @@
-//! Lints, follows, lists and draws the references of folders of JSON Schema files. What is found is `ref_findings`, where it stands in a file
+//! Lints, follows, bundles, lists and draws the references of folders of JSON Schema files. What is found is `ref_findings`, where it stands in a file
 //! `ref_positions`, and how it is printed `ref_messages`; here is what reads files, asks these, and writes.
 #![tactic(auto)]
 
+mod buffer;
+mod bundle;
 mod command;
 mod console;
 mod describe;
@@ -15,31 +17,38 @@ mod options;
 mod places;
 mod pointer;
 mod resolve;
+mod resources;
 mod rules;
 mod shown;
+mod splice;
 mod spots;
 mod stop;
 mod suggestions;
 mod world;
+mod write;
 
 use crate::console::Console;
 use crate::stop::Stop;
 use clap::ArgMatches;
-use std::env;
 use std::process::ExitCode;
+use std::{env, io};
 
 fn main(rt: HostRuntime) -> ExitCode {
     let status = match run(&rt) {
         Ok(status) => status,
-        Err(stop) => stop.tell(&rt),
+        Err(stop) => stop.report(&rt),
     };
     ExitCode::from(status)
 }
 
 fn run(rt: &HostRuntime) -> Result<u8, Stop> {
-    let Ok(words) = env::args(rt) else {
-        let _ = eprintln!(rt; "patchsard: an argument is not UTF-8");
-        return Err(Stop::Told);
+    let words = match env::args(rt) {
+        Ok(words) => words,
+        Err(error) if error.kind() == io::ErrorKind::OutOfMemory => return Err(Stop::Memory),
+        Err(_) => {
+            let _ = eprintln!(rt; "patchsard: an argument is not UTF-8");
+            return Err(Stop::Reported);
+        }
     };
     let words: Vec<String> = words.collect(rt.alloc())?;
     let command = command::patchsard(rt.alloc())?;
@@ -63,6 +72,7 @@ fn asked(rt: &HostRuntime, matches: &ArgMatches<'_>) -> Result<u8, Stop> {
     let status = match matches.subcommand() {
         Some(("lint", given)) => lint::lint(rt, &mut console, given)?,
         Some(("resolve", given)) => resolve::resolve(rt, &mut console, given)?,
+        Some(("bundle", given)) => bundle::bundle(rt, &mut console, given)?,
         Some(("places", given)) => places::places(rt, &mut console, given)?,
         Some((_, given)) => drawing::draw(rt, &mut console, given)?,
         None => {

@@ -97,14 +97,21 @@ impl<'r> Maps<'r> {
         }
     }
 
-    // Reads a file. Of one that can't be read it is told why.
-    fn read(&self, alloc: Global, path: &str) -> Result<Option<Value>, AllocError> {
-        let text = match fs::read_to_string(self.rt, path) {
-            Ok(text) => text,
+    // The text of a file. Of one that can't be read standard error says why.
+    fn read_text(&self, path: &str) -> Option<String> {
+        match fs::read_to_string(self.rt, path) {
+            Ok(text) => Some(text),
             Err(error) => {
                 let _ = eprintln!(self.rt; "patchsard: {path}: {error}");
-                return Ok(None);
+                None
             }
+        }
+    }
+
+    // Reads a file.
+    fn read(&self, alloc: Global, path: &str) -> Result<Option<Value>, AllocError> {
+        let Some(text) = self.read_text(path) else {
+            return Ok(None);
         };
         match Value::from_str(alloc, text.as_str()) {
             Ok(value) => Ok(Some(value)),
@@ -114,6 +121,14 @@ impl<'r> Maps<'r> {
                 Ok(None)
             }
         }
+    }
+
+    /// The text of the file that a URI means, where there is one. Of one that can't be read standard error says why.
+    pub fn text(&self, alloc: Global, uri: &str) -> Result<Option<String>, AllocError> {
+        let Some(path) = self.path_of(alloc, uri)? else {
+            return Ok(None);
+        };
+        Ok(self.read_text(path.as_str()))
     }
 
     fn document(&self, alloc: Global, uri: &str) -> Result<Option<Value>, AllocError> {

@@ -3,7 +3,7 @@ use crate::maps::{Map, Maps};
 use crate::stop::Stop;
 use clap::ArgMatches;
 use ref_draft::Draft;
-use ref_uri::uri::from_str;
+use ref_uri::UriRef;
 use std::fs;
 
 /// How files are read.
@@ -19,33 +19,41 @@ pub struct Reading<'a> {
 pub fn reading_of<'a>(rt: &HostRuntime, given: &ArgMatches<'a>) -> Result<Reading<'a>, Stop> {
     let base = given.get_str("base");
     if let Some(base) = base {
-        if !is_base(rt, base) {
+        if !is_base(base) {
             let _ = eprintln!(rt;
                 "patchsard: --base {base}: not an absolute URI without query and fragment"
             );
-            return Err(Stop::Told);
+            return Err(Stop::Reported);
         }
     }
     let draft = draft_of(given.get_str("draft").unwrap_or(""));
     Ok(Reading { base, draft })
 }
 
-// Whether files can stand under a URI.
-fn is_base(rt: &HostRuntime, base: &str) -> bool {
-    match from_str(rt.alloc(), base) {
+// Whether documents can stand under a URI: an absolute one without a query and a fragment.
+fn is_base(base: &str) -> bool {
+    match UriRef::parse(base) {
         Ok(uri) => uri.has_scheme() && !uri.has_fragment() && uri.query().is_none(),
         Err(_) => false,
     }
 }
 
+// The drafts that a command line names.
+const DRAFTS: [Draft; 5] = [
+    Draft::Draft4,
+    Draft::Draft6,
+    Draft::Draft7,
+    Draft::Draft201909,
+    Draft::Draft202012,
+];
+
 fn draft_of(name: &str) -> Draft {
-    match name {
-        "4" => Draft::Draft4,
-        "6" => Draft::Draft6,
-        "7" => Draft::Draft7,
-        "2019-09" => Draft::Draft201909,
-        _ => Draft::Draft202012,
+    for draft in DRAFTS {
+        if draft_name(draft) == name {
+            return draft;
+        }
     }
+    Draft::Draft202012
 }
 
 /// The name of a draft.
@@ -75,14 +83,14 @@ pub fn maps<'r>(rt: &'r HostRuntime, given: &ArgMatches<'_>) -> Result<Maps<'r>,
     };
     for text in texts {
         match text.split_once('=') {
-            Some((prefix, folder)) if !prefix.is_empty() && is_folder(rt, folder) => {
+            Some((prefix, folder)) if is_base(prefix) && is_folder(rt, folder) => {
                 maps.push(Map::new(rt.alloc(), prefix, folder)?)?;
             }
             _ => {
                 let _ = eprintln!(rt;
-                    "patchsard: --map {text}: not of the form PREFIX=FOLDER with a folder that is there"
+                    "patchsard: --map {text}: not of the form PREFIX=FOLDER with an absolute URI without query and fragment and a folder that is there"
                 );
-                return Err(Stop::Told);
+                return Err(Stop::Reported);
             }
         }
     }

@@ -32,12 +32,12 @@ fn listed(rt: &HostRuntime, console: &mut Console<'_>, given: &Given) -> Result<
     let faulty = faulty_of(alloc, given.len(), list.as_slice())?;
     let world = world_of(rt, given, faulty.as_slice())?;
     let documents = given.documents.as_slice();
-    tell_all(alloc, console, documents, &world)?;
-    Ok(tell_left_out(rt, documents, faulty.as_slice()))
+    list_all(alloc, console, documents, &world)?;
+    Ok(report_left_out(rt, documents, faulty.as_slice()))
 }
 
-// Tells which files were left out, and answers the status.
-fn tell_left_out(rt: &HostRuntime, documents: &[Document], faulty: &[bool]) -> u8 {
+// Prints which files were left out, and answers the status.
+fn report_left_out(rt: &HostRuntime, documents: &[Document], faulty: &[bool]) -> u8 {
     let mut status = 0;
     for (document, is_faulty) in documents.iter().zip(faulty.iter()) {
         if *is_faulty || document.value().is_none() {
@@ -51,7 +51,7 @@ fn tell_left_out(rt: &HostRuntime, documents: &[Document], faulty: &[bool]) -> u
     status
 }
 
-fn tell_all(
+fn list_all(
     alloc: Global,
     console: &mut Console<'_>,
     documents: &[Document],
@@ -63,7 +63,7 @@ fn tell_all(
         let count = count_of(rest, number);
         if let Some(document) = documents.get(*source) {
             let own = rest.get(..count).unwrap_or(rest);
-            tell_document(alloc, console, document, world, own)?;
+            list_document(alloc, console, document, world, own)?;
         }
         rest = rest.get(count..).unwrap_or(&[]);
     }
@@ -82,7 +82,7 @@ fn count_of(places: &[Place<'_>], document: usize) -> usize {
     count
 }
 
-fn tell_document(
+fn list_document(
     alloc: Global,
     console: &mut Console<'_>,
     document: &Document,

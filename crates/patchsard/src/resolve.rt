@@ -14,14 +14,14 @@ use referencing::Resolved;
 use std::alloc::{AllocError, Global};
 use std::rc::Rc;
 
-/// Follows a reference from a place of a file. The status is 0 where it leads somewhere, 1 where it leads nowhere, and 2 where a path couldn't be
+/// Follows a reference from a place of a file. The status is 0 where it resolves, 1 where it is unresolvable, and 2 where a path couldn't be
 /// read.
 pub fn resolve(
     rt: &HostRuntime,
     console: &mut Console<'_>,
     given: &ArgMatches<'_>,
 ) -> Result<u8, Stop> {
-    let read = read_file(rt, given)?;
+    let read = read_file(rt, given, None)?;
     if read.has_failed {
         return Ok(2);
     }

@@ -11,13 +11,13 @@ pub enum Stop {
     Write,
     /// Standard output is closed, as by `head`: nothing is wrong.
     Closed,
-    /// The reason was told on standard error.
-    Told,
+    /// The reason was printed on standard error.
+    Reported,
 }
 
 impl Stop {
-    /// Tells the reason on standard error where it wasn't told, and answers the exit status.
-    pub fn tell(&self, rt: &HostRuntime) -> u8 {
+    /// Prints the reason on standard error where it wasn't, and answers the exit status.
+    pub fn report(&self, rt: &HostRuntime) -> u8 {
         match self {
             Stop::Memory => {
                 let _ = eprintln!(rt; "patchsard: out of memory");
@@ -28,7 +28,7 @@ impl Stop {
                 2
             }
             Stop::Closed => 0,
-            Stop::Told => 2,
+            Stop::Reported => 2,
         }
     }
 }

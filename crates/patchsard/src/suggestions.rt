@@ -1,27 +1,31 @@
 //! What may be meant by a pointer or an anchor that isn't there.
+use crate::resources::Resource;
 use ref_messages::Suggester;
 use ref_retrieve::Error;
 use referencing::{unescape_segment, write_escaped_str};
 use serde_json::{Map, Value};
 use std::alloc::{AllocError, Global};
 
-/// What may be meant where a reference into a value leads nowhere: a pointer with another key, or another anchor.
+/// What may be meant by an unresolvable reference into a resource: a pointer with another key, or another anchor.
 pub fn suggestion(
     alloc: Global,
     suggester: &mut Suggester,
-    root: &Value,
+    resource: &Resource<'_>,
     error: &Error,
 ) -> Result<Option<String>, AllocError> {
+    suggester.begin();
     match error {
         Error::PointerToNowhere { pointer } => {
-            close_pointer(alloc, suggester, root, pointer.as_str())
+            close_pointer(alloc, suggester, resource.root, pointer.as_str())
         }
-        Error::NoSuchAnchor { anchor } => close_anchor(alloc, suggester, root, anchor.as_str()),
+        Error::NoSuchAnchor { anchor } => {
+            close_anchor(alloc, suggester, resource.names.as_slice(), anchor.as_str())
+        }
         _ => Ok(None),
     }
 }
 
-// A pointer with another key in the place of the first that isn't there, where it leads somewhere.
+// A pointer with another key in the place of the first that isn't there, where a value stands at it.
 fn close_pointer(
     alloc: Global,
     suggester: &mut Suggester,
@@ -106,6 +110,9 @@ fn close_key<'v>(
 ) -> Result<Option<&'v str>, AllocError> {
     let mut best = Best::new();
     for (key, _) in members {
+        if !suggester.step() {
+            break;
+        }
         best.try_name(alloc, suggester, wanted, key.as_str())?;
     }
     Ok(best.name)
@@ -143,61 +150,22 @@ impl<'v> Best<'v> {
     }
 }
 
-// The anchor anywhere in a document that is the fewest letters away.
+// The anchor of a resource that is the fewest letters away, of several the first.
 fn close_anchor(
     alloc: Global,
     suggester: &mut Suggester,
-    root: &Value,
+    names: &[&str],
     wanted: &str,
 ) -> Result<Option<String>, AllocError> {
     let mut best = Best::new();
-    let mut values = Vec::new(alloc);
-    values.push(root)?;
-    for _ in 0..u64::MAX {
-        let Some(value) = values.pop() else {
-            break;
-        };
+    for name in names {
         if !suggester.step() {
             break;
         }
-        if let Some(name) = anchor_of(value) {
-            best.try_name(alloc, suggester, wanted, name)?;
-        }
-        push_below(&mut values, value)?;
+        best.try_name(alloc, suggester, wanted, name)?;
     }
     match best.name {
         Some(name) => Ok(Some(String::from_str(alloc, name)?)),
         None => Ok(None),
     }
-}
-
-// The name that a schema bears.
-fn anchor_of(value: &Value) -> Option<&str> {
-    for keyword in ["$anchor", "$dynamicAnchor"] {
-        if let Some(name) = value.get(keyword).and_then(Value::as_str) {
-            return Some(name);
-        }
-    }
-    for keyword in ["$id", "id"] {
-        if let Some(id) = value.get(keyword).and_then(Value::as_str) {
-            if let Some(name) = id.strip_prefix('#') {
-                return Some(name);
-            }
-        }
-    }
-    None
-}
-
-pub fn push_below<'v>(values: &mut Vec<&'v Value>, value: &'v Value) -> Result<(), AllocError> {
-    if let Some(members) = value.as_object() {
-        for (_, below) in members {
-            values.push(below)?;
-        }
-    }
-    if let Some(items) = value.as_array() {
-        for below in items {
-            values.push(below)?;
-        }
-    }
-    Ok(())
 }

@@ -1,15 +1,17 @@
 //! The registry of the files, for what goes on from one document to the next.
 use crate::given::Given;
 use crate::stop::Stop;
+use ref_draft::Draft;
 use ref_findings::{Finding, Problem};
 use ref_retrieve::{Error, Retrieve, RetrieveError};
 use ref_uri::Uri;
+use referencing::meta::uris_for_draft;
 use referencing::{Registry, RegistryBuilder};
 use serde_json::{Map, Value};
 use std::alloc::{AllocError, Global};
 use std::collections::BTreeMap;
 
-/// An empty document stands for each that isn't there.
+/// An empty document in place of each that isn't there.
 #[derive(Drop)]
 struct StandIns;
 
@@ -28,13 +30,13 @@ impl Retrieve for StandIns {
 /// The documents of files, and of what was read from maps.
 #[derive(Drop)]
 pub struct World<'d> {
-    /// The documents, and behind them those that stand for what isn't there.
+    /// The documents, and after them empty ones in place of those that aren't there.
     pub registry: Registry<'d>,
     /// The number of the source of each document that is there, by the document's number.
     pub sources: Vec<usize>,
 }
 
-/// The registry of what was read. A document that is no JSON or has a text that means no URI stands as an empty one; of those under one URI the
+/// The registry of what was read. A document that is no JSON or has a text that means no URI counts as an empty one; of those under one URI the
 /// first is taken. Refuses with a text on standard error.
 pub fn world_of<'d>(
     rt: &HostRuntime,
@@ -46,27 +48,28 @@ pub fn world_of<'d>(
         Err(Error::Memory(_)) => Err(Stop::Memory),
         Err(error) => {
             let _ = eprintln!(rt; "patchsard: {error}");
-            Err(Stop::Told)
+            Err(Stop::Reported)
         }
     }
 }
 
 fn prepared<'d>(alloc: Global, given: &'d Given, faulty: &[bool]) -> Result<World<'d>, Error> {
     let sources = first_of_each(alloc, given)?;
-    let builder = filled(alloc, given, faulty, sources.as_slice())?;
+    let builder = Registry::new(alloc)
+        .draft(given.draft)
+        .retrieval_limit(usize::MAX);
+    let builder = filled(builder, given, faulty, sources.as_slice())?;
     let registry = builder.retriever(StandIns).prepare()?;
     Ok(World { registry, sources })
 }
 
 fn filled<'d>(
-    alloc: Global,
+    builder: RegistryBuilder<'d>,
     given: &'d Given,
     faulty: &[bool],
     numbers: &[usize],
 ) -> Result<RegistryBuilder<'d>, Error> {
-    let mut builder = Registry::new(alloc)
-        .draft(given.draft)
-        .retrieval_limit(usize::MAX);
+    let mut builder = builder;
     for number in numbers {
         if let Some(uri) = given.uri(*number) {
             let is_faulty = faulty.get(*number).copied().unwrap_or(false);
@@ -76,6 +79,96 @@ fn filled<'d>(
     }
     Ok(builder)
 }
+
+/// The same above another registry, with copies of the values.
+pub fn world_above<'d, 'o: 'd>(
+    rt: &HostRuntime,
+    above: &'d Registry<'o>,
+    given: &Given,
+    faulty: &[bool],
+) -> Result<World<'d>, Stop> {
+    match prepared_above(rt.alloc(), above, given, faulty) {
+        Ok(world) => Ok(world),
+        Err(Error::Memory(_)) => Err(Stop::Memory),
+        Err(error) => {
+            let _ = eprintln!(rt; "patchsard: {error}");
+            Err(Stop::Reported)
+        }
+    }
+}
+
+fn prepared_above<'d, 'o: 'd>(
+    alloc: Global,
+    above: &'d Registry<'o>,
+    given: &Given,
+    faulty: &[bool],
+) -> Result<World<'d>, Error> {
+    let sources = first_of_each(alloc, given)?;
+    let builder = above
+        .extend(alloc, NONE)?
+        .draft(given.draft)
+        .retrieval_limit(usize::MAX);
+    let builder = with_copies(builder, given, faulty, sources.as_slice())?;
+    let registry = builder.retriever(StandIns).prepare()?;
+    Ok(World { registry, sources })
+}
+
+fn with_copies<'d>(
+    builder: RegistryBuilder<'d>,
+    given: &Given,
+    faulty: &[bool],
+    numbers: &[usize],
+) -> Result<RegistryBuilder<'d>, Error> {
+    let mut builder = builder;
+    for number in numbers {
+        if let Some(uri) = given.uri(*number) {
+            let is_faulty = faulty.get(*number).copied().unwrap_or(false);
+            let value = given.sound_value(*number, is_faulty).clone()?;
+            builder = builder.add(uri.as_str(), value)?;
+        }
+    }
+    Ok(builder)
+}
+
+// No documents.
+const NONE: [(&str, Value); 0] = [];
+
+/// A registry of empty documents under the URIs of the drafts' meta-schemas, and of others that findings name and that aren't there: what a bundle
+/// leaves outside.
+pub fn outside_of(rt: &HostRuntime, findings: &[Finding<'_>]) -> Result<Registry<'static>, Stop> {
+    match outside(rt.alloc(), findings) {
+        Ok(registry) => Ok(registry),
+        Err(Error::Memory(_)) => Err(Stop::Memory),
+        Err(error) => {
+            let _ = eprintln!(rt; "patchsard: {error}");
+            Err(Stop::Reported)
+        }
+    }
+}
+
+fn outside(alloc: Global, findings: &[Finding<'_>]) -> Result<Registry<'static>, Error> {
+    let mut builder = Registry::new(alloc);
+    for draft in DRAFTS {
+        for uri in uris_for_draft(draft) {
+            builder = builder.add(*uri, Value::Object(Map::new(alloc)))?;
+        }
+    }
+    for finding in findings {
+        if let Problem::UnknownDialect { uri } = &finding.problem {
+            builder = builder.add(uri.as_str(), Value::Object(Map::new(alloc)))?;
+        }
+    }
+    builder.prepare()
+}
+
+// The drafts that have meta-schemas.
+const DRAFTS: [Draft; 5] = [
+    Draft::Draft4,
+    Draft::Draft6,
+    Draft::Draft7,
+    Draft::Draft201909,
+    Draft::Draft202012,
+];
 
 // The numbers of the first documents under each URI.
 fn first_of_each(alloc: Global, given: &Given) -> Result<Vec<usize>, AllocError> {
@@ -108,7 +201,7 @@ pub fn faulty_of(
     Ok(faulty)
 }
 
-/// The number of the document that bears each URI: its own, and those of the places in it. Documents that stand for what isn't there are left out.
+/// The number of the document that bears each URI: its own, and those of the places in it. Those in place of what isn't there are left out.
 pub fn bearers(alloc: Global, world: &World<'_>) -> Result<BTreeMap<String, usize>, AllocError> {
     let mut bearers = BTreeMap::new(alloc);
     for place in world.places(alloc)? {

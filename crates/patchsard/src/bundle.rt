@@ -1,0 +1,561 @@
+//! `patchsard bundle`.
+use crate::console::Console;
+use crate::describe::Describer;
+use crate::document::{Document, parsed};
+use crate::given::{Given, read_file};
+use crate::lint::order_of;
+use crate::options::maps;
+use crate::pointer::{place_of, pointer_of};
+use crate::splice::{Added, Part, with_added, with_parts};
+use crate::spots::spots_of;
+use crate::stop::Stop;
+use crate::world::{World, faulty_of, outside_of, world_above};
+use crate::write::write_file;
+use clap::ArgMatches;
+use ref_bundle::{Bundle, BundleError, Embedded, Obstacle, Refusal};
+use ref_draft::Draft;
+use ref_findings::{Finding, Problem};
+use ref_messages::push_text;
+use ref_parts::path::JsonPointerSegment;
+use ref_positions::Places;
+use ref_retrieve::Error;
+use ref_uri::UriRef;
+use referencing::Registry;
+use serde_json::Value;
+use std::alloc::{AllocError, Global};
+
+/// Writes one document in place of several. The status is 0 where it is written, 1 where there is no bundle, 2 where a path can't be read or
+/// written, and 3 where the text that was made isn't that of the bundle.
+pub fn bundle(
+    rt: &HostRuntime,
+    console: &mut Console<'_>,
+    given: &ArgMatches<'_>,
+) -> Result<u8, Stop> {
+    let read = read_file(rt, given, given.get_str("output"))?;
+    if read.has_failed {
+        return Ok(2);
+    }
+    bundle_read(rt, console, given, &read)
+}
+
+// The bundle of what was read.
+fn bundle_read(
+    rt: &HostRuntime,
+    console: &mut Console<'_>,
+    given: &ArgMatches<'_>,
+    read: &Given,
+) -> Result<u8, Stop> {
+    let list = read.findings(rt.alloc())?;
+    let outside = outside_of(rt, list.as_slice())?;
+    bundle_above(rt, console, given, read, list.as_slice(), &outside)
+}
+
+// The same above a registry of what stays outside.
+fn bundle_above<'d>(
+    rt: &HostRuntime,
+    console: &mut Console<'_>,
+    given: &ArgMatches<'_>,
+    read: &'d Given,
+    list: &[Finding<'d>],
+    outside: &Registry<'_>,
+) -> Result<u8, Stop> {
+    let faulty = faulty_of(rt.alloc(), read.len(), list)?;
+    let world = world_above(rt, outside, read, faulty.as_slice())?;
+    let sources = Sources {
+        read,
+        list,
+        world: &world,
+    };
+    match ref_bundle::bundle(rt.alloc(), &world.registry, 0) {
+        Ok(bundle) => sources.write(rt, console, given, &bundle),
+        Err(BundleError::Memory(_)) => Err(Stop::Memory),
+        Err(BundleError::Refused(refusal)) => sources.refuse(rt, &refusal),
+    }
+}
+
+// What a bundle is made from.
+#[derive(Clone, Copy, Drop)]
+struct Sources<'d, 'l, 'w, 'o> {
+    read: &'d Given,
+    list: &'l [Finding<'d>],
+    world: &'w World<'o>,
+}
+
+impl<'d, 'l, 'w, 'o> Sources<'d, 'l, 'w, 'o> {
+    // The number of what was read as a document, where it was read.
+    fn source(&self, document: usize) -> Option<usize> {
+        self.world.sources.get(document).copied()
+    }
+
+    fn write(
+        &self,
+        rt: &HostRuntime,
+        console: &mut Console<'_>,
+        given: &ArgMatches<'_>,
+        bundle: &Bundle,
+    ) -> Result<u8, Stop> {
+        let needed = self.needed(rt.alloc(), bundle)?;
+        if self.has_faults(rt, needed.as_slice())?
+            || self.is_incomplete(rt, bundle, needed.as_slice())?
+        {
+            let _ = eprintln!(rt;
+                "patchsard: not bundled; a document that is missing can be named by --with or --map"
+            );
+            return Ok(1);
+        }
+        let Some(text) = self.text(rt, given, bundle)? else {
+            return Ok(3);
+        };
+        self.say_uri(rt, bundle)?;
+        match given.get_str("output") {
+            Some(path) => write_file(rt, path, text.as_str()),
+            None => {
+                console.out.push_str(text.as_str())?;
+                Ok(0)
+            }
+        }
+    }
+
+    // Prints what is wrong with the documents that are needed, and answers whether that keeps them from being bundled: an unresolvable pointer or
+    // anchor doesn't.
+    fn has_faults(&self, rt: &HostRuntime, needed: &[bool]) -> Result<bool, Stop> {
+        let alloc = rt.alloc();
+        let mut out = String::new(alloc);
+        let mut is_faulty = false;
+        let spots = spots_of(alloc, self.read.documents.as_slice(), self.list)?;
+        let mut describer = Describer::new(alloc, self.read, spots);
+        for place in order_of(alloc, &describer, self.list, false)? {
+            let Some(finding) = self.list.get(place.3) else {
+                continue;
+            };
+            if concerns(finding, needed) {
+                is_faulty |= is_fault(finding);
+                let message = describer.message(place.3, finding)?;
+                push_text(&mut out, &message)?;
+            }
+        }
+        let _ = eprint!(rt; "{out}");
+        Ok(is_faulty)
+    }
+
+    // Whether a needed document isn't there, or a needed place refers to none, or to the root by a URI that its identifier replaces.
+    fn is_incomplete(
+        &self,
+        rt: &HostRuntime,
+        bundle: &Bundle,
+        needed: &[bool],
+    ) -> Result<bool, Stop> {
+        let mut is_incomplete = false;
+        for embedded in &bundle.embedded {
+            if self.source(embedded.document).is_none() {
+                let uri = embedded.uri.as_str();
+                let _ = eprintln!(rt; "patchsard: document '{uri}' is not among the given files");
+                is_incomplete = true;
+            }
+        }
+        let places = self.world.places(rt.alloc())?;
+        let replaced = self.replaced(places.as_slice());
+        for place in &places {
+            if let Some(number) = self.source(place.document) {
+                if is_true(needed, number) {
+                    is_incomplete |= self.is_lost(rt, number, place, replaced)?;
+                }
+            }
+        }
+        Ok(is_incomplete)
+    }
+
+    // Whether a place refers to no document, or to the root by a URI that its identifier replaces.
+    fn is_lost(
+        &self,
+        rt: &HostRuntime,
+        number: usize,
+        place: &ref_index::Place<'_>,
+        replaced: Option<&str>,
+    ) -> Result<bool, Stop> {
+        let Some(value) = self
+            .world
+            .registry
+            .value_at(place.document, place.path.as_slice())
+        else {
+            return Ok(false);
+        };
+        let mut is_lost = false;
+        for keyword in ["$ref", "$dynamicRef"] {
+            if let Some(text) = value.get(keyword).and_then(Value::as_str) {
+                if let Some(why) = self.lost(rt.alloc(), place, text, replaced)? {
+                    let at = self.place_in(rt.alloc(), number, place.path.as_slice())?;
+                    let _ = eprintln!(rt; "{at}: error: {why}\n    {keyword} '{text}'");
+                    is_lost = true;
+                }
+            }
+        }
+        Ok(is_lost)
+    }
+
+    // Why a reference of a place has no meaning in a bundle.
+    fn lost(
+        &self,
+        alloc: Global,
+        place: &ref_index::Place<'_>,
+        text: &str,
+        replaced: Option<&str>,
+    ) -> Result<Option<&'static str>, Stop> {
+        let (front, _) = text.rsplit_once('#').unwrap_or((text, ""));
+        let base = place.base.borrow();
+        let uri = match self.world.registry.resolve_uri(alloc, base, front) {
+            Ok(uri) => uri,
+            Err(Error::Memory(_)) => return Err(Stop::Memory),
+            Err(_) => return Ok(Some("It is not a URI reference")),
+        };
+        if !self.world.registry.contains_resource(alloc, uri.as_str())? {
+            return Ok(Some("Its document is not among the given files"));
+        }
+        if replaced == Some(uri.as_str()) {
+            return Ok(Some(
+                "It names the root by a URI in place of which its identifier gives another",
+            ));
+        }
+        Ok(None)
+    }
+
+    // The root's URI, where its identifier gives another in place of it.
+    fn replaced(&self, places: &[ref_index::Place<'_>]) -> Option<&str> {
+        let uri = self.world.registry.documents().first()?.uri.as_str();
+        let base = places.first()?.base.as_str();
+        if uri == base { None } else { Some(uri) }
+    }
+
+    // Says under which URI a bundle is to be read that has no absolute identifier.
+    fn say_uri(&self, rt: &HostRuntime, bundle: &Bundle) -> Result<(), Stop> {
+        let Some(root) = self.read.documents.first() else {
+            return Ok(());
+        };
+        let keyword = self.draft(0).id_keyword();
+        let id = bundle
+            .value
+            .get(keyword)
+            .and_then(Value::as_str)
+            .unwrap_or("");
+        if !bundle.embedded.is_empty() && !is_absolute(id) {
+            let _ = eprintln!(rt;
+                "patchsard: note: the bundle has no absolute {keyword}; its references keep their meaning where it is read under {}",
+                root.uri.as_str()
+            );
+        }
+        Ok(())
+    }
+
+    // Which of what was read is needed.
+    fn needed(&self, alloc: Global, bundle: &Bundle) -> Result<Vec<bool>, AllocError> {
+        let mut needed = vec![in alloc; false; self.read.len()]?;
+        set(&mut needed, self.source(0));
+        for embedded in &bundle.embedded {
+            set(&mut needed, self.source(embedded.document));
+        }
+        Ok(needed)
+    }
+
+    // The text of a bundle, or nothing where what was made has another value.
+    fn text(
+        &self,
+        rt: &HostRuntime,
+        given: &ArgMatches<'_>,
+        bundle: &Bundle,
+    ) -> Result<Option<String>, Stop> {
+        let alloc = rt.alloc();
+        let text = if given.get_flag("minify") {
+            let mut line = bundle.value.to_string(alloc)?;
+            line.push('\n')?;
+            Some(line)
+        } else {
+            self.spliced(rt, given, bundle)?
+        };
+        let Some(text) = text else {
+            let _ = eprintln!(rt;
+                "patchsard: the text of a document can't be read again; nothing is written"
+            );
+            return Ok(None);
+        };
+        match parsed(alloc, text.as_str())? {
+            Ok(value) if value == bundle.value => Ok(Some(text)),
+            Ok(_) => {
+                let _ = eprintln!(rt;
+                    "patchsard: the text that was made isn't that of the bundle; nothing is written"
+                );
+                Ok(None)
+            }
+            Err(fault) => {
+                let _ = eprintln!(rt;
+                    "patchsard: the bundle can't be read: {}; nothing is written",
+                    fault.text
+                );
+                Ok(None)
+            }
+        }
+    }
+
+    // The text of the root with those of the documents that are embedded.
+    fn spliced(
+        &self,
+        rt: &HostRuntime,
+        given: &ArgMatches<'_>,
+        bundle: &Bundle,
+    ) -> Result<Option<String>, Stop> {
+        let alloc = rt.alloc();
+        let Some(root) = self.read.documents.first() else {
+            return Ok(None);
+        };
+        if bundle.embedded.is_empty() {
+            return Ok(Some(root.text.clone()?));
+        }
+        let mut parts = Vec::new(alloc);
+        for embedded in &bundle.embedded {
+            match self.part(rt, given, embedded)? {
+                Some(part) => push(&mut parts, part)?,
+                None => return Ok(None),
+            }
+        }
+        let keyword = definitions(self.draft(0));
+        Ok(with_parts(alloc, root.text.as_str(), keyword, parts.as_slice())?)
+    }
+
+    fn draft(&self, document: usize) -> Draft {
+        match self.world.registry.documents().get(document) {
+            Some(document) => document.draft,
+            None => Draft::Draft202012,
+        }
+    }
+
+    fn part(
+        &self,
+        rt: &HostRuntime,
+        given: &ArgMatches<'_>,
+        embedded: &Embedded,
+    ) -> Result<Option<Part>, Stop> {
+        let alloc = rt.alloc();
+        let Some(text) = self.source_text(rt, given, embedded.document)? else {
+            return Ok(None);
+        };
+        let keyword = self.draft(embedded.document).id_keyword();
+        let added = Added {
+            keyword,
+            id: self.new_id(embedded, keyword),
+            schema: embedded.schema,
+        };
+        let Some(text) = with_added(alloc, text.as_str(), added)? else {
+            return Ok(None);
+        };
+        let uri = String::from_str(alloc, embedded.uri.as_str())?;
+        Ok(Some(Part { uri, text }))
+    }
+
+    // The identifier that an embedded document gets, where it has another or none.
+    fn new_id<'e>(&self, embedded: &'e Embedded, keyword: &str) -> Option<&'e str> {
+        let value = self.world.registry.value_at(embedded.document, &[]);
+        let id = match value {
+            Some(value) => value.get(keyword).and_then(Value::as_str),
+            None => None,
+        };
+        let uri = embedded.uri.as_str();
+        if id == Some(uri) { None } else { Some(uri) }
+    }
+
+    // The text of a document that was read. That of one from a map is read again.
+    fn source_text(
+        &self,
+        rt: &HostRuntime,
+        given: &ArgMatches<'_>,
+        document: usize,
+    ) -> Result<Option<String>, Stop> {
+        let Some(number) = self.source(document) else {
+            return Ok(None);
+        };
+        if let Some(document) = self.read.documents.get(number) {
+            return Ok(Some(document.text.clone()?));
+        }
+        match self.read.uri(number) {
+            Some(uri) => Ok(maps(rt, given)?.text(rt.alloc(), uri.as_str())?),
+            None => Ok(None),
+        }
+    }
+
+    // Says why there is no bundle, and what to change.
+    fn refuse(&self, rt: &HostRuntime, refusal: &Refusal<'_>) -> Result<u8, Stop> {
+        let alloc = rt.alloc();
+        let path = refusal.path.as_slice();
+        let place = self.place(alloc, refusal.document, path)?;
+        let pointer = pointer_of(alloc, path)?;
+        let problem = &refusal.problem;
+        let text = text_of(alloc, problem)?;
+        let _ = eprintln!(rt; "{place}: error: {text}");
+        if !pointer.is_empty() {
+            let _ = eprintln!(rt; "    at '{pointer}'");
+        }
+        self.say_other(rt, problem)?;
+        let _ = eprintln!(rt; "    help: {}", advice(problem));
+        Ok(1)
+    }
+
+    // Says where the other schema is that has the same URI.
+    fn say_other(
+        &self,
+        rt: &HostRuntime,
+        problem: &ref_bundle::Problem<'_>,
+    ) -> Result<(), AllocError> {
+        if let ref_bundle::Problem::SharedUri { document, path, .. } = problem {
+            let other = self.place(rt.alloc(), *document, path.as_slice())?;
+            let _ = eprintln!(rt; "    other: {other}");
+        }
+        Ok(())
+    }
+
+    // The file, the line and the column of a place of a document.
+    fn place(
+        &self,
+        alloc: Global,
+        document: usize,
+        path: &[JsonPointerSegment<'_>],
+    ) -> Result<String, AllocError> {
+        match self.source(document) {
+            Some(number) => self.place_in(alloc, number, path),
+            None => String::from_str(alloc, "a document that is not among the given files"),
+        }
+    }
+
+    // The same of what was read with this number.
+    fn place_in(
+        &self,
+        alloc: Global,
+        number: usize,
+        path: &[JsonPointerSegment<'_>],
+    ) -> Result<String, AllocError> {
+        let name = self.read.name(number);
+        match self.read.documents.get(number) {
+            Some(document) => {
+                let (line, column) = position(alloc, document, path)?;
+                format!(in alloc; "{name}:{line}:{column}")
+            }
+            None => String::from_str(alloc, name),
+        }
+    }
+}
+
+// Whether a text is a URI with a scheme.
+fn is_absolute(text: &str) -> bool {
+    match UriRef::parse(text) {
+        Ok(uri) => uri.has_scheme(),
+        Err(_) => false,
+    }
+}
+
+// What is wrong where there is no bundle.
+fn text_of(alloc: Global, problem: &ref_bundle::Problem<'_>) -> Result<String, AllocError> {
+    match problem {
+        ref_bundle::Problem::NoDocument => String::from_str(alloc, "There is no such document"),
+        ref_bundle::Problem::NotEmbedded(obstacle) => {
+            format!(in alloc; "The document can't be embedded: {obstacle}")
+        }
+        ref_bundle::Problem::NoMap => {
+            String::from_str(alloc, "The keyword of definitions holds no object")
+        }
+        ref_bundle::Problem::KeyTaken { uri } => {
+            format!(in alloc; "There is a definition '{}' already", uri.as_str())
+        }
+        ref_bundle::Problem::SharedUri { uri, .. } => {
+            format!(in alloc; "Two schemas have the URI '{}'", uri.as_str())
+        }
+        ref_bundle::Problem::ReplacedUri { uri, base } => {
+            format!(in alloc;
+                "It refers to '{}', in place of which the document's identifier gives '{}'",
+                uri.as_str(),
+                base.as_str()
+            )
+        }
+    }
+}
+
+// What to change where there is no bundle.
+fn advice(problem: &ref_bundle::Problem<'_>) -> &'static str {
+    match problem {
+        ref_bundle::Problem::NoDocument => "give a file",
+        ref_bundle::Problem::NotEmbedded(obstacle) => embedding_advice(obstacle),
+        ref_bundle::Problem::NoMap => "make it an object, or rename the member",
+        ref_bundle::Problem::KeyTaken { .. } => "rename that definition",
+        ref_bundle::Problem::SharedUri { .. } => "give one of them another identifier",
+        ref_bundle::Problem::ReplacedUri { .. } => "refer to the document by its identifier",
+    }
+}
+
+// What to change in a document that can't be embedded.
+fn embedding_advice(obstacle: &Obstacle) -> &'static str {
+    match obstacle {
+        Obstacle::NotAnObject => "write true as {} and false as {\"not\": {}}",
+        Obstacle::IdentifierBesideRef => "put the $ref into an allOf",
+        Obstacle::NotAnIdentifier => "give it a URI as its identifier",
+        Obstacle::NotKept(_) => "refer to it without the # at the end",
+        Obstacle::UntoldDraft(_) => "give it the $schema of its draft",
+        Obstacle::ResolvedAgain => "make its identifier absolute",
+    }
+}
+
+// Whether a finding is of interest for a bundle of these documents.
+fn concerns(finding: &Finding<'_>, needed: &[bool]) -> bool {
+    match &finding.problem {
+        Problem::DuplicateIdentifier { first, .. } => {
+            finding.keyword.is_none()
+                && (is_true(needed, finding.source) || is_true(needed, first.source))
+        }
+        Problem::NotJson
+        | Problem::InvalidUri(_)
+        | Problem::MissingDocument { .. }
+        | Problem::LeadsNowhere { .. } => is_true(needed, finding.source),
+        _ => false,
+    }
+}
+
+// Whether a document with this finding can't be bundled.
+fn is_fault(finding: &Finding<'_>) -> bool {
+    !matches!(finding.problem, Problem::LeadsNowhere { .. })
+}
+
+fn is_true(flags: &[bool], number: usize) -> bool {
+    flags.get(number).copied().unwrap_or(false)
+}
+
+fn set(flags: &mut Vec<bool>, number: Option<usize>) {
+    let Some(number) = number else {
+        return;
+    };
+    if let Some(flag) = flags.get_mut(number) {
+        *flag = true;
+    }
+}
+
+fn push(parts: &mut Vec<Part>, part: Part) -> Result<(), AllocError> {
+    parts.push(part)?;
+    Ok(())
+}
+
+// The keyword of definitions (Draft 7 Validation, 9; 2019-09 Core, 8.2.5).
+fn definitions(draft: Draft) -> &'static str {
+    match draft {
+        Draft::Draft4 | Draft::Draft6 | Draft::Draft7 => "definitions",
+        _ => "$defs",
+    }
+}
+
+// The line and the column of a place in a document.
+fn position(
+    alloc: Global,
+    document: &Document,
+    path: &[JsonPointerSegment<'_>],
+) -> Result<(usize, usize), AllocError> {
+    let mut places = Places::new(alloc)?;
+    let place = place_of(&mut places, path)?;
+    let located = places.locate(alloc, document.text.as_str())?;
+    match located.value(place) {
+        Some(position) => Ok((position.line(), position.column())),
+        None => Ok((1, 1)),
+    }
+}
