@@ -26,7 +26,8 @@ pub fn patchsard<'c>(alloc: Global) -> Result<Command<'c>, AllocError> {
         .subcommand(resolve(alloc)?)?
         .subcommand(bundle(alloc)?)?
         .subcommand(places(alloc)?)?
-        .subcommand(graph(alloc)?)
+        .subcommand(graph(alloc)?)?
+        .subcommand(serve(alloc))
 }
 
 fn lint<'c>(alloc: Global) -> Result<Command<'c>, AllocError> {
@@ -54,7 +55,7 @@ fn resolve<'c>(alloc: Global) -> Result<Command<'c>, AllocError> {
         .value_name("REF")
         .required(true)
         .action(ArgAction::Set)
-        .help("The reference, as it would stand under $ref");
+        .help("The reference, as the value of a $ref");
     let from = Arg::new(alloc, "from")
         .long("from")
         .value_name("POINTER")
@@ -64,7 +65,7 @@ fn resolve<'c>(alloc: Global) -> Result<Command<'c>, AllocError> {
         .help("The place in the file that it is followed from, as a JSON pointer");
     let command = Command::new(alloc, "resolve")
         .about("Follows one reference from a place of a file")
-        .arg(file(alloc, "The file that the reference stands in"))?
+        .arg(file(alloc, "The file that has the reference"))?
         .arg(reference)?
         .arg(from)?
         .arg(with(alloc))?;
@@ -122,6 +123,14 @@ fn graph<'c>(alloc: Global) -> Result<Command<'c>, AllocError> {
         .arg(exclude(alloc))?
         .arg(format)?;
     reading(alloc, command)
+}
+
+fn serve<'c>(alloc: Global) -> Command<'c> {
+    Command::new(alloc, "serve")
+        .about("Answers calls of other programs: one JSON object a line in, one a line out")
+        .after_help(
+            "docs/PROTOCOL.md describes the calls. Exit status: 0 where standard input ends, 2 where it can't be read, standard output can't be written, or the command line is wrong.",
+        )
 }
 
 // The options by which files are read.

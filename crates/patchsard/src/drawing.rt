@@ -46,7 +46,7 @@ struct Drawing {
     nodes: Vec<Node>,
     // The node of each source, by the source's number.
     numbers: Vec<usize>,
-    // The node of each URI that a document bears.
+    // The node of each URI that a document has.
     bearers: BTreeMap<String, usize>,
     // How many references there are between two nodes, and how many of them are unresolvable.
     edges: BTreeMap<(usize, usize), (usize, usize)>,
@@ -110,7 +110,7 @@ impl Drawing {
         self.node(uri)
     }
 
-    // The node that bears a URI: one that is missing where there is none.
+    // The node that has a URI: one that is missing where there is none.
     fn node(&mut self, uri: &str) -> Result<usize, AllocError> {
         if let Some(node) = self.bearers.get(uri) {
             return Ok(*node);

@@ -19,6 +19,7 @@ mod pointer;
 mod resolve;
 mod resources;
 mod rules;
+mod serve;
 mod shown;
 mod splice;
 mod spots;
@@ -74,6 +75,7 @@ fn asked(rt: &HostRuntime, matches: &ArgMatches<'_>) -> Result<u8, Stop> {
         Some(("resolve", given)) => resolve::resolve(rt, &mut console, given)?,
         Some(("bundle", given)) => bundle::bundle(rt, &mut console, given)?,
         Some(("places", given)) => places::places(rt, &mut console, given)?,
+        Some(("serve", _)) => serve::serve_calls(rt)?,
         Some((_, given)) => drawing::draw(rt, &mut console, given)?,
         None => {
             let help = command::patchsard(rt.alloc())?.render_help()?;

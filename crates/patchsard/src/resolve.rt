@@ -119,7 +119,7 @@ fn is_beginning(front: &[JsonPointerSegment<'_>], path: &[JsonPointerSegment<'_>
     true
 }
 
-// Whether a document that is there bears a URI.
+// Whether a document that is there has a URI.
 fn is_there(alloc: Global, world: &World<'_>, uri: &str) -> Result<bool, AllocError> {
     let bearers = bearers(alloc, world)?;
     Ok(bearers.contains_key(without_fragment(uri)))

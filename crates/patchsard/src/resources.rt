@@ -101,7 +101,7 @@ impl<'d> Resources<'d> {
         Ok(())
     }
 
-    // Adds what a schema bears, and what is to be visited below it.
+    // Adds what a schema has, and what is to be visited below it.
     fn visit(&mut self, step: &Step<'d>, waiting: &mut Vec<Step<'d>>) -> Result<(), AllocError> {
         let base = own_uri(self.alloc, step)?;
         let resource = match &base {
@@ -116,7 +116,7 @@ impl<'d> Resources<'d> {
         Ok(())
     }
 
-    // The number of the resource of a schema that bears a URI: a root's is that of its document, unless another resource bears the URI.
+    // The number of the resource of a schema that has a URI: a root's is that of its document, unless another resource has the URI.
     fn identified(&mut self, step: &Step<'d>, uri: &str) -> Result<usize, AllocError> {
         let uri = without_fragment(uri);
         if !step.is_root || self.numbers.contains_key(uri) {

@@ -201,7 +201,7 @@ pub fn faulty_of(
     Ok(faulty)
 }
 
-/// The number of the document that bears each URI: its own, and those of the places in it. Those in place of what isn't there are left out.
+/// The number of the document that has each URI: its own, and those of the places in it. Those in place of what isn't there are left out.
 pub fn bearers(alloc: Global, world: &World<'_>) -> Result<BTreeMap<String, usize>, AllocError> {
     let mut bearers = BTreeMap::new(alloc);
     for place in world.places(alloc)? {

@@ -1,4 +1,4 @@
--- The tables of the URIs that places bear.
+-- The tables of the URIs that places have.
 use Rattle.std.proofs.Common.{◌≡◌, ℕ, Bool, true, false, not, ◌&&◌, ◌==◌, List, [], ◌∷◌, ◌++◌, map, flat_map, filter, bytes_eq, Option, Some, None, option_map, option_copied, Bor, String, string_bytes, Global, refl, ap, sym, ◌∙◌}
 use Rattle.std.specs.List.{AllZip, last_or}
 use Rattle.std.specs.Option.{option_map_or, option_to_list}
@@ -13,20 +13,20 @@ use Rattle.ref_parts.specs.Path.{path_eq}
 use Rattle.ref_parts.specs.Segment.{part_of}
 use Rattle.ref_parts.specs.declared.path.JsonPointerSegment.{JsonPointerSegment}
 use Rattle.ref_parts.specs.inner.Alike.{part_equivalence}
-use Rattle.ref_world.specs.World.{Document, Layer}
-use Rattle.ref_world.specs.Places.{Place, places}
-use Rattle.ref_world.specs.Resources.{last_under, resource_of, resources_in, own_uri}
-use Rattle.ref_bundle.specs.Needed.{counted, numbered_uris, document_under}
-use Rattle.ref_bundle.specs.Bundle.{Site, is_site, borne, borne_in, other_bearer}
+use Rattle.ref_definitions.specs.World.{Document, Layer}
+use Rattle.ref_definitions.specs.Places.{Place, places}
+use Rattle.ref_definitions.specs.Resources.{last_under, resource_of, resources_in, own_uri}
+use Rattle.ref_bundle.specs.Needed.{counted_documents, numbered_uris, document_under}
+use Rattle.ref_bundle.specs.Bundle.{Site, is_site, sites_of_uris, borne_in, other_bearer}
 use Rattle.ref_bundle.specs.inner.Seen.{Seen, see, seen_in}
-use Rattle.ref_bundle.specs.inner.Tables.{site_of, entered, tabled, under, borne_at, is_other}
+use Rattle.ref_bundle.specs.inner.Tables.{site_of, table_entries_of, table_of, entry_under, borne_at, is_other}
 use Rattle.ref_bundle.specs.declared.tables.Site as rust
 use Rattle.ref_bundle.proofs.Numbers.{and_left, and_right}
 use Rattle.ref_bundle.proofs.Filters.{last_mapped, filter_and, filter_turned, filter_agree, last_passing, none_last, joined_filter}
 
 -- ---- looking up
 
-pub tabled_last : (uri : List ℕ) (es : List (Entry rust.Site)) → last_value uri [] (tabled es) ≡ option_map site_of (last_value uri [] es)
+pub tabled_last : (uri : List ℕ) (es : List (Entry rust.Site)) → last_value uri [] (table_of es) ≡ option_map site_of (last_value uri [] es)
 tabled_last uri es =
     ap (option_map (λ (e : Entry Site). e.2)) (last_mapped (λ (e : Entry rust.Site). (e.0, e.1, site_of e.2)) (is_under uri []) (is_under uri []) (λ e. refl) es)
     ∙ swap (last_or None (filter (is_under uri []) es))
@@ -35,17 +35,17 @@ tabled_last uri es =
     swap None = refl
     swap (Some e) = refl
 
-pub under_last : (uri : List ℕ) (bs : List (List ℕ × Site)) → last_value uri [] (map under bs) ≡ option_map (λ b. b.1) (last_under uri bs)
+pub under_last : (uri : List ℕ) (bs : List (List ℕ × Site)) → last_value uri [] (map entry_under bs) ≡ option_map (λ b. b.1) (last_under uri bs)
 under_last uri bs =
-    ap (option_map (λ (e : Entry Site). e.2)) (last_mapped under (is_under uri []) (λ b. bytes_eq b.0 uri) (λ b. and-true (bytes_eq b.0 uri)) bs)
+    ap (option_map (λ (e : Entry Site). e.2)) (last_mapped entry_under (is_under uri []) (λ b. bytes_eq b.0 uri) (λ b. and-true (bytes_eq b.0 uri)) bs)
     ∙ swap (last_under uri bs)
   where
-    swap : (o : Option (List ℕ × Site)) → option_map (λ (e : Entry Site). e.2) (option_map under o) ≡ option_map (λ (b : List ℕ × Site). b.1) o
+    swap : (o : Option (List ℕ × Site)) → option_map (λ (e : Entry Site). e.2) (option_map entry_under o) ≡ option_map (λ (b : List ℕ × Site). b.1) o
     swap None = refl
     swap (Some b) = refl
 
 -- what a table of entries has
-pub found : (uri : List ℕ) (es : List (Entry rust.Site)) (bs : List (List ℕ × Site)) → tabled es ≡ map under bs → option_map site_of (last_value uri [] es) ≡ option_map (λ b. b.1) (last_under uri bs)
+pub found : (uri : List ℕ) (es : List (Entry rust.Site)) (bs : List (List ℕ × Site)) → table_of es ≡ map entry_under bs → option_map site_of (last_value uri [] es) ≡ option_map (λ b. b.1) (last_under uri bs)
 found uri es bs is = sym (tabled_last uri es) ∙ ap (last_value uri []) is ∙ under_last uri bs
 
 -- ---- the document that a URI means
@@ -81,12 +81,12 @@ same_last : (uri : List ℕ) (bs : List (List ℕ × Site)) → last_under uri (
 unfolding number_of
 same_last uri bs = last_mapped number_of (λ e. bytes_eq e.0 uri) (λ b. bytes_eq b.0 uri) (λ b. refl) bs
 
-pub document_is : (layer : Layer) (uri : List ℕ) (es : List (Entry rust.Site)) → tabled es ≡ map under (borne layer) → option_map (λ s. s.document) (last_value uri [] es) ≡ document_under layer uri
+pub document_is : (layer : Layer) (uri : List ℕ) (es : List (Entry rust.Site)) → table_of es ≡ map entry_under (sites_of_uris layer) → option_map (λ s. s.document) (last_value uri [] es) ≡ document_under layer uri
 document_is layer uri es is =
     of_site (last_value uri [] es)
-    ∙ ap (option_map (λ (s : Site). s.0)) (found uri es (borne layer) is)
-    ∙ of_entry (last_under uri (borne layer))
-    ∙ ap (option_map (λ (e : List ℕ × ℕ). e.1)) (sym (same_last uri (borne layer)) ∙ ap (last_under uri) (sym (all_with_numbers (counted 0 layer))))
+    ∙ ap (option_map (λ (s : Site). s.0)) (found uri es (sites_of_uris layer) is)
+    ∙ of_entry (last_under uri (sites_of_uris layer))
+    ∙ ap (option_map (λ (e : List ℕ × ℕ). e.1)) (sym (same_last uri (sites_of_uris layer)) ∙ ap (last_under uri) (sym (all_with_numbers (counted_documents 0 layer))))
   where
     of_site : (o : Option rust.Site) → option_map (λ (s : rust.Site). s.document) o ≡ option_map (λ (s : Site). s.0) (option_map site_of o)
     of_site None = refl
@@ -121,23 +121,23 @@ last_is_other bs uri site e is differs =
     other_is bs uri site ∙ ap (option_map (λ (b : List ℕ × Site). b.1)) (last_passing (λ b. not (is_site b.1 site)) (filter (λ b. bytes_eq b.0 uri) bs) e is (ap not differs))
 
 others_table : (bs : List (List ℕ × Site)) → List (List ℕ × Site)
-others_table bs = filter (is_other (Some (map under bs))) bs
+others_table bs = filter (is_other (Some (map entry_under bs))) bs
 
 agree : (bs : List (List ℕ × Site)) (uri : List ℕ) (site : Site) (e : List ℕ × Site) → last_under uri bs ≡ Some e → is_site e.1 site ≡ true
-    → (b : List ℕ × Site) → bytes_eq b.0 uri ≡ true → is_other (Some (map under bs)) b ≡ not (is_site b.1 site)
+    → (b : List ℕ × Site) → bytes_eq b.0 uri ≡ true → is_other (Some (map entry_under bs)) b ≡ not (is_site b.1 site)
 agree bs uri site e is same b at =
     let text : b.0 ≡ uri = (bytes_eq-Decides b.0 uri).0 at in
-    let last : last_value b.0 [] (map under bs) ≡ Some e.1 = ap (λ u. last_value u [] (map under bs)) text ∙ under_last uri bs ∙ ap (option_map (λ (c : List ℕ × Site). c.1)) is in
+    let last : last_value b.0 [] (map entry_under bs) ≡ Some e.1 = ap (λ u. last_value u [] (map entry_under bs)) text ∙ under_last uri bs ∙ ap (option_map (λ (c : List ℕ × Site). c.1)) is in
     ap (λ o. not (option_map_or (λ s. is_site s b.1) o false)) last ∙ ap not (site_congr e.1 site b.1 same ∙ site_symm site b.1)
 
 -- where it is the same, it is the last in the table of the others
 pub other_in_table : (bs : List (List ℕ × Site)) (uri : List ℕ) (site : Site) (e : List ℕ × Site) → last_under uri bs ≡ Some e → is_site e.1 site ≡ true
-    → other_bearer bs uri site ≡ option_map (λ e. e.1) (last_under uri (filter (is_other (Some (map under bs))) bs))
+    → other_bearer bs uri site ≡ option_map (λ e. e.1) (last_under uri (filter (is_other (Some (map entry_under bs))) bs))
 other_in_table bs uri site e is same =
     other_is bs uri site
     ∙ ap (λ l. option_map (λ (b : List ℕ × Site). b.1) (last_or None l))
-    (sym (filter_agree (λ b. bytes_eq b.0 uri) (is_other (Some (map under bs))) (λ b. not (is_site b.1 site)) (agree bs uri site e is same) bs)
-    ∙ sym (filter_turned (λ b. bytes_eq b.0 uri) (is_other (Some (map under bs))) bs))
+    (sym (filter_agree (λ b. bytes_eq b.0 uri) (is_other (Some (map entry_under bs))) (λ b. not (is_site b.1 site)) (agree bs uri site e is same) bs)
+    ∙ sym (filter_turned (λ b. bytes_eq b.0 uri) (is_other (Some (map entry_under bs))) bs))
 
 -- and where there is none, there is no other
 pub no_other : (bs : List (List ℕ × Site)) (uri : List ℕ) (site : Site) → last_under uri bs ≡ None → other_bearer bs uri site ≡ None
@@ -146,7 +146,7 @@ no_other bs uri site is =
     ∙ ap (λ l. option_map (λ (b : List ℕ × Site). b.1) (last_or None (filter (λ b. not (is_site b.1 site)) l))) (none_last (filter (λ b. bytes_eq b.0 uri) bs) is)
 
 -- what the program looks up: the place that is last, where there is one
-pub last_there : (uri : List ℕ) (es : List (Entry rust.Site)) (bs : List (List ℕ × Site)) (s : rust.Site) → tabled es ≡ map under bs → last_value uri [] es ≡ Some s
+pub last_there : (uri : List ℕ) (es : List (Entry rust.Site)) (bs : List (List ℕ × Site)) (s : rust.Site) → table_of es ≡ map entry_under bs → last_value uri [] es ≡ Some s
     → (e : List ℕ × Site) × (last_under uri bs ≡ Some e) × (e.1 ≡ site_of s)
 last_there uri es bs s is at = there (last_under uri bs) refl (sym (found uri es bs is) ∙ ap (option_map site_of) at)
   where
@@ -154,7 +154,7 @@ last_there uri es bs s is at = there (last_under uri bs) refl (sym (found uri es
     there None last same = cc
     there (Some e) last same = (e, last, cc)
 
-pub last_missing : (uri : List ℕ) (es : List (Entry rust.Site)) (bs : List (List ℕ × Site)) → tabled es ≡ map under bs → last_value uri [] es ≡ None → last_under uri bs ≡ None
+pub last_missing : (uri : List ℕ) (es : List (Entry rust.Site)) (bs : List (List ℕ × Site)) → table_of es ≡ map entry_under bs → last_value uri [] es ≡ None → last_under uri bs ≡ None
 last_missing uri es bs is at = missing (last_under uri bs) (sym (found uri es bs is) ∙ ap (option_map site_of) at)
   where
     missing : (o : Option (List ℕ × Site)) → option_map (λ (b : List ℕ × Site). b.1) o ≡ None → o ≡ None
@@ -164,12 +164,12 @@ last_missing uri es bs is at = missing (last_under uri bs) (sym (found uri es bs
 -- ---- entries
 
 pub one_entered : (es : List (String Global × String Global × rust.Site)) (e : String Global × String Global × rust.Site) (uri : List ℕ) (site : Site)
-    → string_bytes e.0 ≡ uri → string_bytes e.1 ≡ [] → site_of e.2 ≡ site → entered (es ++ e ∷ []) ≡ entered es ++ under (uri, site) ∷ []
+    → string_bytes e.0 ≡ uri → string_bytes e.1 ≡ [] → site_of e.2 ≡ site → table_entries_of (es ++ e ∷ []) ≡ table_entries_of es ++ entry_under (uri, site) ∷ []
 one_entered es e uri site first second third =
     map-append (λ (x : String Global × String Global × rust.Site). (string_bytes x.0, string_bytes x.1, site_of x.2)) es (e ∷ [])
-    ∙ ap (λ u. entered es ++ (u, string_bytes e.1, site_of e.2) ∷ []) first
-    ∙ ap (λ u. entered es ++ (uri, u, site_of e.2) ∷ []) second
-    ∙ ap (λ s. entered es ++ (uri, [], s) ∷ []) third
+    ∙ ap (λ u. table_entries_of es ++ (u, string_bytes e.1, site_of e.2) ∷ []) first
+    ∙ ap (λ u. table_entries_of es ++ (uri, u, site_of e.2) ∷ []) second
+    ∙ ap (λ s. table_entries_of es ++ (uri, [], s) ∷ []) third
 
 pub copied_parts : (xs ys : List JsonPointerSegment) → AllZip (λ s copy. part_of copy ≡ part_of s) xs ys → map part_of ys ≡ map part_of xs
 copied_parts [] [] all = refl
@@ -188,7 +188,7 @@ of_places n (p ∷ ps) =
     map-append (sited n) (resource_of p) (flat_map resource_of ps)
     ∙ ap (λ l. l ++ map (sited n) (flat_map resource_of ps)) (of_uri n p (own_uri p)) ∙ ap (λ l. borne_at (see n p) ++ l) (of_places n ps)
 
--- what a document's places bear: its URI at the root, and the URIs of their identifiers
+-- what a document's places have: its URI at the root, and the URIs of their identifiers
 pub borne_is : (e : ℕ × Document) → borne_in e ≡ (e.1.uri, (e.0, [])) ∷ flat_map borne_at (seen_in e)
 borne_is e = ap (λ l. (e.1.uri, (e.0, [])) ∷ l) (sited_is e.0 (flat_map resource_of (places e.1)) ∙ of_places e.0 (places e.1))
 
@@ -196,36 +196,36 @@ borne_is e = ap (λ l. (e.1.uri, (e.0, [])) ∷ l) (sited_is e.0 (flat_map resou
 
 -- the entries of a document are that of its URI, and those of its places
 pub of_document : (t : List ℕ × Site → Bool) (e : ℕ × Document) (ss : List Seen) → ss ≡ seen_in e
-    → map under (filter t ((e.1.uri, (e.0, [])) ∷ [])) ++ flat_map (λ s. map under (filter t (borne_at s))) ss ≡ map under (filter t (borne_in e))
+    → map entry_under (filter t ((e.1.uri, (e.0, [])) ∷ [])) ++ flat_map (λ s. map entry_under (filter t (borne_at s))) ss ≡ map entry_under (filter t (borne_in e))
 of_document t e ss is =
     let at : List ℕ × Site = (e.1.uri, (e.0, [])) in
-    ap (λ l. map under (filter t (at ∷ [])) ++ l) (ap (flat_map (λ s. map under (filter t (borne_at s)))) is ∙ joined_filter under t borne_at (seen_in e))
-    ∙ sym (map-append under (filter t (at ∷ [])) (filter t (flat_map borne_at (seen_in e))))
-    ∙ ap (map under) (sym (filter-append t (at ∷ []) (flat_map borne_at (seen_in e))))
-    ∙ ap (λ l. map under (filter t l)) (sym (borne_is e))
+    ap (λ l. map entry_under (filter t (at ∷ [])) ++ l) (ap (flat_map (λ s. map entry_under (filter t (borne_at s)))) is ∙ joined_filter entry_under t borne_at (seen_in e))
+    ∙ sym (map-append entry_under (filter t (at ∷ [])) (filter t (flat_map borne_at (seen_in e))))
+    ∙ ap (map entry_under) (sym (filter-append t (at ∷ []) (flat_map borne_at (seen_in e))))
+    ∙ ap (λ l. map entry_under (filter t l)) (sym (borne_is e))
 
 all_pass : {X : Type 0} (xs : List X) → filter (λ x. true) xs ≡ xs
 all_pass [] = refl
 all_pass (x ∷ xs) = ap (λ l. x ∷ l) (all_pass xs)
 
 -- the tables that the program makes
-pub first_table : (bs : List (Entry rust.Site)) (layer : Layer) (es : List (ℕ × Document)) → es ≡ counted 0 layer → tabled bs ≡ flat_map (λ e. map under (filter (is_other None) (borne_in e))) es
-    → tabled bs ≡ map under (borne layer)
+pub first_table : (bs : List (Entry rust.Site)) (layer : Layer) (es : List (ℕ × Document)) → es ≡ counted_documents 0 layer → table_of bs ≡ flat_map (λ e. map entry_under (filter (is_other None) (borne_in e))) es
+    → table_of bs ≡ map entry_under (sites_of_uris layer)
 first_table bs layer es all is =
-    is ∙ joined_filter under (is_other None) borne_in es ∙ ap (map under) (all_pass (flat_map borne_in es)) ∙ ap (λ l. map under (flat_map borne_in l)) all
+    is ∙ joined_filter entry_under (is_other None) borne_in es ∙ ap (map entry_under) (all_pass (flat_map borne_in es)) ∙ ap (λ l. map entry_under (flat_map borne_in l)) all
 
-pub second_table : (bs last : List (Entry rust.Site)) (layer : Layer) (es : List (ℕ × Document)) → es ≡ counted 0 layer → tabled last ≡ map under (borne layer)
-    → tabled bs ≡ flat_map (λ e. map under (filter (is_other (Some (tabled last))) (borne_in e))) es
-    → tabled bs ≡ map under (filter (is_other (Some (map under (borne layer)))) (borne layer))
+pub second_table : (bs last : List (Entry rust.Site)) (layer : Layer) (es : List (ℕ × Document)) → es ≡ counted_documents 0 layer → table_of last ≡ map entry_under (sites_of_uris layer)
+    → table_of bs ≡ flat_map (λ e. map entry_under (filter (is_other (Some (table_of last))) (borne_in e))) es
+    → table_of bs ≡ map entry_under (filter (is_other (Some (map entry_under (sites_of_uris layer)))) (sites_of_uris layer))
 second_table bs last layer es all same is =
-    is ∙ joined_filter under (is_other (Some (tabled last))) borne_in es
-    ∙ ap (λ l. map under (filter (is_other (Some (tabled last))) (flat_map borne_in l))) all
-    ∙ ap (λ t. map under (filter (is_other (Some t)) (borne layer))) same
+    is ∙ joined_filter entry_under (is_other (Some (table_of last))) borne_in es
+    ∙ ap (λ l. map entry_under (filter (is_other (Some (table_of last))) (flat_map borne_in l))) all
+    ∙ ap (λ t. map entry_under (filter (is_other (Some t)) (sites_of_uris layer))) same
 
 pub copied_site : (o : Option (Bor rust.Site)) → option_map (λ s. site_of s.now) o ≡ option_map site_of (option_copied o)
 copied_site None = refl
 copied_site (Some s) = refl
 
-pub tabled_entries : (es : List (String Global × String Global × rust.Site)) → tabled (entries_of es) ≡ entered es
+pub tabled_entries : (es : List (String Global × String Global × rust.Site)) → table_of (entries_of es) ≡ table_entries_of es
 tabled_entries [] = refl
 tabled_entries (e ∷ es) = ap (λ l. (string_bytes e.0, string_bytes e.1, site_of e.2) ∷ l) (tabled_entries es)

@@ -23,7 +23,7 @@ pub last_mapped : {A B : Type 0} (g : A → B) (q : B → Bool) (p : A → Bool)
     → last_or None (filter q (map g xs)) ≡ option_map g (last_or None (filter p xs))
 last_mapped g q p same xs = last_mapped_or g q p same xs None
 
--- ---- one filter behind another
+-- ---- one filter after another
 
 and_step : {X : Type 0} (q : X → Bool) (b : Bool) (x : X) (xs ys : List X) → xs ≡ filter q ys → cond (b && q x) (x ∷ xs) xs ≡ filter q (cond b (x ∷ ys) ys)
 and_step q true x xs ys rest = ap (λ l. cond (q x) (x ∷ l) l) rest

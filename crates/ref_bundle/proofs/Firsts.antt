@@ -2,18 +2,18 @@
 use Rattle.std.proofs.Common.{◌≡◌, ℕ, zero, suc, ◌+◌, ◌<◌, Bool, true, false, ◌==◌, cond, is_some, slice_get, true≢false, List, [], ◌∷◌, ◌++◌, map, flat_map, take, length, get_or, Option, Some, None, option_map, refl, ap, sym, ◌∙◌, append-nil, arith}
 use Rattle.std.specs.Option.{option_to_list, option_map_or}
 use Rattle.std.proofs.lemmas.List.Concat.{flat_map-append}
-use Rattle.ref_world.specs.World.{Document, Layer}
-use Rattle.ref_world.specs.Places.{Place, places}
+use Rattle.ref_definitions.specs.World.{Document, Layer}
+use Rattle.ref_definitions.specs.Places.{Place, places}
 use Rattle.serde_json.specs.Data.{Data, null, boolean, number, string, array, object}
 use Rattle.serde_json.specs.Find.{as_object}
 use Rattle.ref_parts.specs.Path.{path_eq}
 use Rattle.ref_bundle.specs.Needed.{document_under}
-use Rattle.ref_bundle.specs.Bundle.{Problem, at_path, place_problems, place_refusals, replaced, replaced_in, replaced_at, map_refusals, shared, borne}
+use Rattle.ref_bundle.specs.Bundle.{Problem, at_path, place_problems, place_refusals, replaced_uris, replaced_in, replaced_at, map_refusals, shared_uri, sites_of_uris}
 use Rattle.ref_bundle.specs.inner.Seen.{Seen, see, seen_in, own_uri_of}
 use Rattle.ref_bundle.specs.inner.First.{first, refusals_seen, shared_seen, taken_in}
 use Rattle.ref_bundle.proofs.Lists.{joined_more}
 
--- what stands in front is first, and else the first behind it
+-- what comes first is first, and else the first after it
 pub first_front : {X : Type 0} (xs ys : List X) (x : X) → Some x ≡ first xs → Some x ≡ first (xs ++ ys)
 first_front [] ys x is = cc
 first_front (y ∷ xs) ys x is = is
@@ -70,11 +70,11 @@ of_places layer top e = of_list (places e.1)
 
 -- ---- the refusals of URIs and definitions
 
-pub replaced_is : (layer : Layer) (top : ℕ) (uri : List ℕ) (n : ℕ) (d : Document) → document_under layer uri ≡ Some n → (n == top) ≡ false → slice_get layer n ≡ Some d → replaced_in uri d ≡ replaced layer top uri
+pub replaced_is : (layer : Layer) (top : ℕ) (uri : List ℕ) (n : ℕ) (d : Document) → document_under layer uri ≡ Some n → (n == top) ≡ false → slice_get layer n ≡ Some d → replaced_in uri d ≡ replaced_uris layer top uri
 replaced_is layer top uri n d under other at =
     sym (ap (replaced_at layer top uri) under ∙ ap (λ b. cond b [] (option_map_or (replaced_in uri) (slice_get layer n) [])) other ∙ ap (λ o. option_map_or (replaced_in uri) o []) at)
 
-pub replaced_not : (layer : Layer) (top : ℕ) (uri : List ℕ) (n : ℕ) → document_under layer uri ≡ Some n → (n == top) ≡ false → slice_get layer n ≡ None → [] ≡ replaced layer top uri
+pub replaced_not : (layer : Layer) (top : ℕ) (uri : List ℕ) (n : ℕ) → document_under layer uri ≡ Some n → (n == top) ≡ false → slice_get layer n ≡ None → [] ≡ replaced_uris layer top uri
 replaced_not layer top uri n under other at =
     sym (ap (replaced_at layer top uri) under ∙ ap (λ b. cond b [] (option_map_or (replaced_in uri) (slice_get layer n) [])) other ∙ ap (λ o. option_map_or (replaced_in uri) o []) at)
 
@@ -92,9 +92,9 @@ root_list false uri = refl
 
 -- the URIs of a place are that of its document, and its own
 pub shared_parts : (layer : Layer) (uri : List ℕ) (s : Seen)
-    → flat_map (shared (borne layer) (s.document, s.path)) (option_to_list (cond (path_eq s.path []) (Some uri) None)) ++ flat_map (shared (borne layer) (s.document, s.path)) (option_to_list (own_uri_of s))
+    → flat_map (shared_uri (sites_of_uris layer) (s.document, s.path)) (option_to_list (cond (path_eq s.path []) (Some uri) None)) ++ flat_map (shared_uri (sites_of_uris layer) (s.document, s.path)) (option_to_list (own_uri_of s))
     ≡ shared_seen layer uri s
 shared_parts layer uri s =
-    let f : List ℕ → List Problem = shared (borne layer) (s.document, s.path) in
+    let f : List ℕ → List Problem = shared_uri (sites_of_uris layer) (s.document, s.path) in
     ap (λ l. flat_map f l ++ flat_map f (option_to_list (own_uri_of s))) (root_list (path_eq s.path []) uri)
     ∙ sym (flat_map-append f (cond (path_eq s.path []) (uri ∷ []) []) (option_to_list (own_uri_of s)))

@@ -3,7 +3,7 @@ use Rattle.std.proofs.Common.{◌≡◌, Bool, true, false, cond, List, [], ◌�
 use Rattle.std.specs.Bool.{⊤}
 use Rattle.std.specs.List.{last_or}
 use Rattle.std.specs.Option.{option_or}
-use Rattle.ref_world.proofs.Last.{last_of_both}
+use Rattle.ref_definitions.proofs.Last.{last_of_both}
 
 -- related pair by pair, in their order
 abbrev pub AreAlike : {X Y : Type 0} → (X → Y → Type 0) → List X → List Y → Type 0

@@ -1,4 +1,10 @@
 -- What a name means under a URI of a bundle, with where it was found.
+--
+-- 1. Places with the URI that they were found under, before and now (`IsNowUnder`, `IsFoundNow`).
+-- 2. A URI is safe where it means in the bundle what it meant, also where that is a place of a parent (`IsSafe`, `meaning`).
+-- 3. A name is looked up under the URI itself, and then under the identifier of the place that it means: a place that has the URI
+--    itself gives no other name, so both look-ups go to the places of one document.
+-- 4. Under the root's base by any of its URIs; under a URI of no own document, by the parents; together `anchor_now`.
 use Rattle.std.proofs.Common.{◌≡◌, ℕ, Bool, ◌&&◌, List, [], ◌∷◌, flat_map, filter, Option, Some, None, option_map, option_and_then, Result, Ok, Err, ok_or, bytes_eq, ◌⊎◌, inl, inr, ⊎_elim, refl, sym, ap, subst, ◌∙◌, append-nil, arith}
 use Rattle.std.specs.List.{AllByRecursion, Contains, last_or}
 use Rattle.std.specs.Option.{option_map_or, option_to_list, option_or}
@@ -9,12 +15,12 @@ use Rattle.std.proofs.lemmas.List.Elements.{Contains-append_cases}
 use Rattle.ref_draft.specs.Anchors.{Kind, anchors}
 use Rattle.ref_draft.specs.Schema.{identifier}
 use Rattle.ref_uri.specs.Targets.{Refusal}
-use Rattle.ref_world.specs.World.{Document, Layer, World}
-use Rattle.ref_world.specs.Places.{Place, root, identifier_of, places}
-use Rattle.ref_world.specs.Resources.{own_uri, resource_of, resources_in, resources, last_under, means}
-use Rattle.ref_world.specs.Anchors.{Named, named_under, named_at, names_in, names, last_named, named, named_by_identifier, not_named, anchor}
-use Rattle.ref_world.proofs.Alone.{first_or_later}
-use Rattle.ref_bundle.specs.Needed.{counted}
+use Rattle.ref_definitions.specs.World.{Document, Layer, World}
+use Rattle.ref_definitions.specs.Places.{Place, root, identifier_of, places}
+use Rattle.ref_definitions.specs.Resources.{own_uri, resource_of, resources_in, resources, last_under, meant_place}
+use Rattle.ref_definitions.specs.Anchors.{Named, named_under, named_at, names_in, names, last_named, named_entry, named_by_identifier, not_named, anchor}
+use Rattle.ref_definitions.proofs.Alone.{first_or_later}
+use Rattle.ref_bundle.specs.Needed.{counted_documents}
 use Rattle.ref_bundle.specs.Embedding.{base_uri}
 use Rattle.ref_bundle.specs.Bundle.{to_embed}
 use Rattle.ref_bundle.specs.Kept.{place_in}
@@ -128,12 +134,12 @@ name_base d m there =
 
 pub record IsSafe (layer : Layer) (parents : World) (n : ℕ) (top : Document) (uri : List ℕ) : Type 0 where
   pub clear : IsClear layer n top (to_embed layer n) uri
-  pub outside : (p : Place) (other : List ℕ) → last_under uri (resources layer) ≡ None → means parents uri ≡ Some p → own_uri p ≡ Some other → last_under other (resources layer) ≡ None
+  pub outside : (p : Place) (other : List ℕ) → last_under uri (resources layer) ≡ None → meant_place parents uri ≡ Some p → own_uri p ≡ Some other → last_under other (resources layer) ≡ None
 
-pub none_bear : (layer : Layer) (uri : List ℕ) → last_under uri (resources layer) ≡ None → AllByRecursion (λ e. IsFree uri e.1) (counted 0 layer)
+pub none_bear : (layer : Layer) (uri : List ℕ) → last_under uri (resources layer) ≡ None → AllByRecursion (λ e. IsFree uri e.1) (counted_documents 0 layer)
 none_bear layer uri none =
     let each = each_none (λ d. Under uri (resources_in d)) layer (sym (filter_flat (λ (e : List ℕ × Place). bytes_eq e.0 uri) resources_in layer) ∙ last_none (Under uri (resources layer)) none) in
-    all_of (λ e. IsFree uri e.1) (counted 0 layer) (λ e there. free uri e.1 (each_in (λ d. Under uri (resources_in d) ≡ []) layer e.1 each (in_layer 0 layer e there)))
+    all_of (λ e. IsFree uri e.1) (counted_documents 0 layer) (λ e there. free uri e.1 (each_in (λ d. Under uri (resources_in d) ≡ []) layer e.1 each (in_layer 0 layer e there)))
 
 last_is : {X : Type 0} (test : X → Bool) (xs : List X) (x : X) → last_or None (filter test xs) ≡ Some x → IsKeptThere test xs x
 last_is test xs x is = ⊎_elim (λ none. absurd (let e : None ≡ Some x = none in cc)) (λ kept. kept) (last_kept test xs x None is)
@@ -167,23 +173,23 @@ found_itself top es uri None = tt
 found_itself top es uri (Some m) = record { name = refl; kind = refl; place = found_same refl refl }
 
 named_found_now : (layer : Layer) (parents : World) (n : ℕ) (top : Document) (uri name : List ℕ) → IsMade layer n top → IsClear layer n top (to_embed layer n) uri
-    → BothAlike (NameFound top (to_embed layer n) uri) (named ((joined top (to_embed layer n) ∷ []) ∷ parents) uri name) (named (layer ∷ parents) uri name)
+    → BothAlike (NameFound top (to_embed layer n) uri) (named_entry ((joined top (to_embed layer n) ∷ []) ∷ parents) uri name) (named_entry (layer ∷ parents) uri name)
 named_found_now layer parents n top uri name is clear =
     let es = to_embed layer n in
-    or_alike (NameFound top es uri) (last_named uri name (names (joined top es ∷ []))) (named parents uri name) (last_named uri name (names layer)) (named parents uri name)
+    or_alike (NameFound top es uri) (last_named uri name (names (joined top es ∷ []))) (named_entry parents uri name) (last_named uri name (names layer)) (named_entry parents uri name)
     (found_by top es uri name (last_named uri name (names (joined top es ∷ []))) (last_named uri name (names layer)) (all_put layer n top is) refl
     (names_now layer n top es uri name (made_places layer n top is) (all_put layer n top is) clear))
-    (found_itself top es uri (named parents uri name))
+    (found_itself top es uri (named_entry parents uri name))
 
 -- ---- meanings
 
 pub data Meaning (layer : Layer) (parents : World) (top : Document) (es : List (ℕ × Document)) (uri : List ℕ) (a b : Option Place) : Type 0 where
   nothing : a ≡ None → b ≡ None → Meaning layer parents top es uri a b
   of_own : (q p : Place) → a ≡ Some q → b ≡ Some p → IsNowUnder top es uri q p → (q.base ≡ Ok uri) ⊎ (q ≡ root (joined top es)) → Meaning layer parents top es uri a b
-  of_parent : (p : Place) → a ≡ Some p → b ≡ Some p → last_under uri (resources layer) ≡ None → means parents uri ≡ Some p → Meaning layer parents top es uri a b
+  of_parent : (p : Place) → a ≡ Some p → b ≡ Some p → last_under uri (resources layer) ≡ None → meant_place parents uri ≡ Some p → Meaning layer parents top es uri a b
 
 meaning_by : (layer : Layer) (parents : World) (top : Document) (es : List (ℕ × Document)) (uri : List ℕ) (a b : Option (List ℕ × Place)) (rest : Option Place) → AllPut top es
-    → last_under uri (resources (joined top es ∷ [])) ≡ a → last_under uri (resources layer) ≡ b → means parents uri ≡ rest → BothAlike (EntryNow top es) a b
+    → last_under uri (resources (joined top es ∷ [])) ≡ a → last_under uri (resources layer) ≡ b → meant_place parents uri ≡ rest → BothAlike (EntryNow top es) a b
     → Meaning layer parents top es uri (option_map_or (λ e. Some e.1) a rest) (option_map_or (λ e. Some e.1) b rest)
 meaning_by layer parents top es uri None None None put now before means_ both = nothing refl refl
 meaning_by layer parents top es uri None None (Some p) put now before means_ both = of_parent p refl refl before means_
@@ -197,20 +203,20 @@ meaning_by layer parents top es uri (Some e) (Some f) rest put now before means_
     of_own e.1 f.1 refl refl (under top es uri e.1 f.1 put both.1 here) here
 
 pub meaning : (layer : Layer) (parents : World) (n : ℕ) (top : Document) (uri : List ℕ) → IsMade layer n top → IsClear layer n top (to_embed layer n) uri
-    → Meaning layer parents top (to_embed layer n) uri (means ((joined top (to_embed layer n) ∷ []) ∷ parents) uri) (means (layer ∷ parents) uri)
+    → Meaning layer parents top (to_embed layer n) uri (meant_place ((joined top (to_embed layer n) ∷ []) ∷ parents) uri) (meant_place (layer ∷ parents) uri)
 meaning layer parents n top uri is clear =
     let es = to_embed layer n in
-    meaning_by layer parents top es uri (last_under uri (resources (joined top es ∷ []))) (last_under uri (resources layer)) (means parents uri) (all_put layer n top is) refl refl refl
+    meaning_by layer parents top es uri (last_under uri (resources (joined top es ∷ []))) (last_under uri (resources layer)) (meant_place parents uri) (all_put layer n top is) refl refl refl
     (entries_now layer n top es uri (made_places layer n top is) (all_put layer n top is) clear)
 
 -- ---- names by an identifier
 
--- a place that bears the URI itself gives no other name
-no_other_by : (world : World) (uri name : List ℕ) (base : Result (List ℕ) Refusal) (id : Option (List ℕ)) → base ≡ Ok uri → named world uri name ≡ None → option_and_then (λ own. named world own name) (option_and_then (λ i. result_ok base) id) ≡ None
+-- a place that has the URI itself gives no other name
+no_other_by : (world : World) (uri name : List ℕ) (base : Result (List ℕ) Refusal) (id : Option (List ℕ)) → base ≡ Ok uri → named_entry world uri name ≡ None → option_and_then (λ own. named_entry world own name) (option_and_then (λ i. result_ok base) id) ≡ None
 no_other_by world uri name base None is none = refl
-no_other_by world uri name base (Some id) is none = ap (λ b. option_and_then (λ own. named world own name) (result_ok b)) is ∙ none
+no_other_by world uri name base (Some id) is none = ap (λ b. option_and_then (λ own. named_entry world own name) (result_ok b)) is ∙ none
 
-no_other : (world : World) (uri name : List ℕ) (q : Place) → q.base ≡ Ok uri → named world uri name ≡ None → option_and_then (λ own. named world own name) (own_uri q) ≡ None
+no_other : (world : World) (uri name : List ℕ) (q : Place) → q.base ≡ Ok uri → named_entry world uri name ≡ None → option_and_then (λ own. named_entry world own name) (own_uri q) ≡ None
 no_other world uri name q is none = no_other_by world uri name q.base (identifier_of q) is none
 
 base_before : (top : Document) (es : List (ℕ × Document)) (uri : List ℕ) (q p : Place) → AllPut top es → IsNowUnder top es uri q p → q.base ≡ Ok uri → p.base ≡ Ok uri
@@ -235,7 +241,7 @@ top_apart layer n top is e there =
     let own = root_counted layer n top is.at in
     let need = embedded_needed layer n e there in
     let at = needed_counted layer n e need.0 in
-    let free_ = each_in (λ x. ¬ (x.0 ≡ n) → IsFree (base_uri top) x.1) (counted 0 layer) e
+    let free_ = each_in (λ x. ¬ (x.0 ≡ n) → IsFree (base_uri top) x.1) (counted_documents 0 layer) e
     (others_free layer n top is (n, top) (root top) (base_uri top) (root_needed layer (n, top) own) (0, omega arith, refl) (base_borne top (base_uri top) (root_base layer (n, top) is.no_fault own))) at need.1 in
     other_base_of (base_uri top) (base_uri e.1) (root e.1).base (root_base layer e is.no_fault at) free_.bases.0
 
@@ -249,7 +255,7 @@ of_base layer n top is uri other own m k both = record { name = both.name; kind 
 
 -- names under the root's base, by whichever URI of the root
 by_root_base : (layer : Layer) (parents : World) (n : ℕ) (top : Document) → IsMade layer n top → (uri name : List ℕ) (o : Option (List ℕ)) → own_uri (root top) ≡ o
-    → BothAlike (NameFound top (to_embed layer n) uri) (option_and_then (λ own. named ((joined top (to_embed layer n) ∷ []) ∷ parents) own name) o) (option_and_then (λ own. named (layer ∷ parents) own name) o)
+    → BothAlike (NameFound top (to_embed layer n) uri) (option_and_then (λ own. named_entry ((joined top (to_embed layer n) ∷ []) ∷ parents) own name) o) (option_and_then (λ own. named_entry (layer ∷ parents) own name) o)
 by_root_base layer parents n top is uri name None own = tt
 by_root_base layer parents n top is uri name (Some other) own =
     let es = to_embed layer n in
@@ -257,23 +263,23 @@ by_root_base layer parents n top is uri name (Some other) own =
     let base : (root top).base ≡ Ok other = own_base other (root top) own in
     let same_uri : other ≡ base_uri top = sym (base_is top other base) in
     let clear = clear_borne layer n top is (n, top) (root top) other (root_needed layer (n, top) root_there) (0, omega arith, refl) (base_borne top other base) (λ apart_ own_. absurd (apart_ refl)) in
-    weaker (NameFound top es other) (NameFound top es uri) (named ((joined top es ∷ []) ∷ parents) other name) (named (layer ∷ parents) other name)
+    weaker (NameFound top es other) (NameFound top es uri) (named_entry ((joined top es ∷ []) ∷ parents) other name) (named_entry (layer ∷ parents) other name)
     (of_base layer n top is uri other same_uri) (named_found_now layer parents n top other name is clear)
 
--- names under a URI that no own document bears are those of the parents
+-- names under a URI that no own document has are those of the parents
 parents_alone : (layer : Layer) (parents : World) (n : ℕ) (top : Document) → IsMade layer n top → (uri other name : List ℕ) → last_under other (resources layer) ≡ None
-    → BothAlike (NameFound top (to_embed layer n) uri) (named ((joined top (to_embed layer n) ∷ []) ∷ parents) other name) (named (layer ∷ parents) other name)
+    → BothAlike (NameFound top (to_embed layer n) uri) (named_entry ((joined top (to_embed layer n) ∷ []) ∷ parents) other name) (named_entry (layer ∷ parents) other name)
 parents_alone layer parents n top is uri other name none =
     let es = to_embed layer n in
     let clear = clear_free layer n top is other (none_bear layer other none) in
     let was : last_named other name (names layer) ≡ None = no_names_were other name layer (none_bear layer other none) in
     let now : last_named other name (names (joined top es ∷ [])) ≡ None =
     no_first (NameNow top es) (last_named other name (names (joined top es ∷ []))) (last_named other name (names layer)) (names_now layer n top es other name (made_places layer n top is) (all_put layer n top is) clear) was in
-    subst (λ o. BothAlike (NameFound top es uri) (option_or o (named parents other name)) (named (layer ∷ parents) other name)) (sym now)
-    (subst (λ o. BothAlike (NameFound top es uri) (named parents other name) (option_or o (named parents other name))) (sym was) (found_itself top es uri (named parents other name)))
+    subst (λ o. BothAlike (NameFound top es uri) (option_or o (named_entry parents other name)) (named_entry (layer ∷ parents) other name)) (sym now)
+    (subst (λ o. BothAlike (NameFound top es uri) (named_entry parents other name) (option_or o (named_entry parents other name))) (sym was) (found_itself top es uri (named_entry parents other name)))
 
 by_parent : (layer : Layer) (parents : World) (n : ℕ) (top : Document) → IsMade layer n top → (uri name : List ℕ) (p : Place) (o : Option (List ℕ)) → own_uri p ≡ o → ((other : List ℕ) → own_uri p ≡ Some other → last_under other (resources layer) ≡ None)
-    → BothAlike (NameFound top (to_embed layer n) uri) (option_and_then (λ own. named ((joined top (to_embed layer n) ∷ []) ∷ parents) own name) o) (option_and_then (λ own. named (layer ∷ parents) own name) o)
+    → BothAlike (NameFound top (to_embed layer n) uri) (option_and_then (λ own. named_entry ((joined top (to_embed layer n) ∷ []) ∷ parents) own name) o) (option_and_then (λ own. named_entry (layer ∷ parents) own name) o)
 by_parent layer parents n top is uri name p None own outside = tt
 by_parent layer parents n top is uri name p (Some other) own outside = parents_alone layer parents n top is uri other name (outside other own)
 
@@ -282,29 +288,29 @@ both_none R o p first second = subst (λ x. BothAlike R x p) (sym first) (subst 
 
 -- what the identifier of the meant place gives, where nothing is named under the URI itself
 identified_by : (layer : Layer) (parents : World) (n : ℕ) (top : Document) → IsMade layer n top → (uri name : List ℕ) (a b : Option Place) → Meaning layer parents top (to_embed layer n) uri a b
-    → ((p : Place) (other : List ℕ) → last_under uri (resources layer) ≡ None → means parents uri ≡ Some p → own_uri p ≡ Some other → last_under other (resources layer) ≡ None)
-    → named ((joined top (to_embed layer n) ∷ []) ∷ parents) uri name ≡ None → named (layer ∷ parents) uri name ≡ None
-    → BothAlike (NameFound top (to_embed layer n) uri) (option_and_then (λ own. named ((joined top (to_embed layer n) ∷ []) ∷ parents) own name) (option_and_then own_uri a)) (option_and_then (λ own. named (layer ∷ parents) own name) (option_and_then own_uri b))
+    → ((p : Place) (other : List ℕ) → last_under uri (resources layer) ≡ None → meant_place parents uri ≡ Some p → own_uri p ≡ Some other → last_under other (resources layer) ≡ None)
+    → named_entry ((joined top (to_embed layer n) ∷ []) ∷ parents) uri name ≡ None → named_entry (layer ∷ parents) uri name ≡ None
+    → BothAlike (NameFound top (to_embed layer n) uri) (option_and_then (λ own. named_entry ((joined top (to_embed layer n) ∷ []) ∷ parents) own name) (option_and_then own_uri a)) (option_and_then (λ own. named_entry (layer ∷ parents) own name) (option_and_then own_uri b))
 identified_by layer parents n top is uri name a b (nothing now before) outside first second =
-    both_none (NameFound top (to_embed layer n) uri) _ _ (ap (λ x. option_and_then (λ own. named ((joined top (to_embed layer n) ∷ []) ∷ parents) own name) (option_and_then own_uri x)) now) (ap (λ x. option_and_then (λ own. named (layer ∷ parents) own name) (option_and_then own_uri x)) before)
+    both_none (NameFound top (to_embed layer n) uri) _ _ (ap (λ x. option_and_then (λ own. named_entry ((joined top (to_embed layer n) ∷ []) ∷ parents) own name) (option_and_then own_uri x)) now) (ap (λ x. option_and_then (λ own. named_entry (layer ∷ parents) own name) (option_and_then own_uri x)) before)
 identified_by layer parents n top is uri name a b (of_own q p now before place (inl base)) outside first second =
     let es = to_embed layer n in
     both_none (NameFound top es uri) _ _
-    (ap (λ x. option_and_then (λ own. named ((joined top es ∷ []) ∷ parents) own name) (option_and_then own_uri x)) now ∙ no_other ((joined top es ∷ []) ∷ parents) uri name q base first)
-    (ap (λ x. option_and_then (λ own. named (layer ∷ parents) own name) (option_and_then own_uri x)) before ∙ no_other (layer ∷ parents) uri name p (base_before top es uri q p (all_put layer n top is) place base) second)
+    (ap (λ x. option_and_then (λ own. named_entry ((joined top es ∷ []) ∷ parents) own name) (option_and_then own_uri x)) now ∙ no_other ((joined top es ∷ []) ∷ parents) uri name q base first)
+    (ap (λ x. option_and_then (λ own. named_entry (layer ∷ parents) own name) (option_and_then own_uri x)) before ∙ no_other (layer ∷ parents) uri name p (base_before top es uri q p (all_put layer n top is) place base) second)
 identified_by layer parents n top is uri name a b (of_own q p now before place (inr own)) outside first second =
     let es = to_embed layer n in
     let same_own : own_uri q ≡ own_uri p = root_own_uri top es uri q p place own in
     let of_root : own_uri q ≡ own_uri (root top) = ap own_uri own ∙ root_own_uri top es uri (root (joined top es)) (root top) (root_under refl refl) refl in
-    subst (λ x. BothAlike (NameFound top es uri) (option_and_then (λ o. named ((joined top es ∷ []) ∷ parents) o name) (option_and_then own_uri x)) (option_and_then (λ o. named (layer ∷ parents) o name) (option_and_then own_uri b))) (sym now)
-    (subst (λ y. BothAlike (NameFound top es uri) (option_and_then (λ o. named ((joined top es ∷ []) ∷ parents) o name) (own_uri q)) (option_and_then (λ o. named (layer ∷ parents) o name) (option_and_then own_uri y))) (sym before)
-    (subst (λ y. BothAlike (NameFound top es uri) (option_and_then (λ o. named ((joined top es ∷ []) ∷ parents) o name) (own_uri q)) (option_and_then (λ o. named (layer ∷ parents) o name) y)) same_own
-    (subst (λ y. BothAlike (NameFound top es uri) (option_and_then (λ o. named ((joined top es ∷ []) ∷ parents) o name) y) (option_and_then (λ o. named (layer ∷ parents) o name) y)) (sym of_root)
+    subst (λ x. BothAlike (NameFound top es uri) (option_and_then (λ o. named_entry ((joined top es ∷ []) ∷ parents) o name) (option_and_then own_uri x)) (option_and_then (λ o. named_entry (layer ∷ parents) o name) (option_and_then own_uri b))) (sym now)
+    (subst (λ y. BothAlike (NameFound top es uri) (option_and_then (λ o. named_entry ((joined top es ∷ []) ∷ parents) o name) (own_uri q)) (option_and_then (λ o. named_entry (layer ∷ parents) o name) (option_and_then own_uri y))) (sym before)
+    (subst (λ y. BothAlike (NameFound top es uri) (option_and_then (λ o. named_entry ((joined top es ∷ []) ∷ parents) o name) (own_uri q)) (option_and_then (λ o. named_entry (layer ∷ parents) o name) y)) same_own
+    (subst (λ y. BothAlike (NameFound top es uri) (option_and_then (λ o. named_entry ((joined top es ∷ []) ∷ parents) o name) y) (option_and_then (λ o. named_entry (layer ∷ parents) o name) y)) (sym of_root)
     (by_root_base layer parents n top is uri name (own_uri (root top)) refl))))
 identified_by layer parents n top is uri name a b (of_parent p now before none means_) outside first second =
     let es = to_embed layer n in
-    subst (λ x. BothAlike (NameFound top es uri) (option_and_then (λ o. named ((joined top es ∷ []) ∷ parents) o name) (option_and_then own_uri x)) (option_and_then (λ o. named (layer ∷ parents) o name) (option_and_then own_uri b))) (sym now)
-    (subst (λ y. BothAlike (NameFound top es uri) (option_and_then (λ o. named ((joined top es ∷ []) ∷ parents) o name) (own_uri p)) (option_and_then (λ o. named (layer ∷ parents) o name) (option_and_then own_uri y))) (sym before)
+    subst (λ x. BothAlike (NameFound top es uri) (option_and_then (λ o. named_entry ((joined top es ∷ []) ∷ parents) o name) (option_and_then own_uri x)) (option_and_then (λ o. named_entry (layer ∷ parents) o name) (option_and_then own_uri b))) (sym now)
+    (subst (λ y. BothAlike (NameFound top es uri) (option_and_then (λ o. named_entry ((joined top es ∷ []) ∷ parents) o name) (own_uri p)) (option_and_then (λ o. named_entry (layer ∷ parents) o name) (option_and_then own_uri y))) (sym before)
     (by_parent layer parents n top is uri name p (own_uri p) refl (λ other own. outside p other none means_ own)))
 
 -- ---- the anchor
@@ -335,7 +341,7 @@ anchor_now layer parents n top is uri name safe =
     let es = to_embed layer n in
     let now = (joined top es ∷ []) ∷ parents in
     let before = layer ∷ parents in
-    or_fault (NameFound top es uri) (option_or (named now uri name) (named_by_identifier now uri name)) (option_or (named before uri name) (named_by_identifier before uri name)) (not_named name)
-    (first_or_second (NameFound top es uri) (named now uri name) (named before uri name) (named_by_identifier now uri name) (named_by_identifier before uri name)
+    or_fault (NameFound top es uri) (option_or (named_entry now uri name) (named_by_identifier now uri name)) (option_or (named_entry before uri name) (named_by_identifier before uri name)) (not_named name)
+    (first_or_second (NameFound top es uri) (named_entry now uri name) (named_entry before uri name) (named_by_identifier now uri name) (named_by_identifier before uri name)
     (named_found_now layer parents n top uri name is safe.clear)
-    (λ first second. identified_by layer parents n top is uri name (means now uri) (means before uri) (meaning layer parents n top uri is safe.clear) safe.outside first second))
+    (λ first second. identified_by layer parents n top is uri name (meant_place now uri) (meant_place before uri) (meaning layer parents n top uri is safe.clear) safe.outside first second))

@@ -7,10 +7,10 @@ use Rattle.serde_json.specs.Data.{depth}
 use Rattle.ref_parts.specs.Path.{Part}
 use Rattle.ref_draft.specs.Anchors.{Kind, anchors}
 use Rattle.ref_uri.specs.Targets.{Refusal}
-use Rattle.ref_world.specs.World.{Document}
-use Rattle.ref_world.specs.Places.{Place, root, identifier_of, children_of, levels_below, places}
-use Rattle.ref_world.specs.Anchors.{Named, named_under}
-use Rattle.ref_bundle.specs.Merges.{below_path}
+use Rattle.ref_definitions.specs.World.{Document}
+use Rattle.ref_definitions.specs.Places.{Place, root, identifier_of, children_of, levels_below, places}
+use Rattle.ref_definitions.specs.Anchors.{Named, named_under}
+use Rattle.ref_definitions.specs.Moving.{below_path}
 use Rattle.ref_bundle.proofs.LawAlike.{AreAlike, BothAlike, alike_append, filter_alike, map_alike}
 use Rattle.ref_bundle.proofs.LawEntries.{Under, NamedAs, borne_by, named_by, IsOther, AllOther}
 
@@ -90,7 +90,7 @@ moved_names x uri name (p ∷ ps) =
     alike_append (NameAlike x) (named_by uri name (below_path x.place.path p)) (flat_map (named_by uri name) (map (below_path x.place.path) ps)) (named_by uri name p) (flat_map (named_by uri name) ps)
     (names_with x uri name p p.base) (moved_names x uri name ps)
 
--- ---- places whose base is another URI bear it not
+-- ---- places whose base is another URI have it not
 
 bears_with : (uri : List ℕ) (p : Place) (id : Option (List ℕ)) (base : Result (List ℕ) Refusal) → IsOther uri base → Under uri (option_to_list (option_map (λ u. (u, p)) (option_and_then (λ i. result_ok base) id))) ≡ []
 bears_with uri p None base other = refl

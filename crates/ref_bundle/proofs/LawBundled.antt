@@ -9,11 +9,11 @@ use Rattle.ref_draft.specs.declared.draft.Draft.{Draft}
 use Rattle.ref_draft.specs.Children.{is_object, children, with_draft}
 use Rattle.ref_uri.specs.Targets.{Refusal}
 use Rattle.ref_draft.proofs.Lists.{all_map}
-use Rattle.ref_world.specs.World.{Document, Layer}
-use Rattle.ref_world.specs.Places.{Place, root, child_place, children_with, levels_below, places}
-use Rattle.ref_bundle.specs.Needed.{counted, document_under, targets_from, targets, referred_in, referred, is_among, numbers, with_referred, needed, needed_documents}
+use Rattle.ref_definitions.specs.World.{Document, Layer}
+use Rattle.ref_definitions.specs.Places.{Place, root, child_place, children_with, levels_below, places}
+use Rattle.ref_bundle.specs.Needed.{counted_documents, document_under, targets_from, targets, referred_in, referred_from, is_among, numbers, with_referred, numbers_of_needed, needed_documents}
 use Rattle.ref_bundle.specs.Embedding.{obstacle, Obstacle}
-use Rattle.ref_bundle.specs.Bundle.{Bundle, BundleRefusal, NotEmbedded, NoDocument, shared, borne, uris_of, replaced, place_problems, place_refusals, at_path, root_refusals, refusals_in, refusals, to_embed, unless_refused, bundle_of, bundled}
+use Rattle.ref_bundle.specs.Bundle.{Bundle, BundleRefusal, NotEmbedded, NoDocument, shared_uri, sites_of_uris, uris_of, replaced_uris, place_problems, place_refusals, at_path, root_refusals, refusals_in, refusals, to_embed, unless_refused, bundle_of, bundle_at}
 use Rattle.ref_bundle.proofs.LawMerges.{nothing_below}
 use Rattle.ref_bundle.proofs.LawEntries.{each_none, none_of, front_empty, back_empty}
 use Rattle.ref_bundle.proofs.LawNeeded.{each_in}
@@ -25,7 +25,7 @@ unrefused : (rs : List BundleRefusal) (b bundle : Bundle) → unless_refused rs 
 unrefused [] b bundle is = (refl, let e : Ok b ≡ Ok bundle = is in cc)
 unrefused (r ∷ rs) b bundle is = absurd (let e : Err r ≡ Ok bundle = is in cc)
 
-pub not_refused : (layer : Layer) (n : ℕ) (top : Document) (bundle : Bundle) → slice_get layer n ≡ Some top → bundled layer n ≡ Ok bundle
+pub not_refused : (layer : Layer) (n : ℕ) (top : Document) (bundle : Bundle) → slice_get layer n ≡ Some top → bundle_at layer n ≡ Ok bundle
     → (refusals layer (n, top) (to_embed layer n) ≡ []) × (bundle ≡ bundle_of top (to_embed layer n))
 not_refused layer n top bundle at is =
     unrefused (refusals layer (n, top) (to_embed layer n)) (bundle_of top (to_embed layer n)) bundle
@@ -71,17 +71,17 @@ no_problem layer n top x p none there =
     (each_in (λ q. map (at_path x.0 q.path) (place_problems layer n x q) ≡ []) (places x.1) p
     (each_none (λ q. map (at_path x.0 q.path) (place_problems layer n x q)) (places x.1) rest) there)
 
-pub not_shared : (layer : Layer) (n : ℕ) (x : ℕ × Document) (p : Place) (uri : List ℕ) → place_problems layer n x p ≡ [] → Contains (uris_of x.1 p) uri → shared (borne layer) (x.0, p.path) uri ≡ []
+pub not_shared : (layer : Layer) (n : ℕ) (x : ℕ × Document) (p : Place) (uri : List ℕ) → place_problems layer n x p ≡ [] → Contains (uris_of x.1 p) uri → shared_uri (sites_of_uris layer) (x.0, p.path) uri ≡ []
 not_shared layer n x p uri none there =
-    each_in (λ u. shared (borne layer) (x.0, p.path) u ≡ []) (uris_of x.1 p) uri
-    (each_none (shared (borne layer) (x.0, p.path)) (uris_of x.1 p)
-    (front_empty (flat_map (shared (borne layer) (x.0, p.path)) (uris_of x.1 p)) (flat_map (replaced layer n) (targets p)) none)) there
+    each_in (λ u. shared_uri (sites_of_uris layer) (x.0, p.path) u ≡ []) (uris_of x.1 p) uri
+    (each_none (shared_uri (sites_of_uris layer) (x.0, p.path)) (uris_of x.1 p)
+    (front_empty (flat_map (shared_uri (sites_of_uris layer) (x.0, p.path)) (uris_of x.1 p)) (flat_map (replaced_uris layer n) (targets p)) none)) there
 
-pub not_replaced : (layer : Layer) (n : ℕ) (x : ℕ × Document) (p : Place) (uri : List ℕ) → place_problems layer n x p ≡ [] → Contains (targets p) uri → replaced layer n uri ≡ []
+pub not_replaced : (layer : Layer) (n : ℕ) (x : ℕ × Document) (p : Place) (uri : List ℕ) → place_problems layer n x p ≡ [] → Contains (targets p) uri → replaced_uris layer n uri ≡ []
 not_replaced layer n x p uri none there =
-    each_in (λ u. replaced layer n u ≡ []) (targets p) uri
-    (each_none (replaced layer n) (targets p)
-    (back_empty (flat_map (shared (borne layer) (x.0, p.path)) (uris_of x.1 p)) (flat_map (replaced layer n) (targets p)) none)) there
+    each_in (λ u. replaced_uris layer n u ≡ []) (targets p) uri
+    (each_none (replaced_uris layer n) (targets p)
+    (back_empty (flat_map (shared_uri (sites_of_uris layer) (x.0, p.path)) (uris_of x.1 p)) (flat_map (replaced_uris layer n) (targets p)) none)) there
 
 -- ---- where a root is no object, nothing is to be embedded
 
@@ -159,21 +159,21 @@ or_false : (b : Bool) → (b || false) ≡ b
 or_false true = refl
 or_false false = refl
 
-alone_stays : (layer : Layer) (n : ℕ) → referred layer n ≡ [] → start_at layer n ≡ with_referred layer (start_at layer n)
+alone_stays : (layer : Layer) (n : ℕ) → referred_from layer n ≡ [] → start_at layer n ≡ with_referred layer (start_at layer n)
 alone_stays layer n none =
-    let nothing : flat_map (referred layer) (start_at layer n) ≡ [] =
-    none_of (referred layer) (start_at layer n)
-    (all_map (λ m. (m == n) ≡ true) (λ m. referred layer m ≡ []) (start_at layer n) (λ m is. ap (referred layer) (eqb-true m n is) ∙ none) (all_pass (λ m. m == n) (numbers layer))) in
-    agree (λ m. m == n) (λ m. is_among (start_at layer n) m || is_among (flat_map (referred layer) (start_at layer n)) m) (numbers layer)
+    let nothing : flat_map (referred_from layer) (start_at layer n) ≡ [] =
+    none_of (referred_from layer) (start_at layer n)
+    (all_map (λ m. (m == n) ≡ true) (λ m. referred_from layer m ≡ []) (start_at layer n) (λ m is. ap (referred_from layer) (eqb-true m n is) ∙ none) (all_pass (λ m. m == n) (numbers layer))) in
+    agree (λ m. m == n) (λ m. is_among (start_at layer n) m || is_among (flat_map (referred_from layer) (start_at layer n)) m) (numbers layer)
     (λ m own. sym (ap (λ more. is_among (start_at layer n) m || is_among more m) nothing ∙ or_false (is_among (start_at layer n) m) ∙ among_start layer n m own))
 
-nothing_to_embed : (layer : Layer) (n : ℕ) → referred layer n ≡ [] → to_embed layer n ≡ []
+nothing_to_embed : (layer : Layer) (n : ℕ) → referred_from layer n ≡ [] → to_embed layer n ≡ []
 nothing_to_embed layer n none =
-    let end : needed layer n ≡ start_at layer n = stays_reached layer (length layer) (start_at layer n) (alone_stays layer n none) in
+    let end : numbers_of_needed layer n ≡ start_at layer n = stays_reached layer (length layer) (start_at layer n) (alone_stays layer n none) in
     none_pass (λ (e : ℕ × Document). not (e.0 == n)) (needed_documents layer n)
-    (all_map (λ (e : ℕ × Document). is_among (needed layer n) e.0 ≡ true) (λ e. not (e.0 == n) ≡ false) (needed_documents layer n)
+    (all_map (λ (e : ℕ × Document). is_among (numbers_of_needed layer n) e.0 ≡ true) (λ e. not (e.0 == n) ≡ false) (needed_documents layer n)
     (λ e among. ap not (passes_kept (λ k. k == n) (numbers layer) e.0 (there_is (start_at layer n) e.0 (subst (λ s. is_among s e.0 ≡ true) end among))).1)
-    (all_pass (λ (e : ℕ × Document). is_among (needed layer n) e.0) (counted 0 layer)))
+    (all_pass (λ (e : ℕ × Document). is_among (numbers_of_needed layer n) e.0) (counted_documents 0 layer)))
 
 pub root_object : (layer : Layer) (n : ℕ) (top : Document) (b : Bool) → is_object top.tree ≡ b → slice_get layer n ≡ Some top → ¬ (to_embed layer n ≡ []) → b ≡ true
 root_object layer n top true is at some = refl

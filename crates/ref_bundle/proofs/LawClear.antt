@@ -1,11 +1,11 @@
--- Which URIs mean in a bundle what they meant: those that needed places refer to, and those that they bear.
+-- Which URIs mean in a bundle what they meant: those that needed places refer to, and those that they have.
 use Rattle.std.proofs.Common.{◌≡◌, ℕ, Bool, true, false, not, cond, ◌&&◌, ◌==◌, eqb-true, eq-eqb, List, [], ◌∷◌, Option, Some, None, Ok, bytes_eq, slice_get, refl, sym, ap, subst, ◌∙◌, true≢false}
 use Rattle.std.specs.List.{AllByRecursion, Contains}
 use Rattle.std.specs.Option.{option_map_or}
 use Rattle.ref_draft.proofs.Lists.{all_filter}
-use Rattle.ref_world.specs.World.{Document, Layer}
-use Rattle.ref_world.specs.Places.{Place, places}
-use Rattle.ref_bundle.specs.Needed.{counted, document_under, targets, is_among, needed, needed_documents}
+use Rattle.ref_definitions.specs.World.{Document, Layer}
+use Rattle.ref_definitions.specs.Places.{Place, places}
+use Rattle.ref_bundle.specs.Needed.{counted_documents, document_under, targets, is_among, numbers_of_needed, needed_documents}
 use Rattle.ref_bundle.specs.Embedding.{base_uri}
 use Rattle.ref_bundle.specs.Bundle.{ReplacedUri, uris_of, replaced_in, replaced_at, to_embed}
 use Rattle.ref_bundle.proofs.LawEntries.{IsFree}
@@ -19,25 +19,25 @@ use Rattle.ref_bundle.proofs.LawBundled.{none_in, no_problem, not_replaced}
 use Rattle.ref_bundle.proofs.LawFacts.{IsMade, root_counted, needed_counted, embedded_needed, others_free, put_of, all_of}
 use Rattle.ref_bundle.proofs.LawMeaning.{IsClear, borne_by_none, borne_by_root, borne_by_embedded}
 
--- ---- a URI that a needed place bears
+-- ---- a URI that a needed place has
 
 -- documents that are embedded have other numbers than the root
-embedded_free : (layer : Layer) (n : ℕ) (uri : List ℕ) → AllByRecursion (λ e. ¬ (e.0 ≡ n) → IsFree uri e.1) (counted 0 layer) → AllByRecursion (λ e. IsFree uri e.1) (to_embed layer n)
+embedded_free : (layer : Layer) (n : ℕ) (uri : List ℕ) → AllByRecursion (λ e. ¬ (e.0 ≡ n) → IsFree uri e.1) (counted_documents 0 layer) → AllByRecursion (λ e. IsFree uri e.1) (to_embed layer n)
 embedded_free layer n uri free_ =
     all_of (λ e. IsFree uri e.1) (to_embed layer n)
     (λ e there.
     let need = embedded_needed layer n e there in
-    each_in (λ x. ¬ (x.0 ≡ n) → IsFree uri x.1) (counted 0 layer) e free_ (needed_counted layer n e need.0) need.1)
+    each_in (λ x. ¬ (x.0 ≡ n) → IsFree uri x.1) (counted_documents 0 layer) e free_ (needed_counted layer n e need.0) need.1)
 
-alone_embedded : (layer : Layer) (n : ℕ) (uri : List ℕ) (x : ℕ × Document) → Contains (to_embed layer n) x → AllByRecursion (λ e. ¬ (e.0 ≡ x.0) → IsFree uri e.1) (counted 0 layer) → IsAlone uri (to_embed layer n) x
+alone_embedded : (layer : Layer) (n : ℕ) (uri : List ℕ) (x : ℕ × Document) → Contains (to_embed layer n) x → AllByRecursion (λ e. ¬ (e.0 ≡ x.0) → IsFree uri e.1) (counted_documents 0 layer) → IsAlone uri (to_embed layer n) x
 alone_embedded layer n uri x there free_ =
     let outer = passes_kept (λ (e : ℕ × Document). not (e.0 == n)) (needed_documents layer n) x there in
-    let inner = passes_kept (λ (e : ℕ × Document). is_among (needed layer n) e.0) (counted 0 layer) x outer.0 in
+    let inner = passes_kept (λ (e : ℕ × Document). is_among (numbers_of_needed layer n) e.0) (counted_documents 0 layer) x outer.0 in
     alone_among uri (to_embed layer n) x
     (counted_kept (λ (e : ℕ × Document). not (e.0 == n)) (needed_documents layer n) x outer.1
-    (counted_kept (λ (e : ℕ × Document). is_among (needed layer n) e.0) (counted 0 layer) x inner.1 (counted_one 0 layer x inner.0)))
+    (counted_kept (λ (e : ℕ × Document). is_among (numbers_of_needed layer n) e.0) (counted_documents 0 layer) x inner.1 (counted_one 0 layer x inner.0)))
     (all_filter (λ e. ¬ (e.0 ≡ x.0) → IsFree uri e.1) (λ (e : ℕ × Document). not (e.0 == n)) (needed_documents layer n)
-    (all_filter (λ e. ¬ (e.0 ≡ x.0) → IsFree uri e.1) (λ (e : ℕ × Document). is_among (needed layer n) e.0) (counted 0 layer) free_))
+    (all_filter (λ e. ¬ (e.0 ≡ x.0) → IsFree uri e.1) (λ (e : ℕ × Document). is_among (numbers_of_needed layer n) e.0) (counted_documents 0 layer) free_))
 
 -- an embedded document's identifier does not replace a URI by another
 abbrev pub Stays : ℕ → ℕ × Document → List ℕ → Type 0
@@ -49,7 +49,7 @@ no_alias layer n top uri x put other stays own base is =
     base_is x.1 put.base put.same_base ∙ (let e : Ok put.base ≡ Ok base = sym put.has_base ∙ is in cc) in
     subst (λ b. bytes_eq b uri ≡ true) same (stays other own)
 
-clear_by : (layer : Layer) (n : ℕ) (top : Document) → IsMade layer n top → (x : ℕ × Document) (uri : List ℕ) → Contains (needed_documents layer n) x → AllByRecursion (λ e. ¬ (e.0 ≡ x.0) → IsFree uri e.1) (counted 0 layer)
+clear_by : (layer : Layer) (n : ℕ) (top : Document) → IsMade layer n top → (x : ℕ × Document) (uri : List ℕ) → Contains (needed_documents layer n) x → AllByRecursion (λ e. ¬ (e.0 ≡ x.0) → IsFree uri e.1) (counted_documents 0 layer)
     → Stays n x uri → (b : Bool) → (x.0 == n) ≡ b → IsClear layer n top (to_embed layer n) uri
 clear_by layer n top is x uri need free_ stays true own =
     let own_number : x.0 ≡ n = eqb-true x.0 n own in
@@ -57,14 +57,14 @@ clear_by layer n top is x uri need free_ stays true own =
     let tops : Some x.1 ≡ Some top = sym (got_at layer x there) ∙ ap (slice_get layer) own_number ∙ is.at in
     let own_document : x.1 ≡ top = cc in
     let both : x ≡ (n, top) = ap (λ k. (k, x.1)) own_number ∙ ap (λ d. (n, d)) own_document in
-    borne_by_root (subst (IsAlone uri (counted 0 layer)) both (alone_among uri (counted 0 layer) x (counted_one 0 layer x there) free_))
-    (embedded_free layer n uri (subst (λ k. AllByRecursion (λ e. ¬ (e.0 ≡ k) → IsFree uri e.1) (counted 0 layer)) own_number free_))
+    borne_by_root (subst (IsAlone uri (counted_documents 0 layer)) both (alone_among uri (counted_documents 0 layer) x (counted_one 0 layer x there) free_))
+    (embedded_free layer n uri (subst (λ k. AllByRecursion (λ e. ¬ (e.0 ≡ k) → IsFree uri e.1) (counted_documents 0 layer)) own_number free_))
 clear_by layer n top is x uri need free_ stays false own =
     let other : ¬ (x.0 ≡ n) = λ same. true≢false (sym (eq-eqb x.0 n same) ∙ own) in
     let there = needed_counted layer n x need in
     let embedded = kept_in (λ (e : ℕ × Document). not (e.0 == n)) (needed_documents layer n) x need (ap not own) in
-    borne_by_embedded x embedded (alone_among uri (counted 0 layer) x (counted_one 0 layer x there) free_) (alone_embedded layer n uri x embedded free_)
-    (each_in (λ e. ¬ (e.0 ≡ x.0) → IsFree uri e.1) (counted 0 layer) (n, top) free_ (root_counted layer n top is.at) (λ same. other (sym same)))
+    borne_by_embedded x embedded (alone_among uri (counted_documents 0 layer) x (counted_one 0 layer x there) free_) (alone_embedded layer n uri x embedded free_)
+    (each_in (λ e. ¬ (e.0 ≡ x.0) → IsFree uri e.1) (counted_documents 0 layer) (n, top) free_ (root_counted layer n top is.at) (λ same. other (sym same)))
     (no_alias layer n top uri x (put_of layer n top is x embedded) other stays)
 
 pub clear_borne : (layer : Layer) (n : ℕ) (top : Document) → IsMade layer n top → (x : ℕ × Document) (p : Place) (uri : List ℕ) → Contains (needed_documents layer n) x → Contains (places x.1) p → Contains (uris_of x.1 p) uri
@@ -72,13 +72,13 @@ pub clear_borne : (layer : Layer) (n : ℕ) (top : Document) → IsMade layer n 
 clear_borne layer n top is x p uri need place bears stays =
     clear_by layer n top is x uri need (others_free layer n top is x p uri need place bears) stays (x.0 == n) refl
 
--- ---- a URI that none bears
+-- ---- a URI that none has
 
-pub clear_free : (layer : Layer) (n : ℕ) (top : Document) → IsMade layer n top → (uri : List ℕ) → AllByRecursion (λ e. IsFree uri e.1) (counted 0 layer) → IsClear layer n top (to_embed layer n) uri
+pub clear_free : (layer : Layer) (n : ℕ) (top : Document) → IsMade layer n top → (uri : List ℕ) → AllByRecursion (λ e. IsFree uri e.1) (counted_documents 0 layer) → IsClear layer n top (to_embed layer n) uri
 clear_free layer n top is uri free_ =
     borne_by_none free_
-    (all_filter (λ e. IsFree uri e.1) (λ (e : ℕ × Document). not (e.0 == n)) (needed_documents layer n) (all_filter (λ e. IsFree uri e.1) (λ (e : ℕ × Document). is_among (needed layer n) e.0) (counted 0 layer) free_))
-    (each_in (λ e. IsFree uri e.1) (counted 0 layer) (n, top) free_ (root_counted layer n top is.at))
+    (all_filter (λ e. IsFree uri e.1) (λ (e : ℕ × Document). not (e.0 == n)) (needed_documents layer n) (all_filter (λ e. IsFree uri e.1) (λ (e : ℕ × Document). is_among (numbers_of_needed layer n) e.0) (counted_documents 0 layer) free_))
+    (each_in (λ e. IsFree uri e.1) (counted_documents 0 layer) (n, top) free_ (root_counted layer n top is.at))
 
 -- ---- a URI that a needed place refers to
 

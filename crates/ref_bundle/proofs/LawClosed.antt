@@ -3,10 +3,10 @@ use Rattle.std.proofs.Common.{◌≡◌, ℕ, zero, suc, ◌+◌, ◌≤◌, ◌
 use Rattle.std.specs.List.{AllByRecursion, Contains}
 use Rattle.std.specs.Option.{option_map_or, option_to_list}
 use Rattle.std.proofs.lemmas.List.Elements.{Contains-append_right}
-use Rattle.ref_world.specs.World.{Document, Layer}
-use Rattle.ref_world.specs.Places.{Place, places}
-use Rattle.ref_world.proofs.Alone.{first_or_later, in_joined}
-use Rattle.ref_bundle.specs.Needed.{counted, document_under, targets, referred_in, referred, is_among, numbers, with_referred, reached, needed, needed_documents}
+use Rattle.ref_definitions.specs.World.{Document, Layer}
+use Rattle.ref_definitions.specs.Places.{Place, places}
+use Rattle.ref_definitions.proofs.Alone.{first_or_later, in_joined}
+use Rattle.ref_bundle.specs.Needed.{counted_documents, document_under, targets, referred_in, referred_from, is_among, numbers, with_referred, reached_documents, numbers_of_needed, needed_documents}
 
 -- ---- numbers of a list
 
@@ -49,33 +49,33 @@ in_map f (y ∷ ys) x there =
 
 -- ---- documents at their numbers
 
-pub counted_at : (number : ℕ) (ds : Layer) (i : ℕ) (d : Document) → slice_get ds i ≡ Some d → Contains (counted number ds) (i + number, d)
+pub counted_at : (number : ℕ) (ds : Layer) (i : ℕ) (d : Document) → slice_get ds i ≡ Some d → Contains (counted_documents number ds) (i + number, d)
 counted_at number [] i d is = absurd (let e : None ≡ Some d = is in cc)
 counted_at number (c ∷ ds) zero d is = let same : c ≡ d = cc in (0, omega arith, ap (λ x. (number, x)) same ∙ ap (λ n. (n, d)) (let e : number ≡ zero + number = omega arith in e))
 counted_at number (c ∷ ds) (suc i) d is =
-    Contains-append_right ((number, c) ∷ []) (counted (suc number) ds) (suc i + number, d)
-    (subst (λ n. Contains (counted (suc number) ds) (n, d)) (let e : i + suc number ≡ suc i + number = omega arith in e) (counted_at (suc number) ds i d is))
+    Contains-append_right ((number, c) ∷ []) (counted_documents (suc number) ds) (suc i + number, d)
+    (subst (λ n. Contains (counted_documents (suc number) ds) (n, d)) (let e : i + suc number ≡ suc i + number = omega arith in e) (counted_at (suc number) ds i d is))
 
 record IsAtNumber (number : ℕ) (ds : Layer) (x : ℕ × Document) : Type 0 where
   index : ℕ
   is : x.0 ≡ index + number
   there : slice_get ds index ≡ Some x.1
 
-at_number : (number : ℕ) (ds : Layer) (x : ℕ × Document) → Contains (counted number ds) x → IsAtNumber number ds x
+at_number : (number : ℕ) (ds : Layer) (x : ℕ × Document) → Contains (counted_documents number ds) x → IsAtNumber number ds x
 at_number number [] x there = absurd (omega (arith, there.1))
 at_number number (d ∷ ds) x there =
     ⊎_elim
     (λ same. record { index = zero; is = sym (ap (λ (e : ℕ × Document). e.0) same) ∙ (let e : number ≡ zero + number = omega arith in e); there = ap (λ (e : ℕ × Document). Some e.1) same })
     (λ later. let rest = at_number (suc number) ds x later in
     record { index = suc rest.index; is = rest.is ∙ (let e : rest.index + suc number ≡ suc rest.index + number = omega arith in e); there = rest.there })
-    (first_or_later (number, d) (counted (suc number) ds) x there)
+    (first_or_later (number, d) (counted_documents (suc number) ds) x there)
 
-pub got_at : (layer : Layer) (x : ℕ × Document) → Contains (counted 0 layer) x → slice_get layer x.0 ≡ Some x.1
+pub got_at : (layer : Layer) (x : ℕ × Document) → Contains (counted_documents 0 layer) x → slice_get layer x.0 ≡ Some x.1
 got_at layer x there =
     let at = at_number 0 layer x there in
     ap (slice_get layer) (at.is ∙ (let e : at.index + 0 ≡ at.index = omega arith in e)) ∙ at.there
 
-pub length_counted : (number : ℕ) (ds : Layer) → length (map (λ (e : ℕ × Document). e.0) (counted number ds)) ≡ length ds
+pub length_counted : (number : ℕ) (ds : Layer) → length (map (λ (e : ℕ × Document). e.0) (counted_documents number ds)) ≡ length ds
 length_counted number [] = refl
 length_counted number (d ∷ ds) = ap suc (length_counted (suc number) ds)
 
@@ -111,12 +111,12 @@ pub record IsPicked (layer : Layer) (ns : List ℕ) : Type 0 where
   pub are : ns ≡ filter test (numbers layer)
 
 abbrev pub next_test : Layer → List ℕ → ℕ → Bool
-next_test layer some n = is_among some n || is_among (flat_map (referred layer) some) n
+next_test layer some n = is_among some n || is_among (flat_map (referred_from layer) some) n
 
 weaker_next : (layer : Layer) (ns : List ℕ) (t : ℕ → Bool) (more : List ℕ) → ((n : ℕ) → Contains ns n → t n ≡ true → is_among more n ≡ true) → AllByRecursion (λ n. t n ≡ true → next_test layer more n ≡ true) ns
 weaker_next layer [] t more each = tt
 weaker_next layer (n ∷ ns) t more each = (
-  (λ passes. or_first (is_among more n) (is_among (flat_map (referred layer) more) n) (each n (0, omega arith, refl) passes)),
+  (λ passes. or_first (is_among more n) (is_among (flat_map (referred_from layer) more) n) (each n (0, omega arith, refl) passes)),
   weaker_next layer ns t more (λ m there passes. each m (Contains-append_right (n ∷ []) ns m there) passes),
 )
 
@@ -129,13 +129,13 @@ grows layer some picked =
 pub picked_next : (layer : Layer) (some : List ℕ) → IsPicked layer (with_referred layer some)
 picked_next layer some = record { test = next_test layer some; are = refl }
 
-pub stays_reached : (layer : Layer) (rounds : ℕ) (some : List ℕ) → some ≡ with_referred layer some → reached layer rounds some ≡ some
+pub stays_reached : (layer : Layer) (rounds : ℕ) (some : List ℕ) → some ≡ with_referred layer some → reached_documents layer rounds some ≡ some
 stays_reached layer zero some same = refl
-stays_reached layer (suc rounds) some same = ap (reached layer rounds) (sym same) ∙ stays_reached layer rounds some same
+stays_reached layer (suc rounds) some same = ap (reached_documents layer rounds) (sym same) ∙ stays_reached layer rounds some same
 
 -- after some rounds nothing is added any more, or each has added one
 abbrev IsSettledOr : Layer → ℕ → List ℕ → Type 0
-IsSettledOr layer rounds some = (reached layer rounds some ≡ with_referred layer (reached layer rounds some)) ⊎ (rounds + length some ≤ length (reached layer rounds some))
+IsSettledOr layer rounds some = (reached_documents layer rounds some ≡ with_referred layer (reached_documents layer rounds some)) ⊎ (rounds + length some ≤ length (reached_documents layer rounds some))
 
 settles : (layer : Layer) (rounds : ℕ) (some : List ℕ) → IsPicked layer some → IsSettledOr layer rounds some
 settles layer zero some picked = inr (omega arith)
@@ -144,12 +144,12 @@ settles layer (suc rounds) some picked =
   where
     by_growth : SameOrMore some (with_referred layer some) → IsSettledOr layer rounds (with_referred layer some) → IsSettledOr layer (suc rounds) some
     by_growth (inl same) later =
-        let end : reached layer (suc rounds) some ≡ some = stays_reached layer (suc rounds) some same in
+        let end : reached_documents layer (suc rounds) some ≡ some = stays_reached layer (suc rounds) some same in
         inl (end ∙ same ∙ ap (with_referred layer) (sym end))
     by_growth (inr less) (inl settled) = inl settled
     by_growth (inr less) (inr many) = inr (omega (arith, less, many))
 
-pub picked_after : (layer : Layer) (rounds : ℕ) (some : List ℕ) → IsPicked layer some → IsPicked layer (reached layer rounds some)
+pub picked_after : (layer : Layer) (rounds : ℕ) (some : List ℕ) → IsPicked layer some → IsPicked layer (reached_documents layer rounds some)
 picked_after layer zero some picked = picked
 picked_after layer (suc rounds) some picked = picked_after layer rounds (with_referred layer some) (picked_next layer some)
 
@@ -165,31 +165,31 @@ longer_than_none (m ∷ ns) n there = omega arith
 pub picked_begun : (layer : Layer) (root : ℕ) → IsPicked layer (filter (λ n. n == root) (numbers layer))
 picked_begun layer root = record { test = λ n. n == root; are = refl }
 
-pub in_numbers : (layer : Layer) (x : ℕ × Document) → Contains (counted 0 layer) x → Contains (numbers layer) x.0
-in_numbers layer x there = in_map (λ (e : ℕ × Document). e.0) (counted 0 layer) x there
+pub in_numbers : (layer : Layer) (x : ℕ × Document) → Contains (counted_documents 0 layer) x → Contains (numbers layer) x.0
+in_numbers layer x there = in_map (λ (e : ℕ × Document). e.0) (counted_documents 0 layer) x there
 
-pub root_begun : (layer : Layer) (x : ℕ × Document) → Contains (counted 0 layer) x → Contains (filter (λ n. n == x.0) (numbers layer)) x.0
+pub root_begun : (layer : Layer) (x : ℕ × Document) → Contains (counted_documents 0 layer) x → Contains (filter (λ n. n == x.0) (numbers layer)) x.0
 root_begun layer x there = kept_in (λ n. n == x.0) (numbers layer) x.0 (in_numbers layer x there) (eq-eqb x.0 x.0 refl)
 
 -- nothing more is needed
-pub settled : (layer : Layer) (x : ℕ × Document) → Contains (counted 0 layer) x → needed layer x.0 ≡ with_referred layer (needed layer x.0)
+pub settled : (layer : Layer) (x : ℕ × Document) → Contains (counted_documents 0 layer) x → numbers_of_needed layer x.0 ≡ with_referred layer (numbers_of_needed layer x.0)
 settled layer x there =
     let start = filter (λ n. n == x.0) (numbers layer) in
     let one = longer_than_none start x.0 (root_begun layer x there) in
-    let short = picked_shorter layer (needed layer x.0) (picked_after layer (length layer) start (picked_begun layer x.0)) in
+    let short = picked_shorter layer (numbers_of_needed layer x.0) (picked_after layer (length layer) start (picked_begun layer x.0)) in
     ⊎_elim (λ is. is) (λ many. absurd (omega (arith, one, short, many))) (settles layer (length layer) start (picked_begun layer x.0))
 
 -- what is needed stays so
-pub stays_needed : (layer : Layer) (rounds : ℕ) (some : List ℕ) (n : ℕ) → Contains (numbers layer) n → Contains some n → Contains (reached layer rounds some) n
+pub stays_needed : (layer : Layer) (rounds : ℕ) (some : List ℕ) (n : ℕ) → Contains (numbers layer) n → Contains some n → Contains (reached_documents layer rounds some) n
 stays_needed layer zero some n own there = there
 stays_needed layer (suc rounds) some n own there =
     stays_needed layer rounds (with_referred layer some) n own
-    (kept_in (next_test layer some) (numbers layer) n own (or_first (is_among some n) (is_among (flat_map (referred layer) some) n) (is_there some n there)))
+    (kept_in (next_test layer some) (numbers layer) n own (or_first (is_among some n) (is_among (flat_map (referred_from layer) some) n) (is_there some n there)))
 
-pub root_needed : (layer : Layer) (x : ℕ × Document) → Contains (counted 0 layer) x → Contains (needed_documents layer x.0) x
+pub root_needed : (layer : Layer) (x : ℕ × Document) → Contains (counted_documents 0 layer) x → Contains (needed_documents layer x.0) x
 root_needed layer x there =
-    kept_in (λ (e : ℕ × Document). is_among (needed layer x.0) e.0) (counted 0 layer) x there
-    (is_there (needed layer x.0) x.0 (stays_needed layer (length layer) (filter (λ n. n == x.0) (numbers layer)) x.0 (in_numbers layer x there) (root_begun layer x there)))
+    kept_in (λ (e : ℕ × Document). is_among (numbers_of_needed layer x.0) e.0) (counted_documents 0 layer) x there
+    (is_there (numbers_of_needed layer x.0) x.0 (stays_needed layer (length layer) (filter (λ n. n == x.0) (numbers layer)) x.0 (in_numbers layer x there) (root_begun layer x there)))
 
 -- ---- closed
 
@@ -206,18 +206,18 @@ listed None k is = absurd (let e : None ≡ Some k = is in cc)
 listed (Some n) k is = (0, omega arith, let e : Some n ≡ Some k = is in cc)
 
 -- the document that a target of a needed document's place means is needed
-pub target_needed : (layer : Layer) (root e x : ℕ × Document) (p : Place) (uri : List ℕ) → Contains (counted 0 layer) root → Contains (needed_documents layer root.0) e → Contains (places e.1) p → Contains (targets p) uri
-    → document_under layer uri ≡ Some x.0 → Contains (counted 0 layer) x → Contains (needed_documents layer root.0) x
+pub target_needed : (layer : Layer) (root e x : ℕ × Document) (p : Place) (uri : List ℕ) → Contains (counted_documents 0 layer) root → Contains (needed_documents layer root.0) e → Contains (places e.1) p → Contains (targets p) uri
+    → document_under layer uri ≡ Some x.0 → Contains (counted_documents 0 layer) x → Contains (needed_documents layer root.0) x
 target_needed layer root e x p uri there need place target means own =
-    let of_e = passes_kept (λ (y : ℕ × Document). is_among (needed layer root.0) y.0) (counted 0 layer) e need in
+    let of_e = passes_kept (λ (y : ℕ × Document). is_among (numbers_of_needed layer root.0) y.0) (counted_documents 0 layer) e need in
     let in_document : Contains (referred_in layer e.1) x.0 =
     in_joined (λ u. option_to_list (document_under layer u)) (flat_map targets (places e.1)) uri x.0 (in_joined targets (places e.1) p uri place target) (listed (document_under layer uri) x.0 means) in
-    let in_number : Contains (referred layer e.0) x.0 =
+    let in_number : Contains (referred_from layer e.0) x.0 =
     subst (λ o. Contains (option_map_or (referred_in layer) o []) x.0) (sym (got_at layer e of_e.0)) in_document in
-    let in_all : Contains (flat_map (referred layer) (needed layer root.0)) x.0 =
-    in_joined (referred layer) (needed layer root.0) e.0 x.0 (there_is (needed layer root.0) e.0 of_e.1) in_number in
-    let among : Contains (with_referred layer (needed layer root.0)) x.0 =
-    kept_in (next_test layer (needed layer root.0)) (numbers layer) x.0 (in_numbers layer x own)
-    (or_second (is_among (needed layer root.0) x.0) (is_among (flat_map (referred layer) (needed layer root.0)) x.0) (is_there (flat_map (referred layer) (needed layer root.0)) x.0 in_all)) in
-    kept_in (λ (y : ℕ × Document). is_among (needed layer root.0) y.0) (counted 0 layer) x own
-    (is_there (needed layer root.0) x.0 (subst (λ ns. Contains ns x.0) (sym (settled layer root there)) among))
+    let in_all : Contains (flat_map (referred_from layer) (numbers_of_needed layer root.0)) x.0 =
+    in_joined (referred_from layer) (numbers_of_needed layer root.0) e.0 x.0 (there_is (numbers_of_needed layer root.0) e.0 of_e.1) in_number in
+    let among : Contains (with_referred layer (numbers_of_needed layer root.0)) x.0 =
+    kept_in (next_test layer (numbers_of_needed layer root.0)) (numbers layer) x.0 (in_numbers layer x own)
+    (or_second (is_among (numbers_of_needed layer root.0) x.0) (is_among (flat_map (referred_from layer) (numbers_of_needed layer root.0)) x.0) (is_there (flat_map (referred_from layer) (numbers_of_needed layer root.0)) x.0 in_all)) in
+    kept_in (λ (y : ℕ × Document). is_among (numbers_of_needed layer root.0) y.0) (counted_documents 0 layer) x own
+    (is_there (numbers_of_needed layer root.0) x.0 (subst (λ ns. Contains ns x.0) (sym (settled layer root there)) among))

@@ -1,4 +1,4 @@
--- What a URI that no place of a document bears leaves of its entries and names: nothing.
+-- What a URI that no place of a document has leaves of its entries and names: nothing.
 use Rattle.std.proofs.Common.{◌≡◌, ℕ, zero, suc, Bool, true, false, cond, ◌&&◌, List, [], ◌∷◌, ◌++◌, flat_map, map, filter, Option, Some, None, option_map, option_and_then, Result, Ok, Err, refl, sym, ap, subst, ◌∙◌, bytes_eq}
 use Rattle.std.specs.Bool.{⊤}
 use Rattle.std.specs.List.{AllByRecursion}
@@ -8,13 +8,13 @@ use Rattle.std.proofs.lemmas.List.Elements.{filter-append}
 use Rattle.serde_json.specs.Data.{depth}
 use Rattle.ref_parts.specs.Path.{Part}
 use Rattle.ref_draft.specs.Anchors.{Kind, anchors}
-use Rattle.ref_draft.specs.Children.{Walked, walked}
+use Rattle.ref_draft.specs.Children.{Walked, walked_children}
 use Rattle.ref_uri.specs.Targets.{Refusal}
 use Rattle.ref_draft.proofs.Lists.{all_append}
-use Rattle.ref_world.specs.World.{Document}
-use Rattle.ref_world.specs.Places.{Place, root, base_within, identifier_of, child_place, children_with, children_of, levels_below, places}
-use Rattle.ref_world.specs.Resources.{resource_of, resources_in}
-use Rattle.ref_world.specs.Anchors.{Named, named_under, named_at}
+use Rattle.ref_definitions.specs.World.{Document}
+use Rattle.ref_definitions.specs.Places.{Place, root, base_within, identifier_of, child_place, children_with, children_of, levels_below, places}
+use Rattle.ref_definitions.specs.Resources.{resource_of, resources_in}
+use Rattle.ref_definitions.specs.Anchors.{Named, named_under, named_at}
 
 -- ---- lists
 
@@ -71,7 +71,7 @@ not_kept : {A : Type 0} (x : A) (b : Bool) → cond b (x ∷ []) [] ≡ [] → b
 not_kept x true is = absurd (let e : x ∷ [] ≡ [] = is in cc)
 not_kept x false is = refl
 
--- what a place bears is its base, where it has an identifier
+-- what a place has is its base, where it has an identifier
 other_by : (uri outer : List ℕ) (p : Place) (id : Option (List ℕ)) (base : Result (List ℕ) Refusal) → base ≡ base_within outer id → bytes_eq outer uri ≡ false
     → Under uri (option_to_list (option_map (λ u. (u, p)) (option_and_then (λ i. result_ok base) id))) ≡ [] → IsOther uri base
 other_by uri outer p None base is other none = subst (IsOther uri) (sym is) other
@@ -95,7 +95,7 @@ other_children uri path base (c ∷ cs) other none =
     (other_base uri base (child_place path base c) refl other none.0, other_children uri path base cs other none.1)
 
 other_with : (uri : List ℕ) (p : Place) (base : Result (List ℕ) Refusal) → IsOther uri base → NoneBears uri (children_with base p) → AllOther uri (children_with base p)
-other_with uri p (Ok base) other none = other_children uri p.path base (walked p.draft p.value) other none
+other_with uri p (Ok base) other none = other_children uri p.path base (walked_children p.draft p.value) other none
 other_with uri p (Err refusal) other none = tt
 
 other_level : (uri : List ℕ) (ps : List Place) → AllOther uri ps → NoneBears uri (flat_map children_of ps) → AllOther uri (flat_map children_of ps)
@@ -133,7 +133,7 @@ pub none_at : (uri name : List ℕ) (ps : List Place) → AllOther uri ps → Al
 none_at uri name [] other = tt
 none_at uri name (p ∷ ps) other = (none_with uri name p p.base other.0, none_at uri name ps other.1)
 
--- ---- a document that doesn't bear a URI
+-- ---- a document that doesn't have a URI
 
 pub record IsFree (uri : List ℕ) (d : Document) : Type 0 where
   pub entry : bytes_eq d.uri uri ≡ false

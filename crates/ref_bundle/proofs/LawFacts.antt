@@ -14,15 +14,15 @@ use Rattle.ref_draft.specs.Children.{is_object, InKeyOrder}
 use Rattle.ref_draft.specs.Schema.{identifier}
 use Rattle.ref_draft.proofs.Lists.{all_filter}
 use Rattle.ref_uri.specs.Targets.{Refusal}
-use Rattle.ref_world.specs.World.{Document, Layer, World}
-use Rattle.ref_world.specs.Places.{Place, root, base_within, places}
-use Rattle.ref_world.specs.Wants.{faults}
-use Rattle.ref_world.proofs.Alone.{first_or_later}
-use Rattle.ref_world.proofs.AtOrBelow.{place_has_base}
+use Rattle.ref_definitions.specs.World.{Document, Layer, World}
+use Rattle.ref_definitions.specs.Places.{Place, root, base_within, places}
+use Rattle.ref_definitions.specs.Wants.{faults}
+use Rattle.ref_definitions.proofs.Alone.{first_or_later}
+use Rattle.ref_definitions.proofs.AtOrBelow.{place_has_base}
 use Rattle.ref_bundle.specs.Merges.{IsMergeOf}
-use Rattle.ref_bundle.specs.Needed.{counted, is_among, needed, needed_documents}
+use Rattle.ref_bundle.specs.Needed.{counted_documents, is_among, numbers_of_needed, needed_documents}
 use Rattle.ref_bundle.specs.Embedding.{base_uri}
-use Rattle.ref_bundle.specs.Bundle.{Bundle, BundleRefusal, NoMap, KeyTaken, definitions_keyword, members_or_none, member_of, uris_of, at_path, taken, map_refusals, root_refusals, refusals, to_embed, bundle_of}
+use Rattle.ref_bundle.specs.Bundle.{Bundle, BundleRefusal, NoMap, KeyTaken, definitions_keyword, members_or_none, member_of, uris_of, at_path, taken_key, map_refusals, root_refusals, refusals, to_embed, bundle_of}
 use Rattle.ref_bundle.specs.Kept.{IsBundle, document_of_bundle, places_of_embedded, places_of_root}
 use Rattle.ref_bundle.proofs.LawEntries.{IsFree, IsOther, each_none}
 use Rattle.ref_bundle.proofs.LawBorne.{IsPut}
@@ -36,12 +36,12 @@ use Rattle.ref_bundle.proofs.LawBundled.{not_refused, none_in, no_obstacle, no_r
 
 -- ---- bases
 
-pub in_layer : (k : ℕ) (ds : Layer) (x : ℕ × Document) → Contains (counted k ds) x → Contains ds x.1
+pub in_layer : (k : ℕ) (ds : Layer) (x : ℕ × Document) → Contains (counted_documents k ds) x → Contains ds x.1
 in_layer k [] x there = absurd (omega (arith, there.1))
 in_layer k (d ∷ ds) x there =
-    ⊎_elim (λ same. (0, omega arith, ap (λ (e : ℕ × Document). e.1) same)) (λ later. Contains-append_right (d ∷ []) ds x.1 (in_layer (suc k) ds x later)) (first_or_later (k, d) (counted (suc k) ds) x there)
+    ⊎_elim (λ same. (0, omega arith, ap (λ (e : ℕ × Document). e.1) same)) (λ later. Contains-append_right (d ∷ []) ds x.1 (in_layer (suc k) ds x later)) (first_or_later (k, d) (counted_documents (suc k) ds) x there)
 
-pub root_base : (layer : Layer) (x : ℕ × Document) → faults layer ≡ [] → Contains (counted 0 layer) x → (root x.1).base ≡ Ok (base_uri x.1)
+pub root_base : (layer : Layer) (x : ℕ × Document) → faults layer ≡ [] → Contains (counted_documents 0 layer) x → (root x.1).base ≡ Ok (base_uri x.1)
 root_base layer x none there =
     let base = place_has_base layer x.1 (root x.1) none (in_layer 0 layer x there) (0, omega arith, refl) in
     base.1 ∙ ap (λ u. Ok u) (sym (base_is x.1 base.0 base.1))
@@ -66,20 +66,20 @@ made layer parents n top bundle is =
     let both = not_refused layer n top bundle is.root is.is in
     (record { no_fault = is.no_fault; at = is.root; in_order = is.in_order; unrefused = both.0 }, both.1)
 
-pub root_counted : (layer : Layer) (n : ℕ) (top : Document) → slice_get layer n ≡ Some top → Contains (counted 0 layer) (n, top)
-root_counted layer n top at = subst (λ k. Contains (counted 0 layer) (k, top)) (let e : n + 0 ≡ n = omega arith in e) (counted_at 0 layer n top at)
+pub root_counted : (layer : Layer) (n : ℕ) (top : Document) → slice_get layer n ≡ Some top → Contains (counted_documents 0 layer) (n, top)
+root_counted layer n top at = subst (λ k. Contains (counted_documents 0 layer) (k, top)) (let e : n + 0 ≡ n = omega arith in e) (counted_at 0 layer n top at)
 
-pub needed_counted : (layer : Layer) (n : ℕ) (x : ℕ × Document) → Contains (needed_documents layer n) x → Contains (counted 0 layer) x
-needed_counted layer n x there = (passes_kept (λ (e : ℕ × Document). is_among (needed layer n) e.0) (counted 0 layer) x there).0
+pub needed_counted : (layer : Layer) (n : ℕ) (x : ℕ × Document) → Contains (needed_documents layer n) x → Contains (counted_documents 0 layer) x
+needed_counted layer n x there = (passes_kept (λ (e : ℕ × Document). is_among (numbers_of_needed layer n) e.0) (counted_documents 0 layer) x there).0
 
 pub embedded_needed : (layer : Layer) (n : ℕ) (x : ℕ × Document) → Contains (to_embed layer n) x → Contains (needed_documents layer n) x × ¬ (x.0 ≡ n)
 embedded_needed layer n x there =
     let both = passes_kept (λ (e : ℕ × Document). not (e.0 == n)) (needed_documents layer n) x there in
     (both.0, λ same. true≢false (sym both.1 ∙ ap not (eq-eqb x.0 n same)))
 
--- documents with other numbers don't bear a URI that a place of a needed document bears
+-- documents with other numbers don't have a URI that a place of a needed document has
 pub others_free : (layer : Layer) (n : ℕ) (top : Document) → IsMade layer n top → (x : ℕ × Document) (p : Place) (uri : List ℕ) → Contains (needed_documents layer n) x → Contains (places x.1) p → Contains (uris_of x.1 p) uri
-    → AllByRecursion (λ e. ¬ (e.0 ≡ x.0) → IsFree uri e.1) (counted 0 layer)
+    → AllByRecursion (λ e. ¬ (e.0 ≡ x.0) → IsFree uri e.1) (counted_documents 0 layer)
 others_free layer n top is x p uri need place bears =
     free_but layer (x.0, p.path) uri (not_shared layer n x p uri (no_problem layer n top x p (none_in layer n top x is.unrefused need) place) bears)
 
@@ -89,9 +89,9 @@ abbrev NumbersApart : List (ℕ × Document) → Type 0
 NumbersApart [] = ⊤
 NumbersApart (e ∷ es) = AllByRecursion (λ f. ¬ (f.0 ≡ e.0)) es × NumbersApart es
 
-counted_apart : (k : ℕ) (ds : Layer) → NumbersApart (counted k ds)
+counted_apart : (k : ℕ) (ds : Layer) → NumbersApart (counted_documents k ds)
 counted_apart k [] = tt
-counted_apart k (d ∷ ds) = (not_equal (suc k) k (counted (suc k) ds) (omega arith) (above (suc k) ds (suc k) (omega arith)), counted_apart (suc k) ds)
+counted_apart k (d ∷ ds) = (not_equal (suc k) k (counted_documents (suc k) ds) (omega arith) (above (suc k) ds (suc k) (omega arith)), counted_apart (suc k) ds)
 
 kept_apart : (test : ℕ × Document → Bool) (es : List (ℕ × Document)) → NumbersApart es → NumbersApart (filter test es)
 kept_apart test [] apart = tt
@@ -126,7 +126,7 @@ bases_apart layer n top is e f there also other =
     let own = needed_counted layer n e need in
     let base = root_base layer e is.no_fault own in
     let at_f = needed_counted layer n f (embedded_needed layer n f also).0 in
-    let free_ = each_in (λ x. ¬ (x.0 ≡ e.0) → IsFree (base_uri e.1) x.1) (counted 0 layer) f
+    let free_ = each_in (λ x. ¬ (x.0 ≡ e.0) → IsFree (base_uri e.1) x.1) (counted_documents 0 layer) f
     (others_free layer n top is e (root e.1) (base_uri e.1) need (0, omega arith, refl) (base_borne e.1 (base_uri e.1) base)) at_f other in
     other_base_of (base_uri e.1) (base_uri f.1) (root f.1).base (root_base layer f is.no_fault at_f) free_.bases.0
 
@@ -140,7 +140,7 @@ none_there : (o : Option Data) (r : BundleRefusal) → cond (is_some o) (r ∷ [
 none_there None r is = refl
 none_there (Some value) r is = absurd (let e : r ∷ [] ≡ [] = is in cc)
 
-none_taken : (n : ℕ) (keyword : List ℕ) (draft : Draft) (ms : Members) (es : List (ℕ × Document)) → AllByRecursion (λ e. taken n keyword ms e ≡ []) es → NoneTaken ms (map (member_of draft) es)
+none_taken : (n : ℕ) (keyword : List ℕ) (draft : Draft) (ms : Members) (es : List (ℕ × Document)) → AllByRecursion (λ e. taken_key n keyword ms e ≡ []) es → NoneTaken ms (map (member_of draft) es)
 none_taken n keyword draft ms [] none = tt
 none_taken n keyword draft ms (e ∷ es) none =
     (none_there (get_member (base_uri e.1) ms) (at_path n (Key keyword ∷ Key (base_uri e.1) ∷ []) (KeyTaken (base_uri e.1))) none.0, none_taken n keyword draft ms es none.1)
@@ -161,7 +161,7 @@ place_by n keyword draft (Some (string s)) es none = no_map n keyword es _ none
 place_by n keyword draft (Some (array ds)) es none = no_map n keyword es _ none
 place_by n keyword draft (Some (object ms)) es none = record {
   has_map = inr (ms, refl);
-  free = none_taken n keyword draft ms es (each_none (taken n keyword ms) es none);
+  free = none_taken n keyword draft ms es (each_none (taken_key n keyword ms) es none);
 }
 
 room_by : (n : ℕ) (top : Document) (es : List (ℕ × Document)) → root_refusals (n, top) es ≡ [] → (¬ (es ≡ []) → is_object top.tree ≡ true) → KeysApart (map (member_of top.draft) es) → HasRoomFor top es
@@ -176,7 +176,7 @@ room layer n top is =
     let none = none_in layer n top (n, top) is.unrefused (root_needed layer (n, top) own) in
     room_by n top (to_embed layer n) (no_root_refusal layer n top none) (λ some. root_object layer n top (is_object top.tree) refl is.at some)
     (keys_apart top.draft (to_embed layer n) (bases_apart layer n top is)
-    (kept_apart (λ (e : ℕ × Document). not (e.0 == n)) (needed_documents layer n) (kept_apart (λ (e : ℕ × Document). is_among (needed layer n) e.0) (counted 0 layer) (counted_apart 0 layer))))
+    (kept_apart (λ (e : ℕ × Document). not (e.0 == n)) (needed_documents layer n) (kept_apart (λ (e : ℕ × Document). is_among (numbers_of_needed layer n) e.0) (counted_documents 0 layer) (counted_apart 0 layer))))
 
 -- ---- each is put
 

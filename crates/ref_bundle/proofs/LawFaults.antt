@@ -9,13 +9,13 @@ use Rattle.ref_parts.specs.Path.{Key}
 use Rattle.ref_parts.specs.Pointer.{unescape, tokens}
 use Rattle.ref_draft.specs.declared.draft.Draft.{Draft}
 use Rattle.ref_draft.specs.Children.{is_object}
-use Rattle.ref_world.specs.Results.{◌>>=◌}
-use Rattle.ref_world.specs.World.{Document, World}
-use Rattle.ref_world.specs.Places.{Place, root}
-use Rattle.ref_world.specs.Fault.{Fault, PointerToNowhere, InvalidPercentEncoding, as_invalid_uri}
-use Rattle.ref_world.specs.Bases.{Along, along_part}
-use Rattle.ref_world.specs.Pointers.{walked_along}
-use Rattle.ref_world.specs.Lookup.{Resolver, at_fragment}
+use Rattle.ref_definitions.specs.Results.{◌>>=◌}
+use Rattle.ref_definitions.specs.World.{Document, World}
+use Rattle.ref_definitions.specs.Places.{Place, root}
+use Rattle.ref_definitions.specs.Fault.{Fault, PointerToNowhere, InvalidPercentEncoding, as_invalid_uri}
+use Rattle.ref_definitions.specs.Bases.{Along, along_part}
+use Rattle.ref_definitions.specs.Pointers.{walked_along}
+use Rattle.ref_definitions.specs.Lookup.{Resolver, at_fragment}
 use Rattle.ref_bundle.specs.Embedding.{base_uri}
 use Rattle.ref_bundle.specs.Bundle.{definitions_keyword, definitions_of, member_of, to_embed}
 use Rattle.ref_bundle.specs.Kept.{to_definitions, to_embedded, AddedDefinitionsWereFaults}

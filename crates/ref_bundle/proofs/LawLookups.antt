@@ -1,21 +1,27 @@
 -- Look-ups in a bundle answer what they answered.
+--
+-- 1. Values and drafts: an embedded document has its draft still, and its places have their values, but for what was added.
+-- 2. A dynamic anchor: its identifier against the URI that it was found under gives the same base, and the entries of the scope are
+--    those that were there, each moved to its place in the bundle.
+-- 3. A pointer goes the way that it went, unless it goes into what was added (`pointed_value` over `LawPointers`).
+-- 4. A fragment is empty, a pointer or a name; a look-up is the URI's place and its fragment. `keeps_references` puts them together.
 use Rattle.std.proofs.Common.{◌≡◌, ℕ, Bool, true, false, not, cond, ◌&&◌, ◌||◌, ◌==◌, eqb-true, List, [], ◌∷◌, ◌++◌, flat_map, filter, length, Option, Some, None, Result, Ok, Err, ok_or, bytes_eq, ◌⊎◌, inl, inr, ⊎_elim, refl, sym, ap, subst, ◌∙◌, true≢false, arith}
 use Rattle.std.specs.List.{AllByRecursion, Contains, last_or, list_any}
 use Rattle.std.specs.Option.{unwrap_or}
 use Rattle.serde_json.specs.Data.{Data}
 use Rattle.ref_draft.specs.declared.draft.Draft.{Draft}
 use Rattle.ref_draft.specs.Anchors.{Kind, Plain, Dynamic, anchors}
-use Rattle.ref_draft.specs.Schema.{identifier, trimmed}
-use Rattle.ref_uri.specs.Targets.{Refusal, against, target, fragment_part}
-use Rattle.ref_world.specs.Results.{◌>>=◌}
-use Rattle.ref_world.specs.World.{Document, Layer, World}
-use Rattle.ref_world.specs.Places.{Place, root, base_within}
-use Rattle.ref_world.specs.Resources.{means}
-use Rattle.ref_world.specs.Anchors.{Named, anchor}
-use Rattle.ref_world.specs.Fault.{Fault, as_invalid_uri, not_retrieved}
-use Rattle.ref_world.specs.Pointers.{pointed}
-use Rattle.ref_world.specs.Lookup.{Resolver, Found, moved, in_scope, fault_of, entry_of, is_dynamic, unless_fault, entry_found, outermost, by_scope, named_found, pointer_found, at_fragment, lookup}
-use Rattle.ref_world.proofs.Alone.{first_or_later}
+use Rattle.ref_draft.specs.Schema.{identifier, trimmed_text}
+use Rattle.ref_uri.specs.Targets.{Refusal, uri_against, target, fragment_part}
+use Rattle.ref_definitions.specs.Results.{◌>>=◌}
+use Rattle.ref_definitions.specs.World.{Document, Layer, World}
+use Rattle.ref_definitions.specs.Places.{Place, root, base_within}
+use Rattle.ref_definitions.specs.Resources.{meant_place}
+use Rattle.ref_definitions.specs.Anchors.{Named, anchor}
+use Rattle.ref_definitions.specs.Fault.{Fault, as_invalid_uri, not_retrieved}
+use Rattle.ref_definitions.specs.Pointers.{pointed_value}
+use Rattle.ref_definitions.specs.Lookup.{Resolver, Found, moved_resolver, in_scope, fault_of, entry_of, is_dynamic, unless_fault, entry_found, outermost, by_scope, named_found, pointer_found, at_fragment, lookup}
+use Rattle.ref_definitions.proofs.Alone.{first_or_later}
 use Rattle.ref_bundle.specs.Embedding.{base_uri, embedded_tree, is_uri_of, has_dynamic_anchor}
 use Rattle.ref_bundle.specs.Bundle.{Bundle, to_embed, bundle_of}
 use Rattle.ref_bundle.specs.Kept.{world_of_bundle, place_in, IsValueNow, the_same, an_embedded, the_root, IsAnswerNow, GoesIntoAdded, PointsIntoAdded, IsBorneByNeeded, KeepsReferences}
@@ -92,11 +98,11 @@ base_now layer n top is uri name kind q p (found_embedded e there now before at 
     let kept : base_within (base_uri d) (identifier d.draft d.tree) ≡ Ok (base_uri d) =
     uri_given (base_within (base_uri d) (identifier d.draft d.tree)) (base_uri d)
     (unmoved_by (has_dynamic_anchor d) (is_uri_of (base_within (base_uri d) (identifier d.draft d.tree)) (base_uri d)) able.settled (dynamic_there (anchors d.draft d.tree) name kind anchored dynamic)) in
-    let id : identifier (place_in top d).draft (embedded_tree top.draft d) ≡ Some (trimmed (base_uri d)) =
+    let id : identifier (place_in top d).draft (embedded_tree top.draft d) ≡ Some (trimmed_text (base_uri d)) =
     ap (λ x. identifier x (embedded_tree top.draft d)) (draft_embedded top.draft d able.object able.told) ∙ identifier_embedded top.draft top d able in
     ap (λ (x : Place). base_within uri (identifier x.draft x.value)) now
     ∙ ap (base_within uri) id
-    ∙ ap (λ u. against u (trimmed (base_uri d))) at
+    ∙ ap (λ u. uri_against u (trimmed_text (base_uri d))) at
     ∙ given_back (base_uri d) (base_uri d) able.kept_itself
     ∙ sym kept
     ∙ ap (λ u. base_within u (identifier d.draft d.tree)) (sym at)
@@ -223,23 +229,23 @@ anchor_answer layer parents n top is r safe (Err f) (Err g) both = both
 -- ---- a pointer
 
 pointed_now : (layer : Layer) (n : ℕ) (top : Document) → IsMade layer n top → (r : Resolver) (uri pointer text : List ℕ) (q p : Place) → IsNowUnder top (to_embed layer n) uri q p
-    → IsAnswerNow layer n top (bundle_of top (to_embed layer n)) (AnswerOf r q.draft (pointed q.draft pointer r.base q.value text)) (AnswerOf r p.draft (pointed p.draft pointer r.base p.value text))
+    → IsAnswerNow layer n top (bundle_of top (to_embed layer n)) (AnswerOf r q.draft (pointed_value q.draft pointer r.base q.value text)) (AnswerOf r p.draft (pointed_value p.draft pointer r.base p.value text))
     ⊎ GoesIntoAdded layer n top p (47 ∷ text)
 pointed_now layer n top is r uri pointer text q p (same_under v d b) =
     inl (equal_answer layer n top (bundle_of top (to_embed layer n)) _ _
-    (ap (λ x. AnswerOf r x (pointed x pointer r.base q.value text)) d ∙ ap (λ x. AnswerOf r p.draft (pointed p.draft pointer r.base x text)) v))
+    (ap (λ x. AnswerOf r x (pointed_value x pointer r.base q.value text)) d ∙ ap (λ x. AnswerOf r p.draft (pointed_value p.draft pointer r.base x text)) v))
 pointed_now layer n top is r uri pointer text q p (embedded_under e there now before at) =
     let bundle = bundle_of top (to_embed layer n) in
-    let answer = λ (x : Place). AnswerOf r x.draft (pointed x.draft pointer r.base x.value text) in
-    let here : answer q ≡ AnswerOf r e.1.draft (pointed e.1.draft pointer r.base (embedded_tree top.draft e.1) text) =
-    ap answer now ∙ ap (λ x. AnswerOf r x (pointed x pointer r.base (embedded_tree top.draft e.1) text)) (put_of layer n top is e there).same_draft in
+    let answer = λ (x : Place). AnswerOf r x.draft (pointed_value x.draft pointer r.base x.value text) in
+    let here : answer q ≡ AnswerOf r e.1.draft (pointed_value e.1.draft pointer r.base (embedded_tree top.draft e.1) text) =
+    ap answer now ∙ ap (λ x. AnswerOf r x (pointed_value x pointer r.base (embedded_tree top.draft e.1) text)) (put_of layer n top is e there).same_draft in
     subst (λ a. IsAnswerNow layer n top bundle a (answer p) ⊎ GoesIntoAdded layer n top p (47 ∷ text)) (sym here)
-    (subst (λ x. IsAnswerNow layer n top bundle (AnswerOf r e.1.draft (pointed e.1.draft pointer r.base (embedded_tree top.draft e.1) text)) (answer x) ⊎ GoesIntoAdded layer n top x (47 ∷ text)) (sym before)
+    (subst (λ x. IsAnswerNow layer n top bundle (AnswerOf r e.1.draft (pointed_value e.1.draft pointer r.base (embedded_tree top.draft e.1) text)) (answer x) ⊎ GoesIntoAdded layer n top x (47 ∷ text)) (sym before)
     (embedded_pointed layer n top bundle e there (able_of layer n top is e there) r pointer r.base text))
 pointed_now layer n top is r uri pointer text q p (root_under now before) =
     let es = to_embed layer n in
     let bundle = bundle_of top es in
-    let answer = λ (x : Place). AnswerOf r x.draft (pointed x.draft pointer r.base x.value text) in
+    let answer = λ (x : Place). AnswerOf r x.draft (pointed_value x.draft pointer r.base x.value text) in
     subst (λ x. IsAnswerNow layer n top bundle (answer x) (answer p) ⊎ GoesIntoAdded layer n top p (47 ∷ text)) (sym now)
     (subst (λ x. IsAnswerNow layer n top bundle (answer (root (joined top es))) (answer x) ⊎ GoesIntoAdded layer n top x (47 ∷ text)) (sym before)
     (root_pointed layer n top es refl (room layer n top is) (all_of (λ e. IsEmbeddable top e.1) es (able_of layer n top is)) r pointer r.base text))
@@ -249,11 +255,11 @@ pointed_now layer n top is r uri pointer text q p (root_under now before) =
 by_mark : (layer : Layer) (parents : World) (n : ℕ) (top : Document) → IsMade layer n top → (r : Resolver) → IsSafe layer parents n top r.base → AllByRecursion (IsSafe layer parents n top) r.scope → (uri : List ℕ) (q p : Place) → IsNowUnder top (to_embed layer n) uri q p
     → (c : ℕ) (text : List ℕ) (b : Bool) → (c == 47) ≡ b
     → IsAnswerNow layer n top (bundle_of top (to_embed layer n))
-    (cond b (pointed q.draft (c ∷ text) r.base q.value text >>= λ to. Ok (pointer_found r q.draft to)) (anchor ((joined top (to_embed layer n) ∷ []) ∷ parents) r.base (c ∷ text) >>= λ m. named_found ((joined top (to_embed layer n) ∷ []) ∷ parents) r m m.kind))
-    (cond b (pointed p.draft (c ∷ text) r.base p.value text >>= λ to. Ok (pointer_found r p.draft to)) (anchor (layer ∷ parents) r.base (c ∷ text) >>= λ k. named_found (layer ∷ parents) r k k.kind))
+    (cond b (pointed_value q.draft (c ∷ text) r.base q.value text >>= λ to. Ok (pointer_found r q.draft to)) (anchor ((joined top (to_embed layer n) ∷ []) ∷ parents) r.base (c ∷ text) >>= λ m. named_found ((joined top (to_embed layer n) ∷ []) ∷ parents) r m m.kind))
+    (cond b (pointed_value p.draft (c ∷ text) r.base p.value text >>= λ to. Ok (pointer_found r p.draft to)) (anchor (layer ∷ parents) r.base (c ∷ text) >>= λ k. named_found (layer ∷ parents) r k k.kind))
     ⊎ GoesIntoAdded layer n top p (c ∷ text)
 by_mark layer parents n top is r own safe uri q p now c text true mark =
-    subst (λ d. IsAnswerNow layer n top (bundle_of top (to_embed layer n)) (AnswerOf r q.draft (pointed q.draft (c ∷ text) r.base q.value text)) (AnswerOf r p.draft (pointed p.draft (c ∷ text) r.base p.value text)) ⊎ GoesIntoAdded layer n top p (d ∷ text)) (sym (eqb-true c 47 mark))
+    subst (λ d. IsAnswerNow layer n top (bundle_of top (to_embed layer n)) (AnswerOf r q.draft (pointed_value q.draft (c ∷ text) r.base q.value text)) (AnswerOf r p.draft (pointed_value p.draft (c ∷ text) r.base p.value text)) ⊎ GoesIntoAdded layer n top p (d ∷ text)) (sym (eqb-true c 47 mark))
     (pointed_now layer n top is r uri (c ∷ text) text q p now)
 by_mark layer parents n top is r own safe uri q p now c text false mark =
     inl (anchor_answer layer parents n top is r safe (anchor ((joined top (to_embed layer n) ∷ []) ∷ parents) r.base (c ∷ text)) (anchor (layer ∷ parents) r.base (c ∷ text)) (anchor_now layer parents n top is r.base (c ∷ text) own))
@@ -276,34 +282,34 @@ IsOutcome layer parents n top base reference now before =
     ⊎ PointsIntoAdded layer parents n top base reference
 
 meant_now : (layer : Layer) (parents : World) (n : ℕ) (top : Document) → IsMade layer n top → (r : Resolver) (reference uri : List ℕ) → target r.base reference ≡ Ok uri → IsSafe layer parents n top uri → IsSafe layer parents n top r.base → AllByRecursion (IsSafe layer parents n top) r.scope
-    → (a b : Option Place) → means (layer ∷ parents) uri ≡ b → Meaning layer parents top (to_embed layer n) uri a b
+    → (a b : Option Place) → meant_place (layer ∷ parents) uri ≡ b → Meaning layer parents top (to_embed layer n) uri a b
     → IsOutcome layer parents n top r.base reference
-    (ok_or a (not_retrieved uri) >>= λ place. at_fragment ((joined top (to_embed layer n) ∷ []) ∷ parents) (moved r uri) place (fragment_part reference))
-    (ok_or b (not_retrieved uri) >>= λ place. at_fragment (layer ∷ parents) (moved r uri) place (fragment_part reference))
+    (ok_or a (not_retrieved uri) >>= λ place. at_fragment ((joined top (to_embed layer n) ∷ []) ∷ parents) (moved_resolver r uri) place (fragment_part reference))
+    (ok_or b (not_retrieved uri) >>= λ place. at_fragment (layer ∷ parents) (moved_resolver r uri) place (fragment_part reference))
 meant_now layer parents n top is r reference uri to safe own scope a b means_ (nothing now before) =
     inl (equal_answer layer n top (bundle_of top (to_embed layer n)) _ _
-    (ap (λ o. ok_or o (not_retrieved uri) >>= λ place. at_fragment ((joined top (to_embed layer n) ∷ []) ∷ parents) (moved r uri) place (fragment_part reference)) now
-    ∙ sym (ap (λ o. ok_or o (not_retrieved uri) >>= λ place. at_fragment (layer ∷ parents) (moved r uri) place (fragment_part reference)) before)))
+    (ap (λ o. ok_or o (not_retrieved uri) >>= λ place. at_fragment ((joined top (to_embed layer n) ∷ []) ∷ parents) (moved_resolver r uri) place (fragment_part reference)) now
+    ∙ sym (ap (λ o. ok_or o (not_retrieved uri) >>= λ place. at_fragment (layer ∷ parents) (moved_resolver r uri) place (fragment_part reference)) before)))
 meant_now layer parents n top is r reference uri to safe own scope a b means_ (of_own q p now before place found) =
     let moved_scope = moved_safe_by layer parents n top r.base r.scope ((length r.scope == 0) || not (bytes_eq uri r.base)) own scope in
-    subst (λ o. IsOutcome layer parents n top r.base reference (ok_or o (not_retrieved uri) >>= λ x. at_fragment ((joined top (to_embed layer n) ∷ []) ∷ parents) (moved r uri) x (fragment_part reference)) (ok_or b (not_retrieved uri) >>= λ x. at_fragment (layer ∷ parents) (moved r uri) x (fragment_part reference))) (sym now)
-    (subst (λ o. IsOutcome layer parents n top r.base reference (at_fragment ((joined top (to_embed layer n) ∷ []) ∷ parents) (moved r uri) q (fragment_part reference)) (ok_or o (not_retrieved uri) >>= λ x. at_fragment (layer ∷ parents) (moved r uri) x (fragment_part reference))) (sym before)
+    subst (λ o. IsOutcome layer parents n top r.base reference (ok_or o (not_retrieved uri) >>= λ x. at_fragment ((joined top (to_embed layer n) ∷ []) ∷ parents) (moved_resolver r uri) x (fragment_part reference)) (ok_or b (not_retrieved uri) >>= λ x. at_fragment (layer ∷ parents) (moved_resolver r uri) x (fragment_part reference))) (sym now)
+    (subst (λ o. IsOutcome layer parents n top r.base reference (at_fragment ((joined top (to_embed layer n) ∷ []) ∷ parents) (moved_resolver r uri) q (fragment_part reference)) (ok_or o (not_retrieved uri) >>= λ x. at_fragment (layer ∷ parents) (moved_resolver r uri) x (fragment_part reference))) (sym before)
     (⊎_elim (λ answer. inl answer) (λ added. inr (record { uri = uri; to = to; place = p; meant = means_ ∙ before; goes = added }))
-    (fragment_now layer parents n top is (moved r uri) safe moved_scope uri q p place (fragment_part reference))))
+    (fragment_now layer parents n top is (moved_resolver r uri) safe moved_scope uri q p place (fragment_part reference))))
 meant_now layer parents n top is r reference uri to safe own scope a b means_ (of_parent p now before none outside) =
     let moved_scope = moved_safe_by layer parents n top r.base r.scope ((length r.scope == 0) || not (bytes_eq uri r.base)) own scope in
-    subst (λ o. IsOutcome layer parents n top r.base reference (ok_or o (not_retrieved uri) >>= λ x. at_fragment ((joined top (to_embed layer n) ∷ []) ∷ parents) (moved r uri) x (fragment_part reference)) (ok_or b (not_retrieved uri) >>= λ x. at_fragment (layer ∷ parents) (moved r uri) x (fragment_part reference))) (sym now)
-    (subst (λ o. IsOutcome layer parents n top r.base reference (at_fragment ((joined top (to_embed layer n) ∷ []) ∷ parents) (moved r uri) p (fragment_part reference)) (ok_or o (not_retrieved uri) >>= λ x. at_fragment (layer ∷ parents) (moved r uri) x (fragment_part reference))) (sym before)
+    subst (λ o. IsOutcome layer parents n top r.base reference (ok_or o (not_retrieved uri) >>= λ x. at_fragment ((joined top (to_embed layer n) ∷ []) ∷ parents) (moved_resolver r uri) x (fragment_part reference)) (ok_or b (not_retrieved uri) >>= λ x. at_fragment (layer ∷ parents) (moved_resolver r uri) x (fragment_part reference))) (sym now)
+    (subst (λ o. IsOutcome layer parents n top r.base reference (at_fragment ((joined top (to_embed layer n) ∷ []) ∷ parents) (moved_resolver r uri) p (fragment_part reference)) (ok_or o (not_retrieved uri) >>= λ x. at_fragment (layer ∷ parents) (moved_resolver r uri) x (fragment_part reference))) (sym before)
     (⊎_elim (λ answer. inl answer) (λ added. inr (record { uri = uri; to = to; place = p; meant = means_ ∙ before; goes = added }))
-    (fragment_now layer parents n top is (moved r uri) safe moved_scope uri p p (same_under refl refl refl) (fragment_part reference))))
+    (fragment_now layer parents n top is (moved_resolver r uri) safe moved_scope uri p p (same_under refl refl refl) (fragment_part reference))))
 
 target_now : (layer : Layer) (parents : World) (n : ℕ) (top : Document) → IsMade layer n top → (r : Resolver) (reference : List ℕ) → IsSafe layer parents n top r.base → AllByRecursion (IsSafe layer parents n top) r.scope
     → ((uri : List ℕ) → target r.base reference ≡ Ok uri → IsSafe layer parents n top uri) → (t : Result (List ℕ) Refusal) → target r.base reference ≡ t
     → IsOutcome layer parents n top r.base reference
-    (as_invalid_uri t >>= λ uri. ok_or (means ((joined top (to_embed layer n) ∷ []) ∷ parents) uri) (not_retrieved uri) >>= λ place. at_fragment ((joined top (to_embed layer n) ∷ []) ∷ parents) (moved r uri) place (fragment_part reference))
-    (as_invalid_uri t >>= λ uri. ok_or (means (layer ∷ parents) uri) (not_retrieved uri) >>= λ place. at_fragment (layer ∷ parents) (moved r uri) place (fragment_part reference))
+    (as_invalid_uri t >>= λ uri. ok_or (meant_place ((joined top (to_embed layer n) ∷ []) ∷ parents) uri) (not_retrieved uri) >>= λ place. at_fragment ((joined top (to_embed layer n) ∷ []) ∷ parents) (moved_resolver r uri) place (fragment_part reference))
+    (as_invalid_uri t >>= λ uri. ok_or (meant_place (layer ∷ parents) uri) (not_retrieved uri) >>= λ place. at_fragment (layer ∷ parents) (moved_resolver r uri) place (fragment_part reference))
 target_now layer parents n top is r reference own scope safe (Ok uri) to =
-    meant_now layer parents n top is r reference uri to (safe uri to) own scope (means ((joined top (to_embed layer n) ∷ []) ∷ parents) uri) (means (layer ∷ parents) uri) refl (meaning layer parents n top uri is (safe uri to).clear)
+    meant_now layer parents n top is r reference uri to (safe uri to) own scope (meant_place ((joined top (to_embed layer n) ∷ []) ∷ parents) uri) (meant_place (layer ∷ parents) uri) refl (meaning layer parents n top uri is (safe uri to).clear)
 target_now layer parents n top is r reference own scope safe (Err refusal) to = inl refl
 
 lookup_now : (layer : Layer) (parents : World) (n : ℕ) (top : Document) → IsMade layer n top → (r : Resolver) (reference : List ℕ) → IsSafe layer parents n top r.base → AllByRecursion (IsSafe layer parents n top) r.scope

@@ -6,12 +6,12 @@ use Rattle.std.specs.Result.{result_ok}
 use Rattle.std.proofs.lemmas.List.{map-append}
 use Rattle.ref_draft.specs.Anchors.{Kind, anchors}
 use Rattle.ref_uri.specs.Targets.{Refusal}
-use Rattle.ref_world.specs.World.{Document, Layer, World}
-use Rattle.ref_world.specs.Places.{Place, root, identifier_of, places}
-use Rattle.ref_world.specs.Resources.{resources_in, resources, last_under, means}
-use Rattle.ref_world.specs.Anchors.{Named, named_under, names_in, names, last_named, named}
+use Rattle.ref_definitions.specs.World.{Document, Layer, World}
+use Rattle.ref_definitions.specs.Places.{Place, root, identifier_of, places}
+use Rattle.ref_definitions.specs.Resources.{resources_in, resources, last_under, meant_place}
+use Rattle.ref_definitions.specs.Anchors.{Named, named_under, names_in, names, last_named, named_entry}
 use Rattle.ref_bundle.specs.Merges.{IsMergeOf}
-use Rattle.ref_bundle.specs.Needed.{counted}
+use Rattle.ref_bundle.specs.Needed.{counted_documents}
 use Rattle.ref_bundle.specs.Bundle.{bundle_of}
 use Rattle.ref_bundle.specs.Kept.{place_in, places_of_embedded, places_of_root}
 use Rattle.ref_bundle.proofs.LawAlike.{AreAlike, BothAlike, alike_append, last_alike, or_alike, map_alike, filter_alike}
@@ -47,15 +47,15 @@ became_now top es x there q p (inr both) = embedded_root x there both.0 both.1
 
 -- ---- what is known of a URI
 
--- no document of the layer bears it; or the root alone does; or an embedded document alone does, and its identifier doesn't replace it
+-- no document of the layer has it; or the root alone does; or an embedded document alone does, and its identifier doesn't replace it
 pub data IsClear (layer : Layer) (number : ℕ) (top : Document) (es : List (ℕ × Document)) (uri : List ℕ) : Type 0 where
-  borne_by_none : AllByRecursion (λ e. IsFree uri e.1) (counted 0 layer) → AllByRecursion (λ e. IsFree uri e.1) es → IsFree uri top → IsClear layer number top es uri
-  borne_by_root : IsAlone uri (counted 0 layer) (number, top) → AllByRecursion (λ e. IsFree uri e.1) es → IsClear layer number top es uri
-  borne_by_embedded : (x : ℕ × Document) → Contains es x → IsAlone uri (counted 0 layer) x → IsAlone uri es x → IsFree uri top → IsNoAlias uri (put_in top x) → IsClear layer number top es uri
+  borne_by_none : AllByRecursion (λ e. IsFree uri e.1) (counted_documents 0 layer) → AllByRecursion (λ e. IsFree uri e.1) es → IsFree uri top → IsClear layer number top es uri
+  borne_by_root : IsAlone uri (counted_documents 0 layer) (number, top) → AllByRecursion (λ e. IsFree uri e.1) es → IsClear layer number top es uri
+  borne_by_embedded : (x : ℕ × Document) → Contains es x → IsAlone uri (counted_documents 0 layer) x → IsAlone uri es x → IsFree uri top → IsNoAlias uri (put_in top x) → IsClear layer number top es uri
 
 -- ---- the layer that it was
 
-documents_of : (k : ℕ) (ds : Layer) → map (λ (e : ℕ × Document). e.1) (counted k ds) ≡ ds
+documents_of : (k : ℕ) (ds : Layer) → map (λ (e : ℕ × Document). e.1) (counted_documents k ds) ≡ ds
 documents_of k [] = refl
 documents_of k (d ∷ ds) = ap (λ rest. d ∷ rest) (documents_of (suc k) ds)
 
@@ -63,30 +63,30 @@ free_of : (uri : List ℕ) (es : List (ℕ × Document)) → AllByRecursion (λ 
 free_of uri [] each = tt
 free_of uri (e ∷ es) each = (each.0, free_of uri es each.1)
 
-layer_split : (uri : List ℕ) (layer : Layer) (x : ℕ × Document) → (one : IsAlone uri (counted 0 layer) x)
+layer_split : (uri : List ℕ) (layer : Layer) (x : ℕ × Document) → (one : IsAlone uri (counted_documents 0 layer) x)
     → layer ≡ map (λ (e : ℕ × Document). e.1) one.before ++ x.1 ∷ map (λ (e : ℕ × Document). e.1) one.after
 layer_split uri layer x one =
     sym (documents_of 0 layer) ∙ ap (map (λ (e : ℕ × Document). e.1)) one.are ∙ map-append (λ (e : ℕ × Document). e.1) one.before (x ∷ one.after)
 
-entries_were : (uri : List ℕ) (layer : Layer) (x : ℕ × Document) → IsAlone uri (counted 0 layer) x → last_under uri (resources layer) ≡ last_under uri (resources_in x.1)
+entries_were : (uri : List ℕ) (layer : Layer) (x : ℕ × Document) → IsAlone uri (counted_documents 0 layer) x → last_under uri (resources layer) ≡ last_under uri (resources_in x.1)
 entries_were uri layer x one =
     ap (λ l. last_under uri (resources l)) (layer_split uri layer x one)
     ∙ ap (last_or None) (entries_of_one uri (map (λ (e : ℕ × Document). e.1) one.before) x.1 (map (λ (e : ℕ × Document). e.1) one.after) (free_of uri one.before one.front) (free_of uri one.after one.back))
 
-names_were : (uri name : List ℕ) (layer : Layer) (x : ℕ × Document) → IsAlone uri (counted 0 layer) x → last_named uri name (names layer) ≡ last_named uri name (names_in x.1)
+names_were : (uri name : List ℕ) (layer : Layer) (x : ℕ × Document) → IsAlone uri (counted_documents 0 layer) x → last_named uri name (names layer) ≡ last_named uri name (names_in x.1)
 names_were uri name layer x one =
     ap (λ l. last_named uri name (names l)) (layer_split uri layer x one)
     ∙ ap (last_or None) (names_of_one uri name (map (λ (e : ℕ × Document). e.1) one.before) x.1 (map (λ (e : ℕ × Document). e.1) one.after) (free_of uri one.before one.front) (free_of uri one.after one.back))
 
-no_entries_were : (uri : List ℕ) (layer : Layer) → AllByRecursion (λ e. IsFree uri e.1) (counted 0 layer) → last_under uri (resources layer) ≡ None
+no_entries_were : (uri : List ℕ) (layer : Layer) → AllByRecursion (λ e. IsFree uri e.1) (counted_documents 0 layer) → last_under uri (resources layer) ≡ None
 no_entries_were uri layer free_ =
     ap (λ l. last_under uri (resources l)) (sym (documents_of 0 layer))
-    ∙ ap (last_or None) (no_entries_of uri (map (λ (e : ℕ × Document). e.1) (counted 0 layer)) (free_of uri (counted 0 layer) free_))
+    ∙ ap (last_or None) (no_entries_of uri (map (λ (e : ℕ × Document). e.1) (counted_documents 0 layer)) (free_of uri (counted_documents 0 layer) free_))
 
-pub no_names_were : (uri name : List ℕ) (layer : Layer) → AllByRecursion (λ e. IsFree uri e.1) (counted 0 layer) → last_named uri name (names layer) ≡ None
+pub no_names_were : (uri name : List ℕ) (layer : Layer) → AllByRecursion (λ e. IsFree uri e.1) (counted_documents 0 layer) → last_named uri name (names layer) ≡ None
 no_names_were uri name layer free_ =
     ap (λ l. last_named uri name (names l)) (sym (documents_of 0 layer))
-    ∙ ap (last_or None) (no_names_of uri name (map (λ (e : ℕ × Document). e.1) (counted 0 layer)) (free_of uri (counted 0 layer) free_))
+    ∙ ap (last_or None) (no_names_of uri name (map (λ (e : ℕ × Document). e.1) (counted_documents 0 layer)) (free_of uri (counted_documents 0 layer) free_))
 
 -- ---- the parts of the bundle
 
@@ -279,13 +279,13 @@ name_itself top es (Some m) = record { uri = refl; name = refl; kind = refl; pla
 
 -- what a clear URI means
 pub means_now : (layer : Layer) (parents : World) (n : ℕ) (top : Document) (es : List (ℕ × Document)) (uri : List ℕ) → IsWhole top es → AllPut top es → IsClear layer n top es uri
-    → BothAlike (IsNow top es) (means ((joined top es ∷ []) ∷ parents) uri) (means (layer ∷ parents) uri)
+    → BothAlike (IsNow top es) (meant_place ((joined top es ∷ []) ∷ parents) uri) (meant_place (layer ∷ parents) uri)
 means_now layer parents n top es uri whole put clear =
-    place_now top es (last_under uri (resources (joined top es ∷ []))) (last_under uri (resources layer)) (means parents uri) (entries_now layer n top es uri whole put clear)
+    place_now top es (last_under uri (resources (joined top es ∷ []))) (last_under uri (resources layer)) (meant_place parents uri) (entries_now layer n top es uri whole put clear)
 
 -- and what a name under it does
 pub named_now : (layer : Layer) (parents : World) (n : ℕ) (top : Document) (es : List (ℕ × Document)) (uri name : List ℕ) → IsWhole top es → AllPut top es → IsClear layer n top es uri
-    → BothAlike (NameNow top es) (named ((joined top es ∷ []) ∷ parents) uri name) (named (layer ∷ parents) uri name)
+    → BothAlike (NameNow top es) (named_entry ((joined top es ∷ []) ∷ parents) uri name) (named_entry (layer ∷ parents) uri name)
 named_now layer parents n top es uri name whole put clear =
-    or_alike (NameNow top es) (last_named uri name (names (joined top es ∷ []))) (named parents uri name) (last_named uri name (names layer)) (named parents uri name)
-    (names_now layer n top es uri name whole put clear) (name_itself top es (named parents uri name))
+    or_alike (NameNow top es) (last_named uri name (names (joined top es ∷ []))) (named_entry parents uri name) (last_named uri name (names layer)) (named_entry parents uri name)
+    (names_now layer n top es uri name whole put clear) (name_itself top es (named_entry parents uri name))

@@ -1,4 +1,4 @@
--- What a URI and a name mean in a bundle, where one of its documents alone bears the URI, or none does.
+-- What a URI and a name mean in a bundle, where one of its documents alone has the URI, or none does.
 use Rattle.std.proofs.Common.{◌≡◌, ℕ, Bool, true, false, cond, ◌&&◌, List, [], ◌∷◌, ◌++◌, flat_map, map, filter, Option, Some, None, option_map, option_and_then, Ok, inr, refl, sym, ap, subst, ◌∙◌, append-nil, append_assoc, true≢false, bytes_eq}
 use Rattle.std.specs.List.{AllByRecursion, last_or}
 use Rattle.std.specs.Option.{option_map_or, option_to_list}
@@ -7,11 +7,12 @@ use Rattle.std.proofs.lemmas.List.Elements.{filter-append}
 use Rattle.std.proofs.lemmas.Grind.{flat_map-append}
 use Rattle.std.proofs.lemmas.Slice.Eq.{bytes_eq-Decides}
 use Rattle.ref_draft.specs.Anchors.{Kind, anchors}
-use Rattle.ref_world.specs.World.{Document, Layer}
-use Rattle.ref_world.specs.Places.{Place, root, base_within, identifier_of, places}
-use Rattle.ref_world.specs.Resources.{resource_of, resources_in, resources, last_under}
-use Rattle.ref_world.specs.Anchors.{Named, named_under, named_at, names_in, names, last_named}
-use Rattle.ref_bundle.specs.Merges.{IsMergeOf, below_path}
+use Rattle.ref_definitions.specs.World.{Document, Layer}
+use Rattle.ref_definitions.specs.Places.{Place, root, base_within, identifier_of, places}
+use Rattle.ref_definitions.specs.Resources.{resource_of, resources_in, resources, last_under}
+use Rattle.ref_definitions.specs.Anchors.{Named, named_under, named_at, names_in, names, last_named}
+use Rattle.ref_bundle.specs.Merges.{IsMergeOf}
+use Rattle.ref_definitions.specs.Moving.{below_path}
 use Rattle.ref_bundle.proofs.LawAlike.{BothAlike, last_alike, last_joined, last_twice}
 use Rattle.ref_bundle.proofs.LawMerges.{quiet_first, quiet_second}
 use Rattle.ref_bundle.proofs.LawEntries.{Under, NamedAs, borne_by, named_by, none_under, none_at, none_of, each_none, filter_flat, IsFree}
@@ -48,7 +49,7 @@ names_in_pieces uri name d =
     filter-append (λ (e : Named). bytes_eq e.uri uri && bytes_eq e.name name) (named_under d.uri (root d)) (flat_map named_at (places d))
     ∙ ap (λ more. NamedAs uri name (named_under d.uri (root d)) ++ more) (filter_flat (λ (e : Named). bytes_eq e.uri uri && bytes_eq e.name name) named_at (places d))
 
--- ---- a document that doesn't bear a URI has no entry and no name under it
+-- ---- a document that doesn't have a URI has no entry and no name under it
 
 pub no_entries : (uri : List ℕ) (d : Document) → IsFree uri d → Under uri (resources_in d) ≡ []
 no_entries uri d free =
@@ -72,7 +73,7 @@ no_names_of uri name (d ∷ ds) free =
     filter-append (λ (e : Named). bytes_eq e.uri uri && bytes_eq e.name name) (names_in d) (names ds)
     ∙ ap (λ front. front ++ NamedAs uri name (names ds)) (no_names uri name d free.0) ∙ no_names_of uri name ds free.1
 
--- a layer of which one document alone bears a URI has its entries and names
+-- a layer of which one document alone has a URI has its entries and names
 pub entries_of_one : (uri : List ℕ) (before : Layer) (d : Document) (after : Layer) → AllByRecursion (IsFree uri) before → AllByRecursion (IsFree uri) after
     → Under uri (resources (before ++ d ∷ after)) ≡ Under uri (resources_in d)
 entries_of_one uri before d after front back =

@@ -12,8 +12,8 @@ use Rattle.serde_json.specs.Find.{get_member, get}
 use Rattle.serde_json.proofs.Views.{get_member-put_other}
 use Rattle.ref_parts.specs.Path.{Key}
 use Rattle.ref_draft.specs.declared.draft.Draft.{Draft}
-use Rattle.ref_draft.specs.Keywords.{holding}
-use Rattle.ref_draft.specs.Children.{Child, each_member, held, below, children, keys_of}
+use Rattle.ref_draft.specs.Keywords.{holding_of}
+use Rattle.ref_draft.specs.Children.{Child, each_member, held_children, children_below, children, keys_of}
 use Rattle.ref_bundle.specs.Merges.{IsMerge, ended, from_first, from_second}
 use Rattle.ref_bundle.specs.Embedding.{with_member}
 use Rattle.ref_bundle.proofs.LawMerges.{all_first, merge_append}
@@ -23,22 +23,22 @@ equal_keys k l is = (bytes_eq-Decides k l).0 (sym (is_eq-slice_cmp k l) ∙ ap i
 
 -- nothing under a keyword is a schema, or the members of its object are
 abbrev pub HoldsNone : Draft → List ℕ → Type 0
-HoldsNone draft key = (value : Data) → held (holding draft key) key value ≡ []
+HoldsNone draft key = (value : Data) → held_children (holding_of draft key) key value ≡ []
 
 abbrev pub HoldsMembers : Draft → List ℕ → Type 0
-HoldsMembers draft key = (ms : Members) → held (holding draft key) key (object ms) ≡ each_member key ms
+HoldsMembers draft key = (ms : Members) → held_children (holding_of draft key) key (object ms) ≡ each_member key ms
 
 -- ---- a member that holds no schema
 
-below_put_at : (draft : Draft) (key l : List ℕ) (value e : Data) (ms : Members) (o : Ordering) → slice_cmp nat_cmp key l ≡ o → HoldsNone draft key → below draft (put key value ms) ≡ below draft ms
-    → below draft (match_ordering o (member key value (member l e ms)) (member l value ms) (member l e (put key value ms))) ≡ below draft (member l e ms)
-below_put_at draft key l value e ms Less is none later = ap (λ cs. cs ++ below draft (member l e ms)) (none value)
+below_put_at : (draft : Draft) (key l : List ℕ) (value e : Data) (ms : Members) (o : Ordering) → slice_cmp nat_cmp key l ≡ o → HoldsNone draft key → children_below draft (put key value ms) ≡ children_below draft ms
+    → children_below draft (match_ordering o (member key value (member l e ms)) (member l value ms) (member l e (put key value ms))) ≡ children_below draft (member l e ms)
+below_put_at draft key l value e ms Less is none later = ap (λ cs. cs ++ children_below draft (member l e ms)) (none value)
 below_put_at draft key l value e ms Equal is none later =
     let same : HoldsNone draft l = subst (HoldsNone draft) (equal_keys key l is) none in
-    ap (λ cs. cs ++ below draft ms) (same value) ∙ sym (ap (λ cs. cs ++ below draft ms) (same e))
-below_put_at draft key l value e ms Greater is none later = ap (λ more. held (holding draft l) l e ++ more) later
+    ap (λ cs. cs ++ children_below draft ms) (same value) ∙ sym (ap (λ cs. cs ++ children_below draft ms) (same e))
+below_put_at draft key l value e ms Greater is none later = ap (λ more. held_children (holding_of draft l) l e ++ more) later
 
-pub below_put : (draft : Draft) (key : List ℕ) (value : Data) (ms : Members) → HoldsNone draft key → below draft (put key value ms) ≡ below draft ms
+pub below_put : (draft : Draft) (key : List ℕ) (value : Data) (ms : Members) → HoldsNone draft key → children_below draft (put key value ms) ≡ children_below draft ms
 below_put draft key value no_members none = ap (λ cs. cs ++ []) (none value)
 below_put draft key value (member l e ms) none = below_put_at draft key l value e ms (slice_cmp nat_cmp key l) refl none (below_put draft key value ms none)
 
@@ -100,31 +100,31 @@ below_map_at : (draft : Draft) (key l : List ℕ) (more few : Members) (e : Data
     → AllByRecursion (λ k. slice_cmp nat_cmp l k ≡ Less) (keys_of ms)
     → (match_ordering o (get_member key ms) (Some e) (get_member key ms) ≡ None) × (few ≡ no_members) ⊎ (match_ordering o (get_member key ms) (Some e) (get_member key ms) ≡ Some (object few))
     → IsMerge Child (each_member key more) (each_member key few) added
-    → (MembersUnder key ms few → IsMerge Child (below draft (put key (object more) ms)) (below draft ms) added)
-    → IsMerge Child (below draft (match_ordering o (member key (object more) (member l e ms)) (member l (object more) ms) (member l e (put key (object more) ms)))) (below draft (member l e ms)) added
+    → (MembersUnder key ms few → IsMerge Child (children_below draft (put key (object more) ms)) (children_below draft ms) added)
+    → IsMerge Child (children_below draft (match_ordering o (member key (object more) (member l e ms)) (member l (object more) ms) (member l e (put key (object more) ms)))) (children_below draft (member l e ms)) added
 below_map_at draft key l more few e ms added Less is holds sorted under merge later =
     let none : few ≡ no_members = no_more few e key l ms Less (not_there key ms (all_above key l (keys_of ms) is sorted)) under in
     let front : IsMerge Child (each_member key more) [] added = subst (λ f. IsMerge Child (each_member key more) (each_member key f) added) none merge in
-    subst (λ cs. IsMerge Child (cs ++ below draft (member l e ms)) (below draft (member l e ms)) added) (sym (holds more))
-    (subst (λ a. IsMerge Child (each_member key more ++ below draft (member l e ms)) (below draft (member l e ms)) a) (append-nil added)
-    (merge_append (each_member key more) [] added (below draft (member l e ms)) (below draft (member l e ms)) [] front (all_first (below draft (member l e ms)))))
+    subst (λ cs. IsMerge Child (cs ++ children_below draft (member l e ms)) (children_below draft (member l e ms)) added) (sym (holds more))
+    (subst (λ a. IsMerge Child (each_member key more ++ children_below draft (member l e ms)) (children_below draft (member l e ms)) a) (append-nil added)
+    (merge_append (each_member key more) [] added (children_below draft (member l e ms)) (children_below draft (member l e ms)) [] front (all_first (children_below draft (member l e ms)))))
 below_map_at draft key l more few e ms added Equal is holds sorted (inl nothing) merge later = absurd (let x : Some e ≡ None = nothing.0 in cc)
 below_map_at draft key l more few e ms added Equal is holds sorted (inr some) merge later =
     let own : e ≡ object few = let x : Some e ≡ Some (object few) = some in cc in
     let same : key ≡ l = equal_keys key l is in
     let here : HoldsMembers draft l = subst (HoldsMembers draft) same holds in
     let front : IsMerge Child (each_member l more) (each_member l few) added = subst (λ k. IsMerge Child (each_member k more) (each_member k few) added) same merge in
-    subst (λ v. IsMerge Child (held (holding draft l) l (object more) ++ below draft ms) (held (holding draft l) l v ++ below draft ms) added) (sym own)
-    (subst (λ cs. IsMerge Child (cs ++ below draft ms) (held (holding draft l) l (object few) ++ below draft ms) added) (sym (here more))
-    (subst (λ cs. IsMerge Child (each_member l more ++ below draft ms) (cs ++ below draft ms) added) (sym (here few))
-    (subst (λ a. IsMerge Child (each_member l more ++ below draft ms) (each_member l few ++ below draft ms) a) (append-nil added)
-    (merge_append (each_member l more) (each_member l few) added (below draft ms) (below draft ms) [] front (all_first (below draft ms))))))
+    subst (λ v. IsMerge Child (held_children (holding_of draft l) l (object more) ++ children_below draft ms) (held_children (holding_of draft l) l v ++ children_below draft ms) added) (sym own)
+    (subst (λ cs. IsMerge Child (cs ++ children_below draft ms) (held_children (holding_of draft l) l (object few) ++ children_below draft ms) added) (sym (here more))
+    (subst (λ cs. IsMerge Child (each_member l more ++ children_below draft ms) (cs ++ children_below draft ms) added) (sym (here few))
+    (subst (λ a. IsMerge Child (each_member l more ++ children_below draft ms) (each_member l few ++ children_below draft ms) a) (append-nil added)
+    (merge_append (each_member l more) (each_member l few) added (children_below draft ms) (children_below draft ms) [] front (all_first (children_below draft ms))))))
 below_map_at draft key l more few e ms added Greater is holds sorted under merge later =
-    merge_append (held (holding draft l) l e) (held (holding draft l) l e) [] (below draft (put key (object more) ms)) (below draft ms) added
-    (all_first (held (holding draft l) l e)) (later under)
+    merge_append (held_children (holding_of draft l) l e) (held_children (holding_of draft l) l e) [] (children_below draft (put key (object more) ms)) (children_below draft ms) added
+    (all_first (held_children (holding_of draft l) l e)) (later under)
 
 pub below_map : (draft : Draft) (key : List ℕ) (more few : Members) (ms : Members) (added : List Child) → HoldsMembers draft key → IsStrictlySortedBy (slice_cmp nat_cmp) (keys_of ms)
-    → MembersUnder key ms few → IsMerge Child (each_member key more) (each_member key few) added → IsMerge Child (below draft (put key (object more) ms)) (below draft ms) added
+    → MembersUnder key ms few → IsMerge Child (each_member key more) (each_member key few) added → IsMerge Child (children_below draft (put key (object more) ms)) (children_below draft ms) added
 unfolding IsStrictlySortedBy
 below_map draft key more few no_members added holds sorted (inl nothing) merge =
     let front : IsMerge Child (each_member key more) [] added = subst (λ f. IsMerge Child (each_member key more) (each_member key f) added) nothing.1 merge in

@@ -1,7 +1,7 @@
 -- Merged lists, and the levels below them.
 use Rattle.std.proofs.Common.{◌≡◌, ℕ, zero, suc, List, [], ◌∷◌, ◌++◌, flat_map, refl, ap, ◌∙◌}
 use Rattle.std.specs.List.{AllByRecursion}
-use Rattle.ref_world.specs.Places.{Place, children_of, levels_below}
+use Rattle.ref_definitions.specs.Places.{Place, children_of, levels_below}
 use Rattle.ref_bundle.specs.Merges.{IsMerge, ended, from_first, from_second, IsMergeOf}
 
 pub all_first : {X : Type 0} (xs : List X) → IsMerge X xs xs []

@@ -6,17 +6,17 @@ use Rattle.std.proofs.lemmas.Slice.Eq.{bytes_eq-Decides}
 use Rattle.std.proofs.lemmas.List.Elements.{filter-append, All-contains, All-from_recursion, Contains-append_right, Contains-append_cases}
 use Rattle.ref_parts.specs.Path.{path_eq}
 use Rattle.ref_draft.proofs.Lists.{all_filter}
-use Rattle.ref_world.specs.World.{Document, Layer}
-use Rattle.ref_world.specs.Places.{Place, root, places}
-use Rattle.ref_world.specs.Resources.{own_uri, resource_of, resources_in, last_under}
-use Rattle.ref_world.proofs.Alone.{first_or_later}
-use Rattle.ref_bundle.specs.Needed.{counted, numbered_uris, document_under}
-use Rattle.ref_bundle.specs.Bundle.{SharedUri, Site, is_site, borne_in, borne, shared, uris_of}
+use Rattle.ref_definitions.specs.World.{Document, Layer}
+use Rattle.ref_definitions.specs.Places.{Place, root, places}
+use Rattle.ref_definitions.specs.Resources.{own_uri, resource_of, resources_in, last_under}
+use Rattle.ref_definitions.proofs.Alone.{first_or_later}
+use Rattle.ref_bundle.specs.Needed.{counted_documents, numbered_uris, document_under}
+use Rattle.ref_bundle.specs.Bundle.{SharedUri, Site, is_site, borne_in, sites_of_uris, shared_uri, uris_of}
 use Rattle.ref_bundle.proofs.LawEntries.{IsFree, free, each_none, filter_flat, all_left, all_right, not_first, not_later}
 
 -- ---- documents with their numbers
 
-pub above : (number : ℕ) (ds : Layer) (least : ℕ) → least ≤ number → AllByRecursion (λ e. least ≤ e.0) (counted number ds)
+pub above : (number : ℕ) (ds : Layer) (least : ℕ) → least ≤ number → AllByRecursion (λ e. least ≤ e.0) (counted_documents number ds)
 above number [] least more = tt
 above number (d ∷ ds) least more = (more, above (suc number) ds least (omega (arith, more)))
 
@@ -32,20 +32,20 @@ pub not_equal : (least : ℕ) (n : ℕ) (es : List (ℕ × Document)) → n < le
 not_equal least n [] less each = tt
 not_equal least n (e ∷ es) less each = (λ same. omega (arith, less, each.0, same), not_equal least n es less each.1)
 
-number_of : (number : ℕ) (ds : Layer) (x : ℕ × Document) → Contains (counted number ds) x → number ≤ x.0
+number_of : (number : ℕ) (ds : Layer) (x : ℕ × Document) → Contains (counted_documents number ds) x → number ≤ x.0
 number_of number ds x there =
-    All-contains (λ e. number ≤ e.0) (counted number ds) x (All-from_recursion _ (counted number ds) (above number ds number (omega arith))) there
+    All-contains (λ e. number ≤ e.0) (counted_documents number ds) x (All-from_recursion _ (counted_documents number ds) (above number ds number (omega arith))) there
 
-counted_here : (number : ℕ) (d : Document) (ds : Layer) (x : ℕ × Document) → (number, d) ≡ x → IsCounted ((number, d) ∷ counted (suc number) ds) x
+counted_here : (number : ℕ) (d : Document) (ds : Layer) (x : ℕ × Document) → (number, d) ≡ x → IsCounted ((number, d) ∷ counted_documents (suc number) ds) x
 counted_here number d ds x same = record {
   before = [];
-  after = counted (suc number) ds;
-  are = ap (λ e. e ∷ counted (suc number) ds) same;
+  after = counted_documents (suc number) ds;
+  are = ap (λ e. e ∷ counted_documents (suc number) ds) same;
   front = tt;
-  back = not_equal (suc number) x.0 (counted (suc number) ds) (subst (λ n. n < suc number) (ap (λ (e : ℕ × Document). e.0) same) (omega arith)) (above (suc number) ds (suc number) (omega arith));
+  back = not_equal (suc number) x.0 (counted_documents (suc number) ds) (subst (λ n. n < suc number) (ap (λ (e : ℕ × Document). e.0) same) (omega arith)) (above (suc number) ds (suc number) (omega arith));
 }
 
-counted_later : (number : ℕ) (d : Document) (ds : Layer) (x : ℕ × Document) → Contains (counted (suc number) ds) x → IsCounted (counted (suc number) ds) x → IsCounted ((number, d) ∷ counted (suc number) ds) x
+counted_later : (number : ℕ) (d : Document) (ds : Layer) (x : ℕ × Document) → Contains (counted_documents (suc number) ds) x → IsCounted (counted_documents (suc number) ds) x → IsCounted ((number, d) ∷ counted_documents (suc number) ds) x
 counted_later number d ds x below_path rest =
     let more = number_of (suc number) ds x below_path in
     record {
@@ -56,10 +56,10 @@ counted_later number d ds x below_path rest =
       back = rest.back;
     }
 
-pub counted_one : (number : ℕ) (ds : Layer) (x : ℕ × Document) → Contains (counted number ds) x → IsCounted (counted number ds) x
+pub counted_one : (number : ℕ) (ds : Layer) (x : ℕ × Document) → Contains (counted_documents number ds) x → IsCounted (counted_documents number ds) x
 counted_one number [] x there = absurd (omega (arith, there.1))
 counted_one number (d ∷ ds) x there =
-    ⊎_elim (counted_here number d ds x) (λ below_path. counted_later number d ds x below_path (counted_one (suc number) ds x below_path)) (first_or_later (number, d) (counted (suc number) ds) x there)
+    ⊎_elim (counted_here number d ds x) (λ below_path. counted_later number d ds x below_path (counted_one (suc number) ds x below_path)) (first_or_later (number, d) (counted_documents (suc number) ds) x there)
 
 -- and so among those that a test keeps
 kept_in_order : (test : ℕ × Document → Bool) (before : List (ℕ × Document)) (x : ℕ × Document) (after : List (ℕ × Document)) → test x ≡ true → filter test (before ++ x ∷ after) ≡ filter test before ++ x ∷ filter test after
@@ -125,7 +125,7 @@ pub last_none : {X : Type 0} (xs : List X) → last_or None xs ≡ None → xs �
 last_none [] is = refl
 last_none (x ∷ xs) is = absurd (some_last x xs is)
 
--- ---- a URI that no other place bears
+-- ---- a URI that no other place has
 
 pub none_of_shared : (entries : List (List ℕ × Site)) (o : Option (List ℕ × Site)) (uri : List ℕ)
     → option_map_or (λ (other : Site). SharedUri uri other.0 other.1 ∷ []) (option_map_or (λ (e : List ℕ × Site). Some e.1) o None) [] ≡ [] → o ≡ None
@@ -160,15 +160,15 @@ each_free : (uri : List ℕ) (site : Site) (es : List (ℕ × Document)) → All
 each_free uri site [] none = tt
 each_free uri site (e ∷ es) none = ((λ other. no_entry_in uri site e other none.0), each_free uri site es none.1)
 
--- where the site of a URI is its only one, the documents with other numbers don't bear it
-pub free_but : (layer : Layer) (site : Site) (uri : List ℕ) → shared (borne layer) site uri ≡ [] → AllByRecursion (λ e. ¬ (e.0 ≡ site.0) → IsFree uri e.1) (counted 0 layer)
+-- where the site of a URI is its only one, the documents with other numbers don't have it
+pub free_but : (layer : Layer) (site : Site) (uri : List ℕ) → shared_uri (sites_of_uris layer) site uri ≡ [] → AllByRecursion (λ e. ¬ (e.0 ≡ site.0) → IsFree uri e.1) (counted_documents 0 layer)
 free_but layer site uri none =
-    let kept = none_of_shared (borne layer) (last_or None (filter (is_of_another uri site) (borne layer))) uri none in
-    each_free uri site (counted 0 layer)
-    (each_none (λ e. filter (is_of_another uri site) (borne_in e)) (counted 0 layer)
-    (sym (filter_flat (is_of_another uri site) borne_in (counted 0 layer)) ∙ last_none (filter (is_of_another uri site) (borne layer)) kept))
+    let kept = none_of_shared (sites_of_uris layer) (last_or None (filter (is_of_another uri site) (sites_of_uris layer))) uri none in
+    each_free uri site (counted_documents 0 layer)
+    (each_none (λ e. filter (is_of_another uri site) (borne_in e)) (counted_documents 0 layer)
+    (sym (filter_flat (is_of_another uri site) borne_in (counted_documents 0 layer)) ∙ last_none (filter (is_of_another uri site) (sites_of_uris layer)) kept))
 
--- a document that alone bears a URI, among some
+-- a document that alone has a URI, among some
 pub record IsAlone (uri : List ℕ) (es : List (ℕ × Document)) (x : ℕ × Document) : Type 0 where
   pub before : List (ℕ × Document)
   pub after : List (ℕ × Document)
@@ -194,9 +194,9 @@ alone_among uri es x one free_ =
 
 -- ---- the document that a URI means
 
--- a place of a document bears a URI
+-- a place of a document has a URI
 pub record IsBearer (layer : Layer) (uri : List ℕ) (x : ℕ × Document) (p : Place) : Type 0 where
-  pub document : Contains (counted 0 layer) x
+  pub document : Contains (counted_documents 0 layer) x
   pub place : Contains (places x.1) p
   pub bears : Contains (uris_of x.1 p) uri
 
@@ -205,7 +205,7 @@ own_entry uri p q None there = absurd (omega (arith, there.1))
 own_entry uri p q (Some u) there =
     ⊎_elim (λ same. (0, omega arith, ap (λ (e : List ℕ × Place). e.0) same)) (λ later. absurd (omega (arith, later.1))) (first_or_later (u, p) [] (uri, q) there)
 
--- an entry is of a place that bears its URI
+-- an entry is of a place that has its URI
 pub bearer_in : (d : Document) (uri : List ℕ) (q : Place) → Contains (resources_in d) (uri, q) → (p : Place) × Contains (places d) p × Contains (uris_of d p) uri
 bearer_in d uri q there =
     ⊎_elim
@@ -221,20 +221,20 @@ numbered (Some e) k is = (e, refl, let x : Some e.1 ≡ Some k = is in cc)
 
 pub document_bears : (layer : Layer) (uri : List ℕ) (k : ℕ) → document_under layer uri ≡ Some k → (x : ℕ × Document) × (p : Place) × (x.0 ≡ k) × IsBearer layer uri x p
 document_bears layer uri k is =
-    let entries = flat_map numbered_uris (counted 0 layer) in
+    let entries = flat_map numbered_uris (counted_documents 0 layer) in
     let last = numbered (last_under uri entries) k is in
     by_kept last.0 last.2 (last_kept (λ (e : List ℕ × ℕ). bytes_eq e.0 uri) entries last.0 None last.1)
   where
-    by_kept : (e : List ℕ × ℕ) → e.1 ≡ k → (None ≡ Some e) ⊎ IsKeptThere (λ (f : List ℕ × ℕ). bytes_eq f.0 uri) (flat_map numbered_uris (counted 0 layer)) e → (x : ℕ × Document) × (p : Place) × (x.0 ≡ k) × IsBearer layer uri x p
+    by_kept : (e : List ℕ × ℕ) → e.1 ≡ k → (None ≡ Some e) ⊎ IsKeptThere (λ (f : List ℕ × ℕ). bytes_eq f.0 uri) (flat_map numbered_uris (counted_documents 0 layer)) e → (x : ℕ × Document) × (p : Place) × (x.0 ≡ k) × IsBearer layer uri x p
     by_kept e own (inl none) = absurd (let x : None ≡ Some e = none in cc)
     by_kept e own (inr kept) =
-        let of_document = in_one_of numbered_uris (counted 0 layer) e kept.there in
+        let of_document = in_one_of numbered_uris (counted_documents 0 layer) e kept.there in
         let entry = in_mapped (λ (r : List ℕ × Place). (r.0, of_document.0.0)) (resources_in of_document.0.1) e of_document.2 in
         let uris : entry.0.0 ≡ uri = ap (λ (f : List ℕ × ℕ). f.0) entry.2 ∙ (bytes_eq-Decides e.0 uri).0 kept.passes in
         let bearer = bearer_in of_document.0.1 uri entry.0.1 (subst (λ u. Contains (resources_in of_document.0.1) (u, entry.0.1)) uris entry.1) in
         (of_document.0, bearer.0, ap (λ (f : List ℕ × ℕ). f.1) entry.2 ∙ own, record { document = of_document.1; place = bearer.1; bears = bearer.2 })
 
--- a URI that means no document is borne by none
+-- a URI that means no document belongs to none
 no_number : (o : Option (List ℕ × ℕ)) → option_map (λ (e : List ℕ × ℕ). e.1) o ≡ None → o ≡ None
 no_number None is = refl
 no_number (Some e) is = absurd (let x : Some e.1 ≡ None = is in cc)
@@ -244,9 +244,9 @@ each_without uri [] none = tt
 each_without uri (e ∷ es) none =
     (free uri e.1 (kept_of_mapped (λ (f : List ℕ × ℕ). bytes_eq f.0 uri) (λ r. bytes_eq r.0 uri) (λ r. (r.0, e.0)) (resources_in e.1) (λ r. refl) none.0), each_without uri es none.1)
 
-pub none_bears : (layer : Layer) (uri : List ℕ) → document_under layer uri ≡ None → AllByRecursion (λ e. IsFree uri e.1) (counted 0 layer)
+pub none_bears : (layer : Layer) (uri : List ℕ) → document_under layer uri ≡ None → AllByRecursion (λ e. IsFree uri e.1) (counted_documents 0 layer)
 none_bears layer uri is =
     let test = λ (f : List ℕ × ℕ). bytes_eq f.0 uri in
-    let none = last_none (filter test (flat_map numbered_uris (counted 0 layer))) (no_number (last_under uri (flat_map numbered_uris (counted 0 layer))) is) in
-    each_without uri (counted 0 layer)
-    (each_none (λ e. filter test (numbered_uris e)) (counted 0 layer) (sym (filter_flat test numbered_uris (counted 0 layer)) ∙ none))
+    let none = last_none (filter test (flat_map numbered_uris (counted_documents 0 layer))) (no_number (last_under uri (flat_map numbered_uris (counted_documents 0 layer))) is) in
+    each_without uri (counted_documents 0 layer)
+    (each_none (λ e. filter test (numbered_uris e)) (counted_documents 0 layer) (sym (filter_flat test numbered_uris (counted_documents 0 layer)) ∙ none))

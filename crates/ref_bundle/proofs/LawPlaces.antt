@@ -4,15 +4,16 @@ use Rattle.std.specs.Bool.{⊤}
 use Rattle.std.specs.List.{AllByRecursion}
 use Rattle.serde_json.specs.Data.{depth}
 use Rattle.ref_draft.specs.Children.{Child, with_draft, children, is_object, InKeyOrder}
-use Rattle.ref_world.specs.World.{Document}
-use Rattle.ref_world.specs.Places.{Place, root, base_within, child_place, children_with, children_of, levels_below, places}
-use Rattle.ref_world.proofs.Levels.{places_end}
-use Rattle.ref_bundle.specs.Merges.{from_first, IsMergeOf, below_path}
+use Rattle.ref_definitions.specs.World.{Document}
+use Rattle.ref_definitions.specs.Places.{Place, root, base_within, child_place, children_with, children_of, levels_below, places}
+use Rattle.ref_definitions.proofs.Levels.{places_end}
+use Rattle.ref_bundle.specs.Merges.{from_first, IsMergeOf}
+use Rattle.ref_definitions.specs.Moving.{below_path}
 use Rattle.ref_bundle.specs.Embedding.{base_uri}
 use Rattle.ref_bundle.specs.Bundle.{definitions_keyword, definitions_of, member_of, tree_with, bundle_of}
 use Rattle.ref_bundle.specs.Kept.{document_of_bundle, path_in, place_in, places_of_embedded, places_of_root}
 use Rattle.ref_bundle.proofs.LawMerges.{all_first}
-use Rattle.ref_bundle.proofs.LawMoving.{below_moved}
+use Rattle.ref_definitions.proofs.Moving.{below_moved}
 use Rattle.ref_bundle.proofs.LawTree.{map_each, with_levels, merge_with_levels, each_single, KeysApart, NoneTaken, HasMap, children_with_map}
 use Rattle.ref_bundle.proofs.LawTop.{definitions_hold, identifier_top}
 use Rattle.ref_bundle.proofs.LawBorne.{Embedding, below_root, IsPut}

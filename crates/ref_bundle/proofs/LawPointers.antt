@@ -16,16 +16,16 @@ use Rattle.ref_draft.specs.Keywords.{id_keyword}
 use Rattle.ref_draft.specs.Schema.{identifier}
 use Rattle.ref_draft.specs.Children.{is_object}
 use Rattle.ref_uri.specs.Components.{scheme}
-use Rattle.ref_uri.specs.Targets.{against, unresolved}
+use Rattle.ref_uri.specs.Targets.{uri_against, resolve_refusal}
 use Rattle.ref_uri.proofs.Meanings.{against_without_scheme}
 use Rattle.ref_uri.proofs.OnLiterals.{ref_uri_on_literals}
-use Rattle.ref_world.specs.Results.{◌>>=◌}
-use Rattle.ref_world.specs.World.{Document, Layer}
-use Rattle.ref_world.specs.Places.{root}
-use Rattle.ref_world.specs.Fault.{Fault, InvalidPercentEncoding, as_invalid_uri}
-use Rattle.ref_world.specs.Bases.{Along, along_part}
-use Rattle.ref_world.specs.Pointers.{walked_along, pointed}
-use Rattle.ref_world.specs.Lookup.{Resolver, Found, pointer_found}
+use Rattle.ref_definitions.specs.Results.{◌>>=◌}
+use Rattle.ref_definitions.specs.World.{Document, Layer}
+use Rattle.ref_definitions.specs.Places.{root}
+use Rattle.ref_definitions.specs.Fault.{Fault, InvalidPercentEncoding, as_invalid_uri}
+use Rattle.ref_definitions.specs.Bases.{Along, along_part}
+use Rattle.ref_definitions.specs.Pointers.{walked_along, pointed_value}
+use Rattle.ref_definitions.specs.Lookup.{Resolver, Found, pointer_found}
 use Rattle.ref_bundle.specs.Embedding.{base_uri, added_schema, embedded_tree}
 use Rattle.ref_bundle.specs.Bundle.{Bundle, definitions_keyword, definitions_of, members_or_none, with_all, member_of, tree_with, bundle_of, to_embed}
 use Rattle.ref_bundle.specs.Kept.{IsValueNow, the_same, an_embedded, the_root, the_definitions, IsAnswerNow, BeginsWith, GoesIntoAdded, into_definitions, to_identifier, to_schema, to_definitions, to_embedded}
@@ -65,9 +65,9 @@ get_with_all draft key (e ∷ es) ms other =
 
 -- ---- a URI of an embedded document has a scheme
 
-has_scheme : (uri : List ℕ) (text : List ℕ) (b : Bool) → is_some (scheme uri) ≡ b → against uri text ≡ Ok uri → is_some (scheme uri) ≡ true
+has_scheme : (uri : List ℕ) (text : List ℕ) (b : Bool) → is_some (scheme uri) ≡ b → uri_against uri text ≡ Ok uri → is_some (scheme uri) ≡ true
 has_scheme uri text true is given = is
-has_scheme uri text false is given = absurd (let e : Err (unresolved text uri) ≡ Ok uri = sym (against_without_scheme uri text is) ∙ given in cc)
+has_scheme uri text false is given = absurd (let e : Err (resolve_refusal text uri) ≡ Ok uri = sym (against_without_scheme uri text is) ∙ given in cc)
 
 no_ref_scheme : is_some (scheme (codes "$ref")) ≡ false
 unfolding ref_uri_on_literals
@@ -141,7 +141,7 @@ either_pointed layer n top bundle r draft pointer base text w v A both true is =
 either_pointed layer n top bundle r draft pointer base text w v A both false is = inl refl
 
 pub embedded_pointed : (layer : Layer) (n : ℕ) (top : Document) (bundle : Bundle) (e : ℕ × Document) → Contains (to_embed layer n) e → IsEmbeddable top e.1 → (r : Resolver) (pointer base text : List ℕ)
-    → IsAnswerNow layer n top bundle (AnswerOf r e.1.draft (pointed e.1.draft pointer base (embedded_tree top.draft e.1) text)) (AnswerOf r e.1.draft (pointed e.1.draft pointer base e.1.tree text))
+    → IsAnswerNow layer n top bundle (AnswerOf r e.1.draft (pointed_value e.1.draft pointer base (embedded_tree top.draft e.1) text)) (AnswerOf r e.1.draft (pointed_value e.1.draft pointer base e.1.tree text))
     ⊎ GoesIntoAdded layer n top (root e.1) (47 ∷ text)
 embedded_pointed layer n top bundle e there able r pointer base text =
     either_pointed layer n top bundle r e.1.draft pointer base text (embedded_tree top.draft e.1) e.1.tree (GoesIntoAdded layer n top (root e.1) (47 ∷ text))
@@ -228,9 +228,9 @@ root_tokens layer n top e es are room able r pointer along text (token ∷ more)
     root_step layer n top e es are room able r pointer along text token more is (bytes_eq (unescape token) (definitions_keyword top.draft)) refl room.has_map
 
 pub root_pointed : (layer : Layer) (n : ℕ) (top : Document) (es : List (ℕ × Document)) → to_embed layer n ≡ es → HasRoomFor top es → AllByRecursion (λ x. IsEmbeddable top x.1) es → (r : Resolver) (pointer base text : List ℕ)
-    → IsAnswerNow layer n top (bundle_of top es) (AnswerOf r top.draft (pointed top.draft pointer base (tree_with top es) text)) (AnswerOf r top.draft (pointed top.draft pointer base top.tree text))
+    → IsAnswerNow layer n top (bundle_of top es) (AnswerOf r top.draft (pointed_value top.draft pointer base (tree_with top es) text)) (AnswerOf r top.draft (pointed_value top.draft pointer base top.tree text))
     ⊎ GoesIntoAdded layer n top (root top) (47 ∷ text)
-root_pointed layer n top [] are room able r pointer base text = inl (same_answer layer n top (bundle_of top []) (AnswerOf r top.draft (pointed top.draft pointer base top.tree text)))
+root_pointed layer n top [] are room able r pointer base text = inl (same_answer layer n top (bundle_of top []) (AnswerOf r top.draft (pointed_value top.draft pointer base top.tree text)))
 root_pointed layer n top (e ∷ es) are room able r pointer base text =
     either_pointed layer n top (bundle_of top (e ∷ es)) r top.draft pointer base text (tree_with top (e ∷ es)) top.tree (GoesIntoAdded layer n top (root top) (47 ∷ text))
     (root_tokens layer n top e es are room able r pointer (record { base = base; since = [] }) text (tokens (percent_decode text)) refl) (is_utf8 (percent_decode text)) refl

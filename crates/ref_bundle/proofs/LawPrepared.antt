@@ -7,14 +7,15 @@ use Rattle.ref_parts.specs.Path.{Part}
 use Rattle.ref_draft.specs.Schema.{text_under}
 use Rattle.ref_uri.specs.Targets.{Refusal, target}
 use Rattle.ref_draft.proofs.Lists.{all_append}
-use Rattle.ref_world.specs.World.{Document, Layer, World}
-use Rattle.ref_world.specs.Places.{Place, root, places}
-use Rattle.ref_world.specs.Resources.{means}
-use Rattle.ref_world.specs.Wants.{Cause, Reference, MetaSchema, Want, reference_at, schema_uri, schema_at, wanted, refusals_of, wants_at, faults_at, wants, faults, is_open, open_wants}
-use Rattle.ref_world.proofs.Alone.{first_or_later, in_joined}
-use Rattle.ref_world.proofs.AtOrBelow.{place_has_base}
-use Rattle.ref_bundle.specs.Merges.{IsMerge, ended, from_first, from_second, IsMergeOf, below_path}
-use Rattle.ref_bundle.specs.Needed.{dynamic_reference_at, meant, targets_from, targets, needed_documents}
+use Rattle.ref_definitions.specs.World.{Document, Layer, World}
+use Rattle.ref_definitions.specs.Places.{Place, root, places}
+use Rattle.ref_definitions.specs.Resources.{meant_place}
+use Rattle.ref_definitions.specs.Wants.{Cause, Reference, MetaSchema, Want, reference_at, schema_uri, schema_at, wants_of_text, refusals_of, wants_at, faults_at, wants, faults, is_open, open_wants}
+use Rattle.ref_definitions.proofs.Alone.{first_or_later, in_joined}
+use Rattle.ref_definitions.proofs.AtOrBelow.{place_has_base}
+use Rattle.ref_bundle.specs.Merges.{IsMerge, ended, from_first, from_second, IsMergeOf}
+use Rattle.ref_definitions.specs.Moving.{below_path}
+use Rattle.ref_bundle.specs.Needed.{dynamic_reference_at, meant_uris, targets_from, targets, needed_documents}
 use Rattle.ref_bundle.specs.Bundle.{Bundle, to_embed, bundle_of}
 use Rattle.ref_bundle.specs.Kept.{IsBundle, document_of_bundle, world_of_bundle, place_in, places_of_embedded, places_of_root}
 use Rattle.ref_bundle.proofs.LawAlike.{BothAlike}
@@ -42,7 +43,7 @@ merge_of_all P all (part ∷ parts) merge each = merge_all P all part merge.0 me
 
 -- ---- what a place wants is among its targets
 
-in_meant : (cause : Cause) (o : Option (Result (List ℕ) Refusal)) (w : Want) → Contains (wanted cause o) w → Contains (meant o) w.uri
+in_meant : (cause : Cause) (o : Option (Result (List ℕ) Refusal)) (w : Want) → Contains (wants_of_text cause o) w → Contains (meant_uris o) w.uri
 in_meant cause None w there = absurd (omega (arith, there.1))
 in_meant cause (Some (Ok uri)) w there =
     ⊎_elim (λ same. (0, omega arith, ap (λ (v : Want). v.uri) same)) (λ later. absurd (omega (arith, later.1))) (first_or_later (record { cause = cause; uri = uri }) [] w there)
@@ -50,13 +51,13 @@ in_meant cause (Some (Err refusal)) w there = absurd (omega (arith, there.1))
 
 want_is_target : (base : List ℕ) (value : Data) (w : Want) → Contains (wants_at (Ok base) value) w → Contains (targets_from (Ok base) value) w.uri
 want_is_target base value w there =
-    let plain = meant (reference_at base value) in
-    let dynamic = meant (dynamic_reference_at base value) in
-    let meta = meant (schema_at value) in
+    let plain = meant_uris (reference_at base value) in
+    let dynamic = meant_uris (dynamic_reference_at base value) in
+    let meta = meant_uris (schema_at value) in
     ⊎_elim
     (λ here. Contains-append_left (plain ++ dynamic) meta w.uri (Contains-append_left plain dynamic w.uri (in_meant Reference (reference_at base value) w here)))
     (λ later. Contains-append_right (plain ++ dynamic) meta w.uri (in_meant MetaSchema (schema_at value) w later))
-    (Contains-append_cases (wanted Reference (reference_at base value)) (wanted MetaSchema (schema_at value)) w there)
+    (Contains-append_cases (wants_of_text Reference (reference_at base value)) (wants_of_text MetaSchema (schema_at value)) w there)
 
 -- ---- places that refer alike
 
@@ -67,8 +68,8 @@ faults_alike (Err refusal) w v refs metas = ap (λ o. refusal ∷ refusals_of o)
 
 wants_alike : (base : Result (List ℕ) Refusal) (w v : Data) → text_under (codes "$ref") w ≡ text_under (codes "$ref") v → schema_at w ≡ schema_at v → wants_at base w ≡ wants_at base v
 wants_alike (Ok base) w v refs metas =
-    ap (λ o. wanted Reference (option_map (target base) o) ++ wanted MetaSchema (schema_at w)) refs ∙ ap (λ o. wanted Reference (reference_at base v) ++ wanted MetaSchema o) metas
-wants_alike (Err refusal) w v refs metas = ap (wanted MetaSchema) metas
+    ap (λ o. wants_of_text Reference (option_map (target base) o) ++ wants_of_text MetaSchema (schema_at w)) refs ∙ ap (λ o. wants_of_text Reference (reference_at base v) ++ wants_of_text MetaSchema o) metas
+wants_alike (Err refusal) w v refs metas = ap (wants_of_text MetaSchema) metas
 
 -- ---- a place of the bundle
 
@@ -99,7 +100,7 @@ want_met layer parents n top is met e p w need place base has there =
     let is_target : Contains (targets p) w.uri =
     subst (λ b. Contains (targets_from b p.value) w.uri) (sym has) (want_is_target base p.value w (subst (λ b. Contains (wants_at b p.value) w) has there)) in
     let now = means_now layer parents n top (to_embed layer n) w.uri (made_places layer n top is) (all_put layer n top is) (clear_target layer n top is e p w.uri need place is_target) in
-    ap not (both_there top (to_embed layer n) (means ((joined top (to_embed layer n) ∷ []) ∷ parents) w.uri) (means (layer ∷ parents) w.uri) now (closed_there (means (layer ∷ parents) w.uri) closed))
+    ap not (both_there top (to_embed layer n) (meant_place ((joined top (to_embed layer n) ∷ []) ∷ parents) w.uri) (meant_place (layer ∷ parents) w.uri) now (closed_there (meant_place (layer ∷ parents) w.uri) closed))
 
 ready : (layer : Layer) (parents : World) (n : ℕ) (top : Document) → IsMade layer n top → open_wants (layer ∷ parents) layer ≡ [] → (e : ℕ × Document) (p q : Place) → Contains (needed_documents layer n) e → Contains (places e.1) p
     → q.base ≡ p.base → text_under (codes "$ref") q.value ≡ text_under (codes "$ref") p.value → schema_at q.value ≡ schema_at p.value → IsReady ((joined top (to_embed layer n) ∷ []) ∷ parents) q

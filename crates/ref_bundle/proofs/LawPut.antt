@@ -12,10 +12,10 @@ use Rattle.ref_draft.specs.Keywords.{id_keyword, is_unknown}
 use Rattle.ref_draft.specs.Schema.{text_under, from_schema_uri, detect}
 use Rattle.ref_draft.specs.Children.{is_object, children}
 use Rattle.ref_uri.specs.Reference.{with_fragment}
-use Rattle.ref_uri.specs.Targets.{parsed}
-use Rattle.ref_world.specs.Results.{◌>>=◌}
-use Rattle.ref_world.specs.World.{Document}
-use Rattle.ref_world.specs.Wants.{schema_uri, schema_at}
+use Rattle.ref_uri.specs.Targets.{uri_of}
+use Rattle.ref_definitions.specs.Results.{◌>>=◌}
+use Rattle.ref_definitions.specs.World.{Document}
+use Rattle.ref_definitions.specs.Wants.{schema_uri, schema_at}
 use Rattle.ref_bundle.specs.Embedding.{is_draft, base_uri, schema_text, is_detected, added_schema, with_member, with_schema, embedded_tree, Obstacle, NotAnObject, IdentifierBesideRef, NotAnIdentifier, NotKept, UntoldDraft, ResolvedAgain, is_resolved_again, is_kept, is_beside_ref, has_no_identifier, loses_draft, obstacle}
 use Rattle.ref_bundle.proofs.LawMembers.{HoldsNone, children_with_member, get_with_other}
 
@@ -218,7 +218,7 @@ meta_by draft d None none is = ap (λ o. option_and_then schema_uri (option_and_
 meta_by draft d (Some text) some is =
     let added = is_added draft d text some in
     ap (λ o. option_and_then schema_uri (option_and_then as_str o)) (schema_text_added draft d text is some)
-    ∙ ap (λ b. cond b (Some (parsed text >>= λ uri. Ok (with_fragment uri None))) None) (ap is_unknown (told d.draft text added.of_draft) ∙ known d.draft text added.of_draft)
+    ∙ ap (λ b. cond b (Some (uri_of text >>= λ uri. Ok (with_fragment uri None))) None) (ap is_unknown (told d.draft text added.of_draft) ∙ known d.draft text added.of_draft)
     ∙ sym (ap (λ o. option_and_then schema_uri (option_and_then as_str o)) (none_there (get (codes "$schema") d.tree) added.none))
 
 pub meta_embedded : (draft : Draft) (d : Document) → is_object d.tree ≡ true → schema_at (embedded_tree draft d) ≡ schema_at d.tree

@@ -9,15 +9,15 @@ use Rattle.ref_parts.specs.Path.{Part, path_eq}
 use Rattle.ref_draft.specs.Schema.{text_under}
 use Rattle.ref_uri.specs.Targets.{Refusal, target}
 use Rattle.ref_draft.proofs.Lists.{all_append}
-use Rattle.ref_world.specs.World.{Document, Layer, World}
-use Rattle.ref_world.specs.Places.{Place, root, children_of, levels_below, places}
-use Rattle.ref_world.specs.Resources.{own_uri, resource_of, resources_in, resources, last_under}
-use Rattle.ref_world.specs.Wants.{reference_at, schema_at}
-use Rattle.ref_world.proofs.Alone.{first_or_later, in_joined}
-use Rattle.ref_world.proofs.Differ.{GoesOn, on_with}
-use Rattle.ref_bundle.specs.Needed.{counted, dynamic_reference_at, meant, targets_from, targets, needed_documents}
+use Rattle.ref_definitions.specs.World.{Document, Layer, World}
+use Rattle.ref_definitions.specs.Places.{Place, root, children_of, levels_below, places}
+use Rattle.ref_definitions.specs.Resources.{own_uri, resource_of, resources_in, resources, last_under}
+use Rattle.ref_definitions.specs.Wants.{reference_at, schema_at}
+use Rattle.ref_definitions.proofs.Alone.{first_or_later, in_joined}
+use Rattle.ref_definitions.proofs.Differ.{GoesOn, on_with}
+use Rattle.ref_bundle.specs.Needed.{counted_documents, dynamic_reference_at, meant_uris, targets_from, targets, needed_documents}
 use Rattle.ref_bundle.specs.Embedding.{base_uri}
-use Rattle.ref_bundle.specs.Bundle.{borne_in, borne, uris_of}
+use Rattle.ref_bundle.specs.Bundle.{borne_in, sites_of_uris, uris_of}
 use Rattle.ref_bundle.specs.Kept.{IsBorneByNeeded, HasNoOtherName, RefersBy}
 use Rattle.ref_bundle.proofs.LawEntries.{borne_by, IsFree, IsOther, AllOther, each_none, filter_flat, other_levels, not_first, not_later}
 use Rattle.ref_bundle.proofs.LawEmbedded.{base_is}
@@ -46,7 +46,7 @@ levels_longer : (n : ℕ) (ps : List Place) → AllByRecursion (λ q. ¬ (q.path
 levels_longer zero ps = tt
 levels_longer (suc n) ps = all_append (λ q. ¬ (q.path ≡ [])) (flat_map children_of ps) (levels_below n (flat_map children_of ps)) (level_longer ps) (levels_longer n (flat_map children_of ps))
 
--- ---- a place that bears a URI
+-- ---- a place that has a URI
 
 own_listed : (o : Option (List ℕ)) (uri : List ℕ) → Contains (option_to_list o) uri → o ≡ Some uri
 own_listed None uri there = absurd (omega (arith, there.1))
@@ -74,10 +74,10 @@ not_free d p uri there bears free_ =
     (λ own. not_other uri p.base (own_base uri p own) (each_in (λ q. IsOther uri q.base) (places d) p free_.bases there))
     (borne_as d p uri bears)
 
--- so a URI that a needed place bears has an entry
+-- so a URI that a needed place has has an entry
 has_entry : (layer : Layer) (n : ℕ) (x : ℕ × Document) (p : Place) (uri : List ℕ) → Contains (needed_documents layer n) x → Contains (places x.1) p → Contains (uris_of x.1 p) uri → ¬ (last_under uri (resources layer) ≡ None)
 has_entry layer n x p uri need there bears none =
-    not_free x.1 p uri there bears (each_in (λ e. IsFree uri e.1) (counted 0 layer) x (none_bear layer uri none) (needed_counted layer n x need))
+    not_free x.1 p uri there bears (each_in (λ e. IsFree uri e.1) (counted_documents 0 layer) x (none_bear layer uri none) (needed_counted layer n x need))
 
 safe_borne : (layer : Layer) (parents : World) (n : ℕ) (top : Document) → IsMade layer n top → (x : ℕ × Document) (p : Place) (uri : List ℕ) → Contains (needed_documents layer n) x → Contains (places x.1) p → Contains (uris_of x.1 p) uri
     → Stays n x uri → IsSafe layer parents n top uri
@@ -118,16 +118,16 @@ same_path uri k r (x ∷ rs) none there is =
     by_first : (path : List Part) → not ((k == k) && path_eq path []) ≡ false → path ≡ []
     by_first path other = by_both path (k == k) (path_eq path []) (eq-eqb k k refl) refl other
 
--- where the document's URI is another than its base, no place of it bears it by an identifier
+-- where the document's URI is another than its base, no place of it has it by an identifier
 no_alias_borne : (layer : Layer) (n : ℕ) (top : Document) → IsMade layer n top → (x : ℕ × Document) (q : Place) (uri : List ℕ) → Contains (needed_documents layer n) x → Contains (places x.1) q → own_uri q ≡ Some uri → x.1.uri ≡ uri → base_uri x.1 ≡ uri
 no_alias_borne layer n top is x q uri need there own alias =
     let d = x.1 in
     let root_bears : Contains (uris_of d (root d)) uri = (0, omega arith, alias) in
     let none = not_shared layer n x (root d) uri (no_problem layer n top x (root d) (none_in layer n top x is.unrefused need) (0, omega arith, refl)) root_bears in
-    let filtered = last_none (filter (is_of_another uri (x.0, [])) (borne layer)) (none_of_shared (borne layer) (last_or None (filter (is_of_another uri (x.0, [])) (borne layer))) uri none) in
+    let filtered = last_none (filter (is_of_another uri (x.0, [])) (sites_of_uris layer)) (none_of_shared (sites_of_uris layer) (last_or None (filter (is_of_another uri (x.0, [])) (sites_of_uris layer))) uri none) in
     let here : filter (is_of_another uri (x.0, [])) (borne_in x) ≡ [] =
-    each_in (λ e. filter (is_of_another uri (x.0, [])) (borne_in e) ≡ []) (counted 0 layer) x
-    (each_none (λ e. filter (is_of_another uri (x.0, [])) (borne_in e)) (counted 0 layer) (sym (filter_flat (is_of_another uri (x.0, [])) borne_in (counted 0 layer)) ∙ filtered)) (needed_counted layer n x need) in
+    each_in (λ e. filter (is_of_another uri (x.0, [])) (borne_in e) ≡ []) (counted_documents 0 layer) x
+    (each_none (λ e. filter (is_of_another uri (x.0, [])) (borne_in e)) (counted_documents 0 layer) (sym (filter_flat (is_of_another uri (x.0, [])) borne_in (counted_documents 0 layer)) ∙ filtered)) (needed_counted layer n x need) in
     let entry : Contains (resources_in d) (uri, q) =
     Contains-append_right ((d.uri, root d) ∷ []) (flat_map resource_of (places d)) (uri, q)
     (in_joined resource_of (places d) q (uri, q) there (subst (λ o. Contains {X = List ℕ × Place} (option_to_list (option_map (λ u. (u, q)) o)) (uri, q)) (sym own) (0, omega arith, refl))) in
@@ -171,21 +171,21 @@ safe_base layer parents n top is x p base need there has =
 
 -- ---- the target of a reference
 
-in_meant : (base uri reference : List ℕ) (o : Option (List ℕ)) → o ≡ Some reference → target base reference ≡ Ok uri → Contains (meant (option_map (target base) o)) uri
+in_meant : (base uri reference : List ℕ) (o : Option (List ℕ)) → o ≡ Some reference → target base reference ≡ Ok uri → Contains (meant_uris (option_map (target base) o)) uri
 in_meant base uri reference o is means_ =
-    subst (λ t. Contains (meant (option_map (target base) t)) uri) (sym is) (subst (λ t. Contains (meant (Some t)) uri) (sym means_) (0, omega arith, refl))
+    subst (λ t. Contains (meant_uris (option_map (target base) t)) uri) (sym is) (subst (λ t. Contains (meant_uris (Some t)) uri) (sym means_) (0, omega arith, refl))
 
 target_of : (p : Place) (base uri reference : List ℕ) → p.base ≡ Ok base → RefersBy p.value reference → target base reference ≡ Ok uri → Contains (targets p) uri
 target_of p base uri reference has (inl plain) means_ =
-    let first = meant (reference_at base p.value) in
-    let second = meant (dynamic_reference_at base p.value) in
+    let first = meant_uris (reference_at base p.value) in
+    let second = meant_uris (dynamic_reference_at base p.value) in
     subst (λ b. Contains (targets_from b p.value) uri) (sym has)
-    (Contains-append_left (first ++ second) (meant (schema_at p.value)) uri (Contains-append_left first second uri (in_meant base uri reference (text_under (codes "$ref") p.value) plain means_)))
+    (Contains-append_left (first ++ second) (meant_uris (schema_at p.value)) uri (Contains-append_left first second uri (in_meant base uri reference (text_under (codes "$ref") p.value) plain means_)))
 target_of p base uri reference has (inr dynamic) means_ =
-    let first = meant (reference_at base p.value) in
-    let second = meant (dynamic_reference_at base p.value) in
+    let first = meant_uris (reference_at base p.value) in
+    let second = meant_uris (dynamic_reference_at base p.value) in
     subst (λ b. Contains (targets_from b p.value) uri) (sym has)
-    (Contains-append_left (first ++ second) (meant (schema_at p.value)) uri (Contains-append_right first second uri (in_meant base uri reference (text_under (codes "$dynamicRef") p.value) dynamic means_)))
+    (Contains-append_left (first ++ second) (meant_uris (schema_at p.value)) uri (Contains-append_right first second uri (in_meant base uri reference (text_under (codes "$dynamicRef") p.value) dynamic means_)))
 
 no_own : (o : Option (List ℕ × Place)) → option_map_or (λ (e : List ℕ × Place). Some e.1) o None ≡ None → o ≡ None
 no_own None is = refl

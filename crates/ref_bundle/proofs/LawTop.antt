@@ -6,10 +6,10 @@ use Rattle.serde_json.specs.Find.{get, as_str}
 use Rattle.ref_draft.specs.declared.draft.Draft.{Draft}
 use Rattle.ref_draft.specs.declared.draft.Draft.TheVariants.{Draft4, Draft6, Draft7, Draft201909, Draft202012, Unknown}
 use Rattle.ref_draft.specs.Keywords.{id_keyword, is_before_2019}
-use Rattle.ref_draft.specs.Schema.{text_under, trimmed, begins_with_hash, is_hidden, identifier}
+use Rattle.ref_draft.specs.Schema.{text_under, trimmed_text, begins_with_hash, is_hidden, identifier}
 use Rattle.ref_draft.specs.Anchors.{Kind, Plain, Dynamic, after_hash, in_identifier, named_by, anchors}
 use Rattle.ref_draft.specs.Children.{is_object}
-use Rattle.ref_world.specs.World.{Document}
+use Rattle.ref_definitions.specs.World.{Document}
 use Rattle.ref_bundle.specs.Bundle.{definitions_keyword, with_all, member_of, definitions_of, tree_with}
 use Rattle.ref_bundle.proofs.LawMembers.{HoldsMembers, get_with_other}
 use Rattle.ref_bundle.proofs.LawPut.{apart, object_with}
@@ -52,8 +52,8 @@ text_top top es key first second = ap (option_and_then as_str) (get_top top es k
 -- an identifier depends on the values of its keyword and of `$ref`
 pub identifier_alike : (draft : Draft) (w v : Data) → get (id_keyword draft) w ≡ get (id_keyword draft) v → get (codes "$ref") w ≡ get (codes "$ref") v → identifier draft w ≡ identifier draft v
 identifier_alike draft w v ids refs =
-    ap (λ o. option_and_then (λ text. cond (is_hidden draft w text) None (Some (trimmed text))) (option_and_then as_str o)) ids
-    ∙ ap (λ r. option_and_then (λ text. cond (is_before_2019 draft && (is_some r || begins_with_hash text)) None (Some (trimmed text))) (text_under (id_keyword draft) v)) refs
+    ap (λ o. option_and_then (λ text. cond (is_hidden draft w text) None (Some (trimmed_text text))) (option_and_then as_str o)) ids
+    ∙ ap (λ r. option_and_then (λ text. cond (is_before_2019 draft && (is_some r || begins_with_hash text)) None (Some (trimmed_text text))) (text_under (id_keyword draft) v)) refs
 
 pub identifier_top : (top : Document) (es : List (ℕ × Document)) → identifier top.draft (tree_with top es) ≡ identifier top.draft top.tree
 identifier_top top es =

@@ -8,7 +8,7 @@ use Rattle.serde_json.proofs.Views.{get_member-put_other}
 use Rattle.ref_parts.specs.Path.{Key}
 use Rattle.ref_draft.specs.declared.draft.Draft.{Draft}
 use Rattle.ref_draft.specs.Children.{Child, each_member, children, is_object, InKeyOrder}
-use Rattle.ref_world.specs.Places.{Place, levels_below}
+use Rattle.ref_definitions.specs.Places.{Place, levels_below}
 use Rattle.ref_bundle.specs.Merges.{IsMerge, ended, from_first, from_second, IsMergeOf}
 use Rattle.ref_bundle.specs.Embedding.{with_member}
 use Rattle.ref_bundle.specs.Bundle.{with_all, members_or_none}

@@ -8,11 +8,11 @@ use Rattle.ref_draft.specs.declared.draft.Draft.{Draft}
 use Rattle.ref_draft.specs.Schema.{identifier}
 use Rattle.ref_draft.specs.Children.{is_object}
 use Rattle.ref_draft.specs.ScanSteps.{scan}
-use Rattle.ref_world.specs.Results.{◌>>=◌}
-use Rattle.ref_world.specs.Fault.{Fault, PointerToNowhere, as_invalid_uri}
-use Rattle.ref_world.specs.Places.{base_within}
-use Rattle.ref_world.specs.Bases.{Along, changed, along_part}
-use Rattle.ref_world.specs.Pointers.{step_into, walked_along}
+use Rattle.ref_definitions.specs.Results.{◌>>=◌}
+use Rattle.ref_definitions.specs.Fault.{Fault, PointerToNowhere, as_invalid_uri}
+use Rattle.ref_definitions.specs.Places.{base_within}
+use Rattle.ref_definitions.specs.Bases.{Along, changed_base, along_part}
+use Rattle.ref_definitions.specs.Pointers.{step_into, walked_along}
 
 -- one answer after another, where what follows is the same
 pub after_alike : {E A B : Type 0} (r : Result A E) (f g : A → Result B E) → ((x : A) → f x ≡ g x) → r >>= f ≡ r >>= g
@@ -46,8 +46,8 @@ walk_alike draft pointer along w v token tokens grown plain same =
 pub along_alike : (draft : Draft) (along : Along) (part : Part) (w v : Data) → is_object w ≡ is_object v → identifier draft w ≡ identifier draft v → along_part draft along part w ≡ along_part draft along part v
 along_alike draft along part w v objects ids =
     let since = along.since ++ part ∷ [] in
-    ap (λ b. base_within along.base (cond (scan draft b since) (identifier draft w) None) >>= λ uri. Ok (changed (record along { since = since }) uri)) objects
-    ∙ ap (λ id. base_within along.base (cond (scan draft (is_object v) since) id None) >>= λ uri. Ok (changed (record along { since = since }) uri)) ids
+    ap (λ b. base_within along.base (cond (scan draft b since) (identifier draft w) None) >>= λ uri. Ok (changed_base (record along { since = since }) uri)) objects
+    ∙ ap (λ id. base_within along.base (cond (scan draft (is_object v) since) id None) >>= λ uri. Ok (changed_base (record along { since = since }) uri)) ids
 
 -- a step to a member
 step_there : (pointer : List ℕ) (value : Data) (token : List ℕ) (there : Data) → is_object value ≡ true → get (unescape token) value ≡ Some there → step_into pointer value token ≡ Ok (Key (unescape token), there)

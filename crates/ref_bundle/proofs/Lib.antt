@@ -1,5 +1,4 @@
 pub mod LawMerges
-pub mod LawMoving
 pub mod LawEntries
 pub mod LawWalk
 pub mod LawAlike

@@ -1,17 +1,17 @@
--- The URIs that the texts of a place mean, one behind the other.
+-- The URIs that the texts of a place mean, one after the other.
 use Rattle.std.proofs.Common.{◌≡◌, ℕ, List, [], ◌++◌, map, Option, Some, None, option_map, option_and_then, Result, Ok, Err, refl, ap, ◌∙◌}
 use Rattle.std.specs.Option.{option_to_list}
 use Rattle.std.specs.Result.{result_ok}
 use Rattle.std.proofs.lemmas.List.{map-append}
 use Rattle.ref_uri.specs.Targets.{Refusal}
-use Rattle.ref_bundle.specs.Needed.{meant}
+use Rattle.ref_bundle.specs.Needed.{meant_uris}
 
-pub meant_is : (o : Option (Result (List ℕ) Refusal)) → option_to_list (option_and_then (λ r. result_ok r) o) ≡ meant o
+pub meant_is : (o : Option (Result (List ℕ) Refusal)) → option_to_list (option_and_then (λ r. result_ok r) o) ≡ meant_uris o
 meant_is None = refl
 meant_is (Some (Ok uri)) = refl
 meant_is (Some (Err refusal)) = refl
 
-pub meant_of : (f : List ℕ → Result (List ℕ) Refusal) (o : Option (List ℕ)) → option_to_list (option_and_then (λ text. result_ok (f text)) o) ≡ meant (option_map f o)
+pub meant_of : (f : List ℕ → Result (List ℕ) Refusal) (o : Option (List ℕ)) → option_to_list (option_and_then (λ text. result_ok (f text)) o) ≡ meant_uris (option_map f o)
 meant_of f None = refl
 meant_of f (Some text) = meant_is (Some (f text))
 

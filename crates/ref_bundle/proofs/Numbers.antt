@@ -2,8 +2,8 @@
 use Rattle.std.proofs.Common.{◌≡◌, ℕ, zero, suc, ◌+◌, ◌<◌, Bool, true, false, ◌==◌, ◌||◌, ◌&&◌, cond, List, [], ◌∷◌, ◌++◌, map, filter, length, ◌⊎◌, inl, inr, ⊎_elim, refl, ap, sym, subst, arith, true≢false}
 use Rattle.std.proofs.lemmas.Bool.{eqb-true, eq-eqb}
 use Rattle.std.proofs.lemmas.List.Folds.{list_any-append}
-use Rattle.ref_world.specs.World.{Document, Layer}
-use Rattle.ref_bundle.specs.Needed.{counted, numbers, is_among}
+use Rattle.ref_definitions.specs.World.{Document, Layer}
+use Rattle.ref_bundle.specs.Needed.{counted_documents, numbers, is_among}
 
 -- a test that is true of one of two
 pub or_cases : (a b : Bool) → (a || b) ≡ true → (a ≡ true) ⊎ (b ≡ true)
@@ -55,18 +55,18 @@ among_last (x ∷ xs) n m = or_step (x == m) _ _ _ (among_last xs n m)
 
 -- ---- the numbers of a layer
 
-among_counted : (k : ℕ) (ds : Layer) (n : ℕ) → n < length ds → is_among (map (λ e. e.0) (counted k ds)) (k + n) ≡ true
+among_counted : (k : ℕ) (ds : Layer) (n : ℕ) → n < length ds → is_among (map (λ e. e.0) (counted_documents k ds)) (k + n) ≡ true
 among_counted k [] n within = absurd (omega (arith, within))
 among_counted k (d ∷ ds) zero within = or_left (k == (k + 0)) _ (eq-eqb k (k + 0) (omega arith))
 among_counted k (d ∷ ds) (suc n) within =
     let e : suc k + n ≡ k + suc n = omega arith in
-    or_right (k == (k + suc n)) _ (subst (λ m. is_among (map (λ (e : ℕ × Document). e.0) (counted (suc k) ds)) m ≡ true) e (among_counted (suc k) ds n (omega (arith, within))))
+    or_right (k == (k + suc n)) _ (subst (λ m. is_among (map (λ (e : ℕ × Document). e.0) (counted_documents (suc k) ds)) m ≡ true) e (among_counted (suc k) ds n (omega (arith, within))))
 
 pub among_numbers : (layer : Layer) (n : ℕ) → n < length layer → is_among (numbers layer) n ≡ true
 among_numbers layer n within =
     let e : 0 + n ≡ n = omega arith in subst (λ m. is_among (numbers layer) m ≡ true) e (among_counted 0 layer n within)
 
-counted_within : (k : ℕ) (ds : Layer) (n : ℕ) → is_among (map (λ e. e.0) (counted k ds)) n ≡ true → n < k + length ds
+counted_within : (k : ℕ) (ds : Layer) (n : ℕ) → is_among (map (λ e. e.0) (counted_documents k ds)) n ≡ true → n < k + length ds
 counted_within k [] n is = absurd (true≢false (sym is))
 counted_within k (d ∷ ds) n is =
     ⊎_elim
@@ -77,7 +77,7 @@ counted_within k (d ∷ ds) n is =
 pub within_numbers : (layer : Layer) (n : ℕ) → is_among (numbers layer) n ≡ true → n < length layer
 within_numbers layer n is = let within = counted_within 0 layer n is in omega (arith, within)
 
-counted_length : (k : ℕ) (ds : Layer) → length (map (λ e. e.0) (counted k ds)) ≡ length ds
+counted_length : (k : ℕ) (ds : Layer) → length (map (λ e. e.0) (counted_documents k ds)) ≡ length ds
 counted_length k [] = refl
 counted_length k (d ∷ ds) = ap suc (counted_length (suc k) ds)
 

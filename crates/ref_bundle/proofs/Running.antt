@@ -5,10 +5,10 @@ use Rattle.std.specs.Option.{unwrap_or, option_map_or, option_to_list}
 use Rattle.std.proofs.lemmas.List.{length-set, take_all}
 use Rattle.std.proofs.lemmas.Option.{slice_get_within}
 use Rattle.std.proofs.lemmas.Bool.{eqb-true, eq-eqb}
-use Rattle.ref_world.specs.World.{Document, Layer}
-use Rattle.ref_world.specs.Places.{Place, places}
-use Rattle.ref_bundle.specs.Needed.{is_among, document_under, targets, targets_from, referred_in, needed}
-use Rattle.ref_bundle.specs.inner.Reach.{State, is_marked, added_where, added, all_added, list_at, IsReach, count, IsRun}
+use Rattle.ref_definitions.specs.World.{Document, Layer}
+use Rattle.ref_definitions.specs.Places.{Place, places}
+use Rattle.ref_bundle.specs.Needed.{is_among, document_under, targets, targets_from, referred_in, numbers_of_needed}
+use Rattle.ref_bundle.specs.inner.Reach.{State, is_marked, added_where, added_document, all_added, list_at, IsReach, count, IsRun}
 use Rattle.ref_bundle.specs.inner.Seen.{Seen, see, seen_in}
 use Rattle.ref_bundle.proofs.Numbers.{or_cases, or_left, or_right, one_test, among_last}
 use Rattle.ref_bundle.proofs.Rounds.{root_needed, referred_needed, needed_least}
@@ -108,7 +108,7 @@ grows_where None s n is = record {
   order = sym (append-nil s.queue);
 }
 
-grows : (s : State) (n : ℕ) → Grows s (added s n) (λ m. n == m)
+grows : (s : State) (n : ℕ) → Grows s (added_document s n) (λ m. n == m)
 grows s n = grows_where (slice_get s.marks n) s n refl
 
 pub all_grows : (ns : List ℕ) (s : State) → Grows s (all_added s ns) (is_among ns)
@@ -124,7 +124,7 @@ all_grows [] s = record {
 }
 all_grows (n ∷ ns) s =
     let g = grows s n in
-    let h = all_grows ns (added s n) in
+    let h = all_grows ns (added_document s n) in
     record {
       long = h.long ∙ g.long;
       stay = λ m is. h.stay m (g.stay m is);
@@ -151,7 +151,7 @@ nothing_marked (false ∷ ms) none = nothing_marked ms (λ n. none (suc n))
 
 -- no number is marked, and then the root is added
 pub run_begins : (lists : List (List ℕ)) (root : ℕ) (marks : List Bool) → length marks ≡ length lists → ((n : ℕ) → is_marked marks n ≡ false)
-    → IsRun lists root 0 (added (record { marks = marks; queue = [] }) root)
+    → IsRun lists root 0 (added_document (record { marks = marks; queue = [] }) root)
 run_begins lists root marks long none =
     let s : State = record { marks = marks; queue = [] } in
     let g = grows s root in
@@ -164,7 +164,7 @@ run_begins lists root marks long none =
       least = λ test has closed n is. ⊎_elim
           (λ before. absurd (true≢false (sym before ∙ none n)))
           (λ here. let same = eqb-true root n here in
-          let within = marked_within (added s root).marks n is in
+          let within = marked_within (added_document s root).marks n is in
           let all = g.long ∙ long in
           subst (λ k. test k ≡ true) same (has (omega (arith, within, all, same))))
           (g.new n is);
@@ -246,12 +246,12 @@ map_length f (x ∷ xs) = ap suc (map_length f xs)
 
 -- the numbers that are reached by what documents refer to are those of the documents that are needed
 pub reached_are_needed : (layer : Layer) (root : ℕ) (marks : List Bool) → IsReach (map (referred_in layer) layer) root marks
-    → (n : ℕ) → is_marked marks n ≡ is_among (needed layer root) n
+    → (n : ℕ) → is_marked marks n ≡ is_among (numbers_of_needed layer root) n
 reached_are_needed layer root marks reach n =
     let lists = map (referred_in layer) layer in
     let long : length lists ≡ length layer = map_length (referred_in layer) layer in
-    one_test (is_marked marks n) (is_among (needed layer root) n)
-    (reach.least (is_among (needed layer root))
+    one_test (is_marked marks n) (is_among (numbers_of_needed layer root) n)
+    (reach.least (is_among (numbers_of_needed layer root))
     (λ within. root_needed layer root (subst (λ k. root < k) long within))
     (λ a m is among within. referred_needed layer root a m is (ap (λ l. is_among l m) (sym (referred_at layer layer a)) ∙ among) (subst (λ k. m < k) long within)) n)
     (needed_least layer root (is_marked marks)

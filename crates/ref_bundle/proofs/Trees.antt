@@ -6,7 +6,7 @@ use Rattle.serde_json.specs.Data.{Data, Members, object, put}
 use Rattle.serde_json.specs.View.{view, members_view}
 use Rattle.serde_json.specs.declared.value.Value.{Value}
 use Rattle.serde_json.proofs.Views.{Entry, members_view-insert_entry}
-use Rattle.ref_world.specs.World.{Document}
+use Rattle.ref_definitions.specs.World.{Document}
 use Rattle.ref_draft.specs.Children.{is_object}
 use Rattle.ref_bundle.specs.Embedding.{Obstacle, is_beside_ref, has_no_identifier, obstacle, with_member}
 use Rattle.ref_bundle.specs.Bundle.{with_all, member_of, definitions_keyword, definitions_of, tree_with}

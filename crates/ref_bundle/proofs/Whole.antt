@@ -2,26 +2,26 @@
 use Rattle.std.proofs.Common.{◌≡◌, ℕ, zero, suc, ◌+◌, Bool, true, false, not, ◌==◌, ◌&&◌, cond, List, [], ◌∷◌, ◌++◌, map, flat_map, filter, slice_get, Option, Some, None, option_map, Ok, Err, refl, ap, sym, ◌∙◌, arith}
 use Rattle.std.specs.Option.{option_map_or}
 use Rattle.std.proofs.lemmas.Option.{slice_get-map}
-use Rattle.ref_world.specs.World.{Document, Layer}
-use Rattle.ref_bundle.specs.Needed.{counted, is_among, needed, needed_documents}
-use Rattle.ref_bundle.specs.Bundle.{Bundle, BundleRefusal, NoDocument, at_path, refusals_in, refusals, to_embed, unless_refused, bundle_of, bundled}
+use Rattle.ref_definitions.specs.World.{Document, Layer}
+use Rattle.ref_bundle.specs.Needed.{counted_documents, is_among, numbers_of_needed, needed_documents}
+use Rattle.ref_bundle.specs.Bundle.{Bundle, BundleRefusal, NoDocument, at_path, refusals_in, refusals, to_embed, unless_refused, bundle_of, bundle_at}
 use Rattle.ref_bundle.specs.inner.Reach.{is_marked}
 use Rattle.ref_bundle.specs.inner.First.{first}
-use Rattle.ref_bundle.specs.inner.Seen.{numbered, document_in, layer_in}
+use Rattle.ref_bundle.specs.inner.Seen.{numbered_document, document_in, layer_in}
 use Rattle.ref_bundle.specs.declared.own.Own.{Own}
 use Rattle.ref_bundle.proofs.Filters.{filter_and, filter_turned, filter_alike}
 
 abbrev pub AreMarked : Layer → ℕ → List Bool → Type 0
-AreMarked layer n marks = (k : ℕ) → is_marked marks k ≡ is_among (needed layer n) k
+AreMarked layer n marks = (k : ℕ) → is_marked marks k ≡ is_among (numbers_of_needed layer n) k
 
-marked_documents : (layer : Layer) (n : ℕ) (marks : List Bool) → AreMarked layer n marks → filter (λ e. is_marked marks e.0) (counted 0 layer) ≡ needed_documents layer n
-marked_documents layer n marks are = filter_alike (λ e. is_marked marks e.0) (λ e. is_among (needed layer n) e.0) (λ e. are e.0) (counted 0 layer)
+marked_documents : (layer : Layer) (n : ℕ) (marks : List Bool) → AreMarked layer n marks → filter (λ e. is_marked marks e.0) (counted_documents 0 layer) ≡ needed_documents layer n
+marked_documents layer n marks are = filter_alike (λ e. is_marked marks e.0) (λ e. is_among (numbers_of_needed layer n) e.0) (λ e. are e.0) (counted_documents 0 layer)
 
 -- the parts are the documents that have to be embedded
-pub parts_are : (layer : Layer) (n : ℕ) (marks : List Bool) → AreMarked layer n marks → filter (λ e. not (e.0 == n) && is_marked marks e.0) (counted 0 layer) ≡ to_embed layer n
+pub parts_are : (layer : Layer) (n : ℕ) (marks : List Bool) → AreMarked layer n marks → filter (λ e. not (e.0 == n) && is_marked marks e.0) (counted_documents 0 layer) ≡ to_embed layer n
 parts_are layer n marks are =
-    filter_and (λ e. not (e.0 == n)) (λ e. is_marked marks e.0) (counted 0 layer)
-    ∙ filter_turned (λ e. is_marked marks e.0) (λ e. not (e.0 == n)) (counted 0 layer)
+    filter_and (λ e. not (e.0 == n)) (λ e. is_marked marks e.0) (counted_documents 0 layer)
+    ∙ filter_turned (λ e. is_marked marks e.0) (λ e. not (e.0 == n)) (counted_documents 0 layer)
     ∙ ap (filter (λ e. not (e.0 == n))) (marked_documents layer n marks are)
 
 flat_step : {X A : Type 0} (b : Bool) (f : X → List A) (x : X) (xs : List X) (rest : List A) → rest ≡ flat_map f xs → cond b (f x) [] ++ rest ≡ flat_map f (cond b (x ∷ xs) xs)
@@ -34,17 +34,17 @@ flat_if t f (x ∷ xs) = flat_step (t x) f x (filter t xs) (flat_map (λ y. cond
 
 -- and their refusals those of the needed documents
 pub refusals_are : (layer : Layer) (n : ℕ) (marks : List Bool) (top : ℕ × Document) (es : List (ℕ × Document)) → top.0 ≡ n → AreMarked layer n marks
-    → flat_map (λ e. cond (is_marked marks e.0) (refusals_in layer top es e) []) (counted 0 layer) ≡ refusals layer top es
+    → flat_map (λ e. cond (is_marked marks e.0) (refusals_in layer top es e) []) (counted_documents 0 layer) ≡ refusals layer top es
 refusals_are layer n marks top es same are =
-    flat_if (λ e. is_marked marks e.0) (refusals_in layer top es) (counted 0 layer)
+    flat_if (λ e. is_marked marks e.0) (refusals_in layer top es) (counted_documents 0 layer)
     ∙ ap (flat_map (refusals_in layer top es)) (marked_documents layer n marks are ∙ ap (needed_documents layer) (sym same))
 
 pub bundled_is : (layer : Layer) (n : ℕ) (d : Document) → slice_get layer n ≡ Some d
-    → bundled layer n ≡ unless_refused (refusals layer (n, d) (to_embed layer n)) (bundle_of d (to_embed layer n))
+    → bundle_at layer n ≡ unless_refused (refusals layer (n, d) (to_embed layer n)) (bundle_of d (to_embed layer n))
 bundled_is layer n d at =
     ap (λ o. option_map_or (λ top. unless_refused (refusals layer (n, top) (to_embed layer n)) (bundle_of top (to_embed layer n))) o (Err (at_path n [] NoDocument))) at
 
-pub not_bundled : (layer : Layer) (n : ℕ) → slice_get layer n ≡ None → bundled layer n ≡ Err (at_path n [] NoDocument)
+pub not_bundled : (layer : Layer) (n : ℕ) → slice_get layer n ≡ None → bundle_at layer n ≡ Err (at_path n [] NoDocument)
 not_bundled layer n at =
     ap (λ o. option_map_or (λ top. unless_refused (refusals layer (n, top) (to_embed layer n)) (bundle_of top (to_embed layer n))) o (Err (at_path n [] NoDocument))) at
 
@@ -58,31 +58,31 @@ not_refused (x ∷ rs) b is = cc
 
 -- ---- the documents of a registry
 
-documents_counted : (k : ℕ) (ds : Layer) → map (λ e. e.1) (counted k ds) ≡ ds
+documents_counted : (k : ℕ) (ds : Layer) → map (λ e. e.1) (counted_documents k ds) ≡ ds
 documents_counted k [] = refl
 documents_counted k (d ∷ ds) = ap (λ l. d ∷ l) (documents_counted (suc k) ds)
 
-of_numbered : (owns : List Own) → map (λ e. e.1) (map numbered owns) ≡ layer_in owns
+of_numbered : (owns : List Own) → map (λ e. e.1) (map numbered_document owns) ≡ layer_in owns
 of_numbered [] = refl
 of_numbered (o ∷ owns) = ap (λ l. document_in o ∷ l) (of_numbered owns)
 
-pub layer_is : (owns : List Own) (layer : Layer) → map numbered owns ≡ counted 0 layer → layer_in owns ≡ layer
+pub layer_is : (owns : List Own) (layer : Layer) → map numbered_document owns ≡ counted_documents 0 layer → layer_in owns ≡ layer
 layer_is owns layer is = sym (of_numbered owns) ∙ ap (map (λ (e : ℕ × Document). e.1)) is ∙ documents_counted 0 layer
 
-counted_at : (k : ℕ) (ds : Layer) (i : ℕ) (e : ℕ × Document) → slice_get (counted k ds) i ≡ Some e → e.0 ≡ k + i
+counted_at : (k : ℕ) (ds : Layer) (i : ℕ) (e : ℕ × Document) → slice_get (counted_documents k ds) i ≡ Some e → e.0 ≡ k + i
 counted_at k [] i e is = cc
 counted_at k (d ∷ ds) zero e is = let same : (k, d) ≡ e = cc in sym (ap (λ (x : ℕ × Document). x.0) same) ∙ omega arith
 counted_at k (d ∷ ds) (suc i) e is = counted_at (suc k) ds i e is ∙ omega arith
 
 -- the document at a place has that number
-pub number_at : (owns : List Own) (layer : Layer) (i : ℕ) (o : Own) → map numbered owns ≡ counted 0 layer → slice_get owns i ≡ Some o → o.number ≡ i
+pub number_at : (owns : List Own) (layer : Layer) (i : ℕ) (o : Own) → map numbered_document owns ≡ counted_documents 0 layer → slice_get owns i ≡ Some o → o.number ≡ i
 number_at owns layer i o is at =
-    counted_at 0 layer i (numbered o) (sym (ap (λ l. slice_get l i) is) ∙ slice_get-map numbered owns i ∙ ap (option_map numbered) at) ∙ omega arith
+    counted_at 0 layer i (numbered_document o) (sym (ap (λ l. slice_get l i) is) ∙ slice_get-map numbered_document owns i ∙ ap (option_map numbered_document) at) ∙ omega arith
 
 -- ---- the first refusal, and the bundle
 
 pub first_is : (layer : Layer) (n : ℕ) (d : Document) (marks : List Bool) (t : ℕ × Document) (es xs : List (ℕ × Document)) (o : Option BundleRefusal)
-    → xs ≡ counted 0 layer → AreMarked layer n marks → t ≡ (n, d) → es ≡ to_embed layer n
+    → xs ≡ counted_documents 0 layer → AreMarked layer n marks → t ≡ (n, d) → es ≡ to_embed layer n
     → o ≡ first (flat_map (λ e. cond (is_marked marks e.0) (refusals_in layer t es e) []) xs) → o ≡ first (refusals layer (n, d) (to_embed layer n))
 first_is layer n d marks t es xs o all are top embeds is =
     is
@@ -91,9 +91,9 @@ first_is layer n d marks t es xs o all are top embeds is =
     ∙ ap (λ ys. first (flat_map (λ e. cond (is_marked marks e.0) (refusals_in layer (n, d) (to_embed layer n) e) []) ys)) all
     ∙ ap first (refusals_are layer n marks (n, d) (to_embed layer n) refl are)
 
-pub is_refused : (layer : Layer) (n : ℕ) (d : Document) (r : BundleRefusal) → slice_get layer n ≡ Some d → Some r ≡ first (refusals layer (n, d) (to_embed layer n)) → bundled layer n ≡ Err r
+pub is_refused : (layer : Layer) (n : ℕ) (d : Document) (r : BundleRefusal) → slice_get layer n ≡ Some d → Some r ≡ first (refusals layer (n, d) (to_embed layer n)) → bundle_at layer n ≡ Err r
 is_refused layer n d r at is = bundled_is layer n d at ∙ refused_first (refusals layer (n, d) (to_embed layer n)) (bundle_of d (to_embed layer n)) r (sym is)
 
-pub is_bundle : (layer : Layer) (n : ℕ) (d : Document) (b : Bundle) → slice_get layer n ≡ Some d → None ≡ first (refusals layer (n, d) (to_embed layer n)) → b ≡ bundle_of d (to_embed layer n) → bundled layer n ≡ Ok b
+pub is_bundle : (layer : Layer) (n : ℕ) (d : Document) (b : Bundle) → slice_get layer n ≡ Some d → None ≡ first (refusals layer (n, d) (to_embed layer n)) → b ≡ bundle_of d (to_embed layer n) → bundle_at layer n ≡ Ok b
 is_bundle layer n d b at is same =
     bundled_is layer n d at ∙ not_refused (refusals layer (n, d) (to_embed layer n)) (bundle_of d (to_embed layer n)) (sym is) ∙ ap (λ x. Ok x) (sym same)

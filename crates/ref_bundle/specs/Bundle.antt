@@ -7,10 +7,10 @@ use Rattle.serde_json.specs.Find.{get, get_member, as_object}
 use Rattle.ref_parts.specs.Path.{Part, Key, path_eq}
 use Rattle.ref_draft.specs.declared.draft.Draft.{Draft}
 use Rattle.ref_draft.specs.Keywords.{id_keyword, is_before_2019}
-use Rattle.ref_world.specs.World.{Document, Layer}
-use Rattle.ref_world.specs.Places.{Place, places}
-use Rattle.ref_world.specs.Resources.{own_uri, resources_in}
-use Rattle.ref_bundle.specs.Needed.{counted, document_under, targets, needed_documents}
+use Rattle.ref_definitions.specs.World.{Document, Layer}
+use Rattle.ref_definitions.specs.Places.{Place, places}
+use Rattle.ref_definitions.specs.Resources.{own_uri, resources_in}
+use Rattle.ref_bundle.specs.Needed.{counted_documents, document_under, targets, needed_documents}
 use Rattle.ref_bundle.specs.Embedding.{Obstacle, base_uri, added_schema, embedded_tree, with_member, obstacle}
 
 -- a document that a bundle has under its definitions: its number, its base URI, whether a member for it was added or the one there
@@ -36,7 +36,7 @@ pub data Problem : Type 0 where
   NoMap : Problem
   -- the root's definitions have this key, which is the base URI of a document that is needed
   KeyTaken : List ℕ → Problem
-  -- a place bears a URI that another bears too: that place's document and path
+  -- a place has a URI that another has too: that place's document and path
   SharedUri : List ℕ → ℕ → List Part → Problem
   -- a place refers to a document by its URI, in place of which its root's identifier gives another one
   ReplacedUri : List ℕ → List ℕ → Problem
@@ -77,8 +77,8 @@ tree_with top [] = top.tree
 tree_with top (e ∷ es) = with_member (definitions_keyword top.draft) (object (with_all (map (member_of top.draft) (e ∷ es)) (definitions_of top))) top.tree
 
 -- what is listed of a document
-abbrev pub embedded : Draft → ℕ × Document → Embedded
-embedded draft e = record {
+abbrev pub embedded_document : Draft → ℕ × Document → Embedded
+embedded_document draft e = record {
   document = e.0;
   uri = base_uri e.1;
   adds_id = not (is_some (get (id_keyword e.1.draft) e.1.tree));
@@ -100,18 +100,18 @@ abbrev pub borne_in : ℕ × Document → List (List ℕ × Site)
 borne_in e = map (λ r. (r.0, (e.0, r.1.path))) (resources_in e.1)
 
 -- those of a layer
-abbrev pub borne : Layer → List (List ℕ × Site)
-borne layer = flat_map borne_in (counted 0 layer)
+abbrev pub sites_of_uris : Layer → List (List ℕ × Site)
+sites_of_uris layer = flat_map borne_in (counted_documents 0 layer)
 
--- the last of the other places that bear a URI
+-- the last of the other places that have a URI
 abbrev pub other_bearer : List (List ℕ × Site) → List ℕ → Site → Option Site
 other_bearer entries uri site = option_map_or (λ e. Some e.1) (last_or None (filter (λ e. bytes_eq e.0 uri && not (is_site e.1 site)) entries)) None
 
--- the problem of a URI that a place bears, where another bears it too
-abbrev pub shared : List (List ℕ × Site) → Site → List ℕ → List Problem
-shared entries site uri = option_map_or (λ other. SharedUri uri other.0 other.1 ∷ []) (other_bearer entries uri site) []
+-- the problem of a URI that a place has, where another has it too
+abbrev pub shared_uri : List (List ℕ × Site) → Site → List ℕ → List Problem
+shared_uri entries site uri = option_map_or (λ other. SharedUri uri other.0 other.1 ∷ []) (other_bearer entries uri site) []
 
--- the URIs that a place bears: at the root that of the document, and by its own identifier its base
+-- the URIs that a place has: at the root that of the document, and by its own identifier its base
 abbrev pub uris_of : Document → Place → List (List ℕ)
 uris_of d p = (if path_eq p.path [] then d.uri ∷ [] else []) ++ option_to_list (own_uri p)
 
@@ -124,12 +124,12 @@ abbrev pub replaced_at : Layer → ℕ → List ℕ → Option ℕ → List Prob
 replaced_at layer top uri None = []
 replaced_at layer top uri (Some n) = if n == top then [] else option_map_or (replaced_in uri) (slice_get layer n) []
 
-abbrev pub replaced : Layer → ℕ → List ℕ → List Problem
-replaced layer top uri = replaced_at layer top uri (document_under layer uri)
+abbrev pub replaced_uris : Layer → ℕ → List ℕ → List Problem
+replaced_uris layer top uri = replaced_at layer top uri (document_under layer uri)
 
--- the problems of a place of a needed document: of the URIs that it bears, then of those that it refers to
+-- the problems of a place of a needed document: of the URIs that it has, then of those that it refers to
 abbrev pub place_problems : Layer → ℕ → ℕ × Document → Place → List Problem
-place_problems layer top e p = flat_map (shared (borne layer) (e.0, p.path)) (uris_of e.1 p) ++ flat_map (replaced layer top) (targets p)
+place_problems layer top e p = flat_map (shared_uri (sites_of_uris layer) (e.0, p.path)) (uris_of e.1 p) ++ flat_map (replaced_uris layer top) (targets p)
 
 -- a problem at a path of a document
 abbrev pub at_path : ℕ → List Part → Problem → BundleRefusal
@@ -140,16 +140,16 @@ abbrev pub place_refusals : Layer → ℕ → ℕ × Document → List BundleRef
 place_refusals layer top e = flat_map (λ p. map (at_path e.0 p.path) (place_problems layer top e p)) (places e.1)
 
 -- a key that the definitions have already
-abbrev pub taken : ℕ → List ℕ → Members → ℕ × Document → List BundleRefusal
-taken top keyword ms e = if is_some (get_member (base_uri e.1) ms) then at_path top (Key keyword ∷ Key (base_uri e.1) ∷ []) (KeyTaken (base_uri e.1)) ∷ [] else []
+abbrev pub taken_key : ℕ → List ℕ → Members → ℕ × Document → List BundleRefusal
+taken_key top keyword ms e = if is_some (get_member (base_uri e.1) ms) then at_path top (Key keyword ∷ Key (base_uri e.1) ∷ []) (KeyTaken (base_uri e.1)) ∷ [] else []
 
--- the refusals of what a root has under the keyword of definitions, where documents have to stand there
+-- the refusals of what a root has under the keyword of definitions, where documents have to be there
 abbrev pub map_refusals : ℕ → List ℕ → Option Data → List (ℕ × Document) → List BundleRefusal
 map_refusals top keyword None es = []
 map_refusals top keyword (Some value) es =
-    option_map_or (λ ms. flat_map (taken top keyword ms) es) (as_object value) (at_path top (Key keyword ∷ []) NoMap ∷ [])
+    option_map_or (λ ms. flat_map (taken_key top keyword ms) es) (as_object value) (at_path top (Key keyword ∷ []) NoMap ∷ [])
 
--- those of a root: none where no document has to stand there
+-- those of a root: none where no document has to be there
 abbrev pub root_refusals : ℕ × Document → List (ℕ × Document) → List BundleRefusal
 root_refusals top [] = []
 root_refusals top (e ∷ es) =
@@ -167,7 +167,7 @@ refusals layer top es = flat_map (refusals_in layer top es) (needed_documents la
 
 -- ---- the bundle
 
--- the documents that have to stand under the definitions of a root, in the order of documents
+-- the documents that have to be under the definitions of a root, in the order of documents
 abbrev pub to_embed : Layer → ℕ → List (ℕ × Document)
 to_embed layer top = filter (λ e. not (e.0 == top)) (needed_documents layer top)
 
@@ -178,11 +178,11 @@ unless_refused (refusal ∷ more) bundle = Err refusal
 
 -- the bundle of a root with the documents that it needs
 abbrev pub bundle_of : Document → List (ℕ × Document) → Bundle
-bundle_of top es = record { value = tree_with top es; embedded = map (embedded top.draft) es }
+bundle_of top es = record { value = tree_with top es; embedded = map (embedded_document top.draft) es }
 
 -- the bundle of the document with a number, or why there is none
-abbrev pub bundled : Layer → ℕ → Result Bundle BundleRefusal
-bundled layer number =
+abbrev pub bundle_at : Layer → ℕ → Result Bundle BundleRefusal
+bundle_at layer number =
     option_map_or
     (λ top. let es = to_embed layer number in unless_refused (refusals layer (number, top) es) (bundle_of top es))
     (slice_get layer number)

@@ -1,4 +1,4 @@
--- How a document stands in a bundle: with its base URI as its identifier, and its draft's `$schema` where that is needed (2020-12
+-- How a document is in a bundle: with its base URI as its identifier, and its draft's `$schema` where that is needed (2020-12
 -- Core, 9.3.1).
 use Rattle.std.specs.Prelude.{ℕ, Bool, false, not, ◌&&◌, ◌==◌, if◌then◌else◌, List, codes, bytes_eq, is_some, Option, Some, None, Result, Ok, Err}
 use Rattle.std.specs.List.{list_any}
@@ -9,14 +9,14 @@ use Rattle.serde_json.specs.Find.{get}
 use Rattle.ref_draft.specs.declared.draft.Draft.{Draft}
 use Rattle.ref_draft.specs.declared.draft.Draft.TheVariants.{Draft4, Draft6, Draft7, Draft201909, Draft202012, Unknown}
 use Rattle.ref_draft.specs.Keywords.{id_keyword, is_before_2019}
-use Rattle.ref_draft.specs.Schema.{trimmed, detect, identifier, begins_with_hash}
+use Rattle.ref_draft.specs.Schema.{trimmed_text, detect, identifier, begins_with_hash}
 use Rattle.ref_draft.specs.Order.{rank}
 use Rattle.ref_draft.specs.Children.{is_object}
-use Rattle.ref_uri.specs.Targets.{Refusal, against}
-use Rattle.ref_world.specs.World.{Document}
+use Rattle.ref_uri.specs.Targets.{Refusal, uri_against}
+use Rattle.ref_definitions.specs.World.{Document}
 use Rattle.ref_draft.specs.Anchors.{anchors}
-use Rattle.ref_world.specs.Places.{root, base_within}
-use Rattle.ref_world.specs.Lookup.{is_dynamic}
+use Rattle.ref_definitions.specs.Places.{root, base_within}
+use Rattle.ref_definitions.specs.Lookup.{is_dynamic}
 
 -- whether two drafts are one
 abbrev pub is_draft : Draft → Draft → Bool
@@ -87,13 +87,13 @@ is_uri_of (Ok given) uri = bytes_eq given uri
 is_uri_of (Err refusal) uri = false
 
 abbrev pub is_kept : List ℕ → List ℕ → Bool
-is_kept outer uri = not (begins_with_hash uri) && is_uri_of (against outer (trimmed uri)) uri
+is_kept outer uri = not (begins_with_hash uri) && is_uri_of (uri_against outer (trimmed_text uri)) uri
 
 -- whether an identifier of the document would not count beside its `$ref`
 abbrev pub is_beside_ref : Document → Bool
 is_beside_ref d = is_before_2019 d.draft && is_some (get (codes "$ref") d.tree)
 
--- whether something stands under the identifier's keyword that is none
+-- whether something is under the identifier's keyword that is none
 abbrev pub has_no_identifier : Document → Bool
 has_no_identifier d = is_some (get (id_keyword d.draft) d.tree) && not (is_some (identifier d.draft d.tree))
 

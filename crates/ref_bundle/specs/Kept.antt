@@ -11,16 +11,17 @@ use Rattle.ref_draft.specs.Keywords.{id_keyword}
 use Rattle.ref_draft.specs.Schema.{text_under}
 use Rattle.ref_draft.specs.Children.{InKeyOrder, with_draft}
 use Rattle.ref_uri.specs.Targets.{target, fragment_part}
-use Rattle.ref_world.specs.World.{Document, Layer, World}
-use Rattle.ref_world.specs.Places.{Place, root, child_place, places}
-use Rattle.ref_world.specs.Resources.{own_uri, means}
-use Rattle.ref_world.specs.Wants.{faults, open_wants}
-use Rattle.ref_world.specs.Fault.{Fault}
-use Rattle.ref_world.specs.Lookup.{Resolver, Found, at_fragment, lookup}
-use Rattle.ref_bundle.specs.Merges.{IsMergeOf, below_path}
-use Rattle.ref_bundle.specs.Needed.{referred, needed, needed_documents}
+use Rattle.ref_definitions.specs.World.{Document, Layer, World}
+use Rattle.ref_definitions.specs.Places.{Place, root, child_place, places}
+use Rattle.ref_definitions.specs.Resources.{own_uri, meant_place}
+use Rattle.ref_definitions.specs.Wants.{faults, open_wants}
+use Rattle.ref_definitions.specs.Fault.{Fault}
+use Rattle.ref_definitions.specs.Lookup.{Resolver, Found, at_fragment, lookup}
+use Rattle.ref_bundle.specs.Merges.{IsMergeOf}
+use Rattle.ref_definitions.specs.Moving.{below_path}
+use Rattle.ref_bundle.specs.Needed.{referred_from, numbers_of_needed, needed_documents}
 use Rattle.ref_bundle.specs.Embedding.{base_uri, added_schema, embedded_tree}
-use Rattle.ref_bundle.specs.Bundle.{Bundle, bundled, definitions_keyword, uris_of, to_embed}
+use Rattle.ref_bundle.specs.Bundle.{Bundle, bundle_at, definitions_keyword, uris_of, to_embed}
 
 -- the bundle as a document: under the root's URI, of the root's draft
 abbrev pub document_of_bundle : Document → Bundle → Document
@@ -37,7 +38,7 @@ pub record IsBundle (layer : Layer) (parents : World) (number : ℕ) (top : Docu
   pub no_want : open_wants (layer ∷ parents) layer ≡ []
   pub root : slice_get layer number ≡ Some top
   pub in_order : InKeyOrder top.tree
-  pub is : bundled layer number ≡ Ok bundle
+  pub is : bundle_at layer number ≡ Ok bundle
 
 -- the path of a document below the root's definitions
 abbrev pub path_in : Document → Document → List Part
@@ -84,7 +85,7 @@ pub data IsValueNow (layer : Layer) (number : ℕ) (top : Document) (bundle : Bu
   the_root : now ≡ bundle.value → before ≡ top.tree → IsValueNow layer number top bundle now before
   the_definitions : get (definitions_keyword top.draft) bundle.value ≡ Some now → get (definitions_keyword top.draft) top.tree ≡ Some before → IsValueNow layer number top bundle now before
 
--- What a look-up answers in the bundle, and what it answered: such a value, with the same draft, base and scope, or the same
+-- What a look-up returns in the bundle, and what it answered: such a value, with the same draft, base and scope, or the same
 -- fault.
 abbrev pub IsAnswerNow : Layer → ℕ → Document → Bundle → Result Found Fault → Result Found Fault → Type 0
 IsAnswerNow layer number top bundle (Ok now) (Ok before) =
@@ -117,7 +118,7 @@ abbrev pub RefersBy : Data → List ℕ → Type 0
 RefersBy value reference =
     (text_under (codes "$ref") value ≡ Some reference) ⊎ (text_under (codes "$dynamicRef") value ≡ Some reference)
 
--- a URI that a place of a needed document bears, and that its root's identifier doesn't replace by another
+-- a URI that a place of a needed document has, and that its root's identifier doesn't replace by another
 pub record IsBorneByNeeded (layer : Layer) (number : ℕ) (uri : List ℕ) : Type 0 where
   pub document : ℕ × Document
   pub needed : Contains (needed_documents layer number) document
@@ -126,21 +127,21 @@ pub record IsBorneByNeeded (layer : Layer) (number : ℕ) (uri : List ℕ) : Typ
   pub bears : Contains (uris_of document.1 place) uri
   pub stays : document.1.uri ≡ uri → base_uri document.1 ≡ uri
 
--- Where a URI means a place of a parent, and no own document bears it, none bears that place's own URI either. Without parents
+-- Where a URI means a place of a parent, and no own document has it, none has that place's own URI either. Without parents
 -- this always holds.
 abbrev pub HasNoOtherName : Layer → World → List ℕ → Type 0
 HasNoOtherName layer parents uri =
-    (p : Place) (other : List ℕ) → means (layer ∷ []) uri ≡ None → means parents uri ≡ Some p → own_uri p ≡ Some other → means (layer ∷ []) other ≡ None
+    (p : Place) (other : List ℕ) → meant_place (layer ∷ []) uri ≡ None → meant_place parents uri ≡ Some p → own_uri p ≡ Some other → meant_place (layer ∷ []) other ≡ None
 
 -- a reference from a base whose pointer goes into what was added
 pub record PointsIntoAdded (layer : Layer) (parents : World) (number : ℕ) (top : Document) (base reference : List ℕ) : Type 0 where
   pub uri : List ℕ
   pub to : target base reference ≡ Ok uri
   pub place : Place
-  pub meant : means (layer ∷ parents) uri ≡ Some place
+  pub meant : meant_place (layer ∷ parents) uri ≡ Some place
   pub goes : GoesIntoAdded layer number top place (fragment_part reference)
 
--- A reference of a place of a needed document, from its base and a scope of URIs that needed places bear: the look-up in the
+-- A reference of a place of a needed document, from its base and a scope of URIs that needed places have: the look-up in the
 -- bundle answers what it answered, unless its pointer goes into what was added.
 abbrev pub KeepsReferences : Type 0
 KeepsReferences =
@@ -166,7 +167,7 @@ AddedDefinitionsWereFaults =
 -- a document is needed: the root, or one that a needed one refers to
 pub data IsNeeded (layer : Layer) (number : ℕ) : ℕ → Type 0 where
   root_is : IsNeeded layer number number
-  referred_by : (by next : ℕ) → IsNeeded layer number by → Contains (referred layer by) next → IsNeeded layer number next
+  referred_by : (by next : ℕ) → IsNeeded layer number by → Contains (referred_from layer by) next → IsNeeded layer number next
 
 -- The numbers of what is needed are in the order of documents, each once, and are those of the root and of what needed
 -- documents refer to.
@@ -177,8 +178,8 @@ pub record AreNeeded (layer : Layer) (number : ℕ) (numbers : List ℕ) : Type 
 
 -- A bundle embeds what is needed but the root. One that embeds nothing is its document as it is.
 pub record EmbedsNeeded (layer : Layer) (number : ℕ) (top : Document) (bundle : Bundle) : Type 0 where
-  pub needed_numbers : AreNeeded layer number (needed layer number)
-  pub embeds : map (λ e. e.document) bundle.embedded ≡ filter (λ n. not (n == number)) (needed layer number)
+  pub needed_numbers : AreNeeded layer number (numbers_of_needed layer number)
+  pub embeds : map (λ e. e.document) bundle.embedded ≡ filter (λ n. not (n == number)) (numbers_of_needed layer number)
   pub alone : bundle.embedded ≡ [] → bundle.value ≡ top.tree
 
 -- so does each bundle

@@ -1,7 +1,5 @@
 -- How the places of a bundle come from those of its documents.
-use Rattle.std.specs.Prelude.{◌≡◌, List, [], ◌∷◌, ◌++◌}
-use Rattle.ref_parts.specs.Path.{Part}
-use Rattle.ref_world.specs.Places.{Place}
+use Rattle.std.specs.Prelude.{◌≡◌, List, [], ◌∷◌}
 
 -- one list is two others merged, each in its order
 pub data IsMerge (X : Type 0) : List X → List X → List X → Type 0 where
@@ -13,7 +11,3 @@ pub data IsMerge (X : Type 0) : List X → List X → List X → Type 0 where
 abbrev pub IsMergeOf : (X : Type 0) → List X → List (List X) → Type 0
 IsMergeOf X all [] = all ≡ []
 IsMergeOf X all (xs ∷ others) = (rest : List X) × IsMerge X all xs rest × IsMergeOf X rest others
-
--- a place, with another path in front of its own
-abbrev pub below_path : List Part → Place → Place
-below_path front p = record p { path = front ++ p.path }

@@ -4,22 +4,22 @@ use Rattle.std.specs.Prelude.{ℕ, List, map, codes, Bool, Option, Some, None, R
 use Rattle.serde_json.specs.Data.{Data, object, member, no_members}
 use Rattle.ref_parts.specs.Path.{Part}
 use Rattle.ref_draft.specs.declared.draft.Draft.TheVariants.{Draft202012}
-use Rattle.ref_world.specs.World.{Document, Layer}
-use Rattle.ref_world.specs.Rows.{at, text, one, two}
-use Rattle.ref_bundle.specs.Bundle.{Bundle, BundleRefusal, Problem, Embedded, bundled}
+use Rattle.ref_definitions.specs.World.{Document, Layer}
+use Rattle.ref_definitions.specs.Rows.{at, text, one, two}
+use Rattle.ref_bundle.specs.Bundle.{Bundle, BundleRefusal, Problem, Embedded, bundle_at}
 
 -- what is shown of a bundle: its tree, and the numbers of the documents in it; or where it is refused, and why
 pub data Shown : Type 0 where
   bundle : Data → List ℕ → Shown
-  refused : ℕ → List Part → Problem → Shown
+  refused_bundle : ℕ → List Part → Problem → Shown
 
-abbrev pub shown : Result Bundle BundleRefusal → Shown
-shown (Ok b) = bundle b.value (map (λ (e : Embedded). e.document) b.embedded)
-shown (Err r) = refused r.document r.path r.problem
+abbrev pub shown_bundle : Result Bundle BundleRefusal → Shown
+shown_bundle (Ok b) = bundle b.value (map (λ (e : Embedded). e.document) b.embedded)
+shown_bundle (Err r) = refused_bundle r.document r.path r.problem
 
 -- the bundle of the first document
 abbrev pub bundle_of_first : Layer → Shown
-bundle_of_first layer = shown (bundled layer 0)
+bundle_of_first layer = shown_bundle (bundle_at layer 0)
 
 -- a document of 2020-12, and one that refers to `s`
 abbrev pub new : Literal → Data → Document

@@ -46,7 +46,7 @@ embedded_said e = record { document = e.document; uri = e.uri.value; adds_id = e
 abbrev pub bundle_said : rust_bundle.Bundle → Bundle
 bundle_said b = record { value = view b.value; embedded = map embedded_said b.embedded.items }
 
--- the error says why there is no bundle, or is want of memory
+-- the error says why there is no bundle, or is out of memory
 abbrev pub IsRefusalOf : Result Bundle BundleRefusal → rust_error.BundleError → Type 0
 IsRefusalOf answer (errors.Refused refusal) = answer ≡ Err (refusal_said refusal)
 IsRefusalOf answer (errors.Memory error) = ⊤

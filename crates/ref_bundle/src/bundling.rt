@@ -1,11 +1,11 @@
 //! The bundle of a document with those that it needs.
 ghost use Rattle.std.specs.Prelude.{◌≡◌, ◌==◌, ◌&&◌, [], ◌∷◌, ◌++◌, OnOk, map, slice_get, Some, filter, not, IfOk, IfErr, Ok};
 ghost use Rattle.std.specs.List.{AllByRecursion};
-ghost use Rattle.ref_resolver.specs.Layered.{own};
-ghost use Rattle.ref_bundle.specs.Bundle.{embedded, bundled, bundle_of, to_embed};
+ghost use Rattle.ref_resolver.specs.Layered.{own_layer};
+ghost use Rattle.ref_bundle.specs.Bundle.{embedded_document, bundle_at, bundle_of, to_embed};
 ghost use Rattle.ref_bundle.specs.Saying.{embedded_said, bundle_said, IsRefusalOf};
 ghost use Rattle.ref_bundle.specs.inner.Reach.{is_marked, IsReach};
-ghost use Rattle.ref_bundle.specs.inner.Seen.{numbered, layer_in, part_document, numbered_part, HasPlaces, AreOwn, HasBase};
+ghost use Rattle.ref_bundle.specs.inner.Seen.{numbered_document, layer_in, part_document, numbered_part, HasPlaces, AreOwn, HasBase};
 ghost use Rattle.ref_bundle.specs.inner.Tables.{AreTables};
 ghost use Rattle.ref_bundle.specs.Needed.{referred_in};
 
@@ -36,7 +36,7 @@ fn push<'r>(
     own: &Own<'r>,
 ) -> Result<(), AllocError>
     requires { HasPlaces own.now }
-    ensures parts { OnOk result (map numbered_part parts.new.items ≡ map numbered_part parts.old.items ++ filter (λ e. not (e.0 == top) && is_marked needed.now e.0) (numbered own.now ∷ [])) }
+    ensures parts { OnOk result (map numbered_part parts.new.items ≡ map numbered_part parts.old.items ++ filter (λ e. not (e.0 == top) && is_marked needed.now e.0) (numbered_document own.now ∷ [])) }
     ensures bases { AllByRecursion HasBase parts.old.items → OnOk result (AllByRecursion HasBase parts.new.items) }
 {
     if is_embedded(needed, top, own.number) {
@@ -54,7 +54,7 @@ fn parts_of<'r>(
     top: usize,
 ) -> Result<Vec<Part<'r>>, AllocError>
     requires { AllByRecursion HasPlaces owns.now }
-    ensures parts { IfOk result (λ parts. map numbered_part parts.items ≡ filter (λ e. not (e.0 == top) && is_marked needed.now e.0) (map numbered owns.now)) }
+    ensures parts { IfOk result (λ parts. map numbered_part parts.items ≡ filter (λ e. not (e.0 == top) && is_marked needed.now e.0) (map numbered_document owns.now)) }
     ensures bases { IfOk result (λ parts. AllByRecursion HasBase parts.items) }
 {
     let mut parts = Vec::new(alloc);
@@ -67,7 +67,7 @@ fn parts_of<'r>(
 // What is listed of a document.
 fn embedded(draft: Draft, part: &Part<'_>) -> Result<Embedded, AllocError>
     requires { HasBase part.now }
-    ensures { IfOk result (λ e. embedded_said e ≡ embedded draft (numbered_part part.now)) }
+    ensures { IfOk result (λ e. embedded_said e ≡ embedded_document draft (numbered_part part.now)) }
 {
     Ok(Embedded {
         document: part.number,
@@ -84,7 +84,7 @@ fn all_embedded(
     parts: &[Part<'_>],
 ) -> Result<Vec<Embedded>, AllocError>
     requires { AllByRecursion HasBase parts.now }
-    ensures { IfOk result (λ list. map embedded_said list.items ≡ map (embedded draft) (map numbered_part parts.now)) }
+    ensures { IfOk result (λ list. map embedded_said list.items ≡ map (embedded_document draft) (map numbered_part parts.now)) }
 {
     let mut list = Vec::with_capacity(alloc, parts.len())?;
     for part in parts {
@@ -103,7 +103,7 @@ fn bundle_of(alloc: Global, top: &Part<'_>, parts: &[Part<'_>]) -> Result<Bundle
     Ok(Bundle { value, embedded })
 }
 
-// The bundle of a root among documents, which bear URIs and are needed so.
+// The bundle of a root among documents, which have URIs and are needed so.
 fn bundle_with<'r>(
     alloc: Global,
     bearers: &Bearers<'r>,
@@ -115,8 +115,8 @@ fn bundle_with<'r>(
     requires tables { AreTables (layer_in owns.now) bearers.now }
     requires top { slice_get owns.now top.now.number ≡ Some top.now }
     requires needed { IsReach (map (referred_in (layer_in owns.now)) (layer_in owns.now)) top.now.number needed.now }
-    ensures value { IfOk result (λ b. bundled (layer_in owns.now) top.now.number ≡ Ok (bundle_said b)) }
-    ensures fault { IfErr result (IsRefusalOf (bundled (layer_in owns.now) top.now.number)) }
+    ensures value { IfOk result (λ b. bundle_at (layer_in owns.now) top.now.number ≡ Ok (bundle_said b)) }
+    ensures fault { IfErr result (IsRefusalOf (bundle_at (layer_in owns.now) top.now.number)) }
 {
     let parts = parts_of(alloc, owns, needed, top.number)?;
     let top = part_of(alloc, top)?;
@@ -134,8 +134,8 @@ fn bundle_among<'r>(
 ) -> Result<Bundle, BundleError<'r>>
     requires own { AreOwn owns.now }
     requires top { slice_get owns.now top.now.number ≡ Some top.now }
-    ensures value { IfOk result (λ b. bundled (layer_in owns.now) top.now.number ≡ Ok (bundle_said b)) }
-    ensures fault { IfErr result (IsRefusalOf (bundled (layer_in owns.now) top.now.number)) }
+    ensures value { IfOk result (λ b. bundle_at (layer_in owns.now) top.now.number ≡ Ok (bundle_said b)) }
+    ensures fault { IfErr result (IsRefusalOf (bundle_at (layer_in owns.now) top.now.number)) }
 {
     let bearers = bearers_of(alloc, owns)?;
     let lists = all_referred(alloc, &bearers, owns)?;
@@ -144,7 +144,7 @@ fn bundle_among<'r>(
 }
 
 /// One document in place of those that an own document of a registry needs, which is counted from 0 in the order in which their URIs
-/// were first added, and behind them those retrieved (2020-12 Core, 9.3).
+/// were first added, and after them those retrieved (2020-12 Core, 9.3).
 ///
 /// Needed are the root, and again and again the own documents that a needed place means by the text under its `$ref` or
 /// `$dynamicRef`, or by the URI of a custom meta-schema under its `$schema`; the documents of parents stay outside. The bundle is the
@@ -152,15 +152,15 @@ fn bundle_among<'r>(
 /// the document's base URI, which it also has as its identifier, and with the `$schema` of its draft where the root's draft wouldn't
 /// be detected as it and it has none. Nothing else changes; a document that needs no other is its own bundle.
 ///
-/// Refuses by what [`Problem`] names, the first in the order of documents and places, and as `Memory`. This is the one call that copies
-/// trees. Each place of the registry is visited once, with look-ups in sorted tables for the URIs that it bears and refers to.
+/// Refuses by what [`Problem`] names, the first in the order of documents and places, and as `Memory`. The trees of the
+/// documents in the bundle are copied. Each place of the registry is visited once, with look-ups in sorted tables for the URIs that it has and refers to.
 pub fn bundle<'r>(
     alloc: Global,
     registry: &'r Registry<'_>,
     root: usize,
 ) -> Result<Bundle, BundleError<'r>>
-    ensures value { IfOk result (λ b. bundled (own registry.now) root ≡ Ok (bundle_said b)) }
-    ensures fault { IfErr result (IsRefusalOf (bundled (own registry.now) root)) }
+    ensures value { IfOk result (λ b. bundle_at (own_layer registry.now) root ≡ Ok (bundle_said b)) }
+    ensures fault { IfErr result (IsRefusalOf (bundle_at (own_layer registry.now) root)) }
 {
     let owns = owns_of(alloc, registry)?;
     match owns.get(root) {

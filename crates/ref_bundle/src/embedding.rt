@@ -1,4 +1,4 @@
-//! How documents stand in a bundle.
+//! How documents are in a bundle.
 ghost use Rattle.std.specs.Prelude.{◌≡◌, ◌&&◌, [], ◌∷◌, map, option_map, bytes_eq, IfOk, OnOk};
 ghost use Rattle.std.specs.List.{AllByRecursion};
 ghost use Rattle.serde_json.specs.Data.{string};
@@ -6,11 +6,11 @@ ghost use Rattle.serde_json.specs.Find.{as_object};
 ghost use Rattle.serde_json.specs.View.{view, members_view};
 ghost use Rattle.ref_draft.specs.Keywords.{is_before_2019};
 ghost use Rattle.ref_draft.specs.Schema.{identifier};
-ghost use Rattle.ref_uri.specs.Targets.{against};
+ghost use Rattle.ref_uri.specs.Targets.{uri_against};
 ghost use Rattle.ref_bundle.specs.Embedding.{base_uri, schema_text, is_detected, added_schema, is_uri_of, is_kept, is_beside_ref, has_no_identifier, loses_draft, has_dynamic_anchor, is_resolved_again, obstacle, with_member, embedded_tree};
 ghost use Rattle.ref_bundle.specs.Bundle.{definitions_keyword, definitions_of, members_or_none, member_of, with_all, tree_with};
 ghost use Rattle.ref_bundle.specs.Saying.{obstacle_said};
-ghost use Rattle.ref_bundle.specs.inner.Seen.{numbered, part_document, numbered_part, HasBase, HasPlaces};
+ghost use Rattle.ref_bundle.specs.inner.Seen.{numbered_document, part_document, numbered_part, HasBase, HasPlaces};
 ghost use Rattle.ref_bundle.specs.inner.Obstacles.{tree_obstacle, uri_obstacle};
 
 use crate::error::Obstacle;
@@ -23,7 +23,7 @@ use serde_json::{Map, Value};
 use std::alloc::{AllocError, Global};
 use std::rc::Rc;
 
-/// A document that stands under the definitions of a bundle, with its base URI.
+/// A document that is under the definitions of a bundle, with its base URI.
 #[derive(Drop)]
 pub(crate) struct Part<'r> {
     pub number: usize,
@@ -36,7 +36,7 @@ pub(crate) struct Part<'r> {
 /// A document with its base URI.
 pub(crate) fn part_of<'r>(alloc: Global, own: &Own<'r>) -> Result<Part<'r>, AllocError>
     requires { HasPlaces own.now }
-    ensures value { IfOk result (λ p. numbered_part p ≡ numbered own.now) }
+    ensures value { IfOk result (λ p. numbered_part p ≡ numbered_document own.now) }
     ensures base { IfOk result HasBase }
 {
     Ok(Part {
@@ -98,7 +98,7 @@ pub(crate) fn added_schema(draft: Draft, part: &Part<'_>) -> Option<&'static str
 
 // Whether a text means a URI against a base.
 fn is_given(alloc: Global, outer: &Rc<Uri>, text: &str, uri: &Rc<Uri>) -> Result<bool, AllocError>
-    ensures { IfOk result (λ is. is ≡ is_uri_of (against outer.now.value text.now) uri.now.value) }
+    ensures { IfOk result (λ is. is ≡ is_uri_of (uri_against outer.now.value text.now) uri.now.value) }
 {
     match resolve_against(alloc, outer.borrow(), text) {
         Ok(given) => Ok(given.as_str() == uri.as_str()),
@@ -133,7 +133,7 @@ fn is_beside_ref(part: &Part<'_>) -> bool
     is_before_2019(part.draft) && part.tree.get("$ref").is_some()
 }
 
-// Whether something stands under the identifier's keyword that is none.
+// Whether something is under the identifier's keyword that is none.
 fn has_no_identifier(part: &Part<'_>) -> bool
     ensures { result ≡ has_no_identifier (part_document part.now) }
 {

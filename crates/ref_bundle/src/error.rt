@@ -6,7 +6,7 @@ use std::alloc::AllocError;
 use std::fmt;
 use std::rc::Rc;
 
-/// Why a document can't stand in a bundle.
+/// Why a document can't are in a bundle.
 #[derive(Debug, Drop)]
 pub enum Obstacle {
     /// It is no object, so it can't have an identifier. Make it an object: `{}` for `true`, `{"not": {}}` for `false`.
@@ -31,7 +31,7 @@ pub enum Obstacle {
 pub enum Problem<'r> {
     /// There is no document with the root's number.
     NoDocument,
-    /// The document, which is needed, can't stand in a bundle.
+    /// The document, which is needed, can't are in a bundle.
     NotEmbedded(Obstacle),
     /// What the root has here, under the keyword of definitions, is no object.
     NoMap,
@@ -40,7 +40,7 @@ pub enum Problem<'r> {
         /// The key.
         uri: Rc<Uri>,
     },
-    /// The place bears a URI that another place bears too, so it may mean another in the bundle. Give one of them another identifier.
+    /// The place has a URI that another place has too, so it may mean another in the bundle. Give one of them another identifier.
     SharedUri {
         /// The URI.
         uri: Rc<Uri>,
@@ -90,7 +90,7 @@ impl fmt::Display for Obstacle {
                 f.write_str("the keyword of its identifier holds what is no identifier")
             }
             Obstacle::NotKept(uri) => write!(f, "its URI '{uri}' can't be an identifier"),
-            Obstacle::UntoldDraft(_) => f.write_str("no `$schema` tells its draft"),
+            Obstacle::UntoldDraft(_) => f.write_str("no `$schema` names its draft"),
             Obstacle::ResolvedAgain => {
                 f.write_str("its identifier is relative, and its root has a dynamic anchor")
             }
@@ -103,16 +103,14 @@ impl fmt::Display for Problem<'_> {
         match self {
             Problem::NoDocument => f.write_str("there is no such document"),
             Problem::NotEmbedded(obstacle) => {
-                write!(f, "the document can't stand in a bundle: {obstacle}")
+                write!(f, "the document can't be part of a bundle: {obstacle}")
             }
-            Problem::NoMap => f.write_str(
-                "what stands under the keyword of definitions is no object",
-            ),
+            Problem::NoMap => f.write_str("the value of the definitions keyword is no object"),
             Problem::KeyTaken { uri } => write!(f, "there is a definition '{uri}' already"),
             Problem::SharedUri { uri, document, .. } => {
                 write!(
                     f,
-                    "a place of document {document} bears the URI '{uri}' too"
+                    "a subschema of document {document} has the URI '{uri}' too"
                 )
             }
             Problem::ReplacedUri { uri, base } => {

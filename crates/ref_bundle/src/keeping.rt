@@ -2,9 +2,9 @@
 ghost use Rattle.std.specs.Prelude.{◌≡◌, ℕ, drop, slice_get, Some, Ok};
 ghost use Rattle.serde_json.specs.View.{view};
 ghost use Rattle.ref_draft.specs.Children.{InKeyOrder};
-ghost use Rattle.ref_world.specs.World.{Document};
-ghost use Rattle.ref_resolver.specs.Layered.{own};
-ghost use Rattle.ref_bundle.specs.Bundle.{Bundle, bundled};
+ghost use Rattle.ref_definitions.specs.World.{Document};
+ghost use Rattle.ref_resolver.specs.Layered.{own_layer};
+ghost use Rattle.ref_bundle.specs.Bundle.{Bundle, bundle_at};
 ghost use Rattle.ref_bundle.specs.Kept.{IsBundle};
 
 use referencing::Registry;
@@ -23,8 +23,8 @@ fn members_are_ordered(value: &Value)
 /// What the laws say of bundles holds of each that [`bundle`](crate::bundle) gives of a document of a registry: no own document has a
 /// fault or an open want, and the members of its values are in byte order of their keys. A law; a look-up, which takes no memory.
 pub fn bundle_is_lawful(registry: &Registry<'_>, root: usize)
-    ensures law { (top : Document) (bundle : Bundle) → slice_get (own registry.now) root ≡ Some top
-        → bundled (own registry.now) root ≡ Ok bundle → IsBundle (own registry.now) (drop 1 registry.now) root top bundle }
+    ensures law { (top : Document) (bundle : Bundle) → slice_get (own_layer registry.now) root ≡ Some top
+        → bundle_at (own_layer registry.now) root ≡ Ok bundle → IsBundle (own_layer registry.now) (drop 1 registry.now) root top bundle }
 {
     registry.references_are_retrieved();
     if let Some(value) = registry.value_at(root, &[]) {

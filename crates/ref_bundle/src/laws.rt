@@ -1,22 +1,12 @@
 //! Laws of the definitions. Each function is empty: its contract states the law, and the check proves it.
-ghost use Rattle.std.specs.Prelude.{◌≡◌, ℕ, List, [], ◌∷◌, map, codes, true, None};
-ghost use Rattle.ref_parts.specs.Path.{Part};
-ghost use Rattle.ref_world.specs.World.{Layer};
-ghost use Rattle.ref_world.specs.Places.{Place, children_of, levels_below};
-ghost use Rattle.ref_world.specs.Fault.{PointerToNowhere};
-ghost use Rattle.ref_world.specs.Rows.{yes, text, empty, one, two};
-ghost use Rattle.ref_bundle.specs.Merges.{below_path};
+ghost use Rattle.std.specs.Prelude.{◌≡◌, ℕ, List, [], ◌∷◌, codes, true, None};
+ghost use Rattle.ref_definitions.specs.World.{Layer};
+ghost use Rattle.ref_definitions.specs.Fault.{PointerToNowhere};
+ghost use Rattle.ref_definitions.specs.Rows.{yes, text, empty, one, two};
 ghost use Rattle.ref_bundle.specs.Rows.{new, refers_to_s, with_definition, listed_as};
 ghost use Rattle.ref_bundle.specs.KeptRows.{value, fault, both, alike};
 ghost use Rattle.ref_bundle.specs.Kept.{IsBundle, HaveMergedPlaces, HaveNoFault, HaveNoOpenWant, HasNoOtherName};
 ghost use Rattle.ref_bundle.specs.Kept.{KeepsReferences, AddedDefinitionsWereFaults, EmbedWhatIsNeeded};
-
-/// The places below a place whose children are those of another, with a path in front of theirs, are those below the other,
-/// with that path in front.
-pub fn places_move_with_their_tree()
-    ensures law { (n : ℕ) (front : List Part) (e r : Place) → children_of e ≡ map (below_path front) (children_of r)
-        → levels_below n (e ∷ []) ≡ map (below_path front) (levels_below n (r ∷ [])) }
-{}
 
 /// The places of a bundle are those of the root and of each embedded document, merged, each document's in their order. The
 /// roots have what was added. The paths of the other places of an embedded document go on from that of its root; their values,
@@ -32,10 +22,10 @@ pub fn bundles_are_prepared()
 {}
 
 /// A bundle keeps every reference. For each place of a document that it needs, each text under its `$ref` or `$dynamicRef`, and
-/// each scope of URIs that needed places bear: the look-up in the bundle from the place's base answers what it answered among
+/// each scope of URIs that needed places have: the look-up in the bundle from the place's base answers what it answered among
 /// the documents, with the same draft, base and scope, or the same fault. The value is the same, but that an embedded document
 /// as a whole has its identifier and its `$schema`, and the root and its definitions have the embedded documents. Only a
-/// pointer that goes into what was added may answer something else.
+/// pointer that goes into what was added may return something else.
 pub fn bundles_keep_references()
     ensures law { KeepsReferences }
     ensures definitions { AddedDefinitionsWereFaults }

@@ -2,16 +2,16 @@
 ghost use Rattle.std.specs.Prelude.{◌≡◌, [], ◌∷◌, ◌++◌, map, option_map, slice_get, IfOk, OnOk, MatchOption, Some};
 ghost use Rattle.std.specs.List.{AllByRecursion, Contains};
 ghost use Rattle.std.specs.Option.{option_to_list};
-ghost use Rattle.ref_world.specs.World.{Document as WorldDocument};
+ghost use Rattle.ref_definitions.specs.World.{Document as WorldDocument};
 ghost use Rattle.ref_index.specs.Document.{document_of};
-ghost use Rattle.ref_world.specs.Places.{Place as WorldPlace, places};
-ghost use Rattle.ref_world.specs.Listing.{own_places};
+ghost use Rattle.ref_definitions.specs.Places.{Place as WorldPlace, places};
+ghost use Rattle.ref_definitions.specs.Listing.{own_places};
 ghost use Rattle.ref_parts.specs.Path.{value_at};
 ghost use Rattle.ref_index.specs.Listing.{listed_of};
-ghost use Rattle.ref_resolver.specs.Layered.{own};
-ghost use Rattle.ref_bundle.specs.Needed.{counted};
+ghost use Rattle.ref_resolver.specs.Layered.{own_layer};
+ghost use Rattle.ref_bundle.specs.Needed.{counted_documents};
 ghost use Rattle.ref_bundle.specs.declared.own.Own.{Own};
-ghost use Rattle.ref_bundle.specs.inner.Seen.{seen, seen_in, see_listed, put_last, put, gathered, numbered, HasPlaces};
+ghost use Rattle.ref_bundle.specs.inner.Seen.{seen_spot, seen_in, see_listed, put_last, put_place, gathered_places, numbered_document, HasPlaces};
 
 use ref_draft::Draft;
 use ref_index::Document;
@@ -42,9 +42,9 @@ pub(crate) struct Own<'r> {
     pub places: Vec<Spot<'r>>,
 }
 
-// A place with its value, where that stands in its document.
+// A place with its value, where that is in its document.
 fn spot_of<'r>(registry: &'r Registry<'_>, place: Place<'r>) -> Option<Spot<'r>>
-    ensures { option_map seen result ≡ see_listed (own registry.now) (listed_of place.entry) }
+    ensures { option_map seen_spot result ≡ see_listed (own_layer registry.now) (listed_of place.entry) }
 {
     let value = registry.value_at(place.document, place.path.as_slice())?;
     Some(Spot {
@@ -58,7 +58,7 @@ fn spot_of<'r>(registry: &'r Registry<'_>, place: Place<'r>) -> Option<Spot<'r>>
 
 // Adds a place to the last of groups.
 fn put_last<'r>(groups: &mut Vec<Vec<Spot<'r>>>, spot: Spot<'r>) -> Result<(), AllocError>
-    ensures { OnOk result (map (λ g. map seen g.items) groups.new.items ≡ put_last (map (λ g. map seen g.items) groups.old.items) (seen spot.entry)) }
+    ensures { OnOk result (map (λ g. map seen_spot g.items) groups.new.items ≡ put_last (map (λ g. map seen_spot g.items) groups.old.items) (seen_spot spot.entry)) }
 {
     if let Some(mut group) = groups.pop() {
         group.push(spot)?;
@@ -69,7 +69,7 @@ fn put_last<'r>(groups: &mut Vec<Vec<Spot<'r>>>, spot: Spot<'r>) -> Result<(), A
 
 // Adds a place to its document's, which are the last or begin with it.
 fn put<'r>(alloc: Global, groups: &mut Vec<Vec<Spot<'r>>>, spot: Spot<'r>) -> Result<(), AllocError>
-    ensures { OnOk result (map (λ g. map seen g.items) groups.new.items ≡ put (map (λ g. map seen g.items) groups.old.items) (seen spot.entry)) }
+    ensures { OnOk result (map (λ g. map seen_spot g.items) groups.new.items ≡ put_place (map (λ g. map seen_spot g.items) groups.old.items) (seen_spot spot.entry)) }
 {
     if spot.document < groups.len() {
         return put_last(groups, spot);
@@ -86,7 +86,7 @@ fn put_some<'r>(
     groups: &mut Vec<Vec<Spot<'r>>>,
     spot: Option<Spot<'r>>,
 ) -> Result<(), AllocError>
-    ensures { OnOk result (map (λ g. map seen g.items) groups.new.items ≡ gathered (map (λ g. map seen g.items) groups.old.items) (option_to_list (option_map seen spot.entry))) }
+    ensures { OnOk result (map (λ g. map seen_spot g.items) groups.new.items ≡ gathered_places (map (λ g. map seen_spot g.items) groups.old.items) (option_to_list (option_map seen_spot spot.entry))) }
 {
     match spot {
         Some(spot) => put(alloc, groups, spot),
@@ -96,8 +96,8 @@ fn put_some<'r>(
 
 // The places of a registry.
 fn listed<'r>(alloc: Global, registry: &'r Registry<'_>) -> Result<Vec<Place<'r>>, AllocError>
-    ensures value { IfOk result (λ places. map listed_of places.items ≡ own_places (own registry.now)) }
-    ensures stand { (d : WorldDocument) (p : WorldPlace) → Contains (own registry.now) d → Contains (places d) p → value_at d.tree p.path ≡ Some p.value }
+    ensures value { IfOk result (λ places. map listed_of places.items ≡ own_places (own_layer registry.now)) }
+    ensures stand { (d : WorldDocument) (p : WorldPlace) → Contains (own_layer registry.now) d → Contains (places d) p → value_at d.tree p.path ≡ Some p.value }
 {
     match registry.places(alloc) {
         Ok(places) => Ok(places),
@@ -111,7 +111,7 @@ fn groups_of<'r>(
     alloc: Global,
     registry: &'r Registry<'_>,
 ) -> Result<Vec<Vec<Spot<'r>>>, AllocError>
-    ensures { IfOk result (λ groups. map (λ g. map seen g.items) groups.items ≡ map seen_in (counted 0 (own registry.now))) }
+    ensures { IfOk result (λ groups. map (λ g. map seen_spot g.items) groups.items ≡ map seen_in (counted_documents 0 (own_layer registry.now))) }
 {
     let places = listed(alloc, registry)?;
     let mut groups = Vec::new(alloc);
@@ -123,7 +123,7 @@ fn groups_of<'r>(
 
 // A document with its places.
 fn own_of<'r>(number: usize, document: &'r Document<'_>, places: Vec<Spot<'r>>) -> Own<'r>
-    ensures document { numbered result ≡ (number, document_of document.now) }
+    ensures document { numbered_document result ≡ (number, document_of document.now) }
     ensures places { result.places ≡ places.entry }
 {
     Own {
@@ -142,8 +142,8 @@ fn push<'r>(
     number: usize,
     places: Vec<Spot<'r>>,
 ) -> Result<(), AllocError>
-    ensures { OnOk result (MatchOption (slice_get (own registry.now) number) (owns.new.items ≡ owns.old.items)
-        (λ d. (o : Own) × (owns.new.items ≡ owns.old.items ++ o ∷ []) × (numbered o ≡ (number, d)) × (o.places ≡ places.entry))) }
+    ensures { OnOk result (MatchOption (slice_get (own_layer registry.now) number) (owns.new.items ≡ owns.old.items)
+        (λ d. (o : Own) × (owns.new.items ≡ owns.old.items ++ o ∷ []) × (numbered_document o ≡ (number, d)) × (o.places ≡ places.entry))) }
 {
     if let Some(document) = registry.documents().get(number) {
         owns.push(own_of(number, document, places))?;
@@ -156,7 +156,7 @@ pub(crate) fn owns_of<'r>(
     alloc: Global,
     registry: &'r Registry<'_>,
 ) -> Result<Vec<Own<'r>>, AllocError>
-    ensures order { IfOk result (λ owns. map numbered owns.items ≡ counted 0 (own registry.now)) }
+    ensures order { IfOk result (λ owns. map numbered_document owns.items ≡ counted_documents 0 (own_layer registry.now)) }
     ensures places { IfOk result (λ owns. AllByRecursion HasPlaces owns.items) }
 {
     let groups = groups_of(alloc, registry)?;

@@ -1,11 +1,11 @@
 //! Which documents are needed.
 ghost use Rattle.std.specs.Prelude.{◌≡◌, ℕ, [], ◌++◌, map, flat_map, length, false, IfOk, OnOk};
 ghost use Rattle.std.specs.Option.{option_to_list};
-ghost use Rattle.ref_world.specs.World.{Layer};
+ghost use Rattle.ref_definitions.specs.World.{Layer};
 ghost use Rattle.ref_bundle.specs.Needed.{document_under, targets_from, referred_in};
-ghost use Rattle.ref_bundle.specs.inner.Seen.{seen, layer_in, AreOwn};
+ghost use Rattle.ref_bundle.specs.inner.Seen.{seen_spot, layer_in, AreOwn};
 ghost use Rattle.ref_bundle.specs.inner.Tables.{AreTables};
-ghost use Rattle.ref_bundle.specs.inner.Reach.{state, is_marked, added, all_added, list_at, IsReach};
+ghost use Rattle.ref_bundle.specs.inner.Reach.{state, is_marked, added_document, all_added, list_at, IsReach};
 
 use crate::own::{Own, Spot};
 use crate::tables::Bearers;
@@ -36,7 +36,7 @@ fn referred(
     bearers: &Bearers<'_>,
     places: &[Spot<'_>],
 ) -> Result<Vec<usize>, AllocError>
-    ensures { (layer : Layer) → AreTables layer bearers.now → IfOk result (λ numbers. numbers.items ≡ flat_map (λ uri. option_to_list (document_under layer uri)) (flat_map (λ s. targets_from s.base s.value) (map seen places.now))) }
+    ensures { (layer : Layer) → AreTables layer bearers.now → IfOk result (λ numbers. numbers.items ≡ flat_map (λ uri. option_to_list (document_under layer uri)) (flat_map (λ s. targets_from s.base s.value) (map seen_spot places.now))) }
 {
     let mut numbers = Vec::new(alloc);
     for spot in places {
@@ -90,7 +90,7 @@ impl Reached {
 
     // Adds a number, where it wasn't reached before.
     fn add(&mut self, number: usize) -> Result<(), AllocError>
-        ensures { OnOk result (state self.new ≡ added (state self.old) number) }
+        ensures { OnOk result (state self.new ≡ added_document (state self.old) number) }
     {
         if let Some(false) = self.marks.get(number) {
             self.marks[number] = true;

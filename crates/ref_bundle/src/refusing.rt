@@ -5,13 +5,13 @@ ghost use Rattle.std.specs.Option.{option_to_list};
 ghost use Rattle.serde_json.specs.View.{view};
 ghost use Rattle.ref_parts.specs.Path.{Key};
 ghost use Rattle.ref_parts.specs.Segment.{part_of};
-ghost use Rattle.ref_world.specs.World.{Layer};
+ghost use Rattle.ref_definitions.specs.World.{Layer};
 ghost use Rattle.ref_bundle.specs.Embedding.{obstacle};
 ghost use Rattle.ref_bundle.specs.Bundle as bundle;
-ghost use Rattle.ref_bundle.specs.Bundle.{at_path, borne, shared, replaced, replaced_in, place_refusals, map_refusals, root_refusals, refusals_in};
+ghost use Rattle.ref_bundle.specs.Bundle.{at_path, sites_of_uris, shared_uri, replaced_uris, replaced_in, place_refusals, map_refusals, root_refusals, refusals_in};
 ghost use Rattle.ref_bundle.specs.Saying.{problem_said, refusal_said};
 ghost use Rattle.ref_bundle.specs.inner.Reach.{is_marked};
-ghost use Rattle.ref_bundle.specs.inner.Seen.{seen, own_uri_of, numbered, document_in, layer_in, part_document, numbered_part, HasPlaces, AreOwn, HasBase};
+ghost use Rattle.ref_bundle.specs.inner.Seen.{seen_spot, own_uri_of, numbered_document, document_in, layer_in, part_document, numbered_part, HasPlaces, AreOwn, HasBase};
 ghost use Rattle.ref_bundle.specs.inner.Tables.{AreTables};
 ghost use Rattle.ref_bundle.specs.inner.First.{first, shared_seen, replaced_seen, refusals_seen, taken_in, whole_refusals};
 
@@ -50,9 +50,9 @@ fn copied<'r>(
     Ok(copy)
 }
 
-// The URI that a place bears by its own identifier.
+// The URI that a place has by its own identifier.
 fn own_ref<'s>(spot: &'s Spot<'_>) -> Option<&'s Uri>
-    ensures { option_map (λ u. u.now) result ≡ own_uri_of (seen spot.now) }
+    ensures { option_map (λ u. u.now) result ≡ own_uri_of (seen_spot spot.now) }
 {
     match own_uri(spot) {
         Some(uri) => Some(&**uri),
@@ -60,7 +60,7 @@ fn own_ref<'s>(spot: &'s Spot<'_>) -> Option<&'s Uri>
     }
 }
 
-// The problem of a URI that a place bears, where another bears it too.
+// The problem of a URI that a place has, where another has it too.
 fn shared_uri<'r>(
     alloc: Global,
     bearers: &Bearers<'r>,
@@ -68,7 +68,7 @@ fn shared_uri<'r>(
     uri: Option<&Uri>,
 ) -> Result<Option<Problem<'r>>, AllocError>
     ensures { (layer : Layer) → AreTables layer bearers.now → IfOk result (λ o. option_map problem_said o
-        ≡ first (flat_map (shared (borne layer) ((seen spot.now).document, (seen spot.now).path)) (option_to_list (option_map (λ u. u.now) uri.entry)))) }
+        ≡ first (flat_map (shared_uri (sites_of_uris layer) ((seen_spot spot.now).document, (seen_spot spot.now).path)) (option_to_list (option_map (λ u. u.now) uri.entry)))) }
 {
     let Some(uri) = uri else {
         return Ok(None);
@@ -83,14 +83,14 @@ fn shared_uri<'r>(
     }))
 }
 
-// The first problem of the URIs that a place bears.
+// The first problem of the URIs that a place has.
 fn shared_uris<'r>(
     alloc: Global,
     bearers: &Bearers<'r>,
     own: &Own<'r>,
     spot: &Spot<'r>,
 ) -> Result<Option<Problem<'r>>, AllocError>
-    ensures { (layer : Layer) → AreTables layer bearers.now → IfOk result (λ o. option_map problem_said o ≡ first (shared_seen layer own.now.uri.now (seen spot.now))) }
+    ensures { (layer : Layer) → AreTables layer bearers.now → IfOk result (λ o. option_map problem_said o ≡ first (shared_seen layer own.now.uri.now (seen_spot spot.now))) }
 {
     match shared_uri(alloc, bearers, spot, root_uri(own.uri, spot))? {
         Some(problem) => Ok(Some(problem)),
@@ -130,7 +130,7 @@ fn replaced<'r>(
 ) -> Result<Option<Problem<'r>>, AllocError>
     requires own { AreOwn owns.now }
     requires tables { AreTables (layer_in owns.now) bearers.now }
-    ensures { IfOk result (λ o. option_map problem_said o ≡ first (replaced (layer_in owns.now) top uri.now.value)) }
+    ensures { IfOk result (λ o. option_map problem_said o ≡ first (replaced_uris (layer_in owns.now) top uri.now.value)) }
 {
     match bearers.document_under(uri.as_str()) {
         Some(number) if number != top => match owns.get(number) {
@@ -151,7 +151,7 @@ fn replaced_uris<'r>(
 ) -> Result<Option<Problem<'r>>, AllocError>
     requires own { AreOwn owns.now }
     requires tables { AreTables (layer_in owns.now) bearers.now }
-    ensures { IfOk result (λ o. option_map problem_said o ≡ first (replaced_seen (layer_in owns.now) top (seen spot.now))) }
+    ensures { IfOk result (λ o. option_map problem_said o ≡ first (replaced_seen (layer_in owns.now) top (seen_spot spot.now))) }
 {
     let uris = targets(alloc, spot)?;
     for uri in &uris {
@@ -173,7 +173,7 @@ fn place_problem<'r>(
 ) -> Result<Option<Problem<'r>>, AllocError>
     requires own { AreOwn owns.now }
     requires tables { AreTables (layer_in owns.now) bearers.now }
-    ensures { IfOk result (λ o. option_map problem_said o ≡ first (shared_seen (layer_in owns.now) own.now.uri.now (seen spot.now) ++ replaced_seen (layer_in owns.now) top (seen spot.now))) }
+    ensures { IfOk result (λ o. option_map problem_said o ≡ first (shared_seen (layer_in owns.now) own.now.uri.now (seen_spot spot.now) ++ replaced_seen (layer_in owns.now) top (seen_spot spot.now))) }
 {
     match shared_uris(alloc, bearers, own, spot)? {
         Some(problem) => Ok(Some(problem)),
@@ -187,7 +187,7 @@ fn at_place<'r>(
     spot: &Spot<'r>,
     problem: Problem<'r>,
 ) -> Result<Refusal<'r>, AllocError>
-    ensures { IfOk result (λ r. refusal_said r ≡ at_path (seen spot.now).document (seen spot.now).path (problem_said problem.entry)) }
+    ensures { IfOk result (λ r. refusal_said r ≡ at_path (seen_spot spot.now).document (seen_spot spot.now).path (problem_said problem.entry)) }
 {
     Ok(Refusal {
         document: spot.document,
@@ -207,7 +207,7 @@ fn place_refusal<'r>(
 ) -> Result<Option<Refusal<'r>>, AllocError>
     requires own { AreOwn owns.now }
     requires tables { AreTables (layer_in owns.now) bearers.now }
-    ensures { IfOk result (λ o. option_map refusal_said o ≡ first (refusals_seen (layer_in owns.now) top own.now.uri.now (seen spot.now))) }
+    ensures { IfOk result (λ o. option_map refusal_said o ≡ first (refusals_seen (layer_in owns.now) top own.now.uri.now (seen_spot spot.now))) }
 {
     match place_problem(alloc, bearers, owns, top, own, spot)? {
         Some(problem) => Ok(Some(at_place(alloc, spot, problem)?)),
@@ -226,7 +226,7 @@ fn places_refusal<'r>(
     requires own { AreOwn owns.now }
     requires tables { AreTables (layer_in owns.now) bearers.now }
     requires places { HasPlaces own.now }
-    ensures { IfOk result (λ o. option_map refusal_said o ≡ first (place_refusals (layer_in owns.now) top (numbered own.now))) }
+    ensures { IfOk result (λ o. option_map refusal_said o ≡ first (place_refusals (layer_in owns.now) top (numbered_document own.now))) }
 {
     for spot in &own.places {
         if let Some(refusal) = place_refusal(alloc, bearers, owns, top, own, spot)? {
@@ -380,7 +380,7 @@ fn whole_refusal<'r>(
     requires top { HasBase top.now }
     requires parts { AllByRecursion HasBase parts.now }
     requires places { HasPlaces own.now }
-    ensures { IfOk result (λ o. option_map refusal_said o ≡ first (whole_refusals (numbered_part top.now) (map numbered_part parts.now) (numbered own.now))) }
+    ensures { IfOk result (λ o. option_map refusal_said o ≡ first (whole_refusals (numbered_part top.now) (map numbered_part parts.now) (numbered_document own.now))) }
 {
     if own.number == top.number {
         root_refusal(alloc, top, parts)
@@ -403,7 +403,7 @@ fn refusal_in<'r>(
     requires top { HasBase top.now }
     requires parts { AllByRecursion HasBase parts.now }
     requires places { HasPlaces own.now }
-    ensures { IfOk result (λ o. option_map refusal_said o ≡ first (refusals_in (layer_in owns.now) (numbered_part top.now) (map numbered_part parts.now) (numbered own.now))) }
+    ensures { IfOk result (λ o. option_map refusal_said o ≡ first (refusals_in (layer_in owns.now) (numbered_part top.now) (map numbered_part parts.now) (numbered_document own.now))) }
 {
     match whole_refusal(alloc, top, parts, own)? {
         Some(refusal) => Ok(Some(refusal)),
@@ -436,7 +436,7 @@ fn refusal_if_needed<'r>(
     requires top { HasBase top.now }
     requires parts { AllByRecursion HasBase parts.now }
     requires places { HasPlaces own.now }
-    ensures { IfOk result (λ o. option_map refusal_said o ≡ first (if is_marked needed.now own.now.number then refusals_in (layer_in owns.now) (numbered_part top.now) (map numbered_part parts.now) (numbered own.now) else [])) }
+    ensures { IfOk result (λ o. option_map refusal_said o ≡ first (if is_marked needed.now own.now.number then refusals_in (layer_in owns.now) (numbered_part top.now) (map numbered_part parts.now) (numbered_document own.now) else [])) }
 {
     if is_marked(needed, own.number) {
         return refusal_in(alloc, bearers, owns, top, parts, own);
@@ -458,7 +458,7 @@ pub(crate) fn first_refusal<'r>(
     requires top { HasBase top.now }
     requires parts { AllByRecursion HasBase parts.now }
     ensures value { IfOk result (λ o. option_map refusal_said o
-        ≡ first (flat_map (λ e. if is_marked needed.now e.0 then refusals_in (layer_in owns.now) (numbered_part top.now) (map numbered_part parts.now) e else []) (map numbered owns.now))) }
+        ≡ first (flat_map (λ e. if is_marked needed.now e.0 then refusals_in (layer_in owns.now) (numbered_part top.now) (map numbered_part parts.now) e else []) (map numbered_document owns.now))) }
 {
     for own in owns {
         if let Some(refusal) = refusal_if_needed(alloc, bearers, owns, needed, top, parts, own)? {

@@ -1,13 +1,13 @@
-//! Which places bear which URIs.
+//! Which places have which URIs.
 ghost use Rattle.std.specs.Prelude.{◌≡◌, [], ◌∷◌, ◌++◌, map, flat_map, filter, option_map, IfOk, OnOk};
 ghost use Rattle.std.specs.List.{AllByRecursion};
 ghost use Rattle.ref_parts.specs.Path.{part_eq, path_eq};
 ghost use Rattle.ref_parts.specs.Segment.{part_of};
-ghost use Rattle.ref_world.specs.World.{Layer};
+ghost use Rattle.ref_definitions.specs.World.{Layer};
 ghost use Rattle.ref_bundle.specs.Needed.{document_under};
-ghost use Rattle.ref_bundle.specs.Bundle.{is_site, borne, borne_in, other_bearer};
-ghost use Rattle.ref_bundle.specs.inner.Seen.{seen, own_uri_of, numbered, layer_in, HasPlaces, AreOwn};
-ghost use Rattle.ref_bundle.specs.inner.Tables.{site_of, entered, tabled, under, is_other, is_other_in, AreTables, borne_at};
+ghost use Rattle.ref_bundle.specs.Bundle.{is_site, sites_of_uris, borne_in, other_bearer};
+ghost use Rattle.ref_bundle.specs.inner.Seen.{seen_spot, own_uri_of, numbered_document, layer_in, HasPlaces, AreOwn};
+ghost use Rattle.ref_bundle.specs.inner.Tables.{site_of, table_entries_of, table_of, entry_under, is_other, is_other_in, AreTables, borne_at};
 
 use crate::own::{Own, Spot};
 use crate::uris::own_uri;
@@ -25,7 +25,7 @@ pub(crate) struct Site<'r> {
 // The entries of a table: a URI, an empty text, and a place.
 type Entries<'r> = Vec<(String, String, Site<'r>)>;
 
-/// Which place is the last to bear each URI, and which is the last of those that aren't that one.
+/// Which place is the last to have each URI, and which is the last of those that aren't that one.
 #[derive(Drop)]
 pub(crate) struct Bearers<'r> {
     pub last: SortedTable<Site<'r>>,
@@ -69,7 +69,7 @@ fn push<'r>(
     document: usize,
     path: &[JsonPointerSegment<'r>],
 ) -> Result<(), AllocError>
-    ensures { OnOk result (entered entries.new.items ≡ entered entries.old.items ++ under (uri.now, (document, map part_of path.now)) ∷ []) }
+    ensures { OnOk result (table_entries_of entries.new.items ≡ table_entries_of entries.old.items ++ entry_under (uri.now, (document, map part_of path.now)) ∷ []) }
 {
     let uri = String::from_str(alloc, uri)?;
     let second = String::from_str(alloc, "")?;
@@ -85,7 +85,7 @@ fn is_other_in(
     document: usize,
     path: &[JsonPointerSegment<'_>],
 ) -> bool
-    ensures { result ≡ is_other_in (tabled table.now) uri.now (document, map part_of path.now) }
+    ensures { result ≡ is_other_in (table_of table.now) uri.now (document, map part_of path.now) }
 {
     match table.get(uri, "").0 {
         Some(site) => !is_at(site, document, path),
@@ -100,7 +100,7 @@ fn is_other(
     document: usize,
     path: &[JsonPointerSegment<'_>],
 ) -> bool
-    ensures { result ≡ is_other (option_map (λ t. tabled t.now) table.entry) (uri.now, (document, map part_of path.now)) }
+    ensures { result ≡ is_other (option_map (λ t. table_of t.now) table.entry) (uri.now, (document, map part_of path.now)) }
 {
     match table {
         Some(table) => is_other_in(table, uri, document, path),
@@ -117,8 +117,8 @@ fn push_other<'r>(
     document: usize,
     path: &[JsonPointerSegment<'r>],
 ) -> Result<(), AllocError>
-    ensures { OnOk result (entered entries.new.items ≡ entered entries.old.items
-        ++ map under (filter (is_other (option_map (λ t. tabled t.now) last.entry)) ((uri.now, (document, map part_of path.now)) ∷ []))) }
+    ensures { OnOk result (table_entries_of entries.new.items ≡ table_entries_of entries.old.items
+        ++ map entry_under (filter (is_other (option_map (λ t. table_of t.now) last.entry)) ((uri.now, (document, map part_of path.now)) ∷ []))) }
 {
     if is_other(last, uri, document, path) {
         return push(alloc, entries, uri, document, path);
@@ -126,15 +126,15 @@ fn push_other<'r>(
     Ok(())
 }
 
-// Adds that of the URI that a place bears by its identifier.
+// Adds that of the URI that a place has by its identifier.
 fn push_place<'r>(
     alloc: Global,
     entries: &mut Entries<'r>,
     last: Option<&SortedTable<Site<'r>>>,
     spot: &Spot<'r>,
 ) -> Result<(), AllocError>
-    ensures { OnOk result (entered entries.new.items ≡ entered entries.old.items
-        ++ map under (filter (is_other (option_map (λ t. tabled t.now) last.entry)) (borne_at (seen spot.now)))) }
+    ensures { OnOk result (table_entries_of entries.new.items ≡ table_entries_of entries.old.items
+        ++ map entry_under (filter (is_other (option_map (λ t. table_of t.now) last.entry)) (borne_at (seen_spot spot.now)))) }
 {
     match own_uri(spot) {
         Some(uri) => push_other(
@@ -149,15 +149,15 @@ fn push_place<'r>(
     }
 }
 
-// Adds those of the URIs that places bear by their identifiers.
+// Adds those of the URIs that places have by their identifiers.
 fn push_places<'r>(
     alloc: Global,
     entries: &mut Entries<'r>,
     last: Option<&SortedTable<Site<'r>>>,
     places: &[Spot<'r>],
 ) -> Result<(), AllocError>
-    ensures { OnOk result (entered entries.new.items ≡ entered entries.old.items
-        ++ flat_map (λ s. map under (filter (is_other (option_map (λ t. tabled t.now) last.entry)) (borne_at s))) (map seen places.now)) }
+    ensures { OnOk result (table_entries_of entries.new.items ≡ table_entries_of entries.old.items
+        ++ flat_map (λ s. map entry_under (filter (is_other (option_map (λ t. table_of t.now) last.entry)) (borne_at s))) (map seen_spot places.now)) }
 {
     for spot in places {
         push_place(alloc, entries, last, spot)?;
@@ -173,8 +173,8 @@ fn push_own<'r>(
     own: &Own<'r>,
 ) -> Result<(), AllocError>
     requires { HasPlaces own.now }
-    ensures { OnOk result (entered entries.new.items ≡ entered entries.old.items
-        ++ map under (filter (is_other (option_map (λ t. tabled t.now) last.entry)) (borne_in (numbered own.now)))) }
+    ensures { OnOk result (table_entries_of entries.new.items ≡ table_entries_of entries.old.items
+        ++ map entry_under (filter (is_other (option_map (λ t. table_of t.now) last.entry)) (borne_in (numbered_document own.now)))) }
 {
     push_other(alloc, entries, last, own.uri.as_str(), own.number, &[])?;
     push_places(alloc, entries, last, own.places.as_slice())
@@ -187,7 +187,7 @@ fn table_of<'r>(
     last: Option<&SortedTable<Site<'r>>>,
 ) -> Result<SortedTable<Site<'r>>, AllocError>
     requires { AllByRecursion HasPlaces owns.now }
-    ensures { IfOk result (λ t. tabled t ≡ flat_map (λ e. map under (filter (is_other (option_map (λ t. tabled t.now) last.entry)) (borne_in e))) (map numbered owns.now)) }
+    ensures { IfOk result (λ t. table_of t ≡ flat_map (λ e. map entry_under (filter (is_other (option_map (λ t. table_of t.now) last.entry)) (borne_in e))) (map numbered_document owns.now)) }
 {
     let mut entries = Vec::new(alloc);
     for own in owns {
@@ -216,14 +216,14 @@ impl<'r> Bearers<'r> {
         Some(site.document)
     }
 
-    /// The last place that bears a URI but for the one at a path of a document.
+    /// The last place that has a URI but for the one at a path of a document.
     pub fn other(
         &self,
         uri: &str,
         document: usize,
         path: &[JsonPointerSegment<'_>],
     ) -> Option<&Site<'r>>
-        ensures value { (layer : Layer) → AreTables layer self.now → option_map (λ s. site_of s.now) result ≡ other_bearer (borne layer) uri.now (document, map part_of path.now) }
+        ensures value { (layer : Layer) → AreTables layer self.now → option_map (λ s. site_of s.now) result ≡ other_bearer (sites_of_uris layer) uri.now (document, map part_of path.now) }
     {
         let site = self.last.get(uri, "").0?;
         if is_at(site, document, path) {

@@ -1,4 +1,4 @@
-//! The URIs that places bear and refer to.
+//! The URIs that places have and refer to.
 ghost use Rattle.std.specs.Prelude.{◌≡◌, [], ◌++◌, map, codes, None, Some, option_map, option_and_then, if◌then◌else◌, IfOk, OnOk};
 ghost use Rattle.std.specs.Option.{option_to_list};
 ghost use Rattle.std.specs.Result.{result_ok};
@@ -6,11 +6,11 @@ ghost use Rattle.serde_json.specs.View.{view};
 ghost use Rattle.ref_parts.specs.Path.{path_eq};
 ghost use Rattle.ref_draft.specs.Schema.{text_under};
 ghost use Rattle.ref_uri.specs.Reference.{with_fragment};
-ghost use Rattle.ref_uri.specs.Targets.{against, target, parsed};
-ghost use Rattle.ref_world.specs.Wants.{schema_at};
+ghost use Rattle.ref_uri.specs.Targets.{uri_against, target, uri_of};
+ghost use Rattle.ref_definitions.specs.Wants.{schema_at};
 ghost use Rattle.ref_bundle.specs.Needed.{targets_from};
 ghost use Rattle.ref_bundle.specs.Embedding.{base_uri};
-ghost use Rattle.ref_bundle.specs.inner.Seen.{seen, own_uri_of, document_in, HasPlaces};
+ghost use Rattle.ref_bundle.specs.inner.Seen.{seen_spot, own_uri_of, document_in, HasPlaces};
 
 use crate::own::{Own, Spot};
 use ref_draft::{Draft, ResourceRef};
@@ -23,7 +23,7 @@ use std::rc::Rc;
 
 // The URI that a text means against a base, where it means one.
 fn resolved(alloc: Global, base: &Rc<Uri>, text: &str) -> Result<Option<Rc<Uri>>, AllocError>
-    ensures { IfOk result (λ o. option_map (λ u. u.value) o ≡ result_ok (against base.now.value text.now)) }
+    ensures { IfOk result (λ o. option_map (λ u. u.value) o ≡ result_ok (uri_against base.now.value text.now)) }
 {
     match resolve_against(alloc, base.borrow(), text) {
         Ok(uri) => Ok(Some(shared(alloc, uri)?)),
@@ -55,7 +55,7 @@ fn without_fragment(alloc: Global, uri: Uri) -> Result<Rc<Uri>, AllocError>
 
 // The URI that a text names a meta-schema by, where it means one.
 fn meta_schema(alloc: Global, text: &str) -> Result<Option<Rc<Uri>>, AllocError>
-    ensures { IfOk result (λ o. option_map (λ u. u.value) o ≡ option_map (λ uri. with_fragment uri None) (result_ok (parsed text.now))) }
+    ensures { IfOk result (λ o. option_map (λ u. u.value) o ≡ option_map (λ uri. with_fragment uri None) (result_ok (uri_of text.now))) }
 {
     match from_str(alloc, text) {
         Ok(uri) => Ok(Some(without_fragment(alloc, uri)?)),
@@ -110,7 +110,7 @@ fn push(uris: &mut Vec<Rc<Uri>>, uri: Option<Rc<Uri>>) -> Result<(), AllocError>
 
 /// The URIs that the texts of a place mean: under `$ref`, `$dynamicRef`, and under `$schema` that of a custom meta-schema.
 pub(crate) fn targets(alloc: Global, spot: &Spot<'_>) -> Result<Vec<Rc<Uri>>, AllocError>
-    ensures value { IfOk result (λ uris. map (λ u. u.value) uris.items ≡ targets_from (seen spot.now).base (seen spot.now).value) }
+    ensures value { IfOk result (λ uris. map (λ u. u.value) uris.items ≡ targets_from (seen_spot spot.now).base (seen_spot spot.now).value) }
 {
     let mut uris = Vec::new(alloc);
     push(&mut uris, reference(alloc, &spot.base, spot.value, "$ref")?)?;
@@ -122,9 +122,9 @@ pub(crate) fn targets(alloc: Global, spot: &Spot<'_>) -> Result<Vec<Rc<Uri>>, Al
     Ok(uris)
 }
 
-/// The URI that a place bears by its own identifier.
+/// The URI that a place has by its own identifier.
 pub(crate) fn own_uri<'s>(spot: &'s Spot<'_>) -> Option<&'s Rc<Uri>>
-    ensures value { option_map (λ u. u.now.value) result ≡ own_uri_of (seen spot.now) }
+    ensures value { option_map (λ u. u.now.value) result ≡ own_uri_of (seen_spot spot.now) }
 {
     let _ = ResourceRef::new(spot.value, spot.draft).id()?;
     Some(&spot.base)
@@ -132,7 +132,7 @@ pub(crate) fn own_uri<'s>(spot: &'s Spot<'_>) -> Option<&'s Rc<Uri>>
 
 /// The URI of its document, where the place is the root.
 pub(crate) fn root_uri<'s>(uri: &'s Uri, spot: &Spot<'_>) -> Option<&'s Uri>
-    ensures value { option_map (λ u. u.now) result ≡ (if path_eq (seen spot.now).path [] then Some uri.now else None) }
+    ensures value { option_map (λ u. u.now) result ≡ (if path_eq (seen_spot spot.now).path [] then Some uri.now else None) }
 {
     if spot.path.is_empty() {
         Some(uri)

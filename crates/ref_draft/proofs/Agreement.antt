@@ -6,9 +6,9 @@ use Rattle.ref_parts.specs.Path.{Part, Key, Index}
 use Rattle.ref_draft.specs.declared.draft.Draft.{Draft}
 use Rattle.ref_draft.specs.declared.spec.Holding.{Holding}
 use Rattle.ref_draft.specs.declared.spec.Holding.TheVariants.{Whole, WholeObject, Elements, Members as EachMember, ElementsOrWhole, ObjectMembers, Nothing}
-use Rattle.ref_draft.specs.Keywords.{is_before_2020, is_items_or_dependencies, holding}
-use Rattle.ref_draft.specs.Children.{Child, whole, elements_from, each_member, elements, members, held, below, children, has_object, is_object}
-use Rattle.ref_draft.specs.Scan.{is_value_keyword, is_child_keyword, Piece, AValue, AChild, parts_of, spelled, IsPieceOf, SpellsWord, IsAccepted, AcceptsChildren}
+use Rattle.ref_draft.specs.Keywords.{is_before_2020, is_items_or_dependencies, holding_of}
+use Rattle.ref_draft.specs.Children.{Child, whole_child, elements_from, each_member, elements, members, held_children, children_below, children, has_object, is_object}
+use Rattle.ref_draft.specs.Scan.{is_value_keyword, is_child_keyword, Piece, AValue, AChild, parts_of, spelled_path, IsPieceOf, SpellsWord, IsAccepted, AcceptsChildren}
 use Rattle.ref_draft.proofs.Holdings.{Says, says_holding}
 use Rattle.ref_draft.proofs.Lists.{all_append, all_filter}
 
@@ -51,7 +51,7 @@ of_array d k (string s) at = tt
 of_array d k (array ds) at = each_element d k 0 ds at
 of_array d k (object ms) at = tt
 
-of_array_or_whole : (d : Draft) (k : List ℕ) (v : Data) → ((rest : List Part) → Extends d (Key k ∷ rest)) → AllExtend d (held ElementsOrWhole k v)
+of_array_or_whole : (d : Draft) (k : List ℕ) (v : Data) → ((rest : List Part) → Extends d (Key k ∷ rest)) → AllExtend d (held_children ElementsOrWhole k v)
 of_array_or_whole d k null at = (at [], tt)
 of_array_or_whole d k (boolean b) at = (at [], tt)
 of_array_or_whole d k (number x) at = (at [], tt)
@@ -67,31 +67,31 @@ of_object d k (string s) at = tt
 of_object d k (array ds) at = tt
 of_object d k (object ms) at = each_of d k ms at
 
-of_held : (d : Draft) (how : Holding) (k : List ℕ) (v : Data) → Says d k how → AllExtend d (held how k v)
+of_held : (d : Draft) (how : Holding) (k : List ℕ) (v : Data) → Says d k how → AllExtend d (held_children how k v)
 of_held d Whole k v s = (by_value d k s, tt)
-of_held d WholeObject k v s = all_filter (λ child. Extends d child.0) has_object (whole k v) (by_value d k s, tt)
+of_held d WholeObject k v s = all_filter (λ child. Extends d child.0) has_object (whole_child k v) (by_value d k s, tt)
 of_held d Elements k v s = of_array d k v (λ part. by_child d k part s)
 of_held d EachMember k v s = of_object d k v (λ part. by_child d k part s.child)
 of_held d ElementsOrWhole k v s = of_array_or_whole d k v (λ rest. by_items d k rest s.before s.items)
 of_held d ObjectMembers k v s = all_filter (λ child. Extends d child.0) has_object (members k v) (of_object d k v (λ part. by_items d k (part ∷ []) s.items.before s.items.items))
 of_held d Nothing k v s = tt
 
-of_below : (d : Draft) (ms : Members) → AllExtend d (below d ms)
+of_below : (d : Draft) (ms : Members) → AllExtend d (children_below d ms)
 of_below d no_members = tt
-of_below d (member k v ms) = all_append (λ child. Extends d child.0) (held (holding d k) k v) (below d ms) (of_held d (holding d k) k v (says_holding d k)) (of_below d ms)
+of_below d (member k v ms) = all_append (λ child. Extends d child.0) (held_children (holding_of d k) k v) (children_below d ms) (of_held d (holding_of d k) k v (says_holding d k)) (of_below d ms)
 
 -- ---- words one after another
 
-spelled_append : (xs ys : List Piece) → spelled (xs ++ ys) ≡ spelled xs ++ spelled ys
+spelled_append : (xs ys : List Piece) → spelled_path (xs ++ ys) ≡ spelled_path xs ++ spelled_path ys
 spelled_append [] ys = refl
-spelled_append (x ∷ xs) ys = ap (λ ps. parts_of x ++ ps) (spelled_append xs ys) ∙ sym (append_assoc (parts_of x) (spelled xs) (spelled ys))
+spelled_append (x ∷ xs) ys = ap (λ ps. parts_of x ++ ps) (spelled_append xs ys) ∙ sym (append_assoc (parts_of x) (spelled_path xs) (spelled_path ys))
 
 further : (d : Draft) (parts path : List Part) (t v : Data) → IsAccepted d parts t → Extends d path → is_object v ≡ true → IsAccepted d (parts ++ path) v
 further d parts path t v (inl w) (inl x) there =
     inl (record {
       pieces = w.pieces ++ x.pieces;
       word = all_append (IsPieceOf d) w.pieces x.pieces w.word x.word;
-      spells = ap (λ ps. ps ++ path) w.spells ∙ ap (λ ps. spelled w.pieces ++ ps) x.spells ∙ sym (spelled_append w.pieces x.pieces);
+      spells = ap (λ ps. ps ++ path) w.spells ∙ ap (λ ps. spelled_path w.pieces ++ ps) x.spells ∙ sym (spelled_append w.pieces x.pieces);
     })
 further d parts path t v (inl w) (inr x) there =
     inr (record {
@@ -102,7 +102,7 @@ further d parts path t v (inl w) (inr x) there =
       rest = x.rest;
       word = w.word;
       items = x.items;
-      spells = ap (λ ps. ps ++ path) w.spells ∙ ap (λ ps. spelled w.pieces ++ ps) x.is;
+      spells = ap (λ ps. ps ++ path) w.spells ∙ ap (λ ps. spelled_path w.pieces ++ ps) x.is;
     })
 further d parts path t v (inr w) x there =
     inr (record {
@@ -113,7 +113,7 @@ further d parts path t v (inr w) x there =
       rest = w.rest ++ path;
       word = w.word;
       items = w.items;
-      spells = ap (λ ps. ps ++ path) w.spells ∙ append_assoc (spelled w.pieces) (Key w.keyword ∷ w.rest) path;
+      spells = ap (λ ps. ps ++ path) w.spells ∙ append_assoc (spelled_path w.pieces) (Key w.keyword ∷ w.rest) path;
     })
 
 each : (d : Draft) (parts : List Part) (t : Data) (cs : List Child) → IsAccepted d parts t → AllExtend d cs → AcceptsChildren d parts cs
@@ -126,4 +126,4 @@ accepts_children d parts (boolean b) a = tt
 accepts_children d parts (number x) a = tt
 accepts_children d parts (string s) a = tt
 accepts_children d parts (array ds) a = tt
-accepts_children d parts (object ms) a = each d parts (object ms) (below d ms) a (of_below d ms)
+accepts_children d parts (object ms) a = each d parts (object ms) (children_below d ms) a (of_below d ms)

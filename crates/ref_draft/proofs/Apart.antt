@@ -7,8 +7,8 @@ use Rattle.ref_parts.specs.Path.{Part, Key, Index}
 use Rattle.ref_draft.specs.declared.draft.Draft.{Draft}
 use Rattle.ref_draft.specs.declared.spec.Holding.{Holding}
 use Rattle.ref_draft.specs.declared.spec.Holding.TheVariants.{Whole, WholeObject, Elements, Members as EachMember, ElementsOrWhole, ObjectMembers, Nothing}
-use Rattle.ref_draft.specs.Keywords.{holding}
-use Rattle.ref_draft.specs.Children.{Child, whole, elements_from, each_member, elements, members, held, below, children, has_object}
+use Rattle.ref_draft.specs.Keywords.{holding_of}
+use Rattle.ref_draft.specs.Children.{Child, whole_child, elements_from, each_member, elements, members, held_children, children_below, children, has_object}
 use Rattle.ref_draft.specs.UniqueKeys.{KeysDiffer, HasUniqueKeys, MembersHaveUniqueKeys}
 use Rattle.ref_draft.proofs.Lists.{all_append, all_filter, all_map}
 use Rattle.ref_draft.proofs.Under.{rest_of, BeginsWith, under_held}
@@ -39,12 +39,12 @@ ways_behind (x ∷ p) [] more apart = absurd apart
 ways_behind (x ∷ p) (y ∷ q) more (inl differ) = inl differ
 ways_behind (x ∷ p) (y ∷ q) more (inr apart) = inr (ways_behind p q more apart)
 
--- behind one beginning
+-- after one beginning
 pub ways_after : (front p q : List Part) → PartWays p q → PartWays (front ++ p) (front ++ q)
 ways_after [] p q apart = apart
 ways_after (x ∷ front) p q apart = inr (ways_after front p q apart)
 
--- each path parts from those behind it
+-- each path parts from those after it
 abbrev pub AllPart : List Child → Type 0
 AllPart [] = Unit {0}
 AllPart (c ∷ cs) = AllByRecursion (λ e. PartWays c.0 e.0) cs × AllPart cs
@@ -64,9 +64,9 @@ part_filter test (x ∷ xs) p = part_kept (test x) x (filter test xs) (all_filte
 -- ---- under one keyword
 
 by_index : (k : List ℕ) (i j : ℕ) (ds : Items) → i < j → AllByRecursion (λ e. PartWays (Key k ∷ Index i ∷ []) e.0) (elements_from k j ds)
-by_index k i j no_items below = tt
-by_index k i j (item d ds) below =
-    (inr (inl (λ same. let e : i ≡ j = cc in absurd (omega (arith, e, below)))), by_index k i (suc j) ds (omega (arith, below)))
+by_index k i j no_items children_below = tt
+by_index k i j (item d ds) children_below =
+    (inr (inl (λ same. let e : i ≡ j = cc in absurd (omega (arith, e, children_below)))), by_index k i (suc j) ds (omega (arith, children_below)))
 
 part_elements : (k : List ℕ) (i : ℕ) (ds : Items) → AllPart (elements_from k i ds)
 part_elements k i no_items = tt
@@ -90,7 +90,7 @@ part_array k (string s) = tt
 part_array k (array ds) = part_elements k 0 ds
 part_array k (object ms) = tt
 
-part_array_or_whole : (k : List ℕ) (v : Data) → AllPart (held ElementsOrWhole k v)
+part_array_or_whole : (k : List ℕ) (v : Data) → AllPart (held_children ElementsOrWhole k v)
 part_array_or_whole k null = (tt, tt)
 part_array_or_whole k (boolean b) = (tt, tt)
 part_array_or_whole k (number x) = (tt, tt)
@@ -106,9 +106,9 @@ part_object k (string s) unique = tt
 part_object k (array ds) unique = tt
 part_object k (object ms) unique = part_members k ms unique.0
 
-part_held : (how : Holding) (k : List ℕ) (v : Data) → HasUniqueKeys v → AllPart (held how k v)
+part_held : (how : Holding) (k : List ℕ) (v : Data) → HasUniqueKeys v → AllPart (held_children how k v)
 part_held Whole k v unique = (tt, tt)
-part_held WholeObject k v unique = part_filter has_object (whole k v) (tt, tt)
+part_held WholeObject k v unique = part_filter has_object (whole_child k v) (tt, tt)
 part_held Elements k v unique = part_array k v
 part_held EachMember k v unique = part_object k v unique
 part_held ElementsOrWhole k v unique = part_array_or_whole k v
@@ -125,20 +125,20 @@ begins_elsewhere : (k l : List ℕ) → ¬ (k ≡ l) → (e : Child) → BeginsW
 begins_elsewhere k l differ e begins rest =
     subst (PartWays (Key k ∷ rest)) (sym begins) (inl (λ same. differ (let f : k ≡ l = cc in f)))
 
-elsewhere : (d : Draft) (k : List ℕ) (ms : Members) → get_member k ms ≡ None → AllByRecursion (Elsewhere k) (below d ms)
+elsewhere : (d : Draft) (k : List ℕ) (ms : Members) → get_member k ms ≡ None → AllByRecursion (Elsewhere k) (children_below d ms)
 elsewhere d k no_members none = tt
 elsewhere d k (member l v ms) none =
     let apart = absent k l v ms none in
-    all_append (Elsewhere k) (held (holding d l) l v) (below d ms)
-    (all_map (BeginsWith l) (Elsewhere k) (held (holding d l) l v) (begins_elsewhere k l apart.0) (under_held (holding d l) l v)) (elsewhere d k ms apart.1)
+    all_append (Elsewhere k) (held_children (holding_of d l) l v) (children_below d ms)
+    (all_map (BeginsWith l) (Elsewhere k) (held_children (holding_of d l) l v) (begins_elsewhere k l apart.0) (under_held (holding_of d l) l v)) (elsewhere d k ms apart.1)
 
-part_below : (d : Draft) (ms : Members) → KeysDiffer ms → MembersHaveUniqueKeys ms → AllPart (below d ms)
+part_below : (d : Draft) (ms : Members) → KeysDiffer ms → MembersHaveUniqueKeys ms → AllPart (children_below d ms)
 part_below d no_members differ unique = tt
 part_below d (member k v ms) differ unique =
-    part_append (held (holding d k) k v) (below d ms) (part_held (holding d k) k v unique.0) (part_below d ms differ.1 unique.1)
-    (all_map (BeginsWith k) (λ x. AllByRecursion (λ y. PartWays x.0 y.0) (below d ms)) (held (holding d k) k v)
-    (λ x begins. all_map (Elsewhere k) (λ y. PartWays x.0 y.0) (below d ms) (λ y other. subst (λ p. PartWays p y.0) (sym begins) (other (rest_of x.0))) (elsewhere d k ms differ.0))
-    (under_held (holding d k) k v))
+    part_append (held_children (holding_of d k) k v) (children_below d ms) (part_held (holding_of d k) k v unique.0) (part_below d ms differ.1 unique.1)
+    (all_map (BeginsWith k) (λ x. AllByRecursion (λ y. PartWays x.0 y.0) (children_below d ms)) (held_children (holding_of d k) k v)
+    (λ x begins. all_map (Elsewhere k) (λ y. PartWays x.0 y.0) (children_below d ms) (λ y other. subst (λ p. PartWays p y.0) (sym begins) (other (rest_of x.0))) (elsewhere d k ms differ.0))
+    (under_held (holding_of d k) k v))
 
 pub children_part : (d : Draft) (v : Data) → HasUniqueKeys v → AllPart (children d v)
 children_part d null unique = tt
@@ -152,11 +152,11 @@ children_part d (object ms) unique = part_below d ms unique.0 unique.1
 abbrev pub HasParts : Child → Type 0
 HasParts child = (part : Part) × (rest : List Part) × (child.0 ≡ part ∷ rest)
 
-parts_below : (d : Draft) (ms : Members) → AllByRecursion HasParts (below d ms)
+parts_below : (d : Draft) (ms : Members) → AllByRecursion HasParts (children_below d ms)
 parts_below d no_members = tt
 parts_below d (member k v ms) =
-    all_append HasParts (held (holding d k) k v) (below d ms)
-    (all_map (BeginsWith k) HasParts (held (holding d k) k v) (λ child begins. (Key k, rest_of child.0, begins)) (under_held (holding d k) k v)) (parts_below d ms)
+    all_append HasParts (held_children (holding_of d k) k v) (children_below d ms)
+    (all_map (BeginsWith k) HasParts (held_children (holding_of d k) k v) (λ child begins. (Key k, rest_of child.0, begins)) (under_held (holding_of d k) k v)) (parts_below d ms)
 
 pub children_have_parts : (d : Draft) (v : Data) → AllByRecursion HasParts (children d v)
 children_have_parts d null = tt

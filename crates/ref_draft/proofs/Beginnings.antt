@@ -6,15 +6,15 @@ use Rattle.ref_parts.specs.Path.{Part, Key, Index, child_at, value_at}
 use Rattle.ref_draft.specs.declared.draft.Draft.{Draft}
 use Rattle.ref_draft.specs.declared.spec.Holding.{Holding}
 use Rattle.ref_draft.specs.declared.spec.Holding.TheVariants.{Whole, WholeObject, Elements, Members as EachMember, ElementsOrWhole, ObjectMembers, Nothing}
-use Rattle.ref_draft.specs.Keywords.{is_before_2020, is_map_keyword, holding}
-use Rattle.ref_draft.specs.Children.{Child, AllStand, with_draft, whole, elements_from, each_member, elements, members, held, below, children, has_object, is_object, walked}
+use Rattle.ref_draft.specs.Keywords.{is_before_2020, is_map_keyword, holding_of}
+use Rattle.ref_draft.specs.Children.{Child, AllStand, with_draft, whole_child, elements_from, each_member, elements, members, held_children, children_below, children, has_object, is_object, walked_children}
 use Rattle.ref_draft.specs.Scan.{is_child_keyword, IsAccepted, SpellsWord}
 use Rattle.ref_draft.specs.Beginnings.{is_array, EndsWithin, AllEndWithin}
 use Rattle.ref_draft.proofs.Holdings.{Says, says_holding, HoldsItems}
 use Rattle.ref_draft.proofs.Scanning.{stops_within}
 use Rattle.ref_draft.proofs.Lists.{all_append, all_filter, all_map}
 
--- since 2020-12 each keyword with a part behind it is a child keyword
+-- since 2020-12 each keyword with a part after it is a child keyword
 abbrev IsChildSince : Draft → List ℕ → Type 0
 IsChildSince d k = is_before_2020 d ≡ false → is_child_keyword d k ≡ true
 
@@ -43,7 +43,7 @@ of_array d k (string s) since = tt
 of_array d k (array ds) since = each_element d k 0 ds since
 of_array d k (object ms) since = tt
 
-of_array_or_whole : (d : Draft) (k : List ℕ) (v : Data) → IsChildSince d k → AllHaveForm d (held ElementsOrWhole k v)
+of_array_or_whole : (d : Draft) (k : List ℕ) (v : Data) → IsChildSince d k → AllHaveForm d (held_children ElementsOrWhole k v)
 of_array_or_whole d k null since = (alone k, tt)
 of_array_or_whole d k (boolean b) since = (alone k, tt)
 of_array_or_whole d k (number x) since = (alone k, tt)
@@ -60,20 +60,20 @@ of_object d k (array ds) since in_map = tt
 of_object d k (object ms) since in_map = each_of d k ms since in_map
 
 not_since : (d : Draft) (k : List ℕ) → HoldsItems d k → IsChildSince d k
-not_since d k held after = absurd (true≢false (sym held.before ∙ after))
+not_since d k held_children after = absurd (true≢false (sym held_children.before ∙ after))
 
-of_held : (d : Draft) (how : Holding) (k : List ℕ) (v : Data) → Says d k how → AllHaveForm d (held how k v)
+of_held : (d : Draft) (how : Holding) (k : List ℕ) (v : Data) → Says d k how → AllHaveForm d (held_children how k v)
 of_held d Whole k v s = (alone k, tt)
-of_held d WholeObject k v s = all_filter (λ child. Form d child.0) has_object (whole k v) (alone k, tt)
+of_held d WholeObject k v s = all_filter (λ child. Form d child.0) has_object (whole_child k v) (alone k, tt)
 of_held d Elements k v s = of_array d k v (λ after. s)
 of_held d EachMember k v s = of_object d k v (λ after. s.child) s.in_map
 of_held d ElementsOrWhole k v s = of_array_or_whole d k v (not_since d k s)
 of_held d ObjectMembers k v s = all_filter (λ child. Form d child.0) has_object (members k v) (of_object d k v (not_since d k s.items) s.in_map)
 of_held d Nothing k v s = tt
 
-of_below : (d : Draft) (ms : Members) → AllHaveForm d (below d ms)
+of_below : (d : Draft) (ms : Members) → AllHaveForm d (children_below d ms)
 of_below d no_members = tt
-of_below d (member k v ms) = all_append (λ child. Form d child.0) (held (holding d k) k v) (below d ms) (of_held d (holding d k) k v (says_holding d k)) (of_below d ms)
+of_below d (member k v ms) = all_append (λ child. Form d child.0) (held_children (holding_of d k) k v) (children_below d ms) (of_held d (holding_of d k) k v (says_holding d k)) (of_below d ms)
 
 all_have_form : (d : Draft) (value : Data) → AllHaveForm d (children d value)
 all_have_form d null = tt
@@ -163,5 +163,5 @@ each d parts value [] accepted forms stand = tt
 each d parts value (c ∷ cs) accepted forms stand =
     (λ beginning rest is some more. ends_at d parts value c.1 c.0 beginning rest accepted forms.0 stand.0 is some more, each d parts value cs accepted forms.1 stand.1)
 
-pub all_end_within : (d : Draft) (parts : List Part) (value : Data) → IsAccepted d parts value → AllStand value (walked d value) → AllEndWithin d parts value (children d value)
+pub all_end_within : (d : Draft) (parts : List Part) (value : Data) → IsAccepted d parts value → AllStand value (walked_children d value) → AllEndWithin d parts value (children d value)
 all_end_within d parts value accepted stand = each d parts value (children d value) accepted (all_have_form d value) stand

@@ -3,7 +3,7 @@ use Rattle.std.proofs.Common.{ℕ, suc, ◌<◌, ◌≤◌, List, [], ◌∷◌,
 use Rattle.std.specs.List.{AllByRecursion}
 use Rattle.serde_json.specs.Data.{Data, null, boolean, number, string, array, object, Items, Members, depth, items_depth, members_depth}
 use Rattle.ref_draft.specs.declared.draft.Draft.{Draft}
-use Rattle.ref_draft.specs.Children.{Child, below, children}
+use Rattle.ref_draft.specs.Children.{Child, children_below, children}
 use Rattle.ref_draft.proofs.Hereditary.{Hereditary, in_below}
 
 -- a value nests at most n deep
@@ -37,4 +37,4 @@ shallower d (number x) = tt
 shallower d (string s) = tt
 shallower d (array ds) = tt
 shallower d (object ms) =
-    strictly (members_depth ms) (below d ms) (in_below (Within (members_depth ms)) (ItemsWithin (members_depth ms)) (MembersWithin (members_depth ms)) (within (members_depth ms)) d ms (omega arith))
+    strictly (members_depth ms) (children_below d ms) (in_below (Within (members_depth ms)) (ItemsWithin (members_depth ms)) (MembersWithin (members_depth ms)) (within (members_depth ms)) d ms (omega arith))

@@ -5,8 +5,8 @@ use Rattle.serde_json.specs.Data.{Data, null, boolean, number, string, array, ob
 use Rattle.ref_draft.specs.declared.draft.Draft.{Draft}
 use Rattle.ref_draft.specs.declared.spec.Holding.{Holding}
 use Rattle.ref_draft.specs.declared.spec.Holding.TheVariants.{Whole, WholeObject, Elements, Members as EachMember, ElementsOrWhole, ObjectMembers, Nothing}
-use Rattle.ref_draft.specs.Keywords.{holding}
-use Rattle.ref_draft.specs.Children.{Child, whole, elements_from, each_member, elements, members, held, below, children, has_object}
+use Rattle.ref_draft.specs.Keywords.{holding_of}
+use Rattle.ref_draft.specs.Children.{Child, whole_child, elements_from, each_member, elements, members, held_children, children_below, children, has_object}
 use Rattle.ref_draft.proofs.Lists.{all_append, all_filter}
 
 -- of values, of the elements of arrays and of the members of objects
@@ -38,7 +38,7 @@ module _ (P : Data → Type 0) (I : Items → Type 0) (M : Members → Type 0) (
   in_array_of k (array ds) p = in_elements k 0 ds (h.in_array ds p)
   in_array_of k (object ms) p = tt
 
-  in_array_or_whole : (k : List ℕ) (v : Data) → P v → Each (held ElementsOrWhole k v)
+  in_array_or_whole : (k : List ℕ) (v : Data) → P v → Each (held_children ElementsOrWhole k v)
   in_array_or_whole k null p = (p, tt)
   in_array_or_whole k (boolean b) p = (p, tt)
   in_array_or_whole k (number x) p = (p, tt)
@@ -54,19 +54,19 @@ module _ (P : Data → Type 0) (I : Items → Type 0) (M : Members → Type 0) (
   in_object_of k (array ds) p = tt
   in_object_of k (object ms) p = in_members k ms (h.in_object ms p)
 
-  in_held : (how : Holding) (k : List ℕ) (v : Data) → P v → Each (held how k v)
+  in_held : (how : Holding) (k : List ℕ) (v : Data) → P v → Each (held_children how k v)
   in_held Whole k v p = (p, tt)
-  in_held WholeObject k v p = all_filter (λ child. P child.1) has_object (whole k v) (p, tt)
+  in_held WholeObject k v p = all_filter (λ child. P child.1) has_object (whole_child k v) (p, tt)
   in_held Elements k v p = in_array_of k v p
   in_held EachMember k v p = in_object_of k v p
   in_held ElementsOrWhole k v p = in_array_or_whole k v p
   in_held ObjectMembers k v p = all_filter (λ child. P child.1) has_object (members k v) (in_object_of k v p)
   in_held Nothing k v p = tt
 
-  pub in_below : (d : Draft) (ms : Members) → M ms → Each (below d ms)
+  pub in_below : (d : Draft) (ms : Members) → M ms → Each (children_below d ms)
   in_below d no_members p = tt
   in_below d (member k v ms) p =
-      all_append (λ child. P child.1) (held (holding d k) k v) (below d ms) (in_held (holding d k) k v (h.value k v ms p)) (in_below d ms (h.members k v ms p))
+      all_append (λ child. P child.1) (held_children (holding_of d k) k v) (children_below d ms) (in_held (holding_of d k) k v (h.value k v ms p)) (in_below d ms (h.members k v ms p))
 
   pub in_children : (d : Draft) (t : Data) → P t → AllByRecursion (λ child. P child.1) (children d t)
   in_children d null p = tt

@@ -7,7 +7,7 @@ use Rattle.ref_draft.specs.declared.draft.Draft.{Draft}
 use Rattle.ref_draft.specs.declared.draft.Draft.TheVariants.{Draft4, Draft6, Draft7, Draft201909, Draft202012, Unknown}
 use Rattle.ref_draft.specs.declared.spec.Holding.{Holding}
 use Rattle.ref_draft.specs.declared.spec.Holding.TheVariants.{Whole, WholeObject, Elements, Members as EachMember, ElementsOrWhole, ObjectMembers, Nothing}
-use Rattle.ref_draft.specs.Keywords.{is_one_of, row_4, row, is_before_2020, is_items_or_dependencies, is_map_keyword, boolean_or_schema, holding}
+use Rattle.ref_draft.specs.Keywords.{is_one_of, row_4, row, is_before_2020, is_items_or_dependencies, is_map_keyword, boolean_or_schema, holding_of}
 use Rattle.ref_draft.specs.Scan.{is_value_keyword, is_child_keyword}
 use Rattle.ref_draft.specs.ScanSteps.{scan, scan_past}
 use Rattle.ref_draft.proofs.Disjoint.{same, child_is_no_value, items_is_no_value, items_is_no_child}
@@ -93,14 +93,14 @@ says d k false false false false false false b v a m i e =
       no_items = no_items_there (is_before_2020 d) (bytes_eq k (codes "items")) (bytes_eq k (codes "dependencies")) i e;
     }
 
-pub says_holding : (d : Draft) (k : List ℕ) → Says d k (holding d k)
+pub says_holding : (d : Draft) (k : List ℕ) → Says d k (holding_of d k)
 says_holding d k =
     says d k (is_one_of k (boolean_or_schema d)) (is_value_keyword d k) (is_one_of k (row d).arrays) (is_one_of k (row d).maps) (is_before_2020 d && bytes_eq k (codes "items"))
     (is_before_2020 d && bytes_eq k (codes "dependencies")) refl refl refl refl refl refl
 
 -- ---- the scan at a keyword
 
--- on behind a value keyword, past one part behind a child keyword, or else whether the value behind `items` is an object
+-- on after a value keyword, past one part after a child keyword, or else whether the value after `items` is an object
 abbrev at_key : Bool → Bool → Bool → Bool → Bool → Bool → Bool
 at_key value child items object on past = cond value on (cond child past (items && object))
 
@@ -156,5 +156,5 @@ goes_on d object k parts ElementsOrWhole s = scan-items d object k parts s
 goes_on d object k parts ObjectMembers s = scan-items d object k parts s.items
 goes_on d object k parts Nothing s = scan-nothing d object k parts s
 
-pub scan_key : (d : Draft) (object : Bool) (k : List ℕ) (parts : List Part) → scan d object (Key k ∷ parts) ≡ by_holding (holding d k) object (scan d object parts) (scan_past d object parts)
-scan_key d object k parts = goes_on d object k parts (holding d k) (says_holding d k)
+pub scan_key : (d : Draft) (object : Bool) (k : List ℕ) (parts : List Part) → scan d object (Key k ∷ parts) ≡ by_holding (holding_of d k) object (scan d object parts) (scan_past d object parts)
+scan_key d object k parts = goes_on d object k parts (holding_of d k) (says_holding d k)

@@ -7,7 +7,7 @@ use Rattle.ref_parts.specs.Path.{Part, Key, Index}
 use Rattle.ref_draft.specs.declared.draft.Draft.{Draft}
 use Rattle.ref_draft.specs.Keywords.{is_before_2020, is_items_or_dependencies}
 use Rattle.ref_draft.specs.Children.{is_object}
-use Rattle.ref_draft.specs.Scan.{is_value_keyword, is_child_keyword, Piece, AnIndex, AValue, AChild, parts_of, spelled, IsPieceOf, IsWord, SpellsWord, IsAccepted}
+use Rattle.ref_draft.specs.Scan.{is_value_keyword, is_child_keyword, Piece, AnIndex, AValue, AChild, parts_of, spelled_path, IsPieceOf, IsWord, SpellsWord, IsAccepted}
 use Rattle.ref_draft.specs.ScanSteps.{scan, scan_past}
 use Rattle.ref_draft.proofs.Holdings.{scan-value, scan-child, scan-items}
 
@@ -25,7 +25,7 @@ add d v parts piece ok (inr w) =
       rest = w.rest;
       word = (ok, w.word);
       items = w.items;
-      spells = ap (λ ps. parts_of piece ++ ps) w.spells ∙ sym (append_assoc (parts_of piece) (spelled w.pieces) (Key w.keyword ∷ w.rest));
+      spells = ap (λ ps. parts_of piece ++ ps) w.spells ∙ sym (append_assoc (parts_of piece) (spelled_path w.pieces) (Key w.keyword ∷ w.rest));
     })
 
 -- the parts after a child keyword
@@ -66,13 +66,13 @@ passes d object (AValue k) rest ok = scan-value d object k rest ok
 passes d object (AChild k part) rest ok = scan-child d object k (part ∷ rest) ok
 
 -- and after a word
-pub passes_word : (d : Draft) (object : Bool) (pieces : List Piece) (rest : List Part) → IsWord d pieces → scan d object (spelled pieces ++ rest) ≡ scan d object rest
+pub passes_word : (d : Draft) (object : Bool) (pieces : List Piece) (rest : List Part) → IsWord d pieces → scan d object (spelled_path pieces ++ rest) ≡ scan d object rest
 passes_word d object [] rest word = refl
 passes_word d object (piece ∷ pieces) rest word =
-    ap (scan d object) (append_assoc (parts_of piece) (spelled pieces) rest) ∙ passes d object piece (spelled pieces ++ rest) word.0 ∙ passes_word d object pieces rest word.1
+    ap (scan d object) (append_assoc (parts_of piece) (spelled_path pieces) rest) ∙ passes d object piece (spelled_path pieces ++ rest) word.0 ∙ passes_word d object pieces rest word.1
 
 complete : (d : Draft) (v : Data) (parts : List Part) → IsAccepted d parts v → scan d (is_object v) parts ≡ true
-complete d v parts (inl w) = ap (scan d (is_object v)) (w.spells ∙ sym (append-nil (spelled w.pieces))) ∙ passes_word d (is_object v) w.pieces [] w.word
+complete d v parts (inl w) = ap (scan d (is_object v)) (w.spells ∙ sym (append-nil (spelled_path w.pieces))) ∙ passes_word d (is_object v) w.pieces [] w.word
 complete d v parts (inr w) =
     ap (scan d (is_object v)) w.spells ∙ passes_word d (is_object v) w.pieces (Key w.keyword ∷ w.rest) w.word
     ∙ scan-items d (is_object v) w.keyword w.rest (record { before = w.before; items = w.items }) ∙ w.object

@@ -1,4 +1,4 @@
--- A child stands at its path.
+-- A child is at its path.
 use Rattle.std.proofs.Common.{◌≡◌, ℕ, zero, suc, ◌+◌, List, [], ◌∷◌, ◌++◌, map, Some, None, option_map, option_and_then, String, Global, string_cmp, string_bytes, refl, sym, ap, ◌∙◌, All, arith}
 use Rattle.std.specs.List.{AllByRecursion}
 use Rattle.std.specs.Map.{lookup}
@@ -13,7 +13,7 @@ use Rattle.ref_parts.specs.Path.{Key, value_at}
 use Rattle.ref_draft.specs.declared.draft.Draft.{Draft}
 use Rattle.ref_draft.specs.declared.spec.Holding.{Holding}
 use Rattle.ref_draft.specs.declared.spec.Holding.TheVariants.{Whole, WholeObject, Elements, Members as EachMember, ElementsOrWhole, ObjectMembers, Nothing}
-use Rattle.ref_draft.specs.Children.{Child, Walked, with_draft, AllStand, whole, elements_from, each_member, elements, members, held, has_object}
+use Rattle.ref_draft.specs.Children.{Child, Walked, with_draft, AllStand, whole_child, elements_from, each_member, elements, members, held_children, has_object}
 use Rattle.ref_draft.specs.inner.WalkSteps.{AreFoundIn, FindsMembers, FindsMembersWhere, members_in}
 use Rattle.ref_draft.proofs.Lists.{all_append, all_filter}
 use Rattle.ref_draft.proofs.Under.{rest_of}
@@ -53,7 +53,7 @@ stand_elements k (string s) = tt
 stand_elements k (array ds) = stand_elements_from k 0 ds ds (λ j. ap (λ n. get_item n ds) (front j))
 stand_elements k (object ms) = tt
 
-stand_elements_or_whole : (k : List ℕ) (v : Data) → StandUnder k v (held ElementsOrWhole k v)
+stand_elements_or_whole : (k : List ℕ) (v : Data) → StandUnder k v (held_children ElementsOrWhole k v)
 stand_elements_or_whole k null = ((refl, refl), tt)
 stand_elements_or_whole k (boolean b) = ((refl, refl), tt)
 stand_elements_or_whole k (number x) = ((refl, refl), tt)
@@ -69,9 +69,9 @@ stand_members k (string s) u = tt
 stand_members k (array ds) u = tt
 stand_members k (object ms) u = stand_each_member k ms ms u
 
-pub stand_held : (how : Holding) (k : List ℕ) (v : Data) → FindsMembersWhere how v → StandUnder k v (held how k v)
+pub stand_held : (how : Holding) (k : List ℕ) (v : Data) → FindsMembersWhere how v → StandUnder k v (held_children how k v)
 stand_held Whole k v u = ((refl, refl), tt)
-stand_held WholeObject k v u = all_filter (StandsUnder k v) has_object (whole k v) ((refl, refl), tt)
+stand_held WholeObject k v u = all_filter (StandsUnder k v) has_object (whole_child k v) ((refl, refl), tt)
 stand_held Elements k v u = stand_elements k v
 stand_held EachMember k v u = stand_members k v u
 stand_held ElementsOrWhole k v u = stand_elements_or_whole k v
@@ -95,8 +95,8 @@ get_in (array ds) k v e = e
 get_in (object ms) k v e = e
 
 -- one keyword more
-pub step : (d : Draft) (t : Data) (how : Holding) (k : List ℕ) (v : Data) (done all : List Walked) → AllStand t done → get_member k (members_in t) ≡ Some v → FindsMembersWhere how v → all ≡ done ++ map (with_draft d) (held how k v) → AllStand t all
-step d t how k v done all before found unique is = rw is (all_append (λ child. value_at t child.path ≡ Some child.value) done (map (with_draft d) (held how k v)) before (from_object d t k v (held how k v) (get_in t k v found) (stand_held how k v unique)))
+pub step : (d : Draft) (t : Data) (how : Holding) (k : List ℕ) (v : Data) (done all : List Walked) → AllStand t done → get_member k (members_in t) ≡ Some v → FindsMembersWhere how v → all ≡ done ++ map (with_draft d) (held_children how k v) → AllStand t all
+step d t how k v done all before found unique is = rw is (all_append (λ child. value_at t child.path ≡ Some child.value) done (map (with_draft d) (held_children how k v)) before (from_object d t k v (held_children how k v) (get_in t k v found) (stand_held how k v unique)))
 
 -- ---- the entries of a map
 

@@ -1,11 +1,11 @@
--- The path of a child begins with the keyword that it stands under.
+-- The path of a child begins with the keyword that it is under.
 use Rattle.std.proofs.Common.{◌≡◌, ℕ, suc, List, [], ◌∷◌, refl}
 use Rattle.std.specs.List.{AllByRecursion}
 use Rattle.serde_json.specs.Data.{Data, null, boolean, number, string, array, object, Items, no_items, item, Members, no_members, member}
 use Rattle.ref_parts.specs.Path.{Part, Key}
 use Rattle.ref_draft.specs.declared.spec.Holding.{Holding}
 use Rattle.ref_draft.specs.declared.spec.Holding.TheVariants.{Whole, WholeObject, Elements, Members as EachMember, ElementsOrWhole, ObjectMembers, Nothing}
-use Rattle.ref_draft.specs.Children.{Child, whole, elements_from, each_member, elements, members, held, has_object}
+use Rattle.ref_draft.specs.Children.{Child, whole_child, elements_from, each_member, elements, members, held_children, has_object}
 use Rattle.ref_draft.proofs.Lists.{all_filter}
 
 -- a path without its first part
@@ -16,7 +16,7 @@ rest_of (part ∷ path) = path
 abbrev pub BeginsWith : List ℕ → Child → Type 0
 BeginsWith k child = child.0 ≡ Key k ∷ rest_of child.0
 
--- each child stands under the keyword
+-- each child is under the keyword
 abbrev pub AllUnder : List ℕ → List Child → Type 0
 AllUnder k cs = AllByRecursion (BeginsWith k) cs
 
@@ -36,7 +36,7 @@ under_array k (string s) = tt
 under_array k (array ds) = under_elements k 0 ds
 under_array k (object ms) = tt
 
-under_array_or_whole : (k : List ℕ) (v : Data) → AllUnder k (held ElementsOrWhole k v)
+under_array_or_whole : (k : List ℕ) (v : Data) → AllUnder k (held_children ElementsOrWhole k v)
 under_array_or_whole k null = (refl, tt)
 under_array_or_whole k (boolean b) = (refl, tt)
 under_array_or_whole k (number x) = (refl, tt)
@@ -52,9 +52,9 @@ under_object k (string s) = tt
 under_object k (array ds) = tt
 under_object k (object ms) = under_members k ms
 
-pub under_held : (how : Holding) (k : List ℕ) (v : Data) → AllUnder k (held how k v)
+pub under_held : (how : Holding) (k : List ℕ) (v : Data) → AllUnder k (held_children how k v)
 under_held Whole k v = (refl, tt)
-under_held WholeObject k v = all_filter (BeginsWith k) has_object (whole k v) (refl, tt)
+under_held WholeObject k v = all_filter (BeginsWith k) has_object (whole_child k v) (refl, tt)
 under_held Elements k v = under_array k v
 under_held EachMember k v = under_object k v
 under_held ElementsOrWhole k v = under_array_or_whole k v

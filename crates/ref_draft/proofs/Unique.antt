@@ -1,4 +1,4 @@
--- Where each object has each key once, its members are found under their keys, and its children stand at their paths.
+-- Where each object has each key once, its members are found under their keys, and its children are at their paths.
 use Rattle.std.proofs.Common.{◌≡◌, ℕ, List, map, Some, None, Ordering, Less, Equal, Greater, nat_cmp, is_eq, refl, sym, ap, subst, ◌∙◌}
 use Rattle.std.specs.Cmp.Lexicographic.{slice_cmp}
 use Rattle.std.specs.Ordering.{match_ordering}
@@ -13,8 +13,8 @@ use Rattle.ref_parts.specs.Path.{value_at}
 use Rattle.ref_draft.specs.declared.draft.Draft.{Draft}
 use Rattle.ref_draft.specs.declared.spec.Holding.{Holding}
 use Rattle.ref_draft.specs.declared.spec.Holding.TheVariants.{Whole, WholeObject, Elements, Members as EachMember, ElementsOrWhole, ObjectMembers, Nothing}
-use Rattle.ref_draft.specs.Keywords.{holding}
-use Rattle.ref_draft.specs.Children.{AllStand, with_draft, held, below, walked, children}
+use Rattle.ref_draft.specs.Keywords.{holding_of}
+use Rattle.ref_draft.specs.Children.{AllStand, with_draft, held_children, children_below, walked_children, children}
 use Rattle.ref_draft.specs.UniqueKeys.{KeysDiffer, HasUniqueKeys, ItemsHaveUniqueKeys, MembersHaveUniqueKeys}
 use Rattle.ref_draft.specs.inner.WalkSteps.{AreFoundIn, FindsMembers, FindsMembersWhere}
 use Rattle.ref_draft.proofs.Lists.{all_append}
@@ -41,7 +41,7 @@ past_step k l e ms Less is other = refl
 past_step k l e ms Equal is other = absurd (other refl)
 past_step k l e ms Greater is other = refl
 
--- behind another key the same is found
+-- after another key the same is found
 past : (k l : List ℕ) (e : Data) (ms : Members) → ¬ (k ≡ l) → get_member k (member l e ms) ≡ get_member k ms
 past k l e ms differ = past_step k l e ms (slice_cmp nat_cmp k l) refl (not_equal k l differ (slice_cmp nat_cmp k l) refl)
 
@@ -73,15 +73,15 @@ finds_where ElementsOrWhole v unique = tt
 finds_where ObjectMembers v unique = finds_members v unique
 finds_where Nothing v unique = tt
 
-stand_below : (d : Draft) (all ms : Members) → AreFoundIn all ms → MembersHaveUniqueKeys ms → AllStand (object all) (map (with_draft d) (below d ms))
+stand_below : (d : Draft) (all ms : Members) → AreFoundIn all ms → MembersHaveUniqueKeys ms → AllStand (object all) (map (with_draft d) (children_below d ms))
 stand_below d all no_members found unique = tt
 stand_below d all (member k v ms) found unique =
-    let cs = held (holding d k) k v in
-    subst (AllStand (object all)) (sym (map-append (with_draft d) cs (below d ms)))
-    (all_append (λ child. value_at (object all) child.path ≡ Some child.value) (map (with_draft d) cs) (map (with_draft d) (below d ms))
-    (from_object d (object all) k v cs found.0 (stand_held (holding d k) k v (finds_where (holding d k) v unique.0))) (stand_below d all ms found.1 unique.1))
+    let cs = held_children (holding_of d k) k v in
+    subst (AllStand (object all)) (sym (map-append (with_draft d) cs (children_below d ms)))
+    (all_append (λ child. value_at (object all) child.path ≡ Some child.value) (map (with_draft d) cs) (map (with_draft d) (children_below d ms))
+    (from_object d (object all) k v cs found.0 (stand_held (holding_of d k) k v (finds_where (holding_of d k) v unique.0))) (stand_below d all ms found.1 unique.1))
 
-pub children_stand : (d : Draft) (v : Data) → HasUniqueKeys v → AllStand v (walked d v)
+pub children_stand : (d : Draft) (v : Data) → HasUniqueKeys v → AllStand v (walked_children d v)
 children_stand d null unique = tt
 children_stand d (boolean b) unique = tt
 children_stand d (number x) unique = tt

@@ -16,7 +16,7 @@ pub data Kind : Type 0 where
 abbrev pub after_hash : List ℕ → Option (List ℕ)
 after_hash text = if begins_with_hash text then Some (drop 1 text) else None
 
--- the anchor that stands in an identifier
+-- the anchor that is in an identifier
 abbrev pub in_identifier : Draft → Data → List (List ℕ × Kind)
 in_identifier d value = option_to_list (option_map (λ name. (name, Plain)) (option_and_then after_hash (text_under (id_keyword d) value)))
 

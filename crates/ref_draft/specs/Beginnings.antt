@@ -1,4 +1,4 @@
--- What stands between a schema and its child: the array or the map of subschemas that the child's keyword has.
+-- What is between a schema and its child: the array or the map of subschemas that the child's keyword has.
 use Rattle.std.specs.Prelude.{◌≡◌, ◌≢◌, ℕ, Some, List, [], ◌++◌, Bool, false, is_some, IsTrue, ◌⊎◌}
 use Rattle.std.specs.List.{AllByRecursion}
 use Rattle.serde_json.specs.Data.{Data}
@@ -18,7 +18,7 @@ pub record IsMapOfSchemas (d : Draft) (keyword : List ℕ) (value : Data) : Type
   pub object : IsTrue (is_object value)
   pub keyword_of_a_map : IsTrue (is_map_keyword d keyword)
 
--- A beginning of a child's path leads to an array or to a map of subschemas, and since 2020-12 it isn't accepted behind
+-- A beginning of a child's path leads to an array or to a map of subschemas, and since 2020-12 it isn't accepted after
 -- accepted parts.
 pub record EndsWithin (d : Draft) (parts : List Part) (value : Data) (beginning : List Part) : Type 0 where
   pub within : Data

@@ -12,7 +12,7 @@ use Rattle.std.specs.Ordering.{nat_cmp}
 use Rattle.ref_draft.specs.declared.draft.Draft.{Draft}
 use Rattle.ref_draft.specs.declared.spec.Holding.{Holding}
 use Rattle.ref_draft.specs.declared.spec.Holding.TheVariants.{Whole, WholeObject, Elements, Members as EachMember, ElementsOrWhole, ObjectMembers, Nothing}
-use Rattle.ref_draft.specs.Keywords.{holding, is_left_out}
+use Rattle.ref_draft.specs.Keywords.{holding_of, is_left_out}
 use Rattle.ref_draft.specs.Schema.{detect}
 
 -- a child: its path, and its value
@@ -20,8 +20,8 @@ abbrev pub Child : Type 0
 Child = List Part × Data
 
 -- the value itself, under its keyword
-abbrev pub whole : List ℕ → Data → List Child
-whole keyword value = (Key keyword ∷ [], value) ∷ []
+abbrev pub whole_child : List ℕ → Data → List Child
+whole_child keyword value = (Key keyword ∷ [], value) ∷ []
 
 -- each element, under the keyword and its index, counted from i on
 abbrev pub elements_from : List ℕ → ℕ → Items → List Child
@@ -50,24 +50,24 @@ abbrev pub has_object : Child → Bool
 has_object child = is_object child.1
 
 -- the children under one keyword, by how it holds them
-abbrev pub held : Holding → List ℕ → Data → List Child
-held Whole keyword value = whole keyword value
-held WholeObject keyword value = filter has_object (whole keyword value)
-held Elements keyword value = elements keyword value
-held EachMember keyword value = members keyword value
-held ElementsOrWhole keyword value = option_map_or (elements_from keyword 0) (as_array value) (whole keyword value)
-held ObjectMembers keyword value = filter has_object (members keyword value)
-held Nothing keyword value = []
+abbrev pub held_children : Holding → List ℕ → Data → List Child
+held_children Whole keyword value = whole_child keyword value
+held_children WholeObject keyword value = filter has_object (whole_child keyword value)
+held_children Elements keyword value = elements keyword value
+held_children EachMember keyword value = members keyword value
+held_children ElementsOrWhole keyword value = option_map_or (elements_from keyword 0) (as_array value) (whole_child keyword value)
+held_children ObjectMembers keyword value = filter has_object (members keyword value)
+held_children Nothing keyword value = []
 
 -- the children under each of an object's keywords, in the order of the members
-abbrev pub below : Draft → Members → List Child
-below d no_members = []
-below d (member keyword value ms) = held (holding d keyword) keyword value ++ below d ms
+abbrev pub children_below : Draft → Members → List Child
+children_below d no_members = []
+children_below d (member keyword value ms) = held_children (holding_of d keyword) keyword value ++ children_below d ms
 
 -- The children of a value, in the order of its members: none where it is no object. The members of a value of `serde_json`
 -- come in byte order of their keys (`InKeyOrder`), since its map keeps them so.
 abbrev pub children : Draft → Data → List Child
-children d value = option_map_or (below d) (as_object value) []
+children d value = option_map_or (children_below d) (as_object value) []
 
 -- the keys of members, in their order
 abbrev pub keys_of : Members → List (List ℕ)
@@ -89,10 +89,10 @@ abbrev pub with_draft : Draft → Child → Walked
 with_draft d child = record { path = child.0; value = child.1; draft = detect d child.1 }
 
 -- The children with their drafts
-abbrev pub walked : Draft → Data → List Walked
-walked d value = map (with_draft d) (children d value)
+abbrev pub walked_children : Draft → Data → List Walked
+walked_children d value = map (with_draft d) (children d value)
 
--- each child stands at its path
+-- each child is at its path
 abbrev pub AllStand : Data → List Walked → Type 0
 AllStand value children = AllByRecursion (λ child. value_at value child.path ≡ Some child.value) children
 

@@ -86,8 +86,8 @@ boolean_or_schema _ = []
 
 -- How a keyword of a draft holds its subschemas. Before 2020-12 `items` is an array of schemas or one schema, and the
 -- members of `dependencies` are schemas where they are objects.
-abbrev pub holding : Draft → List ℕ → Holding
-holding d keyword =
+abbrev pub holding_of : Draft → List ℕ → Holding
+holding_of d keyword =
     if is_one_of keyword (boolean_or_schema d) then WholeObject
     else (if is_one_of keyword (row d).values then Whole
     else (if is_one_of keyword (row d).arrays then Elements

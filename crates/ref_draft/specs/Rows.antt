@@ -47,5 +47,5 @@ abbrev pub paths : Draft → List (List Part)
 paths d = map (λ child. child.0) (children d sample)
 
 -- {"dependencies":{"a":{},"b":["c"]},"items":[true,{}]}
-abbrev pub dependent : Data
-dependent = two "dependencies" (two "a" empty "b" (list (text "c"))) "items" (pair yes empty)
+abbrev pub dependent_schema : Data
+dependent_schema = two "dependencies" (two "a" empty "b" (list (text "c"))) "items" (pair yes empty)

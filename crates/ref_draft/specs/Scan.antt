@@ -29,9 +29,9 @@ parts_of (AValue keyword) = Key keyword ∷ []
 parts_of (AChild keyword part) = Key keyword ∷ part ∷ []
 
 -- the parts of pieces, one after another
-abbrev pub spelled : List Piece → List Part
-spelled [] = []
-spelled (piece ∷ pieces) = parts_of piece ++ spelled pieces
+abbrev pub spelled_path : List Piece → List Part
+spelled_path [] = []
+spelled_path (piece ∷ pieces) = parts_of piece ++ spelled_path pieces
 
 -- a draft has the piece
 abbrev pub IsPieceOf : Draft → Piece → Type 0
@@ -47,7 +47,7 @@ IsWord d pieces = AllByRecursion (IsPieceOf d) pieces
 pub record SpellsWord (d : Draft) (parts : List Part) : Type 0 where
   pub pieces : List Piece
   pub word : IsWord d pieces
-  pub spells : parts ≡ spelled pieces
+  pub spells : parts ≡ spelled_path pieces
 
 -- before 2020-12: the parts are a word, then `items` or `dependencies`, then any parts, and the value is an object
 pub record PassesItems (d : Draft) (parts : List Part) (value : Data) : Type 0 where
@@ -58,7 +58,7 @@ pub record PassesItems (d : Draft) (parts : List Part) (value : Data) : Type 0 w
   pub rest : List Part
   pub word : IsWord d pieces
   pub items : IsTrue (is_items_or_dependencies keyword)
-  pub spells : parts ≡ spelled pieces ++ Key keyword ∷ rest
+  pub spells : parts ≡ spelled_path pieces ++ Key keyword ∷ rest
 
 -- The parts are accepted at a value: an identifier there may change the base
 abbrev pub IsAccepted : Draft → List Part → Data → Type 0

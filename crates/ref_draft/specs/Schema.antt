@@ -18,8 +18,8 @@ abbrev pub is_true : Data → Bool
 is_true value = option_map_or (λ b. b) (as_bool value) false
 
 -- a text without the run of `#` characters at its end
-abbrev pub trimmed : List ℕ → List ℕ
-trimmed text = take (length text - suffix_len (λ c. c == 35) text) text
+abbrev pub trimmed_text : List ℕ → List ℕ
+trimmed_text text = take (length text - suffix_len (λ c. c == 35) text) text
 
 -- what follows `http` or `https` in the URI of each meta-schema; the one without a version is that of 2020-12
 abbrev pub meta_schemas : List (List ℕ × Draft)
@@ -42,7 +42,7 @@ draft_of_uri uri = option_map_or (λ e. e.1) (find (λ e. is_at e.0 uri) meta_sc
 
 -- the draft of the text under `$schema`: `#` characters at its end don't matter
 abbrev pub from_schema_uri : List ℕ → Draft
-from_schema_uri text = draft_of_uri (trimmed text)
+from_schema_uri text = draft_of_uri (trimmed_text text)
 
 -- the draft of a value in a schema of draft d: that of its text under `$schema`, or d without one
 abbrev pub detect : Draft → Data → Draft
@@ -59,4 +59,4 @@ is_hidden d value text = is_before_2019 d && (is_some (get (codes "$ref") value)
 
 -- the identifier of a value, without the `#` characters at its end
 abbrev pub identifier : Draft → Data → Option (List ℕ)
-identifier d value = option_and_then (λ text. if is_hidden d value text then None else Some (trimmed text)) (text_under (id_keyword d) value)
+identifier d value = option_and_then (λ text. if is_hidden d value text then None else Some (trimmed_text text)) (text_under (id_keyword d) value)

@@ -3,7 +3,7 @@ use Rattle.std.specs.Prelude.{◌≡◌, None, ⊤}
 use Rattle.serde_json.specs.Data.{Data, null, boolean, number, string, array, object, Items, no_items, item, Members, no_members, member}
 use Rattle.serde_json.specs.Find.{get_member}
 
--- no two members have one key: none behind a member has its key
+-- no two members have one key: none after a member has its key
 abbrev pub KeysDiffer : Members → Type 0
 KeysDiffer no_members = ⊤
 KeysDiffer (member key d ms) = (get_member key ms ≡ None) × KeysDiffer ms

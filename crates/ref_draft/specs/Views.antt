@@ -33,16 +33,16 @@ pub record Tagged : Type 0 where
   pub draft : Draft
 
 -- a value and its draft
-abbrev pub tagged : Draft → Data → Tagged
-tagged d t = record { contents = t; draft = d }
+abbrev pub tagged_value : Draft → Data → Tagged
+tagged_value d t = record { contents = t; draft = d }
 
 -- what a resource shows
 abbrev pub resource : Resource → Tagged
-resource r = tagged r.draft (view r.contents)
+resource r = tagged_value r.draft (view r.contents)
 
 -- what a borrowed resource shows
 abbrev pub resource_ref : ResourceRef → Tagged
-resource_ref r = tagged r.draft (view r.contents.now)
+resource_ref r = tagged_value r.draft (view r.contents.now)
 
 -- its identifier
 abbrev pub id_of : Tagged → Option (List ℕ)

@@ -4,7 +4,7 @@ ghost use Rattle.std.specs.Prelude.{◌≡◌, map, codes};
 ghost use Rattle.std.specs.Iterator.{YieldsFirst, item_count};
 ghost use Rattle.serde_json.specs.View.{view};
 ghost use Rattle.ref_draft.specs.Anchors.{in_identifier, named_by, plain_and_dynamic, Plain};
-ghost use Rattle.ref_draft.specs.Views.{AllName, anchor_name, anchors_left, tagged};
+ghost use Rattle.ref_draft.specs.Views.{AllName, anchor_name, anchors_left, tagged_value};
 
 use crate::draft::Draft;
 use crate::resource::ResourceRef;
@@ -75,10 +75,10 @@ impl<'a> Iterator for AnchorIter<'a> {
     }
 }
 
-// The anchor that stands in the identifier, after a `#` (Draft 7 Core, 8.2.3).
+// The anchor that is in the identifier, after a `#` (Draft 7 Core, 8.2.3).
 pub(crate) fn in_identifier<'a>(draft: Draft, contents: &'a Value) -> AnchorIter<'a>
     ensures names { map anchor_name (anchors_left result) ≡ in_identifier draft (view contents.now) }
-    ensures resources { AllName (tagged draft (view contents.now)) (anchors_left result) }
+    ensures resources { AllName (tagged_value draft (view contents.now)) (anchors_left result) }
 {
     match text_under(contents, draft.id_keyword()).and_then(after_hash) {
         Some(name) => AnchorIter::One(Anchor::Default {
@@ -92,7 +92,7 @@ pub(crate) fn in_identifier<'a>(draft: Draft, contents: &'a Value) -> AnchorIter
 // The plain anchor that `$anchor` names (2019-09 Core, 8.2.3).
 pub(crate) fn plain<'a>(draft: Draft, contents: &'a Value) -> AnchorIter<'a>
     ensures names { map anchor_name (anchors_left result) ≡ named_by (codes "$anchor") Plain (view contents.now) }
-    ensures resources { AllName (tagged draft (view contents.now)) (anchors_left result) }
+    ensures resources { AllName (tagged_value draft (view contents.now)) (anchors_left result) }
 {
     match text_under(contents, "$anchor") {
         Some(name) => AnchorIter::One(Anchor::Default {
@@ -106,7 +106,7 @@ pub(crate) fn plain<'a>(draft: Draft, contents: &'a Value) -> AnchorIter<'a>
 // The plain anchor that `$anchor` names, then the dynamic one of `$dynamicAnchor` (2020-12 Core, 8.2.2).
 pub(crate) fn plain_and_dynamic<'a>(draft: Draft, contents: &'a Value) -> AnchorIter<'a>
     ensures names { map anchor_name (anchors_left result) ≡ plain_and_dynamic (view contents.now) }
-    ensures resources { AllName (tagged draft (view contents.now)) (anchors_left result) }
+    ensures resources { AllName (tagged_value draft (view contents.now)) (anchors_left result) }
 {
     let resource = ResourceRef::new(contents, draft);
     let plain = text_under(contents, "$anchor");

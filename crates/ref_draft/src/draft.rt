@@ -1,12 +1,12 @@
 //! The versions of JSON Schema.
 ghost use Rattle.std.specs.Prelude.{◌≡◌, ◌↔◌, map, IfOk, OnOk, IsTrue};
 ghost use Rattle.serde_json.specs.View.{view};
-ghost use Rattle.ref_draft.specs.Keywords.{holding, id_keyword, is_known, is_before_2019};
+ghost use Rattle.ref_draft.specs.Keywords.{holding_of, id_keyword, is_known, is_before_2019};
 ghost use Rattle.ref_draft.specs.Schema.{from_schema_uri, draft_of_uri, detect, text_under};
-ghost use Rattle.ref_draft.specs.Children.{AllStand, InKeyOrder, subresources, walked};
+ghost use Rattle.ref_draft.specs.Children.{AllStand, InKeyOrder, subresources, walked_children};
 ghost use Rattle.ref_draft.specs.Anchors.{anchors};
 ghost use Rattle.ref_draft.specs.Scan.{IsAccepted};
-ghost use Rattle.ref_draft.specs.Views.{AllName, anchor_name, anchors_left, resource, resource_ref, tagged, values_left, walked_child};
+ghost use Rattle.ref_draft.specs.Views.{AllName, anchor_name, anchors_left, resource, resource_ref, tagged_value, values_left, walked_child};
 
 use crate::anchor::{self, AnchorIter};
 use crate::resource::{Resource, ResourceRef};
@@ -39,14 +39,14 @@ pub enum Draft {
 impl Draft {
     /// The value as a resource of this draft. It takes no memory.
     pub fn create_resource(self, contents: Value) -> Resource
-        ensures value { resource result ≡ tagged self (view contents) }
+        ensures value { resource result ≡ tagged_value self (view contents) }
     {
         Resource::new(contents, self)
     }
 
     /// The borrowed value as a resource of this draft. It takes no memory.
     pub fn create_resource_ref(self, contents: &Value) -> ResourceRef<'_>
-        ensures value { resource_ref result ≡ tagged self (view contents.now) }
+        ensures value { resource_ref result ≡ tagged_value self (view contents.now) }
     {
         ResourceRef::new(contents, self)
     }
@@ -114,7 +114,7 @@ impl Draft {
     /// The values right below the value that this draft reads as schemas (2020-12 Core, 10; earlier drafts as
     /// `specs/Keywords.antt` lists), each with its keyword, the segment after it and the draft that this one detects on
     /// it, in byte order of the keywords and then by index or in byte order of the keys; none below a value that is no
-    /// object. Each is what is found under its keyword and segment. Refuses only for want of memory, which it takes for
+    /// object. Each is what is found under its keyword and segment. Fails only where memory is refused, which it takes for
     /// the list. It takes constant work for each keyword, element and member that it passes, and for each child that of
     /// `detect`.
     pub fn walk_children<'a>(
@@ -122,7 +122,7 @@ impl Draft {
         alloc: Global,
         contents: &'a Value,
     ) -> Result<Vec<Child<'a>>, AllocError>
-        ensures children { IfOk result (λ v. map walked_child v.items ≡ walked self (view contents.now)) }
+        ensures children { IfOk result (λ v. map walked_child v.items ≡ walked_children self (view contents.now)) }
         ensures order { OnOk result (InKeyOrder (view contents.now)) }
         ensures found { IfOk result (λ v. AllStand (view contents.now) (map walked_child v.items)) }
     {
@@ -130,11 +130,11 @@ impl Draft {
     }
 
     /// The anchors of the value (2020-12 Core, 8.2.2; 2019-09 Core, 8.2.3), a plain one before a dynamic one; each names
-    /// the value as a resource of this draft. Before 2019-09 an anchor stands in the identifier, after a leading `#`
+    /// the value as a resource of this draft. Before 2019-09 an anchor is in the identifier, after a leading `#`
     /// (Draft 7 Core, 8.2.3; Draft 6 Core, 9.2; Draft 4 Core, 7.2.2). It takes no memory: one look-up or two.
     pub fn anchors<'a>(self, contents: &'a Value) -> AnchorIter<'a>
         ensures names { map anchor_name (anchors_left result) ≡ anchors self (view contents.now) }
-        ensures resources { AllName (tagged self (view contents.now)) (anchors_left result) }
+        ensures resources { AllName (tagged_value self (view contents.now)) (anchors_left result) }
     {
         match self {
             Draft::Draft4 | Draft::Draft6 | Draft::Draft7 => anchor::in_identifier(self, contents),
@@ -155,7 +155,7 @@ impl Draft {
 
     // How a keyword holds its subschemas.
     pub(crate) fn holding(self, keyword: &str) -> Holding
-        ensures { result ≡ holding self keyword.now }
+        ensures { result ≡ holding_of self keyword.now }
     {
         match self {
             Draft::Draft4 => draft4::holding(keyword),

@@ -5,7 +5,7 @@ ghost use Rattle.std.specs.Ordering.{nat_cmp};
 ghost use Rattle.serde_json.specs.Data.{Data, depth};
 ghost use Rattle.ref_draft.specs.declared.draft.Draft.{Draft as Version};
 ghost use Rattle.ref_draft.specs.declared.segments.Segment.{Segment as PointerSegment};
-ghost use Rattle.ref_draft.specs.Children.{AllStand, children, is_object, walked};
+ghost use Rattle.ref_draft.specs.Children.{AllStand, children, is_object, walked_children};
 ghost use Rattle.ref_draft.specs.Order.{rank};
 ghost use Rattle.ref_draft.specs.Scan.{AcceptsChildren, IsAccepted, SpellsWord, is_child_keyword};
 ghost use Rattle.ref_draft.specs.ScanSteps.{scan};
@@ -39,9 +39,9 @@ pub fn children_are_shallower()
     ensures law { (d : Version) (value : Data) → AllByRecursion (λ child. depth child.1 < depth value) (children d value) }
 {}
 
-/// Each child of a value whose objects have each key once stands at its path.
+/// Each child of a value whose objects have each key once is at its path.
 pub fn children_stand_at_their_paths()
-    ensures law { (d : Version) (value : Data) → HasUniqueKeys value → AllStand value (walked d value) }
+    ensures law { (d : Version) (value : Data) → HasUniqueKeys value → AllStand value (walked_children d value) }
 {}
 
 /// Where the parts that lead to a value are accepted, those that lead on to each of its children that is an object are
@@ -51,11 +51,11 @@ pub fn scan_goes_on_to_children()
         → IsAccepted d parts value → AcceptsChildren d parts (children d value) }
 {}
 
-/// Before the path of a child ends, behind parts that are accepted, it leads to an array or to a map of subschemas, and since
-/// 2020-12 nothing there is accepted. The children are to stand at their paths, as `children_stand_at_their_paths` says.
+/// Before the path of a child ends, after parts that are accepted, it leads to an array or to a map of subschemas, and since
+/// 2020-12 nothing there is accepted. The children are to be at their paths, as `children_stand_at_their_paths` says.
 pub fn paths_of_children_end_within()
     ensures law { (d : Version) (parts : List Part) (value : Data)
-        → IsAccepted d parts value → AllStand value (walked d value) → AllEndWithin d parts value (children d value) }
+        → IsAccepted d parts value → AllStand value (walked_children d value) → AllEndWithin d parts value (children d value) }
 {}
 
 /// The scan, which reads the parts from the left, accepts exactly those that are accepted.

@@ -2,7 +2,7 @@
 ghost use Rattle.std.specs.Prelude.{◌≡◌, IfOk, option_map};
 ghost use Rattle.serde_json.specs.View.{view};
 ghost use Rattle.ref_draft.specs.Schema.{detect};
-ghost use Rattle.ref_draft.specs.Views.{id_of, resource, resource_ref, tagged};
+ghost use Rattle.ref_draft.specs.Views.{id_of, resource, resource_ref, tagged_value};
 
 use crate::draft::Draft;
 use crate::spec::ids::identifier;
@@ -18,7 +18,7 @@ pub struct Resource {
 
 impl Resource {
     pub(crate) fn new(contents: Value, draft: Draft) -> Self
-        ensures { resource result ≡ tagged draft (view contents) }
+        ensures { resource result ≡ tagged_value draft (view contents) }
     {
         Resource { contents, draft }
     }
@@ -39,7 +39,7 @@ impl Resource {
 
     /// The draft and the document, moved out. It takes no memory.
     pub fn into_inner(self) -> (Draft, Value)
-        ensures value { tagged result.0 (view result.1) ≡ resource self }
+        ensures value { tagged_value result.0 (view result.1) ≡ resource self }
     {
         let Resource { contents, draft } = self;
         (draft, contents)
@@ -47,7 +47,7 @@ impl Resource {
 
     /// The document as a resource of the draft that 2020-12 detects on it. It takes no memory.
     pub fn from_contents(contents: Value) -> Resource
-        ensures value { let tree = view contents in resource result ≡ tagged (detect Draft.Draft202012 tree) tree }
+        ensures value { let tree = view contents in resource result ≡ tagged_value (detect Draft.Draft202012 tree) tree }
     {
         Draft::Draft202012
             .detect(&contents)
@@ -55,7 +55,7 @@ impl Resource {
     }
 
     /// A copy of the document with the same draft. It takes time linear in the document, and for each member a look-up
-    /// by its key; its stack grows with the depth of the document. Refuses only for want of memory, which it takes for
+    /// by its key; its stack grows with the depth of the document. Fails only where memory is refused, which it takes for
     /// the document.
     pub fn clone(&self) -> Result<Self, AllocError>
         ensures copy { IfOk result (λ copy. resource copy ≡ resource self.now) }
@@ -77,7 +77,7 @@ pub struct ResourceRef<'a> {
 impl<'a> ResourceRef<'a> {
     /// The document as a resource of the draft.
     pub fn new(contents: &'a Value, draft: Draft) -> Self
-        ensures value { resource_ref result ≡ tagged draft (view contents.now) }
+        ensures value { resource_ref result ≡ tagged_value draft (view contents.now) }
     {
         ResourceRef { contents, draft }
     }
@@ -99,7 +99,7 @@ impl<'a> ResourceRef<'a> {
     /// The document as a resource of the draft that 2020-12 detects on it. It takes no memory.
     pub fn from_contents(contents: &'a Value) -> Self
         ensures value { let tree = view contents.now in
-            resource_ref result ≡ tagged (detect Draft.Draft202012 tree) tree }
+            resource_ref result ≡ tagged_value (detect Draft.Draft202012 tree) tree }
     {
         ResourceRef::new(contents, Draft::Draft202012.detect(contents))
     }

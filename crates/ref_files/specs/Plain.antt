@@ -1,5 +1,5 @@
 -- Names that lead into the folder that they are looked up in, and nowhere else.
-use Rattle.std.specs.Prelude.{◌≢◌, ℕ, List, [], codes, EachIndex, slice_index}
+use Rattle.std.specs.Prelude.{◌≢◌, ℕ, ◌-◌, ◌==◌, Bool, if◌then◌else◌, List, [], ◌∷◌, ◌++◌, length, codes, EachIndex, slice_index}
 
 -- a text without a byte
 abbrev pub Lacks : ℕ → List ℕ → Type 0
@@ -12,3 +12,16 @@ pub record IsPlain (name : List ℕ) : Type 0 where
   pub not_above : name ≢ codes ".."
   pub no_slash : Lacks 47 name
   pub no_nul : Lacks 0 name
+
+-- whether a path ends in a slash; the empty path doesn't
+abbrev pub ends_in_slash : List ℕ → Bool
+ends_in_slash path = slice_index path (length path - 1) == 47
+
+-- the path of what a name means in a folder
+abbrev pub path_in : List ℕ → List ℕ → List ℕ
+path_in folder name = (if ends_in_slash folder then folder else folder ++ 47 ∷ []) ++ name
+
+-- the path of what names mean, each in the folder that those before it mean
+abbrev pub path_of : List ℕ → List (List ℕ) → List ℕ
+path_of folder [] = folder
+path_of folder (name ∷ names) = path_of (path_in folder name) names

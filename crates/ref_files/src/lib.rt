@@ -1,4 +1,4 @@
-//! Files and URIs: the URI that a file stands under, and the file that a URI means below a folder.
+//! Files and URIs: the URI that a file is under, and the file that a URI means below a folder.
 //!
 //! Nothing here reads a file. A [`Name`] is one that leads into the folder that it is looked up in and nowhere else, so a path of names stays below
 //! the folder that it begins at, links aside.

@@ -27,6 +27,7 @@ impl Name {
 
     /// Its text.
     pub fn as_str(&self) -> &str
+        ensures value { result.now ≡ string_bytes self.now.text }
         ensures plain { IsPlain result.now }
     {
         self.text.as_str()

@@ -1,4 +1,7 @@
 //! What a URI means below a prefix.
+ghost use Rattle.std.specs.Prelude.{◌≡◌, map, string_bytes, IfOk, OnOk};
+ghost use Rattle.ref_files.specs.Plain.{path_in, path_of};
+
 use crate::name::Name;
 use std::alloc::{AllocError, Global};
 
@@ -13,8 +16,10 @@ pub fn below_prefix<'u>(prefix: &str, uri: &'u str) -> Option<&'u str> {
     Some(path)
 }
 
-/// The path of what these names lead to from a folder.
-pub fn path_below(alloc: Global, folder: &str, names: &[Name]) -> Result<String, AllocError> {
+/// The path of what these names mean from a folder: each is a plain name, so the path is below the folder, links aside.
+pub fn path_below(alloc: Global, folder: &str, names: &[Name]) -> Result<String, AllocError>
+    ensures value { IfOk result (λ path. string_bytes path ≡ path_of folder.now (map (λ name. string_bytes name.text) names.now)) }
+{
     let mut path = String::from_str(alloc, folder)?;
     for name in names {
         push_name(&mut path, name.as_str())?;
@@ -22,7 +27,9 @@ pub fn path_below(alloc: Global, folder: &str, names: &[Name]) -> Result<String,
     Ok(path)
 }
 
-fn push_name(path: &mut String, name: &str) -> Result<(), AllocError> {
+fn push_name(path: &mut String, name: &str) -> Result<(), AllocError>
+    ensures value { OnOk result (string_bytes path.new ≡ path_in (string_bytes path.old) name.now) }
+{
     if !path.as_str().ends_with('/') {
         path.push('/')?;
     }

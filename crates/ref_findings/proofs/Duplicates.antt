@@ -1,4 +1,4 @@
--- What another place bears first.
+-- What another place has first.
 use Rattle.std.proofs.Common.{◌≡◌, ◌∙◌, [], ℕ, List, Option, option_map, sym, ap}
 use Rattle.ref_findings.specs.Bearers.{Site, first_under, other_bearer}
 use Rattle.ref_findings.specs.Findings.{Known, DuplicateIdentifier, DuplicateAnchor, uri_problem, name_problem}

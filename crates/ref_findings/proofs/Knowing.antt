@@ -7,9 +7,9 @@ use Rattle.std.proofs.lemmas.List.Folds.{flat_map-map}
 use Rattle.std.proofs.lemmas.Simd.{map-map}
 use Rattle.ref_parts.specs.Table.{Entry}
 use Rattle.ref_draft.specs.declared.draft.Draft.{Draft}
-use Rattle.ref_world.specs.World.{Layer, World}
-use Rattle.ref_findings.specs.Sources.{Source, world_of, unsound}
-use Rattle.ref_findings.specs.Bearers.{Site, numbered, sites, uris_borne, names_borne}
+use Rattle.ref_definitions.specs.World.{Layer, World}
+use Rattle.ref_findings.specs.Sources.{Source, world_of, unsound_sources}
+use Rattle.ref_findings.specs.Bearers.{Site, numbered_sites, sites, uris_borne, names_borne}
 use Rattle.ref_findings.specs.Findings.{Known}
 use Rattle.ref_findings.specs.inner.Seen.{Survey, survey_in, sound_in, unsound_in, AreSurveys}
 
@@ -29,16 +29,16 @@ world_is draft ss hs ts us layer first second is =
     ∙ ap (λ l. flat_map (sound_in draft) (map (survey_in draft) ss) ++ flat_map (sound_in draft) l) second ∙ both draft (sound_in draft) ss hs)
 
 pub unsound_is : (draft : Draft) (ss hs : List Source) (ts us : List Survey) (entries : List (Entry ℕ)) → ts ≡ map (survey_in draft) ss → us ≡ map (survey_in draft) hs
-    → entries ≡ flat_map unsound_in ts ++ flat_map unsound_in us → entries ≡ unsound draft ss hs
+    → entries ≡ flat_map unsound_in ts ++ flat_map unsound_in us → entries ≡ unsound_sources draft ss hs
 unsound_is draft ss hs ts us entries first second is =
     is ∙ ap (λ l. flat_map unsound_in l ++ flat_map unsound_in us) first
     ∙ ap (λ l. flat_map unsound_in (map (survey_in draft) ss) ++ flat_map unsound_in l) second ∙ both draft unsound_in ss hs
 
 pub sites_are : (draft : Draft) (ss : List Source) (ts : List Survey) (ls : List Site) → ts ≡ map (survey_in draft) ss
-    → ls ≡ flat_map numbered (enumerate_from 0 (map (λ t. t.places) ts)) → ls ≡ sites draft ss
+    → ls ≡ flat_map numbered_sites (enumerate_from 0 (map (λ t. t.places) ts)) → ls ≡ sites draft ss
 sites_are draft ss ts ls first is =
-    is ∙ ap (λ l. flat_map numbered (enumerate_from 0 (map (λ (t : Survey). t.places) l))) first
-    ∙ ap (λ l. flat_map numbered (enumerate_from 0 l)) (map-map (λ (t : Survey). t.places) (survey_in draft) ss)
+    is ∙ ap (λ l. flat_map numbered_sites (enumerate_from 0 (map (λ (t : Survey). t.places) l))) first
+    ∙ ap (λ l. flat_map numbered_sites (enumerate_from 0 l)) (map-map (λ (t : Survey). t.places) (survey_in draft) ss)
 
 abbrev pub known_with : World → List (Entry ℕ) → List Site → List (Entry ℕ) → List (Entry ℕ) → Known
 known_with world entries ls uris names = record { world = world; unsound = entries; sites = ls; uris = uris; names = names }

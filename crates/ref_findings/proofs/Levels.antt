@@ -7,9 +7,9 @@ use Rattle.ref_draft.specs.declared.draft.Draft.{Draft}
 use Rattle.ref_draft.specs.Children.{Child, children, with_draft}
 use Rattle.ref_draft.proofs.Depth.{shallower}
 use Rattle.ref_draft.proofs.Lists.{all_append}
-use Rattle.ref_world.specs.World.{Document}
-use Rattle.ref_world.specs.Places.{Place, root, child_place}
-use Rattle.ref_findings.specs.Places.{nearest, children_near, levels_near, places_near}
+use Rattle.ref_definitions.specs.World.{Document}
+use Rattle.ref_definitions.specs.Places.{Place, root, child_place}
+use Rattle.ref_findings.specs.Places.{nearest_base, children_near, levels_near, places_near}
 
 -- each place nests at most n deep
 abbrev Within : ℕ → List Place → Type 0
@@ -23,7 +23,7 @@ within_children n outer path base draft (c ∷ cs) small less =
     (omega (arith, small, less.0), within_children n outer path base draft cs small less.1)
 
 within_place : (n : ℕ) (p : Place) → depth p.value ≤ suc n → Within n (children_near p)
-within_place n p small = within_children n p.value p.path (nearest p) p.draft (children p.draft p.value) small (shallower p.draft p.value)
+within_place n p small = within_children n p.value p.path (nearest_base p) p.draft (children p.draft p.value) small (shallower p.draft p.value)
 
 within_level : (n : ℕ) (ps : List Place) → Within (suc n) ps → Within n (flat_map children_near ps)
 within_level n [] small = tt
@@ -37,7 +37,7 @@ none_of_children outer path base draft [] small less = refl
 none_of_children outer path base draft (c ∷ cs) small less = absurd (omega (arith, small, less.0))
 
 none_of_place : (p : Place) → depth p.value ≤ 0 → children_near p ≡ []
-none_of_place p small = none_of_children p.value p.path (nearest p) p.draft (children p.draft p.value) small (shallower p.draft p.value)
+none_of_place p small = none_of_children p.value p.path (nearest_base p) p.draft (children p.draft p.value) small (shallower p.draft p.value)
 
 none_of_level : (ps : List Place) → Within 0 ps → flat_map children_near ps ≡ []
 none_of_level [] small = refl

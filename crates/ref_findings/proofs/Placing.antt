@@ -6,7 +6,7 @@ use Rattle.ref_parts.specs.Path.{Part}
 use Rattle.ref_draft.specs.declared.draft.Draft.{Draft}
 use Rattle.ref_draft.specs.Schema.{identifier}
 use Rattle.ref_draft.specs.Children.{Walked}
-use Rattle.ref_world.specs.Places.{Place, base_within, child_place}
+use Rattle.ref_definitions.specs.Places.{Place, base_within, child_place}
 use Rattle.ref_findings.specs.declared.site.Place as rust
 use Rattle.ref_findings.specs.inner.Seen.{place_of}
 

@@ -4,8 +4,8 @@ use Rattle.std.specs.Prelude.{slice_get}
 use Rattle.std.proofs.lemmas.Option.{get_or_from_slice_get}
 use Rattle.std.proofs.lemmas.List.{take_more, drop_more, drop_all, take_all, take-append-le, drop-append-le, take-append-drop}
 use Rattle.serde_json.specs.Data.{depth}
-use Rattle.ref_world.specs.World.{Document}
-use Rattle.ref_world.specs.Places.{Place, root}
+use Rattle.ref_definitions.specs.World.{Document}
+use Rattle.ref_definitions.specs.Places.{Place, root}
 use Rattle.ref_findings.specs.Places.{children_near, levels_near, places_near}
 use Rattle.ref_findings.specs.inner.Queue.{left_from, IsQueue, IsAt}
 use Rattle.ref_findings.proofs.Levels.{nothing_below, places_end}

@@ -1,14 +1,14 @@
 -- What errors say of references that are looked up, and of findings one after another.
 use Rattle.std.proofs.Common.{◌≡◌, ℕ, List, true, false, Some, refl}
-use Rattle.ref_world.specs.Fault as fault
-use Rattle.ref_world.specs.Fault.{Fault}
+use Rattle.ref_definitions.specs.Fault as fault
+use Rattle.ref_definitions.specs.Fault.{Fault}
 use Rattle.ref_retrieve.specs.declared.error.Error.{Error}
 use Rattle.ref_retrieve.specs.declared.error.Error.TheVariants as error
 use Rattle.ref_retrieve.specs.Errors.{SaysFault}
-use Rattle.ref_findings.specs.Findings.{LeadsNowhere, missing, by_fault}
+use Rattle.ref_findings.specs.Findings.{LeadsNowhere, missing_problem, by_fault}
 use Rattle.ref_findings.specs.inner.Meanings.{is_unretrievable}
 
-pub says_missing : (uri reference : List ℕ) (e : Error) (f : Fault) → is_unretrievable e ≡ true → SaysFault e f → by_fault uri reference f ≡ missing uri reference
+pub says_missing : (uri reference : List ℕ) (e : Error) (f : Fault) → is_unretrievable e ≡ true → SaysFault e f → by_fault uri reference f ≡ missing_problem uri reference
 says_missing uri reference (error.Unretrievable wanted source) (fault.Unretrievable text why) is says = refl
 says_missing uri reference (error.Unretrievable wanted source) (fault.PointerToNowhere pointer) is says = absurd says
 says_missing uri reference (error.Unretrievable wanted source) (fault.InvalidPercentEncoding pointer) is says = absurd says

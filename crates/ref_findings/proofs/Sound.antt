@@ -7,9 +7,9 @@ use Rattle.std.proofs.lemmas.List.Concat.{flat_map-append}
 use Rattle.serde_json.specs.Data.{Data, depth}
 use Rattle.ref_draft.specs.declared.draft.Draft.{Draft}
 use Rattle.ref_uri.specs.Targets.{Refusal}
-use Rattle.ref_world.specs.World.{Document, Layer, document}
-use Rattle.ref_world.specs.Places.{Place, root, children_with, children_of, levels_below, places}
-use Rattle.ref_world.specs.Wants.{reference_at, schema_at, refusals_of, faults_at, faults}
+use Rattle.ref_definitions.specs.World.{Document, Layer, document}
+use Rattle.ref_definitions.specs.Places.{Place, root, children_with, children_of, levels_below, places}
+use Rattle.ref_definitions.specs.Wants.{reference_at, schema_at, refusals_of, faults_at, faults}
 use Rattle.ref_findings.specs.Places.{nearest_of, children_near, levels_near, places_near, is_refused, is_faulty}
 use Rattle.ref_findings.specs.Sources.{Source, is_sound}
 

@@ -1,4 +1,4 @@
--- Which places bear which URIs (2020-12 Core, 8.2.1), and which names of anchors (8.2.2).
+-- Which places have which URIs (2020-12 Core, 8.2.1), and which names of anchors (8.2.2).
 use Rattle.std.specs.Prelude.{ℕ, Bool, true, false, ◌&&◌, not, ◌==◌, List, [], ◌∷◌, ◌++◌, map, flat_map, length, bytes_eq, if◌then◌else◌, Option, Some, None, option_map, option_and_then, slice_get}
 use Rattle.std.specs.Option.{option_to_list, option_map_or}
 use Rattle.std.specs.List.{find, enumerate_from}
@@ -6,9 +6,9 @@ use Rattle.ref_draft.specs.declared.draft.Draft.{Draft}
 use Rattle.ref_draft.specs.Anchors.{Kind, anchors}
 use Rattle.ref_parts.specs.Path.{Part}
 use Rattle.ref_parts.specs.Table.{Entry, is_under}
-use Rattle.ref_world.specs.Places.{Place}
-use Rattle.ref_world.specs.Resources.{own_uri}
-use Rattle.ref_findings.specs.Places.{nearest}
+use Rattle.ref_definitions.specs.Places.{Place}
+use Rattle.ref_definitions.specs.Resources.{own_uri}
+use Rattle.ref_findings.specs.Places.{nearest_base}
 use Rattle.ref_findings.specs.Sources.{Source, places_in, under_uri}
 
 -- a place, and the number of its source
@@ -16,12 +16,12 @@ abbrev pub Site : Type 0
 Site = ℕ × Place
 
 -- places with the number of their source
-abbrev pub numbered : ℕ × List Place → List Site
-numbered e = map (λ p. (e.0, p)) e.1
+abbrev pub numbered_sites : ℕ × List Place → List Site
+numbered_sites e = map (λ p. (e.0, p)) e.1
 
 -- the places of sources, one source after another
 abbrev pub sites : Draft → List Source → List Site
-sites draft sources = flat_map numbered (enumerate_from 0 (map (places_in draft) sources))
+sites draft sources = flat_map numbered_sites (enumerate_from 0 (map (places_in draft) sources))
 
 -- whether a path is empty
 abbrev pub is_empty_path : List Part → Bool
@@ -32,15 +32,15 @@ is_empty_path (part ∷ path) = false
 abbrev pub is_root : Place → Bool
 is_root p = is_empty_path p.path
 
--- the URI of the source, which its root bears too, where its own is another one or it has none; the base around a root is that URI
+-- the URI of the source, which its root has too, where its own is another one or it has none; the base around a root is that URI
 abbrev pub source_uri : Place → Option (List ℕ)
 source_uri p = if is_root p && not (option_map_or (λ own. bytes_eq own p.outer) (own_uri p) false) then Some p.outer else None
 
--- the URIs that a place bears
+-- the URIs that a place has
 abbrev pub uris_of : Place → List (List ℕ)
 uris_of p = option_to_list (source_uri p) ++ option_to_list (own_uri p)
 
--- the entries of the URIs that the place with a number bears
+-- the entries of the URIs that the place with a number has
 abbrev pub uri_entries : ℕ × Site → List (Entry ℕ)
 uri_entries e = map (under_uri e.0) (uris_of e.1.1)
 
@@ -52,9 +52,9 @@ uris_borne sites = flat_map uri_entries (enumerate_from 0 sites)
 abbrev pub name_at : ℕ → List ℕ → List ℕ × Kind → List (Entry ℕ)
 name_at number base a = if length a.0 == 0 then [] else (base, a.0, number) ∷ []
 
--- the entries of the names that a place bears, under its base
+-- the entries of the names that a place has, under its base
 abbrev pub names_at : ℕ → Place → List (Entry ℕ)
-names_at number p = flat_map (name_at number (nearest p)) (anchors p.draft p.value)
+names_at number p = flat_map (name_at number (nearest_base p)) (anchors p.draft p.value)
 
 -- those of the place with a number
 abbrev pub name_entries : ℕ × Site → List (Entry ℕ)
@@ -72,6 +72,6 @@ first_under first second entries = option_map (λ e. e.2) (find (is_under first 
 abbrev pub other_than : List Site → ℕ → ℕ → Option Site
 other_than sites number first = if first == number then None else slice_get sites first
 
--- the first place that bears two texts, where that is another one than this
+-- the first place that has two texts, where that is another one than this
 abbrev pub other_bearer : List Site → ℕ → Option ℕ → Option Site
 other_bearer sites number first = option_and_then (other_than sites number) first

@@ -4,24 +4,24 @@ use Rattle.std.specs.Option.{option_to_list}
 use Rattle.std.specs.List.{list_any, enumerate_from}
 use Rattle.ref_draft.specs.declared.draft.Draft.{Draft}
 use Rattle.ref_draft.specs.Keywords.{is_unknown, id_keyword, is_before_2019}
-use Rattle.ref_draft.specs.Schema.{text_under, trimmed, from_schema_uri}
+use Rattle.ref_draft.specs.Schema.{text_under, trimmed_text, from_schema_uri}
 use Rattle.ref_draft.specs.Anchors.{Kind, Plain, Dynamic, anchors}
 use Rattle.ref_parts.specs.Path.{Part}
 use Rattle.ref_parts.specs.Table.{Entry, is_under}
 use Rattle.ref_uri.specs.Targets.{Refusal, target, fragment_part}
-use Rattle.ref_world.specs.World.{World}
-use Rattle.ref_world.specs.Places.{Place, identifier_of}
-use Rattle.ref_world.specs.Resources.{means}
-use Rattle.ref_world.specs.MetaSchemas as meta_schemas
-use Rattle.ref_world.specs.Wants.{schema_uri}
-use Rattle.ref_world.specs.Fault as fault
-use Rattle.ref_world.specs.Fault.{Fault}
-use Rattle.ref_world.specs.Lookup.{Found, lookup}
-use Rattle.ref_findings.specs.Places.{nearest}
-use Rattle.ref_findings.specs.Sources.{Source, world_of, unsound}
+use Rattle.ref_definitions.specs.World.{World}
+use Rattle.ref_definitions.specs.Places.{Place, identifier_of}
+use Rattle.ref_definitions.specs.Resources.{meant_place}
+use Rattle.ref_definitions.specs.MetaSchemas as meta_schemas
+use Rattle.ref_definitions.specs.Wants.{schema_uri}
+use Rattle.ref_definitions.specs.Fault as fault
+use Rattle.ref_definitions.specs.Fault.{Fault}
+use Rattle.ref_definitions.specs.Lookup.{Found, lookup}
+use Rattle.ref_findings.specs.Places.{nearest_base}
+use Rattle.ref_findings.specs.Sources.{Source, world_of, unsound_sources}
 use Rattle.ref_findings.specs.Bearers.{Site, sites, source_uri, uris_borne, names_borne, first_under, other_bearer}
 
--- what is wrong, or is noted; a duplicate has the number of the source and the path of the first place that bears the text
+-- what is wrong, or is noted; a duplicate has the number of the source and the path of the first place that has the text
 pub data Problem : Type 0 where
   NotJson : Problem
   InvalidUri : Refusal → Problem
@@ -41,7 +41,7 @@ pub record Finding : Type 0 where
   pub problem : Problem
 
 -- what is known of all sources: the documents that references are looked up in, the URIs of those that aren't sound, the places, and
--- which URIs and which names these bear
+-- which URIs and which names these have
 pub record Known : Type 0 where
   pub world : World
   pub unsound : List (Entry ℕ)
@@ -55,19 +55,19 @@ is_among uri entries = list_any (is_under uri []) entries
 
 -- whether a URI is that of a meta-schema of a draft
 unfoldable pub is_meta_schema : List ℕ → Bool
-is_meta_schema uri = not (is_unknown (from_schema_uri uri)) || list_any (λ known. bytes_eq (trimmed known) uri) meta_schemas.uris
+is_meta_schema uri = not (is_unknown (from_schema_uri uri)) || list_any (λ known. bytes_eq (trimmed_text known) uri) meta_schemas.uris
 
 -- ---- a `$ref`
 
--- where nothing stands under its URI: a document is missing, unless it is a meta-schema, whose fragments aren't looked up
-abbrev pub missing : List ℕ → List ℕ → Option Problem
-missing uri reference =
+-- where nothing is under its URI: a document is missing, unless it is a meta-schema, whose fragments aren't looked up
+abbrev pub missing_problem : List ℕ → List ℕ → Option Problem
+missing_problem uri reference =
     if is_meta_schema uri then (if length (fragment_part reference) == 0 then None else Some (Unchecked uri))
     else Some (MissingDocument uri)
 
 -- by the fault of its look-up
 abbrev pub by_fault : List ℕ → List ℕ → Fault → Option Problem
-by_fault uri reference (fault.Unretrievable wanted text) = missing uri reference
+by_fault uri reference (fault.Unretrievable wanted text) = missing_problem uri reference
 by_fault uri reference other = Some (LeadsNowhere uri other)
 
 -- by where it leads
@@ -91,7 +91,7 @@ reference_problem known base reference = by_target known base reference (target 
 
 -- whether a URI is that of a meta-schema, known or among the sources
 abbrev pub is_dialect : Known → List ℕ → Bool
-is_dialect known uri = is_meta_schema uri || (is_among uri known.unsound || is_some (means known.world uri))
+is_dialect known uri = is_meta_schema uri || (is_among uri known.unsound || is_some (meant_place known.world uri))
 
 -- by the URI that it names
 abbrev pub by_dialect : Known → Result (List ℕ) Refusal → Option Problem
@@ -102,9 +102,9 @@ by_dialect known (Ok uri) = if is_dialect known uri then None else Some (Unknown
 abbrev pub schema_problem : Known → List ℕ → Option Problem
 schema_problem known text = option_and_then (by_dialect known) (schema_uri text)
 
--- ---- URIs and names that another place bears
+-- ---- URIs and names that another place has
 
--- of a URI that the place with a number bears
+-- of a URI that the place with a number has
 abbrev pub uri_problem : Known → ℕ → List ℕ → Option Problem
 uri_problem known number uri = option_map (λ s. DuplicateIdentifier uri s.0 s.1.path) (other_bearer known.sites number (first_under uri [] known.uris))
 
@@ -117,11 +117,11 @@ by_base known number (Ok uri) = uri_problem known number uri
 abbrev pub identifier_problem : Known → ℕ → Place → Option Problem
 identifier_problem known number p = option_and_then (λ id. by_base known number p.base) (identifier_of p)
 
--- of a name that it bears under a base
+-- of a name that it has under a base
 abbrev pub name_problem : Known → ℕ → List ℕ → List ℕ → Option Problem
 name_problem known number base name = option_map (λ s. DuplicateAnchor base s.0 s.1.path) (other_bearer known.sites number (first_under base name known.names))
 
--- the keyword that an anchor of a draft stands under
+-- the keyword that an anchor of a draft is under
 abbrev pub anchor_keyword : Draft → Kind → List ℕ
 anchor_keyword draft Dynamic = codes "$dynamicAnchor"
 anchor_keyword draft Plain = if is_before_2019 draft then id_keyword draft else codes "$anchor"
@@ -149,7 +149,7 @@ identifier_findings known number s = finding_at s (Some (id_keyword s.1.draft)) 
 
 -- of its `$ref`
 abbrev pub reference_findings : Known → Site → List Finding
-reference_findings known s = finding_at s (Some (codes "$ref")) (option_and_then (reference_problem known (nearest s.1)) (text_under (codes "$ref") s.1.value))
+reference_findings known s = finding_at s (Some (codes "$ref")) (option_and_then (reference_problem known (nearest_base s.1)) (text_under (codes "$ref") s.1.value))
 
 -- of its `$schema`
 abbrev pub schema_findings : Known → Site → List Finding
@@ -157,7 +157,7 @@ schema_findings known s = finding_at s (Some (codes "$schema")) (option_and_then
 
 -- of one anchor
 abbrev pub anchor_finding : Known → ℕ → Site → List ℕ × Kind → List Finding
-anchor_finding known number s a = finding_at s (Some (anchor_keyword s.1.draft a.1)) (name_problem known number (nearest s.1) a.0)
+anchor_finding known number s a = finding_at s (Some (anchor_keyword s.1.draft a.1)) (name_problem known number (nearest_base s.1) a.0)
 
 -- of its anchors
 abbrev pub anchor_findings : Known → ℕ → Site → List Finding
@@ -181,8 +181,8 @@ abbrev pub not_json : ℕ × Source → List Finding
 not_json e = if is_some e.1.tree then [] else no_json e.0 ∷ []
 
 -- which sources are none
-abbrev pub unread : List Source → List Finding
-unread sources = flat_map not_json (enumerate_from 0 sources)
+abbrev pub unread_sources : List Source → List Finding
+unread_sources sources = flat_map not_json (enumerate_from 0 sources)
 
 -- whether a place has a text under `$ref`
 abbrev pub has_reference : Site → Bool
@@ -196,7 +196,7 @@ references draft sources = length (filter has_reference (sites draft sources))
 abbrev pub known_of : Draft → List Source → List Source → Known
 known_of draft sources held = record {
   world = world_of draft sources held;
-  unsound = unsound draft sources held;
+  unsound = unsound_sources draft sources held;
   sites = sites draft sources;
   uris = uris_borne (sites draft sources);
   names = names_borne (sites draft sources);
@@ -204,4 +204,4 @@ known_of draft sources held = record {
 
 -- All findings: which sources are no JSON, and then those at the places of the others
 abbrev pub findings : Draft → List Source → List Source → List Finding
-findings draft sources held = unread sources ++ place_findings (known_of draft sources held) (sites draft sources)
+findings draft sources held = unread_sources sources ++ place_findings (known_of draft sources held) (sites draft sources)

@@ -2,11 +2,11 @@
 -- none.
 use Rattle.std.specs.Prelude.{ℕ, zero, suc, Bool, true, false, ◌||◌, List, [], ◌∷◌, ◌++◌, flat_map, map, Option, Some, None, Result, Ok, Err}
 use Rattle.serde_json.specs.Data.{depth}
-use Rattle.ref_draft.specs.Children.{walked}
+use Rattle.ref_draft.specs.Children.{walked_children}
 use Rattle.ref_uri.specs.Targets.{Refusal}
-use Rattle.ref_world.specs.World.{Document}
-use Rattle.ref_world.specs.Places.{Place, root, child_place}
-use Rattle.ref_world.specs.Wants.{reference_at, schema_at}
+use Rattle.ref_definitions.specs.World.{Document}
+use Rattle.ref_definitions.specs.Places.{Place, root, child_place}
+use Rattle.ref_definitions.specs.Wants.{reference_at, schema_at}
 
 -- a base, or the base around it where there is none
 abbrev pub nearest_of : List ℕ → Result (List ℕ) Refusal → List ℕ
@@ -14,12 +14,12 @@ nearest_of outer (Ok base) = base
 nearest_of outer (Err refusal) = outer
 
 -- the base of a place (2020-12 Core, 8.2.1), or the base around it where its identifier means no URI
-abbrev pub nearest : Place → List ℕ
-nearest p = nearest_of p.outer p.base
+abbrev pub nearest_base : Place → List ℕ
+nearest_base p = nearest_of p.outer p.base
 
 -- the children of a place, under that base
 abbrev pub children_near : Place → List Place
-children_near p = map (child_place p.path (nearest p)) (walked p.draft p.value)
+children_near p = map (child_place p.path (nearest_base p)) (walked_children p.draft p.value)
 
 -- n levels below places, each the joined children of the one above
 abbrev pub levels_near : ℕ → List Place → List Place
@@ -38,4 +38,4 @@ is_refused (Some (Err refusal)) = true
 
 -- whether the identifier of a place, its `$ref` or its `$schema` means no URI
 abbrev pub is_faulty : Place → Bool
-is_faulty p = is_refused (Some p.base) || (is_refused (reference_at (nearest p) p.value) || is_refused (schema_at p.value))
+is_faulty p = is_refused (Some p.base) || (is_refused (reference_at (nearest_base p) p.value) || is_refused (schema_at p.value))

@@ -10,8 +10,8 @@ use Rattle.ref_findings.specs.Findings.{Finding, Problem}
 abbrev pub source : Literal → Data → Source
 source uri tree = record { uri = codes uri; tree = Some tree }
 
-abbrev pub unread : Literal → Source
-unread uri = record { uri = codes uri; tree = None }
+abbrev pub unread_source : Literal → Source
+unread_source uri = record { uri = codes uri; tree = None }
 
 -- a finding on the text under a keyword
 abbrev pub finding_on : ℕ → List Part → Literal → Literal → Problem → Finding

@@ -5,9 +5,9 @@ use Rattle.std.specs.List.{list_any}
 use Rattle.serde_json.specs.Data.{Data}
 use Rattle.ref_draft.specs.declared.draft.Draft.{Draft}
 use Rattle.ref_parts.specs.Table.{Entry}
-use Rattle.ref_world.specs.World.{Document, World, document}
-use Rattle.ref_world.specs.Places.{Place}
-use Rattle.ref_world.specs.Resources.{own_uri}
+use Rattle.ref_definitions.specs.World.{Document, World, document}
+use Rattle.ref_definitions.specs.Places.{Place}
+use Rattle.ref_definitions.specs.Resources.{own_uri}
 use Rattle.ref_findings.specs.Places.{places_near, is_faulty}
 
 -- a source: its URI, and its tree, where it is JSON
@@ -39,10 +39,10 @@ world_of draft sources held = flat_map (sound_document draft) (sources ++ held) 
 abbrev pub under_uri : ℕ → List ℕ → Entry ℕ
 under_uri number uri = (uri, [], number)
 
--- the URI of a source that isn't sound, and those that its places bear by their identifiers
+-- the URI of a source that isn't sound, and those that its places have by their identifiers
 abbrev pub unsound_uris : Draft → Source → List (Entry ℕ)
 unsound_uris draft s = if is_sound draft s then [] else map (under_uri 0) (s.uri ∷ flat_map (λ p. option_to_list (own_uri p)) (places_in draft s))
 
 -- those of all sources that aren't
-abbrev pub unsound : Draft → List Source → List Source → List (Entry ℕ)
-unsound draft sources held = flat_map (unsound_uris draft) (sources ++ held)
+abbrev pub unsound_sources : Draft → List Source → List Source → List (Entry ℕ)
+unsound_sources draft sources held = flat_map (unsound_uris draft) (sources ++ held)

@@ -1,8 +1,8 @@
 //! The URIs that the texts of a place mean.
 ghost use Rattle.std.specs.Prelude.{◌≡◌, IfOk, None, option_map};
 ghost use Rattle.ref_uri.specs.Reference.{with_fragment};
-ghost use Rattle.ref_uri.specs.Targets.{against, target};
-ghost use Rattle.ref_world.specs.Places.{base_within};
+ghost use Rattle.ref_uri.specs.Targets.{uri_against, target};
+ghost use Rattle.ref_definitions.specs.Places.{base_within};
 ghost use Rattle.ref_findings.specs.Places.{nearest_of};
 ghost use Rattle.ref_findings.specs.inner.Meanings.{meta_schema_uri, IsMeaning};
 
@@ -17,7 +17,7 @@ pub(crate) type Meaning = Result<Rc<Uri>, UriError>;
 
 // The URI that a text means against a base.
 fn resolved(alloc: Global, base: &Rc<Uri>, text: &str) -> Result<Meaning, AllocError>
-    ensures { IfOk result (IsMeaning (against base.now.value text.now)) }
+    ensures { IfOk result (IsMeaning (uri_against base.now.value text.now)) }
 {
     match resolve_against(alloc, base.borrow(), text) {
         Ok(uri) => Ok(Ok(shared(alloc, uri)?)),

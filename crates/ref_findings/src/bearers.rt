@@ -1,12 +1,12 @@
-//! Which places bear which URIs, and which names of anchors.
+//! Which places have which URIs, and which names of anchors.
 ghost use Rattle.std.specs.Prelude.{◌≡◌, [], ◌∷◌, ◌++◌, map, flat_map, reverse, option_map, IfOk, OnOk};
 ghost use Rattle.std.specs.Option.{option_to_list};
 ghost use Rattle.ref_parts.specs.Table.{entries_of};
-ghost use Rattle.ref_world.specs.Resources.{own_uri};
+ghost use Rattle.ref_definitions.specs.Resources.{own_uri};
 ghost use Rattle.ref_findings.specs.Sources.{under_uri};
 ghost use Rattle.ref_draft.specs.Views.{anchor_name};
 ghost use Rattle.ref_findings.specs.Bearers.{source_uri, uris_of, name_at, names_at, uris_borne, names_borne};
-ghost use Rattle.ref_findings.specs.inner.Seen.{place_of, site_of, seen, unsound_in};
+ghost use Rattle.ref_findings.specs.inner.Seen.{place_of, site_of, seen_survey, unsound_in};
 
 use crate::base::{base_of, nearest_base};
 use crate::site::{Place, Site};
@@ -20,7 +20,7 @@ use std::rc::Rc;
 // The entries of a table: two texts, and the number of a place.
 type Entries = Vec<(String, String, usize)>;
 
-/// The URI that a place bears by its own identifier, where that means one.
+/// The URI that a place has by its own identifier, where that means one.
 pub(crate) fn own_uri(alloc: Global, place: &Place<'_>) -> Result<Option<Rc<Uri>>, AllocError>
     ensures value { IfOk result (λ own. option_map (λ u. u.value) own ≡ own_uri (place_of place.now)) }
 {
@@ -31,7 +31,7 @@ pub(crate) fn own_uri(alloc: Global, place: &Place<'_>) -> Result<Option<Rc<Uri>
     Ok(base.ok())
 }
 
-/// The URI of its source, which the root bears too, where its own is another one.
+/// The URI of its source, which the root has too, where its own is another one.
 pub(crate) fn source_uri<'p>(place: &'p Place<'_>, own: Option<&Rc<Uri>>) -> Option<&'p Rc<Uri>>
     ensures value { option_map (λ u. u.now.value) own.entry ≡ own_uri (place_of place.now) → option_map (λ u. u.now.value) result ≡ source_uri (place_of place.now) }
 {
@@ -75,7 +75,7 @@ fn push_uri(
     }
 }
 
-// Adds the URIs that a place bears.
+// Adds the URIs that a place has.
 fn push_uris(
     alloc: Global,
     entries: &mut Entries,
@@ -107,7 +107,7 @@ fn push_name(
     push(alloc, entries, base.as_str(), name, number)
 }
 
-// Adds the names that a place bears, under its base.
+// Adds the names that a place has, under its base.
 fn push_names(
     alloc: Global,
     entries: &mut Entries,
@@ -138,7 +138,7 @@ fn table_of(alloc: Global, entries: Entries) -> Result<SortedTable<usize>, Alloc
     Ok(table)
 }
 
-/// The table of the URIs that places bear, made from the last to the first: each has the number of the first that bears it.
+/// The table of the URIs that places have, made from the last to the first: each has the number of the first that has it.
 pub(crate) fn uris_of(
     alloc: Global,
     sites: &[Site<'_, '_>],
@@ -152,7 +152,7 @@ pub(crate) fn uris_of(
     table_of(alloc, entries)
 }
 
-/// The table of the names that places bear under their bases, made from the last to the first.
+/// The table of the names that places have under their bases, made from the last to the first.
 pub(crate) fn names_of(
     alloc: Global,
     sites: &[Site<'_, '_>],
@@ -166,7 +166,7 @@ pub(crate) fn names_of(
     table_of(alloc, entries)
 }
 
-// Adds the URIs that places bear by their identifiers.
+// Adds the URIs that places have by their identifiers.
 fn push_own(alloc: Global, entries: &mut Entries, places: &[Place<'_>]) -> Result<(), AllocError>
     ensures { OnOk result (entries_of entries.new.items ≡ entries_of entries.old.items
         ++ map (under_uri 0) (flat_map (λ p. option_to_list (own_uri p)) (map place_of places.now))) }
@@ -178,13 +178,13 @@ fn push_own(alloc: Global, entries: &mut Entries, places: &[Place<'_>]) -> Resul
     Ok(())
 }
 
-// Adds the URI of a source that isn't sound, and those that its places bear.
+// Adds the URI of a source that isn't sound, and those that its places have.
 fn push_unsound(
     alloc: Global,
     entries: &mut Entries,
     survey: &Survey<'_, '_>,
 ) -> Result<(), AllocError>
-    ensures { OnOk result (entries_of entries.new.items ≡ entries_of entries.old.items ++ unsound_in (seen survey.now)) }
+    ensures { OnOk result (entries_of entries.new.items ≡ entries_of entries.old.items ++ unsound_in (seen_survey survey.now)) }
 {
     if survey.is_sound {
         return Ok(());
@@ -199,7 +199,7 @@ fn push_all_unsound(
     entries: &mut Entries,
     surveys: &[Survey<'_, '_>],
 ) -> Result<(), AllocError>
-    ensures { OnOk result (entries_of entries.new.items ≡ entries_of entries.old.items ++ flat_map unsound_in (map seen surveys.now)) }
+    ensures { OnOk result (entries_of entries.new.items ≡ entries_of entries.old.items ++ flat_map unsound_in (map seen_survey surveys.now)) }
 {
     for survey in surveys {
         push_unsound(alloc, entries, survey)?;
@@ -207,13 +207,13 @@ fn push_all_unsound(
     Ok(())
 }
 
-/// The table of the URIs of sources that aren't sound, and of those that their places bear.
+/// The table of the URIs of sources that aren't sound, and of those that their places have.
 pub(crate) fn unsound_of(
     alloc: Global,
     surveys: &[Survey<'_, '_>],
     others: &[Survey<'_, '_>],
 ) -> Result<SortedTable<usize>, AllocError>
-    ensures value { IfOk result (λ table. table ≡ flat_map unsound_in (map seen surveys.now) ++ flat_map unsound_in (map seen others.now)) }
+    ensures value { IfOk result (λ table. table ≡ flat_map unsound_in (map seen_survey surveys.now) ++ flat_map unsound_in (map seen_survey others.now)) }
 {
     let mut entries = Vec::new(alloc);
     push_all_unsound(alloc, &mut entries, surveys)?;

@@ -2,11 +2,11 @@
 ghost use Rattle.std.specs.Prelude.{◌≡◌, [], ◌∷◌, codes};
 ghost use Rattle.ref_parts.specs.Path.{Key, Index};
 ghost use Rattle.ref_draft.specs.declared.draft.Draft.TheVariants.{Draft7, Draft202012};
-ghost use Rattle.ref_uri.specs.Targets.{unparsed};
-ghost use Rattle.ref_world.specs.Fault.{PointerToNowhere, NoSuchAnchor};
-ghost use Rattle.ref_world.specs.Rows.{yes, text, empty, one, two, list, pair};
+ghost use Rattle.ref_uri.specs.Targets.{parse_refusal};
+ghost use Rattle.ref_definitions.specs.Fault.{PointerToNowhere, NoSuchAnchor};
+ghost use Rattle.ref_definitions.specs.Rows.{yes, text, empty, one, two, list, pair};
 ghost use Rattle.ref_findings.specs.Findings.{findings, references, NotJson, InvalidUri, MissingDocument, LeadsNowhere, Unchecked, UnknownDialect, DuplicateIdentifier, DuplicateAnchor};
-ghost use Rattle.ref_findings.specs.Rows.{source, unread, finding_on, finding_whole};
+ghost use Rattle.ref_findings.specs.Rows.{source, unread_source, finding_on, finding_whole};
 
 /// What is wrong with references.
 pub fn references()
@@ -14,25 +14,25 @@ pub fn references()
     ensures anchor { findings Draft7 (source "http://a/r" (one "not" (one "$ref" (text "#n"))) ∷ []) [] ≡ finding_on 0 (Key (codes "not") ∷ []) "$ref" "#n" (LeadsNowhere (codes "http://a/r") (NoSuchAnchor (codes "n"))) ∷ [] }
     ensures missing { findings Draft202012 (source "http://a/r" (one "$ref" (text "s#/x")) ∷ []) [] ≡ finding_on 0 [] "$ref" "s#/x" (MissingDocument (codes "http://a/s")) ∷ [] }
     ensures held { findings Draft202012 (source "http://a/r" (one "$ref" (text "s")) ∷ []) (source "http://a/s" empty ∷ []) ≡ [] }
-    ensures no_uri { findings Draft202012 (source "http://a/r" (one "$ref" (text "a b")) ∷ []) [] ≡ finding_on 0 [] "$ref" "a b" (InvalidUri (unparsed (codes "a b"))) ∷ [] }
+    ensures no_uri { findings Draft202012 (source "http://a/r" (one "$ref" (text "a b")) ∷ []) [] ≡ finding_on 0 [] "$ref" "a b" (InvalidUri (parse_refusal (codes "a b"))) ∷ [] }
     ensures meta_schema { findings Draft202012 (source "http://a/r" (one "$ref" (text "http://json-schema.org/draft-07/schema#")) ∷ []) [] ≡ [] }
     ensures fragment_of_a_meta_schema { findings Draft202012 (source "http://a/r" (one "$ref" (text "http://json-schema.org/draft-07/schema#/x")) ∷ []) [] ≡ finding_on 0 [] "$ref" "http://json-schema.org/draft-07/schema#/x" (Unchecked (codes "http://json-schema.org/draft-07/schema")) ∷ [] }
 {}
 
 /// What counts as a reference: a text under `$ref` where a schema stands.
 pub fn counts()
-    ensures of_schemas { references Draft202012 (source "http://a/r" (two "$ref" (text "#") "not" (one "$ref" (text "#"))) ∷ unread "http://a/s" ∷ []) ≡ 2 }
+    ensures of_schemas { references Draft202012 (source "http://a/r" (two "$ref" (text "#") "not" (one "$ref" (text "#"))) ∷ unread_source "http://a/s" ∷ []) ≡ 2 }
     ensures of_values { references Draft202012 (source "http://a/r" (one "const" (one "$ref" (text "#"))) ∷ []) ≡ 0 }
     ensures of_no_texts { references Draft202012 (source "http://a/r" (one "$ref" empty) ∷ []) ≡ 0 }
 {}
 
 /// What hides nothing: sources that are no JSON or have a fault.
 pub fn sources_that_are_not_sound()
-    ensures no_json { findings Draft202012 (source "http://a/r" (one "$ref" (text "s#/x")) ∷ unread "http://a/s" ∷ []) [] ≡ finding_whole 1 NotJson ∷ [] }
+    ensures no_json { findings Draft202012 (source "http://a/r" (one "$ref" (text "s#/x")) ∷ unread_source "http://a/s" ∷ []) [] ≡ finding_whole 1 NotJson ∷ [] }
     ensures faulty { findings Draft202012 (source "http://a/r" (one "$ref" (text "s#/x")) ∷ source "http://a/s" (one "allOf" (pair (one "$ref" (text "a b")) (one "$ref" (text "t")))) ∷ []) []
-        ≡ finding_on 1 (Key (codes "allOf") ∷ Index 0 ∷ []) "$ref" "a b" (InvalidUri (unparsed (codes "a b"))) ∷ finding_on 1 (Key (codes "allOf") ∷ Index 1 ∷ []) "$ref" "t" (MissingDocument (codes "http://a/t")) ∷ [] }
+        ≡ finding_on 1 (Key (codes "allOf") ∷ Index 0 ∷ []) "$ref" "a b" (InvalidUri (parse_refusal (codes "a b"))) ∷ finding_on 1 (Key (codes "allOf") ∷ Index 1 ∷ []) "$ref" "t" (MissingDocument (codes "http://a/t")) ∷ [] }
     ensures below_a_faulty_identifier { findings Draft202012 (source "http://a/r" (two "$id" (text "a b") "not" (one "$ref" (text "t"))) ∷ []) []
-        ≡ finding_on 0 [] "$id" "a b" (InvalidUri (unparsed (codes "a b"))) ∷ finding_on 0 (Key (codes "not") ∷ []) "$ref" "t" (MissingDocument (codes "http://a/t")) ∷ [] }
+        ≡ finding_on 0 [] "$id" "a b" (InvalidUri (parse_refusal (codes "a b"))) ∷ finding_on 0 (Key (codes "not") ∷ []) "$ref" "t" (MissingDocument (codes "http://a/t")) ∷ [] }
 {}
 
 /// Names of meta-schemas.
@@ -42,7 +42,7 @@ pub fn meta_schemas()
     ensures known { findings Draft202012 (source "http://a/r" (one "$schema" (text "http://json-schema.org/draft-07/schema#")) ∷ []) [] ≡ [] }
 {}
 
-/// URIs and names that two places bear.
+/// URIs and names that two places have.
 pub fn duplicates()
     ensures identifiers { findings Draft202012 (source "http://a/r" (one "allOf" (pair (one "$id" (text "k")) (one "$id" (text "k")))) ∷ []) []
         ≡ finding_on 0 (Key (codes "allOf") ∷ Index 1 ∷ []) "$id" "k" (DuplicateIdentifier (codes "http://a/k") 0 (Key (codes "allOf") ∷ Index 0 ∷ [])) ∷ [] }

@@ -2,8 +2,8 @@
 ghost use Rattle.std.specs.Prelude.{◌≡◌, map, Some, IfOk, option_map};
 ghost use Rattle.std.specs.List.{list_any};
 ghost use Rattle.serde_json.specs.View.{view};
-ghost use Rattle.ref_world.specs.Places.{base_within};
-ghost use Rattle.ref_world.specs.Wants.{reference_at, schema_at};
+ghost use Rattle.ref_definitions.specs.Places.{base_within};
+ghost use Rattle.ref_definitions.specs.Wants.{reference_at, schema_at};
 ghost use Rattle.ref_findings.specs.Places.{is_refused, is_faulty};
 ghost use Rattle.ref_findings.specs.inner.Seen.{place_of};
 

@@ -63,23 +63,23 @@ pub enum Problem<'v> {
         /// The URI of the meta-schema.
         uri: Rc<Uri>,
     },
-    /// An earlier place bears the URI of this one.
+    /// An earlier place has the URI of this one.
     DuplicateIdentifier {
         /// The URI.
         uri: Rc<Uri>,
-        /// The first place that bears it.
+        /// The first place that has it.
         first: Bearer<'v>,
     },
-    /// An earlier place under the same base URI bears the anchor's name.
+    /// An earlier place under the same base URI has the anchor's name.
     DuplicateAnchor {
         /// The base URI.
         uri: Rc<Uri>,
-        /// The first place that bears the name.
+        /// The first place that has the name.
         first: Bearer<'v>,
     },
 }
 
-/// A place that bears a URI or the name of an anchor.
+/// A place that has a URI or the name of an anchor.
 #[derive(Debug, Drop)]
 pub struct Bearer<'v> {
     /// The number of its source, counted from 0.

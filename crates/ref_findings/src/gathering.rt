@@ -29,7 +29,7 @@ pub struct Held {
     pub value: Value,
 }
 
-// What documents want, and which URIs were met: those that documents and their places bear, and those that were asked for.
+// What documents want, and which URIs were met: those that documents and their places have, and those that were asked for.
 #[derive(Drop)]
 struct Wants {
     wanted: Vec<Rc<Uri>>,
@@ -58,7 +58,7 @@ impl Wants {
         }
     }
 
-    // Adds what a place bears and wants.
+    // Adds what a place has and wants.
     fn add(&mut self, alloc: Global, place: &Place<'_>) -> Result<(), AllocError> {
         if let Some(own) = own_uri(alloc, place)? {
             self.meet(alloc, own.as_str())?;
@@ -67,7 +67,7 @@ impl Wants {
         self.want(dialect(alloc, place)?)
     }
 
-    // Adds what the places of a document bear and want, and its URI.
+    // Adds what the places of a document have and want, and its URI.
     fn add_document(
         &mut self,
         alloc: Global,
@@ -157,13 +157,13 @@ fn retrieve_next<R: Retrieve>(
     Ok(None)
 }
 
-// Adds what a document that was retrieved bears and wants.
+// Adds what a document that was retrieved has and wants.
 fn add_held(alloc: Global, draft: Draft, wants: &mut Wants, held: &Held) -> Result<(), AllocError> {
     let places = places_of(alloc, &held.uri, &held.value, draft.detect(&held.value))?;
     wants.add_document(alloc, held.uri.as_str(), places.as_slice())
 }
 
-// Adds what the places of sources bear and want.
+// Adds what the places of sources have and want.
 fn wants_of(alloc: Global, draft: Draft, sources: &[Source<'_>]) -> Result<Wants, AllocError> {
     let surveys = surveys_of(alloc, draft, sources)?;
     let mut wants = Wants {
@@ -178,11 +178,11 @@ fn wants_of(alloc: Global, draft: Draft, sources: &[Source<'_>]) -> Result<Wants
 }
 
 /// The documents that sources want, and that those want in turn, as far as a retriever gives them: for each URI that a `$ref`
-/// points into or an unknown `$schema` names and that no document or place bears, the retriever is asked once, and what it gives is
+/// points into or an unknown `$schema` names and that no document or place has, the retriever is asked once, and what it gives is
 /// read before the next. At most `limit` documents are retrieved. A document that the retriever refuses is left out.
 ///
 /// Fails only if out of memory, here or in the retriever. Each place is visited once, with a look-up in a hashed map for each URI
-/// that it bears or wants.
+/// that it has or wants.
 pub fn gather<R: Retrieve>(
     alloc: Global,
     draft: Draft,

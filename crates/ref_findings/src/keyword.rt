@@ -48,7 +48,7 @@ impl Keyword {
         }
     }
 
-    /// The keyword that an anchor of a draft stands under.
+    /// The keyword that an anchor of a draft is under.
     pub fn of_anchor(draft: Draft, anchor: &Anchor<'_>) -> Keyword
         ensures value { keyword_text result ≡ anchor_keyword draft (anchor_name anchor.now).1 }
     {

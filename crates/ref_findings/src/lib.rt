@@ -1,5 +1,5 @@
 //! What is wrong with the references of JSON documents, for linters: identifiers, references and names of meta-schemas that mean
-//! no URI, documents that aren't there, unresolvable pointers and anchors, and URIs and names that two places bear. No
+//! no URI, documents that aren't there, unresolvable pointers and anchors, and URIs and names that two places have. No
 //! finding hides another.
 #![tactic(auto)]
 

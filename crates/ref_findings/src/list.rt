@@ -3,9 +3,9 @@ ghost use Rattle.std.specs.Prelude.{◌≡◌, List, [], ◌∷◌, ◌++◌, So
 ghost use Rattle.std.specs.List.{AllZip};
 ghost use Rattle.ref_draft.specs.declared.anchor.Anchor.{Anchor};
 ghost use Rattle.ref_draft.specs.Views.{anchor_name};
-ghost use Rattle.ref_findings.specs.Places.{nearest};
+ghost use Rattle.ref_findings.specs.Places.{nearest_base};
 ghost use Rattle.ref_findings.specs.Findings as spec;
-ghost use Rattle.ref_findings.specs.Findings.{finding_at, anchor_finding, source_findings, identifier_findings, reference_findings, schema_findings, anchor_findings, findings_at, place_findings, no_json, not_json, unread, has_reference, references, findings};
+ghost use Rattle.ref_findings.specs.Findings.{finding_at, anchor_finding, source_findings, identifier_findings, reference_findings, schema_findings, anchor_findings, findings_at, place_findings, no_json, not_json, unread_sources, has_reference, references, findings};
 ghost use Rattle.ref_findings.specs.Entries.{source_of, IsProblemOf, IsFindingOf};
 ghost use Rattle.ref_findings.specs.inner.Keywords.{keyword_text};
 ghost use Rattle.ref_findings.specs.inner.Meanings.{IsMaybe};
@@ -145,7 +145,7 @@ fn add_anchor<'v>(
     base: &Rc<Uri>,
     anchor: Anchor<'v>,
 ) -> Result<(), AllocError>
-    ensures { (fs : List spec.Finding) → base.now.value ≡ nearest (site_of site.now).1 → AllZip IsFindingOf list.old.items fs
+    ensures { (fs : List spec.Finding) → base.now.value ≡ nearest_base (site_of site.now).1 → AllZip IsFindingOf list.old.items fs
         → OnOk result (AllZip IsFindingOf list.new.items (fs ++ anchor_finding (known_in known.now) number (site_of site.now) (anchor_name anchor.entry))) }
 {
     let problem = known.of_name(alloc, number, base, anchor.name())?;
@@ -223,7 +223,7 @@ fn add_source<'v>(
 
 // Which sources are no JSON.
 fn unread<'v>(alloc: Global, sources: &[Source<'v>]) -> Result<Vec<Finding<'v>>, AllocError>
-    ensures { IfOk result (λ list. AllZip IsFindingOf list.items (unread (map source_of sources.now))) }
+    ensures { IfOk result (λ list. AllZip IsFindingOf list.items (unread_sources (map source_of sources.now))) }
 {
     let mut list = Vec::new(alloc);
     for (number, source) in sources.iter().enumerate() {
@@ -254,7 +254,7 @@ fn listed<'v>(
     known: &Known<'_, 'v>,
     sites: &[Site<'_, 'v>],
 ) -> Result<Vec<Finding<'v>>, AllocError>
-    ensures { IfOk result (λ list. AllZip IsFindingOf list.items (unread (map source_of sources.now) ++ place_findings (known_in known.now) (map site_of sites.now))) }
+    ensures { IfOk result (λ list. AllZip IsFindingOf list.items (unread_sources (map source_of sources.now) ++ place_findings (known_in known.now) (map site_of sites.now))) }
 {
     let mut list = unread(alloc, sources)?;
     add_sites(alloc, &mut list, known, sites)?;
@@ -282,7 +282,7 @@ fn reported<'k, 'v>(
     unsound: &'k SortedTable<usize>,
     sites: &'k [Site<'k, 'v>],
 ) -> Result<Report<'v>, AllocError>
-    ensures findings { IfOk result (λ report. AllZip IsFindingOf report.findings.items (unread (map source_of sources.now)
+    ensures findings { IfOk result (λ report. AllZip IsFindingOf report.findings.items (unread_sources (map source_of sources.now)
         ++ place_findings (known_among index.now unsound.now (map site_of sites.now)) (map site_of sites.now))) }
     ensures references { IfOk result (λ report. report.references ≡ length (filter has_reference (map site_of sites.now))) }
 {
@@ -309,7 +309,7 @@ fn reported<'k, 'v>(
 ///
 /// At a place these come in order: that the URI of its source is that of an earlier place, where it is the root; that its identifier
 /// means no URI, or that of an earlier place; that its `$ref` means no URI or is unresolvable; that its `$schema` means no URI, or no
-/// dialect that is known; and that each of its anchors bears the name of an earlier place with the same base.
+/// dialect that is known; and that each of its anchors has the name of an earlier place with the same base.
 ///
 /// A document that is no JSON or has a text that means no URI is no part of what references are looked up in, and a reference to a
 /// URI of it is not listed. Below a place whose identifier means no URI the base stays that of the place around it.

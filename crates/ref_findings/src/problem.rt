@@ -2,15 +2,15 @@
 ghost use Rattle.std.specs.Prelude.{◌≡◌, ◌==◌, ◌||◌, [], IfOk, map, not, bytes_eq, option_map, option_copied, Some, Ok};
 ghost use Rattle.std.specs.List.{list_any};
 ghost use Rattle.ref_draft.specs.Keywords.{is_unknown};
-ghost use Rattle.ref_draft.specs.Schema.{trimmed, from_schema_uri};
+ghost use Rattle.ref_draft.specs.Schema.{trimmed_text, from_schema_uri};
 ghost use Rattle.ref_uri.specs.Targets.{target};
 ghost use Rattle.ref_retrieve.specs.Errors.{SaysFault};
-ghost use Rattle.ref_world.specs.Places.{base_within};
-ghost use Rattle.ref_world.specs.Fault.{Fault};
-ghost use Rattle.ref_world.specs.Lookup.{lookup};
+ghost use Rattle.ref_definitions.specs.Places.{base_within};
+ghost use Rattle.ref_definitions.specs.Fault.{Fault};
+ghost use Rattle.ref_definitions.specs.Lookup.{lookup};
 ghost use Rattle.ref_resolver.specs.Layered.{world_in};
 ghost use Rattle.ref_findings.specs.Bearers.{first_under, other_bearer};
-ghost use Rattle.ref_findings.specs.Findings.{is_among, is_meta_schema, missing, by_fault, by_target, is_dialect, by_dialect, reference_problem, schema_problem, uri_problem, by_base, name_problem};
+ghost use Rattle.ref_findings.specs.Findings.{is_among, is_meta_schema, missing_problem, by_fault, by_target, is_dialect, by_dialect, reference_problem, schema_problem, uri_problem, by_base, name_problem};
 ghost use Rattle.ref_findings.specs.inner.Meanings.{IsMaybe, IsWhy, IsBearer, is_unretrievable};
 ghost use Rattle.ref_findings.specs.inner.Meanings as meanings;
 ghost use Rattle.ref_findings.specs.inner.Seen.{known_in};
@@ -29,7 +29,7 @@ use std::alloc::{AllocError, Global};
 use std::rc::Rc;
 
 /// What is known of all sources: the places of those that are read for findings, the documents that are sound, the URIs of the
-/// others, and which place is the first to bear each URI and each name.
+/// others, and which place is the first to have each URI and each name.
 #[derive(Drop)]
 pub(crate) struct Known<'k, 'v> {
     pub sites: &'k [Site<'k, 'v>],
@@ -48,7 +48,7 @@ fn is_of_draft(uri: &str) -> bool
 
 // Whether a URI is one of these, the `#` characters at their ends dropped.
 fn is_one_of(uris: &[&str; 19], uri: &str) -> bool
-    ensures { result ≡ list_any (λ known. bytes_eq (trimmed known) uri.now) (map (λ u. u.now) uris.now) }
+    ensures { result ≡ list_any (λ known. bytes_eq (trimmed_text known) uri.now) (map (λ u. u.now) uris.now) }
 {
     let mut any = false;
     for known in uris {
@@ -109,7 +109,7 @@ fn fault_at(
 
 // A reference to a URI under which nothing is.
 fn missing<'v>(uri: Rc<Uri>, reference: &str) -> Option<Problem<'v>>
-    ensures { IsMaybe (missing uri.value reference.now) result }
+    ensures { IsMaybe (missing_problem uri.value reference.now) result }
 {
     if !is_meta_schema(uri.as_str()) {
         return Some(Problem::MissingDocument { uri });
@@ -238,7 +238,7 @@ impl<'k, 'v> Known<'k, 'v> {
         }))
     }
 
-    /// What is wrong with a URI that the place with a number bears: another place is the first to bear it.
+    /// What is wrong with a URI that the place with a number has: another place is the first to have it.
     pub fn of_uri(
         &self,
         alloc: Global,
@@ -271,7 +271,7 @@ impl<'k, 'v> Known<'k, 'v> {
         }
     }
 
-    /// What is wrong with the name of an anchor that the place with a number bears under a base.
+    /// What is wrong with the name of an anchor that the place with a number has under a base.
     pub fn of_name(
         &self,
         alloc: Global,

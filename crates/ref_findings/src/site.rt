@@ -2,7 +2,7 @@
 ghost use Rattle.std.specs.Prelude.{◌≡◌, ◌++◌, ◌∷◌, [], map, option_map, IfOk, MatchOption};
 ghost use Rattle.ref_parts.specs.Segment.{part_of};
 ghost use Rattle.ref_parts.specs.declared.path.JsonPointerSegment.{JsonPointerSegment};
-ghost use Rattle.ref_world.specs.Places.{identifier_of};
+ghost use Rattle.ref_definitions.specs.Places.{identifier_of};
 ghost use Rattle.ref_findings.specs.Bearers.{is_root};
 ghost use Rattle.ref_findings.specs.inner.Seen.{place_of};
 
@@ -45,7 +45,7 @@ impl<'v> Place<'v> {
     }
 }
 
-// Adds a copy of the last segment of the path, and answers the path before it, where there is one.
+// Adds a copy of the last segment of the path, and returns the path before it, where there is one.
 fn push_last<'n, 'v>(
     segments: &mut Vec<JsonPointerSegment<'v>>,
     path: &'n JsonPointerNode<'v>,

@@ -2,7 +2,7 @@
 use ref_uri::Uri;
 use serde_json::Value;
 
-/// A document that was read: the URI that it stands under, and its value, or that it is no JSON.
+/// A document that was read: the URI that it is under, and its value, or that it is no JSON.
 ///
 /// The URI is to be in normal form, as [`from_str`](ref_uri::uri::from_str) gives it, and without a fragment: it is what references
 /// are compared with.

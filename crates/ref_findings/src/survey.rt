@@ -2,11 +2,11 @@
 ghost use Rattle.std.specs.Prelude.{◌≡◌, [], ◌∷◌, ◌++◌, map, flat_map, IfOk, OnOk};
 ghost use Rattle.std.specs.List.{enumerate_from};
 ghost use Rattle.serde_json.specs.View.{view};
-ghost use Rattle.ref_world.specs.World.{document};
-ghost use Rattle.ref_world.specs.Wants.{faults};
-ghost use Rattle.ref_findings.specs.Bearers.{numbered};
+ghost use Rattle.ref_definitions.specs.World.{document};
+ghost use Rattle.ref_definitions.specs.Wants.{faults};
+ghost use Rattle.ref_findings.specs.Bearers.{numbered_sites};
 ghost use Rattle.ref_findings.specs.Entries.{source_of};
-ghost use Rattle.ref_findings.specs.inner.Seen.{place_of, site_of, seen, survey_in, sound_in, AreSurveys};
+ghost use Rattle.ref_findings.specs.inner.Seen.{place_of, site_of, seen_survey, survey_in, sound_in, AreSurveys};
 
 use crate::fault::is_any_faulty;
 use crate::site::{Place, Site};
@@ -33,7 +33,7 @@ fn survey_of<'s, 'v>(
     draft: Draft,
     source: &'s Source<'v>,
 ) -> Result<Survey<'s, 'v>, AllocError>
-    ensures { IfOk result (λ s. seen s ≡ survey_in draft (source_of source.now)) }
+    ensures { IfOk result (λ s. seen_survey s ≡ survey_in draft (source_of source.now)) }
 {
     let Some(value) = source.value else {
         return Ok(Survey {
@@ -57,7 +57,7 @@ pub(crate) fn surveys_of<'s, 'v>(
     draft: Draft,
     sources: &'s [Source<'v>],
 ) -> Result<Vec<Survey<'s, 'v>>, AllocError>
-    ensures value { IfOk result (λ surveys. map seen surveys.items ≡ map (survey_in draft) (map source_of sources.now)) }
+    ensures value { IfOk result (λ surveys. map seen_survey surveys.items ≡ map (survey_in draft) (map source_of sources.now)) }
 {
     let mut surveys = Vec::with_capacity(alloc, sources.len())?;
     for source in sources {
@@ -67,7 +67,7 @@ pub(crate) fn surveys_of<'s, 'v>(
     Ok(surveys)
 }
 
-// The documents with one more behind them, which has no fault.
+// The documents with one more after them, which has no fault.
 fn with_document<'v>(
     alloc: Global,
     draft: Draft,
@@ -91,7 +91,7 @@ fn with_document<'v>(
     }
 }
 
-// The documents with a source behind them, where it is sound.
+// The documents with a source after them, where it is sound.
 fn with_source<'v>(
     alloc: Global,
     draft: Draft,
@@ -99,8 +99,8 @@ fn with_source<'v>(
     survey: &Survey<'_, 'v>,
 ) -> Result<Walked<'v>, AllocError>
     requires faultless { faults walked ≡ [] }
-    requires survey { seen survey.now ≡ survey_in draft (source_of survey.now.source.now) }
-    ensures value { IfOk result (λ more. more ≡ walked.entry ++ sound_in draft (seen survey.now)) }
+    requires survey { seen_survey survey.now ≡ survey_in draft (source_of survey.now.source.now) }
+    ensures value { IfOk result (λ more. more ≡ walked.entry ++ sound_in draft (seen_survey survey.now)) }
     ensures faultless { IfOk result (λ more. faults more ≡ []) }
 {
     if !survey.is_sound {
@@ -112,7 +112,7 @@ fn with_source<'v>(
     }
 }
 
-// The documents with the sources behind them that are sound.
+// The documents with the sources after them that are sound.
 fn with_sources<'v>(
     alloc: Global,
     draft: Draft,
@@ -120,8 +120,8 @@ fn with_sources<'v>(
     surveys: &[Survey<'_, 'v>],
 ) -> Result<Walked<'v>, AllocError>
     requires faultless { faults walked ≡ [] }
-    requires surveys { AreSurveys draft (map seen surveys.now) }
-    ensures value { IfOk result (λ more. more ≡ walked.entry ++ flat_map (sound_in draft) (map seen surveys.now)) }
+    requires surveys { AreSurveys draft (map seen_survey surveys.now) }
+    ensures value { IfOk result (λ more. more ≡ walked.entry ++ flat_map (sound_in draft) (map seen_survey surveys.now)) }
     ensures faultless { IfOk result (λ more. faults more ≡ []) }
 {
     let mut walked = walked;
@@ -131,29 +131,29 @@ fn with_sources<'v>(
     Ok(walked)
 }
 
-/// The index of the sources that are sound, and of such others behind them. No value is copied.
+/// The index of the sources that are sound, and of such others after them. No value is copied.
 pub(crate) fn index_of<'v>(
     alloc: Global,
     draft: Draft,
     surveys: &[Survey<'_, 'v>],
     others: &[Survey<'_, 'v>],
 ) -> Result<Index<'v>, AllocError>
-    requires surveys { AreSurveys draft (map seen surveys.now) }
-    requires others { AreSurveys draft (map seen others.now) }
-    ensures value { IfOk result (λ index. index ≡ flat_map (sound_in draft) (map seen surveys.now) ++ flat_map (sound_in draft) (map seen others.now)) }
+    requires surveys { AreSurveys draft (map seen_survey surveys.now) }
+    requires others { AreSurveys draft (map seen_survey others.now) }
+    ensures value { IfOk result (λ index. index ≡ flat_map (sound_in draft) (map seen_survey surveys.now) ++ flat_map (sound_in draft) (map seen_survey others.now)) }
 {
     let walked = with_sources(alloc, draft, Walked::new(alloc), surveys)?;
     let walked = with_sources(alloc, draft, walked, others)?;
     walked.into_index(alloc)
 }
 
-// Adds places behind others, with the number of their source.
+// Adds places after others, with the number of their source.
 fn push_sites<'p, 'v>(
     sites: &mut Vec<Site<'p, 'v>>,
     source: usize,
     places: &'p [Place<'v>],
 ) -> Result<(), AllocError>
-    ensures { OnOk result (map site_of sites.new.items ≡ map site_of sites.old.items ++ numbered (source, map place_of places.now)) }
+    ensures { OnOk result (map site_of sites.new.items ≡ map site_of sites.old.items ++ numbered_sites (source, map place_of places.now)) }
 {
     for place in places {
         sites.push(Site { source, place })?;
@@ -166,7 +166,7 @@ pub(crate) fn sites_of<'p, 'v>(
     alloc: Global,
     surveys: &'p [Survey<'_, 'v>],
 ) -> Result<Vec<Site<'p, 'v>>, AllocError>
-    ensures value { IfOk result (λ sites. map site_of sites.items ≡ flat_map numbered (enumerate_from 0 (map (λ s. (seen s).places) surveys.now))) }
+    ensures value { IfOk result (λ sites. map site_of sites.items ≡ flat_map numbered_sites (enumerate_from 0 (map (λ s. (seen_survey s).places) surveys.now))) }
 {
     let mut sites = Vec::new(alloc);
     for (number, survey) in surveys.iter().enumerate() {

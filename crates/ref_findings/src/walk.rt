@@ -2,9 +2,9 @@
 ghost use Rattle.std.specs.Prelude.{◌≡◌, ◌<◌, List, [], ◌∷◌, ◌++◌, map, length, slice_get, Some, IfOk, OnOk};
 ghost use Rattle.serde_json.specs.View.{view};
 ghost use Rattle.ref_parts.specs.Path.{Key};
-ghost use Rattle.ref_draft.specs.Children.{walked};
+ghost use Rattle.ref_draft.specs.Children.{walked_children};
 ghost use Rattle.ref_draft.specs.Views.{segment_parts, walked_child};
-ghost use Rattle.ref_world.specs.Places.{child_place, root};
+ghost use Rattle.ref_definitions.specs.Places.{child_place, root};
 ghost use Rattle.ref_findings.specs.Places.{children_near, places_near};
 ghost use Rattle.ref_findings.specs.declared.site.Place.{Place};
 ghost use Rattle.ref_findings.specs.inner.Seen.{place_of};
@@ -35,7 +35,7 @@ fn path_below<'v>(
     }
 }
 
-// Adds a place behind the others.
+// Adds a place after the others.
 fn push<'v>(places: &mut Vec<Place<'v>>, place: Place<'v>) -> Result<(), AllocError>
     ensures { OnOk result (places.new.items ≡ places.old.items ++ place.entry ∷ []) }
 {
@@ -43,7 +43,7 @@ fn push<'v>(places: &mut Vec<Place<'v>>, place: Place<'v>) -> Result<(), AllocEr
     Ok(())
 }
 
-// Adds a child of a place behind the others.
+// Adds a child of a place after the others.
 fn push_child<'v>(
     alloc: Global,
     places: &mut Vec<Place<'v>>,
@@ -72,7 +72,7 @@ fn push_child<'v>(
     )
 }
 
-// Adds the children of a value behind the others.
+// Adds the children of a value after the others.
 fn push_children<'v>(
     alloc: Global,
     places: &mut Vec<Place<'v>>,
@@ -81,7 +81,7 @@ fn push_children<'v>(
     draft: Draft,
     base: &Rc<Uri>,
 ) -> Result<(), AllocError>
-    ensures { OnOk result ((more : List Place) × (places.new.items ≡ places.old.items ++ more) × (map place_of more ≡ map (child_place path.now base.now.value) (walked draft (view value.now)))) }
+    ensures { OnOk result ((more : List Place) × (places.new.items ≡ places.old.items ++ more) × (map place_of more ≡ map (child_place path.now base.now.value) (walked_children draft (view value.now)))) }
 {
     for child in draft.walk_children(alloc, value)? {
         push_child(alloc, places, path, child, base)?;
@@ -89,7 +89,7 @@ fn push_children<'v>(
     Ok(())
 }
 
-// Adds the children of a place, whose number is given, behind the others.
+// Adds the children of a place, whose number is given, after the others.
 fn push_below<'v>(
     alloc: Global,
     places: &mut Vec<Place<'v>>,

@@ -1,4 +1,4 @@
--- Where a `#` stands in a text.
+-- Where a `#` is in a text.
 use Rattle.std.proofs.Common.{◌≡◌, ◌≢◌, ℕ, zero, suc, ◌+◌, ◌-◌, ◌<◌, Bool, true, false, ◌||◌, not, List, [], ◌∷◌, length, take, drop, get_or, slice_index, Option, Some, None, Ok, MatchOption, Bor, cond, eqb, refl, sym, ap, ◌∙◌, arith, lit<}
 use Rattle.std.specs.List.{list_any, before_last, after_last, suffix_len}
 use Rattle.std.specs.Str.Pattern.{RFindsChar, SplitsAroundMatch}
@@ -7,7 +7,7 @@ use Rattle.std.proofs.lemmas.List.{length-drop, get_or-drop}
 use Rattle.std.proofs.lemmas.List.Sums.{suffix_len_is}
 use Rattle.std.specs.Str.{NoCharPasses}
 use Rattle.std.proofs.lemmas.Str.Pattern.{NoCharPasses-char}
-use Rattle.ref_uri.specs.Targets.{uri_part, fragment_part, against, target}
+use Rattle.ref_uri.specs.Targets.{uri_part, fragment_part, uri_against, target}
 
 abbrev pub is_hash : ℕ → Bool
 is_hash c = eqb c 35
@@ -27,7 +27,7 @@ a_hash (c ∷ text) (suc k) l is = rw (a_hash text k (omega arith) is) (or_true 
     or_true true = refl
     or_true false = refl
 
--- what stands behind the last `#` holds none
+-- what is after the last `#` holds none
 behind : (text : List ℕ) (k : ℕ) → k < length text → get_or text k 0 ≡ 35 → ((i : ℕ) → k < i → i < length text → get_or text i 0 ≢ 35) → suffix_len (λ c. not (is_hash c)) text ≡ length text - (k + 1)
 behind text k lt is none =
     let one : k + 1 - 1 ≡ k = omega arith in
@@ -75,8 +75,8 @@ pub fragment_part-none : (text : List ℕ) → is_hash (slice_index text 0) ≡ 
 fragment_part-none text front none =
     sym (ap (λ b. cond b (drop 1 text) (cond (list_any is_hash text) (after_last is_hash text) [])) front ∙ ap (λ b. cond b (after_last is_hash text) []) none)
 
-pub target-against : (base text : List ℕ) → is_hash (slice_index text 0) ≡ false → target base text ≡ against base (uri_part text)
-target-against base text front = ap (λ b. cond b (Ok base) (against base (uri_part text))) front
+pub target-against : (base text : List ℕ) → is_hash (slice_index text 0) ≡ false → target base text ≡ uri_against base (uri_part text)
+target-against base text front = ap (λ b. cond b (Ok base) (uri_against base (uri_part text))) front
 
 first_false : (a b : Bool) → (a || b) ≡ false → a ≡ false
 first_false true b is = cc

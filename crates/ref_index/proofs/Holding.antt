@@ -3,10 +3,10 @@ use Rattle.std.proofs.Common.{◌≡◌, ℕ, Bool, true, false, ◌||◌, cond,
 use Rattle.std.specs.List.{list_any, AllZip}
 use Rattle.std.proofs.lemmas.List.Folds.{list_any-append}
 use Rattle.ref_draft.specs.Anchors.{Kind, anchors}
-use Rattle.ref_draft.specs.Views.{Tagged, tagged}
-use Rattle.ref_world.specs.Places.{Place}
-use Rattle.ref_world.specs.Anchors.{Named, named_under}
-use Rattle.ref_world.specs.World.{Layer}
+use Rattle.ref_draft.specs.Views.{Tagged, tagged_value}
+use Rattle.ref_definitions.specs.Places.{Place}
+use Rattle.ref_definitions.specs.Anchors.{Named, named_under}
+use Rattle.ref_definitions.specs.World.{Layer}
 use Rattle.ref_index.specs.declared.entry.Entry.{Entry}
 use Rattle.ref_index.specs.Found.{IsNumberOf, name_entry}
 
@@ -35,7 +35,7 @@ pub number_kept : (layer : Layer) (before after : List Entry) (n : ℕ) (p : Pla
 number_kept layer before after n p same is = subst (λ es. IsNumberOf layer es n p) (sym same) is
 
 -- two anchors of a place
-pub two_names : (uri : List ℕ) (p : Place) (ns : List Named) (resource : Tagged) (a b : List ℕ × Kind) → a ∷ b ∷ [] ≡ anchors resource.draft resource.contents → resource ≡ tagged p.draft p.value
+pub two_names : (uri : List ℕ) (p : Place) (ns : List Named) (resource : Tagged) (a b : List ℕ × Kind) → a ∷ b ∷ [] ≡ anchors resource.draft resource.contents → resource ≡ tagged_value p.draft p.value
     → (ns ++ name_entry uri p a ∷ []) ++ name_entry uri p b ∷ [] ≡ ns ++ named_under uri p
 two_names uri p ns resource a b are is =
     append_assoc ns (name_entry uri p a ∷ []) (name_entry uri p b ∷ [])

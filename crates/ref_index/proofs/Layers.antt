@@ -1,22 +1,21 @@
--- A document behind others.
+-- A document after others.
 use Rattle.std.proofs.Common.{◌≡◌, ℕ, zero, suc, List, [], ◌∷◌, ◌++◌, flat_map, length, Some, ⊎_elim, refl, sym, ap, ◌∙◌, subst, append-nil}
 use Rattle.std.specs.Prelude.{slice_get, String}
 use Rattle.std.specs.declared.alloc.Global.{Global}
 use Rattle.std.specs.List.{AllZip, Contains}
 use Rattle.std.proofs.lemmas.List.Elements.{All-contains, All-from_recursion, Contains-push_cases}
 use Rattle.std.proofs.lemmas.Grind.{flat_map-append}
-use Rattle.ref_world.specs.World.{Document, Layer}
-use Rattle.ref_world.specs.Places.{Place, places}
-use Rattle.ref_world.specs.Resources.{resources_in, resources}
-use Rattle.ref_world.specs.Anchors.{Named, names_in, names}
-use Rattle.ref_world.specs.Cached.{Pair, pairs_at, pairs}
-use Rattle.ref_world.specs.Wants.{Want, wants, faults}
+use Rattle.ref_definitions.specs.World.{Document, Layer}
+use Rattle.ref_definitions.specs.Places.{Place, places}
+use Rattle.ref_definitions.specs.Resources.{resources_in, resources}
+use Rattle.ref_definitions.specs.Anchors.{Named, names_in, names}
+use Rattle.ref_definitions.specs.Cached.{Pair, pairs_at, pairs}
+use Rattle.ref_definitions.specs.Wants.{Want, wants, faults}
 use Rattle.ref_index.specs.declared.entry.Entry.{Entry}
-use Rattle.ref_index.specs.declared.entry.Location.{Location}
-use Rattle.ref_index.specs.declared.entry.Location.TheVariants.{Lent, Path}
 use Rattle.ref_index.specs.declared.found.Found.{Found}
+use Rattle.ref_index.specs.declared.path.PathPart.{PathPart}
 use Rattle.ref_index.specs.declared.entry.NamedEntry.{NamedEntry}
-use Rattle.ref_index.specs.Found.{IsLocationOf, IsEntryOf, IsNumberOf, IsResourceOf, IsNameOf, Holds}
+use Rattle.ref_index.specs.Found.{IsPathOf, IsEntryOf, IsNumberOf, IsResourceOf, IsNameOf, Holds}
 use Rattle.ref_index.specs.Visits.{IsWalked, IsFound, ChildrenStandAt, faults_of, wants_of}
 use Rattle.ref_index.proofs.Visiting.{holds_same}
 
@@ -33,13 +32,12 @@ at_length (y ∷ xs) x = at_length xs x
 
 -- ---- what was found stays
 
-location_stays : (layer more : Layer) (l : Location) (p : Place) → IsLocationOf layer l p → IsLocationOf (layer ++ more) l p
-location_stays layer more (Lent value) p is = is
-location_stays layer more (Path number path) p is =
+path_stays : (layer more : Layer) (number : ℕ) (parts : List PathPart) (p : Place) → IsPathOf layer number parts p → IsPathOf (layer ++ more) number parts p
+path_stays layer more number parts p is =
     record { document = is.document; numbered = there_still layer more number is.document is.numbered; path = is.path; value = is.value }
 
 entry_stays : (layer more : Layer) (e : Entry) (p : Place) → IsEntryOf layer e p → IsEntryOf (layer ++ more) e p
-entry_stays layer more e p is = record { location = location_stays layer more e.location p is.location; draft = is.draft; base = is.base }
+entry_stays layer more e p is = record { path = path_stays layer more e.document e.path.items p is.path; lent = is.lent; draft = is.draft; base = is.base }
 
 zip_weaker : {A B : Type 0} (R S : A → B → Type 0) → ((a : A) (b : B) → R a b → S a b) → (xs : List A) (ys : List B) → AllZip R xs ys → AllZip S xs ys
 zip_weaker R S each [] [] all = tt

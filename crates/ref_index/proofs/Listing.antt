@@ -4,9 +4,9 @@ use Rattle.std.specs.Prelude.{slice_get}
 use Rattle.std.specs.List.{Contains}
 use Rattle.std.proofs.lemmas.List.{drop_all, map-append}
 use Rattle.std.proofs.lemmas.List.Elements.{Contains-append_right}
-use Rattle.ref_world.specs.World.{Document}
-use Rattle.ref_world.specs.Places.{root, children_of, places}
-use Rattle.ref_world.specs.Listing.{Listed, listed}
+use Rattle.ref_definitions.specs.World.{Document}
+use Rattle.ref_definitions.specs.Places.{root, children_of, places}
+use Rattle.ref_definitions.specs.Listing.{Listed, listed_place}
 use Rattle.ref_index.specs.declared.queue.Visit.{Visit}
 use Rattle.ref_index.specs.Queue.{place_of, IsQueue, IsListedTo}
 use Rattle.ref_index.proofs.Queues.{at_root, step, at_end, beginning}
@@ -45,7 +45,7 @@ listing_begins d number before queue v one is =
     subst (λ l. IsListedTo d number before before l 0) (sym one) at_first
 
 pub listing_goes_on : (d : Document) (number : ℕ) (before now after : List Listed) (queue grown more : List Visit) (head : ℕ) (v : Visit) → head < length queue → slice_get queue head ≡ Some v
-    → IsListedTo d number before now queue head → after ≡ now ++ listed number (place_of v) ∷ [] → grown ≡ queue ++ more → map place_of more ≡ children_of (place_of v)
+    → IsListedTo d number before now queue head → after ≡ now ++ listed_place number (place_of v) ∷ [] → grown ≡ queue ++ more → map place_of more ≡ children_of (place_of v)
     → IsListedTo d number before after grown (head + 1)
 listing_goes_on d number before now after queue grown more head v within here is one longer children =
     let vs = queue ++ more in
@@ -57,13 +57,13 @@ listing_goes_on d number before now after queue grown more head v within here is
     let result : IsListedTo d number before after vs (head + 1) = record {
       within = omega (arith, length-append queue more);
       order = subst (λ l. IsQueue d l (map place_of (drop (head + 1) vs))) (sym front) (subst (IsQueue d (visited ++ place_of v ∷ [])) rest moved);
-      list = one ∙ ap (λ l. l ++ listed number (place_of v) ∷ []) is.list ∙ append_assoc before (map (listed number) visited) (listed number (place_of v) ∷ [])
-          ∙ ap (λ l. before ++ l) (sym (map-append (listed number) visited (place_of v ∷ []))) ∙ ap (λ l. before ++ map (listed number) l) (sym front);
+      list = one ∙ ap (λ l. l ++ listed_place number (place_of v) ∷ []) is.list ∙ append_assoc before (map (listed_place number) visited) (listed_place number (place_of v) ∷ [])
+          ∙ ap (λ l. before ++ l) (sym (map-append (listed_place number) visited (place_of v ∷ []))) ∙ ap (λ l. before ++ map (listed_place number) l) (sym front);
     } in
     subst (λ l. IsListedTo d number before after l (head + 1)) (sym longer) result
 
 pub listing_ends : (d : Document) (number : ℕ) (before after : List Listed) (queue : List Visit) (head : ℕ) → length queue ≤ head → IsListedTo d number before after queue head
-    → after ≡ before ++ map (listed number) (places d)
+    → after ≡ before ++ map (listed_place number) (places d)
 listing_ends d number before after queue head all is =
-    is.list ∙ ap (λ ps. before ++ map (listed number) ps)
+    is.list ∙ ap (λ ps. before ++ map (listed_place number) ps)
     (sym (at_end d (map place_of (take head queue)) (subst (λ l. IsQueue d (map place_of (take head queue)) (map place_of l)) (drop_all head queue all) is.order)))

@@ -6,14 +6,14 @@ use Rattle.std.proofs.lemmas.Option.{slice_get_past, slice_get_read}
 use Rattle.std.specs.List.{AllZip, Contains, last_or}
 use Rattle.std.proofs.Math.Bool.{and-true}
 use Rattle.std.proofs.lemmas.Slice.Eq.{bytes_eq-Decides}
-use Rattle.ref_uri.specs.Targets.{against}
+use Rattle.ref_uri.specs.Targets.{uri_against}
 use Rattle.ref_parts.specs.Table as table
 use Rattle.ref_parts.specs.Table.{is_under, last_value}
-use Rattle.ref_world.specs.World.{Layer}
-use Rattle.ref_world.specs.Places.{Place}
-use Rattle.ref_world.specs.Resources.{last_under, resources}
-use Rattle.ref_world.specs.Anchors.{Named, last_named}
-use Rattle.ref_world.specs.Cached.{Pair}
+use Rattle.ref_definitions.specs.World.{Layer}
+use Rattle.ref_definitions.specs.Places.{Place}
+use Rattle.ref_definitions.specs.Resources.{last_under, resources}
+use Rattle.ref_definitions.specs.Anchors.{Named, last_named}
+use Rattle.ref_definitions.specs.Cached.{Pair}
 use Rattle.ref_index.specs.declared.entry.Entry.{Entry}
 use Rattle.ref_index.specs.declared.entry.NamedEntry.{NamedEntry}
 use Rattle.ref_index.specs.declared.found.ResolvedUri.{ResolvedUri}
@@ -197,10 +197,10 @@ pair_absent by_uri base text ps o both none =
 
 -- what was found of a pair is the URI that it means, with its number
 pub pair_found : (by_uri : List (table.Entry ℕ)) (base text : List ℕ) (ps : List Pair) (o : Option (table.Entry ResolvedUri)) (v : ResolvedUri) → Both (IsPairIn by_uri) o (last_pair base text ps) → option_map (λ e. e.2) o ≡ Some v
-    → (against base text ≡ Ok v.uri.value) × (v.entry ≡ last_value v.uri.value [] by_uri)
+    → (uri_against base text ≡ Ok v.uri.value) × (v.entry ≡ last_value v.uri.value [] by_uri)
 pair_found by_uri base text ps o v both is =
     let (p, found, e, same, at) = some_found (IsPairIn by_uri) (λ e. e.2) o (last_pair base text ps) v both is in
     let texts = same_texts base text p (last_passes (λ q. bytes_eq q.0 base && bytes_eq q.1 text) ps None (λ x none. cc) p found) in (
-      subst (λ b. against b text ≡ Ok v.uri.value) texts.0 (subst (λ t. against p.0 t ≡ Ok v.uri.value) texts.1 (subst (λ w. against p.0 p.1 ≡ Ok w.uri.value) same at.2)),
+      subst (λ b. uri_against b text ≡ Ok v.uri.value) texts.0 (subst (λ t. uri_against p.0 t ≡ Ok v.uri.value) texts.1 (subst (λ w. uri_against p.0 p.1 ≡ Ok w.uri.value) same at.2)),
       subst (λ w. w.entry ≡ last_value w.uri.value [] by_uri) same at.3,
     )

@@ -2,15 +2,15 @@
 use Rattle.std.proofs.Common.{◌≡◌, ◌∙◌, ℕ, zero, suc, ◌+◌, ◌<◌, List, [], ◌∷◌, ◌++◌, map, take, drop, length, Ok, refl, ap, arith, string_bytes, slice_set, slice_index_or}
 use Rattle.std.specs.Prelude.{String}
 use Rattle.std.specs.declared.alloc.Global.{Global}
-use Rattle.ref_uri.specs.Targets.{against}
+use Rattle.ref_uri.specs.Targets.{uri_against}
 use Rattle.ref_parts.specs.Table as table
 use Rattle.ref_parts.specs.Table.{last_value}
-use Rattle.ref_world.specs.Cached.{Pair}
+use Rattle.ref_definitions.specs.Cached.{Pair}
 use Rattle.ref_index.specs.declared.found.ResolvedUri.{ResolvedUri}
 
 -- a pair is resolved, and its URI has its number
 abbrev pub IsNumberedPair : List (table.Entry ℕ) → String Global × String Global × ResolvedUri → Pair → Type 0
-IsNumberedPair by_uri t p = (string_bytes t.0 ≡ p.0) × (string_bytes t.1 ≡ p.1) × (against p.0 p.1 ≡ Ok t.2.uri.value) × (t.2.entry ≡ last_value t.2.uri.value [] by_uri)
+IsNumberedPair by_uri t p = (string_bytes t.0 ≡ p.0) × (string_bytes t.1 ≡ p.1) × (uri_against p.0 p.1 ≡ Ok t.2.uri.value) × (t.2.entry ≡ last_value t.2.uri.value [] by_uri)
 
 -- ---- one more of a list is changed, where those before it were
 

@@ -4,10 +4,10 @@ use Rattle.std.specs.Prelude.{slice_get}
 use Rattle.std.specs.List.{list_any, last_or, AllByRecursion}
 use Rattle.std.proofs.lemmas.List.{map_more, take-map, drop-append-le, length-map, length-take-le}
 use Rattle.std.specs.Option.{option_map_or}
-use Rattle.ref_world.specs.World.{Layer, World}
-use Rattle.ref_world.specs.Places.{Place}
-use Rattle.ref_world.specs.Resources.{last_under, resources, means}
-use Rattle.ref_world.proofs.Last.{last_there}
+use Rattle.ref_definitions.specs.World.{Layer, World}
+use Rattle.ref_definitions.specs.Places.{Place}
+use Rattle.ref_definitions.specs.Resources.{last_under, resources, meant_place}
+use Rattle.ref_definitions.proofs.Last.{last_there}
 
 any_step : (r : List ℕ × Place) (rs : List (List ℕ × Place)) (test : List ℕ × Place → Bool) (here : Bool) → list_any test rs ≡ is_some (last_or None (filter test rs))
     → (here || list_any test rs) ≡ is_some (last_or None (cond here (r ∷ filter test rs) (filter test rs)))
@@ -22,9 +22,9 @@ one_or : (entry : Option (List ℕ × Place)) (behind : Option Place) → is_som
 one_or None behind = refl
 one_or (Some e) behind = refl
 
--- of the nearest layer, and of those behind it
-pub meaning_or : (layer : Layer) (parents : World) (uri : List ℕ) → is_some (means (layer ∷ parents) uri) ≡ (is_some (last_under uri (resources layer)) || is_some (means parents uri))
-meaning_or layer parents uri = one_or (last_under uri (resources layer)) (means parents uri)
+-- of the nearest layer, and of those after it
+pub meaning_or : (layer : Layer) (parents : World) (uri : List ℕ) → is_some (meant_place (layer ∷ parents) uri) ≡ (is_some (last_under uri (resources layer)) || is_some (meant_place parents uri))
+meaning_or layer parents uri = one_or (last_under uri (resources layer)) (meant_place parents uri)
 
 pub known_is : (uri : List ℕ) (rs : List (List ℕ × Place)) → list_any (λ (r : List ℕ × Place). bytes_eq r.0 uri) rs ≡ is_some (last_under uri rs)
 known_is uri rs = any_last (λ r. bytes_eq r.0 uri) rs

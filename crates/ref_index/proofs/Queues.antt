@@ -1,9 +1,9 @@
 -- A queue of places goes through them level by level.
 use Rattle.std.proofs.Common.{◌≡◌, ℕ, zero, suc, ◌≤◌, List, [], ◌∷◌, ◌++◌, flat_map, refl, sym, ap, ◌∙◌, append_assoc, append-nil, arith}
 use Rattle.serde_json.specs.Data.{depth}
-use Rattle.ref_world.specs.World.{Document}
-use Rattle.ref_world.specs.Places.{Place, root, children_of, levels_below, places}
-use Rattle.ref_world.proofs.Levels.{places_end}
+use Rattle.ref_definitions.specs.World.{Document}
+use Rattle.ref_definitions.specs.Places.{Place, root, children_of, levels_below, places}
+use Rattle.ref_definitions.proofs.Levels.{places_end}
 use Rattle.ref_index.specs.Queue.{left_from, IsQueue}
 
 -- ---- a level that is done gives way to the next

@@ -10,12 +10,12 @@ use Rattle.ref_uri.specs.declared.error.UriFault.TheVariants.{Invalid, Memory}
 use Rattle.ref_retrieve.specs.declared.error.Error.{Error}
 use Rattle.ref_retrieve.specs.declared.error.Error.TheVariants as error
 use Rattle.ref_retrieve.specs.Errors.{of_uri_fault}
-use Rattle.ref_world.specs.World.{Document, Layer, World}
-use Rattle.ref_world.specs.Places.{places}
-use Rattle.ref_world.specs.Fault.{InvalidUri, RetrievalLimit}
-use Rattle.ref_world.specs.Wants.{Want, wants_at, wants, faults_at, faults, is_open, open_wants}
-use Rattle.ref_world.specs.Preparing.{Given, IsRun, begun, retrieved, IsOutcome, faulty, limited, refused, ready, refusal_fault}
-use Rattle.ref_world.proofs.Appending.{met_wants_stay}
+use Rattle.ref_definitions.specs.World.{Document, Layer, World}
+use Rattle.ref_definitions.specs.Places.{places}
+use Rattle.ref_definitions.specs.Fault.{InvalidUri, RetrievalLimit}
+use Rattle.ref_definitions.specs.Wants.{Want, wants_at, wants, faults_at, faults, is_open, open_wants}
+use Rattle.ref_definitions.specs.Preparing.{Given, IsRun, begun, retrieved, IsOutcome, faulty, limited, refused, ready, refusal_fault}
+use Rattle.ref_definitions.proofs.Appending.{met_wants_stay}
 use Rattle.ref_index.specs.Retrieval.{UnlessMemory, IsFaultyOutcome, IsAnswerFor}
 use Rattle.ref_index.specs.Visits.{IsFirstFault}
 use Rattle.ref_index.proofs.Walking.{first_in_front}
@@ -65,7 +65,7 @@ all_closed : (layer : Layer) (d : Document) (parents : World) (ws : List Want) �
 all_closed layer d parents [] met = tt
 all_closed layer d parents (w ∷ ws) met = (met_wants_stay layer (d ∷ []) parents w met.0, all_closed layer d parents ws met.1)
 
--- the wants of a layer stand in front of those of a document behind it
+-- the wants of a layer are before those of a document after it
 wants_more : (layer : Layer) (d : Document) → wants (layer ++ d ∷ []) ≡ wants layer ++ wants (d ∷ [])
 wants_more layer d = flat_map-append (λ e. flat_map (λ p. wants_at p.base p.value) (places e)) layer (d ∷ [])
 

@@ -7,11 +7,11 @@ use Rattle.ref_uri.specs.Targets.{Refusal}
 use Rattle.ref_uri.specs.Errors.{IsFaultOf}
 use Rattle.ref_uri.specs.declared.error.UriFault.{UriFault}
 use Rattle.ref_uri.specs.declared.error.UriFault.TheVariants.{Invalid, Memory}
-use Rattle.ref_world.specs.World.{Layer}
-use Rattle.ref_world.specs.Places.{Place}
-use Rattle.ref_world.specs.Anchors.{Named}
-use Rattle.ref_world.specs.Cached.{Pair, reference_pairs}
-use Rattle.ref_world.specs.Wants.{Want, Reference, MetaSchema, wanted, refusals_of, reference_at, schema_at, wants_at, faults_at}
+use Rattle.ref_definitions.specs.World.{Layer}
+use Rattle.ref_definitions.specs.Places.{Place}
+use Rattle.ref_definitions.specs.Anchors.{Named}
+use Rattle.ref_definitions.specs.Cached.{Pair, reference_pairs}
+use Rattle.ref_definitions.specs.Wants.{Want, Reference, MetaSchema, wants_of_text, refusals_of, reference_at, schema_at, wants_at, faults_at}
 use Rattle.ref_index.specs.declared.found.Found.{Found}
 use Rattle.ref_index.specs.Found.{Holds}
 use Rattle.ref_index.specs.Visits.{IsFirstFault}
@@ -44,9 +44,9 @@ first_of_reference base uri value (Memory error) based is = tt
 -- ---- what a place wants, where its base is known
 
 pub wants_where : (base : Result (List ℕ) Refusal) (uri : List ℕ) (value : Data) (ws : List Want) → base ≡ Ok uri
-    → (ws ++ wanted Reference (reference_at uri value)) ++ wanted MetaSchema (schema_at value) ≡ ws ++ wants_at base value
+    → (ws ++ wants_of_text Reference (reference_at uri value)) ++ wants_of_text MetaSchema (schema_at value) ≡ ws ++ wants_at base value
 wants_where base uri value ws based =
-    append_assoc ws (wanted Reference (reference_at uri value)) (wanted MetaSchema (schema_at value)) ∙ ap (λ b. ws ++ wants_at b value) (sym based)
+    append_assoc ws (wants_of_text Reference (reference_at uri value)) (wants_of_text MetaSchema (schema_at value)) ∙ ap (λ b. ws ++ wants_at b value) (sym based)
 
 -- ---- what is resolved at a place, where its base is known
 

@@ -8,17 +8,17 @@ use Rattle.serde_json.specs.Data.{Data}
 use Rattle.ref_parts.specs.Path.{Part, value_at}
 use Rattle.ref_draft.specs.declared.draft.Draft.{Draft}
 use Rattle.ref_draft.specs.Schema.{identifier}
-use Rattle.ref_draft.specs.Children.{Walked, AllStand, walked}
+use Rattle.ref_draft.specs.Children.{Walked, AllStand, walked_children}
 use Rattle.ref_draft.proofs.Lists.{all_append}
 use Rattle.ref_uri.specs.Targets.{Refusal}
 use Rattle.ref_uri.specs.declared.error.UriFault.{UriFault}
 use Rattle.ref_uri.specs.declared.error.UriFault.TheVariants.{Invalid, Memory}
-use Rattle.ref_world.specs.World.{Document}
-use Rattle.ref_world.specs.Places.{Place, base_within, root, child_place, children_with, children_of, places}
-use Rattle.ref_world.specs.Resources.{resource_of}
-use Rattle.ref_world.proofs.Changes.{value_at-append}
-use Rattle.ref_world.specs.Anchors.{named_under}
-use Rattle.ref_world.specs.Cached.{pairs_at}
+use Rattle.ref_definitions.specs.World.{Document}
+use Rattle.ref_definitions.specs.Places.{Place, base_within, root, child_place, children_with, children_of, places}
+use Rattle.ref_definitions.specs.Resources.{resource_of}
+use Rattle.ref_definitions.proofs.Changes.{value_at-append}
+use Rattle.ref_definitions.specs.Anchors.{named_under}
+use Rattle.ref_definitions.specs.Cached.{pairs_at}
 use Rattle.ref_index.specs.declared.found.Found.{Found}
 use Rattle.ref_index.specs.declared.queue.Visit.{Visit}
 use Rattle.ref_index.specs.Queue.{place_of, value_of, IsQueue}
@@ -46,8 +46,8 @@ children_stand d path base value [] at all = tt
 children_stand d path base value (child ∷ cs) at all =
     (value_at-append d.tree path child.path ∙ along path child.path (value_at d.tree path) value at ∙ all.0, children_stand d path base value cs at all.1)
 
-place_children_stand : (d : Document) (p : Place) (base : Result (List ℕ) Refusal) → value_at d.tree p.path ≡ Some p.value → AllStand p.value (walked p.draft p.value) → AllStandIn d (children_with base p)
-place_children_stand d p (Ok base) at all = children_stand d p.path base p.value (walked p.draft p.value) at all
+place_children_stand : (d : Document) (p : Place) (base : Result (List ℕ) Refusal) → value_at d.tree p.path ≡ Some p.value → AllStand p.value (walked_children p.draft p.value) → AllStandIn d (children_with base p)
+place_children_stand d p (Ok base) at all = children_stand d p.path base p.value (walked_children p.draft p.value) at all
 place_children_stand d p (Err refusal) at all = tt
 
 all_behind : (d : Document) (ps qs : List Place) → AllStandIn d ps → AllStandIn d qs → AllStandIn d (ps ++ qs)
@@ -106,7 +106,7 @@ walked_more d number old new newer visited v queue after at walk visit = record 
 }
 
 grown_stand : (d : Document) (vs more : List Visit) (v : Visit) → value_at d.tree (place_of v).path ≡ Some (place_of v).value → AllStandIn d (map place_of vs)
-    → map place_of more ≡ children_of (place_of v) → AllStand (value_of v.value) (walked v.draft (value_of v.value)) → AllStandIn d (map place_of (vs ++ more))
+    → map place_of more ≡ children_of (place_of v) → AllStand (value_of v.value) (walked_children v.draft (value_of v.value)) → AllStandIn d (map place_of (vs ++ more))
 grown_stand d vs more v at all children stand =
     subst (AllStandIn d) (sym (map-append place_of vs more))
     (all_behind d (map place_of vs) (map place_of more) all (subst (AllStandIn d) (sym children) (place_children_stand d (place_of v) (place_of v).base at stand)))

@@ -8,7 +8,7 @@ use Rattle.std.proofs.Common.{ap, ◌∙◌}
 use Rattle.serde_json.specs.Data.{Num, unsigned, negative, float, Data, null, boolean, number, string, array, object, Items, no_items, item, Members, no_members, member}
 use Rattle.ref_draft.specs.declared.draft.Draft.{Draft}
 use Rattle.ref_draft.specs.declared.draft.Draft.TheVariants.{Draft4, Draft6, Draft7, Draft201909, Draft202012, Unknown}
-use Rattle.ref_world.specs.World.{Document, World}
+use Rattle.ref_definitions.specs.World.{Document, World}
 
 -- a tree is written as marks, from the front
 pub data Mark : Type 0 where
@@ -70,7 +70,7 @@ from_parts-to_parts ends_members = refl
 abbrev marks_code : Coded (List Mark)
 marks_code = coded_list (code_by Parts (coded× coded_ℕ (coded× (coded_list coded_ℕ) (coded× coded_ℤ coded_float))) to_parts from_parts from_parts-to_parts)
 
--- the marks of a tree in front of others
+-- the marks of a tree before others
 abbrev mutual
   marks_of : Data → List Mark → List Mark
   marks_of null rest = is_null ∷ rest
@@ -88,7 +88,7 @@ abbrev mutual
   marks_of_members no_members rest = ends_members ∷ rest
   marks_of_members (member k d ms) rest = is_member k ∷ marks_of d (marks_of_members ms rest)
 
--- read back from the end, onto what stands there
+-- read back from the end, onto what is there
 pub data Piece : Type 0 where
   tree : Data → Piece
   trees : Items → Piece

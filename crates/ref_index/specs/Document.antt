@@ -1,5 +1,5 @@
 -- A document of the program as a document of a world.
-use Rattle.ref_world.specs.World as world
+use Rattle.ref_definitions.specs.World as world
 use Rattle.ref_index.specs.declared.document.Document.{Document}
 use Rattle.ref_index.specs.Contents.{tree_of}
 

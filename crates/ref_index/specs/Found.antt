@@ -1,23 +1,21 @@
 -- That what the walk has found is what the definitions list.
-use Rattle.std.specs.Prelude.{◌≡◌, ℕ, List, [], map, string_bytes, slice_get, Bool, true, false, Some, Ok, String}
+use Rattle.std.specs.Prelude.{◌≡◌, ℕ, List, [], map, string_bytes, slice_get, Bool, true, false, Some, Ok, IfSome, String}
 use Rattle.std.specs.List.{AllZip, list_any}
 use Rattle.std.specs.Str.{bytes_eq}
 use Rattle.std.specs.HashSet.{contains}
 use Rattle.std.specs.declared.alloc.Global.{Global}
 use Rattle.std.specs.declared.rc.Rc.{Rc}
-use Rattle.ref_uri.specs.Targets.{against}
+use Rattle.ref_uri.specs.Targets.{uri_against}
 use Rattle.serde_json.specs.View.{view}
 use Rattle.ref_parts.specs.Path.{value_at}
 use Rattle.ref_draft.specs.Anchors.{Kind, Plain, Dynamic}
-use Rattle.ref_world.specs.World.{Document, Layer}
-use Rattle.ref_world.specs.Places.{Place}
-use Rattle.ref_world.specs.Anchors.{Named}
-use Rattle.ref_world.specs.Cached.{Pair}
-use Rattle.ref_world.specs.Wants as wants
-use Rattle.ref_world.specs.Wants.{Want as Wanted}
+use Rattle.ref_definitions.specs.World.{Document, Layer}
+use Rattle.ref_definitions.specs.Places.{Place}
+use Rattle.ref_definitions.specs.Anchors.{Named}
+use Rattle.ref_definitions.specs.Cached.{Pair}
+use Rattle.ref_definitions.specs.Wants as wants
+use Rattle.ref_definitions.specs.Wants.{Want as Wanted}
 use Rattle.ref_index.specs.declared.entry.Entry.{Entry}
-use Rattle.ref_index.specs.declared.entry.Location.{Location}
-use Rattle.ref_index.specs.declared.entry.Location.TheVariants.{Lent, Path}
 use Rattle.ref_index.specs.declared.entry.NamedEntry.{NamedEntry}
 use Rattle.ref_index.specs.declared.found.Found.{Found}
 use Rattle.ref_index.specs.declared.found.Want.{Want}
@@ -34,14 +32,10 @@ pub record IsPathOf (layer : Layer) (number : ℕ) (parts : List PathPart) (p : 
   pub path : map part_of parts ≡ p.path
   pub value : value_at document.tree p.path ≡ Some p.value
 
--- a place's value is there
-abbrev pub IsLocationOf : Layer → Location → Place → Type 0
-IsLocationOf layer (Lent value) p = view value.now ≡ p.value
-IsLocationOf layer (Path number path) p = IsPathOf layer number path.items p
-
--- an entry tells a place, whose value is lent or stands in one of a layer's documents
+-- an entry tells a place: where it is in one of a layer's documents, and its value where that is lent
 pub record IsEntryOf (layer : Layer) (e : Entry) (p : Place) : Type 0 where
-  pub location : IsLocationOf layer e.location p
+  pub path : IsPathOf layer e.document e.path.items p
+  pub lent : IfSome e.lent (λ value. view value.now ≡ p.value)
   pub draft : e.draft ≡ p.draft
   pub base : p.base ≡ Ok e.base.value
 
@@ -77,7 +71,7 @@ want_of w = record { cause = cause_of w.cause; uri = w.uri.value }
 
 -- an entry under a base and a text is the URI that the text means against the base
 abbrev pub IsPairOf : String Global × String Global × ResolvedUri → Pair → Type 0
-IsPairOf t p = (string_bytes t.0 ≡ p.0) × (string_bytes t.1 ≡ p.1) × (against p.0 p.1 ≡ Ok t.2.uri.value)
+IsPairOf t p = (string_bytes t.0 ≡ p.0) × (string_bytes t.1 ≡ p.1) × (uri_against p.0 p.1 ≡ Ok t.2.uri.value)
 
 -- the handles are of one URI
 abbrev pub is_same : Rc (List ℕ) Global → Rc (List ℕ) Global → Bool

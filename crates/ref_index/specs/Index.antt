@@ -3,15 +3,15 @@ use Rattle.std.specs.Prelude.{◌≡◌, ℕ, List, [], Option, Some, None, Matc
 use Rattle.std.specs.Borrow.{Bor}
 use Rattle.std.specs.List.{AllZip, Contains}
 use Rattle.std.specs.declared.alloc.Global.{Global}
-use Rattle.ref_uri.specs.Targets.{against}
+use Rattle.ref_uri.specs.Targets.{uri_against}
 use Rattle.ref_parts.specs.Table as table
 use Rattle.ref_parts.specs.Table.{last_value}
-use Rattle.ref_world.specs.World.{Document, Layer}
-use Rattle.ref_world.specs.Agreement.{ChildrenStand}
-use Rattle.ref_world.specs.Places.{Place}
-use Rattle.ref_world.specs.Resources.{resources}
-use Rattle.ref_world.specs.Anchors.{Named, names}
-use Rattle.ref_world.specs.Cached.{Pair, pairs}
+use Rattle.ref_definitions.specs.World.{Document, Layer}
+use Rattle.ref_definitions.specs.Agreement.{ChildrenStand}
+use Rattle.ref_definitions.specs.Places.{Place}
+use Rattle.ref_definitions.specs.Resources.{resources}
+use Rattle.ref_definitions.specs.Anchors.{Named, names}
+use Rattle.ref_definitions.specs.Cached.{Pair, pairs}
 use Rattle.ref_index.specs.declared.entry.Entry.{Entry}
 use Rattle.ref_index.specs.declared.entry.NamedEntry.{NamedEntry}
 use Rattle.ref_index.specs.declared.entry.FoundName.{FoundName}
@@ -29,14 +29,14 @@ IsNameIn layer entries e n = (e.0 ≡ n.uri) × (e.1 ≡ n.name) × (kind_of e.2
 -- an entry under a base and a text is the URI that the text means against the base, with the number that the table of resources has
 -- for the URI
 abbrev pub IsPairIn : List (table.Entry ℕ) → table.Entry ResolvedUri → Pair → Type 0
-IsPairIn by_uri e p = (e.0 ≡ p.0) × (e.1 ≡ p.1) × (against p.0 p.1 ≡ Ok e.2.uri.value) × (e.2.entry ≡ last_value e.2.uri.value [] by_uri)
+IsPairIn by_uri e p = (e.0 ≡ p.0) × (e.1 ≡ p.1) × (uri_against p.0 p.1 ≡ Ok e.2.uri.value) × (e.2.entry ≡ last_value e.2.uri.value [] by_uri)
 
 -- a resolved URI with its number in a table of resources
-abbrev pub numbered : List (table.Entry ℕ) → String Global × String Global × ResolvedUri → String Global × String Global × ResolvedUri
-numbered by_uri t = (t.0, t.1, record { uri = t.2.uri; entry = last_value t.2.uri.value [] by_uri })
+abbrev pub numbered_uri : List (table.Entry ℕ) → String Global × String Global × ResolvedUri → String Global × String Global × ResolvedUri
+numbered_uri by_uri t = (t.0, t.1, record { uri = t.2.uri; entry = last_value t.2.uri.value [] by_uri })
 
 -- the tables hold the resources and the names of the documents, and what is resolved of them, in their order; and the children
--- of the documents' places stand at their paths
+-- of the documents' places are at their paths
 pub record IsIndexOf (layer : Layer) (entries : List Entry) (by_uri : List (table.Entry ℕ)) (by_name : List (table.Entry NamedEntry)) (by_pair : List (table.Entry ResolvedUri)) : Type 0 where
   pub resource : AllZip (IsResourceIn layer entries) by_uri (resources layer)
   pub name : AllZip (IsNameIn layer entries) by_name (names layer)

@@ -3,9 +3,9 @@ use Rattle.std.specs.Prelude.{◌≡◌, ℕ, ◌≤◌, List, ◌++◌, map, fl
 use Rattle.serde_json.specs.Data.{Data, depth}
 use Rattle.serde_json.specs.View.{view}
 use Rattle.ref_draft.specs.Schema.{identifier}
-use Rattle.ref_world.specs.World.{Document}
-use Rattle.ref_world.specs.Places.{Place, base_within, children_of, levels_below, places}
-use Rattle.ref_world.specs.Listing.{Listed, listed}
+use Rattle.ref_definitions.specs.World.{Document}
+use Rattle.ref_definitions.specs.Places.{Place, base_within, children_of, levels_below, places}
+use Rattle.ref_definitions.specs.Listing.{Listed, listed_place}
 use Rattle.ref_index.specs.declared.queue.ValueRef.{ValueRef}
 use Rattle.ref_index.specs.declared.queue.ValueRef.TheVariants.{Lent, Kept}
 use Rattle.ref_index.specs.declared.queue.Visit.{Visit}
@@ -36,8 +36,8 @@ pub record IsQueue (d : Document) (visited waiting : List Place) : Type 0 where
   pub split : waiting ≡ level ++ next
   pub whole : (m : ℕ) → depth d.tree ≤ m → places d ≡ visited ++ left_from m level next
 
--- The places before the head of the queue were listed behind others.
+-- The places before the head of the queue were listed after others.
 pub record IsListedTo (d : Document) (number : ℕ) (before after : List Listed) (queue : List Visit) (head : ℕ) : Type 0 where
   pub within : head ≤ length queue
   pub order : IsQueue d (map place_of (take head queue)) (map place_of (drop head queue))
-  pub list : after ≡ before ++ map (listed number) (map place_of (take head queue))
+  pub list : after ≡ before ++ map (listed_place number) (map place_of (take head queue))

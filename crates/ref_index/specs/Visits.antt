@@ -4,19 +4,19 @@ use Rattle.serde_json.specs.Data.{Data}
 use Rattle.std.specs.List.{AllByRecursion, Contains}
 use Rattle.ref_parts.specs.Path.{Part, value_at}
 use Rattle.ref_uri.specs.Reference.{with_fragment}
-use Rattle.ref_uri.specs.Targets.{Refusal, parsed}
-use Rattle.ref_world.specs.Results.{◌>>=◌}
+use Rattle.ref_uri.specs.Targets.{Refusal, uri_of}
+use Rattle.ref_definitions.specs.Results.{◌>>=◌}
 use Rattle.ref_uri.specs.Errors.{SaysRefusal}
 use Rattle.ref_uri.specs.declared.error.UriFault.{UriFault}
 use Rattle.ref_uri.specs.declared.error.UriFault.TheVariants.{Invalid, Memory}
-use Rattle.ref_world.specs.World.{Document, Layer}
-use Rattle.ref_world.specs.Places.{Place, root, child_place, children_of}
-use Rattle.ref_world.specs.Resources.{resource_of, resources}
-use Rattle.ref_world.specs.Anchors.{Named, named_under, named_at, names}
-use Rattle.ref_world.specs.Cached.{Pair, pairs_at, pairs}
-use Rattle.ref_world.specs.Wants.{Want, wants_at, faults_at, wants, faults}
-use Rattle.ref_world.specs.Agreement.{ChildrenStand}
-use Rattle.ref_draft.specs.Children.{AllStand, walked}
+use Rattle.ref_definitions.specs.World.{Document, Layer}
+use Rattle.ref_definitions.specs.Places.{Place, root, child_place, children_of}
+use Rattle.ref_definitions.specs.Resources.{resource_of, resources}
+use Rattle.ref_definitions.specs.Anchors.{Named, named_under, named_at, names}
+use Rattle.ref_definitions.specs.Cached.{Pair, pairs_at, pairs}
+use Rattle.ref_definitions.specs.Wants.{Want, wants_at, faults_at, wants, faults}
+use Rattle.ref_definitions.specs.Agreement.{ChildrenStand}
+use Rattle.ref_draft.specs.Children.{AllStand, walked_children}
 use Rattle.ref_draft.specs.declared.draft.Draft.{Draft}
 use Rattle.ref_index.specs.declared.found.Found.{Found}
 use Rattle.ref_index.specs.declared.queue.Visit.{Visit}
@@ -25,14 +25,14 @@ use Rattle.ref_index.specs.Queue.{place_of, value_of, IsQueue}
 
 -- the URI that a text names a meta-schema by: its fragment takes no part
 abbrev pub meta_schema_uri : List ℕ → Result (List ℕ) Refusal
-meta_schema_uri text = parsed text >>= λ uri. Ok (with_fragment uri None)
+meta_schema_uri text = uri_of text >>= λ uri. Ok (with_fragment uri None)
 
--- the first of these faults, or want of memory
+-- the first of these faults, or out of memory
 abbrev pub IsFirstFault : List Refusal → UriFault → Type 0
 IsFirstFault faults (Invalid error) = (refusal : Refusal) × (more : List Refusal) × (faults ≡ refusal ∷ more) × SaysRefusal error refusal
 IsFirstFault faults (Memory error) = ⊤
 
--- the place stands in the document with this number
+-- the place is in the document with this number
 pub record StandsIn (layer : Layer) (number : ℕ) (p : Place) : Type 0 where
   pub document : Document
   pub numbered : slice_get layer number ≡ Some document
@@ -68,10 +68,10 @@ wants_of p = wants_at p.base p.value
 abbrev pub names_of : Place → List Named
 names_of p = named_at p
 
--- the children of a place with this path, value, draft and base came to the queue, and stand at their paths below it
+-- the children of a place with this path, value, draft and base came to the queue, and are at their paths below it
 abbrev pub ChildrenCame : List Part → Data → Draft → List ℕ → List Visit → List Visit → Type 0
 ChildrenCame path value draft base queue after =
-    (more : List Visit) × (after ≡ queue ++ more) × (map place_of more ≡ map (child_place path base) (walked draft value)) × AllStand value (walked draft value)
+    (more : List Visit) × (after ≡ queue ++ more) × (map place_of more ≡ map (child_place path base) (walked_children draft value)) × AllStand value (walked_children draft value)
 
 -- A place was visited: what it is identified by, is named and wants was added, it has no fault, and its children came to the queue.
 pub record IsVisited (number : ℕ) (under : Option (List ℕ)) (v : Visit) (old new : Found) (queue after : List Visit) : Type 0 where
@@ -81,21 +81,21 @@ pub record IsVisited (number : ℕ) (under : Option (List ℕ)) (v : Visit) (old
   pub more : List Visit
   pub grown : after ≡ queue ++ more
   pub children : map place_of more ≡ children_of (place_of v)
-  pub stand : AllStand (value_of v.value) (walked v.draft (value_of v.value))
+  pub stand : AllStand (value_of v.value) (walked_children v.draft (value_of v.value))
 
--- each child of a place stands at its path there
+-- each child of a place is at its path there
 abbrev pub ChildrenStandAt : Place → Type 0
-ChildrenStandAt p = AllStand p.value (walked p.draft p.value)
+ChildrenStandAt p = AllStand p.value (walked_children p.draft p.value)
 
 -- Places of a document were visited from the root on: what they are identified by, are named and want was added, none has a
--- fault, and their children stand at their paths.
+-- fault, and their children are at their paths.
 pub record IsWalked (d : Document) (number : ℕ) (old new : Found) (visited : List Place) : Type 0 where
   pub added : (layer : Layer) (rs : List (List ℕ × Place)) (ns : List Named) (ws : List Want) (ps : List Pair) → slice_get layer number ≡ Some d → Holds layer old rs ns ws ps
       → Holds layer new (rs ++ (d.uri, root d) ∷ flat_map resource_of visited) (ns ++ (named_under d.uri (root d) ++ flat_map names_of visited)) (ws ++ flat_map wants_of visited) (ps ++ flat_map pairs_at visited)
   pub faultless : flat_map faults_of visited ≡ []
   pub children : AllByRecursion ChildrenStandAt visited
 
--- each place's value stands at its path
+-- each place's value is at its path
 abbrev pub AllStandIn : Document → List Place → Type 0
 AllStandIn d ps = AllByRecursion (λ p. value_at d.tree p.path ≡ Some p.value) ps
 
@@ -106,7 +106,7 @@ pub record IsAt (d : Document) (number : ℕ) (old new : Found) (queue : List Vi
   pub stand : AllStandIn d (map place_of queue)
   pub walk : IsWalked d number old new (map place_of (take head queue))
 
--- What was found in documents is all that they have, none has a fault, and the children of their places stand at their paths.
+-- What was found in documents is all that they have, none has a fault, and the children of their places are at their paths.
 pub record IsFound (layer : Layer) (f : Found) : Type 0 where
   pub held : Holds layer f (resources layer) (names layer) (wants layer) (pairs layer)
   pub faultless : faults layer ≡ []

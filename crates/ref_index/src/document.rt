@@ -9,7 +9,7 @@ use serde_json::Value;
 use std::rc::Rc;
 
 /// A document's value: borrowed, shared or owned. It is never copied.
-#[derive(Drop)]
+#[derive(Debug, Drop)]
 pub enum Contents<'a> {
     /// Lent for as long as the registry lives.
     Borrowed(&'a Value),
@@ -33,9 +33,12 @@ impl<'a> Contents<'a> {
 }
 
 /// A document of a registry: the URI that it was added or retrieved under, its value, and the draft of its root.
-#[derive(Drop)]
+#[derive(Debug, Drop)]
 pub struct Document<'a> {
+    /// The URI that it was added or retrieved under. An identifier of its root may give another base.
     pub uri: Uri,
+    /// Its value, borrowed, shared or owned.
     pub contents: Contents<'a>,
+    /// The draft of its root: the one that was given, or that its `$schema` names, or else the registry's.
     pub draft: Draft,
 }

@@ -1,26 +1,19 @@
-//! Where a place stands.
+//! Where a place is.
 use crate::path::PathPart;
 use ref_draft::Draft;
 use ref_uri::Uri;
 use serde_json::Value;
 use std::rc::Rc;
 
-/// Where the value of a place is.
-#[derive(Drop)]
-pub enum Location<'a> {
-    /// The value itself, where its document is borrowed.
-    Lent(&'a Value),
-    /// Else the number of its document, and its path there.
-    Path {
-        document: usize,
-        path: Vec<PathPart>,
-    },
-}
-
-/// A place: where its value is, its draft and its base URI.
+/// A place: where it is, its value where that is lent, its draft and its base URI.
 #[derive(Drop)]
 pub struct Entry<'a> {
-    pub location: Location<'a>,
+    /// The value itself, where its document is borrowed.
+    pub lent: Option<&'a Value>,
+    /// The number of its document.
+    pub document: usize,
+    /// Its path there.
+    pub path: Vec<PathPart>,
     pub draft: Draft,
     pub base: Rc<Uri>,
 }

@@ -4,13 +4,13 @@ ghost use Rattle.std.specs.HashSet.{contains};
 ghost use Rattle.std.specs.Str.{bytes_eq};
 ghost use Rattle.std.specs.declared.alloc.Global as global;
 ghost use Rattle.std.specs.declared.rc.Rc as rc;
-ghost use Rattle.ref_draft.specs.Views.{anchor_name, resource_ref, tagged};
-ghost use Rattle.ref_world.specs.World.{Layer};
-ghost use Rattle.ref_world.specs.Places.{Place};
-ghost use Rattle.ref_world.specs.Anchors.{Named, named_under};
-ghost use Rattle.ref_world.specs.Cached.{Pair};
-ghost use Rattle.ref_world.specs.Wants.{Want as Wanted};
-ghost use Rattle.ref_uri.specs.Targets.{against};
+ghost use Rattle.ref_draft.specs.Views.{anchor_name, resource_ref, tagged_value};
+ghost use Rattle.ref_definitions.specs.World.{Layer};
+ghost use Rattle.ref_definitions.specs.Places.{Place};
+ghost use Rattle.ref_definitions.specs.Anchors.{Named, named_under};
+ghost use Rattle.ref_definitions.specs.Cached.{Pair};
+ghost use Rattle.ref_definitions.specs.Wants.{Want as Wanted};
+ghost use Rattle.ref_uri.specs.Targets.{uri_against};
 ghost use Rattle.ref_index.specs.Found.{Holds, IsNumberOf, cause_of, is_same, kind_of, name_entry};
 
 use crate::entry::{Entry, NamedEntry};
@@ -77,7 +77,7 @@ impl<'a> Found<'a> {
         }
     }
 
-    /// Adds the entry of a place, and answers its number.
+    /// Adds the entry of a place, and returns its number.
     pub fn add_entry(&mut self, entry: Entry<'a>) -> Result<usize, AllocError>
         ensures added { (layer : Layer) (rs : List (List ℕ × Place)) (ns : List Named) (ws : List Wanted) (ps : List Pair)
             → Holds layer self.old rs ns ws ps → OnOk result (Holds layer self.new rs ns ws ps) }
@@ -136,7 +136,7 @@ impl<'a> Found<'a> {
         resource: ResourceRef<'_>,
     ) -> Result<(), AllocError>
         ensures added { (layer : Layer) (rs : List (List ℕ × Place)) (ns : List Named) (ws : List Wanted) (ps : List Pair) (p : Place)
-            → Holds layer self.old rs ns ws ps → IsNumberOf layer self.old.entries.items entry p → resource_ref resource.entry ≡ tagged p.draft p.value
+            → Holds layer self.old rs ns ws ps → IsNumberOf layer self.old.entries.items entry p → resource_ref resource.entry ≡ tagged_value p.draft p.value
             → OnOk result (Holds layer self.new rs (ns ++ named_under uri.now p) ws ps) }
         ensures entries { OnOk result (self.new.entries.items ≡ self.old.entries.items) }
     {
@@ -169,7 +169,7 @@ impl<'a> Found<'a> {
         uri: &Rc<Uri>,
     ) -> Result<(), AllocError>
         ensures added { (layer : Layer) (rs : List (List ℕ × Place)) (ns : List Named) (ws : List Wanted) (ps : List Pair)
-            → Holds layer self.old rs ns ws ps → against base.now text.now ≡ Ok uri.now.value
+            → Holds layer self.old rs ns ws ps → uri_against base.now text.now ≡ Ok uri.now.value
             → OnOk result (Holds layer self.new rs ns ws (ps ++ (base.now, text.now) ∷ [])) }
     {
         let base = String::from_str(alloc, base)?;

@@ -2,20 +2,20 @@
 ghost use Rattle.std.specs.Prelude.{◌≡◌, ℕ, List, map, length, MatchOption, IfOk, IfSome, option_map, option_copied, slice_get, Some, None, Ok};
 ghost use Rattle.std.specs.List.{Contains};
 ghost use Rattle.serde_json.specs.View.{view};
-ghost use Rattle.ref_uri.specs.Targets.{against};
-ghost use Rattle.ref_world.specs.World.{Document as WorldDocument};
-ghost use Rattle.ref_world.specs.Agreement.{ChildrenStand};
-ghost use Rattle.ref_world.specs.Places.{Place};
-ghost use Rattle.ref_world.specs.Resources.{last_under, resources};
-ghost use Rattle.ref_world.specs.Anchors.{last_named, names};
-ghost use Rattle.ref_world.specs.Cached.{pairs};
-ghost use Rattle.ref_world.specs.Wants.{Want};
+ghost use Rattle.ref_uri.specs.Targets.{uri_against};
+ghost use Rattle.ref_definitions.specs.World.{Document as WorldDocument};
+ghost use Rattle.ref_definitions.specs.Agreement.{ChildrenStand};
+ghost use Rattle.ref_definitions.specs.Places.{Place};
+ghost use Rattle.ref_definitions.specs.Resources.{last_under, resources};
+ghost use Rattle.ref_definitions.specs.Anchors.{last_named, names};
+ghost use Rattle.ref_definitions.specs.Cached.{pairs};
+ghost use Rattle.ref_definitions.specs.Wants.{Want};
 ghost use Rattle.ref_index.specs.Document.{document_of};
 ghost use Rattle.ref_index.specs.Found.{Holds, IsEntryOf};
-ghost use Rattle.ref_index.specs.Index.{IsFoundAt, IsFoundWhere, IsNamedAt, numbered};
+ghost use Rattle.ref_index.specs.Index.{IsFoundAt, IsFoundWhere, IsNamedAt, numbered_uri};
 
 use crate::document::Document;
-use crate::entry::{Entry, FoundName, FoundUri, Location, NamedEntry};
+use crate::entry::{Entry, FoundName, FoundUri, NamedEntry};
 use crate::found::{Found, ResolvedUri};
 use crate::path::value_at;
 use ref_parts::SortedTable;
@@ -38,7 +38,7 @@ pub struct Index<'a> {
 
 impl<'a> Model for Index<'a> {
     ghost use Rattle.std.specs.Prelude.{List, map};
-    ghost use Rattle.ref_world.specs.World.{Document as WorldDocument};
+    ghost use Rattle.ref_definitions.specs.World.{Document as WorldDocument};
     ghost use Rattle.ref_index.specs.Codes.{layer_code};
 
     ghost Value = { List WorldDocument };
@@ -89,14 +89,14 @@ impl<'a> Index<'a> {
         self.documents.len()
     }
 
-    /// The documents, in the order in which they were handed in, and behind them those retrieved. Takes no memory.
+    /// The documents, in the order in which they were handed in, and after them those retrieved. Takes no memory.
     pub fn documents(&self) -> &[Document<'a>]
         ensures value { map document_of result.now ≡ self.now }
     {
         self.documents.as_slice()
     }
 
-    /// Each child of a place of these documents stands at its path. A law; the call does nothing.
+    /// Each child of a place of these documents is at its path. A law; the call does nothing.
     pub fn children_stand(&self)
         ensures law { (d : WorldDocument) → Contains self.now d → ChildrenStand d }
     {
@@ -135,7 +135,7 @@ impl<'a> Index<'a> {
     /// The URI that a text means against a base, where that was resolved while the documents were walked, and the place that it
     /// means in these documents, where there is one. A look-up; takes no memory.
     pub fn resolved(&self, base: &str, text: &str) -> Option<FoundUri<'_, 'a>>
-        ensures value { MatchOption result (¬ (Contains (pairs self.now) (base.now, text.now))) (λ found. against base.now text.now ≡ Ok found.uri.now.value) }
+        ensures value { MatchOption result (¬ (Contains (pairs self.now) (base.now, text.now))) (λ found. uri_against base.now text.now ≡ Ok found.uri.now.value) }
         ensures place { IfSome result (λ found. IsFoundWhere self.now found.entry (last_under found.uri.now.value (resources self.now))) }
     {
         let resolved = self.by_pair.get(base, text).0?;
@@ -150,11 +150,11 @@ impl<'a> Index<'a> {
     pub fn value(&self, entry: &Entry<'a>) -> Option<&Value>
         ensures value { (p : Place) → IsEntryOf self.now entry.now p → option_map (λ v. view v.now) result ≡ Some p.value }
     {
-        match &entry.location {
-            Location::Lent(value) => Some(*value),
-            Location::Path { document, path } => {
-                let document = self.documents.get(*document)?;
-                value_at(document.contents.value(), path.as_slice())
+        match entry.lent {
+            Some(value) => Some(value),
+            None => {
+                let document = self.documents.get(entry.document)?;
+                value_at(document.contents.value(), entry.path.as_slice())
             }
         }
     }
@@ -162,7 +162,7 @@ impl<'a> Index<'a> {
 
 // Puts beside each URI that was resolved the number of the entry that a table of resources has for it, where it has one.
 fn set_entries(by_uri: &SortedTable<usize>, pairs: &mut [(String, String, ResolvedUri)])
-    ensures { pairs.new ≡ map (numbered by_uri.now) pairs.old }
+    ensures { pairs.new ≡ map (numbered_uri by_uri.now) pairs.old }
 {
     for (_, _, resolved) in pairs.iter_mut() {
         resolved.entry = by_uri.get(resolved.uri.as_str(), "").0.copied();

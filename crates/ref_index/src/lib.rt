@@ -18,7 +18,7 @@ pub mod walk;
 pub mod walked;
 
 pub use document::{Contents, Document};
-pub use entry::{Entry, FoundName, FoundUri, Location, NamedEntry};
+pub use entry::{Entry, FoundName, FoundUri, NamedEntry};
 pub use found::{Found, Want};
 pub use index::Index;
 pub use path::PathPart;

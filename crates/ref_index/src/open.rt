@@ -1,11 +1,11 @@
 //! Which wants are open: those whose URIs mean no place, in the documents walked so far nor in a parent's.
 ghost use Rattle.std.specs.Prelude.{◌≡◌, ℕ, List, ◌∷◌, ◌<◌, ◌≤◌, ◌-◌, map, take, drop, vec_len, slice_get, is_some, Some, true, false, IfSome};
 ghost use Rattle.std.specs.List.{AllByRecursion};
-ghost use Rattle.ref_world.specs.World.{Layer};
-ghost use Rattle.ref_world.specs.Resources.{means, resources};
-ghost use Rattle.ref_world.specs.Anchors.{Named};
-ghost use Rattle.ref_world.specs.Cached.{Pair};
-ghost use Rattle.ref_world.specs.Wants.{Want as Wanted, is_open};
+ghost use Rattle.ref_definitions.specs.World.{Layer};
+ghost use Rattle.ref_definitions.specs.Resources.{meant_place, resources};
+ghost use Rattle.ref_definitions.specs.Anchors.{Named};
+ghost use Rattle.ref_definitions.specs.Cached.{Pair};
+ghost use Rattle.ref_definitions.specs.Wants.{Want as Wanted, is_open};
 ghost use Rattle.ref_index.specs.Found.{Holds};
 
 use crate::found::Found;
@@ -15,7 +15,7 @@ use std::rc::Rc;
 
 // Whether a URI means a place in a parent.
 fn is_known_above(parents: &[&Index<'_>], uri: &str) -> bool
-    ensures { result ≡ is_some (means (map (λ p. p.now) parents.now) uri.now) }
+    ensures { result ≡ is_some (meant_place (map (λ p. p.now) parents.now) uri.now) }
 {
     for parent in parents {
         if parent.resource(uri).is_some() {
@@ -29,7 +29,7 @@ fn is_known_above(parents: &[&Index<'_>], uri: &str) -> bool
 /// table; takes no memory.
 pub fn has_meaning(found: &Found<'_>, parents: &[&Index<'_>], uri: &Rc<Uri>) -> bool
     ensures value { (layer : Layer) (names : List Named) (wants : List Wanted) (ps : List Pair) → Holds layer found.now (resources layer) names wants ps
-        → result ≡ is_some (means (layer ∷ map (λ p. p.now) parents.now) uri.now.value) }
+        → result ≡ is_some (meant_place (layer ∷ map (λ p. p.now) parents.now) uri.now.value) }
 {
     found.identified.contains(uri) || is_known_above(parents, uri.as_str())
 }

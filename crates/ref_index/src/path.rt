@@ -1,4 +1,4 @@
-//! Typed paths that own their keys, so that an index of places can stand beside the documents.
+//! Typed paths that own their keys, so that an index of places can are beside the documents.
 ghost use Rattle.std.specs.Prelude.{◌≡◌, [], ◌∷◌, ◌++◌, map, IfOk, option_map, MatchOption};
 ghost use Rattle.serde_json.specs.View.{view};
 ghost use Rattle.ref_parts.specs.Path.{child_at, value_at};
@@ -26,7 +26,7 @@ fn copy_of(alloc: Global, segment: &JsonPointerSegment<'_>) -> Result<PathPart, 
     }
 }
 
-// Adds the last part of the path, and answers the path before it, where there is one.
+// Adds the last part of the path, and returns the path before it, where there is one.
 fn push_last<'n, 'w>(
     alloc: Global,
     parts: &mut Vec<PathPart>,

@@ -3,9 +3,9 @@ ghost use Rattle.std.specs.Prelude.{◌≡◌, ℕ, List, [], ◌∷◌, ◌++�
 ghost use Rattle.std.specs.List.{Contains};
 ghost use Rattle.ref_parts.specs.Segment.{part_of};
 ghost use Rattle.ref_parts.specs.declared.path.JsonPointerSegment.{JsonPointerSegment};
-ghost use Rattle.ref_world.specs.Listing.{listed, own_places};
-ghost use Rattle.ref_world.specs.Places.{Place as WorldPlace, base_within, children_of, places};
-ghost use Rattle.ref_world.specs.Wants.{faults};
+ghost use Rattle.ref_definitions.specs.Listing.{listed_place, own_places};
+ghost use Rattle.ref_definitions.specs.Places.{Place as WorldPlace, base_within, children_of, places};
+ghost use Rattle.ref_definitions.specs.Wants.{faults};
 ghost use Rattle.ref_index.specs.Document.{document_of};
 ghost use Rattle.ref_index.specs.Listing.{listed_of};
 ghost use Rattle.ref_index.specs.Queue.{place_of};
@@ -26,7 +26,7 @@ use std::rc::Rc;
 /// A place where a schema stands, in one of a registry's own documents.
 #[derive(Debug, Drop)]
 pub struct Place<'a> {
-    /// The number of its document, counted from 0 in the order in which their URIs were first added, and behind them those
+    /// The number of its document, counted from 0 in the order in which their URIs were first added, and after them those
     /// retrieved.
     pub document: usize,
     /// Its path in the document.
@@ -37,7 +37,7 @@ pub struct Place<'a> {
     pub draft: Draft,
 }
 
-// Adds a copy of the last segment of the path, and answers the path before it, where there is one.
+// Adds a copy of the last segment of the path, and returns the path before it, where there is one.
 fn push_last<'n, 'w>(
     segments: &mut Vec<JsonPointerSegment<'w>>,
     path: &'n JsonPointerNode<'w>,
@@ -99,7 +99,7 @@ fn place_at<'w>(
     visit: &Visit<'w, '_>,
     base: &Rc<Uri>,
 ) -> Result<Place<'w>, AllocError>
-    ensures { (place_of visit.now).base ≡ Ok base.now.value → IfOk result (λ place. listed_of place ≡ listed number (place_of visit.now)) }
+    ensures { (place_of visit.now).base ≡ Ok base.now.value → IfOk result (λ place. listed_of place ≡ listed_place number (place_of visit.now)) }
 {
     let path = segments_of(alloc, &visit.path)?;
     let base = base.clone()?;
@@ -122,7 +122,7 @@ fn list_next<'w, 'a: 'w>(
 ) -> Result<(), AllocError>
     requires { (v : Visit) × (uri : List ℕ) × (slice_get queue.old.items head ≡ Some v) × ((place_of v).base ≡ Ok uri) }
     ensures { (v : Visit) → slice_get queue.old.items head ≡ Some v
-        → OnOk result ((map listed_of places.new.items ≡ map listed_of places.old.items ++ listed number (place_of v) ∷ [])
+        → OnOk result ((map listed_of places.new.items ≡ map listed_of places.old.items ++ listed_place number (place_of v) ∷ [])
         × ((more : List Visit) × (queue.new.items ≡ queue.old.items ++ more) × (map place_of more ≡ children_of (place_of v)))) }
 {
     let visit = &queue[head];
@@ -144,7 +144,7 @@ fn list_document<'w>(
     document: &'w Document<'_>,
 ) -> Result<(), AllocError>
     requires { (p : WorldPlace) → Contains (places (document_of document.now)) p → (uri : List ℕ) × (p.base ≡ Ok uri) }
-    ensures { OnOk result (map listed_of list.new.items ≡ map listed_of list.old.items ++ map (listed number) (places (document_of document.now))) }
+    ensures { OnOk result (map listed_of list.new.items ≡ map listed_of list.old.items ++ map (listed_place number) (places (document_of document.now))) }
 {
     let root = root_of(alloc, document)?;
     let mut queue = Vec::new(alloc);
@@ -159,7 +159,7 @@ fn list_document<'w>(
 
 impl<'a> Index<'a> {
     /// The places of these documents, document by document, and in each level by level, as they were walked. Each place is
-    /// visited once, and its path copied; keys are lent, and URIs shared but that of each document. Refused for want of memory.
+    /// visited once, and its path copied; keys are lent, and URIs shared but that of each document. Refused where memory is refused.
     pub fn places(&self, alloc: Global) -> Result<Vec<Place<'_>>, AllocError>
         requires { faults self.now ≡ [] }
         ensures value { IfOk result (λ list. map listed_of list.items ≡ own_places self.now) }

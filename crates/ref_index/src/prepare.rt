@@ -1,13 +1,13 @@
 //! Preparing: documents are walked, and what they want is retrieved, one document after another.
 ghost use Rattle.std.specs.Prelude.{◌≡◌, map, IfOk, IfErr, Ok};
-ghost use Rattle.ref_world.specs.Fault.{RetrievalLimit};
-ghost use Rattle.ref_world.specs.Wants.{faults};
-ghost use Rattle.ref_world.specs.Preparing.{IsOutcome, refusal_fault};
+ghost use Rattle.ref_definitions.specs.Fault.{RetrievalLimit};
+ghost use Rattle.ref_definitions.specs.Wants.{faults};
+ghost use Rattle.ref_definitions.specs.Preparing.{IsOutcome, refusal_fault};
 ghost use Rattle.ref_retrieve.specs.Errors.{reason_text, IsForReason};
 ghost use Rattle.ref_index.specs.Document.{document_of};
 ghost use Rattle.ref_index.specs.Found.{cause_of, want_of};
 ghost use Rattle.ref_index.specs.Visits.{IsFirstFault};
-ghost use Rattle.ref_index.specs.Retrieval.{given, IsFaultyOutcome, SaysOrMemory, IsAnswerFor, IsRefusalOf};
+ghost use Rattle.ref_index.specs.Retrieval.{given_with, IsFaultyOutcome, SaysOrMemory, IsAnswerFor, IsRefusalOf};
 
 use crate::document::{Contents, Document};
 use crate::found::{Cause, Want};
@@ -80,12 +80,12 @@ fn retrieved<'a, R: Retrieve>(
 }
 
 /// The index of the documents and of those that they want and that are retrieved, at most `limit` of them: for the first
-/// want that is open the retriever is asked, and what it answers is walked before the next. `draft` detects the drafts of
+/// want that is open the retriever is asked, and what it returns is walked before the next. `draft` detects the drafts of
 /// retrieved documents; a parent's places meet wants too, nearest first.
 ///
 /// Refuses as `InvalidUri` for the first fault of the documents so far, as `RetrievalLimit` where a want is open and `limit`
 /// documents were retrieved, as `Unretrievable` for a reference and `UnknownSpecification` for a meta-schema that the
-/// retriever refuses, and as `Memory` for want of memory, the retriever's too. Each place is visited
+/// retriever refuses, and as `Memory` where memory is refused, the retriever's too. Each place is visited
 /// once, with a look-up for what it wants; URIs, names and paths are copied for the tables, which are sorted once, and no value
 /// is.
 pub fn prepare<'a, R: Retrieve>(
@@ -96,8 +96,8 @@ pub fn prepare<'a, R: Retrieve>(
     parents: &[&Index<'_>],
     documents: Vec<Document<'a>>,
 ) -> Result<Index<'a>, Error>
-    ensures outcome { IfOk result (λ index. IsOutcome (given (R.may_answer retriever.now) (R.may_refuse retriever.now) limit draft (map (λ p. p.now) parents.now) (map document_of documents.entry.items)) (Ok index)) }
-    ensures fault { IfErr result (IsFaultyOutcome (given (R.may_answer retriever.now) (R.may_refuse retriever.now) limit draft (map (λ p. p.now) parents.now) (map document_of documents.entry.items))) }
+    ensures outcome { IfOk result (λ index. IsOutcome (given_with (R.may_answer retriever.now) (R.may_refuse retriever.now) limit draft (map (λ p. p.now) parents.now) (map document_of documents.entry.items)) (Ok index)) }
+    ensures fault { IfErr result (IsFaultyOutcome (given_with (R.may_answer retriever.now) (R.may_refuse retriever.now) limit draft (map (λ p. p.now) parents.now) (map document_of documents.entry.items))) }
 {
     let mut walked = walk_all(alloc, documents)?;
     let mut next = walked.first_open(parents, 0);

@@ -1,5 +1,5 @@
 //! The places of a document that were found, in the order in which they are visited.
-ghost use Rattle.std.specs.Prelude.{◌≡◌};
+ghost use Rattle.std.specs.Prelude.{◌≡◌, IfSome};
 ghost use Rattle.serde_json.specs.View.{view};
 ghost use Rattle.ref_index.specs.Contents.{tree_of};
 ghost use Rattle.ref_index.specs.Queue.{value_of};
@@ -37,6 +37,16 @@ impl<'w, 'a: 'w> ValueRef<'w, 'a> {
         match self {
             ValueRef::Lent(value) => value,
             ValueRef::Kept(value) => value,
+        }
+    }
+
+    /// The value, where it is lent for as long as the registry lives.
+    pub fn lent(self) -> Option<&'a Value>
+        ensures value { IfSome result (λ value. view value.now ≡ value_of self.entry) }
+    {
+        match self {
+            ValueRef::Lent(value) => Some(value),
+            ValueRef::Kept(_) => None,
         }
     }
 }

@@ -13,7 +13,7 @@ pub fn shared(alloc: Global, uri: Uri) -> Result<Rc<Uri>, AllocError>
     Ok(Rc::new(alloc, uri)?)
 }
 
-/// What stands before the last `#` of a reference, which is the whole where there is none, and its fragment: what follows a `#` in
+/// What is before the last `#` of a reference, which is the whole where there is none, and its fragment: what follows a `#` in
 /// front, or else the last `#`.
 #[inline(always)]
 pub fn parts(reference: &str) -> (&str, &str)
@@ -42,7 +42,7 @@ fn parts_around_hash(reference: &str) -> (&str, &str)
     }
 }
 
-/// What stands before the last `#` of a reference.
+/// What is before the last `#` of a reference.
 pub fn uri_part(reference: &str) -> &str
     ensures value { result.now ≡ uri.uri_part reference.now }
 {

@@ -3,25 +3,25 @@ ghost use Rattle.std.specs.Prelude.{◌≡◌, ◌<◌, ℕ, List, [], ◌∷◌
 ghost use Rattle.serde_json.specs.View.{view};
 ghost use Rattle.ref_parts.specs.Path.{Key};
 ghost use Rattle.ref_draft.specs.Schema.{identifier, text_under};
-ghost use Rattle.ref_draft.specs.Views.{resource_ref, tagged, segment_parts, walked_child};
+ghost use Rattle.ref_draft.specs.Views.{resource_ref, tagged_value, segment_parts, walked_child};
 ghost use Rattle.ref_draft.specs.Anchors.{anchors};
 ghost use Rattle.ref_uri.specs.Errors.{IsFaultOf};
 ghost use Rattle.ref_uri.specs.Targets.{target as uri_target};
-ghost use Rattle.ref_world.specs.World.{Layer};
-ghost use Rattle.ref_world.specs.Places.{Place, base_within, child_place, root, places};
-ghost use Rattle.ref_world.specs.Resources.{resource_of};
-ghost use Rattle.ref_world.specs.Anchors.{Named, named_at};
-ghost use Rattle.ref_world.specs.Cached.{Pair, pairs_of_identifier, pairs_of_reference, reference_pairs, pairs_at};
-ghost use Rattle.ref_world.specs.Wants.{Want as Wanted, Reference, MetaSchema, reference_at, schema_at, wanted, refusals_of, wants_at, faults_at};
+ghost use Rattle.ref_definitions.specs.World.{Layer};
+ghost use Rattle.ref_definitions.specs.Places.{Place, base_within, child_place, root, places};
+ghost use Rattle.ref_definitions.specs.Resources.{resource_of};
+ghost use Rattle.ref_definitions.specs.Anchors.{Named, named_at};
+ghost use Rattle.ref_definitions.specs.Cached.{Pair, pairs_of_identifier, pairs_of_reference, reference_pairs, pairs_at};
+ghost use Rattle.ref_definitions.specs.Wants.{Want as Wanted, Reference, MetaSchema, reference_at, schema_at, wants_of_text, refusals_of, wants_at, faults_at};
 ghost use Rattle.ref_index.specs.Contents.{tree_of};
-ghost use Rattle.ref_index.specs.Found.{Holds, IsEntryOf, IsNumberOf, IsLocationOf};
+ghost use Rattle.ref_index.specs.Found.{Holds, IsEntryOf, IsNumberOf};
 ghost use Rattle.ref_index.specs.Queue.{place_of, value_of};
 ghost use Rattle.ref_index.specs.declared.queue.Visit.{Visit};
 ghost use Rattle.ref_index.specs.Document.{document_of};
 ghost use Rattle.ref_index.specs.Visits.{meta_schema_uri, IsFirstFault, StandsIn, ChildrenCame, IsVisited, IsWalked, faults_of, under_document, names_under, resources_at, names_at};
 
 use crate::document::Document;
-use crate::entry::{Entry, Location};
+use crate::entry::Entry;
 use crate::found::{Cause, Found};
 use crate::path::owned;
 use crate::queue::{ValueRef, Visit};
@@ -48,24 +48,7 @@ fn base_of(alloc: Global, outer: &Rc<Uri>, id: Option<&str>) -> Result<Rc<Uri>, 
     }
 }
 
-// Where the value of a place is.
-fn location_of<'a>(
-    alloc: Global,
-    number: usize,
-    place: &Visit<'_, 'a>,
-) -> Result<Location<'a>, AllocError>
-    ensures { (layer : Layer) → StandsIn layer number (place_of place.now) → IfOk result (λ location. IsLocationOf layer location (place_of place.now)) }
-{
-    match place.value {
-        ValueRef::Lent(value) => Ok(Location::Lent(value)),
-        ValueRef::Kept(_) => Ok(Location::Path {
-            document: number,
-            path: owned(alloc, &place.path)?,
-        }),
-    }
-}
-
-// The entry of a place whose base is known.
+// The entry of a place whose base is known. Takes memory for its path.
 fn entry_of<'a>(
     alloc: Global,
     number: usize,
@@ -75,10 +58,12 @@ fn entry_of<'a>(
     ensures { (layer : Layer) → StandsIn layer number (place_of place.now) → (place_of place.now).base ≡ Ok base.now.value
         → IfOk result (λ entry. IsEntryOf layer entry (place_of place.now)) }
 {
-    let location = location_of(alloc, number, place)?;
+    let path = owned(alloc, &place.path)?;
     let base = base.clone()?;
     Ok(Entry {
-        location,
+        lent: place.value.lent(),
+        document: number,
+        path,
         draft: place.draft,
         base,
     })
@@ -103,7 +88,7 @@ fn add_under(
     resource: ResourceRef<'_>,
 ) -> Result<(), AllocError>
     ensures added { (layer : Layer) (rs : List (List ℕ × Place)) (ns : List Named) (ws : List Wanted) (ps : List Pair) (p : Place)
-        → Holds layer found.old rs ns ws ps → IsNumberOf layer found.old.entries.items entry p → resource_ref resource.entry ≡ tagged p.draft p.value
+        → Holds layer found.old rs ns ws ps → IsNumberOf layer found.old.entries.items entry p → resource_ref resource.entry ≡ tagged_value p.draft p.value
         → OnOk result (Holds layer found.new (rs ++ under_document (option_map (λ u. u.now.value) under.entry) p)
         (ns ++ names_under (option_map (λ u. u.now.value) under.entry) p) ws ps) }
     ensures entries { OnOk result (found.new.entries.items ≡ found.old.entries.items) }
@@ -145,7 +130,7 @@ fn add_by_base(
     resource: ResourceRef<'_>,
 ) -> Result<(), AllocError>
     ensures { (layer : Layer) (rs : List (List ℕ × Place)) (ns : List Named) (ws : List Wanted) (ps : List Pair) (p : Place)
-        → Holds layer found.old rs ns ws ps → IsNumberOf layer found.old.entries.items entry p → resource_ref resource.entry ≡ tagged p.draft p.value
+        → Holds layer found.old rs ns ws ps → IsNumberOf layer found.old.entries.items entry p → resource_ref resource.entry ≡ tagged_value p.draft p.value
         → option_map (λ text. text.now) id.entry ≡ identifier p.draft p.value → p.base ≡ Ok base.now.value
         → OnOk result (Holds layer found.new (rs ++ resource_of p) (ns ++ named_at p) ws ps) }
 {
@@ -229,7 +214,7 @@ fn add_reference(
 ) -> Result<(), UriFault>
     ensures added { (layer : Layer) (rs : List (List ℕ × Place)) (ns : List Named) (ws : List Wanted) (ps : List Pair)
         → Holds layer found.old rs ns ws ps
-        → OnOk result (Holds layer found.new rs ns (ws ++ wanted Reference (reference_at base.now.value (view value.now)))
+        → OnOk result (Holds layer found.new rs ns (ws ++ wants_of_text Reference (reference_at base.now.value (view value.now)))
         (ps ++ reference_pairs base.now.value (view value.now))) }
     ensures faultless { OnOk result (refusals_of (reference_at base.now.value (view value.now)) ≡ []) }
     ensures fault { IfErr result (IsFirstFault (refusals_of (reference_at base.now.value (view value.now)))) }
@@ -258,7 +243,7 @@ fn schema_uri(alloc: Global, text: &str) -> Result<Rc<Uri>, UriFault>
 fn add_meta_schema(alloc: Global, found: &mut Found<'_>, value: &Value) -> Result<(), UriFault>
     ensures added { (layer : Layer) (rs : List (List ℕ × Place)) (ns : List Named) (ws : List Wanted) (ps : List Pair)
         → Holds layer found.old rs ns ws ps
-        → OnOk result (Holds layer found.new rs ns (ws ++ wanted MetaSchema (schema_at (view value.now))) ps) }
+        → OnOk result (Holds layer found.new rs ns (ws ++ wants_of_text MetaSchema (schema_at (view value.now))) ps) }
     ensures faultless { OnOk result (refusals_of (schema_at (view value.now)) ≡ []) }
     ensures fault { IfErr result (IsFirstFault (refusals_of (schema_at (view value.now)))) }
 {
@@ -273,7 +258,7 @@ fn add_meta_schema(alloc: Global, found: &mut Found<'_>, value: &Value) -> Resul
     Ok(())
 }
 
-// Adds what a place is identified by, is named and wants, and answers its base.
+// Adds what a place is identified by, is named and wants, and returns its base.
 fn settle<'w, 'a: 'w>(
     alloc: Global,
     found: &mut Found<'a>,
@@ -450,7 +435,7 @@ pub(crate) fn root_of<'w, 'a>(
 /// Walks over the places of a document, whose number is given, and adds what they are identified by, are named and want.
 ///
 /// Refuses for the first fault of the document's places, level by level: an identifier, a reference or the name of a
-/// meta-schema that means no URI; and for want of memory. Of what was found nothing is said then: it is to be let go.
+/// meta-schema that means no URI; and where memory is refused. Of what was found nothing is said then: it is to be let go.
 pub fn walk<'a>(
     alloc: Global,
     found: &mut Found<'a>,

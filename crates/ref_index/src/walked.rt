@@ -1,7 +1,7 @@
 //! Documents that are walked one after another.
 ghost use Rattle.std.specs.Prelude.{◌≡◌, ◌∷◌, ◌++◌, ◌≤◌, [], map, take, length, slice_get, Some, None, true, false, OnOk, IfOk, IfErr, MatchOption};
 ghost use Rattle.std.specs.List.{AllByRecursion};
-ghost use Rattle.ref_world.specs.Wants.{Want as Wanted, faults, wants, is_open};
+ghost use Rattle.ref_definitions.specs.Wants.{Want as Wanted, faults, wants, is_open};
 ghost use Rattle.ref_index.specs.Document.{document_of};
 ghost use Rattle.ref_index.specs.Found.{want_of};
 ghost use Rattle.ref_index.specs.Visits.{IsFirstFault, IsFound};
@@ -15,7 +15,7 @@ use ref_uri::UriFault;
 use std::alloc::{AllocError, Global};
 use std::marker::Model;
 
-// Adds a document behind the others.
+// Adds a document after the others.
 fn push<'a>(documents: &mut Vec<Document<'a>>, document: Document<'a>) -> Result<(), AllocError>
     ensures { OnOk result (documents.new.items ≡ documents.old.items ++ document.entry ∷ []) }
 {
@@ -23,7 +23,7 @@ fn push<'a>(documents: &mut Vec<Document<'a>>, document: Document<'a>) -> Result
     Ok(())
 }
 
-// Adds a document behind the others, and what its places are identified by, are named and want behind what was found in them.
+// Adds a document after the others, and what its places are identified by, are named and want after what was found in them.
 // Of what was found and of the documents nothing is said after a refusal: both are to be let go.
 fn walk_next<'a>(
     alloc: Global,
@@ -50,7 +50,7 @@ pub struct Walked<'a> {
 
 impl<'a> Model for Walked<'a> {
     ghost use Rattle.std.specs.Prelude.{List, map};
-    ghost use Rattle.ref_world.specs.World.{Document as WorldDocument};
+    ghost use Rattle.ref_definitions.specs.World.{Document as WorldDocument};
     ghost use Rattle.ref_index.specs.Codes.{layer_code};
 
     ghost Value = { List WorldDocument };
@@ -76,9 +76,9 @@ impl<'a> Walked<'a> {
         }
     }
 
-    /// These documents and one behind them, which is walked. It is moved, and its value never copied.
+    /// These documents and one after them, which is walked. It is moved, and its value never copied.
     ///
-    /// Refuses for the first fault of all these documents, which is then one of the last's; and for want of memory.
+    /// Refuses for the first fault of all these documents, which is then one of the last's; and where memory is refused.
     pub fn append(self, alloc: Global, document: Document<'a>) -> Result<Walked<'a>, UriFault>
         ensures value { IfOk result (λ walked. walked ≡ self.entry ++ document_of document.entry ∷ []) }
         ensures fault { IfErr result (IsFirstFault (faults (self.entry ++ document_of document.entry ∷ []))) }

@@ -5,11 +5,11 @@ use Rattle.std.proofs.lemmas.List.Elements.{All-from_recursion, Contains-append_
 use Rattle.ref_parts.specs.Path.{Part}
 use Rattle.ref_draft.specs.Schema.{text_under}
 use Rattle.ref_uri.specs.Targets.{Refusal}
-use Rattle.ref_world.specs.World.{Document, Layer, World}
-use Rattle.ref_world.specs.Places.{Place, places}
-use Rattle.ref_world.specs.Fault.{Fault, Unretrievable}
-use Rattle.ref_world.specs.Lookup.{Resolver, Found, lookup}
-use Rattle.ref_resolver.specs.Layered.{own}
+use Rattle.ref_definitions.specs.World.{Document, Layer, World}
+use Rattle.ref_definitions.specs.Places.{Place, places}
+use Rattle.ref_definitions.specs.Fault.{Fault, Unretrievable}
+use Rattle.ref_definitions.specs.Lookup.{Resolver, Found, lookup}
+use Rattle.ref_resolver.specs.Layered.{own_layer}
 use Rattle.ref_lint.specs.declared.entry.Dangling.{Dangling}
 use Rattle.ref_lint.specs.Dangling.{DanglingReference, where_fault, dangling_from, dangling_at, numbered_from, dangling}
 use Rattle.ref_lint.specs.Entries.{IsEntryOf, IsUnretrievable}
@@ -18,7 +18,7 @@ use Rattle.ref_lint.proofs.Saying.{says_another}
 -- what `Registry::references_are_retrieved` says of a world
 abbrev pub AreRetrieved : World → Type 0
 AreRetrieved world = (d : Document) (place : Place) (resolver : Resolver) (reference : List ℕ)
-    → Contains (own world) d → Contains (places d) place → place.base ≡ Ok resolver.base → text_under (codes "$ref") place.value ≡ Some reference
+    → Contains (own_layer world) d → Contains (places d) place → place.base ≡ Ok resolver.base → text_under (codes "$ref") place.value ≡ Some reference
     → (uri source : List ℕ) → ¬ (lookup world resolver reference ≡ Err (Unretrievable uri source))
 
 abbrev IsOther : DanglingReference → Type 0
@@ -63,9 +63,9 @@ of_documents number (d ∷ ds) x there =
     (Contains-append_cases (map (λ p. (number, p)) (places d)) (numbered_from (suc number) ds) x there)
 
 pub none_unretrievable : (world : World) → AreRetrieved world → (r : DanglingReference) → Contains (dangling world) r → (uri source : List ℕ) → ¬ (r.fault ≡ Unretrievable uri source)
-none_unretrievable world law = joined IsOther (dangling_at world) (numbered_from 0 (own world))
-    (λ (number, p) there. let (d, own, among) = of_documents 0 (own world) (number, p) there in
-    by_place world number p.path p.base (text_under (codes "$ref") p.value) (λ resolver reference. law d p resolver reference own among))
+none_unretrievable world law = joined IsOther (dangling_at world) (numbered_from 0 (own_layer world))
+    (λ (number, p) there. let (d, own_layer, among) = of_documents 0 (own_layer world) (number, p) there in
+    by_place world number p.path p.base (text_under (codes "$ref") p.value) (λ resolver reference. law d p resolver reference own_layer among))
 
 entries_recursively : (entries : List Dangling) (rs : List DanglingReference) → AllZip IsEntryOf entries rs → ((r : DanglingReference) → Contains rs r → IsOther r)
     → AllByRecursion (λ entry. ¬ (IsUnretrievable entry.error)) entries

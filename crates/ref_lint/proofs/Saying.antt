@@ -1,10 +1,10 @@
 -- What errors say of references that are looked up.
 use Rattle.std.proofs.Common.{◌≡◌, ℕ, List, [], ◌∷◌, Option, Some, Ok, Err, refl, ap, ◌∙◌}
 use Rattle.ref_parts.specs.Path.{Part}
-use Rattle.ref_world.specs.World.{World}
-use Rattle.ref_world.specs.Fault as fault
-use Rattle.ref_world.specs.Fault.{Fault}
-use Rattle.ref_world.specs.Lookup.{lookup}
+use Rattle.ref_definitions.specs.World.{World}
+use Rattle.ref_definitions.specs.Fault as fault
+use Rattle.ref_definitions.specs.Fault.{Fault}
+use Rattle.ref_definitions.specs.Lookup.{lookup}
 use Rattle.ref_retrieve.specs.declared.error.Error.{Error}
 use Rattle.ref_retrieve.specs.declared.error.Error.TheVariants as error
 use Rattle.ref_retrieve.specs.Errors.{SaysFault}

@@ -1,15 +1,15 @@
--- The references of a registry's own documents that lead nowhere (2020-12 Core, 8.2.3.1).
+-- The references of a registry's own documents that are unresolvable (2020-12 Core, 8.2.3.1).
 use Rattle.std.specs.Prelude.{ℕ, suc, List, [], ◌∷◌, ◌++◌, map, flat_map, codes, Option, Some, None, Result, Ok, Err}
 use Rattle.ref_parts.specs.Path.{Part}
 use Rattle.ref_draft.specs.Schema.{text_under}
 use Rattle.ref_uri.specs.Targets.{Refusal}
-use Rattle.ref_world.specs.World.{Layer, World}
-use Rattle.ref_world.specs.Places.{Place, places}
-use Rattle.ref_world.specs.Fault.{Fault}
-use Rattle.ref_world.specs.Lookup.{Found, lookup}
-use Rattle.ref_resolver.specs.Layered.{own}
+use Rattle.ref_definitions.specs.World.{Layer, World}
+use Rattle.ref_definitions.specs.Places.{Place, places}
+use Rattle.ref_definitions.specs.Fault.{Fault}
+use Rattle.ref_definitions.specs.Lookup.{Found, lookup}
+use Rattle.ref_resolver.specs.Layered.{own_layer}
 
--- a reference that leads nowhere: the number of its document, the path of its place there, its text, and the fault
+-- an unresolvable reference: the number of its document, the path of its place there, its text, and the fault
 pub record DanglingReference : Type 0 where
   pub document : ℕ
   pub path : List Part
@@ -28,7 +28,7 @@ dangling_from world number path (Ok base) (Some reference) = where_fault number 
 dangling_from world number path (Ok base) None = []
 dangling_from world number path (Err refusal) reference = []
 
--- the text under `$ref` of a place of the document with this number, where it leads nowhere
+-- the text under `$ref` of a place of the document with this number, where it is unresolvable
 abbrev pub dangling_at : World → ℕ × Place → List DanglingReference
 dangling_at world (number, p) = dangling_from world number p.path p.base (text_under (codes "$ref") p.value)
 
@@ -39,4 +39,4 @@ numbered_from number (d ∷ ds) = map (λ p. (number, p)) (places d) ++ numbered
 
 -- those of a registry's own places, in the order of the places
 abbrev pub dangling : World → List DanglingReference
-dangling world = flat_map (dangling_at world) (numbered_from 0 (own world))
+dangling world = flat_map (dangling_at world) (numbered_from 0 (own_layer world))

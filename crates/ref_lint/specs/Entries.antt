@@ -1,4 +1,4 @@
--- What is listed of references that lead nowhere.
+-- What is listed of unresolvable references.
 use Rattle.std.specs.Prelude.{◌≡◌, map, ⊤}
 use Rattle.ref_parts.specs.Segment.{part_of}
 use Rattle.ref_retrieve.specs.declared.error.Error.{Error}

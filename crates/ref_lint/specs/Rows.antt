@@ -2,7 +2,7 @@
 use Prim.Native.String.{String as Literal}
 use Rattle.std.specs.Prelude.{ℕ, List, codes}
 use Rattle.ref_parts.specs.Path.{Part}
-use Rattle.ref_world.specs.Fault.{Fault}
+use Rattle.ref_definitions.specs.Fault.{Fault}
 use Rattle.ref_lint.specs.Dangling.{DanglingReference}
 
 -- a reference at a path of a document

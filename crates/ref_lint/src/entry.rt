@@ -1,10 +1,10 @@
-//! A reference that leads nowhere, as it is listed.
+//! A unresolvable reference, as it is listed.
 use referencing::{Error, JsonPointerSegment};
 
-/// A reference that leads nowhere, and why.
+/// A unresolvable reference, and why.
 #[derive(Debug, Drop)]
 pub struct Dangling<'r> {
-    /// The number of its document, counted from 0 in the order in which their URIs were first added, and behind them those
+    /// The number of its document, counted from 0 in the order in which their URIs were first added, and after them those
     /// retrieved.
     pub document: usize,
     /// The path of the place in the document whose `$ref` it is.

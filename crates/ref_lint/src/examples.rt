@@ -2,9 +2,9 @@
 ghost use Rattle.std.specs.Prelude.{◌≡◌, [], ◌∷◌, codes, Some, Err};
 ghost use Rattle.ref_parts.specs.Path.{Key, Index};
 ghost use Rattle.ref_draft.specs.declared.draft.Draft.TheVariants.{Draft7, Draft202012};
-ghost use Rattle.ref_uri.specs.Targets.{unparsed};
-ghost use Rattle.ref_world.specs.Fault.{PointerToNowhere, NoSuchAnchor};
-ghost use Rattle.ref_world.specs.Rows.{at, world, yes, text, whole, one, two, list, pair};
+ghost use Rattle.ref_uri.specs.Targets.{parse_refusal};
+ghost use Rattle.ref_definitions.specs.Fault.{PointerToNowhere, NoSuchAnchor};
+ghost use Rattle.ref_definitions.specs.Rows.{at, world, yes, text, whole_number, one, two, list, pair};
 ghost use Rattle.ref_lint.specs.Dangling.{dangling, dangling_from};
 ghost use Rattle.ref_lint.specs.Rows.{reference};
 
@@ -16,9 +16,9 @@ pub fn references_of_one_document()
     ensures children_in_order { dangling (world (at Draft202012 "http://a/r" (one "allOf" (pair (one "$ref" (text "#p")) (one "$ref" (text "#q")))) ∷ [])) ≡ reference 0 (Key (codes "allOf") ∷ Index 0 ∷ []) "#p" (NoSuchAnchor (codes "p")) ∷ reference 0 (Key (codes "allOf") ∷ Index 1 ∷ []) "#q" (NoSuchAnchor (codes "q")) ∷ [] }
     ensures under_const { dangling (world (at Draft202012 "http://a/r" (one "const" (one "$ref" (text "#/x"))) ∷ [])) ≡ [] }
     ensures beside_a_dynamic_one { dangling (world (at Draft202012 "http://a/r" (two "$dynamicRef" (text "#no") "$ref" (text "#/x")) ∷ [])) ≡ reference 0 [] "#/x" (PointerToNowhere (codes "/x")) ∷ [] }
-    ensures no_text { dangling (world (at Draft202012 "http://a/r" (one "$ref" (whole 1)) ∷ [])) ≡ [] }
+    ensures no_text { dangling (world (at Draft202012 "http://a/r" (one "$ref" (whole_number 1)) ∷ [])) ≡ [] }
     ensures from_its_own_base { dangling (world (at Draft202012 "http://a/r" (two "$defs" (one "a" (two "$id" (text "k/") "$ref" (text "#/not"))) "not" yes) ∷ [])) ≡ reference 0 (Key (codes "$defs") ∷ Key (codes "a") ∷ []) "#/not" (PointerToNowhere (codes "/not")) ∷ [] }
-    ensures without_a_base { dangling_from [] 0 [] (Err (unparsed (codes "a b"))) (Some (codes "#")) ≡ [] }
+    ensures without_a_base { dangling_from [] 0 [] (Err (parse_refusal (codes "a b"))) (Some (codes "#")) ≡ [] }
 {}
 
 /// References among documents, and of a parent.

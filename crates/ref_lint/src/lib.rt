@@ -1,7 +1,7 @@
-//! The references in a registry's documents that lead nowhere, for linters. It stands on the public calls of `referencing`
+//! The references in a registry's documents that are unresolvable, for linters. It stands on the public calls of `referencing`
 //! alone.
 //!
-//! Read `specs/Dangling.antt` first: which references those are is told there over the plain documents.
+//! Read `specs/Dangling.antt` first: which references those are is said there over the plain documents.
 #![tactic(auto)]
 
 mod entry;

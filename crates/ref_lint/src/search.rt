@@ -2,7 +2,7 @@
 ghost use Rattle.std.specs.Prelude.{◌≡◌, [], ◌++◌, option_map, IfOk, IfErr, OnOk};
 ghost use Rattle.std.specs.List.{All, AllZip};
 ghost use Rattle.std.specs.Option.{option_to_list};
-ghost use Rattle.ref_world.specs.Lookup.{lookup};
+ghost use Rattle.ref_definitions.specs.Lookup.{lookup};
 ghost use Rattle.ref_index.specs.Listing.{listed_of};
 ghost use Rattle.referencing.specs.Listed.{IsMemory};
 ghost use Rattle.ref_lint.specs.Dangling.{dangling};
@@ -22,7 +22,7 @@ fn reference_at<'r>(registry: &'r Registry<'_>, place: &Place<'_>) -> Option<&'r
     value.get("$ref").and_then(Value::as_str)
 }
 
-// Why a reference leads nowhere from a base with an empty dynamic scope, where it does.
+// Why a reference is unresolvable from a base with an empty dynamic scope, where it does.
 fn fault_at(
     alloc: Global,
     registry: &Registry<'_>,
@@ -40,7 +40,7 @@ fn fault_at(
     }
 }
 
-// The entry of a place's reference, where that leads nowhere.
+// The entry of a place's reference, where that is unresolvable.
 fn entry_at<'r>(
     alloc: Global,
     registry: &'r Registry<'_>,
@@ -73,7 +73,7 @@ fn add<'r>(list: &mut Vec<Dangling<'r>>, entry: Option<Dangling<'r>>) -> Result<
     Ok(())
 }
 
-/// The references of a registry's own documents that lead nowhere: the texts under `$ref` of the places where schemas stand,
+/// The references of a registry's own documents that are unresolvable: the texts under `$ref` of the places where schemas stand,
 /// which [`Registry::places`] lists, whose look-up from the place's base with an empty dynamic scope is a fault (2020-12 Core,
 /// 8.2.3.1). They come in the order of those places, each once, with that fault; what is under `$dynamicRef` or `$recursiveRef`
 /// is none of them, and those of parents aren't listed.

@@ -2,7 +2,7 @@
 use serde_json::Value;
 use std::alloc::{AllocError, Global};
 
-/// Adds what stands before a text, as `,"file":`, and the text as a JSON string.
+/// Adds what is before a text, as `,"file":`, and the text as a JSON string.
 pub(crate) fn push_text(
     alloc: Global,
     out: &mut String,
@@ -14,7 +14,7 @@ pub(crate) fn push_text(
     out.push_str(text.as_str())
 }
 
-/// Adds what stands before a text, and the text, where there is one.
+/// Adds what is before a text, and the text, where there is one.
 pub(crate) fn push_option(
     alloc: Global,
     out: &mut String,
@@ -27,7 +27,7 @@ pub(crate) fn push_option(
     }
 }
 
-/// Adds what stands before a number, and the number.
+/// Adds what is before a number, and the number.
 pub(crate) fn push_number(out: &mut String, before: &str, number: usize) -> Result<(), AllocError> {
     out.push_str(before)?;
     write!(out, "{number}")

@@ -51,7 +51,7 @@ pub struct Message<'m> {
     pub text: String,
     /// The keyword whose text it is about.
     pub keyword: Option<&'static str>,
-    /// The text under the keyword, as it stands in the file.
+    /// The text under the keyword, as it is in the file.
     pub reference: Option<&'m str>,
     /// The URI that the text was resolved to.
     pub resolved: Option<String>,

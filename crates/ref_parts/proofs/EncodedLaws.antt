@@ -8,7 +8,7 @@ use Rattle.percent_encoding.specs.AsciiSet.{should_percent_encode}
 use Rattle.percent_encoding.specs.Percent.{percent_encode, percent_encode_byte, percent_decode}
 use Rattle.percent_encoding.proofs.PercentLemmas.{round_trip}
 use Rattle.ref_parts.specs.declared.encoded.TheConstants.{ESCAPED}
-use Rattle.ref_parts.specs.Encoded.{is_fragment_byte, encoded_byte, encoded, IsEncoded}
+use Rattle.ref_parts.specs.Encoded.{is_fragment_byte, encoded_byte, encoded_text, IsEncoded}
 
 abbrev pub IsByte : ℕ → Type 0
 IsByte b = b < 256
@@ -23,7 +23,7 @@ turned true x y = refl
 turned false x y = refl
 
 -- the set escapes as the definition says
-pub encoded_is : (bs : List ℕ) → All IsByte bs → percent_encode ESCAPED bs ≡ encoded bs
+pub encoded_is : (bs : List ℕ) → All IsByte bs → percent_encode ESCAPED bs ≡ encoded_text bs
 unfolding percent_encode
 encoded_is [] small = refl
 encoded_is (b ∷ bs) small =
@@ -32,21 +32,21 @@ encoded_is (b ∷ bs) small =
     ∙ ap (λ x. encoded_byte b ++ x) (encoded_is bs (All-tail IsByte b bs small))
 
 -- escaped text is read back
-pub decoded_is : (bs : List ℕ) → All IsByte bs → percent_decode (encoded bs) ≡ bs
+pub decoded_is : (bs : List ℕ) → All IsByte bs → percent_decode (encoded_text bs) ≡ bs
 decoded_is bs small = ap percent_decode (sym (encoded_is bs small)) ∙ round_trip ESCAPED bs refl small
 
-pub IsEncoded-encoded : (bs : List ℕ) → All IsByte bs → IsUtf8 bs → IsEncoded (encoded bs)
+pub IsEncoded-encoded : (bs : List ℕ) → All IsByte bs → IsUtf8 bs → IsEncoded (encoded_text bs)
 IsEncoded-encoded bs small utf8 =
     let back = sym (decoded_is bs small) in
-    record { same = ap encoded (sym back); utf8 = subst IsUtf8 back utf8; bytes = subst (All IsByte) back small }
+    record { same = ap encoded_text (sym back); utf8 = subst IsUtf8 back utf8; bytes = subst (All IsByte) back small }
 
 pub IsEncoded-nil : IsEncoded []
 IsEncoded-nil = IsEncoded-encoded [] (All-nil IsByte) IsUtf8-nil
 
--- one more text behind it
-grown : (text new more : List ℕ) → IsEncoded text → All IsByte more → IsUtf8 more → new ≡ text ++ percent_encode ESCAPED more → new ≡ encoded (percent_decode text ++ more)
+-- one more text after it
+grown : (text new more : List ℕ) → IsEncoded text → All IsByte more → IsUtf8 more → new ≡ text ++ percent_encode ESCAPED more → new ≡ encoded_text (percent_decode text ++ more)
 grown text new more is small utf8 e =
-    e ∙ ap (λ x. x ++ percent_encode ESCAPED more) (sym is.same) ∙ ap (λ x. encoded (percent_decode text) ++ x) (encoded_is more small)
+    e ∙ ap (λ x. x ++ percent_encode ESCAPED more) (sym is.same) ∙ ap (λ x. encoded_text (percent_decode text) ++ x) (encoded_is more small)
     ∙ sym (flat_map-append encoded_byte (percent_decode text) more)
 
 pub IsEncoded-grown : (text new more : List ℕ) → IsEncoded text → All IsByte more → IsUtf8 more → new ≡ text ++ percent_encode ESCAPED more → IsEncoded new

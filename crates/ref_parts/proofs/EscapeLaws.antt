@@ -33,13 +33,13 @@ escape_front (b ∷ front) rest plain =
     ap (λ x. x ++ escape (front ++ rest)) (escaped_byte_plain b (All-head (λ x. is_escaped x ≡ false) b front plain))
     ∙ ap (λ x. b ∷ x) (escape_front front rest (All-tail (λ x. is_escaped x ≡ false) b front plain))
 
--- the byte there is written escaped, and what stands before it stays
+-- the byte there is written escaped, and what is before it stays
 pub record CutsAt (bs : List ℕ) (i : ℕ) : Type 0 where
   pub within : i < length bs
   pub byte : (get_or bs i 0 ≡ 126) ⊎ (get_or bs i 0 ≡ 47)
   pub text : escape bs ≡ take i bs ++ (escaped_byte (get_or bs i 0) ++ escape (drop (i + 1) bs))
 
--- what stands before the first such byte is plain
+-- what is before the first such byte is plain
 front_plain : (bs : List ℕ) → All (λ b. is_escaped b ≡ false) (before_first is_escaped bs)
 front_plain bs =
     let n = position_or_len is_escaped bs in

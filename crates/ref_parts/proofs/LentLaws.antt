@@ -175,7 +175,7 @@ module _ {K V : Type 0} (eq : K → K → Bool) (key : K) where
         here = place.here.2;
       }
 
--- an entry behind entries that lack its key
+-- an entry after entries that lack its key
 pub IsAt_last : {K V : Type 0} (eq : K → K → Bool) (key : K) (v : V) (es : List (K × V)) → eq key key ≡ true → lookup (eq key) es ≡ None → IsAt eq key (es ++ (key, v) ∷ []) (length es)
 IsAt_last eq key v es own none = record { front = es; pair = (key, v); back = []; cut = refl; after = refl; first = none; here = own }
 

@@ -176,7 +176,7 @@ module _ {K V : Type 0} {eq : K → K → Bool} (laws : IsEquivalence eq) where
         EachOnce-push xs key value once.1 parts.1,
       )
 
-  -- in a list of entries, each key of the back is missing in front of it
+  -- in a list of entries, each key of the back is missing before it
   pub EachOnce-before : (xs ys : List (K × V)) (e : K × V) → EachOnce eq (xs ++ e ∷ ys) → lookup (eq e.0) xs ≡ None
   EachOnce-before [] ys e once = refl
   EachOnce-before (x ∷ xs) ys e once = lookup-head_from e.0 x xs (laws.symm e.0 x.0 ∙ apart xs once.0) (EachOnce-before xs ys e once.1)
@@ -185,7 +185,7 @@ module _ {K V : Type 0} {eq : K → K → Bool} (laws : IsEquivalence eq) where
       apart [] none = (lookup-head_none (eq x.0) e ys none).0
       apart (z ∷ zs) none = apart zs (lookup-head_none (eq x.0) z (zs ++ e ∷ ys) none).1
 
-  -- a pair in a slot behind the others
+  -- a pair in a slot after the others
   pub EachOnce-slot_push : (slots : List (Option (K × V))) (key : K) (value : V) → EachOnce eq (pairs slots) → lookup (eq key) (pairs slots) ≡ None → EachOnce eq (pairs (slots ++ Some (key, value) ∷ []))
   EachOnce-slot_push slots key value once none = subst (EachOnce eq) (sym (pairs-append slots (Some (key, value) ∷ []))) (EachOnce-push (pairs slots) key value once none)
 

@@ -61,7 +61,7 @@ and_false_right a b e = ap (λ c. a && c) e ∙ and_false a
 pub and_true_right : (a b : Bool) → b ≡ true → (a && b) ≡ a
 and_true_right a b e = ap (λ c. a && c) e ∙ and_true a
 
--- paths are compared by their last parts and by what stands before them
+-- paths are compared by their last parts and by what is before them
 pub path_eq-push : (left right p q : List Part) (a b : Part) → left ≡ p ++ a ∷ [] → right ≡ q ++ b ∷ [] → path_eq left right ≡ (path_eq p q && part_eq a b)
 path_eq-push left right p q a b l r =
     ap (λ x. path_eq x right) l ∙ ap (path_eq (p ++ a ∷ [])) r ∙ pointwise-push part_eq p q a b

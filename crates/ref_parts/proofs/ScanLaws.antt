@@ -1,4 +1,4 @@
--- What the loops of `src/scan.rt` keep, and where the first escape stands in words one after another.
+-- What the loops of `src/scan.rt` keep, and where the first escape is in words one after another.
 use Rattle.std.proofs.Common.{◌≡◌, ℕ, zero, suc, ◌+◌, ◌*◌, ◌/◌, ◌<◌, ◌≤◌, Bool, not, ltb, List, [], ◌∷◌, ◌++◌, length, get_or, take, drop, Some, None, append_assoc, append-nil, length-append, length-drop, add-one, refl, sym, ap, ◌∙◌, subst, arith}
 use Rattle.std.specs.Int.Count.{count_trailing_zeros}
 use Rattle.std.specs.List.{position_or_len, position, concat}

@@ -1,4 +1,9 @@
 -- What `src/table.rt` rests on: what sorting and dropping repeats keep of the last entry that a test finds.
+--
+-- 1. What is kept of a list when repeats are dropped, and that the last entry that a test finds is kept.
+-- 2. Slices: what is written to all elements, one at a time.
+-- 3. Texts and pairs of texts are totally ordered, and are equal exactly where the order says so (`pair_total`).
+-- 4. Keys, which are the first bytes of a text as a number, are ordered likewise, and tell only unequal texts apart (`key_total`).
 use Rattle.std.proofs.Common.{◌≡◌, ℕ, zero, suc, ◌+◌, ◌<◌, Bool, true, false, not, ◌&&◌, ◌||◌, cond, eqb, map, String, string_bytes, bytes_eq, option_map, List, [], ◌∷◌, ◌++◌, length, get_or, take, drop, reverse, Option, Some, None, is_some, ◌⊎◌, inl, inr, ⊎_elim, refl, sym, ap, ◌∙◌, subst, append-nil, arith}
 use Rattle.std.proofs.lemmas.Bool.{false≢true, cond-false}
 use Rattle.std.proofs.lemmas.Cmp.{nat_list_cmp_total, then_total, on_total, back_total, eq_by_cmp_equiv}
@@ -109,7 +114,7 @@ each_at P (y ∷ xs) all zero x within is = subst P (sym is) all.0
 each_at P (y ∷ xs) all (suc i) x within is = each_at P xs all.1 i x (omega arith) is
 
 module _ {X : Type 0} {R : X → X → Ordering} (u : X → Bool) (apart : (x y : X) → u x ≡ true → R x y ≡ Less → u y ≡ false) where
-  -- behind one that passes nothing passes
+  -- after one that passes nothing passes
   none_behind : (x : X) (xs : List X) → u x ≡ true → AllByRecursion (λ y. R x y ≡ Less) xs → filter u xs ≡ []
   none_behind x xs passes above = filter_none u xs (each_weaker u (λ y. apart x y passes) xs above)
 

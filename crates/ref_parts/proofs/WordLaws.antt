@@ -250,7 +250,7 @@ length_digits (b ∷ bytes) = let rest = length_digits bytes in omega (arith, re
 
 -- ---- where a text has its first
 
--- behind what has none
+-- after what has none
 pub place_behind : (p : ℕ → Bool) (xs ys : List ℕ) → position_or_len p xs ≡ length xs → position_or_len p (xs ++ ys) ≡ length xs + position_or_len p ys
 place_behind p [] ys plain = omega arith
 place_behind p (x ∷ xs) ys plain =
@@ -259,7 +259,7 @@ place_behind p (x ∷ xs) ys plain =
       | false ↦ λ more. let rest = place_behind p xs ys (omega (arith, more)) in omega (arith, rest)
     ] plain
 
--- before what it stands in
+-- before what it is in
 pub place_before : (p : ℕ → Bool) (xs ys : List ℕ) → position_or_len p xs < length xs → position_or_len p (xs ++ ys) ≡ position_or_len p xs
 place_before p [] ys within = absurd (omega arith)
 place_before p (x ∷ xs) ys within =

@@ -21,11 +21,11 @@ abbrev pub encoded_byte : ℕ → List ℕ
 encoded_byte b = if is_fragment_byte b then b ∷ [] else percent_encode_byte b
 
 -- a text as a fragment holds it (RFC 3986, 2.1 and 3.5)
-abbrev pub encoded : List ℕ → List ℕ
-encoded text = flat_map encoded_byte text
+abbrev pub encoded_text : List ℕ → List ℕ
+encoded_text text = flat_map encoded_byte text
 
 -- the text is what some text becomes, which is UTF-8 and is read back
 pub record IsEncoded (text : List ℕ) : Type 0 where
-  pub same : encoded (percent_decode text) ≡ text
+  pub same : encoded_text (percent_decode text) ≡ text
   pub utf8 : IsUtf8 (percent_decode text)
   pub bytes : All (λ b. b < 256) (percent_decode text)

@@ -16,7 +16,7 @@ abbrev pub child_at : Data → Part → Option Data
 child_at d (Key k) = get k d
 child_at d (Index i) = at i d
 
--- the value at a path, or none where a step leads nowhere
+-- the value at a path, or none where a step finds no value
 abbrev pub value_at : Data → List Part → Option Data
 value_at d [] = Some d
 value_at d (part ∷ path) = option_and_then (λ e. value_at e path) (child_at d part)

@@ -8,7 +8,7 @@ use Rattle.std.specs.Prelude.{◌≡◌, true, false, [], ◌∷◌, codes, Some
 use Rattle.serde_json.specs.Data.{Data, null, boolean, number, unsigned, string, array, object, no_items, item, no_members, member}
 use Rattle.ref_parts.specs.Path.{Key, Index, value_at}
 use Rattle.ref_parts.specs.Pointer.{tilde, slash, is_escaped, escaped_byte, escape, part_text, pointer_text, first_escape, replace_escape, unescape, is_index_text, parse_index, tokens, step, value_along, evaluate}
-use Rattle.ref_parts.specs.Encoded.{is_unreserved, is_sub_delim, is_fragment_byte, encoded_byte, encoded, IsEncoded}
+use Rattle.ref_parts.specs.Encoded.{is_unreserved, is_sub_delim, is_fragment_byte, encoded_byte, encoded_text, IsEncoded}
 
 -- `{"":{"a/b":[5]}}`
 abbrev pub document : Data
@@ -77,7 +77,7 @@ example =
     (member (107 ∷ 34 ∷ 108 ∷ []) (number (unsigned 6))
     (member (codes "m~n") (number (unsigned 8)) no_members))))))))))
 
--- section 5's pointers into it, and steps that lead nowhere (section 4)
+-- section 5's pointers into it, and steps that find no value (section 4)
 pub record ExampleRows : Type 0 where
   pub whole : evaluate example [] ≡ Some example
   pub array_there : evaluate example (codes "/foo") ≡ Some foo
@@ -118,14 +118,14 @@ pub record FragmentRows : Type 0 where
   pub slash_stays : encoded_byte slash ≡ codes "/"
   pub percent_byte : encoded_byte 37 ≡ codes "%25"
   pub two_digits : encoded_byte 10 ≡ codes "%0A"
-  pub fragment_percent : encoded (codes "/c%d") ≡ codes "/c%25d"
-  pub fragment_caret : encoded (codes "/e^f") ≡ codes "/e%5Ef"
-  pub fragment_bar : encoded (codes "/g|h") ≡ codes "/g%7Ch"
-  pub fragment_backslash : encoded (47 ∷ 105 ∷ 92 ∷ 106 ∷ []) ≡ codes "/i%5Cj"
-  pub fragment_quote : encoded (47 ∷ 107 ∷ 34 ∷ 108 ∷ []) ≡ codes "/k%22l"
-  pub fragment_space : encoded (codes "/ ") ≡ codes "/%20"
-  pub fragment_tilde : encoded (codes "/m~0n") ≡ codes "/m~0n"
-  pub fragment_slash : encoded (codes "/a~1b") ≡ codes "/a~1b"
+  pub fragment_percent : encoded_text (codes "/c%d") ≡ codes "/c%25d"
+  pub fragment_caret : encoded_text (codes "/e^f") ≡ codes "/e%5Ef"
+  pub fragment_bar : encoded_text (codes "/g|h") ≡ codes "/g%7Ch"
+  pub fragment_backslash : encoded_text (47 ∷ 105 ∷ 92 ∷ 106 ∷ []) ≡ codes "/i%5Cj"
+  pub fragment_quote : encoded_text (47 ∷ 107 ∷ 34 ∷ 108 ∷ []) ≡ codes "/k%22l"
+  pub fragment_space : encoded_text (codes "/ ") ≡ codes "/%20"
+  pub fragment_tilde : encoded_text (codes "/m~0n") ≡ codes "/m~0n"
+  pub fragment_slash : encoded_text (codes "/a~1b") ≡ codes "/a~1b"
   pub read_back : IsEncoded (codes "%25")
   pub letter_encoded : IsEncoded (codes "%61") → ⊥
   pub lower_case : IsEncoded (codes "%5e") → ⊥

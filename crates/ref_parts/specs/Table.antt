@@ -11,7 +11,7 @@ Entry V = List ℕ × List ℕ × V
 abbrev pub entries_of : {V : Type 0} → List (String Global × String Global × V) → List (Entry V)
 entries_of tuples = map (λ e. (string_bytes e.0, string_bytes e.1, e.2)) tuples
 
--- the entry stands under these two texts
+-- the entry is under these two texts
 abbrev pub is_under : {V : Type 0} → List ℕ → List ℕ → Entry V → Bool
 is_under first second e = bytes_eq e.0 first && bytes_eq e.1 second
 
@@ -19,7 +19,7 @@ is_under first second e = bytes_eq e.0 first && bytes_eq e.1 second
 abbrev pub last_value : {V : Type 0} → List ℕ → List ℕ → List (Entry V) → Option V
 last_value first second entries = option_map (λ e. e.2) (last_or None (filter (is_under first second) entries))
 
--- how many different pairs of texts have a value: an entry counts where no later one stands under its texts
+-- how many different pairs of texts have a value: an entry counts where no later one is under its texts
 abbrev pub pair_count : {V : Type 0} → List (Entry V) → ℕ
 pair_count [] = 0
 pair_count (e ∷ entries) =

@@ -1,7 +1,7 @@
 //! Text that is escaped for a URI's fragment (RFC 3986, section 3.5) and can be read back.
 ghost use Rattle.std.specs.Prelude.{◌≡◌, ◌++◌, [], string_bytes, OnOk, OnErr, IfOk};
 ghost use Rattle.percent_encoding.specs.Percent.{percent_decode as decoded};
-ghost use Rattle.ref_parts.specs.Encoded.{encoded, IsEncoded};
+ghost use Rattle.ref_parts.specs.Encoded.{encoded_text, IsEncoded};
 
 use percent_encoding::{
     AsciiSet, DecodeError, NON_ALPHANUMERIC, ascii_set, percent_decode, utf8_percent_encode,
@@ -90,7 +90,7 @@ impl EncodedBuffer {
 
     /// The escaped text.
     pub fn as_str(&self) -> &str
-        ensures value { result.now ≡ encoded self.now }
+        ensures value { result.now ≡ encoded_text self.now }
     {
         self.as_encoded().as_str()
     }
@@ -122,7 +122,7 @@ impl EncodedBuffer {
 impl<'a> EncodedString<'a> {
     /// The escaped text.
     pub fn as_str(&self) -> &'a str
-        ensures value { result.now ≡ encoded self.now }
+        ensures value { result.now ≡ encoded_text self.now }
     {
         self.encoded
     }

@@ -106,7 +106,7 @@ fn push_unescaped(key: &mut String, escaped: &str) -> Result<(), AllocError>
     key.push_str(rest)
 }
 
-// Appends the one byte that a `~` before this text stands for, and answers what is left of the text.
+// Appends the one byte that a `~` before this text stands for, and returns what is left of the text.
 fn push_escape<'a>(key: &mut String, after: &'a str) -> Result<&'a str, AllocError>
     ensures byte { IfOk result (λ rest. string_bytes key.new ++ unescape rest.now ≡ string_bytes key.old ++ unescape (tilde ∷ after.now)) }
     ensures text { IfOk result (λ rest. IsUtf8 rest.now) }

@@ -28,7 +28,7 @@ pub fn pointer<'a>(
     }
 }
 
-// The value that the tokens lead to, which stand between `/`s.
+// The value that the tokens lead to, which are between `/`s.
 fn value_along<'a>(
     alloc: Global,
     document: &'a Value,

@@ -3,7 +3,7 @@
 ghost use Rattle.std.specs.Prelude.{◌≡◌, ◌==◌, ◌↔◌, ◌<◌, ◌^◌, ℕ, List, [], ◌∷◌, All, Some, decimal, codes, map};
 ghost use Rattle.std.specs.List.{after_first};
 ghost use Rattle.percent_encoding.specs.Percent.{percent_decode as decoded};
-ghost use Rattle.ref_parts.specs.Encoded.{encoded};
+ghost use Rattle.ref_parts.specs.Encoded.{encoded_text};
 ghost use Rattle.serde_json.specs.Data.{Data};
 ghost use Rattle.ref_parts.specs.Path.{Part, value_at, HasFittingIndexes};
 ghost use Rattle.ref_parts.specs.Pointer.{slash, escape, unescape, part_text, pointer_text, tokens, evaluate, parse_index};
@@ -34,7 +34,7 @@ pub fn pointer_text_leads_where_its_path_does()
 /// between them, where the path isn't empty.
 pub fn fragment_has_the_escaped_parts()
     ensures law { (part : Part) (path : List Part) → HasFittingIndexes (part ∷ path) → All (λ b. b < 256) (pointer_text (part ∷ path))
-        → tokens (decoded (after_first (λ b. b == slash) (encoded (pointer_text (part ∷ path))))) ≡ map part_text (part ∷ path) }
+        → tokens (decoded (after_first (λ b. b == slash) (encoded_text (pointer_text (part ∷ path))))) ≡ map part_text (part ∷ path) }
 {}
 
 /// The worked rows of the definitions of pointer text.
@@ -44,9 +44,9 @@ pub fn pointer_rows()
 
 /// Text as a fragment holds it, and such text read back (RFC 3986, 2.1 and 3.5).
 pub fn encoded_rows()
-    ensures letters_of_two_bytes { encoded (195 ∷ 169 ∷ 37 ∷ []) ≡ codes "%C3%A9%25" }
-    ensures space { encoded (codes "~ ?") ≡ codes "~%20?" }
-    ensures slash { encoded (codes "/a~1b%") ≡ codes "/a~1b%25" }
+    ensures letters_of_two_bytes { encoded_text (195 ∷ 169 ∷ 37 ∷ []) ≡ codes "%C3%A9%25" }
+    ensures space { encoded_text (codes "~ ?") ≡ codes "~%20?" }
+    ensures slash { encoded_text (codes "/a~1b%") ≡ codes "/a~1b%25" }
     ensures read_back { decoded (codes "%C3%A9%25") ≡ 195 ∷ 169 ∷ 37 ∷ [] }
 {}
 
@@ -55,7 +55,7 @@ pub fn token_rows()
     ensures rows { TokenRows }
 {}
 
-/// The pointers of RFC 6901's example (section 5), and steps that lead nowhere.
+/// The pointers of RFC 6901's example (section 5), and steps that find no value.
 pub fn example_rows()
     ensures rows { ExampleRows }
 {}

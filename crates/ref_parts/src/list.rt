@@ -9,7 +9,7 @@ use std::hash::{Hash, Hasher};
 use std::marker::Model;
 use std::rc::Rc;
 
-/// An immutable list, linked from its front. Lists share what stands behind an item that was put in front.
+/// An immutable list, linked from its front. Lists share what is after an item that was put in front.
 #[cycle(list)]
 pub struct List<T: Drop> {
     head: Option<Rc<Node<T>>>,
@@ -48,7 +48,7 @@ impl<T: Drop> Drop for List<T> {
     }
 }
 
-// Lets a node go, and answers what stands behind it where no other list has it.
+// Lets a node go, and returns what is after it where no other list has it.
 fn rest_of<T: Drop>(node: Rc<Node<T>>) -> Option<Rc<Node<T>>>
     ensures { length (items_of result) ≤ length node.value.next }
 {
@@ -105,10 +105,10 @@ impl<T: Drop> List<T> {
     }
 }
 
-/// The same items, shared: one handle more, whatever the length, and no memory.
+/// The same items, shared: one handle more, whatever the length. By the code it takes no memory; no clause says so.
 ///
-/// It is refused only where the first link has no count left for one more handle, which `std::rc::Rc` tells as want of
-/// memory. The empty list has no link, and isn't refused.
+/// It fails only where the first link has no count left for one more handle, which `std::rc::Rc` returns as out of memory. The empty
+/// list has no link, and its copy succeeds.
 impl<T: Drop> Clone for List<T> {
     ghost is_clone = { λ list copy. copy ≡ list };
 

@@ -167,7 +167,7 @@ impl<'a> Drop for JsonPointerNode<'a> {
     }
 }
 
-// Lets a link go, and answers the one before it where no other path has it.
+// Lets a link go, and returns the one before it where no other path has it.
 fn before(link: Rc<Link<'_>>) -> Option<Rc<Link<'_>>>
     ensures { length (path_of result) ≤ length link.entry.value.parent }
 {
@@ -189,7 +189,7 @@ impl<'a> JsonPointerNode<'a> {
         JsonPointerNode::from_last(None)
     }
 
-    /// The path with this part behind it. This path stays, and is shared.
+    /// The path with this part after it. This path stays, and is shared.
     ///
     /// Takes memory for one link, whatever the length, and is refused where there is none.
     pub fn push<S: Into<JsonPointerSegment<'a>>>(
@@ -253,10 +253,10 @@ impl Default for JsonPointerNode<'_> {
     }
 }
 
-/// The same path, shared: one handle more, whatever the length, and no memory.
+/// The same path, shared: one handle more, whatever the length. By the code it takes no memory; no clause says so.
 ///
-/// It is refused only where the last link has no count left for one more handle, which `std::rc::Rc` tells as want of
-/// memory. The root has no link, and isn't refused.
+/// It fails only where the last link has no count left for one more handle, which `std::rc::Rc` returns as out of memory. The root has
+/// no link, and its copy succeeds.
 impl Clone for JsonPointerNode<'_> {
     ghost is_clone = { λ node copy. copy ≡ node };
 

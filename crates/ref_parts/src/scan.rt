@@ -12,7 +12,7 @@ const TILDES: u64 = 0x7e7e_7e7e_7e7e_7e7e;
 
 const SLASHES: u64 = 0x2f2f_2f2f_2f2f_2f2f;
 
-// Where the first escape stands in words one after another.
+// Where the first escape is in words one after another.
 pub(crate) fn first_in_words(words: &[[u8; 8]]) -> Option<usize>
     requires { length words.now * 8 < 2 ^ 64 }
     ensures { result ≡ escape_position (concat words.now) }
@@ -27,7 +27,7 @@ pub(crate) fn first_in_words(words: &[[u8; 8]]) -> Option<usize>
     None
 }
 
-// Where the first escape stands among fewer bytes than a word has.
+// Where the first escape is among fewer bytes than a word has.
 pub(crate) fn first_in_rest(rest: &[u8]) -> Option<usize>
     requires { length rest.now < 8 }
     ensures { result ≡ escape_position rest.now }
@@ -35,7 +35,7 @@ pub(crate) fn first_in_rest(rest: &[u8]) -> Option<usize>
     rest.iter().position(|byte| *byte == b'~' || *byte == b'/')
 }
 
-// How many words stand before the first eight that have an escape, or before the fewer than eight at the end.
+// How many words are before the first eight that have an escape, or before the fewer than eight at the end.
 fn words_before_block(words: &[[u8; 8]]) -> usize
     ensures within { result ≤ length words.now }
     ensures plain { IsPlain (concat (take result words.now)) }

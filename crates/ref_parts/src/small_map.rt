@@ -263,7 +263,7 @@ fn copied<K: Eq + Hash + Clone + Drop, V: Clone + Drop, const N: usize>(
     }
 }
 
-// Puts a value at a key of a hashed map, and answers its place.
+// Puts a value at a key of a hashed map, and returns its place.
 fn put_hashed<K: Eq + Hash + Drop, V: Drop>(
     map: &mut IndexMap<K, V>,
     key: K,
@@ -309,7 +309,7 @@ fn hashed<K: Eq + Hash + Drop, V: Drop, const N: usize>(
     Ok(map)
 }
 
-// Puts a value at a key of either form, which grows to the other where it has to, and answers its place.
+// Puts a value at a key of either form, which grows to the other where it has to, and returns its place.
 fn put<K: Eq + Hash + Drop, V: Drop, const N: usize>(
     form: &mut Form<K, V, N>,
     alloc: Global,

@@ -10,8 +10,8 @@ use std::cmp::Ordering;
 use std::marker::Model;
 use std::snapshot::Snapshot;
 
-/// Values under pairs of texts, which are found by halving: they stand in byte order, the greatest first, by the first text and
-/// by the second where the first are equal, each pair once. Of each first text eight bytes, behind the beginning that all first
+/// Values under pairs of texts, which are found by halving: they are in byte order, the greatest first, by the first text and
+/// by the second where the first are equal, each pair once. Of each first text eight bytes, after the beginning that all first
 /// texts have in common, stand as a number in a list beside them: most comparisons are of two such numbers.
 ///
 /// Contracts see the list of the entries that it was made from.
@@ -25,7 +25,7 @@ pub struct SortedTable<V> {
     entered: Snapshot<Vec<(String, String, V)>>,
 }
 
-// An entry, and the eight bytes of its first text behind what all of them share, as a number that decides most comparisons.
+// An entry, and the eight bytes of its first text after what all of them share, as a number that decides most comparisons.
 #[derive(Drop)]
 struct Slot<V> {
     word: u64,
@@ -87,7 +87,7 @@ impl<V> SortedTable<V> {
     /// The value that was entered last under two texts, and a count, which the code raises where it compares an entry with them.
     ///
     /// The count is at least 1 where the table isn't empty, and at most as many as `len` has binary digits: where `len` is below
-    /// 2^n, at most n. Takes no memory. A comparison reads texts only where eight bytes of the first, behind what all first texts have in common, are
+    /// 2^n, at most n. Takes no memory. A comparison reads texts only where eight bytes of the first, after what all first texts have in common, are
     /// equal; then each byte of a beginning that they share at most twice, and second texts only where the first are equal.
     #[inline(always)]
     pub fn get(&self, first: &str, second: &str) -> (Option<&V>, usize)
@@ -181,7 +181,7 @@ fn word_at(text: &str, from: usize) -> u64
     u64::from_be_bytes(first_eight(rest))
 }
 
-// So many of eight bytes, the last ones, as a number, the first one highest, with 0 for each behind them.
+// So many of eight bytes, the last ones, as a number, the first one highest, with 0 for each after them.
 #[inline(always)]
 fn last_bytes(eight: &[u8; 8], count: usize) -> u64
     requires { count < 8 }
@@ -220,8 +220,8 @@ fn probe<V>(
     order(number, slot, word, first, second)
 }
 
-// Whether an entry stands before two texts with the word of the first: by the words, and by the texts where those are equal, the
-// greatest first. Few comparisons read texts, so those stay out of what sorts and searches; and each answer is told by a branch of
+// Whether an entry is before two texts with the word of the first: by the words, and by the texts where those are equal, the
+// greatest first. Few comparisons read texts, so those stay out of what sorts and searches; and each answer is given by a branch of
 // its own, which takes fewer steps there than an order that is then matched. The entry's number is given, since a search reads it
 // elsewhere.
 #[inline(always)]

@@ -6,11 +6,11 @@ use Rattle.std.specs.List.{fold}
 abbrev pub begins_character : ℕ → Bool
 begins_character b = nat_lt b 128 || nat_le 192 b
 
--- the line behind a byte: a line feed ends one
+-- the line after a byte: a line feed ends one
 abbrev pub next_line : ℕ → ℕ → ℕ
 next_line line b = cond (b == 10) (line + 1) line
 
--- the column behind a byte: 1 behind a line feed, and else one more for each character
+-- the column after a byte: 1 after a line feed, and else one more for each character
 abbrev pub next_column : ℕ → ℕ → ℕ
 next_column column b = cond (b == 10) 1 (cond (begins_character b) (column + 1) column)
 

@@ -24,7 +24,7 @@ impl<'a> Located<'a> {
 }
 
 impl Places {
-    /// Where these places stand in a JSON text. Of a text that is no JSON, those are found that come before the fault.
+    /// Where these places are in a JSON text. Of a text that is no JSON, those are found that come before the fault.
     ///
     /// One pass over the text: it costs a step for each byte, and a look-up for each key and each item of what is asked for or has below it what is
     /// asked for.
@@ -45,7 +45,7 @@ impl Places {
         Ok(Located { found })
     }
 
-    // Leaves out what was found in a member whose key came again behind it.
+    // Leaves out what was found in a member whose key came again after it.
     fn leave_last(&self, found: &mut Vec<Found<'_>>) {
         for number in 1..found.len() {
             let above = self.above.get(number).copied().unwrap_or(0);

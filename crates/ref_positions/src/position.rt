@@ -34,7 +34,7 @@ impl<'a> Position<'a> {
         Position::start(text).moved_to(offset)
     }
 
-    /// How many bytes of the text stand before it.
+    /// How many bytes of the text are before it.
     pub fn offset(&self) -> usize
         ensures value { result ≡ self.now.offset }
         ensures within { result ≤ length self.now.text.now }
@@ -58,7 +58,7 @@ impl<'a> Position<'a> {
         self.column
     }
 
-    /// The place behind the next byte, or the end of the text.
+    /// The place after the next byte, or the end of the text.
     pub(crate) fn after_byte(self) -> Position<'a>
         ensures text { result.text.now ≡ self.entry.text.now }
         ensures offset { self.entry.offset ≤ result.offset }

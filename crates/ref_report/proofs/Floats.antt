@@ -7,7 +7,7 @@ use Rattle.std.specs.Cmp.Lexicographic.{slice_cmp}
 use Rattle.serde_json.specs.Data.{Data, null, boolean, number, string, array, object, Items, no_items, item, Members, no_members, member}
 use Rattle.serde_json.specs.Find.{get, at, get_item, get_member, as_str}
 use Rattle.serde_json.specs.Written.{has_float, items_have_float, members_have_float}
-use Rattle.ref_uri.specs.Targets.{parsed}
+use Rattle.ref_uri.specs.Targets.{uri_of}
 use Rattle.ref_report.specs.declared.request.BadRequest.{BadRequest}
 use Rattle.ref_report.specs.declared.request.BadRequest.TheVariants as bad
 use Rattle.ref_report.specs.Request.{Request, document_of, documents_of, retrievable_of, remote_of, every, list_of, optional, request_of}
@@ -67,7 +67,7 @@ document_without_floats d h =
 retrievable_without_floats : (d : Data) → HoldsNoFloat d → IfSome (retrievable_of d) (λ e. HoldsNoFloat e.1)
 retrievable_without_floats d h =
     some_bound (λ e. HoldsNoFloat e.tree) (λ e. HoldsNoFloat e.1) (document_of d) _ (document_without_floats d h)
-    (λ e p. some_mapped (λ _. HoldsNoFloat e.tree) (λ x. HoldsNoFloat x.1) (result_ok (parsed e.uri)) (λ uri. (uri, e.tree)) (if_so (result_ok (parsed e.uri)) p) (λ uri q. q))
+    (λ e p. some_mapped (λ _. HoldsNoFloat e.tree) (λ x. HoldsNoFloat x.1) (result_ok (uri_of e.uri)) (λ uri. (uri, e.tree)) (if_so (result_ok (uri_of e.uri)) p) (λ uri q. q))
   where
     if_so : {A P : Type 0} (o : Option A) → P → IfSome o (λ _. P)
     if_so None p = tt

@@ -1,4 +1,4 @@
--- The lines of references that lead nowhere, as the program writes them of what is listed.
+-- The lines of unresolvable references, as the program writes them of what is listed.
 use Rattle.std.proofs.Common.{◌≡◌, List, [], ◌∷◌, ◌++◌, ℕ, codes, decimal, flat_map, map, ap, refl, ◌∙◌, append_assoc}
 use Rattle.std.specs.List.{AllZip}
 use Rattle.serde_json.specs.Data.{string}
@@ -6,8 +6,8 @@ use Rattle.serde_json.specs.Written.{compact_text}
 use Rattle.ref_parts.specs.Path.{Part}
 use Rattle.ref_parts.specs.Pointer.{pointer_text}
 use Rattle.ref_parts.specs.Segment.{part_of}
-use Rattle.ref_world.specs.World.{World}
-use Rattle.ref_world.specs.Fault.{Fault, fault_text}
+use Rattle.ref_definitions.specs.World.{World}
+use Rattle.ref_definitions.specs.Fault.{Fault, fault_text}
 use Rattle.ref_retrieve.specs.declared.error.Error.{Error}
 use Rattle.ref_retrieve.specs.Errors.{error_text, SaysFault}
 use Rattle.ref_lint.specs.declared.entry.Dangling.{Dangling}

@@ -2,11 +2,11 @@
 use Rattle.std.proofs.Common.{◌≡◌, ℕ, List, [], Option, Some, None, unwrap_or, Result, Ok, Err, refl, sym, ap, subst, ◌∙◌}
 use Rattle.std.specs.declared.alloc.AllocError.{AllocError}
 use Rattle.ref_uri.specs.Targets.{Refusal}
-use Rattle.ref_world.specs.World.{World}
-use Rattle.ref_world.specs.Fault.{Fault, InvalidUri, as_invalid_uri}
-use Rattle.ref_world.specs.Preparing.{Given}
-use Rattle.ref_world.specs.Pending.{Pending}
-use Rattle.ref_world.specs.Follow.{Followed}
+use Rattle.ref_definitions.specs.World.{World}
+use Rattle.ref_definitions.specs.Fault.{Fault, InvalidUri, as_invalid_uri}
+use Rattle.ref_definitions.specs.Preparing.{Given}
+use Rattle.ref_definitions.specs.Pending.{Pending}
+use Rattle.ref_definitions.specs.Follow.{Followed}
 use Rattle.ref_retrieve.specs.declared.error.Error.{Error}
 use Rattle.ref_retrieve.specs.declared.error.Error.TheVariants as error
 use Rattle.ref_retrieve.specs.Errors.{SaysFault, IsFaultOf}
@@ -17,16 +17,16 @@ use Rattle.referencing.specs.Following.{SaysStepFault}
 use Rattle.ref_report.specs.declared.request.BadRequest.{BadRequest}
 use Rattle.ref_report.specs.Request.{Document, Request}
 use Rattle.referencing.specs.MetaSchemas.{given_of_meta_schemas}
-use Rattle.ref_report.specs.Worlds.{pending_of, above, IsWorld, AreParents, given_of_request}
+use Rattle.ref_report.specs.Worlds.{pending_of, above_parents, IsWorld, AreParents, given_of_request}
 use Rattle.ref_report.specs.Report.{Report, IsReportAbove, IsReadReport, world_report}
 use Rattle.ref_report.specs.inner.Faults.{IsErrorOf}
-use Rattle.ref_world.proofs.Outcomes.{IsDetermined, map_is_determined, default_is_determined, one_outcome}
+use Rattle.ref_definitions.proofs.Outcomes.{IsDetermined, map_is_determined, default_is_determined, one_outcome}
 
 -- ---- there is one
 
 one_world : (given : List Pending → Given) (pending : Result (List Pending) Refusal) (a b : Result World Fault) → ((ps : List Pending) → IsDetermined (given ps).retriever) → IsWorld given pending a → IsWorld given pending b → a ≡ b
 one_world given (Ok ps) a b determined (one, first, is) (other, second, is') =
-    is ∙ ap (above (given ps).parents) (one_outcome (given ps) (determined ps) one other first second) ∙ sym is'
+    is ∙ ap (above_parents (given ps).parents) (one_outcome (given ps) (determined ps) one other first second) ∙ sym is'
 one_world given (Err refusal) a b determined is is' = is ∙ sym is'
 
 one_parents : (meta : Option (List Document)) (a b : Result World Fault) → AreParents meta a → AreParents meta b → a ≡ b

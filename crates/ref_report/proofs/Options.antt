@@ -2,7 +2,7 @@
 use Rattle.std.proofs.Common.{Bool, true, false, cond, List, [], ◌∷◌, flat_map, Option, Some, None, IfSome, option_map, option_and_then, unwrap_or, Result, Ok, Err, IfOk, IfErr, ok_or}
 use Rattle.std.specs.List.{AllByRecursion, last_or}
 use Rattle.std.specs.Option.{option_or}
-use Rattle.ref_world.specs.Results.{◌>>=◌}
+use Rattle.ref_definitions.specs.Results.{◌>>=◌}
 use Rattle.ref_draft.proofs.Lists.{all_append}
 
 -- ---- results

@@ -5,10 +5,10 @@ use Rattle.serde_json.specs.Data.{Data}
 use Rattle.serde_json.specs.View.{view}
 use Rattle.serde_json.specs.declared.value.Value.{Value}
 use Rattle.ref_draft.specs.declared.draft.Draft.{Draft}
-use Rattle.ref_world.specs.Results.{◌>>=◌}
-use Rattle.ref_world.specs.World.{World}
-use Rattle.ref_world.specs.Fault.{Fault}
-use Rattle.ref_world.specs.Follow.{Step, Followed, followed}
+use Rattle.ref_definitions.specs.Results.{◌>>=◌}
+use Rattle.ref_definitions.specs.World.{World}
+use Rattle.ref_definitions.specs.Fault.{Fault}
+use Rattle.ref_definitions.specs.Follow.{Step, Followed, followed_steps}
 use Rattle.ref_retrieve.specs.declared.error.Error.{Error}
 use Rattle.referencing.specs.Following.{lent_last, SaysStepFault}
 use Rattle.ref_report.specs.declared.report.Report as declared
@@ -64,10 +64,10 @@ pub done_is : (answer : Result Followed (ℕ × Fault)) (f : Followed) (report :
 done_is answer f report leads is = is ∙ ap followed_report (sym leads)
 
 pub world_reported : (r : Request) (parents world : World) (ss : List Step) (steps report : Report) → AreParents r.meta (Ok parents) → IsWorldAbove r parents (Ok world) → ss ≡ steps_of r
-    → steps ≡ followed_report (followed world r.base ss) → report ≡ with_lines (lint_lines (unwrap_or r.lint false) world) steps → IsRequestReport r report
+    → steps ≡ followed_report (followed_steps world r.base ss) → report ≡ with_lines (lint_lines (unwrap_or r.lint false) world) steps → IsRequestReport r report
 world_reported r parents world ss steps report meta above same leads is =
     let lines = lint_lines (unwrap_or r.lint false) world in
-    (Ok parents, meta, (Ok world, above, is ∙ ap (with_lines lines) leads ∙ ap (λ s. with_lines lines (followed_report (followed world r.base s))) same))
+    (Ok parents, meta, (Ok world, above, is ∙ ap (with_lines lines) leads ∙ ap (λ s. with_lines lines (followed_report (followed_steps world r.base s))) same))
 
 -- the line of a fault, as it is written from the front
 pub fault_line : (of text : List ℕ) → codes "fault " ++ (of ++ (codes " " ++ (text ++ codes "\n"))) ≡ line (codes "fault " ++ of ++ codes " " ++ text)

@@ -3,7 +3,7 @@ use Rattle.std.proofs.Common.{◌≡◌, Bool, true, false, Result, Ok, Err, ok_
 use Rattle.serde_json.specs.Data.{Data}
 use Rattle.serde_json.specs.Find.{get, as_object}
 use Rattle.serde_json.specs.Written.{has_float}
-use Rattle.ref_world.specs.Results.{◌>>=◌}
+use Rattle.ref_definitions.specs.Results.{◌>>=◌}
 use Rattle.ref_report.specs.declared.request.BadRequest.TheVariants as bad
 use Rattle.ref_report.specs.Request.{Request, documents_of, base_of, steps_of, remote_of, draft_of, limit_of, lint_of, required, optional, are_fields, fields_of, request_of}
 
@@ -14,7 +14,7 @@ bind_is_ok (Err e) f y h = absurd (cc)
 ok_is : {A E : Type 0} (x y : A) → ◌≡◌ {A = Result A E} (Ok x) (Ok y) → x ≡ y
 ok_is x y h = cc
 
--- the fields that hold documents stand in the tree
+-- the fields that hold documents are in the tree
 pub record AreRead (d : Data) (r : Request) : Type 0 where
   pub documents : required bad.Documents documents_of (get (codes "documents") d) ≡ Ok r.documents
   pub remote : optional bad.Remote remote_of (get (codes "remote") d) ≡ Ok r.remote

@@ -1,19 +1,19 @@
--- Where a retriever answers or refuses each URI, preparing has an outcome, and so each request has a report.
+-- Where a retriever returns or refuses each URI, preparing has an outcome, and so each request has a report.
 use Rattle.std.proofs.Common.{◌≡◌, ℕ, zero, suc, ◌+◌, ◌≤◌, List, [], ◌∷◌, ◌++◌, codes, Option, Some, None, option_map, unwrap_or, Result, Ok, Err, ◌⊎◌, inl, inr, refl, ap, subst, arith}
 use Rattle.serde_json.specs.Data.{Data}
 use Rattle.ref_uri.specs.Targets.{Refusal}
-use Rattle.ref_world.specs.World.{Layer, World, document}
-use Rattle.ref_world.specs.Fault.{Fault, InvalidUri, RetrievalLimit}
-use Rattle.ref_world.specs.Pending.{Pending}
-use Rattle.ref_world.specs.Resources.{last_under}
-use Rattle.ref_world.specs.Wants.{Want, faults, open_wants}
-use Rattle.ref_world.specs.Preparing.{Retriever, Given, IsRun, begun, retrieved, IsOutcome, faulty, limited, refused, ready, refusal_fault}
-use Rattle.ref_world.specs.Retrievers.{default_retriever, map_retriever}
+use Rattle.ref_definitions.specs.World.{Layer, World, document}
+use Rattle.ref_definitions.specs.Fault.{Fault, InvalidUri, RetrievalLimit}
+use Rattle.ref_definitions.specs.Pending.{Pending}
+use Rattle.ref_definitions.specs.Resources.{last_under}
+use Rattle.ref_definitions.specs.Wants.{Want, faults, open_wants}
+use Rattle.ref_definitions.specs.Preparing.{Retriever, Given, IsRun, begun, retrieved, IsOutcome, faulty, limited, refused, ready, refusal_fault}
+use Rattle.ref_definitions.specs.Retrievers.{default_retriever, map_retriever}
 use Rattle.referencing.specs.MetaSchemas.{given_of_meta_schemas}
 use Rattle.ref_report.specs.declared.request.BadRequest.{BadRequest}
 use Rattle.ref_report.specs.Report.{Report, bad_report, fault_report, world_report, IsReportAbove, IsReadReport}
 use Rattle.ref_report.specs.Request.{Document, Request}
-use Rattle.ref_report.specs.Worlds.{pending_of, above, IsWorld, AreParents, given_of_request}
+use Rattle.ref_report.specs.Worlds.{pending_of, above_parents, IsWorld, AreParents, given_of_request}
 
 -- an answer or a refusal for each URI
 abbrev AnswersOrRefuses : Retriever → Type 0
@@ -78,7 +78,7 @@ module _ (given : Given) (each : AnswersOrRefuses given.retriever) where
 -- ---- worlds
 
 some_world : (given : List Pending → Given) (pending : Result (List Pending) Refusal) → ((ps : List Pending) → AnswersOrRefuses (given ps).retriever) → (world : Result World Fault) × IsWorld given pending world
-some_world given (Ok ps) each = let (answer, outcome) = some_outcome (given ps) (each ps) in (above (given ps).parents answer, (answer, outcome, refl))
+some_world given (Ok ps) each = let (answer, outcome) = some_outcome (given ps) (each ps) in (above_parents (given ps).parents answer, (answer, outcome, refl))
 some_world given (Err refusal) each = (Err (InvalidUri refusal), refl)
 
 some_parents : (meta : Option (List Document)) → (parents : Result World Fault) × AreParents meta parents

@@ -16,16 +16,16 @@ use Rattle.ref_draft.specs.Children.{Child, children, with_draft}
 use Rattle.ref_draft.proofs.Hereditary.{Hereditary, in_children}
 use Rattle.ref_draft.proofs.Lists.{all_append, all_filter}
 use Rattle.ref_uri.specs.Targets.{Refusal, target, fragment_part}
-use Rattle.ref_world.specs.World.{Document, Layer, World}
-use Rattle.ref_world.specs.Places.{Place, root, child_place, children_with, children_of, levels_below, places}
-use Rattle.ref_world.specs.Resources.{own_uri, resource_of, resources_in, resources, last_under, means}
-use Rattle.ref_world.specs.Anchors.{Named, named_under, named_at, names_in, names, last_named, named, named_by_identifier, not_named, anchor}
-use Rattle.ref_world.specs.Fault.{Fault, PointerToNowhere, InvalidArrayIndex, InvalidPercentEncoding, as_invalid_uri, not_retrieved}
-use Rattle.ref_world.specs.Bases.{Along, along_part}
-use Rattle.ref_world.specs.Pointers.{index_of, step_into, walked_along, pointed}
-use Rattle.ref_world.specs.Lookup.{Resolver, Found, moved, in_subresource, in_scope, fault_of, entry_of, is_dynamic, unless_fault, entry_found, outermost, dynamically, named_found, pointer_found, at_fragment, lookup}
-use Rattle.ref_world.specs.Recursive.{is_marked, answers_marked, looked_up, behind_beginning, unless_fault_behind, outermost_marked, lookup_recursive}
-use Rattle.ref_world.specs.Follow.{Step, Lookup, Recursive, Enter, Followed, after_lookup, stepped, numbered, followed_from, followed}
+use Rattle.ref_definitions.specs.World.{Document, Layer, World}
+use Rattle.ref_definitions.specs.Places.{Place, root, child_place, children_with, children_of, levels_below, places}
+use Rattle.ref_definitions.specs.Resources.{own_uri, resource_of, resources_in, resources, last_under, meant_place}
+use Rattle.ref_definitions.specs.Anchors.{Named, named_under, named_at, names_in, names, last_named, named_entry, named_by_identifier, not_named, anchor}
+use Rattle.ref_definitions.specs.Fault.{Fault, PointerToNowhere, InvalidArrayIndex, InvalidPercentEncoding, as_invalid_uri, not_retrieved}
+use Rattle.ref_definitions.specs.Bases.{Along, along_part}
+use Rattle.ref_definitions.specs.Pointers.{index_of, step_into, walked_along, pointed_value}
+use Rattle.ref_definitions.specs.Lookup.{Resolver, Found, moved_resolver, in_subresource, in_scope, fault_of, entry_of, is_dynamic, unless_fault, entry_found, outermost, dynamically, named_found, pointer_found, at_fragment, lookup}
+use Rattle.ref_definitions.specs.Recursive.{is_marked, answers_marked, looked_up, behind_beginning, unless_fault_behind, outermost_marked, lookup_recursive}
+use Rattle.ref_definitions.specs.Follow.{Step, Lookup, Recursive, Enter, Followed, after_lookup, after_step, numbered_fault, followed_from, followed_steps}
 use Rattle.ref_report.specs.inner.Floats.{HoldsNoFloat, LayerHoldsNoFloat, WorldHoldsNoFloat}
 use Rattle.ref_report.proofs.Options.{if_bound, if_any, if_ok_or, if_chosen, some_any, some_either, unwrapped, last_of_all, all_joined}
 use Rattle.ref_report.proofs.Floats.{or_is_false, item_without_floats, member_without_floats}
@@ -80,10 +80,10 @@ nearest : (o : Option (List ℕ × Place)) (rest : Option Place) → IfSome o En
 nearest None rest h more = more
 nearest (Some e) rest h more = h
 
-means_without_floats : (world : World) (uri : List ℕ) → WorldHoldsNoFloat world → IfSome (means world uri) PlaceHoldsNoFloat
+means_without_floats : (world : World) (uri : List ℕ) → WorldHoldsNoFloat world → IfSome (meant_place world uri) PlaceHoldsNoFloat
 means_without_floats [] uri each = tt
 means_without_floats (layer ∷ world) uri each =
-    nearest (last_under uri (resources layer)) (means world uri)
+    nearest (last_under uri (resources layer)) (meant_place world uri)
     (last_of_all EntryHoldsNoFloat None _ tt (all_filter EntryHoldsNoFloat (λ e. bytes_eq e.0 uri) (resources layer) (resources_without_floats layer each.0)))
     (means_without_floats world uri each.1)
 
@@ -107,10 +107,10 @@ names_without_floats layer each =
     (all_joined PlaceHoldsNoFloat NamedHoldsNoFloat named_at (places d) (λ p q. names_at p p.base q) (places_without_floats d h)))
     each
 
-named_without_floats : (world : World) (uri name : List ℕ) → WorldHoldsNoFloat world → IfSome (named world uri name) NamedHoldsNoFloat
+named_without_floats : (world : World) (uri name : List ℕ) → WorldHoldsNoFloat world → IfSome (named_entry world uri name) NamedHoldsNoFloat
 named_without_floats [] uri name each = tt
 named_without_floats (layer ∷ world) uri name each =
-    some_either NamedHoldsNoFloat (last_named uri name (names layer)) (named world uri name)
+    some_either NamedHoldsNoFloat (last_named uri name (names layer)) (named_entry world uri name)
     (last_of_all NamedHoldsNoFloat None _ tt (all_filter NamedHoldsNoFloat _ (names layer) (names_without_floats layer each.0)))
     (named_without_floats world uri name each.1)
 
@@ -118,8 +118,8 @@ anchor_without_floats : (world : World) (uri name : List ℕ) → WorldHoldsNoFl
 unfolding anchor
 anchor_without_floats world uri name each =
     if_ok_or NamedHoldsNoFloat _ (not_named name)
-    (some_either NamedHoldsNoFloat (named world uri name) (named_by_identifier world uri name) (named_without_floats world uri name each)
-    (some_any NamedHoldsNoFloat (option_and_then own_uri (means world uri)) (λ own. named world own name) (λ own. named_without_floats world own name each)))
+    (some_either NamedHoldsNoFloat (named_entry world uri name) (named_by_identifier world uri name) (named_without_floats world uri name each)
+    (some_any NamedHoldsNoFloat (option_and_then own_uri (meant_place world uri)) (λ own. named_entry world own name) (λ own. named_without_floats world own name each)))
 
 -- ---- pointers
 
@@ -141,7 +141,7 @@ walk_without_floats draft pointer along d (token ∷ ts) h =
     if_bound (λ s. HoldsNoFloat s.1) (λ to. HoldsNoFloat to.0) (step_into pointer d token) _ (step_without_floats pointer d token h)
     (λ s p. if_any (λ to. HoldsNoFloat to.0) (as_invalid_uri (along_part draft along s.0 s.1)) (λ next. walked_along draft pointer next s.1 ts) (λ next. walk_without_floats draft pointer next s.1 ts p))
 
-pointed_without_floats : (draft : Draft) (pointer base : List ℕ) (d : Data) (text : List ℕ) → HoldsNoFloat d → IfOk (pointed draft pointer base d text) (λ to. HoldsNoFloat to.0)
+pointed_without_floats : (draft : Draft) (pointer base : List ℕ) (d : Data) (text : List ℕ) → HoldsNoFloat d → IfOk (pointed_value draft pointer base d text) (λ to. HoldsNoFloat to.0)
 pointed_without_floats draft pointer base d text h =
     if_chosen (λ to. HoldsNoFloat to.0) (is_utf8 (percent_decode text)) _ (Err (InvalidPercentEncoding pointer)) (walk_without_floats draft pointer (record { base = base; since = [] }) d (tokens (percent_decode text)) h) tt
 
@@ -166,7 +166,7 @@ no_fault_first (fault ∷ fs) answer h = tt
 
 found_entry : (r : Resolver) (e : List ℕ × Named) → NamedHoldsNoFloat e.1 → IfOk (entry_found r e) FoundHoldsNoFloat
 found_entry r (uri, n) h =
-    if_any FoundHoldsNoFloat (as_invalid_uri (in_subresource (record r { base = uri }) n.place.draft n.place.value)) (λ moved. Ok (record { value = n.place.value; draft = n.place.draft; resolver = moved })) (λ moved. h)
+    if_any FoundHoldsNoFloat (as_invalid_uri (in_subresource (record r { base = uri }) n.place.draft n.place.value)) (λ moved_resolver. Ok (record { value = n.place.value; draft = n.place.draft; resolver = moved_resolver })) (λ moved_resolver. h)
 
 dynamic_without_floats : (world : World) (r : Resolver) (n : Named) → WorldHoldsNoFloat world → NamedHoldsNoFloat n → IfOk (dynamically world r n) FoundHoldsNoFloat
 dynamic_without_floats world r n each h =
@@ -189,15 +189,15 @@ fragment_without_floats : (world : World) (r : Resolver) (p : Place) (text : Lis
 fragment_without_floats world r p [] each h = h
 fragment_without_floats world r p (c ∷ text) each h =
     if_chosen FoundHoldsNoFloat (eqb c 47) _ _
-    (if_bound (λ to. HoldsNoFloat to.0) FoundHoldsNoFloat (pointed p.draft (c ∷ text) r.base p.value text) (λ to. Ok (pointer_found r p.draft to)) (pointed_without_floats p.draft (c ∷ text) r.base p.value text h) (λ to q. by_pointer r p.draft to q))
+    (if_bound (λ to. HoldsNoFloat to.0) FoundHoldsNoFloat (pointed_value p.draft (c ∷ text) r.base p.value text) (λ to. Ok (pointer_found r p.draft to)) (pointed_without_floats p.draft (c ∷ text) r.base p.value text h) (λ to q. by_pointer r p.draft to q))
     (if_bound NamedHoldsNoFloat FoundHoldsNoFloat (anchor world r.base (c ∷ text)) (λ n. named_found world r n n.kind) (anchor_without_floats world r.base (c ∷ text) each) (λ n q. anchored world r n n.kind each q))
 
 lookup_without_floats : (world : World) (r : Resolver) (reference : List ℕ) → WorldHoldsNoFloat world → IfOk (lookup world r reference) FoundHoldsNoFloat
 unfolding lookup
 lookup_without_floats world r reference each =
     if_any FoundHoldsNoFloat (as_invalid_uri (target r.base reference)) _
-    (λ uri. if_bound PlaceHoldsNoFloat FoundHoldsNoFloat (ok_or (means world uri) (not_retrieved uri)) (λ place. at_fragment world (moved r uri) place (fragment_part reference))
-    (if_ok_or PlaceHoldsNoFloat (means world uri) (not_retrieved uri) (means_without_floats world uri each)) (λ place h. fragment_without_floats world (moved r uri) place (fragment_part reference) each h))
+    (λ uri. if_bound PlaceHoldsNoFloat FoundHoldsNoFloat (ok_or (meant_place world uri) (not_retrieved uri)) (λ place. at_fragment world (moved_resolver r uri) place (fragment_part reference))
+    (if_ok_or PlaceHoldsNoFloat (meant_place world uri) (not_retrieved uri) (means_without_floats world uri each)) (λ place h. fragment_without_floats world (moved_resolver r uri) place (fragment_part reference) each h))
 
 -- ---- recursive lookups
 
@@ -237,23 +237,23 @@ recursive_without_floats world r each =
 abbrev pub LastHoldsNoFloat : Followed → Type 0
 LastHoldsNoFloat f = IfSome f.last (λ found. HoldsNoFloat found.0)
 
-stepped_without_floats : (world : World) (f : Followed) (s : Step) → WorldHoldsNoFloat world → LastHoldsNoFloat f → IfOk (stepped world f s) LastHoldsNoFloat
+stepped_without_floats : (world : World) (f : Followed) (s : Step) → WorldHoldsNoFloat world → LastHoldsNoFloat f → IfOk (after_step world f s) LastHoldsNoFloat
 stepped_without_floats world f (Lookup reference) each h = if_bound FoundHoldsNoFloat LastHoldsNoFloat (lookup world f.resolver reference) (λ found. Ok (after_lookup found)) (lookup_without_floats world f.resolver reference each) (λ found p. p)
 stepped_without_floats world f Recursive each h = if_bound FoundHoldsNoFloat LastHoldsNoFloat (lookup_recursive world f.resolver) (λ found. Ok (after_lookup found)) (recursive_without_floats world f.resolver each) (λ found p. p)
 stepped_without_floats world f (Enter draft value) each h = if_any LastHoldsNoFloat (as_invalid_uri (in_subresource f.resolver draft value)) (λ r. Ok (record f { resolver = r })) (λ r. h)
 
-numbered_without_floats : (n : ℕ) (r : Result Followed Fault) → IfOk r LastHoldsNoFloat → IfOk (numbered n r) LastHoldsNoFloat
+numbered_without_floats : (n : ℕ) (r : Result Followed Fault) → IfOk r LastHoldsNoFloat → IfOk (numbered_fault n r) LastHoldsNoFloat
 numbered_without_floats n (Ok f) h = h
 numbered_without_floats n (Err fault) h = tt
 
 all_without_floats : (world : World) (n : ℕ) (f : Followed) (ss : List Step) → WorldHoldsNoFloat world → LastHoldsNoFloat f → IfOk (followed_from world n f ss) LastHoldsNoFloat
 all_without_floats world n f [] each h = h
 all_without_floats world n f (s ∷ ss) each h =
-    if_bound LastHoldsNoFloat LastHoldsNoFloat (numbered n (stepped world f s)) (λ g. followed_from world (n + 1) g ss) (numbered_without_floats n (stepped world f s) (stepped_without_floats world f s each h)) (λ g p. all_without_floats world (n + 1) g ss each p)
+    if_bound LastHoldsNoFloat LastHoldsNoFloat (numbered_fault n (after_step world f s)) (λ g. followed_from world (n + 1) g ss) (numbered_without_floats n (after_step world f s) (stepped_without_floats world f s each h)) (λ g p. all_without_floats world (n + 1) g ss each p)
 
-ends_by : (world : World) (base : List ℕ) (ss : List Step) → WorldHoldsNoFloat world → IfOk (followed world base ss) LastHoldsNoFloat
-unfolding followed
+ends_by : (world : World) (base : List ℕ) (ss : List Step) → WorldHoldsNoFloat world → IfOk (followed_steps world base ss) LastHoldsNoFloat
+unfolding followed_steps
 ends_by world base ss each = all_without_floats world 0 (record { last = None; resolver = record { base = base; scope = [] } }) ss each tt
 
-pub ends_without_floats : (world : World) (base : List ℕ) (ss : List Step) (f : Followed) → WorldHoldsNoFloat world → followed world base ss ≡ Ok f → LastHoldsNoFloat f
+pub ends_without_floats : (world : World) (base : List ℕ) (ss : List Step) (f : Followed) → WorldHoldsNoFloat world → followed_steps world base ss ≡ Ok f → LastHoldsNoFloat f
 ends_without_floats world base ss f each is = subst (λ r. IfOk r LastHoldsNoFloat) is (ends_by world base ss each)

@@ -8,7 +8,7 @@ use Rattle.serde_json.specs.declared.value.Value.{Value}
 use Rattle.ref_retrieve.specs.Retrieving.{trees_of}
 use Rattle.ref_report.specs.Request.{retrievable_of}
 
--- what is read so far, in front of what is left to read
+-- what is read so far, before what is left to read
 abbrev pub in_front : {B : Type 0} → List B → Option (List B) → Option (List B)
 in_front done left = option_map (λ ys. done ++ ys) left
 

@@ -3,15 +3,15 @@ use Rattle.std.proofs.Common.{◌≡◌, ℕ, Bool, true, false, cond, List, [],
 use Rattle.std.specs.List.{AllByRecursion, list_any}
 use Rattle.serde_json.specs.Data.{Data}
 use Rattle.ref_draft.specs.declared.draft.Draft.{Draft}
-use Rattle.ref_draft.specs.Schema.{trimmed}
+use Rattle.ref_draft.specs.Schema.{trimmed_text}
 use Rattle.ref_draft.proofs.Lists.{all_append, all_filter}
-use Rattle.ref_uri.specs.Targets.{Refusal, parsed}
-use Rattle.ref_world.specs.World.{Layer, World, document}
-use Rattle.ref_world.specs.Fault.{Fault}
-use Rattle.ref_world.specs.Resources.{last_under}
-use Rattle.ref_world.specs.Preparing.{Retriever, Given, IsRun, begun, retrieved, IsOutcome, faulty, limited, refused, ready}
-use Rattle.ref_world.specs.Pending.{Addition, Pending, pending_of, with_pending, added, extended, document_of, builder_draft, given_of_builder}
-use Rattle.ref_world.specs.Retrievers.{map_retriever, default_retriever}
+use Rattle.ref_uri.specs.Targets.{Refusal, uri_of}
+use Rattle.ref_definitions.specs.World.{Layer, World, document}
+use Rattle.ref_definitions.specs.Fault.{Fault}
+use Rattle.ref_definitions.specs.Resources.{last_under}
+use Rattle.ref_definitions.specs.Preparing.{Retriever, Given, IsRun, begun, retrieved, IsOutcome, faulty, limited, refused, ready}
+use Rattle.ref_definitions.specs.Pending.{Addition, Pending, pending_of, with_pending, with_addition, with_additions, document_of, builder_draft, given_of_builder}
+use Rattle.ref_definitions.specs.Retrievers.{map_retriever, default_retriever}
 use Rattle.ref_report.specs.Request.{Document, Request}
 use Rattle.ref_report.specs.Worlds as worlds
 use Rattle.ref_report.specs.inner.Floats.{HoldsNoFloat, HoldNoFloats, RequestHoldsNoFloat, LayerHoldsNoFloat, WorldHoldsNoFloat}
@@ -39,13 +39,13 @@ unfolding with_pending
 one_more ps p each h =
     either_list (list_any (λ e. bytes_eq e.uri p.uri) ps) _ _ (exchanged p.uri p ps h each) (all_append (λ q. HoldsNoFloat q.tree) ps (p ∷ []) each (h, tt))
 
-all_added : (ps : List Pending) (ds : List Document) → PendingHoldNoFloats ps → HoldNoFloats ds → IfOk (extended ps (map worlds.addition_of ds)) PendingHoldNoFloats
+all_added : (ps : List Pending) (ds : List Document) → PendingHoldNoFloats ps → HoldNoFloats ds → IfOk (with_additions ps (map worlds.addition_of ds)) PendingHoldNoFloats
 all_added ps [] each h = each
 all_added ps (d ∷ ds) each h =
     let a : Addition = worlds.addition_of d in
-    if_bound PendingHoldNoFloats PendingHoldNoFloats (added ps a) (λ next. extended next (map worlds.addition_of ds))
+    if_bound PendingHoldNoFloats PendingHoldNoFloats (with_addition ps a) (λ next. with_additions next (map worlds.addition_of ds))
     (if_bound (λ p. HoldsNoFloat p.tree) PendingHoldNoFloats (pending_of a) (λ p. Ok (with_pending ps p))
-    (if_any (λ p. HoldsNoFloat p.tree) (parsed (trimmed d.uri)) (λ uri. Ok (record { uri = uri; tree = d.tree; draft = None })) (λ uri. h.0))
+    (if_any (λ p. HoldsNoFloat p.tree) (uri_of (trimmed_text d.uri)) (λ uri. Ok (record { uri = uri; tree = d.tree; draft = None })) (λ uri. h.0))
     (λ p plain. one_more ps p each plain))
     (λ next plain. all_added next ds plain h.1)
 

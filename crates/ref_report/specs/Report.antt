@@ -6,11 +6,11 @@ use Rattle.ref_parts.specs.Pointer.{pointer_text}
 use Rattle.ref_draft.specs.declared.draft.Draft.{Draft}
 use Rattle.ref_draft.specs.declared.draft.Draft.TheVariants.{Draft4, Draft6, Draft7, Draft201909, Draft202012, Unknown}
 use Rattle.ref_draft.specs.Schema.{detect}
-use Rattle.ref_world.specs.World.{World}
-use Rattle.ref_world.specs.Fault.{Fault, fault_text}
-use Rattle.ref_world.specs.Pending.{builder_draft}
-use Rattle.ref_world.specs.Follow as world
-use Rattle.ref_world.specs.Follow.{Followed, followed}
+use Rattle.ref_definitions.specs.World.{World}
+use Rattle.ref_definitions.specs.Fault.{Fault, fault_text}
+use Rattle.ref_definitions.specs.Pending.{builder_draft}
+use Rattle.ref_definitions.specs.Follow as world
+use Rattle.ref_definitions.specs.Follow.{Followed, followed_steps}
 use Rattle.ref_lint.specs.Dangling.{DanglingReference, dangling}
 use Rattle.ref_streams.specs.declared.status.Status.{Status}
 use Rattle.ref_streams.specs.declared.status.Status.TheVariants as status
@@ -81,7 +81,7 @@ abbrev pub followed_report : Result Followed (ℕ × Fault) → Report
 followed_report (Ok f) = done_report f
 followed_report (Err (n, fault)) = fault_report (decimal n) fault
 
--- the line of a reference that leads nowhere, with the pointer text of its place's path as a JSON string
+-- the line of an unresolvable reference, with the pointer text of its place's path as a JSON string
 abbrev pub dangling_line : DanglingReference → List ℕ
 dangling_line r =
     line (codes "dangling " ++ decimal r.document ++ codes " " ++ compact_text (string (pointer_text r.path)) ++ codes " " ++ fault_text r.fault)
@@ -90,7 +90,7 @@ dangling_line r =
 unfoldable pub dangling_lines : World → List ℕ
 dangling_lines world = flat_map dangling_line (dangling world)
 
--- what stands behind the lines of the steps: those lines, where they are asked for
+-- what is after the lines of the steps: those lines, where they are asked for
 abbrev pub lint_lines : Bool → World → List ℕ
 lint_lines lint world = if lint then dangling_lines world else []
 
@@ -110,7 +110,7 @@ steps_of r = map (step_in (builder_draft r.draft)) r.steps
 
 -- the report on a request, once its documents are prepared
 abbrev pub world_report : Request → Result World Fault → Report
-world_report r (Ok world) = with_lines (lint_lines (unwrap_or r.lint false) world) (followed_report (followed world r.base (steps_of r)))
+world_report r (Ok world) = with_lines (lint_lines (unwrap_or r.lint false) world) (followed_report (followed_steps world r.base (steps_of r)))
 world_report r (Err fault) = fault_report (codes "prepare") fault
 
 -- the report on a request, once its meta-schemas are prepared

@@ -6,12 +6,12 @@ use Rattle.serde_json.specs.Data.{Data, null, boolean, number, string, array, ob
 use Rattle.serde_json.specs.Find.{get, at, as_bool, as_str, as_array, as_object, as_number, as_u64}
 use Rattle.serde_json.specs.Read.{read}
 use Rattle.serde_json.specs.Written.{has_float}
-use Rattle.ref_uri.specs.Targets.{parsed}
+use Rattle.ref_uri.specs.Targets.{uri_of}
 use Rattle.ref_draft.specs.declared.draft.Draft.{Draft}
 use Rattle.ref_draft.specs.declared.draft.Draft.TheVariants as draft
 use Rattle.ref_report.specs.declared.request.BadRequest.{BadRequest}
 use Rattle.ref_report.specs.declared.request.BadRequest.TheVariants as bad
-use Rattle.ref_world.specs.Results.{◌>>=◌}
+use Rattle.ref_definitions.specs.Results.{◌>>=◌}
 
 -- a document, and the text of the URI under which it is added
 pub record Document : Type 0 where
@@ -24,7 +24,7 @@ pub data Step : Type 0 where
   Recursive : Step
   Enter : Data → Step
 
--- the fields of a request; what can be retrieved stands under the URIs that its texts mean
+-- the fields of a request; what can be retrieved is under the URIs that its texts mean
 pub record Request : Type 0 where
   pub documents : List Document
   pub base : List ℕ
@@ -60,7 +60,7 @@ documents_of d = list_of document_of d
 
 -- a tree under the URI that its text means
 abbrev pub retrievable_of : Data → Option (List ℕ × Data)
-retrievable_of d = option_and_then (λ e. option_map (λ uri. (uri, e.tree)) (result_ok (parsed e.uri))) (document_of d)
+retrievable_of d = option_and_then (λ e. option_map (λ uri. (uri, e.tree)) (result_ok (uri_of e.uri))) (document_of d)
 
 -- a list of such
 unfoldable pub remote_of : Data → Option (List (List ℕ × Data))
@@ -68,7 +68,7 @@ remote_of d = list_of retrievable_of d
 
 -- the URI that a text means
 unfoldable pub base_of : Data → Option (List ℕ)
-base_of d = option_and_then (λ text. result_ok (parsed text)) (as_str d)
+base_of d = option_and_then (λ text. result_ok (uri_of text)) (as_str d)
 
 -- a text, null or an object
 abbrev pub step_of : Data → Option Step

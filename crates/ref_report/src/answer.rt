@@ -1,8 +1,8 @@
 //! From the bytes of a request to its report.
 ghost use Rattle.std.specs.Prelude.{◌≡◌, IfOk, Ok, false, map, option_map, unwrap_or};
 ghost use Rattle.serde_json.specs.View.{view};
-ghost use Rattle.ref_world.specs.Follow.{followed};
-ghost use Rattle.ref_world.specs.Pending.{builder_draft};
+ghost use Rattle.ref_definitions.specs.Follow.{followed_steps};
+ghost use Rattle.ref_definitions.specs.Pending.{builder_draft};
 ghost use Rattle.referencing.specs.Following as following;
 ghost use Rattle.ref_report.specs.Report.{step_in, followed_report, lint_lines, with_lines, IsRequestReport, IsReadReport, IsReport};
 ghost use Rattle.ref_report.specs.Request as spec;
@@ -91,7 +91,7 @@ fn world_report(
 ) -> Result<Report, AllocError>
     requires { WorldHoldsNoFloat registry.now }
     ensures { IfOk result (λ r. report_view r ≡ with_lines (lint_lines (unwrap_or lint false) registry.now)
-        (followed_report (followed registry.now base (map (step_in (builder_draft draft)) (map step_view steps.now))))) }
+        (followed_report (followed_steps registry.now base (map (step_in (builder_draft draft)) (map step_view steps.now))))) }
 {
     let draft = draft.unwrap_or(Draft::Draft202012);
     let steps = entered(alloc, draft, steps)?;
@@ -107,7 +107,7 @@ fn followed_report(
     steps: &[referencing::Step<'_>],
 ) -> Result<Report, AllocError>
     requires { WorldHoldsNoFloat registry.now }
-    ensures { IfOk result (λ r. report_view r ≡ followed_report (followed registry.now base (map following.step_of steps.now))) }
+    ensures { IfOk result (λ r. report_view r ≡ followed_report (followed_steps registry.now base (map following.step_of steps.now))) }
 {
     match follow(alloc, registry, base, steps) {
         Ok(followed) => done_report(alloc, &followed),
@@ -115,7 +115,7 @@ fn followed_report(
     }
 }
 
-// The report, behind which the references that lead nowhere are told where that is asked for.
+// The report, after which the unresolvable references are given where that is asked for.
 fn linted(
     alloc: Global,
     registry: &Registry<'_>,

@@ -1,5 +1,5 @@
 //! The report on a JSON request that follows references through JSON Schema documents: what the program `refwalk` does, from a source
-//! to a sink, which stand in `ref_streams`.
+//! to a sink, which are in `ref_streams`.
 //!
 //! Read `specs/Report.antt` first, which says what the report on the bytes of a request is, and then [`run::run`], whose contract
 //! says that it is what is written.

@@ -1,4 +1,4 @@
-//! The lines of references that lead nowhere.
+//! The lines of unresolvable references.
 ghost use Rattle.std.specs.Prelude.{◌≡◌, ◌∷◌, ◌++◌, map, string_bytes, IfOk, OnOk};
 ghost use Rattle.ref_parts.specs.Pointer.{slash, part_text, pointer_text};
 ghost use Rattle.ref_parts.specs.Segment.{part_of};
@@ -11,7 +11,7 @@ use referencing::{JsonPointerSegment, Registry, write_escaped_str, write_index};
 use serde_json::Value;
 use std::alloc::{AllocError, Global};
 
-/// Adds a line for each reference of a registry's own documents that leads nowhere, in the order of [`dangling`].
+/// Adds a line for each reference of a registry's own documents that is unresolvable, in the order of [`dangling`].
 pub fn push_dangling(
     alloc: Global,
     text: &mut String,
@@ -21,7 +21,7 @@ pub fn push_dangling(
         ≡ string_bytes text.old ++ spec.dangling_lines registry.now) }
 {
     errors_say_faults();
-    // It refuses for want of memory alone.
+    // It refuses only where memory is refused.
     let Ok(entries) = dangling(alloc, registry) else {
         return Err(AllocError);
     };

@@ -51,7 +51,7 @@ fn reason(bad: BadRequest) -> &'static str
     }
 }
 
-/// The report on a fault, with what it is a fault of. Want of memory is none.
+/// The report on a fault, with what it is a fault of. Being out of memory is none.
 pub fn fault_report(alloc: Global, of: &str, error: Error) -> Result<Report, AllocError>
     ensures { IfOk result (λ r. IsReportOn of.now error (report_view r)) }
 {
@@ -72,7 +72,7 @@ fn report_on(alloc: Global, of: &str, error: &Error) -> Result<Report, AllocErro
     })
 }
 
-/// The report on a step that leads nowhere.
+/// The report on a step that finds no value.
 pub fn step_report(alloc: Global, fault: FollowError) -> Result<Report, AllocError>
     ensures { IfOk result (λ r. IsReportOn (decimal fault.step) fault.error (report_view r)) }
 {

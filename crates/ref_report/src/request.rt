@@ -25,7 +25,7 @@ pub enum Step<'a> {
     Enter(&'a Value),
 }
 
-/// The fields of a request, each as the format wants it. What can be retrieved stands under the URIs that its texts mean, and
+/// The fields of a request, each as the format wants it. What can be retrieved is under the URIs that its texts mean, and
 /// is copied, since a retriever owns it.
 #[derive(Drop)]
 pub struct Request<'a> {

@@ -12,7 +12,7 @@ use std::alloc::Global;
 
 /// Reads one request to the end, makes its whole report, and writes it. The status is that of the report.
 ///
-/// `Read` exactly where a read failed, `Write` only where a write did, `Memory` where a growth is refused. Where it answers neither a status nor `Write`, nothing was written; of what a failed
+/// `Read` exactly where a read failed, `Write` only where a write did, `Memory` where a growth is refused. Where it returns neither a status nor `Write`, nothing was written; of what a failed
 /// write left nothing is said.
 ///
 /// Takes memory for the bytes, the tree, the request, what is prepared and followed, and the report; documents are lent, and

@@ -1,10 +1,10 @@
 //! The documents that a request's steps are followed among.
 ghost use Rattle.std.specs.Prelude.{◌≡◌, [], IfOk, IfErr, Ok, option_map, unwrap_or};
-ghost use Rattle.ref_world.specs.Fault.{as_invalid_uri};
-ghost use Rattle.ref_world.specs.Pending.{given_of_builder};
-ghost use Rattle.ref_world.specs.Retrievers.{map_retriever};
+ghost use Rattle.ref_definitions.specs.Fault.{as_invalid_uri};
+ghost use Rattle.ref_definitions.specs.Pending.{given_of_builder};
+ghost use Rattle.ref_definitions.specs.Retrievers.{map_retriever};
 ghost use Rattle.ref_retrieve.specs.Retrieving.{trees_of};
-ghost use Rattle.referencing.specs.Builder.{seen};
+ghost use Rattle.referencing.specs.Builder.{builder_of};
 ghost use Rattle.ref_report.specs.Worlds.{pending_of, AreParents, IsWorld};
 ghost use Rattle.ref_report.specs.inner.Builders as inner;
 ghost use Rattle.ref_report.specs.inner.Faults.{IsErrorOf};
@@ -56,7 +56,7 @@ fn builder_of<'b>(
     parent: &'b Option<Registry<'_>>,
     documents: Vec<Document<'b>>,
 ) -> Result<RegistryBuilder<'b>, Error>
-    ensures ok { IfOk result (λ b. inner.Holds (unwrap_or parent.now []) (documents_view documents.entry.items) (seen b)) }
+    ensures ok { IfOk result (λ b. inner.Holds (unwrap_or parent.now []) (documents_view documents.entry.items) (builder_of b)) }
     ensures fault { IfErr result (IsErrorOf (λ answer. as_invalid_uri (pending_of (documents_view documents.entry.items)) ≡ answer)) }
 {
     match parent {
@@ -86,7 +86,7 @@ fn retrieving<'b>(
     limit: Option<u64>,
     draft: Option<Draft>,
 ) -> RegistryBuilder<'b, MapRetriever>
-    ensures { seen result ≡ inner.retrieving retriever limit draft (seen builder.entry) }
+    ensures { builder_of result ≡ inner.retrieving_from_map retriever limit draft (builder_of builder.entry) }
 {
     let builder = limited(builder.retriever(retriever), limit);
     match draft {
@@ -99,7 +99,7 @@ fn limited<'b>(
     builder: RegistryBuilder<'b, MapRetriever>,
     limit: Option<u64>,
 ) -> RegistryBuilder<'b, MapRetriever>
-    ensures { seen result ≡ inner.retrieving (seen builder.entry).retriever limit (seen builder.entry).draft (seen builder.entry) }
+    ensures { builder_of result ≡ inner.retrieving_from_map (builder_of builder.entry).retriever limit (builder_of builder.entry).draft (builder_of builder.entry) }
 {
     match limit {
         Some(limit) => builder.retrieval_limit(limit as usize),

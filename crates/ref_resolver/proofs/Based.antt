@@ -7,16 +7,16 @@ use Rattle.std.proofs.lemmas.List.{append-nil}
 use Rattle.std.proofs.lemmas.List.Elements.{Contains-append_right, Contains-append_cases}
 use Rattle.std.proofs.lemmas.Slice.Eq.{bytes_eq-Decides}
 use Rattle.serde_json.specs.Data.{depth}
-use Rattle.ref_draft.specs.Children.{walked}
+use Rattle.ref_draft.specs.Children.{walked_children}
 use Rattle.ref_uri.specs.Targets.{Refusal}
-use Rattle.ref_world.specs.World.{Document, Layer, World}
-use Rattle.ref_world.specs.Places.{Place, root, child_place, children_with, levels_below, places, identifier_of, base_within}
-use Rattle.ref_world.specs.Descent.{AreChildren}
-use Rattle.ref_world.specs.Resources.{resources_in, resources, last_under, own_uri, means}
-use Rattle.ref_world.specs.Anchors.{Named, named_under, named_at, names_in, names, last_named, named, named_by_identifier, not_named, anchor}
-use Rattle.ref_world.proofs.Alone.{in_joined, bears, first_or_later}
-use Rattle.ref_world.proofs.Appending.{meanings_stay_below}
-use Rattle.ref_world.proofs.Descent.{places_descend}
+use Rattle.ref_definitions.specs.World.{Document, Layer, World}
+use Rattle.ref_definitions.specs.Places.{Place, root, child_place, children_with, levels_below, places, identifier_of, base_within}
+use Rattle.ref_definitions.specs.Descent.{AreChildren}
+use Rattle.ref_definitions.specs.Resources.{resources_in, resources, last_under, own_uri, meant_place}
+use Rattle.ref_definitions.specs.Anchors.{Named, named_under, named_at, names_in, names, last_named, named_entry, named_by_identifier, not_named, anchor}
+use Rattle.ref_definitions.proofs.Alone.{in_joined, bears, first_or_later}
+use Rattle.ref_definitions.proofs.Appending.{meanings_stay_below}
+use Rattle.ref_definitions.proofs.Descent.{places_descend}
 use Rattle.ref_index.proofs.Looking.{last_passes, not_there}
 
 none_in_nothing : {X : Type 0} (x : X) → ¬ (Contains [] x)
@@ -36,7 +36,7 @@ in_one_of f (x ∷ xs) y there =
 
 -- ---- the base of each place identifies one
 
--- a place of the layer stands under the URI
+-- a place of the layer is under the URI
 abbrev Bears : Layer → List ℕ → Type 0
 Bears layer uri = (q : Place) × Contains (resources layer) (uri, q)
 
@@ -46,7 +46,7 @@ HasKnownBase layer p = (uri : List ℕ) → p.base ≡ Ok uri → Bears layer ur
 
 child_base : (p x : Place) (base : List ℕ) → Contains (children_with (Ok base) p) x → x.base ≡ base_within base (identifier_of x)
 child_base p x base there =
-    let (c, same) = in_mapped (child_place p.path base) (walked p.draft p.value) x there in
+    let (c, same) = in_mapped (child_place p.path base) (walked_children p.draft p.value) x there in
     subst (λ (y : Place). y.base ≡ base_within base (identifier_of y)) same refl
 
 with_identifier : (layer : Layer) (d : Document) (x : Place) (base : List ℕ) (id : Option (List ℕ)) → identifier_of x ≡ id → Contains layer d → Contains (places d) x
@@ -121,36 +121,36 @@ last_named_bears layer uri name n is =
     let same = (bytes_eq-Decides n.uri uri).0 (first_true (bytes_eq n.uri uri) (bytes_eq n.name name) passes) in
     ⊎_elim (λ no. cc) (λ there. subst (Bears layer) same (name_known layer n there)) (last_stands test (names layer) None n is)
 
-there_or : (layer : Layer) (world : World) (uri : List ℕ) (found : Option (List ℕ × Place)) → last_under uri (resources layer) ≡ found → Bears layer uri → is_some (option_map_or (λ e. Some e.1) found (means world uri)) ≡ true
+there_or : (layer : Layer) (world : World) (uri : List ℕ) (found : Option (List ℕ × Place)) → last_under uri (resources layer) ≡ found → Bears layer uri → is_some (option_map_or (λ e. Some e.1) found (meant_place world uri)) ≡ true
 there_or layer world uri (Some e) is known = refl
 there_or layer world uri None is known = absurd (not_there (λ e. bytes_eq e.0 uri) (resources layer) (uri, known.0) ((bytes_eq-Decides uri uri).1 refl) is known.1)
 
-bears_means : (layer : Layer) (world : World) (uri : List ℕ) → Bears layer uri → is_some (means (layer ∷ world) uri) ≡ true
+bears_means : (layer : Layer) (world : World) (uri : List ℕ) → Bears layer uri → is_some (meant_place (layer ∷ world) uri) ≡ true
 bears_means layer world uri known =
-    subst (λ found. is_some (option_map_or (λ e. Some e.1) found (means world uri)) ≡ true) refl (there_or layer world uri (last_under uri (resources layer)) refl known)
+    subst (λ found. is_some (option_map_or (λ e. Some e.1) found (meant_place world uri)) ≡ true) refl (there_or layer world uri (last_under uri (resources layer)) refl known)
 
-named_means : (world : World) (uri name : List ℕ) (n : Named) → named world uri name ≡ Some n → is_some (means world uri) ≡ true
+named_means : (world : World) (uri name : List ℕ) (n : Named) → named_entry world uri name ≡ Some n → is_some (meant_place world uri) ≡ true
 named_means [] uri name n is = cc
 named_means (layer ∷ world) uri name n is = by_last (last_named uri name (names layer)) refl (named_means world uri name n) is
   where
-    by_last : (o : Option Named) → last_named uri name (names layer) ≡ o → (named world uri name ≡ Some n → is_some (means world uri) ≡ true)
-        → option_or o (named world uri name) ≡ Some n → is_some (means (layer ∷ world) uri) ≡ true
+    by_last : (o : Option Named) → last_named uri name (names layer) ≡ o → (named_entry world uri name ≡ Some n → is_some (meant_place world uri) ≡ true)
+        → option_or o (named_entry world uri name) ≡ Some n → is_some (meant_place (layer ∷ world) uri) ≡ true
     by_last (Some m) at behind found = bears_means layer world uri (last_named_bears layer uri name m at)
     by_last None at behind found = meanings_stay_below layer world uri (behind found)
 
-identified : (world : World) (name : List ℕ) (n : Named) (place : Option Place) → option_and_then (λ own. named world own name) (option_and_then own_uri place) ≡ Some n → is_some place ≡ true
+identified : (world : World) (name : List ℕ) (n : Named) (place : Option Place) → option_and_then (λ own. named_entry world own name) (option_and_then own_uri place) ≡ Some n → is_some place ≡ true
 identified world name n None is = cc
 identified world name n (Some p) is = refl
 
 -- where a name under a URI means something, the URI means a place
-pub anchor_means : (world : World) (uri name : List ℕ) (n : Named) → result_ok (anchor world uri name) ≡ Some n → is_some (means world uri) ≡ true
+pub anchor_means : (world : World) (uri name : List ℕ) (n : Named) → result_ok (anchor world uri name) ≡ Some n → is_some (meant_place world uri) ≡ true
 unfolding anchor
-anchor_means world uri name n is = by_named (named world uri name) refl is
+anchor_means world uri name n is = by_named (named_entry world uri name) refl is
   where
-    by_named : (o : Option Named) → named world uri name ≡ o → result_ok (ok_or (option_or o (named_by_identifier world uri name)) (not_named name)) ≡ Some n → is_some (means world uri) ≡ true
+    by_named : (o : Option Named) → named_entry world uri name ≡ o → result_ok (ok_or (option_or o (named_by_identifier world uri name)) (not_named name)) ≡ Some n → is_some (meant_place world uri) ≡ true
     by_named (Some m) at found = named_means world uri name m at
     by_named None at found = by_identifier (named_by_identifier world uri name) refl found
       where
-        by_identifier : (o : Option Named) → named_by_identifier world uri name ≡ o → result_ok (ok_or o (not_named name)) ≡ Some n → is_some (means world uri) ≡ true
-        by_identifier (Some m) at found = identified world name m (means world uri) at
+        by_identifier : (o : Option Named) → named_by_identifier world uri name ≡ o → result_ok (ok_or o (not_named name)) ≡ Some n → is_some (meant_place world uri) ≡ true
+        by_identifier (Some m) at found = identified world name m (meant_place world uri) at
         by_identifier None at found = cc

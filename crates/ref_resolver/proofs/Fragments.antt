@@ -3,18 +3,18 @@ use Rattle.std.proofs.Common.{◌≡◌, ℕ, Bool, true, false, eqb, List, [], 
 use Rattle.std.specs.Prelude.{not}
 use Rattle.std.proofs.lemmas.Bool.Decides.{Decides-eqb}
 use Rattle.serde_json.specs.View.{view}
-use Rattle.ref_draft.specs.Anchors.{Dynamic}
-use Rattle.ref_world.specs.World.{World}
-use Rattle.ref_world.specs.Places.{Place}
-use Rattle.ref_world.specs.Anchors.{Named}
-use Rattle.ref_world.specs.Lookup.{Resolver, at_fragment, named_found, dynamically}
+use Rattle.ref_draft.specs.Anchors.{Plain, Dynamic}
+use Rattle.ref_definitions.specs.World.{World}
+use Rattle.ref_definitions.specs.Places.{Place}
+use Rattle.ref_definitions.specs.Anchors.{Named}
+use Rattle.ref_definitions.specs.Lookup.{Resolver, at_fragment, named_found, dynamically, by_scope, in_scope}
 use Rattle.ref_resolver.specs.declared.located.Located.{Located}
 use Rattle.ref_resolver.specs.Located.{IsLocated}
 use Rattle.ref_resolver.specs.Names.{is_name}
 use Rattle.ref_resolver.specs.Resolving.{at_pointer}
 
 -- one that begins with `/` is a pointer
-pub pointer_there : (w : World) (r : Resolver) (p : Place) (l : Located) (fragment text : List ℕ) → IsLocated l p → fragment ≡ 47 ∷ text
+pub pointer_there : (w : World) (r : Resolver) (p : Place) (l : Located) (fragment text : List ℕ) → IsLocated w l p → fragment ≡ 47 ∷ text
     → at_fragment w r p fragment ≡ at_pointer r l.entry.now.draft fragment (view l.value.now) text
 pointer_there w r p l fragment text at is =
     ap (at_fragment w r p) is
@@ -27,7 +27,7 @@ no_name c text true is name none = none text (ap (λ x. x ∷ text) ((Decides-eq
 no_name c text false is name none = cc
 
 -- one that neither is a name nor begins with `/` is empty, and means the resource
-pub whole_there : (w : World) (r : Resolver) (p : Place) (l : Located) (fragment : List ℕ) → IsLocated l p → is_name fragment ≡ false → ((rest : List ℕ) → fragment ≡ 47 ∷ rest → ⊥)
+pub whole_there : (w : World) (r : Resolver) (p : Place) (l : Located) (fragment : List ℕ) → IsLocated w l p → is_name fragment ≡ false → ((rest : List ℕ) → fragment ≡ 47 ∷ rest → ⊥)
     → at_fragment w r p fragment ≡ Ok (record { value = view l.value.now; draft = l.entry.now.draft; resolver = r })
 whole_there w r p l [] at name none =
     ap (λ v. Ok (record { value = v; draft = p.draft; resolver = r })) (sym at.value) ∙ ap (λ d. Ok (record { value = view l.value.now; draft = d; resolver = r })) (sym at.draft)
@@ -35,3 +35,11 @@ whole_there w r p l (c ∷ text) at name none = absurd (no_name c text (eqb c 47
 
 pub dynamic_there : (w : World) (r : Resolver) (n : Named) → Dynamic ≡ n.kind → named_found w r n n.kind ≡ dynamically w r n
 dynamic_there w r n is = ap (named_found w r n) (sym is)
+
+-- the same by what a resolver that moved there asks
+pub dynamic_moved : (w : World) (r : Resolver) (v : World) (s : Resolver) (n : Named) (name : List ℕ) → v ≡ w → s ≡ r → n.name ≡ name → n.kind ≡ Dynamic → named_found w r n n.kind ≡ by_scope s n (in_scope v name s.scope)
+dynamic_moved w r v s n name world at called is =
+    dynamic_there w r n (sym is) ∙ ap (λ text. by_scope r n (in_scope w text r.scope)) called ∙ ap (λ x. by_scope x n (in_scope w name x.scope)) (sym at) ∙ ap (λ u. by_scope s n (in_scope u name s.scope)) (sym world)
+
+pub plain_there : (w : World) (r : Resolver) (n : Named) → n.kind ≡ Plain → named_found w r n n.kind ≡ Ok (record { value = n.place.value; draft = n.place.draft; resolver = r })
+plain_there w r n is = ap (named_found w r n) is

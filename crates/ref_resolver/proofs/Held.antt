@@ -2,8 +2,8 @@
 use Rattle.std.proofs.Common.{sym, subst, ℕ, zero, suc, List, ◌∷◌}
 use native.Mathlib.Omega.{arith}
 use Rattle.std.specs.List.{Contains, Any}
-use Rattle.ref_world.specs.World.{Layer, World}
-use Rattle.ref_world.specs.Cached.{pairs}
+use Rattle.ref_definitions.specs.World.{Layer, World}
+use Rattle.ref_definitions.specs.Cached.{pairs}
 use Rattle.ref_resolver.specs.Layered.{IsHeld}
 
 behind : {X : Type 0} (P : X → Type 0) (x : X) (xs : List X) → (P x → ⊥) → Any P (x ∷ xs) → Any P xs

@@ -3,19 +3,19 @@ use Rattle.std.proofs.Common.{◌≡◌, ℕ, suc, ◌+◌, arith, true, false, 
 use Rattle.std.specs.List.{prefix_len, last_or}
 use Rattle.std.specs.Option.{ok_or, unwrap_or}
 use Rattle.ref_uri.specs.Targets.{target, fragment_part}
-use Rattle.ref_world.specs.Results.{◌>>=◌}
-use Rattle.ref_world.specs.World.{World}
-use Rattle.ref_world.specs.Fault.{Fault, as_invalid_uri, not_retrieved}
-use Rattle.ref_world.specs.Places.{Place}
-use Rattle.ref_world.specs.Resources.{means}
-use Rattle.ref_world.specs.Lookup.{Resolver, Found, lookup, at_fragment, moved}
-use Rattle.ref_world.specs.Recursive.{is_marked, answers_marked, looked_up, outermost_marked, unless_fault_behind, lookup_recursive}
+use Rattle.ref_definitions.specs.Results.{◌>>=◌}
+use Rattle.ref_definitions.specs.World.{World}
+use Rattle.ref_definitions.specs.Fault.{Fault, as_invalid_uri, not_retrieved}
+use Rattle.ref_definitions.specs.Places.{Place}
+use Rattle.ref_definitions.specs.Resources.{meant_place}
+use Rattle.ref_definitions.specs.Lookup.{Resolver, Found, lookup, at_fragment, moved_resolver}
+use Rattle.ref_definitions.specs.Recursive.{is_marked, answers_marked, looked_up, outermost_marked, unless_fault_behind, lookup_recursive}
 use Rattle.ref_retrieve.specs.declared.error.Error.{Error}
 use Rattle.ref_retrieve.specs.Errors.{IsFaultOf}
 use Rattle.ref_resolver.proofs.Faults.{fault_ends, goes_on}
 
 abbrev at_uri : World → Resolver → List ℕ → List ℕ → Result Found Fault
-at_uri w r reference uri = ok_or (means w uri) (not_retrieved uri) >>= λ place. at_fragment w (moved r uri) place (fragment_part reference)
+at_uri w r reference uri = ok_or (meant_place w uri) (not_retrieved uri) >>= λ place. at_fragment w (moved_resolver r uri) place (fragment_part reference)
 
 -- a URI that is refused refuses the lookup
 pub lookup_refused : (w : World) (r : Resolver) (reference : List ℕ) (e : Error) → IsFaultOf (as_invalid_uri (target r.base reference)) e → IsFaultOf (lookup w r reference) e
@@ -27,15 +27,15 @@ unfolding lookup
 at_target w r reference uri is = goes_on (as_invalid_uri (target r.base reference)) (at_uri w r reference) uri (ap as_invalid_uri is)
 
 -- one that means no place
-pub lookup_absent : (w : World) (r : Resolver) (reference uri : List ℕ) → target r.base reference ≡ Ok uri → means w uri ≡ None → lookup w r reference ≡ Err (not_retrieved uri)
+pub lookup_absent : (w : World) (r : Resolver) (reference uri : List ℕ) → target r.base reference ≡ Ok uri → meant_place w uri ≡ None → lookup w r reference ≡ Err (not_retrieved uri)
 lookup_absent w r reference uri is none =
-    at_target w r reference uri is ∙ ap (λ o. ok_or o (not_retrieved uri) >>= λ place. at_fragment w (moved r uri) place (fragment_part reference)) none
+    at_target w r reference uri is ∙ ap (λ o. ok_or o (not_retrieved uri) >>= λ place. at_fragment w (moved_resolver r uri) place (fragment_part reference)) none
 
 -- one that means a place
-pub lookup_present : (w : World) (r : Resolver) (reference uri : List ℕ) (p : Place) → target r.base reference ≡ Ok uri → means w uri ≡ Some p
-    → lookup w r reference ≡ at_fragment w (moved r uri) p (fragment_part reference)
+pub lookup_present : (w : World) (r : Resolver) (reference uri : List ℕ) (p : Place) → target r.base reference ≡ Ok uri → meant_place w uri ≡ Some p
+    → lookup w r reference ≡ at_fragment w (moved_resolver r uri) p (fragment_part reference)
 lookup_present w r reference uri p is some =
-    at_target w r reference uri is ∙ ap (λ o. ok_or o (not_retrieved uri) >>= λ place. at_fragment w (moved r uri) place (fragment_part reference)) some
+    at_target w r reference uri is ∙ ap (λ o. ok_or o (not_retrieved uri) >>= λ place. at_fragment w (moved_resolver r uri) place (fragment_part reference)) some
 
 -- ---- the recursive lookup
 

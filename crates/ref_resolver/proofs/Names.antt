@@ -2,11 +2,11 @@
 use Rattle.std.proofs.Common.{◌≡◌, ℕ, Bool, true, false, List, [], ◌∷◌, Option, Some, None, Ok, eqb, refl, ap, ◌∙◌}
 use Rattle.std.specs.Prelude.{not, is_some}
 use Rattle.ref_uri.specs.Targets.{target, fragment_part}
-use Rattle.ref_world.specs.World.{World}
-use Rattle.ref_world.specs.Places.{Place}
-use Rattle.ref_world.specs.Resources.{means}
-use Rattle.ref_world.specs.Anchors.{Named, anchor}
-use Rattle.ref_world.specs.Lookup.{Resolver, lookup, at_fragment, moved, named_found}
+use Rattle.ref_definitions.specs.World.{World}
+use Rattle.ref_definitions.specs.Places.{Place}
+use Rattle.ref_definitions.specs.Resources.{meant_place}
+use Rattle.ref_definitions.specs.Anchors.{Named, anchor}
+use Rattle.ref_definitions.specs.Lookup.{Resolver, lookup, at_fragment, moved_resolver, named_found}
 use Rattle.ref_resolver.specs.Names.{is_name, at_name}
 use Rattle.ref_resolver.proofs.Faults.{goes_on}
 use Rattle.ref_resolver.proofs.Lookups.{lookup_present}
@@ -29,14 +29,14 @@ present_of None is = cc
 present_of (Some p) is = (p, refl)
 
 -- a name under one that means a place
-pub lookup_named : (w : World) (r : Resolver) (reference uri name : List ℕ) → target r.base reference ≡ Ok uri → is_some (means w uri) ≡ true → fragment_part reference ≡ name → is_name name ≡ true
-    → lookup w r reference ≡ at_name w (moved r uri) name
+pub lookup_named : (w : World) (r : Resolver) (reference uri name : List ℕ) → target r.base reference ≡ Ok uri → is_some (meant_place w uri) ≡ true → fragment_part reference ≡ name → is_name name ≡ true
+    → lookup w r reference ≡ at_name w (moved_resolver r uri) name
 lookup_named w r reference uri name is there fragment named =
-    let (p, some) = present_of (means w uri) there in
-    lookup_present w r reference uri p is some ∙ ap (at_fragment w (moved r uri) p) fragment ∙ named_there w (moved r uri) p name named
+    let (p, some) = present_of (meant_place w uri) there in
+    lookup_present w r reference uri p is some ∙ ap (at_fragment w (moved_resolver r uri) p) fragment ∙ named_there w (moved_resolver r uri) p name named
 
 -- one that an anchor has
-pub lookup_found : (w : World) (r : Resolver) (reference uri name : List ℕ) (n : Named) → target r.base reference ≡ Ok uri → is_some (means w uri) ≡ true → fragment_part reference ≡ name → is_name name ≡ true → anchor w uri name ≡ Ok n
-    → lookup w r reference ≡ named_found w (moved r uri) n n.kind
+pub lookup_found : (w : World) (r : Resolver) (reference uri name : List ℕ) (n : Named) → target r.base reference ≡ Ok uri → is_some (meant_place w uri) ≡ true → fragment_part reference ≡ name → is_name name ≡ true → anchor w uri name ≡ Ok n
+    → lookup w r reference ≡ named_found w (moved_resolver r uri) n n.kind
 lookup_found w r reference uri name n is there fragment named has =
-    lookup_named w r reference uri name is there fragment named ∙ goes_on (anchor w uri name) (λ m. named_found w (moved r uri) m m.kind) n has
+    lookup_named w r reference uri name is there fragment named ∙ goes_on (anchor w uri name) (λ m. named_found w (moved_resolver r uri) m m.kind) n has

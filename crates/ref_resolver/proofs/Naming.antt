@@ -3,10 +3,10 @@ use Rattle.std.proofs.Common.{◌≡◌, ℕ, Bool, true, false, ◌&&◌, List,
 use Rattle.std.specs.Option.{option_or, ok_or}
 use Rattle.std.specs.Result.{result_ok}
 use Rattle.std.proofs.lemmas.Slice.Eq.{bytes_eq-Decides}
-use Rattle.ref_world.specs.World.{World}
-use Rattle.ref_world.specs.Resources.{own_uri, means}
-use Rattle.ref_world.specs.Fault.{Fault}
-use Rattle.ref_world.specs.Anchors.{Named, last_named, names, named, named_by_identifier, not_named, anchor}
+use Rattle.ref_definitions.specs.World.{World}
+use Rattle.ref_definitions.specs.Resources.{own_uri, meant_place}
+use Rattle.ref_definitions.specs.Fault.{Fault}
+use Rattle.ref_definitions.specs.Anchors.{Named, last_named, names, named_entry, named_by_identifier, not_named, anchor}
 use Rattle.ref_index.proofs.Looking.{last_passes}
 
 second : (a b : Bool) → (a && b) ≡ true → b ≡ true
@@ -22,11 +22,11 @@ either : (o p : Option Named) (n : Named) (name : List ℕ) → (o ≡ Some n �
 either None p n name near far is = far is
 either (Some m) p n name near far is = near is
 
-pub named_has : (world : World) (uri name : List ℕ) (n : Named) → named world uri name ≡ Some n → n.name ≡ name
+pub named_has : (world : World) (uri name : List ℕ) (n : Named) → named_entry world uri name ≡ Some n → n.name ≡ name
 named_has [] uri name n is = cc
-named_has (layer ∷ world) uri name n is = either (last_named uri name (names layer)) (named world uri name) n name (last_has uri name (names layer) n) (named_has world uri name n) is
+named_has (layer ∷ world) uri name n is = either (last_named uri name (names layer)) (named_entry world uri name) n name (last_has uri name (names layer) n) (named_has world uri name n) is
 
-under_own : (world : World) (own : Option (List ℕ)) (name : List ℕ) (n : Named) → option_and_then (λ own. named world own name) own ≡ Some n → n.name ≡ name
+under_own : (world : World) (own : Option (List ℕ)) (name : List ℕ) (n : Named) → option_and_then (λ own. named_entry world own name) own ≡ Some n → n.name ≡ name
 under_own world None name n is = cc
 under_own world (Some own) name n is = named_has world own name n is
 
@@ -37,8 +37,8 @@ there (Some m) fault n is = is
 pub anchor_has : (world : World) (uri name : List ℕ) (n : Named) → result_ok (anchor world uri name) ≡ Some n → n.name ≡ name
 unfolding anchor
 anchor_has world uri name n is =
-    either (named world uri name) (named_by_identifier world uri name) n name (named_has world uri name n) (under_own world (option_and_then own_uri (means world uri)) name n)
-    (there (option_or (named world uri name) (named_by_identifier world uri name)) (not_named name) n is)
+    either (named_entry world uri name) (named_by_identifier world uri name) n name (named_has world uri name n) (under_own world (option_and_then own_uri (meant_place world uri)) name n)
+    (there (option_or (named_entry world uri name) (named_by_identifier world uri name)) (not_named name) n is)
 
 pub answered : {A : Type 0} (answer : Result A Fault) (a : A) → result_ok answer ≡ Some a → answer ≡ Ok a
 answered (Ok b) a is = (let same : b ≡ a = cc in ap (λ x. Ok x) same)

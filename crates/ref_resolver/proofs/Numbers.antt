@@ -5,7 +5,7 @@ use Rattle.std.specs.Char.{digit_value, is_ascii_digit}
 use Rattle.std.specs.Result.{OkIff, result_ok}
 use Rattle.std.specs.Str.Parse.{IsNumeral, AllDigits, ParsesUnsigned, digits_value, without_leading_plus}
 use Rattle.std.proofs.lemmas.Bool.Decides.{Decides-ltb, Decides-and, nat_tests}
-use Rattle.ref_world.specs.Pointers.{index_of}
+use Rattle.ref_definitions.specs.Pointers.{index_of}
 
 digit_tests : (c : ℕ) → ltb (digit_value c) 10 ≡ is_ascii_digit c
 digit_tests c = grind (arith, nat_tests)

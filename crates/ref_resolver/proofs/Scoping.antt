@@ -3,9 +3,10 @@ use Rattle.std.proofs.Common.{◌≡◌, ℕ, Bool, List, [], ◌∷◌, ◌++�
 use Rattle.std.specs.List.{last_or}
 use Rattle.std.specs.Option.{unwrap_or}
 use Rattle.std.proofs.lemmas.List.Elements.{filter-append}
-use Rattle.ref_world.specs.Fault.{Fault}
-use Rattle.ref_world.specs.Anchors.{Named}
-use Rattle.ref_world.specs.Lookup.{Resolver, Found, fault_of, entry_of, is_dynamic, unless_fault, entry_found, outermost}
+use Rattle.ref_definitions.specs.World.{World}
+use Rattle.ref_definitions.specs.Fault.{Fault}
+use Rattle.ref_definitions.specs.Anchors.{Named}
+use Rattle.ref_definitions.specs.Lookup.{Resolver, Found, fault_of, entry_of, is_dynamic, unless_fault, entry_found, outermost}
 use Rattle.serde_json.specs.View.{view}
 use Rattle.ref_resolver.specs.declared.located.Located.{Located}
 use Rattle.ref_resolver.specs.Located.{IsLocated}
@@ -58,5 +59,5 @@ ended r e m more fault is =
     first_fault (fault_of m) (flat_map fault_of more) (filter dynamic (entry_of m)) (entry_found r (outermost e (entry_of m ++ flat_map entry_of more))) fault is
 
 -- the entry's place, as the code has it
-pub found_under : (r : Resolver) (uri : List ℕ) (n : Named) (l : Located) → IsLocated l n.place → entry_found r (uri, n) ≡ under_uri r uri l.entry.now.draft (view l.value.now)
-found_under r uri n l at = ap (λ d. under_uri r uri d n.place.value) (sym at.draft) ∙ ap (λ v. under_uri r uri l.entry.now.draft v) (sym at.value)
+pub found_under : (w : World) (r : Resolver) (uri : List ℕ) (n : Named) (l : Located) → IsLocated w l n.place → entry_found r (uri, n) ≡ under_uri r uri l.entry.now.draft (view l.value.now)
+found_under w r uri n l at = ap (λ d. under_uri r uri d n.place.value) (sym at.draft) ∙ ap (λ v. under_uri r uri l.entry.now.draft v) (sym at.value)

@@ -1,11 +1,11 @@
 -- The documents that resolvers borrow, as the definitions have them.
 use Rattle.std.specs.Prelude.{ℕ, List, [], ◌∷◌, map}
 use Rattle.std.specs.List.{Contains, Any}
-use Rattle.ref_world.specs.Cached.{pairs}
-use Rattle.ref_world.specs.World.{Layer, World}
+use Rattle.ref_definitions.specs.Cached.{pairs}
+use Rattle.ref_definitions.specs.World.{Layer, World}
 use Rattle.ref_resolver.specs.declared.layers.Layers.{Layers}
 
--- the world of an index in front of those of parents
+-- the world of an index before those of parents
 abbrev pub world_in : Layers → World
 world_in l = l.own.now ∷ map (λ p. p.now) l.parents.now
 
@@ -14,6 +14,6 @@ abbrev pub IsHeld : World → List ℕ → List ℕ → Type 0
 IsHeld world base text = Any (λ layer. Contains (pairs layer) (base, text)) world
 
 -- the documents of the first layer
-abbrev pub own : World → Layer
-own [] = []
-own (layer ∷ parents) = layer
+abbrev pub own_layer : World → Layer
+own_layer [] = []
+own_layer (layer ∷ parents) = layer

@@ -5,3 +5,4 @@ pub mod Resolving
 pub mod Scoped
 pub mod Comparing
 pub mod Names
+pub mod Locations

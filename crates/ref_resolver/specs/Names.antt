@@ -1,10 +1,10 @@
 -- A fragment that is a name, as the code asks for it, for private clauses.
 use Rattle.std.specs.Prelude.{ℕ, Bool, false, not, ◌==◌, List, [], ◌∷◌, Result}
-use Rattle.ref_world.specs.Results.{◌>>=◌}
-use Rattle.ref_world.specs.World.{World}
-use Rattle.ref_world.specs.Fault.{Fault}
-use Rattle.ref_world.specs.Anchors.{anchor}
-use Rattle.ref_world.specs.Lookup.{Resolver, Found, named_found}
+use Rattle.ref_definitions.specs.Results.{◌>>=◌}
+use Rattle.ref_definitions.specs.World.{World}
+use Rattle.ref_definitions.specs.Fault.{Fault}
+use Rattle.ref_definitions.specs.Anchors.{anchor}
+use Rattle.ref_definitions.specs.Lookup.{Resolver, Found, named_found}
 
 -- whether a fragment is a name: it is neither empty nor a pointer
 abbrev pub is_name : List ℕ → Bool

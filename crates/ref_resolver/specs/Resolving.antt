@@ -3,11 +3,11 @@ use Rattle.std.specs.Prelude.{ℕ, List, Result, Ok}
 use Rattle.serde_json.specs.Data.{Data}
 use Rattle.serde_json.specs.View.{view}
 use Rattle.ref_draft.specs.declared.draft.Draft.{Draft}
-use Rattle.ref_world.specs.Results.{◌>>=◌}
-use Rattle.ref_world.specs.World.{World}
-use Rattle.ref_world.specs.Fault.{Fault, as_invalid_uri}
-use Rattle.ref_world.specs.Pointers.{pointed}
-use Rattle.ref_world.specs.Lookup as world
+use Rattle.ref_definitions.specs.Results.{◌>>=◌}
+use Rattle.ref_definitions.specs.World.{World}
+use Rattle.ref_definitions.specs.Fault.{Fault, as_invalid_uri}
+use Rattle.ref_definitions.specs.Pointers.{pointed_value}
+use Rattle.ref_definitions.specs.Lookup as world
 use Rattle.ref_resolver.specs.Layered.{world_in}
 use Rattle.ref_resolver.specs.declared.resolver.Resolver.{Resolver}
 use Rattle.ref_resolver.specs.declared.resolver.Resolved.{Resolved}
@@ -30,7 +30,7 @@ world_found r = world_of r.resolver
 
 -- where a pointer leads in a resource of a draft that a resolver is at
 abbrev pub at_pointer : world.Resolver → Draft → List ℕ → Data → List ℕ → Result world.Found Fault
-at_pointer r draft pointer value text = pointed draft pointer r.base value text >>= λ to. Ok (world.pointer_found r draft to)
+at_pointer r draft pointer value text = pointed_value draft pointer r.base value text >>= λ to. Ok (world.pointer_found r draft to)
 
 -- a value of a draft that an anchor names under a URI: its identifier is resolved against that URI
 abbrev pub under_uri : world.Resolver → List ℕ → Draft → Data → Result world.Found Fault

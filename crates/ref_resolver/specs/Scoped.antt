@@ -1,9 +1,9 @@
 -- What a name means under a URI of the dynamic scope, as the code asks for it, for private clauses.
 use Rattle.std.specs.Prelude.{◌≡◌, ℕ, List, [], ◌∷◌, filter, Option, MatchOption, Result, Ok}
-use Rattle.ref_world.specs.World.{World}
-use Rattle.ref_world.specs.Fault.{Fault}
-use Rattle.ref_world.specs.Anchors.{Named, anchor}
-use Rattle.ref_world.specs.Lookup.{fault_of, entry_of, is_dynamic, unless_fault}
+use Rattle.ref_definitions.specs.World.{World}
+use Rattle.ref_definitions.specs.Fault.{Fault}
+use Rattle.ref_definitions.specs.Anchors.{Named, anchor}
+use Rattle.ref_definitions.specs.Lookup.{Resolver, fault_of, entry_of, is_dynamic, unless_fault, entry_found, by_scope, in_scope}
 use Rattle.ref_resolver.specs.declared.located.Located.{Located}
 use Rattle.ref_resolver.specs.Located.{IsLocated}
 
@@ -18,4 +18,9 @@ dynamic_under world uri name = dynamic_of (uri, anchor world uri name)
 -- a place is that of the dynamic entry, and none is there without one
 abbrev pub IsDynamicUnder : World → List ℕ → List ℕ → Option Located → Type 0
 IsDynamicUnder world uri name found =
-    MatchOption found (dynamic_under world uri name ≡ Ok []) (λ l. (n : Named) × (dynamic_under world uri name ≡ Ok ((uri, n) ∷ [])) × IsLocated l n.place)
+    MatchOption found (dynamic_under world uri name ≡ Ok []) (λ l. (n : Named) × (dynamic_under world uri name ≡ Ok ((uri, n) ∷ [])) × IsLocated world l n.place)
+
+-- what a dynamic anchor leads to by the scope is a place, with its identifier against a URI
+abbrev pub IsOutermost : World → Resolver → Named → List ℕ → List ℕ → Located → Type 0
+IsOutermost world r first name uri l =
+    (n : Named) × (by_scope r first (in_scope world name r.scope) ≡ entry_found r (uri, n)) × IsLocated world l n.place

@@ -2,11 +2,11 @@
 use Rattle.std.specs.Prelude.{ℕ, List, [], Result, Ok}
 use Rattle.serde_json.specs.Data.{Data}
 use Rattle.ref_draft.specs.declared.draft.Draft.{Draft}
-use Rattle.ref_world.specs.Results.{◌>>=◌}
-use Rattle.ref_world.specs.Fault.{Fault, as_invalid_uri}
-use Rattle.ref_world.specs.Bases as bases
-use Rattle.ref_world.specs.Bases.{along_part}
-use Rattle.ref_world.specs.Pointers.{step_into, walked_along, pointed}
+use Rattle.ref_definitions.specs.Results.{◌>>=◌}
+use Rattle.ref_definitions.specs.Fault.{Fault, as_invalid_uri}
+use Rattle.ref_definitions.specs.Bases as bases
+use Rattle.ref_definitions.specs.Bases.{along_part}
+use Rattle.ref_definitions.specs.Pointers.{step_into, walked_along, pointed_value}
 use Rattle.ref_resolver.specs.declared.pointed.Along.{Along}
 
 -- the base at a value of the way, and the parts since it last changed
@@ -14,8 +14,8 @@ abbrev pub along_of : Along → bases.Along
 along_of a = record { base = a.base.value; since = a.since }
 
 -- one token further: the value there, with the base and the parts
-abbrev pub stepped : Draft → List ℕ → bases.Along → Data → List ℕ → Result (Data × bases.Along) Fault
-stepped draft pointer along value token =
+abbrev pub stepped_along : Draft → List ℕ → bases.Along → Data → List ℕ → Result (Data × bases.Along) Fault
+stepped_along draft pointer along value token =
     step_into pointer value token >>= λ s. as_invalid_uri (along_part draft along s.0 s.1) >>= λ next. Ok (s.1, next)
 
 -- where tokens lead, with the base there
@@ -24,4 +24,4 @@ leads_to draft pointer base value tokens = walked_along draft pointer (record { 
 
 -- where a pointer leads, with the base there
 abbrev pub pointed_to : Draft → List ℕ → List ℕ → Data → List ℕ → Result (Data × List ℕ) Fault
-pointed_to draft pointer base value text = pointed draft pointer base value text >>= λ at. Ok (at.0, at.1.base)
+pointed_to draft pointer base value text = pointed_value draft pointer base value text >>= λ at. Ok (at.0, at.1.base)

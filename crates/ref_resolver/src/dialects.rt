@@ -1,8 +1,8 @@
 //! The vocabularies of schemas, by what their meta-schemas declare (2020-12 Core, 8.1.1 and 8.1.2).
 ghost use Rattle.std.specs.Prelude.{◌≡◌, IfOk, option_map};
 ghost use Rattle.serde_json.specs.View.{view};
-ghost use Rattle.ref_world.specs.Resources.{means};
-ghost use Rattle.ref_world.specs.Vocabularies.{find_vocabularies, find_vocabularies_at};
+ghost use Rattle.ref_definitions.specs.Resources.{meant_place};
+ghost use Rattle.ref_definitions.specs.Vocabularies.{find_vocabularies, find_vocabularies_at};
 ghost use Rattle.ref_resolver.specs.Layered.{world_in};
 ghost use Rattle.ref_resolver.specs.Resolving.{resolver_of, world_of};
 
@@ -16,7 +16,7 @@ use std::alloc::{AllocError, Global};
 impl<'r> Layers<'r> {
     // The value that a URI means.
     fn value_under(&self, uri: &str) -> Option<&'r Value>
-        ensures { option_map (λ v. view v.now) result ≡ option_map (λ p. p.value) (means (world_in self.now) uri.now) }
+        ensures { option_map (λ v. view v.now) result ≡ option_map (λ p. p.value) (meant_place (world_in self.now) uri.now) }
     {
         let place = self.resource(uri)?;
         Some(place.value)
@@ -31,7 +31,7 @@ impl<'r> Layers<'r> {
     /// where it is no URI reference or means no place in any layer, where the value declares none, and where one of its keys is
     /// refused.
     ///
-    /// Refused only for want of memory, which it takes for the URI and for custom vocabularies. A look-up for each layer, and
+    /// Fails only where memory is refused, which it takes for the URI and for custom vocabularies. A look-up for each layer, and
     /// what `find` takes.
     pub fn find_vocabularies(
         &self,
@@ -49,11 +49,11 @@ impl<'r> Layers<'r> {
 }
 
 impl<'r> Resolver<'r> {
-    /// The vocabularies of a schema at this resolver's base, as [`Layers::find_vocabularies`] has them: those of the contents
+    /// The vocabularies of a schema at this resolver's base, as `Registry::find_vocabularies` has them: those of the contents
     /// where they are an object with a key `$schema`, of whatever value; else those of the value that the base means; and those
     /// of the contents where it means none.
     ///
-    /// Refused only for want of memory, which it takes as that call does; a look-up more.
+    /// Fails only where memory is refused, which it takes as that call does; a look-up more.
     pub fn find_vocabularies(
         &self,
         alloc: Global,

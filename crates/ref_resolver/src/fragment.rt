@@ -3,10 +3,10 @@ ghost use Rattle.std.specs.Prelude.{◌≡◌, [], ◌∷◌, List, ℕ, IfOk, I
 ghost use Rattle.std.specs.Result.{result_ok};
 ghost use Rattle.serde_json.specs.View.{view};
 ghost use Rattle.ref_draft.specs.Anchors.{Plain};
-ghost use Rattle.ref_world.specs.World.{World};
-ghost use Rattle.ref_world.specs.Anchors.{Named, anchor, named_by_identifier, not_named};
-ghost use Rattle.ref_world.specs.Fault.{not_retrieved};
-ghost use Rattle.ref_world.specs.Lookup.{by_scope, in_scope, named_found};
+ghost use Rattle.ref_definitions.specs.World.{World};
+ghost use Rattle.ref_definitions.specs.Anchors.{Named, anchor, named_by_identifier, not_named};
+ghost use Rattle.ref_definitions.specs.Fault.{not_retrieved};
+ghost use Rattle.ref_definitions.specs.Lookup.{by_scope, in_scope, named_found};
 ghost use Rattle.ref_retrieve.specs.Errors.{IsFaultOf, IsForReason};
 ghost use Rattle.ref_retrieve.specs.declared.error.Reason.TheVariants.{NotSupported};
 ghost use Rattle.ref_index.specs.Retrieval.{SaysOrMemory};
@@ -14,7 +14,7 @@ ghost use Rattle.ref_resolver.specs.Layered.{world_in};
 ghost use Rattle.ref_resolver.specs.Located.{IsLocated, IsNamed};
 ghost use Rattle.ref_resolver.specs.Resolving.{resolver_of, world_of, found_of, world_found, at_pointer, under_uri};
 ghost use Rattle.ref_resolver.specs.Names.{is_name};
-ghost use Rattle.ref_resolver.specs.Scoped.{dynamic_under, IsDynamicUnder};
+ghost use Rattle.ref_resolver.specs.Scoped.{dynamic_under, IsDynamicUnder, IsOutermost};
 
 use crate::layers::Layers;
 use crate::located::{Located, LocatedName};
@@ -45,7 +45,7 @@ pub(crate) fn not_named(alloc: Global, name: &str) -> Error
 
 // The entry of a name under the base of the place that a URI means, where that place has an identifier.
 fn named_by_identifier<'r>(layers: &Layers<'r>, uri: &str, name: &str) -> Option<LocatedName<'r>>
-    ensures { MatchOption result (named_by_identifier (world_in layers.now) uri.now name.now ≡ None) (IsNamed (named_by_identifier (world_in layers.now) uri.now name.now)) }
+    ensures { MatchOption result (named_by_identifier (world_in layers.now) uri.now name.now ≡ None) (IsNamed (world_in layers.now) (named_by_identifier (world_in layers.now) uri.now name.now)) }
 {
     let place = layers.resource(uri)?;
     if ResourceRef::new(place.value, place.entry.draft)
@@ -60,7 +60,7 @@ fn named_by_identifier<'r>(layers: &Layers<'r>, uri: &str, name: &str) -> Option
 // The entry that a name under a URI means: the one there, or else the one under the base of the place there.
 #[inline(always)]
 pub(crate) fn meaning<'r>(layers: &Layers<'r>, uri: &str, name: &str) -> Option<LocatedName<'r>>
-    ensures { MatchOption result (anchor (world_in layers.now) uri.now name.now ≡ Err (not_named name.now)) (IsNamed (result_ok (anchor (world_in layers.now) uri.now name.now))) }
+    ensures { MatchOption result (anchor (world_in layers.now) uri.now name.now ≡ Err (not_named name.now)) (IsNamed (world_in layers.now) (result_ok (anchor (world_in layers.now) uri.now name.now))) }
 {
     match layers.named(uri, name) {
         Some(found) => Some(found),
@@ -99,7 +99,7 @@ fn handle(alloc: Global, uri: &Uri, other: &Rc<Uri>) -> Result<Rc<Uri>, AllocErr
 }
 
 // A place that an anchor names under a URI: the place's identifier is resolved against that URI.
-fn under_uri<'r>(
+pub(crate) fn under_uri<'r>(
     alloc: Global,
     resolver: &Resolver<'r>,
     uri: &Uri,
@@ -118,16 +118,17 @@ fn under_uri<'r>(
 }
 
 // The place of the outermost dynamic anchor of a name in the dynamic scope, or else the place that was found first (2020-12
-// Core, 8.2.3.2). A look-up for each URI of the scope.
-pub(crate) fn outermost<'r>(
+// Core, 8.2.3.2), and the URI that it was found under. A look-up for each URI of the scope.
+pub(crate) fn outermost<'s, 'r>(
     alloc: Global,
-    resolver: &Resolver<'r>,
+    resolver: &'s Resolver<'r>,
     name: &str,
     first: Located<'r>,
-) -> Result<Resolved<'r>, Error>
-    ensures ok { (n : Named) → IsLocated first.entry n.place → IfOk result (λ found. by_scope (resolver_of resolver.now) n (in_scope (world_of resolver.now) name.now (resolver_of resolver.now).scope) ≡ Ok (found_of found)) }
-    ensures world { IfOk result (λ found. world_found found ≡ world_of resolver.now) }
-    ensures fault { (n : Named) → IsLocated first.entry n.place → IfErr result (IsFaultOf (by_scope (resolver_of resolver.now) n (in_scope (world_of resolver.now) name.now (resolver_of resolver.now).scope))) }
+) -> Result<(&'s Uri, Located<'r>), Error>
+    ensures ok { (n : Named) → IsLocated (world_of resolver.now) first.entry n.place
+        → IfOk result (λ found. IsOutermost (world_of resolver.now) (resolver_of resolver.now) n name.now found.0.now found.1) }
+    ensures fault { (n : Named) → IsLocated (world_of resolver.now) first.entry n.place
+        → IfErr result (IsFaultOf (by_scope (resolver_of resolver.now) n (in_scope (world_of resolver.now) name.now (resolver_of resolver.now).scope))) }
 {
     let mut uri: &Uri = &resolver.base;
     let mut place = first;
@@ -137,13 +138,13 @@ pub(crate) fn outermost<'r>(
             place = found;
         }
     }
-    under_uri(alloc, resolver, uri, place)
+    Ok((uri, place))
 }
 
 // What a plain anchor's name leads to: its place.
 #[inline(always)]
 pub(crate) fn plain_found<'r>(resolver: Resolver<'r>, place: Located<'r>) -> Resolved<'r>
-    ensures found { (world : World) (n : Named) → n.kind ≡ Plain → IsLocated place.entry n.place → named_found world (resolver_of resolver.entry) n n.kind ≡ Ok (found_of result) }
+    ensures found { (world : World) (n : Named) → n.kind ≡ Plain → IsLocated world place.entry n.place → named_found world (resolver_of resolver.entry) n n.kind ≡ Ok (found_of result) }
     ensures world { world_found result ≡ world_of resolver.entry }
 {
     at_value(place.value, place.entry.draft, resolver)
@@ -166,7 +167,7 @@ pub(crate) fn at_value<'r>(
     }
 }
 
-// What a pointer leads to in the resource at a place, where `text` is the fragment behind its first `/`. Its many values stay out of
+// What a pointer leads to in the resource at a place, where `text` is the fragment after its first `/`. Its many values stay out of
 // the look-up of whole resources.
 #[inline(never)]
 pub(crate) fn at_pointer<'r>(

@@ -1,9 +1,9 @@
 //! The documents that references lead into, layer by layer.
 ghost use Rattle.std.specs.Prelude.{◌≡◌, ◌∷◌, map, IfOk, IfErr, IfSome, MatchOption, IsSome, is_some, None, Ok};
-ghost use Rattle.ref_uri.specs.Targets.{against};
-ghost use Rattle.ref_world.specs.Resources.{means};
-ghost use Rattle.ref_world.specs.Anchors.{named};
-ghost use Rattle.ref_world.specs.Fault.{as_invalid_uri};
+ghost use Rattle.ref_uri.specs.Targets.{uri_against};
+ghost use Rattle.ref_definitions.specs.Resources.{meant_place};
+ghost use Rattle.ref_definitions.specs.Anchors.{named_entry};
+ghost use Rattle.ref_definitions.specs.Fault.{as_invalid_uri};
 ghost use Rattle.ref_retrieve.specs.Errors.{IsFaultOf};
 ghost use Rattle.ref_resolver.specs.Located.{IsMeant, IsNamed};
 ghost use Rattle.ref_resolver.specs.Layered.{world_in, IsHeld};
@@ -28,7 +28,7 @@ pub struct Layers<'r> {
 }
 
 impl<'r> Layers<'r> {
-    /// An index in front of those of parents, of which the nearest stands first. Takes no memory.
+    /// An index before those of parents, of which the nearest stands first. Takes no memory.
     pub fn new(own: &'r Index<'r>, parents: &'r [&'r Index<'r>]) -> Layers<'r>
         ensures value { world_in result ≡ own.now ∷ map (λ p. p.now) parents.now }
     {
@@ -38,9 +38,9 @@ impl<'r> Layers<'r> {
     /// The place that a URI means. A look-up for each layer, up to the first that has it; takes no memory.
     #[inline(always)]
     pub(crate) fn resource(&self, uri: &str) -> Option<Located<'r>>
-        ensures value { MatchOption result (means (world_in self.now) uri.now ≡ None) (IsMeant (means (world_in self.now) uri.now)) }
+        ensures value { MatchOption result (meant_place (world_in self.now) uri.now ≡ None) (IsMeant (world_in self.now) (meant_place (world_in self.now) uri.now)) }
     {
-        match resource_in(self.own, uri) {
+        match resource_in(self.own, 0, uri) {
             Some(place) => Some(place),
             None => resource_above(self.parents, uri),
         }
@@ -50,8 +50,8 @@ impl<'r> Layers<'r> {
     /// it. Takes no memory.
     #[inline(always)]
     pub(crate) fn resource_or(&self, known: Option<Located<'r>>, uri: &str) -> Option<Located<'r>>
-        requires known { IfSome known (IsMeant (means (world_in self.now) uri.now)) }
-        ensures value { MatchOption result (means (world_in self.now) uri.now ≡ None) (IsMeant (means (world_in self.now) uri.now)) }
+        requires known { IfSome known (IsMeant (world_in self.now) (meant_place (world_in self.now) uri.now)) }
+        ensures value { MatchOption result (meant_place (world_in self.now) uri.now ≡ None) (IsMeant (world_in self.now) (meant_place (world_in self.now) uri.now)) }
     {
         match known {
             Some(place) => Some(place),
@@ -61,7 +61,7 @@ impl<'r> Layers<'r> {
 
     /// Whether a URI means a place. A look-up for each layer, up to the first that has it; takes no memory.
     pub fn has_resource(&self, uri: &str) -> bool
-        ensures value { result ≡ is_some (means (world_in self.now) uri.now) }
+        ensures value { result ≡ is_some (meant_place (world_in self.now) uri.now) }
     {
         self.own.resource(uri).is_some() || is_resource_above(self.parents, uri)
     }
@@ -69,9 +69,9 @@ impl<'r> Layers<'r> {
     /// The place that an anchor names under a URI. A look-up for each layer, up to the first that has it; takes no memory.
     #[inline(always)]
     pub(crate) fn named(&self, uri: &str, name: &str) -> Option<LocatedName<'r>>
-        ensures value { MatchOption result (named (world_in self.now) uri.now name.now ≡ None) (IsNamed (named (world_in self.now) uri.now name.now)) }
+        ensures value { MatchOption result (named_entry (world_in self.now) uri.now name.now ≡ None) (IsNamed (world_in self.now) (named_entry (world_in self.now) uri.now name.now)) }
     {
-        match named_in(self.own, uri, name) {
+        match named_in(self.own, 0, uri, name) {
             Some(place) => Some(place),
             None => named_above(self.parents, uri, name),
         }
@@ -81,7 +81,7 @@ impl<'r> Layers<'r> {
     /// layer, up to the first that has it; takes no memory.
     pub fn resolved_uri(&self, base: &UriRef<'_>, uri: &str) -> Option<&'r Rc<Uri>>
         ensures held { IsHeld (world_in self.now) base.now uri.now → IsSome result }
-        ensures value { IfSome result (λ u. against base.now uri.now ≡ Ok u.now.value) }
+        ensures value { IfSome result (λ u. uri_against base.now uri.now ≡ Ok u.now.value) }
     {
         match self.own.resolved(base.as_str(), uri) {
             Some(found) => Some(found.uri),
@@ -89,12 +89,12 @@ impl<'r> Layers<'r> {
         }
     }
 
-    /// The URI that a text means against a base (RFC 3986, 5.2), in normal form, whatever was resolved before; without memory
-    /// where it was. Refuses as `InvalidUri` a base without a scheme and a text that is no URI reference, and as `Memory`.
+    /// The URI that a text means against a base (RFC 3986, 5.2), in normal form, whatever was resolved before. Where it
+    /// was, the code takes no memory, which no clause says. Refuses as `InvalidUri` a base without a scheme and a text that is no URI reference, and as `Memory`.
     #[inline(always)]
     pub fn resolve_uri(&self, alloc: Global, base: UriRef<'_>, uri: &str) -> Result<Rc<Uri>, Error>
-        ensures ok { IfOk result (λ u. against base.entry uri.now ≡ Ok u.value) }
-        ensures fault { IfErr result (IsFaultOf (as_invalid_uri (against base.entry uri.now))) }
+        ensures ok { IfOk result (λ u. uri_against base.entry uri.now ≡ Ok u.value) }
+        ensures fault { IfErr result (IsFaultOf (as_invalid_uri (uri_against base.entry uri.now))) }
     {
         match self.resolved_uri(&base, uri) {
             Some(uri) => Ok(uri.clone()?),
@@ -111,12 +111,12 @@ impl<'r> Layers<'r> {
         base: UriRef<'_>,
         uri: &str,
     ) -> Result<(Rc<Uri>, Option<Located<'r>>), Error>
-        ensures ok { IfOk result (λ t. against base.entry uri.now ≡ Ok t.0.value) }
-        ensures place { IfOk result (λ t. IfSome t.1 (IsMeant (means (world_in self.now) t.0.value))) }
-        ensures fault { IfErr result (IsFaultOf (as_invalid_uri (against base.entry uri.now))) }
+        ensures ok { IfOk result (λ t. uri_against base.entry uri.now ≡ Ok t.0.value) }
+        ensures place { IfOk result (λ t. IfSome t.1 (IsMeant (world_in self.now) (meant_place (world_in self.now) t.0.value))) }
+        ensures fault { IfErr result (IsFaultOf (as_invalid_uri (uri_against base.entry uri.now))) }
     {
         if let Some(found) = self.own.resolved(base.as_str(), uri) {
-            let place = place_of(self.own, found.entry);
+            let place = place_of(self.own, 0, found.entry);
             return Ok((found.uri.clone()?, place));
         }
         match resolved_above(self.parents, base.as_str(), uri) {
@@ -129,8 +129,8 @@ impl<'r> Layers<'r> {
 // The URI that a text means against a base, where that wasn't resolved before. Takes memory for the URI.
 #[inline(never)]
 fn anew(alloc: Global, base: UriRef<'_>, uri: &str) -> Result<Rc<Uri>, Error>
-    ensures ok { IfOk result (λ u. against base.entry uri.now ≡ Ok u.value) }
-    ensures fault { IfErr result (IsFaultOf (as_invalid_uri (against base.entry uri.now))) }
+    ensures ok { IfOk result (λ u. uri_against base.entry uri.now ≡ Ok u.value) }
+    ensures fault { IfErr result (IsFaultOf (as_invalid_uri (uri_against base.entry uri.now))) }
 {
     let uri = resolve_against(alloc, base, uri)?;
     Ok(shared(alloc, uri)?)

@@ -1,9 +1,10 @@
 //! Places that were looked up, with their values.
-ghost use Rattle.std.specs.Prelude.{◌≡◌, ℕ, List, Option, map, option_map, MatchOption, IfSome, IsSome, is_some, None, Ok};
-ghost use Rattle.ref_uri.specs.Targets.{against};
-ghost use Rattle.ref_world.specs.Places.{Place};
-ghost use Rattle.ref_world.specs.Resources.{last_under, resources, means};
-ghost use Rattle.ref_world.specs.Anchors.{last_named, names, named};
+ghost use Rattle.std.specs.Prelude.{◌≡◌, ℕ, List, ◌∷◌, Option, map, option_map, slice_get, MatchOption, IfSome, IsSome, is_some, Some, None, Ok};
+ghost use Rattle.ref_uri.specs.Targets.{uri_against};
+ghost use Rattle.ref_definitions.specs.World.{Layer, World};
+ghost use Rattle.ref_definitions.specs.Places.{Place};
+ghost use Rattle.ref_definitions.specs.Resources.{last_under, resources, meant_place};
+ghost use Rattle.ref_definitions.specs.Anchors.{last_named, names, named_entry};
 ghost use Rattle.ref_index.specs.Found.{IsEntryOf};
 ghost use Rattle.ref_index.specs.Index.{IsFoundWhere};
 ghost use Rattle.ref_resolver.specs.Layered.{IsHeld};
@@ -14,10 +15,11 @@ use ref_uri::Uri;
 use serde_json::Value;
 use std::rc::Rc;
 
-/// A place: its value, and where it stands.
+/// A place: its value, the number of its layer, and its entry there.
 #[derive(Clone, Copy, Drop)]
 pub struct Located<'r> {
     pub value: &'r Value,
+    pub layer: usize,
     pub entry: &'r Entry<'r>,
 }
 
@@ -28,49 +30,62 @@ pub struct LocatedName<'r> {
     pub place: Located<'r>,
 }
 
-// The place of an entry.
+// The place of an entry of the layer with a number.
 #[inline(always)]
-fn place_at<'r>(index: &'r Index<'r>, entry: &'r Entry<'r>) -> Option<Located<'r>>
-    ensures { (p : Place) → IsEntryOf index.now entry.now p → MatchOption result ⊥ (λ l. IsLocated l p) }
+fn place_at<'r>(index: &'r Index<'r>, layer: usize, entry: &'r Entry<'r>) -> Option<Located<'r>>
+    ensures { (w : World) (p : Place) → slice_get w layer ≡ Some index.now → IsEntryOf index.now entry.now p
+        → MatchOption result ⊥ (λ l. IsLocated w l p) }
 {
     let value = index.value(entry)?;
-    Some(Located { value, entry })
+    Some(Located {
+        value,
+        layer,
+        entry,
+    })
 }
 
 // The place of an entry that was found, or none.
 #[inline(always)]
 pub(crate) fn place_of<'r>(
     index: &'r Index<'r>,
+    layer: usize,
     entry: Option<&'r Entry<'r>>,
 ) -> Option<Located<'r>>
-    ensures { (found : Option (List ℕ × Place)) → IsFoundWhere index.now entry.entry found → MatchOption result (found ≡ None) (IsMeant (option_map (λ e. e.1) found)) }
+    ensures { (w : World) (found : Option (List ℕ × Place)) → slice_get w layer ≡ Some index.now → IsFoundWhere index.now entry.entry found
+        → MatchOption result (found ≡ None) (IsMeant w (option_map (λ e. e.1) found)) }
 {
-    place_at(index, entry?)
+    place_at(index, layer, entry?)
 }
 
-/// The place that a URI means in the documents of an index. A look-up; takes no memory.
+/// The place that a URI means in the documents of the layer with a number. A look-up; takes no memory.
 #[inline(always)]
-pub(crate) fn resource_in<'r>(index: &'r Index<'r>, uri: &str) -> Option<Located<'r>>
-    ensures value { MatchOption result (last_under uri.now (resources index.now) ≡ None) (IsMeant (option_map (λ e. e.1) (last_under uri.now (resources index.now)))) }
+pub(crate) fn resource_in<'r>(index: &'r Index<'r>, layer: usize, uri: &str) -> Option<Located<'r>>
+    ensures value { (w : World) → slice_get w layer ≡ Some index.now
+        → MatchOption result (last_under uri.now (resources index.now) ≡ None)
+        (IsMeant w (option_map (λ e. e.1) (last_under uri.now (resources index.now)))) }
 {
-    place_of(index, index.resource(uri))
+    place_of(index, layer, index.resource(uri))
 }
 
-/// The place that a URI means in the documents of parents, nearest first. A look-up for each; takes no memory.
+/// The place that a URI means in the documents of parents, nearest first, whose layers are counted from 1. A look-up for each;
+/// takes no memory.
 pub(crate) fn resource_above<'r>(parents: &'r [&'r Index<'r>], uri: &str) -> Option<Located<'r>>
-    ensures value { MatchOption result (means (map (λ p. p.now) parents.now) uri.now ≡ None) (IsMeant (means (map (λ p. p.now) parents.now) uri.now)) }
+    ensures value { (own : Layer) → MatchOption result (meant_place (map (λ p. p.now) parents.now) uri.now ≡ None)
+        (IsMeant (own ∷ map (λ p. p.now) parents.now) (meant_place (map (λ p. p.now) parents.now) uri.now)) }
 {
-    for parent in parents {
-        if let Some(place) = resource_in(parent, uri) {
+    let mut number = 0;
+    while number < parents.len() {
+        if let Some(place) = resource_in(parents[number], number + 1, uri) {
             return Some(place);
         }
+        number += 1;
     }
     None
 }
 
 /// Whether a URI means a place in the documents of parents. A look-up for each; takes no memory.
 pub(crate) fn is_resource_above(parents: &[&Index<'_>], uri: &str) -> bool
-    ensures value { result ≡ is_some (means (map (λ p. p.now) parents.now) uri.now) }
+    ensures value { result ≡ is_some (meant_place (map (λ p. p.now) parents.now) uri.now) }
 {
     for parent in parents {
         if parent.resource(uri).is_some() {
@@ -80,31 +95,42 @@ pub(crate) fn is_resource_above(parents: &[&Index<'_>], uri: &str) -> bool
     false
 }
 
-/// The place that an anchor names under a URI in the documents of an index. A look-up; takes no memory.
+/// The place that an anchor names under a URI in the documents of the layer with a number. A look-up; takes no memory.
 #[inline(always)]
-pub(crate) fn named_in<'r>(index: &'r Index<'r>, uri: &str, name: &str) -> Option<LocatedName<'r>>
-    ensures value { MatchOption result (last_named uri.now name.now (names index.now) ≡ None) (IsNamed (last_named uri.now name.now (names index.now))) }
+pub(crate) fn named_in<'r>(
+    index: &'r Index<'r>,
+    layer: usize,
+    uri: &str,
+    name: &str,
+) -> Option<LocatedName<'r>>
+    ensures value { (w : World) → slice_get w layer ≡ Some index.now
+        → MatchOption result (last_named uri.now name.now (names index.now) ≡ None)
+        (IsNamed w (last_named uri.now name.now (names index.now))) }
 {
     let found = index.named(uri, name)?;
-    let place = place_at(index, found.entry)?;
+    let place = place_at(index, layer, found.entry)?;
     Some(LocatedName {
         named: found.named,
         place,
     })
 }
 
-/// The place that an anchor names under a URI in the documents of parents, nearest first. A look-up for each; takes no memory.
+/// The place that an anchor names under a URI in the documents of parents, nearest first, whose layers are counted from 1. A
+/// look-up for each; takes no memory.
 pub(crate) fn named_above<'r>(
     parents: &'r [&'r Index<'r>],
     uri: &str,
     name: &str,
 ) -> Option<LocatedName<'r>>
-    ensures value { MatchOption result (named (map (λ p. p.now) parents.now) uri.now name.now ≡ None) (IsNamed (named (map (λ p. p.now) parents.now) uri.now name.now)) }
+    ensures value { (own : Layer) → MatchOption result (named_entry (map (λ p. p.now) parents.now) uri.now name.now ≡ None)
+        (IsNamed (own ∷ map (λ p. p.now) parents.now) (named_entry (map (λ p. p.now) parents.now) uri.now name.now)) }
 {
-    for parent in parents {
-        if let Some(place) = named_in(parent, uri, name) {
+    let mut number = 0;
+    while number < parents.len() {
+        if let Some(place) = named_in(parents[number], number + 1, uri, name) {
             return Some(place);
         }
+        number += 1;
     }
     None
 }
@@ -117,7 +143,7 @@ pub(crate) fn resolved_above<'r>(
     uri: &str,
 ) -> Option<&'r Rc<Uri>>
     ensures held { IsHeld (map (λ p. p.now) parents.now) base.now uri.now → IsSome result }
-    ensures value { IfSome result (λ u. against base.now uri.now ≡ Ok u.now.value) }
+    ensures value { IfSome result (λ u. uri_against base.now uri.now ≡ Ok u.now.value) }
 {
     for parent in parents {
         if let Some(found) = parent.resolved(base, uri) {

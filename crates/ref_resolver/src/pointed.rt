@@ -6,12 +6,12 @@ ghost use Rattle.ref_draft.specs.Views.{part_of};
 ghost use Rattle.ref_draft.specs.Schema.{identifier};
 ghost use Rattle.ref_draft.specs.Children.{is_object};
 ghost use Rattle.ref_draft.specs.ScanSteps.{scan};
-ghost use Rattle.ref_world.specs.Places.{base_within};
-ghost use Rattle.ref_world.specs.Pointers as world;
-ghost use Rattle.ref_world.specs.Fault.{PointerToNowhere, InvalidArrayIndex, InvalidPercentEncoding, as_invalid_uri};
+ghost use Rattle.ref_definitions.specs.Places.{base_within};
+ghost use Rattle.ref_definitions.specs.Pointers as world;
+ghost use Rattle.ref_definitions.specs.Fault.{PointerToNowhere, InvalidArrayIndex, InvalidPercentEncoding, as_invalid_uri};
 ghost use Rattle.ref_retrieve.specs.Errors.{IsFaultOf};
 ghost use Rattle.ref_index.specs.Retrieval.{SaysOrMemory};
-ghost use Rattle.ref_resolver.specs.Walking.{along_of, stepped, leads_to, pointed_to};
+ghost use Rattle.ref_resolver.specs.Walking.{along_of, stepped_along, leads_to, pointed_to};
 
 use crate::layers::Layers;
 use percent_encoding::{DecodeError, percent_decode};
@@ -64,14 +64,14 @@ fn no_index(alloc: Global, pointer: &str, token: &str) -> Error
     }
 }
 
-// Decimal digits, behind a `+` or not, of a number that a `usize` holds.
-fn index_of(part: &str) -> Option<usize>
+// Decimal digits, after a `+` or not, of a number that a `usize` holds.
+pub(crate) fn index_of(part: &str) -> Option<usize>
     ensures { result ≡ world.index_of part.now }
 {
     part.parse::<usize>().ok()
 }
 
-// What a look-up found, or the fault of a pointer that leads nowhere.
+// What a look-up found, or the fault of a pointer that finds no value.
 fn found<'r>(alloc: Global, pointer: &str, value: Option<&'r Value>) -> Result<&'r Value, Error>
     ensures ok { IfOk result (λ v. ok_or (option_map (λ v. view v.now) value.entry) (PointerToNowhere pointer.now) ≡ Ok (view v.now)) }
     ensures fault { IfErr result (IsFaultOf (ok_or (option_map (λ v. view v.now) value.entry) (PointerToNowhere pointer.now))) }
@@ -127,14 +127,14 @@ fn accepted_id<'v>(draft: Draft, since: &Segments<'_>, value: &'v Value) -> Opti
 
 // One token further: an identifier of the value there, where the parts since the last change are accepted at it, is a base
 // against the one before.
-fn step<'r, 't>(
+pub(crate) fn step<'r, 't>(
     alloc: Global,
     walk: &Walk<'_, '_>,
     along: Along<'r, 't>,
     token: &'t str,
 ) -> Result<Along<'r, 't>, Error>
-    ensures ok { IfOk result (λ a. stepped walk.now.draft walk.now.pointer.now (along_of along.entry) (view along.entry.value.now) token.now ≡ Ok (view a.value.now, along_of a)) }
-    ensures fault { IfErr result (IsFaultOf (stepped walk.now.draft walk.now.pointer.now (along_of along.entry) (view along.entry.value.now) token.now)) }
+    ensures ok { IfOk result (λ a. stepped_along walk.now.draft walk.now.pointer.now (along_of along.entry) (view along.entry.value.now) token.now ≡ Ok (view a.value.now, along_of a)) }
+    ensures fault { IfErr result (IsFaultOf (stepped_along walk.now.draft walk.now.pointer.now (along_of along.entry) (view along.entry.value.now) token.now)) }
 {
     let Along {
         value,
@@ -165,9 +165,9 @@ fn slash_in(text: &str) -> Option<usize>
     text.as_bytes().iter().position(|byte| *byte == b'/')
 }
 
-// What stands before the first `/` of a text, and what follows that.
+// What is before the first `/` of a text, and what follows that.
 #[inline(always)]
-fn cut_at_slash(text: &str) -> Option<(&str, &str)>
+pub(crate) fn cut_at_slash(text: &str) -> Option<(&str, &str)>
     ensures { MatchOption result (All (λ b. b ≢ slash) text.now) (λ cut. (text.now ≡ cut.0.now ++ (slash ∷ cut.1.now)) × All (λ b. b ≢ slash) cut.0.now) }
 {
     let place = slash_in(text)?;
@@ -195,7 +195,7 @@ fn walk_along<'r, 't>(
     step(alloc, &walk, along, rest)
 }
 
-/// The value that a pointer's text leads to from the value of a resource, with the base there: what stands behind the
+/// The value that a pointer's text leads to from the value of a resource, with the base there: what is after the
 /// fragment's first `/` is percent-decoded as a whole, and then split (RFC 6901, 6).
 #[derive(Drop)]
 pub struct Pointed<'r> {
@@ -225,7 +225,7 @@ fn walk_from<'r>(
 }
 
 // The fault of a pointer whose triples make no UTF-8.
-fn no_utf8(alloc: Global, pointer: &str) -> Error
+pub(crate) fn no_utf8(alloc: Global, pointer: &str) -> Error
     ensures { SaysOrMemory (InvalidPercentEncoding pointer.now) result }
 {
     match String::from_str(alloc, pointer) {
@@ -235,10 +235,10 @@ fn no_utf8(alloc: Global, pointer: &str) -> Error
 }
 
 /// The value that a pointer leads to from the value of a resource, with the base there (RFC 6901, 3, 4 and 6): `text` is what
-/// stands behind the fragment's first `/`.
+/// is after the fragment's first `/`.
 ///
 /// Refuses as `InvalidPercentEncoding` where the decoded bytes are no UTF-8, as `InvalidArrayIndex` and `PointerToNowhere` for
-/// the first part that leads nowhere, as `InvalidUri` for an identifier on the way that means no URI, and as `Memory`. Without a
+/// the first part that is unresolvable, as `InvalidUri` for an identifier on the way that means no URI, and as `Memory`. Without a
 /// `%` no text is decoded.
 #[inline(always)]
 pub(crate) fn follow_pointer<'r>(

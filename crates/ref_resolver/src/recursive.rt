@@ -1,7 +1,8 @@
 //! Recursive references (2019-09 Core, 8.2.4.2).
 ghost use Rattle.std.specs.Prelude.{◌≡◌, IfOk, IfErr, Ok};
 ghost use Rattle.serde_json.specs.View.{view};
-ghost use Rattle.ref_world.specs.Recursive.{is_marked, lookup_recursive};
+ghost use Rattle.ref_definitions.specs.Lookup.{lookup};
+ghost use Rattle.ref_definitions.specs.Recursive.{is_marked, lookup_recursive};
 ghost use Rattle.ref_retrieve.specs.Errors.{IsFaultOf};
 ghost use Rattle.ref_resolver.specs.Resolving.{resolver_of, world_of, found_of, world_found};
 
@@ -31,17 +32,31 @@ impl<'r> Resolver<'r> {
         ensures world { IfOk result (λ found. world_found found ≡ world_of self.now) }
         ensures fault { IfErr result (IsFaultOf (lookup_recursive (world_of self.now) (resolver_of self.now))) }
     {
-        let mut resolved = self.lookup(alloc, "#")?;
+        let (resolved, _) = self.recursive(alloc)?;
+        Ok(resolved)
+    }
+
+    // The same, with a reference that leads there.
+    pub(crate) fn recursive(&self, alloc: Global) -> Result<(Resolved<'r>, &str), Error>
+        ensures ok { IfOk result (λ t. lookup_recursive (world_of self.now) (resolver_of self.now) ≡ Ok (found_of t.0)) }
+        ensures reference { IfOk result (λ t. lookup (world_of self.now) (resolver_of self.now) t.1.now ≡ Ok (found_of t.0)) }
+        ensures world { IfOk result (λ t. world_found t.0 ≡ world_of self.now) }
+        ensures fault { IfErr result (IsFaultOf (lookup_recursive (world_of self.now) (resolver_of self.now))) }
+    {
+        let mut reference = "#";
+        let mut resolved = self.lookup(alloc, reference)?;
         if !is_marked(resolved.contents()) {
-            return Ok(resolved);
+            return Ok((resolved, reference));
         }
         for uri in &self.scope {
-            let outer = self.lookup(alloc, uri.as_str())?;
+            let text = uri.as_str();
+            let outer = self.lookup(alloc, text)?;
             if !is_marked(outer.contents()) {
-                return Ok(resolved);
+                return Ok((resolved, reference));
             }
             resolved = outer;
+            reference = text;
         }
-        Ok(resolved)
+        Ok((resolved, reference))
     }
 }

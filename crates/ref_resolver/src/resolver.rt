@@ -4,15 +4,15 @@ ghost use Rattle.std.specs.Fmt.{WritesOnOk};
 ghost use Rattle.std.specs.List.{join_by};
 ghost use Rattle.std.specs.Result.{result_ok};
 ghost use Rattle.serde_json.specs.View.{view};
-ghost use Rattle.ref_uri.specs.Targets.{against, target, fragment_part};
-ghost use Rattle.ref_world.specs.Fault.{as_invalid_uri};
-ghost use Rattle.ref_world.specs.Anchors.{Named, anchor, not_named};
+ghost use Rattle.ref_uri.specs.Targets.{uri_against, target, fragment_part};
+ghost use Rattle.ref_definitions.specs.Fault.{as_invalid_uri};
+ghost use Rattle.ref_definitions.specs.Anchors.{Named, anchor, not_named};
 ghost use Rattle.ref_draft.specs.Anchors.{Dynamic};
 ghost use Rattle.ref_draft.specs.Views.{resource_ref};
-ghost use Rattle.ref_world.specs.Lookup.{moved, in_subresource, lookup, named_found};
+ghost use Rattle.ref_definitions.specs.Lookup.{moved_resolver, in_subresource, lookup, named_found};
 ghost use Rattle.ref_retrieve.specs.Errors.{IsFaultOf};
-ghost use Rattle.ref_world.specs.Places.{Place};
-ghost use Rattle.ref_world.specs.Resources.{means};
+ghost use Rattle.ref_definitions.specs.Places.{Place};
+ghost use Rattle.ref_definitions.specs.Resources.{meant_place};
 ghost use Rattle.ref_resolver.specs.Layered.{world_in};
 ghost use Rattle.ref_resolver.specs.Located.{IsLocated, IsMeant};
 ghost use Rattle.ref_resolver.specs.Resolving.{resolver_of, world_of, found_of, world_found};
@@ -20,6 +20,7 @@ ghost use Rattle.ref_resolver.specs.Names.{is_name};
 
 use crate::fragment::{
     at_pointer, at_value, is_name, meaning, not_named, not_retrieved, outermost, plain_found,
+    under_uri,
 };
 use crate::layers::Layers;
 use crate::located::Located;
@@ -44,10 +45,10 @@ pub struct Resolver<'r> {
 
 // What a reference points into: the URI, the place that it means, where that is known without a look-up, and the fragment.
 #[derive(Drop)]
-struct Target<'r, 't> {
-    uri: Rc<Uri>,
-    place: Option<Located<'r>>,
-    fragment: &'t str,
+pub(crate) struct Target<'r, 't> {
+    pub uri: Rc<Uri>,
+    pub place: Option<Located<'r>>,
+    pub fragment: &'t str,
 }
 
 impl<'r> Resolver<'r> {
@@ -61,6 +62,18 @@ impl<'r> Resolver<'r> {
             base: Rc::new(alloc, base)?,
             scope: List::new(),
         })
+    }
+
+    /// A resolver over layers at a base URI, with this dynamic scope, inner to outer. No URI need mean a place. Takes no memory.
+    pub fn from_parts(layers: Layers<'r>, base: Rc<Uri>, scope: List<Uri>) -> Resolver<'r>
+        ensures resolver { resolver_of result ≡ record { base = base.value; scope = scope } }
+        ensures world { world_of result ≡ world_in layers.entry }
+    {
+        Resolver {
+            layers,
+            base,
+            scope,
+        }
     }
 
     /// The base URI and the dynamic scope, inner to outer. Takes no memory.
@@ -85,18 +98,23 @@ impl<'r> Resolver<'r> {
         &self.scope
     }
 
-    /// The URI that a text means against a base, as [`Layers::resolve_uri`] gives it.
+    /// The URI that a text means against a base (RFC 3986, 5.2), in normal form. Fails as `InvalidUri` for a base without a scheme and a
+    /// text that is no URI reference, and as `Memory`. A look-up where that was resolved before; else it takes memory for the URI.
     pub fn resolve_uri(&self, alloc: Global, base: UriRef<'_>, uri: &str) -> Result<Rc<Uri>, Error>
-        ensures ok { IfOk result (λ u. against base.entry uri.now ≡ Ok u.value) }
-        ensures fault { IfErr result (IsFaultOf (as_invalid_uri (against base.entry uri.now))) }
+        ensures ok { IfOk result (λ u. uri_against base.entry uri.now ≡ Ok u.value) }
+        ensures fault { IfErr result (IsFaultOf (as_invalid_uri (uri_against base.entry uri.now))) }
     {
         self.layers.resolve_uri(alloc, base, uri)
     }
 
     // What a reference points into.
-    fn target<'t>(&self, alloc: Global, reference: &'t str) -> Result<Target<'r, 't>, Error>
+    pub(crate) fn target<'t>(
+        &self,
+        alloc: Global,
+        reference: &'t str,
+    ) -> Result<Target<'r, 't>, Error>
         ensures ok { IfOk result (λ t. target (resolver_of self.now).base reference.now ≡ Ok t.uri.value) }
-        ensures place { IfOk result (λ t. IfSome t.place (IsMeant (means (world_of self.now) t.uri.value))) }
+        ensures place { IfOk result (λ t. IfSome t.place (IsMeant (world_of self.now) (meant_place (world_of self.now) t.uri.value))) }
         ensures fragment { IfOk result (λ t. t.fragment.now ≡ fragment_part reference.now) }
         ensures fault { IfErr result (IsFaultOf (as_invalid_uri (target (resolver_of self.now).base reference.now))) }
     {
@@ -128,10 +146,10 @@ impl<'r> Resolver<'r> {
         })
     }
 
-    // This resolver at a URI: the old base goes in front of the scope where the scope was empty or the base changes.
+    // This resolver at a URI: the old base goes before the scope where the scope was empty or the base changes.
     #[inline(always)]
-    fn moved(&self, alloc: Global, uri: Rc<Uri>) -> Result<Resolver<'r>, AllocError>
-        ensures resolver { IfOk result (λ r. resolver_of r ≡ moved (resolver_of self.now) uri.value) }
+    pub(crate) fn moved(&self, alloc: Global, uri: Rc<Uri>) -> Result<Resolver<'r>, AllocError>
+        ensures resolver { IfOk result (λ r. resolver_of r ≡ moved_resolver (resolver_of self.now) uri.value) }
         ensures world { IfOk result (λ r. world_of r ≡ world_of self.now) }
     {
         let scope = if self.scope.is_empty() || uri.as_str() != self.base.as_str() {
@@ -164,7 +182,7 @@ impl<'r> Resolver<'r> {
         Ok(self.with_base(base)?)
     }
 
-    /// Where a reference leads (2020-12 Core, 8.2.3): what stands before its last `#` means a place by its URI, against the
+    /// Where a reference leads (2020-12 Core, 8.2.3): what is before its last `#` means a place by its URI, against the
     /// base, and what follows it means the resource there, what a pointer leads to in it, or what an anchor names, a dynamic
     /// one by the dynamic scope. Nothing is retrieved.
     ///
@@ -200,7 +218,7 @@ impl<'r> Resolver<'r> {
     /// The value that the base means, and its draft: what [`Resolver::lookup`] of `#` finds. `None` where it means no place. A
     /// look-up for each layer, up to the first that has it; takes no memory.
     pub fn at_base(&self) -> Option<(&'r Value, Draft)>
-        ensures value { MatchOption result (means (world_of self.now) (resolver_of self.now).base ≡ None) (λ found. (place : Place) × (means (world_of self.now) (resolver_of self.now).base ≡ Some place) × (view found.0.now ≡ place.value) × (found.1 ≡ place.draft)) }
+        ensures value { MatchOption result (meant_place (world_of self.now) (resolver_of self.now).base ≡ None) (λ found. (place : Place) × (meant_place (world_of self.now) (resolver_of self.now).base ≡ Some place) × (view found.0.now ≡ place.value) × (found.1 ≡ place.draft)) }
     {
         let place = self.layers.resource(self.base.as_str())?;
         Some((place.value, place.entry.draft))
@@ -233,17 +251,18 @@ impl<'r> Resolver<'r> {
         name: &str,
         found: Located<'r>,
     ) -> Result<Resolved<'r>, Error>
-        ensures ok { (n : Named) → n.name ≡ name.now → n.kind ≡ Dynamic → IsLocated found.entry n.place → IfOk result (λ f. named_found (world_of self.now) (moved (resolver_of self.now) uri.value) n n.kind ≡ Ok (found_of f)) }
+        ensures ok { (n : Named) → n.name ≡ name.now → n.kind ≡ Dynamic → IsLocated (world_of self.now) found.entry n.place → IfOk result (λ f. named_found (world_of self.now) (moved_resolver (resolver_of self.now) uri.value) n n.kind ≡ Ok (found_of f)) }
         ensures world { IfOk result (λ f. world_found f ≡ world_of self.now) }
-        ensures fault { (n : Named) → n.name ≡ name.now → n.kind ≡ Dynamic → IsLocated found.entry n.place → IfErr result (IsFaultOf (named_found (world_of self.now) (moved (resolver_of self.now) uri.value) n n.kind)) }
+        ensures fault { (n : Named) → n.name ≡ name.now → n.kind ≡ Dynamic → IsLocated (world_of self.now) found.entry n.place → IfErr result (IsFaultOf (named_found (world_of self.now) (moved_resolver (resolver_of self.now) uri.value) n n.kind)) }
     {
         let resolver = self.moved(alloc, uri)?;
-        outermost(alloc, &resolver, name, found)
+        let (uri, place) = outermost(alloc, &resolver, name, found)?;
+        under_uri(alloc, &resolver, uri, place)
     }
 
     // The fault of a name that nothing has under a URI: that of the URI where it means no place.
     #[inline(never)]
-    fn no_name(&self, alloc: Global, uri: &Uri, name: &str) -> Error
+    pub(crate) fn no_name(&self, alloc: Global, uri: &Uri, name: &str) -> Error
         ensures { (reference : List ℕ) → target (resolver_of self.now).base reference ≡ Ok uri.now → fragment_part reference ≡ name.now → is_name name.now ≡ true → anchor (world_of self.now) uri.now name.now ≡ Err (not_named name.now) → IsFaultOf (lookup (world_of self.now) (resolver_of self.now) reference) result }
     {
         if self.layers.has_resource(uri.as_str()) {
@@ -289,8 +308,8 @@ impl<'r> Resolved<'r> {
     }
 }
 
-/// The same registry, base and dynamic scope, shared: two handles more, and no memory. It is refused only where the URI or the
-/// scope has no count left for one more handle, which `std::rc::Rc` tells as want of memory.
+/// The same registry, base and dynamic scope, shared: two handles more. By the code it takes no memory; no clause says so. It fails only
+/// where the URI or the scope has no count left for one more handle, which `std::rc::Rc` returns as out of memory.
 impl<'r> Clone for Resolver<'r> {
     ghost is_clone = { λ resolver copy. (resolver_of copy ≡ resolver_of resolver) × (world_of copy ≡ world_of resolver) };
 
@@ -320,7 +339,7 @@ impl<'r> Eq for Resolver<'r> {
     ghost laws = { by_base };
 }
 
-// Writes a URI, behind a separator where it is not the first.
+// Writes a URI, after a separator where it is not the first.
 fn write_uri<W: fmt::Write>(f: &mut fmt::Formatter<W>, is_first: bool, uri: &str) -> fmt::Result
     ensures { WritesOnOk W.write_str_gives f.old result ((if is_first then [] else codes ", ") ++ uri.now) f.new }
 {
@@ -343,7 +362,7 @@ fn write_scope<W: fmt::Write>(f: &mut fmt::Formatter<W>, scope: &List<Uri>) -> f
 /// `Resolver { base_uri: "B", scopes: "[U, V]" }`, the scope from inner to outer.
 impl fmt::Debug for Resolver<'_> {
     ghost use Rattle.std.specs.Prelude.{Some};
-    ghost use Rattle.ref_world.specs.Lookup.{resolver_text};
+    ghost use Rattle.ref_definitions.specs.Lookup.{resolver_text};
     ghost use Rattle.ref_resolver.specs.Resolving.{resolver_of};
 
     ghost debug_output = { λ r. Some (resolver_text (resolver_of r)) };

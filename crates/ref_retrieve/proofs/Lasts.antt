@@ -5,7 +5,7 @@ use Rattle.std.specs.Map.{update, update_all}
 use Rattle.serde_json.specs.Data.{Data}
 use Rattle.serde_json.specs.View.{view}
 use Rattle.serde_json.specs.declared.value.Value.{Value}
-use Rattle.ref_world.specs.Resources.{last_under}
+use Rattle.ref_definitions.specs.Resources.{last_under}
 use Rattle.ref_retrieve.specs.Retrieving.{trees_of}
 
 abbrev second : {A B : Type 0} → Option (A × B) → Option B

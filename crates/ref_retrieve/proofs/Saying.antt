@@ -7,8 +7,8 @@ use Rattle.ref_uri.specs.Errors.{SaysRefusal}
 use Rattle.ref_uri.specs.declared.error.UriError.{UriError}
 use Rattle.ref_uri.specs.declared.error.UriFault.{UriFault}
 use Rattle.ref_uri.specs.declared.error.UriFault.TheVariants as uri_fault
-use Rattle.ref_world.specs.Results.{◌>>=◌}
-use Rattle.ref_world.specs.Fault.{Fault, InvalidUri, as_invalid_uri}
+use Rattle.ref_definitions.specs.Results.{◌>>=◌}
+use Rattle.ref_definitions.specs.Fault.{Fault, InvalidUri, as_invalid_uri}
 use Rattle.ref_retrieve.specs.declared.error.Error.{Error}
 use Rattle.ref_retrieve.specs.declared.error.Error.TheVariants as error
 use Rattle.ref_retrieve.specs.Errors.{IsFaultOf, of_uri_fault}
@@ -27,7 +27,7 @@ pub refused_uri : (meaning : Result (List ℕ) Refusal) (fault : UriFault) → u
 refused_uri meaning (uri_fault.Invalid refused) (refusal, is, says) = (InvalidUri refusal, ap as_invalid_uri is, says)
 refused_uri meaning (uri_fault.Memory memory) is = tt
 
--- a call that passes an error on answers with what it says
+-- a call that passes an error on returns what it says
 pub fault_passed : {X A : Type 0} (r : Result X Error) (e : Error) (meaning : Result A Fault) → IsErrAnd r (λ y. y ≡ e) → IsFaultOf meaning e → IfErr r (IsFaultOf meaning)
 fault_passed (Ok x) e meaning is fault = absurd is
 fault_passed (Err y) e meaning is fault = subst (IsFaultOf meaning) (sym is) fault

@@ -1,6 +1,6 @@
 -- The texts of faults with two parts in them, as they are written from the front.
 use Rattle.std.proofs.Common.{◌≡◌, ℕ, List, ◌++◌, codes, decimal, append_assoc}
-use Rattle.ref_world.specs.Fault.{Unretrievable, InvalidArrayIndex, RetrievalLimit, fault_text}
+use Rattle.ref_definitions.specs.Fault.{Unretrievable, InvalidArrayIndex, RetrievalLimit, fault_text}
 
 abbrev failed : List ℕ
 failed = codes "' is not present in a registry and retrieving it failed: "

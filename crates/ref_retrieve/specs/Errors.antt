@@ -3,8 +3,8 @@ use Rattle.std.specs.Prelude.{◌≡◌, ℕ, List, codes, string_bytes, Bool, t
 use Rattle.ref_uri.specs.Errors.{uri_error_text, SaysRefusal}
 use Rattle.ref_uri.specs.declared.error.UriFault.{UriFault}
 use Rattle.ref_uri.specs.declared.error.UriFault.TheVariants as uri_fault
-use Rattle.ref_world.specs.Fault as fault
-use Rattle.ref_world.specs.Fault.{Fault, fault_text}
+use Rattle.ref_definitions.specs.Fault as fault
+use Rattle.ref_definitions.specs.Fault.{Fault, fault_text}
 use Rattle.ref_retrieve.specs.declared.error.Reason.{Reason}
 use Rattle.ref_retrieve.specs.declared.error.Reason.TheVariants.{NotFetched, NoDocument, NotSupported, Text}
 use Rattle.ref_retrieve.specs.declared.error.RetrieveError.{RetrieveError}
@@ -19,7 +19,7 @@ reason_text NoDocument = codes "no document under this URI"
 reason_text NotSupported = codes "Retrieving external resources is not supported once the registry is populated"
 reason_text (Text text) = string_bytes text
 
--- of a refusal, or of want of memory
+-- of a refusal, or of being out of memory
 abbrev pub retrieve_error_text : RetrieveError → List ℕ
 retrieve_error_text (Refused reason) = reason_text reason
 retrieve_error_text (Memory error) = codes "Out of memory"
@@ -38,7 +38,7 @@ error_text (error.CircularMetaschema uri) = fault_text (fault.CircularMetaschema
 error_text (error.RetrievalLimit uri limit) = fault_text (fault.RetrievalLimit (string_bytes uri) limit)
 error_text (error.Memory memory) = codes "Out of memory"
 
--- whether an error is want of memory
+-- whether an error is out of memory
 abbrev pub is_memory : Error → Bool
 is_memory (error.Memory memory) = true
 is_memory other = false
@@ -48,12 +48,12 @@ abbrev pub IsForReason : Error → Reason → Type 0
 IsForReason (error.Unretrievable uri source) reason = source ≡ Refused reason
 IsForReason other reason = ⊤
 
--- the source of an error says why a retriever refuses; want of memory is no refusal
+-- the source of an error says why a retriever refuses; out of memory is no refusal
 abbrev pub SaysWhy : RetrieveError → List ℕ → Type 0
 SaysWhy (Refused reason) text = reason_text reason ≡ text
 SaysWhy (Memory error) text = ⊥
 
--- The error says the fault, in its own texts. Want of memory says none, also where it is the source.
+-- The error says the fault, in its own texts. Out of memory says none, also where it is the source.
 abbrev pub SaysFault : Error → Fault → Type 0
 SaysFault (error.Unretrievable uri source) (fault.Unretrievable wanted text) = (string_bytes uri ≡ wanted) × SaysWhy source text
 SaysFault (error.PointerToNowhere pointer) (fault.PointerToNowhere text) = string_bytes pointer ≡ text
@@ -67,12 +67,12 @@ SaysFault (error.CircularMetaschema uri) (fault.CircularMetaschema text) = strin
 SaysFault (error.RetrievalLimit uri limit) (fault.RetrievalLimit wanted most) = (string_bytes uri ≡ wanted) × (limit ≡ most)
 SaysFault other fault = ⊥
 
--- the error says the fault that the result is, or is want of memory
+-- the error says the fault that the result is, or is out of memory
 abbrev pub IsFaultOf : {A : Type 0} → Result A Fault → Error → Type 0
 IsFaultOf meaning (error.Memory memory) = ⊤
 IsFaultOf meaning error = (fault : Fault) × (meaning ≡ Err fault) × SaysFault error fault
 
--- the error that a refused URI, or want of memory, becomes
+-- the error that a refused URI, or out of memory, becomes
 abbrev pub of_uri_fault : UriFault → Error
 of_uri_fault (uri_fault.Invalid refused) = error.InvalidUri refused
 of_uri_fault (uri_fault.Memory memory) = error.Memory memory

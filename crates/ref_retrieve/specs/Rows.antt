@@ -2,10 +2,10 @@
 use Rattle.std.specs.Prelude.{◌≡◌, true, codes, List, ℕ, Ok, Err, String, string_bytes}
 use Rattle.std.specs.declared.alloc.AllocError.{AllocError}
 use Rattle.std.specs.declared.alloc.Global.{Global}
-use Rattle.ref_uri.specs.Targets.{unparsed}
+use Rattle.ref_uri.specs.Targets.{parse_refusal}
 use Rattle.ref_uri.specs.declared.error.UriError.TheVariants.{Parse}
 use Rattle.ref_uri.specs.declared.error.ParseError.TheVariants.{Syntax}
-use Rattle.ref_world.specs.Fault as fault
+use Rattle.ref_definitions.specs.Fault as fault
 use Rattle.ref_retrieve.specs.Errors.{reason_text, retrieve_error_text, error_text, SaysFault, IsFaultOf}
 use Rattle.ref_retrieve.specs.declared.error.Reason.TheVariants.{NotFetched, NoDocument, NotSupported, Text}
 use Rattle.ref_retrieve.specs.declared.error.RetrieveError.TheVariants as retrieve_error
@@ -41,4 +41,4 @@ pub record FaultRows : Type 0 where
   pub source_of_memory_says_none : (uri : String Global) (e : AllocError) (wanted text : List ℕ) → SaysFault (Unretrievable uri (retrieve_error.Memory e)) (fault.Unretrievable wanted text) → ⊥
   pub memory_in_any_case : (e : AllocError) → IsFaultOf (Ok (codes "a")) (Memory e)
   pub no_fault_of_an_answer : (p : String Global) → IsFaultOf (Ok (codes "a")) (NoSuchAnchor p) → ⊥
-  pub fault_of_a_refusal : (u : String Global) → string_bytes u ≡ codes "a b" → IsFaultOf {A = List ℕ} (Err (fault.InvalidUri (unparsed (codes "a b")))) (InvalidUri (Parse u true Syntax))
+  pub fault_of_a_refusal : (u : String Global) → string_bytes u ≡ codes "a b" → IsFaultOf {A = List ℕ} (Err (fault.InvalidUri (parse_refusal (codes "a b")))) (InvalidUri (Parse u true Syntax))

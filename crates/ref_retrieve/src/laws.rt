@@ -1,6 +1,6 @@
 //! Laws and rows of the definitions. Each function is empty: its contract states the law, and the check proves it.
 ghost use Rattle.std.specs.Prelude.{◌≡◌};
-ghost use Rattle.ref_world.specs.Fault.{Fault, fault_text};
+ghost use Rattle.ref_definitions.specs.Fault.{Fault, fault_text};
 ghost use Rattle.ref_retrieve.specs.Errors.{error_text, SaysFault};
 ghost use Rattle.ref_retrieve.specs.Rows.{TextRows, FaultRows};
 

@@ -1,7 +1,7 @@
 //! Retrievers of documents, and why a registry or a reference is refused.
 //!
 //! Read `specs/Errors.antt` and `specs/Retrieving.antt` first, upon `Fault.antt`, `Preparing.antt` and `Retrievers.antt` of
-//! `ref_world`.
+//! `ref_definitions`.
 #![tactic(auto)]
 
 mod error;

@@ -23,7 +23,8 @@ pub trait Retrieve {
     // The texts that a URI may be refused with.
     ghost may_refuse: { Self → List ℕ → List ℕ → Type 0 };
 
-    /// The document under a URI: one that it may answer. `Refused` for a reason that it may give, `Memory` for want of memory.
+    /// The document under a URI: one that it may return, which the caller owns. `Refused` for a reason that it may give, `Memory` where
+    /// memory is refused. It costs what the implementation takes: `prepare` calls it once for each document that is wanted and not there.
     fn retrieve(&self, alloc: Global, uri: &Uri) -> Result<Value, RetrieveError>
         ensures answer { IfOk result (λ value. may_answer self.now uri.now (view value)) }
         ensures refusal { IfErr result (λ error. IfRefused error (may_refuse self.now uri.now)) };
@@ -46,7 +47,7 @@ pub struct DefaultRetriever;
 impl Retrieve for DefaultRetriever {
     ghost use Rattle.std.specs.Prelude.{IfOk, IfErr, IsErrOf};
     ghost use Rattle.serde_json.specs.View.{view};
-    ghost use Rattle.ref_world.specs.Retrievers.{default_retriever};
+    ghost use Rattle.ref_definitions.specs.Retrievers.{default_retriever};
     ghost use Rattle.ref_retrieve.specs.Retrieving.{IfRefused};
 
     ghost may_answer = { λ _. default_retriever.may_answer };
@@ -123,8 +124,8 @@ fn last_of(alloc: Global, pairs: Vec<(Uri, Value)>) -> Result<HashMap<Uri, Value
 impl Retrieve for MapRetriever {
     ghost use Rattle.std.specs.Prelude.{◌≡◌, None, IfOk, IfErr, IsErrOf};
     ghost use Rattle.serde_json.specs.View.{view};
-    ghost use Rattle.ref_world.specs.Resources.{last_under};
-    ghost use Rattle.ref_world.specs.Retrievers.{map_retriever};
+    ghost use Rattle.ref_definitions.specs.Resources.{last_under};
+    ghost use Rattle.ref_definitions.specs.Retrievers.{map_retriever};
     ghost use Rattle.ref_retrieve.specs.Retrieving.{IfRefused, trees_of};
 
     ghost may_answer = { λ m. (map_retriever (trees_of m)).may_answer };

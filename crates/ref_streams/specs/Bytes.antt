@@ -10,9 +10,9 @@ abbrev pub one_more : ℕ → ℕ
 one_more n = min (n + 1) most
 
 -- the count after a call: a failed one is counted
-abbrev pub counted : {T E : Type 0} → Result T E → ℕ → ℕ
-counted (Ok x) n = n
-counted (Err e) n = one_more n
+abbrev pub count_after : {T E : Type 0} → Result T E → ℕ → ℕ
+count_after (Ok x) n = n
+count_after (Err e) n = one_more n
 
 -- a call failed between the two counts; at its greatest value a count no longer tells, and this counts as met
 abbrev pub HasFailed : ℕ → ℕ → Type 0

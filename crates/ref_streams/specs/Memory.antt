@@ -3,8 +3,8 @@ use Rattle.std.specs.Prelude.{ℕ, Bool, List, Option, Some, length, drop, ◌==
 use Rattle.ref_streams.specs.declared.source.MemorySource.{MemorySource}
 
 -- the bytes that reads will give
-abbrev pub left : MemorySource → Option (List ℕ)
-left s = Some (drop s.position s.bytes.now)
+abbrev pub bytes_left : MemorySource → Option (List ℕ)
+bytes_left s = Some (drop s.position s.bytes.now)
 
 -- none is left
 abbrev pub is_at_end : MemorySource → Bool

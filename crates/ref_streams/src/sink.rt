@@ -1,7 +1,7 @@
 //! Where a report's bytes go.
 ghost use Rattle.std.specs.Prelude.{◌≡◌, ◌+◌, ◌<◌, ℕ, List, Option, Some, OnOk, OnErr, length, vec_len, vec_capacity, ◌++◌};
 ghost use Rattle.std.specs.Io.KnownBytes.{Appends};
-ghost use Rattle.ref_streams.specs.Bytes.{counted};
+ghost use Rattle.ref_streams.specs.Bytes.{count_after};
 
 use crate::source::Failed;
 use std::alloc::Global;
@@ -18,7 +18,7 @@ pub trait Sink {
     /// Writes all of the bytes. Of one that fails nothing is said of what was written.
     fn write_all(&mut self, bytes: &[u8]) -> Result<(), Failed>
         ensures bytes { OnOk result (Appends (taken self.old) (taken self.new) bytes.now) }
-        ensures count { failures self.new ≡ counted result (failures self.old) };
+        ensures count { failures self.new ≡ count_after result (failures self.old) };
 }
 
 /// Bytes kept in memory. A write fails only where its growth is refused, and leaves the bytes as they were.
@@ -48,7 +48,7 @@ impl Sink for MemorySink {
 
     fn write_all(&mut self, bytes: &[u8]) -> Result<(), Failed>
         ensures bytes { OnOk result (self.new.bytes.items ≡ self.old.bytes.items ++ bytes.now) }
-        ensures count { self.new.failures ≡ counted result self.old.failures }
+        ensures count { self.new.failures ≡ count_after result self.old.failures }
         ensures refused { OnErr result (vec_capacity self.old.bytes
             < vec_len self.old.bytes + length bytes.now) }
         ensures unchanged { OnErr result (self.new.bytes.items ≡ self.old.bytes.items) }

@@ -1,7 +1,7 @@
 //! Where a request's bytes come from.
 ghost use Rattle.std.specs.Prelude.{◌≡◌, false, ◌<◌, ◌≤◌, ℕ, List, Option, Bool, IfOk, IsOk, IsTrue, length};
 ghost use Rattle.std.specs.Io.KnownBytes.{ReadConsumes};
-ghost use Rattle.ref_streams.specs.Bytes.{counted};
+ghost use Rattle.ref_streams.specs.Bytes.{count_after};
 
 use std::io;
 use std::io::{ErrorKind, Read};
@@ -27,7 +27,7 @@ pub trait Source {
         ensures within { IfOk result (λ n. n ≤ length buffer.new) }
         ensures bytes { ReadConsumes (remaining self.old) (remaining self.new) result buffer.new }
         ensures end { result ≡ Ok 0 → 0 < length buffer.new → IsTrue (ended self.new) }
-        ensures count { failures self.new ≡ counted result (failures self.old) };
+        ensures count { failures self.new ≡ count_after result (failures self.old) };
 }
 
 /// Bytes in memory, of which no read fails.
@@ -51,10 +51,10 @@ impl<'a> MemorySource<'a> {
 impl Source for MemorySource<'_> {
     ghost use Rattle.std.specs.Prelude.{◌≡◌, ◌<◌, ◌≤◌, IfOk, IsOk, IsTrue, length};
     ghost use Rattle.std.specs.Io.KnownBytes.{ReadConsumes};
-    ghost use Rattle.ref_streams.specs.Bytes.{counted};
-    ghost use Rattle.ref_streams.specs.Memory.{left, is_at_end};
+    ghost use Rattle.ref_streams.specs.Bytes.{count_after};
+    ghost use Rattle.ref_streams.specs.Memory.{bytes_left, is_at_end};
 
-    ghost remaining = { left };
+    ghost remaining = { bytes_left };
 
     ghost ended = { is_at_end };
 
@@ -63,9 +63,9 @@ impl Source for MemorySource<'_> {
     fn read(&mut self, buffer: &mut [u8]) -> Result<usize, Failed>
         ensures succeeds { IsOk result }
         ensures within { IfOk result (λ n. n ≤ length buffer.new) }
-        ensures bytes { ReadConsumes (left self.old) (left self.new) result buffer.new }
+        ensures bytes { ReadConsumes (bytes_left self.old) (bytes_left self.new) result buffer.new }
         ensures end { result ≡ Ok 0 → 0 < length buffer.new → IsTrue (is_at_end self.new) }
-        ensures count { 0 ≡ counted result 0 }
+        ensures count { 0 ≡ count_after result 0 }
     {
         let left = &self.bytes[self.position..];
         let n = left.len().min(buffer.len());
@@ -100,9 +100,9 @@ impl<R: Drop> Input<R> {
 }
 
 impl<R: Read + Drop> Source for Input<R> {
-    ghost use Rattle.std.specs.Prelude.{◌≡◌, ◌<◌, ◌≤◌, ◌==◌, IfOk, IsTrue, length};
+    ghost use Rattle.std.specs.Prelude.{◌≡◌, ◌<◌, ◌≤◌, ◌==◌, IfOk, OnErr, IsTrue, length};
     ghost use Rattle.std.specs.Io.KnownBytes.{ReadConsumes};
-    ghost use Rattle.ref_streams.specs.Bytes.{counted};
+    ghost use Rattle.ref_streams.specs.Bytes.{count_after};
 
     ghost remaining = { λ s. R.remaining s.reader };
 
@@ -110,13 +110,14 @@ impl<R: Read + Drop> Source for Input<R> {
 
     ghost failures = { λ s. s.failures };
 
-    // The end is reached where the last read gave no byte.
+    // The end is reached where the last read gave no byte; a read that fails leaves that as it was.
     fn read(&mut self, buffer: &mut [u8]) -> Result<usize, Failed>
         ensures within { IfOk result (λ n. n ≤ length buffer.new) }
         ensures bytes { ReadConsumes (R.remaining self.old.reader) (R.remaining self.new.reader) result buffer.new }
         ensures end { result ≡ Ok 0 → 0 < length buffer.new → IsTrue self.new.ended }
-        ensures count { self.new.failures ≡ counted result self.old.failures }
+        ensures count { self.new.failures ≡ count_after result self.old.failures }
         ensures ended { IfOk result (λ n. self.new.ended ≡ (n == 0)) }
+        ensures failed { OnErr result (self.new.ended ≡ self.old.ended) }
     {
         match read_uninterrupted(&mut self.reader, buffer) {
             Ok(n) => {

@@ -10,7 +10,7 @@ use Rattle.std.proofs.lemmas.List.Sums.{AllPass-from_list_all}
 use Rattle.std.proofs.lemmas.Str.Ascii.{IsAscii-from_reads}
 use Rattle.ref_uri.specs.Characters.{is_encoded, is_scheme_character, is_path_character, is_query_character}
 use Rattle.ref_uri.specs.Authority.{is_authority}
-use Rattle.ref_uri.specs.Components.{Components, components, text_of, framed, is_scheme, is_query, if_there, are_components}
+use Rattle.ref_uri.specs.Components.{Components, components, text_of, framed_component, is_scheme, is_query, if_there, are_components}
 use Rattle.ref_uri.specs.Reference.{is_uri_reference}
 use Rattle.ref_uri.proofs.AuthorityCharacters.{is_authority_character, authority_characters, list_all-wider}
 use Rattle.ref_uri.proofs.StructureLemmas.{text_of-components}
@@ -38,7 +38,7 @@ scheme_ascii (c ∷ rest) h =
     and_from (is_ascii c) (all_ascii rest) first (list_all-wider is_scheme_character is_ascii (λ d k. grind (arith, nat_tests)) rest both.1)
 
 -- a component that may be absent, in its marks
-framed_ascii : (before : List ℕ) (component : Option (List ℕ)) (after : List ℕ) (test : List ℕ → Bool) → all_ascii before ≡ true → all_ascii after ≡ true → ((text : List ℕ) → test text ≡ true → all_ascii text ≡ true) → if_there test component ≡ true → all_ascii (framed before component after) ≡ true
+framed_ascii : (before : List ℕ) (component : Option (List ℕ)) (after : List ℕ) (test : List ℕ → Bool) → all_ascii before ≡ true → all_ascii after ≡ true → ((text : List ℕ) → test text ≡ true → all_ascii text ≡ true) → if_there test component ≡ true → all_ascii (framed_component before component after) ≡ true
 framed_ascii before None after test b a ascii h = refl
 framed_ascii before (Some text) after test b a ascii h = ascii-append (before ++ text) after (ascii-append before text b (ascii text h)) a
 
@@ -50,10 +50,10 @@ components_ascii c h =
     let four = and_parts _ _ five.0 in
     let three = and_parts _ _ four.0 in
     let two = and_parts _ _ three.0 in
-    let s = framed [] c.scheme (codes ":") in
-    let a = framed (codes "//") c.authority [] in
-    let q = framed (codes "?") c.query [] in
-    let f = framed (codes "#") c.fragment [] in
+    let s = framed_component [] c.scheme (codes ":") in
+    let a = framed_component (codes "//") c.authority [] in
+    let q = framed_component (codes "?") c.query [] in
+    let f = framed_component (codes "#") c.fragment [] in
     ascii-append (s ++ a ++ c.path ++ q) f (ascii-append (s ++ a ++ c.path) q (ascii-append (s ++ a) c.path (ascii-append s a
     (framed_ascii [] c.scheme (codes ":") is_scheme refl refl scheme_ascii two.0)
     (framed_ascii (codes "//") c.authority [] is_authority refl refl authority_ascii two.1))

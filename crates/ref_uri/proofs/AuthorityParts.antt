@@ -25,7 +25,7 @@ host_is_whole text h =
       | inr name ↦ (and_parts _ _ name).1
     ]
 
--- Whole triples stand in each part of an authority with an `@`.
+-- Whole triples are in each part of an authority with an `@`.
 pub record WithUserinfo (text : List ℕ) (at : ℕ) : Type 0 where
   pub userinfo : has_whole_triples (take at text) ≡ true
   pub host : has_whole_triples (take (host_len (drop (at + 1) text)) (drop (at + 1) text)) ≡ true

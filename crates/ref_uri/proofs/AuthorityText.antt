@@ -8,7 +8,7 @@ use Rattle.std.proofs.lemmas.List.{take_at, drop_at}
 use Rattle.std.proofs.lemmas.List.Folds.{list_all-append}
 use Rattle.ref_uri.specs.Characters.{is_encoded, is_name_character, is_userinfo_character}
 use Rattle.ref_uri.specs.Authority.{is_authority, userinfo, host, port_part, host_and_port, is_host_and_port, host_len, is_host, is_bracketed, is_address_and_bracket, is_address, is_future_address, is_port_part}
-use Rattle.ref_uri.specs.Components.{framed, if_there}
+use Rattle.ref_uri.specs.Components.{framed_component, if_there}
 use Rattle.ref_uri.proofs.EncodedLemmas.{any_is_found}
 use Rattle.ref_uri.proofs.AuthorityCharacters.{is_literal_character, literal_characters, list_all-wider}
 use Rattle.ref_uri.proofs.UniqueLemmas.{Starts, first_behind, before_behind, encoded_apart}
@@ -21,7 +21,7 @@ pub record AreParts (userinfo : Option (List ℕ)) (host port : List ℕ) : Type
   pub port_test : is_port_part port ≡ true
 
 abbrev pub text_of_parts : Option (List ℕ) → List ℕ → List ℕ → List ℕ
-text_of_parts userinfo host port = framed [] userinfo (codes "@") ++ host ++ port
+text_of_parts userinfo host port = framed_component [] userinfo (codes "@") ++ host ++ port
 
 -- The parts of a text.
 pub record Found (text : List ℕ) (u : Option (List ℕ)) (h p : List ℕ) : Type 0 where
@@ -29,7 +29,7 @@ pub record Found (text : List ℕ) (u : Option (List ℕ)) (h p : List ℕ) : Ty
   pub host_is : host text ≡ h
   pub port_is : port_part text ≡ p
 
--- the first that passes, with more behind it
+-- the first that passes, with more after it
 position-front : (p : ℕ → Bool) (front rest : List ℕ) → position_or_len p front < length front → position_or_len p (front ++ rest) ≡ position_or_len p front
 position-front p [] rest lt = absurd (omega arith)
 position-front p (c ∷ front) rest lt =
@@ -45,7 +45,7 @@ none_passes p text all =
     let at = first_behind p text [] all (inl refl) in
     any_is_found p text ∙ le-ltb (position_or_len p text) (length text) (omega (arith, at, ap (λ t. position_or_len p t) (append-nil text)))
 
--- how long the host is, with a port behind it
+-- how long the host is, with a port after it
 host_len-bracketed : (rest port : List ℕ) → is_address_and_bracket rest ≡ true → host_len (91 ∷ (rest ++ port)) ≡ suc (length rest)
 host_len-bracketed rest port h =
     let closes = eqb-true (position_or_len (λ c. eqb c 93) rest + 1) (length rest) (and_parts (eqb (position_or_len (λ c. eqb c 93) rest + 1) (length rest)) (is_address (before_first (λ c. eqb c 93) rest) || is_future_address (before_first (λ c. eqb c 93) rest)) h).0 in
@@ -79,7 +79,7 @@ host_len-parts host port h k = elim (or_cases (is_bracketed host) (is_encoded is
         let both = and_parts (eqb c 91) (is_address_and_bracket rest) b in
         subst (λ (x : ℕ). host_len (x ∷ (rest ++ port)) ≡ suc (length rest)) (sym (eqb-true c 91 both.0)) (host_len-bracketed rest port both.1)
 
--- no `@` stands in a host or a port
+-- no `@` is in a host or a port
 host_apart : (text : List ℕ) → is_host text ≡ true → list_all (λ c. not (eqb c 64)) text ≡ true
 host_apart text h =
     elim (or_cases (is_bracketed text) (is_encoded is_name_character text) h) [

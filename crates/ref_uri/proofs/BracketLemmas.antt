@@ -51,7 +51,7 @@ version_sound t v a v_is a_is some within dot more =
 abbrev pub VersionFound : List ℕ → ℕ → ℕ → Type 0
 VersionFound t n v = (0 < v) × (v < length t) × (get_or t v 0 ≡ 46) × (0 < prefix_len is_userinfo_character (drop (v + 1) t)) × (v + 1 + prefix_len is_userinfo_character (drop (v + 1) t) ≡ n)
 
--- where such a front stands before a `]`, the runs find it
+-- where such a front is before a `]`, the runs find it
 
 pub version_found : (t : List ℕ) (n : ℕ) → n < length t → is_version_and_address (take n t) ≡ true → get_or t n 0 ≡ 93 → VersionFound t n (prefix_len is_ascii_hexdigit t)
 version_found t n lt h bracket =
@@ -77,7 +77,7 @@ version_found t n lt h bracket =
     let a_is : prefix_len is_userinfo_character (drop (dot + 1) t) ≡ rest = run_is is_userinfo_character (drop (dot + 1) t) rest (omega (arith, length-drop (dot + 1) t)) all_more (ap is_userinfo_character stop) in
     subst (λ (v : ℕ). VersionFound t n v) (sym v_is) (omega arith, omega arith, at_dot, omega arith, omega arith)
 
--- an address and the `]` behind it
+-- an address and the `]` after it
 pub bracket_sound : (t : List ℕ) (a : ℕ) → a < length t → (is_address (take a t) || is_future_address (take a t)) ≡ true → get_or t a 0 ≡ 93 → is_address_and_bracket (take (a + 1) t) ≡ true
 bracket_sound t a lt either bracket =
     let len : length (take (a + 1) t) ≡ a + 1 = length-take-le (a + 1) t (omega arith) in
@@ -138,7 +138,7 @@ future_found (c ∷ t) (suc p) h =
     let e : suc p - 1 ≡ p = omega arith in
     (omega arith, both.0, subst (λ (n : ℕ). is_version_and_address (take n t) ≡ true) (sym e) both.1)
 
--- behind a `v` an address of a later version is found, and behind another byte a plain one
+-- after a `v` an address of a later version is found, and after another byte a plain one
 pub letter_found : (t r : List ℕ) (result : Option ℕ) → r ≡ drop 1 t → ((n : ℕ) → n < length r → is_version_and_address (take n r) ≡ true → get_or r n 0 ≡ 93 → result ≡ Some n) → (eqb (get_or t 0 0) 118 || eqb (get_or t 0 0) 86) ≡ true →
     (n : ℕ) → n < length t → (is_address (take n t) || is_future_address (take n t)) ≡ true → get_or t n 0 ≡ 93 → (0 < n) × (result ≡ Some (n - 1))
 letter_found t r result is find letter n lt either bracket =

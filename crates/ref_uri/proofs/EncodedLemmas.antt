@@ -124,7 +124,7 @@ part_is class text n le h stop =
 pub passes_at_first : (p : ℕ → Bool) (text : List ℕ) → position_or_len p text < length text → p (get_or text (position_or_len p text) 0) ≡ true
 passes_at_first p text lt = not-false _ (prefix_len_stops (λ x. not (p x)) text 0 lt)
 
--- the end of the part lies behind the place
+-- the end of the part lies after the place
 pub ends_later : (class : Class) (text : List ℕ) (n : ℕ) → n < length text → is_encoded (allows class) (take n text) ≡ true → ends class (get_or text n 0) ≡ false → n < position_or_len (ends class) text
 ends_later class text n lt h no_end =
     let first = position_or_len (ends class) text in
@@ -182,7 +182,7 @@ encoded_is_whole class text n le h no_more =
           ∙ sym (subst (λ (t : List ℕ). is_encoded (allows class) t ≡ false) (take-length text) (not_encoded_past class text n (length text) (omega arith) (omega arith) no_more))
     ]
 
--- some element passes exactly where the first that passes stands before the end
+-- some element passes exactly where the first that passes is before the end
 pub any_is_found : (p : ℕ → Bool) (text : List ℕ) → list_any p text ≡ ltb (position_or_len p text) (length text)
 any_is_found p [] = refl
 any_is_found p (c ∷ text) =

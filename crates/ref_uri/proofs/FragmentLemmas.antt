@@ -2,9 +2,9 @@
 use Rattle.std.proofs.Common.{◌≡◌, ℕ, suc, ◌+◌, ◌-◌, ◌≤◌, true, ◌&&◌, List, [], ◌∷◌, ◌++◌, length, length-append, take, codes, Option, Some, None, option_map, refl, sym, ap, ◌∙◌, arith, append-nil, append_assoc, is_some}
 use Rattle.std.proofs.lemmas.Bool.{and_from}
 use Rattle.std.proofs.lemmas.List.{take_at}
-use Rattle.ref_uri.specs.Components.{Components, components, text_of, framed, are_components, if_there, is_scheme, is_path, is_query, is_path_after, scheme, authority, path, query, fragment}
+use Rattle.ref_uri.specs.Components.{Components, components, text_of, framed_component, are_components, if_there, is_scheme, is_path, is_query, is_path_after, scheme, authority, path, query, fragment}
 use Rattle.ref_uri.specs.Authority.{is_authority}
-use Rattle.ref_uri.specs.Resolution.{resolved, resolved_components}
+use Rattle.ref_uri.specs.Resolution.{target_text, resolved_components}
 use Rattle.ref_uri.specs.Reference.{is_uri_reference, with_fragment}
 use Rattle.ref_uri.specs.declared.lengths.Lengths.{Lengths}
 use Rattle.ref_uri.specs.inner.Lengths.{IsParsed, IsParsedUri, lengths_of, the_lengths}
@@ -43,15 +43,15 @@ parsed-with_fragment text l f parsed k =
       lengths_are = parsed.lengths_are ∙ sym (same (record (components text) { fragment = f }) (components-with_fragment text f parsed.reference k));
     }
 
--- what stands before the fragment
+-- what is before the fragment
 abbrev pub before_fragment : List ℕ → List ℕ
-before_fragment text = framed [] (scheme text) (codes ":") ++ framed (codes "//") (authority text) [] ++ path text ++ framed (codes "?") (query text) []
+before_fragment text = framed_component [] (scheme text) (codes ":") ++ framed_component (codes "//") (authority text) [] ++ path text ++ framed_component (codes "?") (query text) []
 
 -- a text with the fragment cut off
 pub with_fragment-cut : (text f : List ℕ) → fragment text ≡ Some f → take (length text - length f - 1) text ≡ with_fragment text None
 with_fragment-cut text f is =
     let front = before_fragment text in
-    let whole : text ≡ front ++ (35 ∷ f) = sym (text_of-components text) ∙ ap (λ o. front ++ framed (codes "#") o []) is ∙ ap (λ t. front ++ (35 ∷ t)) (append-nil f) in
+    let whole : text ≡ front ++ (35 ∷ f) = sym (text_of-components text) ∙ ap (λ o. front ++ framed_component (codes "#") o []) is ∙ ap (λ t. front ++ (35 ∷ t)) (append-nil f) in
     let len : length text ≡ length front + (length f + 1) = ap length whole ∙ length-append front (35 ∷ f) ∙ counted (length front) (length f) in
     let at : length text - length f - 1 ≡ length front = omega arith in
     ap (λ n. take n text) at ∙ ap (λ t. take (length front) t) whole ∙ take_at front (35 ∷ f) (length front) refl ∙ sym (append-nil front)
@@ -61,20 +61,20 @@ with_fragment-cut text f is =
 
 -- a text with no fragment
 pub with_fragment-none : (text : List ℕ) → fragment text ≡ None → text ≡ with_fragment text None
-with_fragment-none text is = sym (text_of-components text) ∙ ap (λ o. before_fragment text ++ framed (codes "#") o []) is
+with_fragment-none text is = sym (text_of-components text) ∙ ap (λ o. before_fragment text ++ framed_component (codes "#") o []) is
 
 -- a fragment is shorter than the text that ends in it
 pub fragment_fits : (text f : List ℕ) → fragment text ≡ Some f → length f + 1 ≤ length text
 fragment_fits text f is =
     let front = before_fragment text in
-    let whole : text ≡ front ++ (35 ∷ f) = sym (text_of-components text) ∙ ap (λ o. front ++ framed (codes "#") o []) is ∙ ap (λ t. front ++ (35 ∷ t)) (append-nil f) in
+    let whole : text ≡ front ++ (35 ∷ f) = sym (text_of-components text) ∙ ap (λ o. front ++ framed_component (codes "#") o []) is ∙ ap (λ t. front ++ (35 ∷ t)) (append-nil f) in
     omega (arith, simp length-append at (ap length whole))
 
 -- the text up to the fragment
 pub with_fragment-dropped : (text : List ℕ) → take (length (with_fragment text None)) text ≡ with_fragment text None
 with_fragment-dropped text =
     let front = before_fragment text in
-    let rest = framed (codes "#") (fragment text) [] in
+    let rest = framed_component (codes "#") (fragment text) [] in
     ap (λ t. take (length t) text) (append-nil front) ∙ ap (λ t. take (length front) t) (sym (text_of-components text)) ∙ take_at front rest (length front) refl ∙ sym (append-nil front)
 
 -- the text up to the fragment, and another fragment
@@ -92,7 +92,7 @@ parsed_uri-with_fragment text l f parsed k =
     (parsed-with_fragment text l f parsed.0 k, ap is_some (scheme-with_fragment text f parsed.0.reference k) ∙ parsed.1)
 
 -- a base's fragment takes no part in a target
-pub resolved_of_stripped : (b : Components) (base reference : List ℕ) → b ≡ components base → are_components b ≡ true → resolved base reference ≡ resolved (with_fragment base None) reference
-unfolding resolved is_uri_reference
+pub resolved_of_stripped : (b : Components) (base reference : List ℕ) → b ≡ components base → are_components b ≡ true → target_text base reference ≡ target_text (with_fragment base None) reference
+unfolding target_text is_uri_reference
 resolved_of_stripped b base reference is h =
     ap (λ (d : Components). text_of (resolved_components d (components reference))) (sym (components-with_fragment base None (ap are_components (sym is) ∙ h) refl))

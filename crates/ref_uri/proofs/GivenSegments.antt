@@ -6,7 +6,7 @@ use Rattle.std.proofs.lemmas.List.Sums.{fails_before_first, passes_at_first}
 use Rattle.std.proofs.Math.Seq.{take-add}
 use Rattle.ref_uri.specs.DotSegments.{segments}
 use Rattle.ref_uri.specs.inner.Removal.{segment_of, path_then, progress_then, path_after, progress_after, slash_of, dots_after, last_taken}
-use Rattle.ref_uri.specs.inner.Written.{written}
+use Rattle.ref_uri.specs.inner.Written.{written_text}
 use Rattle.ref_uri.specs.declared.written.Form.{Form}
 use Rattle.ref_uri.specs.declared.dots.Progress.{Progress}
 use Rattle.ref_uri.specs.declared.dots.Progress.TheVariants.{Front, Within, Dots}
@@ -14,7 +14,7 @@ use Rattle.ref_uri.specs.declared.dots.Segment.TheVariants.{Name, Dot, DotDot}
 use Rattle.ref_uri.proofs.LastSlash.{is_slash, before_last_at, before_last_none}
 use Rattle.ref_uri.proofs.PartLemmas.{only_segment, first_segment}
 
--- what stands before the last slash of the path in a text
+-- what is before the last slash of the path in a text
 pub rest_at : (text : List ℕ) (start k : ℕ) → start ≤ k → k < length text → get_or text k 0 ≡ 47 → ((i : ℕ) → k < i → i < length text → get_or text i 0 ≢ 47) → take k text ≡ take start text ++ before_last is_slash (drop start text)
 rest_at text start k from within slash none =
     let path = drop start text in
@@ -60,20 +60,20 @@ whole_segment path len is past =
 
 -- What is written, and what is left to be written, of a path.
 pub record Left (form : Form) (start : ℕ) (old new : List ℕ) (before_progress progress : Progress) (path rest : List ℕ) : Type 0 where
-  pub text : (before p : List ℕ) → old ≡ before ++ p → length before ≡ start → (w : List ℕ) × (new ≡ before ++ w) × (path_after progress w (map (written form) (segments rest)) ≡ path_after before_progress p (map (written form) (segments path)))
-  pub is : progress_after progress (map (written form) (segments rest)) ≡ progress_after before_progress (map (written form) (segments path))
+  pub text : (before p : List ℕ) → old ≡ before ++ p → length before ≡ start → (w : List ℕ) × (new ≡ before ++ w) × (path_after progress w (map (written_text form) (segments rest)) ≡ path_after before_progress p (map (written_text form) (segments path)))
+  pub is : progress_after progress (map (written_text form) (segments rest)) ≡ progress_after before_progress (map (written_text form) (segments path))
 
 -- one segment more
 pub left_on : (form : Form) (start : ℕ) (old new newer : List ℕ) (first progress next : Progress) (path rest segment behind : List ℕ) → Left form start old new first progress path rest → segments rest ≡ segment ∷ segments behind
-    → ((before w : List ℕ) → new ≡ before ++ w → length before ≡ start → newer ≡ before ++ path_then progress w (written form segment)) → next ≡ progress_then progress (written form segment) → Left form start old newer first next path behind
+    → ((before w : List ℕ) → new ≡ before ++ w → length before ≡ start → newer ≡ before ++ path_then progress w (written_text form segment)) → next ≡ progress_then progress (written_text form segment) → Left form start old newer first next path behind
 left_on form start old new newer first progress next path rest segment behind left cut text is =
     record {
       text = λ before p e n.
           let so_far = left.text before p e n in (
-            path_then progress so_far.0 (written form segment),
+            path_then progress so_far.0 (written_text form segment),
             text before so_far.0 so_far.1 n,
-            ap (λ q. path_after q (path_then progress so_far.0 (written form segment)) (map (written form) (segments behind))) is
-                ∙ ap (λ ss. path_after progress so_far.0 (map (written form) ss)) (sym cut) ∙ so_far.2,
+            ap (λ q. path_after q (path_then progress so_far.0 (written_text form segment)) (map (written_text form) (segments behind))) is
+                ∙ ap (λ ss. path_after progress so_far.0 (map (written_text form) ss)) (sym cut) ∙ so_far.2,
           );
-      is = ap (λ q. progress_after q (map (written form) (segments behind))) is ∙ ap (λ ss. progress_after progress (map (written form) ss)) (sym cut) ∙ left.is;
+      is = ap (λ q. progress_after q (map (written_text form) (segments behind))) is ∙ ap (λ ss. progress_after progress (map (written_text form) ss)) (sym cut) ∙ left.is;
     }

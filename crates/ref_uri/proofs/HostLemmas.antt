@@ -22,11 +22,11 @@ use Rattle.ref_uri.proofs.ScanLemmas.{run_to_end, run_passes, plain_encoded, enc
 digit_ends_nothing : (c : ℕ) → is_ascii_digit c ≡ true → ends_authority c ≡ false
 digit_ends_nothing c h = grind (arith, nat_tests)
 
--- what is behind the first element, as a slice has it
+-- what is after the first element, as a slice has it
 pub rest_is : (t : List ℕ) → take (length t - 1) (drop 1 t) ≡ drop 1 t
 rest_is t = take_rest t 1
 
--- a `:` and the digits behind it
+-- a `:` and the digits after it
 abbrev pub port_run : List ℕ → ℕ
 port_run t = 1 + prefix_len is_ascii_digit (drop 1 t)
 
@@ -56,7 +56,7 @@ port_accepted (c ∷ t) colon =
     read_on : (k : ℕ) → get_or (c ∷ t) (1 + k) 0 ≡ get_or t k 0
     read_on k = let e : 1 + k ≡ suc k = omega arith in rw e refl
 
--- a port behind a place in the authority
+-- a port after a place in the authority
 pub port_behind : (t : List ℕ) (k r : ℕ) → k ≤ length t → k ≤ position_or_len ends_authority t → ends_authority_at (drop k t) r ≡ is_port_part (before_first ends_authority (drop k t)) → ends_authority_at t (k + r) ≡ is_port_part (drop k (before_first ends_authority t))
 port_behind t k r le inner h = sym (ends_authority_at-drop t k r le) ∙ h ∙ ap is_port_part (before_first-drop ends_authority t k inner)
 
@@ -151,7 +151,7 @@ bracket_len_is s m le h =
     let place : position_or_len (λ c. eqb c 93) b ≡ position_or_len (λ c. eqb c 93) (take m b) = position-take (λ c. eqb c 93) b m (omega arith) (omega arith) in
     (inner, omega arith)
 
--- what stands behind `[` up to the end of the authority
+-- what is after `[` up to the end of the authority
 pub part_behind : (t : List ℕ) → get_or t 0 0 ≡ 91 → before_first ends_authority t ≡ 91 ∷ before_first ends_authority (drop 1 t)
 part_behind [] mark = absurd (omega (arith, mark))
 part_behind (c ∷ t) mark = rw (before_first-cons ends_authority c t, mark) refl
@@ -172,7 +172,7 @@ brackets_accepted t m mark le h =
     let one : 1 + m ≡ suc m = omega arith in
     rw (part_behind t mark, one) (sym (in_brackets b ∙ rw (len, front, h) refl))
 
--- where no front behind `[` is an address and its `]`, no host is there
+-- where no front after `[` is an address and its `]`, no host is there
 pub brackets_none : (t : List ℕ) → get_or t 0 0 ≡ 91 → ((n : ℕ) → n ≤ length (drop 1 t) → is_address_and_bracket (take n (drop 1 t)) ≡ true → ⊥) → is_host_and_port (before_first ends_authority t) ≡ false
 brackets_none t mark none =
     let b = before_first ends_authority (drop 1 t) in
@@ -183,6 +183,6 @@ brackets_none t mark none =
     let no_address : is_address_and_bracket (take (bracket_len b) b) ≡ false = false_from_ne_true _ (λ yes. none (bracket_len b) (omega arith) (subst (λ (l : List ℕ). is_address_and_bracket l ≡ true) front yes)) in
     ap is_host_and_port (part_behind t mark) ∙ in_brackets b ∙ and_left (is_address_and_bracket (take (bracket_len b) b)) (is_port_part (drop (bracket_len b) b)) no_address
 
--- a port behind a place in the authority lies inside it
+-- a port after a place in the authority lies inside it
 pub port_inside : (t : List ℕ) (k r : ℕ) → k ≤ position_or_len ends_authority t → r ≤ length (drop k t) → is_encoded is_userinfo_character (take r (drop k t)) ≡ true → k + r ≤ position_or_len ends_authority t
 port_inside t k r inner le h = omega (arith, position-drop ends_authority t k inner, encoded_inside (drop k t) r le h)

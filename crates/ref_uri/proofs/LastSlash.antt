@@ -1,4 +1,4 @@
--- What stands before the last slash of a text.
+-- What is before the last slash of a text.
 use Rattle.std.proofs.Common.{◌≡◌, ◌≢◌, ℕ, suc, ◌+◌, ◌-◌, ◌<◌, ◌≤◌, Bool, true, false, not, List, [], ◌∷◌, ◌++◌, length, take, drop, get_or, eqb, refl, sym, ap, ◌∙◌, subst, arith, cond, ◌||◌}
 use Rattle.std.specs.List.{before_last, suffix_len}
 use Rattle.std.specs.Char.{is_ascii_hexdigit}
@@ -51,7 +51,7 @@ through_last_slash_none text none =
     let n : length text - suffix_len (λ c. not (eqb c 47)) text ≡ 0 = omega (arith, len) in
     ap (λ n. take n text) n
 
--- whole triples stand in front of a slash
+-- whole triples are before a slash
 pub whole_front : (front rest : List ℕ) → has_whole_triples (front ++ 47 ∷ rest) ≡ true → has_whole_triples front ≡ true
 whole_front [] rest h = refl
 whole_front (c ∷ front) rest h =
@@ -72,7 +72,7 @@ whole_front (c ∷ front) rest h =
     digits_front (a ∷ []) t = absurd (false≢true (sym (and_right (is_ascii_hexdigit a) false refl) ∙ t))
     digits_front (a ∷ b ∷ front) t = t
 
--- what stands in front of a slash of a path is a path
+-- what is before a slash of a path is a path
 pub front_is_path : (text : List ℕ) (k : ℕ) → k < length text → get_or text k 0 ≡ 47 → is_path text ≡ true → is_path (take k text) ≡ true
 front_is_path text k lt slash h =
     let shape : text ≡ take k text ++ 47 ∷ drop (suc k) text = sym (take-append-drop k text) ∙ ap (λ t. take k text ++ t) (drop-cons text k 0 lt ∙ ap (λ c. c ∷ drop (suc k) text) slash) in

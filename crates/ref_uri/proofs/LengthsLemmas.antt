@@ -4,7 +4,7 @@ use Rattle.std.specs.Option.{ForSome}
 use Rattle.std.specs.List.{position_or_len, before_first}
 use Rattle.std.proofs.lemmas.List.Folds.{length-prefix_len}
 use Rattle.std.proofs.lemmas.List.Sums.{prefix_len-le-length}
-use Rattle.ref_uri.specs.Components.{scheme, authority, path, query, fragment, behind, after_scheme, after_authority, after_path, after_query, authority_in_front, query_in_front, fragment_in_front, ends_path}
+use Rattle.ref_uri.specs.Components.{scheme, authority, path, query, fragment, text_after, after_scheme, after_authority, after_path, after_query, authority_in_front, query_in_front, fragment_in_front, ends_path}
 use Rattle.ref_uri.specs.declared.lengths.Lengths.{Lengths}
 use Rattle.ref_uri.specs.inner.Lengths.{IsParsed}
 use Rattle.ref_uri.proofs.RestLemmas.{scheme_gone, authority_gone, path_gone, query_gone, scheme_fits, authority_fits, query_fits, scheme_read, authority_read, query_read}
@@ -25,16 +25,16 @@ query_len_is : (text : List ℕ) (l : Lengths) (rest : List ℕ) → IsParsed te
 unfolding query
 query_len_is text l rest parsed is = ap (λ (x : Lengths). x.query) parsed.lengths_are ∙ ap (λ t. option_map length (query_in_front t)) (sym is)
 
-pub after_scheme_is : (text : List ℕ) (l : Lengths) (rest : List ℕ) → IsParsed text l → rest ≡ behind l.scheme 1 text → rest ≡ after_scheme text
+pub after_scheme_is : (text : List ℕ) (l : Lengths) (rest : List ℕ) → IsParsed text l → rest ≡ text_after l.scheme 1 text → rest ≡ after_scheme text
 after_scheme_is text l rest parsed is = scheme_gone text rest l.scheme (scheme_len_is text l parsed) is
 
-pub after_authority_is : (text : List ℕ) (l : Lengths) (before rest : List ℕ) → IsParsed text l → before ≡ after_scheme text → rest ≡ behind l.authority 2 before → rest ≡ after_authority text
+pub after_authority_is : (text : List ℕ) (l : Lengths) (before rest : List ℕ) → IsParsed text l → before ≡ after_scheme text → rest ≡ text_after l.authority 2 before → rest ≡ after_authority text
 after_authority_is text l before rest parsed one is = authority_gone text before rest l.authority one (authority_len_is text l before parsed one) is
 
 pub after_path_is : (text : List ℕ) (l : Lengths) (before rest : List ℕ) → IsParsed text l → before ≡ after_authority text → rest ≡ drop l.path before → rest ≡ after_path text
 after_path_is text l before rest parsed two is = path_gone text before rest l.path two (path_len_is text l before parsed two) is
 
-pub after_query_is : (text : List ℕ) (l : Lengths) (before rest : List ℕ) → IsParsed text l → before ≡ after_path text → rest ≡ behind l.query 1 before → rest ≡ after_query text
+pub after_query_is : (text : List ℕ) (l : Lengths) (before rest : List ℕ) → IsParsed text l → before ≡ after_path text → rest ≡ text_after l.query 1 before → rest ≡ after_query text
 after_query_is text l before rest parsed three is = query_gone text before rest l.query three (query_len_is text l before parsed three) is
 
 pub scheme_within : (text : List ℕ) (l : Lengths) → IsParsed text l → ForSome l.scheme (λ n. n + 1 ≤ length text)

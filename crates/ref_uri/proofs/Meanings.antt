@@ -8,39 +8,39 @@ use Rattle.ref_uri.specs.inner.Faults.{IfInvalid}
 use Rattle.ref_uri.specs.inner.Lengths.{the_lengths, IsParsed}
 use Rattle.ref_uri.specs.Normal.{normal_form}
 use Rattle.ref_uri.specs.Reference.{is_uri_reference, with_fragment}
-use Rattle.ref_uri.specs.Resolution.{resolved}
-use Rattle.ref_uri.specs.Targets.{Refusal, unparsed, unresolved, default_base, parsed, against}
+use Rattle.ref_uri.specs.Resolution.{target_text}
+use Rattle.ref_uri.specs.Targets.{Refusal, parse_refusal, resolve_refusal, default_base, uri_of, uri_against}
 use Rattle.ref_uri.specs.declared.error.UriFault.{UriFault}
 use Rattle.ref_uri.specs.declared.error.UriFault.TheVariants as uri_fault
 use Rattle.ref_uri.proofs.AsciiLemmas.{IsAscii-from_all_ascii}
 use Rattle.ref_uri.proofs.OnLiterals.{ref_uri_on_literals}
 
-pub parsed_with_scheme : (text : List ℕ) → is_uri_reference text ≡ true → is_some (scheme text) ≡ true → parsed text ≡ Ok (normal_form text)
-unfolding parsed
+pub parsed_with_scheme : (text : List ℕ) → is_uri_reference text ≡ true → is_some (scheme text) ≡ true → uri_of text ≡ Ok (normal_form text)
+unfolding uri_of
 parsed_with_scheme text h s = rw (h, s) refl
 
-pub parsed_without_scheme : (text : List ℕ) → is_uri_reference text ≡ true → is_some (scheme text) ≡ false → parsed text ≡ Ok (resolved default_base (normal_form text))
-unfolding parsed
+pub parsed_without_scheme : (text : List ℕ) → is_uri_reference text ≡ true → is_some (scheme text) ≡ false → uri_of text ≡ Ok (target_text default_base (normal_form text))
+unfolding uri_of
 parsed_without_scheme text h s = rw (h, s) refl
 
-pub parsed_refused : (text : List ℕ) → is_uri_reference text ≡ false → parsed text ≡ Err (unparsed text)
-unfolding parsed
+pub parsed_refused : (text : List ℕ) → is_uri_reference text ≡ false → uri_of text ≡ Err (parse_refusal text)
+unfolding uri_of
 parsed_refused text h = rw h refl
 
-pub against_without_scheme : (base text : List ℕ) → is_some (scheme base) ≡ false → against base text ≡ Err (unresolved text base)
-unfolding against
+pub against_without_scheme : (base text : List ℕ) → is_some (scheme base) ≡ false → uri_against base text ≡ Err (resolve_refusal text base)
+unfolding uri_against
 against_without_scheme base text s = rw s refl
 
-pub against_same : (base text : List ℕ) → is_some (scheme base) ≡ true → (eqb (get_or text 0 0) 35 && ends_with eqb base text) ≡ true → against base text ≡ Ok base
-unfolding against
+pub against_same : (base text : List ℕ) → is_some (scheme base) ≡ true → (eqb (get_or text 0 0) 35 && ends_with eqb base text) ≡ true → uri_against base text ≡ Ok base
+unfolding uri_against
 against_same base text s e = rw (s, e) refl
 
-pub against_target : (base text : List ℕ) → is_some (scheme base) ≡ true → (eqb (get_or text 0 0) 35 && ends_with eqb base text) ≡ false → is_uri_reference text ≡ true → against base text ≡ Ok (normal_form (resolved (with_fragment base None) text))
-unfolding against
+pub against_target : (base text : List ℕ) → is_some (scheme base) ≡ true → (eqb (get_or text 0 0) 35 && ends_with eqb base text) ≡ false → is_uri_reference text ≡ true → uri_against base text ≡ Ok (normal_form (target_text (with_fragment base None) text))
+unfolding uri_against
 against_target base text s e h = rw (s, e, h) refl
 
-pub against_refused : (base text : List ℕ) → is_some (scheme base) ≡ true → (eqb (get_or text 0 0) 35 && ends_with eqb base text) ≡ false → is_uri_reference text ≡ false → against base text ≡ Err (unparsed text)
-unfolding against
+pub against_refused : (base text : List ℕ) → is_some (scheme base) ≡ true → (eqb (get_or text 0 0) 35 && ends_with eqb base text) ≡ false → is_uri_reference text ≡ false → uri_against base text ≡ Err (parse_refusal text)
+unfolding uri_against
 against_refused base text s e h = rw (s, e, h) refl
 
 -- a fault for one meaning is one for the same meaning under a condition
@@ -48,7 +48,7 @@ pub fault_moved : (meaning : Result (List ℕ) Refusal) (refusal : Refusal) (fau
 fault_moved meaning refusal (uri_fault.Invalid error) P is p moved = (is.0, moved p ∙ is.1, is.2)
 fault_moved meaning refusal (uri_fault.Memory error) P is p moved = tt
 
--- a call that passes a fault on answers with it
+-- a call that passes a fault on returns it
 pub fault_passed : {X : Type 0} (r : Result X UriFault) (fault : UriFault) (meaning : Result (List ℕ) Refusal) → IsErrAnd r (λ e. e ≡ fault) → IsFaultOf meaning fault → IfErr r (IsFaultOf meaning)
 fault_passed (Ok x) fault meaning passed is = tt
 fault_passed (Err e) fault meaning passed is = rw passed is

@@ -3,21 +3,21 @@ use Rattle.std.proofs.Common.{◌≡◌, ◌≢◌, ℕ, suc, ◌+◌, ◌-◌, 
 use Rattle.std.specs.List.{onto_first}
 use Rattle.std.proofs.lemmas.Bool.{cases_eq, false_from_ne_true, or_parts, or_from}
 use Rattle.std.proofs.lemmas.Slice.Eq.{bytes_eq-Decides}
-use Rattle.ref_uri.specs.DotSegments.{segments, behind_slashes, joined, is_dot, is_dot_dot, is_dot_segment}
+use Rattle.ref_uri.specs.DotSegments.{segments, behind_slashes, joined_segments, is_dot, is_dot_dot, is_dot_segment}
 use Rattle.ref_uri.specs.inner.Removal.{path_after, progress_after, slash_of, AreNames, IsInside}
 use Rattle.ref_uri.specs.declared.dots.Progress.{Progress}
 use Rattle.ref_uri.specs.declared.dots.Progress.TheVariants.{Front, Within, Dots}
 use Rattle.ref_uri.proofs.SegmentLemmas.{segments-slash, segments-other, segments-shape}
 
 -- the segments of a path join to it
-pub joined-segments : (path : List ℕ) → joined (segments path) ≡ path
+pub joined-segments : (path : List ℕ) → joined_segments (segments path) ≡ path
 joined-segments [] = refl
 joined-segments (c ∷ path) =
     let shape = segments-shape path in
-    let rest = ap joined (sym shape.2) ∙ joined-segments path in
+    let rest = ap joined_segments (sym shape.2) ∙ joined-segments path in
     elim (cases_eq c 47) [
-      | inl slash ↦ ap joined (segments-slash c path slash ∙ ap (λ xs. [] ∷ xs) shape.2) ∙ ap (λ t. 47 ∷ t) rest ∙ ap (λ x. x ∷ path) (sym slash)
-      | inr other ↦ ap joined (segments-other c path other ∙ ap (onto_first c) shape.2) ∙ ap (λ t. c ∷ t) rest
+      | inl slash ↦ ap joined_segments (segments-slash c path slash ∙ ap (λ xs. [] ∷ xs) shape.2) ∙ ap (λ t. 47 ∷ t) rest ∙ ap (λ x. x ∷ path) (sym slash)
+      | inr other ↦ ap joined_segments (segments-other c path other ∙ ap (onto_first c) shape.2) ∙ ap (λ t. c ∷ t) rest
     ]
 
 -- a text that begins with no dot is no dot segment
@@ -27,7 +27,7 @@ is_name s other =
     (false_from_ne_true (is_dot s) (λ is. other (ap (λ t. get_or t 0 0) ((bytes_eq-Decides s (codes ".")).0 is))))
     (false_from_ne_true (is_dot_dot s) (λ is. other (ap (λ t. get_or t 0 0) ((bytes_eq-Decides s (codes "..")).0 is))))
 
--- The segments of a path behind whose slashes no dot stands: the first, which begins as the path does, and names.
+-- The segments of a path after whose slashes no dot stands: the first, which begins as the path does, and names.
 record FirstAndNames (path : List ℕ) : Type 0 where
   first : List ℕ
   rest : List (List ℕ)
@@ -84,7 +84,7 @@ are_names path inside =
     at_front : get_or path 0 0 ≡ 46 → ⊥
     at_front dot = let none : 0 < 0 = (inside 0 (nonempty path dot) dot).0 in absurd (omega arith)
 
--- names behind a path
+-- names after a path
 names_within : (path : List ℕ) (names : List (List ℕ)) → AreNames names → (path_after Within path names ≡ path ++ behind_slashes names) × (progress_after Within names ≡ Within)
 names_within path [] all = (sym (append-nil path), refl)
 names_within path (s ∷ names) all =
@@ -92,7 +92,7 @@ names_within path (s ∷ names) all =
     let more = names_within (path ++ 47 ∷ s) names all.1 in
     (rw (both.0, both.1) (more.0 ∙ append_assoc path (47 ∷ s) (behind_slashes names)), rw (both.0, both.1) more.1)
 
--- names that are written behind a path
+-- names that are written after a path
 pub names_after : (progress : Progress) (path : List ℕ) (names : List (List ℕ)) (text : List ℕ) → segments text ≡ names → AreNames names → (path_after progress path names ≡ path ++ (slash_of progress ++ text)) × (progress_after progress names ≡ Within)
 names_after progress path [] text is all = let shape = segments-shape text in absurd (no_cons shape.0 shape.1 (sym shape.2 ∙ is))
   where
@@ -101,13 +101,13 @@ names_after progress path [] text is all = let shape = segments-shape text in ab
 names_after Front path (s ∷ names) text is all =
     let both = or_parts (is_dot s) (is_dot_dot s) all.0 in
     let more = names_within (path ++ s) names all.1 in
-    let whole : s ++ behind_slashes names ≡ text = ap joined (sym is) ∙ joined-segments text in
+    let whole : s ++ behind_slashes names ≡ text = ap joined_segments (sym is) ∙ joined-segments text in
     (rw (both.0, both.1) (more.0 ∙ append_assoc path s (behind_slashes names) ∙ ap (λ t. path ++ t) whole), rw (both.0, both.1) more.1)
 names_after Within path (s ∷ names) text is all =
     let more = names_within path (s ∷ names) all in
-    let whole : s ++ behind_slashes names ≡ text = ap joined (sym is) ∙ joined-segments text in
+    let whole : s ++ behind_slashes names ≡ text = ap joined_segments (sym is) ∙ joined-segments text in
     (more.0 ∙ ap (λ t. path ++ 47 ∷ t) whole, more.1)
 names_after Dots path (s ∷ names) text is all =
     let more = names_within path (s ∷ names) all in
-    let whole : s ++ behind_slashes names ≡ text = ap joined (sym is) ∙ joined-segments text in
+    let whole : s ++ behind_slashes names ≡ text = ap joined_segments (sym is) ∙ joined-segments text in
     (more.0 ∙ ap (λ t. path ++ 47 ∷ t) whole, more.1)

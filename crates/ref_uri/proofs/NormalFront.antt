@@ -66,7 +66,7 @@ triple_there text at is lt =
           ∙ ap (λ t. 37 ∷ get_or text (at + 1) 0 ∷ get_or text (at + 2) 0 ∷ t) (drop-drop 3 at text);
     }
 
--- a triple in front of what is left
+-- a triple before what is left
 pub triple_more : (text : List ℕ) (at : ℕ) → TripleAt text at → normal_text (drop at text) ≡ normal_triple (λ c. c) (get_or text (at + 1) 0) (get_or text (at + 2) 0) ++ normal_text (drop (at + 3) text)
 triple_more text at t = ap normal_text t.shape ∙ normal_triple_front (λ c. c) (get_or text (at + 1) 0) (get_or text (at + 2) 0) (drop (at + 3) text) t.high t.low
 

@@ -54,7 +54,7 @@ digits_in_front (a ∷ b ∷ rest) h =
     let both = and_parts (is_ascii_hexdigit a) (is_ascii_hexdigit b) h in
     record { enough = omega arith; high = both.0; low = both.1; shape = refl }
 
--- what follows the element behind a front
+-- what follows the element after a front
 pub drop_past : (front : List ℕ) (c : ℕ) (rest : List ℕ) → drop (length front + 1) (front ++ c ∷ rest) ≡ rest
 drop_past front c rest = ap (λ n. drop n (front ++ c ∷ rest)) (add-one (length front)) ∙ at_seam front
   where
@@ -62,7 +62,7 @@ drop_past front c rest = ap (λ n. drop n (front ++ c ∷ rest)) (add-one (lengt
     at_seam [] = refl
     at_seam (x ∷ a) = at_seam a
 
--- The text behind the first `%` of a text of whole triples.
+-- The text after the first `%` of a text of whole triples.
 pub record Behind (text : List ℕ) : Type 0 where
   pub digits : Digits text
   pub ascii : IsAscii text

@@ -4,15 +4,15 @@ use Rattle.std.specs.Char.{to_ascii_lowercase}
 use Rattle.std.proofs.lemmas.Bool.{false≢true}
 use Rattle.ref_uri.specs.Components.{Components}
 use Rattle.ref_uri.specs.DotSegments.{remove_dot_segments}
-use Rattle.ref_uri.specs.Normal.{guarded, normal, normal_text, normal_authority}
+use Rattle.ref_uri.specs.Normal.{guarded_path, normal_components, normal_text, normal_authority}
 use Rattle.ref_uri.specs.Resolution.{query_or}
 use Rattle.ref_uri.specs.inner.Target.{path_behind, target_with_dots}
 use Rattle.ref_uri.proofs.TargetLemmas.{the_components, some_there}
 
 -- components with a scheme, each in normal form
-pub normal_parts_are : (s a : Option (List ℕ)) (path p : List ℕ) (q f : Option (List ℕ)) → is_some s ≡ true → p ≡ remove_dot_segments (normal_text path) → the_components (option_map (map to_ascii_lowercase) s) (option_map normal_authority a) (guarded a p) (option_map normal_text q) (option_map normal_text f) ≡ normal (the_components s a path q f)
+pub normal_parts_are : (s a : Option (List ℕ)) (path p : List ℕ) (q f : Option (List ℕ)) → is_some s ≡ true → p ≡ remove_dot_segments (normal_text path) → the_components (option_map (map to_ascii_lowercase) s) (option_map normal_authority a) (guarded_path a p) (option_map normal_text q) (option_map normal_text f) ≡ normal_components (the_components s a path q f)
 normal_parts_are None a path p q f there is = absurd (false≢true there)
-normal_parts_are (Some x) a path p q f there is = ap (λ t. the_components (Some (map to_ascii_lowercase x)) (option_map normal_authority a) (guarded a t) (option_map normal_text q) (option_map normal_text f)) is
+normal_parts_are (Some x) a path p q f there is = ap (λ t. the_components (Some (map to_ascii_lowercase x)) (option_map normal_authority a) (guarded_path a t) (option_map normal_text q) (option_map normal_text f)) is
 
 -- the cases of a target with its dot segments
 pub dots_with_scheme : (base r : Components) → is_some r.scheme ≡ true → target_with_dots base r ≡ the_components r.scheme r.authority r.path r.query r.fragment

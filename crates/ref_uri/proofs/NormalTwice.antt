@@ -1,4 +1,11 @@
 -- The normal form of a normal form is itself.
+--
+-- 1. Characters: a triple, then a text of whole triples, is as it was when it is put in normal form again (`encoded_twice`).
+-- 2. Paths: segments in normal form are settled, and none of those that are kept is a dot segment, so that a second removal finds
+--    nothing to take away (`removed_twice`); nor does the guard `/.` come back (`path_twice`).
+-- 3. Each component apart (`authority_twice`, `query_twice`), then all of them (`components_twice`), then the text (`normal_twice`).
+-- 4. A text without a scheme is resolved against the default base: its target is settled too (`resolved_normal`), so what any text
+--    means is its own normal form (`parsed_is_normal`).
 use Rattle.std.proofs.Common.{◌≡◌, ◌≢◌, ℕ, suc, ◌+◌, ◌*◌, Bool, true, false, cond, ◌&&◌, ◌||◌, List, [], ◌∷◌, ◌++◌, length, drop, get_or, map, reverse, eqb, refl, sym, ap, ◌∙◌, subst, arith, inl, inr, Option, Some, None, is_some, is_none, option_map, Result, Ok, Err, codes, append_assoc, append-nil}
 use Rattle.std.specs.List.{list_all, AllByRecursion, prefix_len}
 use Rattle.std.specs.Char.{is_ascii_hexdigit, to_ascii_lowercase, to_ascii_uppercase}
@@ -9,11 +16,11 @@ use Rattle.std.proofs.lemmas.Str.Ascii.{lowercase-lowercase, uppercase-uppercase
 use Rattle.ref_uri.specs.Characters.{has_whole_triples, is_unreserved, is_encoded, is_userinfo_character, is_path_character, is_query_character}
 use Rattle.ref_uri.specs.Authority.{is_authority, userinfo, host, port_part}
 use Rattle.ref_uri.specs.Components.{Components, components, are_components, scheme, text_of, if_there, is_query, begins_with_slashes}
-use Rattle.ref_uri.specs.DotSegments.{segments, behind_slashes, joined, is_dot, is_dot_dot, is_dot_segment, first_after, kept_after, remaining, ends_in_dots, without_dots, remove_dot_segments}
-use Rattle.ref_uri.specs.Normal.{hex_value, normal_triple, normal_encoded, normal_text, normal_host, normal_port_part, normal_authority, guarded, normal, normal_path, normal_form}
+use Rattle.ref_uri.specs.DotSegments.{segments, behind_slashes, joined_segments, is_dot, is_dot_dot, is_dot_segment, first_after, kept_after, remaining_segments, ends_in_dots, without_dots, remove_dot_segments}
+use Rattle.ref_uri.specs.Normal.{hex_value, normal_triple, normal_encoded, normal_text, normal_host, normal_port_part, normal_authority, guarded_path, normal_components, normal_path, normal_form}
 use Rattle.ref_uri.specs.Reference.{is_uri_reference}
-use Rattle.ref_uri.specs.Resolution.{merged, query_or, target_path, with_guard, resolved, resolved_components}
-use Rattle.ref_uri.specs.Targets.{Refusal, unparsed, parsed, default_base}
+use Rattle.ref_uri.specs.Resolution.{merged_path, query_or, target_path, with_guard, target_text, resolved_components}
+use Rattle.ref_uri.specs.Targets.{Refusal, parse_refusal, uri_of, default_base}
 use Rattle.ref_uri.proofs.OnLiterals.{ref_uri_on_literals}
 use Rattle.ref_uri.specs.declared.written.Form.TheVariants.{Normal}
 use Rattle.ref_uri.proofs.EncodedLemmas.{whole-append}
@@ -113,7 +120,7 @@ slashes_settled (s ∷ parts) h =
           ∙ ap (λ t. 47 ∷ t) (normal-append s (behind_slashes parts) h.0.0 ∙ ap (λ t. t ++ normal_text (behind_slashes parts)) h.0.1 ∙ ap (λ t. s ++ t) rest.1),
     )
 
-joined_settled : (parts : List (List ℕ)) → AllByRecursion IsSettled parts → normal_text (joined parts) ≡ joined parts
+joined_settled : (parts : List (List ℕ)) → AllByRecursion IsSettled parts → normal_text (joined_segments parts) ≡ joined_segments parts
 unfolding IsSettled
 joined_settled [] h = normal_none (λ c. c)
 joined_settled (first ∷ rest) h =
@@ -161,7 +168,7 @@ kept_dotless first kept s all = (
     all_but_first [] each = tt
     all_but_first (x ∷ xs) each = each.1
 
-remaining_dotless : (first : List ℕ) (kept rest : List (List ℕ)) → AllByRecursion NoDots (first ∷ kept) → AllByRecursion NoDots (remaining first kept rest)
+remaining_dotless : (first : List ℕ) (kept rest : List (List ℕ)) → AllByRecursion NoDots (first ∷ kept) → AllByRecursion NoDots (remaining_segments first kept rest)
 remaining_dotless first kept [] all = (all.0, each_reverse NoDots kept all.1)
 remaining_dotless first kept (s ∷ rest) all = remaining_dotless (first_after first kept s) (kept_after kept s) rest (kept_dotless first kept s all)
 
@@ -180,16 +187,16 @@ dropped_dotless (s ∷ rest) = elim (cases_Bool (is_dot_segment s)) [ inl dots �
     at_name : is_dot_segment s ≡ false → AllByRecursion NoDots (without_dots (drop (prefix_len is_dot_segment (s ∷ rest)) (s ∷ rest)))
     at_name name =
         subst (λ (n : ℕ). AllByRecursion NoDots (without_dots (drop n (s ∷ rest)))) (sym (ap (λ b. cond b (1 + prefix_len is_dot_segment rest) 0) name))
-        (each_append NoDots (remaining s [] rest) (cond (ends_in_dots rest) ([] ∷ []) []) (remaining_dotless s [] rest (name, tt))
+        (each_append NoDots (remaining_segments s [] rest) (cond (ends_in_dots rest) ([] ∷ []) []) (remaining_dotless s [] rest (name, tt))
         (elim (ends_in_dots rest) as (λ b. AllByRecursion NoDots (cond b ([] ∷ []) [])) [ true ↦ (refl, tt) | false ↦ tt ]))
 
 -- segments of which none is a dot segment stay
-keep_all : (first : List ℕ) (kept rest : List (List ℕ)) → AllByRecursion NoDots rest → remaining first kept rest ≡ first ∷ (reverse kept ++ rest)
+keep_all : (first : List ℕ) (kept rest : List (List ℕ)) → AllByRecursion NoDots rest → remaining_segments first kept rest ≡ first ∷ (reverse kept ++ rest)
 keep_all first kept [] all = ap (λ xs. first ∷ xs) (sym (append-nil (reverse kept)))
 keep_all first kept (s ∷ rest) all =
     let apart = neither (is_dot s) (is_dot_dot s) all.0 in
-    ap (λ b. remaining (cond (b && eqb (length kept) 0) [] first) (kept_after kept s) rest) apart.1
-    ∙ ap (λ k. remaining first k rest) (ap (λ b. cond b kept (cond (is_dot_dot s) (drop 1 kept) (s ∷ kept))) apart.0 ∙ ap (λ b. cond b (drop 1 kept) (s ∷ kept)) apart.1)
+    ap (λ b. remaining_segments (cond (b && eqb (length kept) 0) [] first) (kept_after kept s) rest) apart.1
+    ∙ ap (λ k. remaining_segments first k rest) (ap (λ b. cond b kept (cond (is_dot_dot s) (drop 1 kept) (s ∷ kept))) apart.0 ∙ ap (λ b. cond b (drop 1 kept) (s ∷ kept)) apart.1)
     ∙ keep_all first (s ∷ kept) rest all.1
     ∙ ap (λ xs. first ∷ xs) (ap (λ xs. xs ++ rest) (reverse-append (s ∷ []) kept) ∙ append_assoc (reverse kept) (s ∷ []) rest)
 
@@ -200,30 +207,30 @@ no_end (s ∷ next ∷ rest) all = no_end (next ∷ rest) all.1
 
 all_stay : (first : List ℕ) (rest : List (List ℕ)) → AllByRecursion NoDots rest → without_dots (first ∷ rest) ≡ first ∷ rest
 all_stay first rest all =
-    ap (λ b. remaining first [] rest ++ cond b ([] ∷ []) []) (no_end rest all) ∙ append-nil (remaining first [] rest) ∙ keep_all first [] rest all
+    ap (λ b. remaining_segments first [] rest ++ cond b ([] ∷ []) []) (no_end rest all) ∙ append-nil (remaining_segments first [] rest) ∙ keep_all first [] rest all
 
 -- the segments of what they join to
 alone : (s : List ℕ) → HasNoSlash s → segments s ≡ s ∷ []
 alone s h = ap segments (sym (append-nil s)) ∙ segments-run s [] [] [] h refl ∙ ap (λ t. t ∷ []) (append-nil s)
 
-segments_joined : (first : List ℕ) (rest : List (List ℕ)) → AllByRecursion HasNoSlash (first ∷ rest) → segments (joined (first ∷ rest)) ≡ first ∷ rest
+segments_joined : (first : List ℕ) (rest : List (List ℕ)) → AllByRecursion HasNoSlash (first ∷ rest) → segments (joined_segments (first ∷ rest)) ≡ first ∷ rest
 segments_joined first [] all = ap segments (append-nil first) ∙ alone first all.0
-segments_joined first (s ∷ rest) all = segments-append first (joined (s ∷ rest)) ∙ ap (λ xs. xs ++ segments (joined (s ∷ rest))) (alone first all.0) ∙ ap (λ xs. first ∷ xs) (segments_joined s rest all.1)
+segments_joined first (s ∷ rest) all = segments-append first (joined_segments (s ∷ rest)) ∙ ap (λ xs. xs ++ segments (joined_segments (s ∷ rest))) (alone first all.0) ∙ ap (λ xs. first ∷ xs) (segments_joined s rest all.1)
 
 -- segments without slashes and dots
-stay_removed : (parts : List (List ℕ)) → AllByRecursion HasNoSlash parts → AllByRecursion NoDots parts → remove_dot_segments (joined parts) ≡ joined parts
+stay_removed : (parts : List (List ℕ)) → AllByRecursion HasNoSlash parts → AllByRecursion NoDots parts → remove_dot_segments (joined_segments parts) ≡ joined_segments parts
 unfolding remove_dot_segments
 stay_removed [] plain dotless = refl
 stay_removed (first ∷ rest) plain dotless =
-    ap (λ xs. joined (without_dots (drop (prefix_len is_dot_segment xs) xs))) (segments_joined first rest plain)
-    ∙ ap (λ b. joined (without_dots (drop (cond b (1 + prefix_len is_dot_segment rest) 0) (first ∷ rest)))) dotless.0
-    ∙ ap joined (all_stay first rest dotless.1)
+    ap (λ xs. joined_segments (without_dots (drop (prefix_len is_dot_segment xs) xs))) (segments_joined first rest plain)
+    ∙ ap (λ b. joined_segments (without_dots (drop (cond b (1 + prefix_len is_dot_segment rest) 0) (first ∷ rest)))) dotless.0
+    ∙ ap joined_segments (all_stay first rest dotless.1)
 
 -- a path without its dot segments
 parts_of : List ℕ → List (List ℕ)
 parts_of path = without_dots (drop (prefix_len is_dot_segment (segments path)) (segments path))
 
-removed_is : (path : List ℕ) → remove_dot_segments path ≡ joined (parts_of path)
+removed_is : (path : List ℕ) → remove_dot_segments path ≡ joined_segments (parts_of path)
 unfolding remove_dot_segments parts_of
 removed_is path = refl
 
@@ -244,10 +251,10 @@ guard_goes : (text : List ℕ) → remove_dot_segments (47 ∷ 46 ∷ 47 ∷ tex
 unfolding remove_dot_segments
 guard_goes text =
     let shape = segments-shape text in
-    ap (λ xs. joined (remaining [] [] xs ++ cond (ends_in_dots ((46 ∷ []) ∷ xs)) ([] ∷ []) [])) shape.2
-    ∙ ap (λ xs. joined (remaining [] [] xs ++ cond (ends_in_dots xs) ([] ∷ []) [])) (sym shape.2)
+    ap (λ xs. joined_segments (remaining_segments [] [] xs ++ cond (ends_in_dots ((46 ∷ []) ∷ xs)) ([] ∷ []) [])) shape.2
+    ∙ ap (λ xs. joined_segments (remaining_segments [] [] xs ++ cond (ends_in_dots xs) ([] ∷ []) [])) (sym shape.2)
 
-pub guarded_removed : (a : Option (List ℕ)) (path : List ℕ) → remove_dot_segments (normal_text (guarded a path)) ≡ remove_dot_segments (normal_text path)
+pub guarded_removed : (a : Option (List ℕ)) (path : List ℕ) → remove_dot_segments (normal_text (guarded_path a path)) ≡ remove_dot_segments (normal_text path)
 guarded_removed a path = by_guard (is_none a && begins_with_slashes path) refl
   where
     behind : (path : List ℕ) → begins_with_slashes path ≡ true → remove_dot_segments (normal_text (47 ∷ 46 ∷ path)) ≡ remove_dot_segments (normal_text path)
@@ -259,23 +266,23 @@ guarded_removed a path = by_guard (is_none a && begins_with_slashes path) refl
         (normal_character (λ d. d) 47 (46 ∷ c ∷ rest) (λ e. absurd (omega (arith, e))) ∙ ap (λ t. 47 ∷ t) (normal_character (λ d. d) 46 (c ∷ rest) (λ e. absurd (omega (arith, e)))) ∙ ap (λ t. 47 ∷ 46 ∷ t) front)
         ∙ guard_goes (normal_text rest) ∙ ap remove_dot_segments (sym front)
 
-    by_guard : (b : Bool) → (is_none a && begins_with_slashes path) ≡ b → remove_dot_segments (normal_text (guarded a path)) ≡ remove_dot_segments (normal_text path)
+    by_guard : (b : Bool) → (is_none a && begins_with_slashes path) ≡ b → remove_dot_segments (normal_text (guarded_path a path)) ≡ remove_dot_segments (normal_text path)
     by_guard true e =
-        let put : guarded a path ≡ 47 ∷ 46 ∷ path = rw e refl in
+        let put : guarded_path a path ≡ 47 ∷ 46 ∷ path = rw e refl in
         ap (λ p. remove_dot_segments (normal_text p)) put ∙ behind path (and_parts (is_none a) (begins_with_slashes path) e).1
     by_guard false e =
-        let left : guarded a path ≡ path = rw e refl in
+        let left : guarded_path a path ≡ path = rw e refl in
         ap (λ p. remove_dot_segments (normal_text p)) left
 
 -- a guarded path in normal form stays as it is
-path_again : (a : Option (List ℕ)) (path : List ℕ) → has_whole_triples path ≡ true → guarded a (remove_dot_segments (normal_text (guarded a (remove_dot_segments (normal_text path))))) ≡ guarded a (remove_dot_segments (normal_text path))
+path_again : (a : Option (List ℕ)) (path : List ℕ) → has_whole_triples path ≡ true → guarded_path a (remove_dot_segments (normal_text (guarded_path a (remove_dot_segments (normal_text path))))) ≡ guarded_path a (remove_dot_segments (normal_text path))
 path_again a path whole =
-    ap (guarded a) (guarded_removed a (remove_dot_segments (normal_text path)) ∙ ap remove_dot_segments (removed_settled path whole) ∙ removed_twice (normal_text path))
+    ap (guarded_path a) (guarded_removed a (remove_dot_segments (normal_text path)) ∙ ap remove_dot_segments (removed_settled path whole) ∙ removed_twice (normal_text path))
 
-path_twice : (a : Option (List ℕ)) (path : List ℕ) → has_whole_triples path ≡ true → guarded (option_map normal_authority a) (remove_dot_segments (normal_text (guarded a (remove_dot_segments (normal_text path))))) ≡ guarded a (remove_dot_segments (normal_text path))
-path_twice a path whole = same_guard a (remove_dot_segments (normal_text (guarded a (remove_dot_segments (normal_text path))))) ∙ path_again a path whole
+path_twice : (a : Option (List ℕ)) (path : List ℕ) → has_whole_triples path ≡ true → guarded_path (option_map normal_authority a) (remove_dot_segments (normal_text (guarded_path a (remove_dot_segments (normal_text path))))) ≡ guarded_path a (remove_dot_segments (normal_text path))
+path_twice a path whole = same_guard a (remove_dot_segments (normal_text (guarded_path a (remove_dot_segments (normal_text path))))) ∙ path_again a path whole
   where
-    same_guard : (a : Option (List ℕ)) (p : List ℕ) → guarded (option_map normal_authority a) p ≡ guarded a p
+    same_guard : (a : Option (List ℕ)) (p : List ℕ) → guarded_path (option_map normal_authority a) p ≡ guarded_path a p
     same_guard None p = refl
     same_guard (Some x) p = refl
 
@@ -313,8 +320,8 @@ query_twice None h = refl
 query_twice (Some x) h = ap (λ t. Some t) (encoded_twice (λ c. c) settles_as_is x (and_parts (list_all (λ c. is_query_character c || eqb c 37) x) (has_whole_triples x) h).1)
 
 -- components in normal form stay as they are
-components_twice : (c : Components) → are_components c ≡ true → normal (normal c) ≡ normal c
-components_twice c h = each_same (normal (normal c)) (normal c) (scheme_twice c.scheme) (authority_there_twice c.authority t.authority_test) (path_of c.scheme) (query_twice c.query t.query_test) (query_twice c.fragment t.fragment_test)
+components_twice : (c : Components) → are_components c ≡ true → normal_components (normal_components c) ≡ normal_components c
+components_twice c h = each_same (normal_components (normal_components c)) (normal_components c) (scheme_twice c.scheme) (authority_there_twice c.authority t.authority_test) (path_of c.scheme) (query_twice c.query t.query_test) (query_twice c.fragment t.fragment_test)
   where
     t : Tested c
     t = tested c h
@@ -340,7 +347,7 @@ unfolding normal_form
 normal_twice text h =
     let c = components text in
     let valid = components_hold text h in
-    ap (λ d. text_of (normal d)) (components-text_of (normal c) (normal_is_valid c valid)) ∙ ap text_of (components_twice c valid)
+    ap (λ d. text_of (normal_components d)) (components-text_of (normal_components c) (normal_is_valid c valid)) ∙ ap text_of (components_twice c valid)
 
 -- The target of a normal form against the base of texts without a scheme.
 abbrev pub default_components : Components
@@ -361,31 +368,31 @@ pub root_is : remove_dot_segments (normal_text (codes "/")) ≡ codes "/"
 unfolding ref_uri_on_literals
 root_is = refl
 
-merged_is : (path : List ℕ) → merged default_components path ≡ 47 ∷ path
+merged_is : (path : List ℕ) → merged_path default_components path ≡ 47 ∷ path
 merged_is path = refl
 
-target_settles : (a : Option (List ℕ)) (path : List ℕ) (q f : Option (List ℕ)) → has_whole_triples path ≡ true → option_map normal_authority a ≡ a → option_map normal_text q ≡ q → option_map normal_text f ≡ f → normal (the_components (Some (codes "json-schema")) a (guarded a (remove_dot_segments (normal_text path))) q f) ≡ the_components (Some (codes "json-schema")) a (guarded a (remove_dot_segments (normal_text path))) q f
+target_settles : (a : Option (List ℕ)) (path : List ℕ) (q f : Option (List ℕ)) → has_whole_triples path ≡ true → option_map normal_authority a ≡ a → option_map normal_text q ≡ q → option_map normal_text f ≡ f → normal_components (the_components (Some (codes "json-schema")) a (guarded_path a (remove_dot_segments (normal_text path))) q f) ≡ the_components (Some (codes "json-schema")) a (guarded_path a (remove_dot_segments (normal_text path))) q f
 target_settles a path q f whole authority query fragment =
-    each_same (normal (the_components (Some (codes "json-schema")) a (guarded a (remove_dot_segments (normal_text path))) q f)) (the_components (Some (codes "json-schema")) a (guarded a (remove_dot_segments (normal_text path))) q f) (ap (λ x. Some x) scheme_settled) authority (path_again a path whole) query fragment
+    each_same (normal_components (the_components (Some (codes "json-schema")) a (guarded_path a (remove_dot_segments (normal_text path))) q f)) (the_components (Some (codes "json-schema")) a (guarded_path a (remove_dot_segments (normal_text path))) q f) (ap (λ x. Some x) scheme_settled) authority (path_again a path whole) query fragment
 
 -- the path and the query of the one or of the other
 abbrev of_both : Bool → Components → Components → Components
 of_both empty kept behind = record kept { path = cond empty kept.path behind.path; query = cond empty kept.query behind.query }
 
-resolved_settles : (a : Option (List ℕ)) (path : List ℕ) (q f : Option (List ℕ)) → has_whole_triples path ≡ true → option_map normal_authority a ≡ a → option_map normal_text q ≡ q → option_map normal_text f ≡ f → normal (resolved_components default_components (the_components None a (normal_text path) q f)) ≡ resolved_components default_components (the_components None a (normal_text path) q f)
+resolved_settles : (a : Option (List ℕ)) (path : List ℕ) (q f : Option (List ℕ)) → has_whole_triples path ≡ true → option_map normal_authority a ≡ a → option_map normal_text q ≡ q → option_map normal_text f ≡ f → normal_components (resolved_components default_components (the_components None a (normal_text path) q f)) ≡ resolved_components default_components (the_components None a (normal_text path) q f)
 resolved_settles (Some x) path q f whole authority query fragment = target_settles (Some x) path q f whole authority query fragment
 resolved_settles None path q f whole authority query fragment =
     let kept = the_components (Some (codes "json-schema")) (Some []) (codes "/") (query_or q None) f in
     let behind = the_components (Some (codes "json-schema")) (Some []) (target_path default_components (normal_text path)) q f in
-    elim (eqb (length (normal_text path)) 0) as (λ empty. normal (with_guard (of_both empty kept behind)) ≡ with_guard (of_both empty kept behind)) [
+    elim (eqb (length (normal_text path)) 0) as (λ empty. normal_components (with_guard (of_both empty kept behind)) ≡ with_guard (of_both empty kept behind)) [
       | true ↦
-          subst (λ (o : Option (List ℕ)). normal (the_components (Some (codes "json-schema")) (Some []) (codes "/") o f) ≡ the_components (Some (codes "json-schema")) (Some []) (codes "/") o f) (sym (own_query q))
-          (subst (λ (p : List ℕ). normal (the_components (Some (codes "json-schema")) (Some []) p q f) ≡ the_components (Some (codes "json-schema")) (Some []) p q f) root_is (target_settles (Some []) (codes "/") q f refl (ap (λ x. Some x) authority_settled) query fragment))
+          subst (λ (o : Option (List ℕ)). normal_components (the_components (Some (codes "json-schema")) (Some []) (codes "/") o f) ≡ the_components (Some (codes "json-schema")) (Some []) (codes "/") o f) (sym (own_query q))
+          (subst (λ (p : List ℕ). normal_components (the_components (Some (codes "json-schema")) (Some []) p q f) ≡ the_components (Some (codes "json-schema")) (Some []) p q f) root_is (target_settles (Some []) (codes "/") q f refl (ap (λ x. Some x) authority_settled) query fragment))
       | false ↦
-          elim (eqb (get_or (normal_text path) 0 0) 47) as (λ slash. normal (the_components (Some (codes "json-schema")) (Some []) (cond slash (remove_dot_segments (normal_text path)) (remove_dot_segments (merged default_components (normal_text path)))) q f) ≡ the_components (Some (codes "json-schema")) (Some []) (cond slash (remove_dot_segments (normal_text path)) (remove_dot_segments (merged default_components (normal_text path)))) q f) [
+          elim (eqb (get_or (normal_text path) 0 0) 47) as (λ slash. normal_components (the_components (Some (codes "json-schema")) (Some []) (cond slash (remove_dot_segments (normal_text path)) (remove_dot_segments (merged_path default_components (normal_text path)))) q f) ≡ the_components (Some (codes "json-schema")) (Some []) (cond slash (remove_dot_segments (normal_text path)) (remove_dot_segments (merged_path default_components (normal_text path)))) q f) [
             | true ↦ target_settles (Some []) path q f whole (ap (λ x. Some x) authority_settled) query fragment
             | false ↦
-                subst (λ (p : List ℕ). normal (the_components (Some (codes "json-schema")) (Some []) (remove_dot_segments p) q f) ≡ the_components (Some (codes "json-schema")) (Some []) (remove_dot_segments p) q f)
+                subst (λ (p : List ℕ). normal_components (the_components (Some (codes "json-schema")) (Some []) (remove_dot_segments p) q f) ≡ the_components (Some (codes "json-schema")) (Some []) (remove_dot_segments p) q f)
                 (normal_character (λ c. c) 47 path (λ e. absurd (omega arith)) ∙ sym (merged_is (normal_text path)))
                 (target_settles (Some []) (47 ∷ path) q f whole (ap (λ x. Some x) authority_settled) query fragment)
           ]
@@ -398,25 +405,25 @@ resolved_settles None path q f whole authority query fragment =
 default_hold : are_components default_components ≡ true
 default_hold = ap are_components (sym default_is) ∙ components_hold default_base default_is_reference
 
-pub components_of_normal : (text : List ℕ) → is_uri_reference text ≡ true → components (normal_form text) ≡ normal (components text)
+pub components_of_normal : (text : List ℕ) → is_uri_reference text ≡ true → components (normal_form text) ≡ normal_components (components text)
 unfolding normal_form
-components_of_normal text h = components-text_of (normal (components text)) (normal_is_valid (components text) (components_hold text h))
+components_of_normal text h = components-text_of (normal_components (components text)) (normal_is_valid (components text) (components_hold text h))
 
 -- what a text without a scheme means is its own normal form
-pub resolved_normal : (text : List ℕ) → is_uri_reference text ≡ true → is_some (scheme text) ≡ false → normal_form (resolved default_base (normal_form text)) ≡ resolved default_base (normal_form text)
+pub resolved_normal : (text : List ℕ) → is_uri_reference text ≡ true → is_some (scheme text) ≡ false → normal_form (target_text default_base (normal_form text)) ≡ target_text default_base (normal_form text)
 resolved_normal text h none =
     let c = components text in
     let valid = components_hold text h in
     let t = tested c valid in
     let n = the_components None (option_map normal_authority c.authority) (normal_text c.path) (option_map normal_text c.query) (option_map normal_text c.fragment) in
     let absent : c.scheme ≡ None = no_scheme c.scheme none in
-    let normal_is : normal c ≡ n = each_same (normal c) n (ap (option_map (map to_ascii_lowercase)) absent) refl (ap (λ s. normal_path s c.authority c.path) absent) refl refl in
+    let normal_is : normal_components c ≡ n = each_same (normal_components c) n (ap (option_map (map to_ascii_lowercase)) absent) refl (ap (λ s. normal_path s c.authority c.path) absent) refl refl in
     let n_valid : are_components n ≡ true = ap are_components (sym normal_is) ∙ normal_is_valid c valid in
     let target = resolved_components default_components n in
     let target_valid = resolved_is_valid default_components n (codes "json-schema") refl default_hold n_valid in
     let whole : has_whole_triples c.path ≡ true = (and_parts (list_all (λ x. is_path_character x || eqb x 37) c.path) (has_whole_triples c.path) t.path_test).1 in
     let settles = resolved_settles (option_map normal_authority c.authority) c.path (option_map normal_text c.query) (option_map normal_text c.fragment) whole (authority_there_twice c.authority t.authority_test) (query_twice c.query t.query_test) (query_twice c.fragment t.fragment_test) in
-    let is : resolved default_base (normal_form text) ≡ text_of target =
+    let is : target_text default_base (normal_form text) ≡ text_of target =
     sym (resolved_text_of default_components n default_base (normal_form text) (sym default_is) (sym (components_of_normal text h ∙ normal_is))) in
     ap normal_form is ∙ sym (normal_text_of target (text_of target) (sym (components-text_of target target_valid))) ∙ ap text_of settles ∙ sym is
   where
@@ -425,18 +432,18 @@ resolved_normal text h none =
     no_scheme (Some x) k = absurd (false≢true (sym k))
 
 -- each answer is its own normal form
-pub parsed_is_normal : (text uri : List ℕ) → parsed text ≡ Ok uri → normal_form uri ≡ uri
+pub parsed_is_normal : (text uri : List ℕ) → uri_of text ≡ Ok uri → normal_form uri ≡ uri
 parsed_is_normal text uri is =
     elim (cases_Bool (is_uri_reference text)) [
       | inr no_reference ↦ absurd (err_is_no_ok (sym (parsed_refused text no_reference) ∙ is))
       | inl h ↦
           elim (cases_Bool (is_some (scheme text))) [
             | inl there ↦ same_answer (normal_form text) (normal_twice text h) (sym (parsed_with_scheme text h there) ∙ is)
-            | inr none ↦ same_answer (resolved default_base (normal_form text)) (resolved_normal text h none) (sym (parsed_without_scheme text h none) ∙ is)
+            | inr none ↦ same_answer (target_text default_base (normal_form text)) (resolved_normal text h none) (sym (parsed_without_scheme text h none) ∙ is)
           ]
     ]
   where
-    err_is_no_ok : ◌≡◌ {A = Result (List ℕ) Refusal} (Err (unparsed text)) (Ok uri) → ⊥
+    err_is_no_ok : ◌≡◌ {A = Result (List ℕ) Refusal} (Err (parse_refusal text)) (Ok uri) → ⊥
     err_is_no_ok e = cc
 
     same_answer : (answer : List ℕ) → normal_form answer ≡ answer → ◌≡◌ {A = Result (List ℕ) Refusal} (Ok answer) (Ok uri) → normal_form uri ≡ uri

@@ -33,7 +33,7 @@ front_of buffer text at len n front long within =
 pub only_segment : (path : List ℕ) → ((i : ℕ) → i < length path → get_or path i 0 ≢ 47) → segments path ≡ path ∷ []
 only_segment path none = slice_split_none (λ c. eqb c 47) path (All-from_get_or (λ c. eqb c 47 ≡ false) path 0 (λ i lt. ne_eqb (get_or path i 0) 47 (none i lt)))
 
--- a character that stands in a text cuts it
+-- a character that is in a text cuts it
 pub cut_at : (text : List ℕ) (len c : ℕ) → len < length text → get_or text len 0 ≡ c → text ≡ take len text ++ c ∷ drop (len + 1) text
 cut_at text len c within is = sym (take-append-drop len text) ∙ ap (λ t. take len text ++ t) (drop_more text len 0 within ∙ ap (λ x. x ∷ drop (len + 1) text) is)
 

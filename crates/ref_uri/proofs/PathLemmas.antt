@@ -7,10 +7,10 @@ use Rattle.std.proofs.lemmas.Bool.Decides.{nat_tests}
 use Rattle.std.proofs.lemmas.List.Folds.{length-prefix_len}
 use Rattle.ref_uri.specs.Authority.{is_authority}
 use Rattle.ref_uri.specs.Reference.{is_uri_reference}
-use Rattle.ref_uri.specs.Components.{are_components, if_there, is_scheme, is_path, is_query, query, fragment, behind, authority_in_front, scheme, authority, path, after_scheme, after_authority, is_path_after, ends_scheme, ends_authority, ends_path, begins_with_slashes}
+use Rattle.ref_uri.specs.Components.{are_components, if_there, is_scheme, is_path, is_query, query, fragment, text_after, authority_in_front, scheme, authority, path, after_scheme, after_authority, is_path_after, ends_scheme, ends_authority, ends_path, begins_with_slashes}
 use Rattle.ref_uri.proofs.EncodedLemmas.{or_true}
 
--- what stands before the first that passes, one element on
+-- what is before the first that passes, one element on
 pub before_first-cons : (p : ℕ → Bool) (c : ℕ) (text : List ℕ) → before_first p (c ∷ text) ≡ cond (p c) [] (c ∷ before_first p text)
 before_first-cons p c text =
     elim (p c) as (λ b. take (cond (not b) (1 + position_or_len p text) 0) (c ∷ text) ≡ cond b [] (c ∷ before_first p text)) [
@@ -32,7 +32,7 @@ get_or_first-cons p c text =
     one_more : (k : ℕ) → get_or (c ∷ text) (1 + k) 0 ≡ get_or text k 0
     one_more k = let e : 1 + k ≡ suc k = omega arith in rw e refl
 
--- a `:` stands in the first segment exactly where it is the first of `:/?#`
+-- a `:` is in the first segment exactly where it is the first of `:/?#`
 pub colon_in_first_segment : (text : List ℕ) → list_any (λ c. eqb c 58) (before_first (λ c. eqb c 47) (before_first ends_path text)) ≡ eqb (get_or text (position_or_len ends_scheme text) 0) 58
 colon_in_first_segment [] = refl
 colon_in_first_segment (c ∷ text) =
@@ -75,7 +75,7 @@ slashes_in_front k text h =
     long (suc zero) (c ∷ text) e = absurd (omega (arith, e))
     long (suc (suc k)) text e = omega arith
 
--- behind an authority the path is empty or begins with `/`
+-- after an authority the path is empty or begins with `/`
 pub path_behind_authority : (text : List ℕ) → ((eqb (length (before_first ends_path (drop (position_or_len ends_authority text) text))) 0) || (eqb (get_or (before_first ends_path (drop (position_or_len ends_authority text) text)) 0 0) 47)) ≡ true
 path_behind_authority [] = refl
 path_behind_authority (c ∷ text) =
@@ -96,7 +96,7 @@ path_behind_authority (c ∷ text) =
     goes_on : (k : ℕ) → (eqb (length (before_first ends_path (drop k text))) 0 || eqb (get_or (before_first ends_path (drop k text)) 0 0) 47) ≡ true → (eqb (length (before_first ends_path (drop (1 + k) (c ∷ text)))) 0 || eqb (get_or (before_first ends_path (drop (1 + k) (c ∷ text))) 0 0) 47) ≡ true
     goes_on k h = let e : 1 + k ≡ suc k = omega arith in rw e h
 
--- behind `//` no scheme's `:` comes first
+-- after `//` no scheme's `:` comes first
 pub slashes_come_first : (text : List ℕ) → begins_with_slashes text ≡ true → eqb (get_or text (position_or_len ends_scheme text) 0) 58 ≡ false
 slashes_come_first [] h = absurd (false≢true h)
 slashes_come_first (c ∷ text) h =
@@ -105,8 +105,8 @@ slashes_come_first (c ∷ text) h =
     let other : eqb c 58 ≡ false = grind (arith, nat_tests) in
     rw (get_or_first-cons ends_scheme c text, ends, other) refl
 
--- a path and what stands before it, behind a scheme
-path_of_rest : (s : Option (List ℕ)) (rest : List ℕ) → is_path_after s (authority_in_front rest) (before_first ends_path (behind (option_map length (authority_in_front rest)) 2 rest)) ≡ (is_some s || (begins_with_slashes rest || not (list_any (λ c. eqb c 58) (before_first (λ c. eqb c 47) (before_first ends_path rest)))))
+-- a path and what is before it, after a scheme
+path_of_rest : (s : Option (List ℕ)) (rest : List ℕ) → is_path_after s (authority_in_front rest) (before_first ends_path (text_after (option_map length (authority_in_front rest)) 2 rest)) ≡ (is_some s || (begins_with_slashes rest || not (list_any (λ c. eqb c 58) (before_first (λ c. eqb c 47) (before_first ends_path rest)))))
 path_of_rest s rest = elim (cases_Bool (begins_with_slashes rest)) [ inl slashes ↦ with_authority s slashes | inr no_slashes ↦ without s no_slashes ]
   where
     two_more : (k : ℕ) → drop (k + 2) rest ≡ drop k (drop 2 rest)
@@ -117,10 +117,10 @@ path_of_rest s rest = elim (cases_Bool (begins_with_slashes rest)) [ inl slashes
         let same : drop (length (before_first ends_authority (drop 2 rest)) + 2) rest ≡ drop (position_or_len ends_authority (drop 2 rest)) (drop 2 rest) = rw length-prefix_len (two_more (position_or_len ends_authority (drop 2 rest))) in
         rw same (path_behind_authority (drop 2 rest))
 
-    with_authority : (s : Option (List ℕ)) → begins_with_slashes rest ≡ true → is_path_after s (authority_in_front rest) (before_first ends_path (behind (option_map length (authority_in_front rest)) 2 rest)) ≡ (is_some s || (begins_with_slashes rest || not (list_any (λ c. eqb c 58) (before_first (λ c. eqb c 47) (before_first ends_path rest)))))
+    with_authority : (s : Option (List ℕ)) → begins_with_slashes rest ≡ true → is_path_after s (authority_in_front rest) (before_first ends_path (text_after (option_map length (authority_in_front rest)) 2 rest)) ≡ (is_some s || (begins_with_slashes rest || not (list_any (λ c. eqb c 58) (before_first (λ c. eqb c 47) (before_first ends_path rest)))))
     with_authority s slashes = rw slashes (behind_two s ∙ sym (or_true (is_some s)))
 
-    without : (s : Option (List ℕ)) → begins_with_slashes rest ≡ false → is_path_after s (authority_in_front rest) (before_first ends_path (behind (option_map length (authority_in_front rest)) 2 rest)) ≡ (is_some s || (begins_with_slashes rest || not (list_any (λ c. eqb c 58) (before_first (λ c. eqb c 47) (before_first ends_path rest)))))
+    without : (s : Option (List ℕ)) → begins_with_slashes rest ≡ false → is_path_after s (authority_in_front rest) (before_first ends_path (text_after (option_map length (authority_in_front rest)) 2 rest)) ≡ (is_some s || (begins_with_slashes rest || not (list_any (λ c. eqb c 58) (before_first (λ c. eqb c 47) (before_first ends_path rest)))))
     without None no_slashes = rw (no_slashes, slashes_in_front (position_or_len ends_path rest) rest no_slashes) refl
     without (Some name) no_slashes = rw (no_slashes, slashes_in_front (position_or_len ends_path rest) rest no_slashes) refl
 
@@ -129,7 +129,7 @@ pub path_test : (text : List ℕ) → is_path_after (scheme text) (authority tex
 unfolding authority path after_authority after_scheme
 path_test text = path_of_rest (scheme text) (after_scheme text) ∙ first_colon (scheme text)
   where
-    first_colon : (s : Option (List ℕ)) → (is_some s || (begins_with_slashes (behind (option_map length s) 1 text) || not (list_any (λ c. eqb c 58) (before_first (λ c. eqb c 47) (before_first ends_path (behind (option_map length s) 1 text)))))) ≡ (is_some s || not (eqb (get_or text (position_or_len ends_scheme text) 0) 58))
+    first_colon : (s : Option (List ℕ)) → (is_some s || (begins_with_slashes (text_after (option_map length s) 1 text) || not (list_any (λ c. eqb c 58) (before_first (λ c. eqb c 47) (before_first ends_path (text_after (option_map length s) 1 text)))))) ≡ (is_some s || not (eqb (get_or text (position_or_len ends_scheme text) 0) 58))
     first_colon (Some name) = refl
     first_colon None =
         elim (cases_Bool (begins_with_slashes text)) [

@@ -6,8 +6,8 @@ use Rattle.std.proofs.lemmas.List.{reverse-append, length-append, get_or_at, tak
 use Rattle.std.proofs.lemmas.List.Folds.{list_all-append}
 use Rattle.ref_uri.specs.Characters.{has_whole_triples, is_path_character}
 use Rattle.ref_uri.specs.Components.{is_path, begins_with_slashes}
-use Rattle.ref_uri.specs.DotSegments.{segments, behind_slashes, joined, is_dot_dot, is_dot_segment, first_after, kept_after, remaining, ends_in_dots, without_dots, remove_dot_segments}
-use Rattle.ref_uri.specs.Normal.{guarded}
+use Rattle.ref_uri.specs.DotSegments.{segments, behind_slashes, joined_segments, is_dot_dot, is_dot_segment, first_after, kept_after, remaining_segments, ends_in_dots, without_dots, remove_dot_segments}
+use Rattle.ref_uri.specs.Normal.{guarded_path}
 use Rattle.ref_uri.proofs.EncodedLemmas.{encoded-append}
 use Rattle.ref_uri.proofs.SegmentLemmas.{segments-slash, segments_are_whole, segments_pass}
 use Rattle.ref_uri.specs.Resolution.{through_last_slash}
@@ -23,14 +23,14 @@ pub each_reverse : (P : List ℕ → Type 0) (xs : List (List ℕ)) → AllByRec
 each_reverse P [] h = tt
 each_reverse P (x ∷ xs) h = subst (AllByRecursion P) (sym (reverse-append (x ∷ []) xs)) (each_append P (reverse xs) (x ∷ []) (each_reverse P xs h.1) (h.0, tt))
 
-pub each_remaining : (P : List ℕ → Type 0) → P [] → (first : List ℕ) (kept rest : List (List ℕ)) → AllByRecursion P (first ∷ kept) → AllByRecursion P rest → AllByRecursion P (remaining first kept rest)
+pub each_remaining : (P : List ℕ → Type 0) → P [] → (first : List ℕ) (kept rest : List (List ℕ)) → AllByRecursion P (first ∷ kept) → AllByRecursion P rest → AllByRecursion P (remaining_segments first kept rest)
 each_remaining P root first kept [] h k = (h.0, each_reverse P kept h.1)
 each_remaining P root first kept (s ∷ rest) h k = each_remaining P root (first_after first kept s) (kept_after kept s) rest (each_kept P root first kept s h k.0) k.1
 
 pub each_without_dots : (P : List ℕ → Type 0) → P [] → (parts : List (List ℕ)) → AllByRecursion P parts → AllByRecursion P (without_dots parts)
 each_without_dots P root [] h = tt
 each_without_dots P root (first ∷ rest) h =
-    each_append P (remaining first [] rest) (cond (ends_in_dots rest) ([] ∷ []) []) (each_remaining P root first [] rest (h.0, tt) h.1)
+    each_append P (remaining_segments first [] rest) (cond (ends_in_dots rest) ([] ∷ []) []) (each_remaining P root first [] rest (h.0, tt) h.1)
     (elim (ends_in_dots rest) as (λ b. AllByRecursion P (cond b ([] ∷ []) [])) [ true ↦ (root, tt) | false ↦ tt ])
 
 pub each_drop : (P : List ℕ → Type 0) (n : ℕ) (xs : List (List ℕ)) → AllByRecursion P xs → AllByRecursion P (drop n xs)
@@ -45,7 +45,7 @@ slashes_are_path : (parts : List (List ℕ)) → AllByRecursion (λ s. is_path s
 slashes_are_path [] h = refl
 slashes_are_path (s ∷ parts) h = path-append (47 ∷ []) (s ++ behind_slashes parts) refl (path-append s (behind_slashes parts) h.0 (slashes_are_path parts h.1))
 
-joined_is_path : (parts : List (List ℕ)) → AllByRecursion (λ s. is_path s ≡ true) parts → is_path (joined parts) ≡ true
+joined_is_path : (parts : List (List ℕ)) → AllByRecursion (λ s. is_path s ≡ true) parts → is_path (joined_segments parts) ≡ true
 joined_is_path [] h = refl
 joined_is_path (first ∷ rest) h = path-append first (behind_slashes rest) h.0 (slashes_are_path rest h.1)
 
@@ -65,7 +65,7 @@ removed_is_path path h =
     let parts = drop (prefix_len is_dot_segment (segments path)) (segments path) in
     joined_is_path (without_dots parts) (each_without_dots (λ s. is_path s ≡ true) refl parts (each_drop (λ s. is_path s ≡ true) (prefix_len is_dot_segment (segments path)) (segments path) (segments_are_paths path h)))
 
--- empty, or behind a slash: what may follow an authority
+-- empty, or after a slash: what may follow an authority
 abbrev pub starts_path : List ℕ → Bool
 starts_path path = eqb (length path) 0 || eqb (get_or path 0 0) 47
 
@@ -73,12 +73,12 @@ abbrev pub StartsPath : List ℕ → Type 0
 StartsPath path = starts_path path ≡ true
 
 -- the root stays
-remaining_root : (kept rest : List (List ℕ)) → (xs : List (List ℕ)) × (remaining [] kept rest ≡ [] ∷ xs)
+remaining_root : (kept rest : List (List ℕ)) → (xs : List (List ℕ)) × (remaining_segments [] kept rest ≡ [] ∷ xs)
 remaining_root kept [] = (reverse kept, refl)
 remaining_root kept (s ∷ rest) =
     let same : first_after [] kept s ≡ [] = root_stays kept s in
     let behind = remaining_root (kept_after kept s) rest in
-    (behind.0, ap (λ first. remaining first (kept_after kept s) rest) same ∙ behind.1)
+    (behind.0, ap (λ first. remaining_segments first (kept_after kept s) rest) same ∙ behind.1)
   where
     root_stays : (kept : List (List ℕ)) (s : List ℕ) → first_after [] kept s ≡ []
     root_stays kept s = elim (is_dot_dot s && eqb (length kept) 0) as (λ b. cond {A = List ℕ} b [] [] ≡ []) [ true ↦ refl | false ↦ refl ]
@@ -90,8 +90,8 @@ removed_starts [] h = refl
 removed_starts (c ∷ path) h =
     let slash : c ≡ 47 = eqb-true c 47 (or_right h) in
     let root = remaining_root [] (segments path) in
-    ap (λ parts. starts_path (joined (without_dots (drop (prefix_len is_dot_segment parts) parts)))) (segments-slash c path slash)
-    ∙ ap (λ parts. starts_path (joined (parts ++ cond (ends_in_dots (segments path)) ([] ∷ []) []))) root.1
+    ap (λ parts. starts_path (joined_segments (without_dots (drop (prefix_len is_dot_segment parts) parts)))) (segments-slash c path slash)
+    ∙ ap (λ parts. starts_path (joined_segments (parts ++ cond (ends_in_dots (segments path)) ([] ∷ []) []))) root.1
     ∙ slashes_start (root.0 ++ cond (ends_in_dots (segments path)) ([] ∷ []) [])
   where
     or_right : StartsPath (c ∷ path) → eqb c 47 ≡ true
@@ -106,11 +106,11 @@ removed_starts (c ∷ path) h =
         or_true false = refl
 
 -- a guarded path is a path, and no authority
-pub guarded_is_path : (authority : Option (List ℕ)) (path : List ℕ) → is_path path ≡ true → is_path (guarded authority path) ≡ true
+pub guarded_is_path : (authority : Option (List ℕ)) (path : List ℕ) → is_path path ≡ true → is_path (guarded_path authority path) ≡ true
 guarded_is_path authority path h =
     elim (is_none authority && begins_with_slashes path) as (λ b. is_path (cond b (codes "/." ++ path) path) ≡ true) [ true ↦ path-append (codes "/.") path refl h | false ↦ h ]
 
-pub guarded_has_no_slashes : (path : List ℕ) → begins_with_slashes (guarded None path) ≡ false
+pub guarded_has_no_slashes : (path : List ℕ) → begins_with_slashes (guarded_path None path) ≡ false
 guarded_has_no_slashes path = elim (cases_Bool (begins_with_slashes path)) [ inl slashes ↦ rw slashes refl | inr other ↦ rw other other ]
 
 -- the last slash, if there is one
@@ -142,7 +142,7 @@ through_is text at =
 pub through_is_none : (text : List ℕ) → HasNoSlash text → through_last_slash text ≡ []
 through_is_none text h = through_last_slash_none text (no_slash_at text h)
 
--- a path in front of another
+-- a path before another
 pub through_is_path : (text : List ℕ) → is_path text ≡ true → is_path (through_last_slash text) ≡ true
 through_is_path text h =
     elim (last_slash text) [

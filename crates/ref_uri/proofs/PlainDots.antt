@@ -7,7 +7,7 @@ use Rattle.std.proofs.lemmas.Bool.Decides.{nat_tests}
 use Rattle.std.proofs.lemmas.List.{get_or-append-add, length-append, length-map, drop-map, map-append, reverse-append}
 use Rattle.std.proofs.lemmas.Slice.Eq.{bytes_eq-Decides}
 use Rattle.ref_uri.specs.Characters.{has_whole_triples, is_unreserved}
-use Rattle.ref_uri.specs.DotSegments.{segments, behind_slashes, joined, is_dot, is_dot_dot, is_dot_segment, first_after, kept_after, remaining, ends_in_dots, without_dots, remove_dot_segments}
+use Rattle.ref_uri.specs.DotSegments.{segments, behind_slashes, joined_segments, is_dot, is_dot_dot, is_dot_segment, first_after, kept_after, remaining_segments, ends_in_dots, without_dots, remove_dot_segments}
 use Rattle.ref_uri.specs.Normal.{hex_value, normal_triple, normal_text}
 use Rattle.ref_uri.specs.inner.Removal.{AreNames, IsNoEncodedDot}
 use Rattle.ref_uri.specs.inner.Target.{LacksEncodedDot}
@@ -19,7 +19,7 @@ use Rattle.ref_uri.proofs.SegmentLemmas.{segments-slash, segments-other, segment
 use Rattle.ref_uri.proofs.PathValid.{each_drop, each_without_dots}
 use Rattle.ref_uri.proofs.WrittenLemmas.{written_segments}
 
--- where a triple of a letter stands behind a text
+-- where a triple of a letter is after a text
 dot_behind : (letter : ℕ) (text before after : List ℕ) → text ≡ before ++ 37 ∷ 50 ∷ letter ∷ after → (length before + 2 < length text) × (get_or text (length before) 0 ≡ 37) × (get_or text (length before + 1) 0 ≡ 50) × (get_or text (length before + 2) 0 ≡ letter)
 dot_behind letter text before after e =
     let at : (j : ℕ) → get_or text (length before + j) 0 ≡ get_or (37 ∷ 50 ∷ letter ∷ after) j 0 = λ j. ap (λ t. get_or t (length before + j) 0) e ∙ get_or-append-add before (37 ∷ 50 ∷ letter ∷ after) j 0 in
@@ -173,11 +173,11 @@ kept-map kept s h =
     both false true = refl
     both false false = refl
 
-remaining-map : (first : List ℕ) (kept rest : List (List ℕ)) → AllByRecursion Same rest → remaining (normal_text first) (map normal_text kept) (map normal_text rest) ≡ map normal_text (remaining first kept rest)
+remaining-map : (first : List ℕ) (kept rest : List (List ℕ)) → AllByRecursion Same rest → remaining_segments (normal_text first) (map normal_text kept) (map normal_text rest) ≡ map normal_text (remaining_segments first kept rest)
 remaining-map first kept [] all = ap (λ t. normal_text first ∷ t) (reverse-map kept)
 remaining-map first kept (s ∷ rest) all =
-    ap (λ f. remaining f (kept_after (map normal_text kept) (normal_text s)) (map normal_text rest)) (first-map first kept s all.0)
-    ∙ ap (λ k. remaining (normal_text (first_after first kept s)) k (map normal_text rest)) (kept-map kept s all.0)
+    ap (λ f. remaining_segments f (kept_after (map normal_text kept) (normal_text s)) (map normal_text rest)) (first-map first kept s all.0)
+    ∙ ap (λ k. remaining_segments (normal_text (first_after first kept s)) k (map normal_text rest)) (kept-map kept s all.0)
     ∙ remaining-map (first_after first kept s) (kept_after kept s) rest all.1
 
 ends-map : (parts : List (List ℕ)) → AllByRecursion Same parts → ends_in_dots (map normal_text parts) ≡ ends_in_dots parts
@@ -195,9 +195,9 @@ without-map : (parts : List (List ℕ)) → AllByRecursion Same parts → withou
 without-map [] all = refl
 without-map (first ∷ rest) all =
     ap (λ t. t ++ cond (ends_in_dots (map normal_text rest)) ([] ∷ []) []) (remaining-map first [] rest all.1)
-    ∙ ap (λ b. map normal_text (remaining first [] rest) ++ cond b ([] ∷ []) []) (ends-map rest all.1)
-    ∙ ap (λ t. map normal_text (remaining first [] rest) ++ t) (root (ends_in_dots rest))
-    ∙ sym (map-append normal_text (remaining first [] rest) (cond (ends_in_dots rest) ([] ∷ []) []))
+    ∙ ap (λ b. map normal_text (remaining_segments first [] rest) ++ cond b ([] ∷ []) []) (ends-map rest all.1)
+    ∙ ap (λ t. map normal_text (remaining_segments first [] rest) ++ t) (root (ends_in_dots rest))
+    ∙ sym (map-append normal_text (remaining_segments first [] rest) (cond (ends_in_dots rest) ([] ∷ []) []))
   where
     root : (b : Bool) → cond b ([] ∷ []) [] ≡ map normal_text (cond b ([] ∷ []) [])
     root true = ap (λ t. t ∷ []) (sym (normal_none (λ c. c)))
@@ -210,7 +210,7 @@ slashes-map (s ∷ parts) all =
     ap (λ t. 47 ∷ (normal_text s ++ t)) (slashes-map parts all.1) ∙ ap (λ t. 47 ∷ t) (sym (normal-append s (behind_slashes parts) all.0))
     ∙ sym (normal_character (λ c. c) 47 (s ++ behind_slashes parts) (λ e. absurd (omega (arith, e))))
 
-joined-map : (parts : List (List ℕ)) → AllByRecursion (λ s. has_whole_triples s ≡ true) parts → joined (map normal_text parts) ≡ normal_text (joined parts)
+joined-map : (parts : List (List ℕ)) → AllByRecursion (λ s. has_whole_triples s ≡ true) parts → joined_segments (map normal_text parts) ≡ normal_text (joined_segments parts)
 joined-map [] all = sym (normal_none (λ c. c))
 joined-map (first ∷ rest) all = ap (λ t. normal_text first ++ t) (slashes-map rest all.1) ∙ sym (normal-append first (behind_slashes rest) all.0)
 
@@ -221,10 +221,10 @@ removed_normal path whole stay =
     let parts = segments path in
     let n = prefix_len is_dot_segment parts in
     let all = each_same parts stay in
-    ap (λ xs. joined (without_dots (drop (prefix_len is_dot_segment xs) xs))) (written_segments Normal path whole)
-    ∙ ap (λ k. joined (without_dots (drop k (map normal_text parts)))) (prefix-map parts all)
-    ∙ ap (λ xs. joined (without_dots xs)) (drop-map normal_text n parts)
-    ∙ ap joined (without-map (drop n parts) (each_drop Same n parts all))
+    ap (λ xs. joined_segments (without_dots (drop (prefix_len is_dot_segment xs) xs))) (written_segments Normal path whole)
+    ∙ ap (λ k. joined_segments (without_dots (drop k (map normal_text parts)))) (prefix-map parts all)
+    ∙ ap (λ xs. joined_segments (without_dots xs)) (drop-map normal_text n parts)
+    ∙ ap joined_segments (without-map (drop n parts) (each_drop Same n parts all))
     ∙ joined-map (without_dots (drop n parts)) (each_without_dots (λ s. has_whole_triples s ≡ true) refl (drop n parts) (each_drop (λ s. has_whole_triples s ≡ true) n parts (segments_are_whole path whole)))
 
 -- names stay names in normal form

@@ -4,9 +4,9 @@ use Rattle.std.proofs.lemmas.Bool.{and_parts, and_from, ne_eqb, eq-eqb, false≢
 use Rattle.std.proofs.lemmas.List.{take-append-drop}
 use Rattle.std.proofs.lemmas.List.Folds.{list_all-append}
 use Rattle.std.proofs.lemmas.List.Sums.{AllPass-from_list_all}
-use Rattle.ref_uri.specs.Components.{components, framed, if_there}
+use Rattle.ref_uri.specs.Components.{components, framed_component, if_there}
 use Rattle.ref_uri.specs.DotSegments.{remove_dot_segments}
-use Rattle.ref_uri.specs.Normal.{guarded, normal_text}
+use Rattle.ref_uri.specs.Normal.{guarded_path, normal_text}
 use Rattle.ref_uri.specs.inner.Written.{is_plain}
 use Rattle.ref_uri.specs.inner.Target.{given_path, normal_path_of, written_by, written_components, ArePlain, LosesSameDots, LacksEncodedDot, IsTarget, IsPlainTarget, LacksTriples}
 use Rattle.ref_uri.specs.declared.target.PathOf.{PathOf}
@@ -48,16 +48,16 @@ plain_parts xs ys h = and_parts (is_plain xs) (is_plain ys) (sym (list_all-appen
 pub plain_front : (k : ℕ) (text : List ℕ) → is_plain text ≡ true → is_plain (take k text) ≡ true
 plain_front k text h = (plain_parts (take k text) (drop k text) (ap is_plain (take-append-drop k text) ∙ h)).0
 
-plain_framed : (before after : List ℕ) (o : Option (List ℕ)) → is_plain (framed before o after) ≡ true → if_there is_plain o ≡ true
+plain_framed : (before after : List ℕ) (o : Option (List ℕ)) → is_plain (framed_component before o after) ≡ true → if_there is_plain o ≡ true
 plain_framed before after None h = refl
 plain_framed before after (Some text) h = (plain_parts before text (plain_parts (before ++ text) after h).0).1
 
 pub plain_components : (text : List ℕ) → is_plain text ≡ true → LacksTriples (components text)
 plain_components text h =
     let c = components text in
-    let front = framed [] c.scheme (codes ":") ++ framed (codes "//") c.authority [] in
-    let query = framed (codes "?") c.query [] in
-    let three = plain_parts (((front ++ c.path) ++ query)) (framed (codes "#") c.fragment []) (ap is_plain (text_of-components text) ∙ h) in
+    let front = framed_component [] c.scheme (codes ":") ++ framed_component (codes "//") c.authority [] in
+    let query = framed_component (codes "?") c.query [] in
+    let three = plain_parts (((front ++ c.path) ++ query)) (framed_component (codes "#") c.fragment []) (ap is_plain (text_of-components text) ∙ h) in
     let two = plain_parts (front ++ c.path) query three.0 in
     let one = plain_parts front c.path two.0 in
     record { path = one.1; query = plain_framed (codes "?") [] c.query two.1; fragment = plain_framed (codes "#") [] c.fragment three.1 }
@@ -81,6 +81,6 @@ loses_same (Merged directory path) h = (lacks_dot directory.now h.0, lacks_dot p
 -- the components of a target of such parts, in normal form
 pub plain_written : (t : Target) (path : PathOf) → IsTarget t → IsPlainTarget t → given_path path ≡ normal_path_of t.path → written_by Normal Given (record t { path = path }) ≡ written_components NormalTarget t
 plain_written t path is plain same =
-    each_same (written_by Normal Given (record t { path = path })) (written_components Normal t) refl refl (ap (guarded (option_copied t.authority)) same)
+    each_same (written_by Normal Given (record t { path = path })) (written_components Normal t) refl refl (ap (guarded_path (option_copied t.authority)) same)
     (map_given (option_copied t.query) ∙ sym (plain_there (option_copied t.query) plain.query)) (map_given (option_copied t.fragment) ∙ sym (plain_there (option_copied t.fragment) plain.fragment))
     ∙ written_at_once t is (loses_same t.path plain.path)

@@ -23,7 +23,7 @@ part_at xs at n k lt = get_or-take n (drop at xs) k 0 lt ∙ get_or-drop at xs k
 part_long : (xs : List ℕ) (at n : ℕ) → at + n ≤ length xs → length (take n (drop at xs)) ≡ n
 part_long xs at n room = length-take-le n (drop at xs) (omega (arith, length-drop at xs))
 
--- what passes in front, and the run in the part behind it
+-- what passes in front, and the run in the part after it
 pub run_on : (p : ℕ → Bool) (xs : List ℕ) (at n len : ℕ) → at + n ≤ length xs → PassBelow p xs at → len ≡ prefix_len p (take n (drop at xs)) → PassBelow p xs (at + len)
 run_on p xs at n len room below is k lt =
     elim (cases_lt k at) [
@@ -53,7 +53,7 @@ run_is p xs at n len room below is last =
 plain : (class : Class) (c : ℕ) → allows class c ≡ true → eqb c 37 ≡ false
 plain class c is = false_from_ne_true (eqb c 37) (λ percent. false≢true (sym (disallows_percent class) ∙ ap (allows class) (sym (eqb-true c 37 percent)) ∙ is))
 
--- A text of the class, and the run behind it.
+-- A text of the class, and the run after it.
 pub record RunBehind (class : Class) (text : List ℕ) (end : ℕ) : Type 0 where
   pub within : end ≤ length text
   pub encoded : is_encoded (allows class) (take end text) ≡ true
@@ -72,7 +72,7 @@ run_behind class text i n within encoded is =
           subst (λ (c : ℕ). allows class c ≡ false) (ap (λ k. get_or run k 0) (sym is) ∙ get_or-drop i text n 0) (prefix_len_stops (allows class) run 0 (omega (arith, is, lt, length-drop i text)));
     }
 
--- where no character that is allowed stands in front, and no triple
+-- where no character that is allowed comes first, and no triple
 pub none_begins : (p : ℕ → Bool) (text : List ℕ) → (0 < length text → p (get_or text 0 0) ≡ false) → begins_with_triple text ≡ false → begins_encoded p text ≡ false
 none_begins p [] stops none = refl
 none_begins p (c ∷ text) stops none = or_from (p c) (begins_with_triple (c ∷ text)) (stops (omega arith)) none

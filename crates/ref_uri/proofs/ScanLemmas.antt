@@ -130,7 +130,7 @@ position-drop p t k le =
     at : k + position_or_len p (drop k t) < length t → p (get_or t (k + position_or_len p (drop k t)) 0) ≡ true
     at lt = subst (λ (c : ℕ). p c ≡ true) (get_or-drop k t (position_or_len p (drop k t)) 0) (passes_at_first p (drop k t) 0 (omega (arith, lt, length-drop k t)))
 
--- the part behind a place inside it
+-- the part after a place inside it
 pub before_first-drop : (p : ℕ → Bool) (t : List ℕ) (k : ℕ) → k ≤ position_or_len p t → before_first p (drop k t) ≡ drop k (before_first p t)
 before_first-drop p t k le =
     let e : position_or_len p t ≡ k + position_or_len p (drop k t) = position-drop p t k le in

@@ -12,7 +12,7 @@ use Rattle.ref_uri.specs.Characters.{has_whole_triples}
 use Rattle.ref_uri.specs.DotSegments.{segments}
 use Rattle.ref_uri.proofs.Induction.{by_units}
 
--- the segments behind a slash, and behind another character
+-- the segments after a slash, and after another character
 pub segments-slash : (c : ℕ) (path : List ℕ) → c ≡ 47 → segments (c ∷ path) ≡ [] ∷ segments path
 segments-slash c path e = rw (eq-eqb c 47 e) refl
 
@@ -22,7 +22,7 @@ segments-other c path ne = rw (ne_eqb c 47 ne) refl
 hex_is_no_slash : (c : ℕ) → is_ascii_hexdigit c ≡ true → c ≢ 47
 hex_is_no_slash c h = λ e. grind (arith, nat_tests)
 
--- the segments behind a triple
+-- the segments after a triple
 pub segments-triple : (high low : ℕ) (path : List ℕ) → is_ascii_hexdigit high ≡ true → is_ascii_hexdigit low ≡ true → segments (37 ∷ high ∷ low ∷ path) ≡ onto_first 37 (onto_first high (onto_first low (segments path)))
 segments-triple high low path h l =
     ap (onto_first 37) (segments-other high (low ∷ path) (hex_is_no_slash high h) ∙ ap (onto_first high) (segments-other low path (hex_is_no_slash low l)))
@@ -37,7 +37,7 @@ pub each_onto_triple : (P : List ℕ → Type 0) (high low : ℕ) (parts : List 
 each_onto_triple P high low [] alone more h = (alone, tt)
 each_onto_triple P high low (part ∷ parts) alone more h = (more part h.0, h.1)
 
--- whole triples stand in each segment
+-- whole triples are in each segment
 pub segments_are_whole : (path : List ℕ) → has_whole_triples path ≡ true → AllByRecursion (λ s. has_whole_triples s ≡ true) (segments path)
 segments_are_whole =
     by_units (λ t. AllByRecursion (λ s. has_whole_triples s ≡ true) (segments t))
@@ -80,7 +80,7 @@ segments_are_ascii (c ∷ path) h =
           subst (AllByRecursion IsAscii) (sym (segments-other c path other)) (each_onto IsAscii c (segments path) (IsAscii-cons c [] (h 0) IsAscii-nil) (λ s k. IsAscii-cons c s (h 0) k) (segments_are_ascii path rest))
     ]
 
--- no slash stands in a segment
+-- no slash is in a segment
 pub segments_hold_no_slash : (path : List ℕ) → AllByRecursion (λ s. list_all (λ c. not (eqb c 47)) s ≡ true) (segments path)
 segments_hold_no_slash [] = (refl, tt)
 segments_hold_no_slash (c ∷ path) =

@@ -6,14 +6,14 @@ use Rattle.std.proofs.lemmas.Bool.{cases_Bool, eqb-true, and_parts, false≢true
 use Rattle.std.proofs.lemmas.Bool.Decides.{nat_tests}
 use Rattle.std.proofs.lemmas.List.{take-append-drop, take_at, get_or_past}
 use Rattle.std.proofs.lemmas.List.Folds.{length-prefix_len}
-use Rattle.ref_uri.specs.Components.{components, text_of, framed, scheme, authority, path, query, fragment, after_scheme, after_authority, after_path, after_query, authority_in_front, query_in_front, fragment_in_front, behind, begins_with_slashes, ends_scheme, ends_authority, ends_path, ends_query}
+use Rattle.ref_uri.specs.Components.{components, text_of, framed_component, scheme, authority, path, query, fragment, after_scheme, after_authority, after_path, after_query, authority_in_front, query_in_front, fragment_in_front, text_after, begins_with_slashes, ends_scheme, ends_authority, ends_path, ends_query}
 use Rattle.ref_uri.specs.inner.Written.{the_front, the_rest}
 
--- a number that is read stands inside
+-- a number that is read is inside
 reads_inside : (text : List ℕ) (k c : ℕ) → get_or text k 0 ≡ suc c → k < length text
 reads_inside text k c e = elim (cases_lt k (length text)) [ inl lt ↦ lt | inr past ↦ absurd (omega (arith, sym e ∙ get_or_past text k 0 past)) ]
 
--- what stands before a place, what stands there, and what follows
+-- what is before a place, what is there, and what follows
 around : (text : List ℕ) (k c : ℕ) → get_or text k 0 ≡ suc c → take k text ++ (suc c ∷ []) ++ drop (k + 1) text ≡ text
 around text k c e =
     let one_more : k + 1 ≡ suc k = omega arith in
@@ -23,7 +23,7 @@ around text k c e =
     ∙ take-append-drop k text)
 
 -- a scheme and what follows it
-pub scheme_and_rest : (text : List ℕ) → framed [] (scheme text) (codes ":") ++ after_scheme text ≡ text
+pub scheme_and_rest : (text : List ℕ) → framed_component [] (scheme text) (codes ":") ++ after_scheme text ≡ text
 unfolding scheme after_scheme
 scheme_and_rest text =
     elim (cases_Bool (ltb 0 (length (before_first ends_scheme text)) && eqb (get_or text (length (before_first ends_scheme text)) 0) 58)) [
@@ -34,7 +34,7 @@ scheme_and_rest text =
     at_colon : (ltb 0 (length (before_first ends_scheme text)) && eqb (get_or text (length (before_first ends_scheme text)) 0) 58) ≡ true → get_or text (position_or_len ends_scheme text) 0 ≡ 58
     at_colon there = ap (λ k. get_or text k 0) (sym (length-prefix_len (λ c. not (ends_scheme c)) text)) ∙ eqb-true _ _ (and_parts (ltb 0 (length (before_first ends_scheme text))) (eqb (get_or text (length (before_first ends_scheme text)) 0) 58) there).1
 
-pub authority_and_rest : (text : List ℕ) → framed (codes "//") (authority_in_front text) [] ++ behind (option_map length (authority_in_front text)) 2 text ≡ text
+pub authority_and_rest : (text : List ℕ) → framed_component (codes "//") (authority_in_front text) [] ++ text_after (option_map length (authority_in_front text)) 2 text ≡ text
 authority_and_rest text =
     elim (cases_Bool (begins_with_slashes text)) [ inl there ↦ rw there (with_slashes text there) | inr absent ↦ rw absent refl ]
   where
@@ -51,7 +51,7 @@ authority_and_rest text =
         rw (two_more x y (length (before_first ends_authority v)) v, length-prefix_len (λ c. not (ends_authority c)) v, append-nil (before_first ends_authority v), first, second)
         (ap (λ t. 47 ∷ 47 ∷ t) (take-append-drop (position_or_len ends_authority v) v))
 
-pub query_and_rest : (text : List ℕ) → framed (codes "?") (query_in_front text) [] ++ behind (option_map length (query_in_front text)) 1 text ≡ text
+pub query_and_rest : (text : List ℕ) → framed_component (codes "?") (query_in_front text) [] ++ text_after (option_map length (query_in_front text)) 1 text ≡ text
 query_and_rest text =
     elim (cases_Bool (eqb (get_or text 0 0) 63)) [ inl there ↦ rw there (with_mark text there) | inr absent ↦ rw absent refl ]
   where
@@ -65,7 +65,7 @@ query_and_rest text =
         rw (one_more x (length (before_first ends_query v)) v, length-prefix_len (λ c. not (ends_query c)) v, append-nil (before_first ends_query v), first)
         (ap (λ t. 63 ∷ t) (take-append-drop (position_or_len ends_query v) v))
 
--- behind the place where an element first passes, it stands in front
+-- after the place where an element first passes, it comes first
 first_in_front : (p : ℕ → Bool) (text : List ℕ) → (drop (position_or_len p text) text ≡ []) ⊎ (p (get_or (drop (position_or_len p text) text) 0 0) ≡ true)
 first_in_front p [] = inl refl
 first_in_front p (c ∷ text) =
@@ -77,7 +77,7 @@ first_in_front p (c ∷ text) =
     one_more : (k : ℕ) → (drop k text ≡ []) ⊎ (p (get_or (drop k text) 0 0) ≡ true) → (drop (1 + k) (c ∷ text) ≡ []) ⊎ (p (get_or (drop (1 + k) (c ∷ text)) 0 0) ≡ true)
     one_more k h = let e : 1 + k ≡ suc k = omega arith in rw e h
 
-fragment_and_nothing : (text : List ℕ) → (text ≡ []) ⊎ (ends_query (get_or text 0 0) ≡ true) → framed (codes "#") (fragment_in_front text) [] ≡ text
+fragment_and_nothing : (text : List ℕ) → (text ≡ []) ⊎ (ends_query (get_or text 0 0) ≡ true) → framed_component (codes "#") (fragment_in_front text) [] ≡ text
 fragment_and_nothing [] ends = refl
 fragment_and_nothing (c ∷ text) (inl empty) = cc
 fragment_and_nothing (c ∷ text) (inr mark) =
@@ -85,7 +85,7 @@ fragment_and_nothing (c ∷ text) (inr mark) =
     rw mark (rw (first, append-nil text) refl)
 
 -- a query or a fragment, or nothing, follows the path; then a fragment or nothing
-query_then_fragment : (text : List ℕ) → (text ≡ []) ⊎ (ends_path (get_or text 0 0) ≡ true) → (behind (option_map length (query_in_front text)) 1 text ≡ []) ⊎ (ends_query (get_or (behind (option_map length (query_in_front text)) 1 text) 0 0) ≡ true)
+query_then_fragment : (text : List ℕ) → (text ≡ []) ⊎ (ends_path (get_or text 0 0) ≡ true) → (text_after (option_map length (query_in_front text)) 1 text ≡ []) ⊎ (ends_query (get_or (text_after (option_map length (query_in_front text)) 1 text) 0 0) ≡ true)
 query_then_fragment [] ends = inl refl
 query_then_fragment (c ∷ text) (inl empty) = cc
 query_then_fragment (c ∷ text) (inr mark) =
@@ -109,24 +109,24 @@ unfolding authority path query fragment after_authority after_path after_query
 text_of-components text =
     let rest = after_scheme text in
     let one = authority_in_front rest in
-    let two = behind (option_map length one) 2 rest in
+    let two = text_after (option_map length one) 2 rest in
     let three = drop (position_or_len ends_path two) two in
-    let four = behind (option_map length (query_in_front three)) 1 three in
+    let four = text_after (option_map length (query_in_front three)) 1 three in
     let last = fragment_and_nothing four (query_then_fragment three (first_in_front ends_path two)) in
-    regroup (framed [] (scheme text) (codes ":")) (framed (codes "//") one []) (before_first ends_path two) (framed (codes "?") (query_in_front three) []) (framed (codes "#") (fragment_in_front four) [])
-    ∙ ap (λ t. framed [] (scheme text) (codes ":") ++ (framed (codes "//") one [] ++ (before_first ends_path two ++ (framed (codes "?") (query_in_front three) [] ++ t)))) last
-    ∙ ap (λ t. framed [] (scheme text) (codes ":") ++ (framed (codes "//") one [] ++ (before_first ends_path two ++ t))) (query_and_rest three)
-    ∙ ap (λ t. framed [] (scheme text) (codes ":") ++ (framed (codes "//") one [] ++ t)) (take-append-drop (position_or_len ends_path two) two)
-    ∙ ap (λ t. framed [] (scheme text) (codes ":") ++ t) (authority_and_rest rest)
+    regroup (framed_component [] (scheme text) (codes ":")) (framed_component (codes "//") one []) (before_first ends_path two) (framed_component (codes "?") (query_in_front three) []) (framed_component (codes "#") (fragment_in_front four) [])
+    ∙ ap (λ t. framed_component [] (scheme text) (codes ":") ++ (framed_component (codes "//") one [] ++ (before_first ends_path two ++ (framed_component (codes "?") (query_in_front three) [] ++ t)))) last
+    ∙ ap (λ t. framed_component [] (scheme text) (codes ":") ++ (framed_component (codes "//") one [] ++ (before_first ends_path two ++ t))) (query_and_rest three)
+    ∙ ap (λ t. framed_component [] (scheme text) (codes ":") ++ (framed_component (codes "//") one [] ++ t)) (take-append-drop (position_or_len ends_path two) two)
+    ∙ ap (λ t. framed_component [] (scheme text) (codes ":") ++ t) (authority_and_rest rest)
     ∙ scheme_and_rest text
 
--- what stands before the path, and the rest
+-- what is before the path, and the rest
 front_and_after : (text : List ℕ) → the_front (scheme text) (authority text) ++ after_authority text ≡ text
 unfolding authority after_authority
 front_and_after text =
     let rest = after_scheme text in
-    append_assoc (framed [] (scheme text) (codes ":")) (framed (codes "//") (authority_in_front rest) []) (behind (option_map length (authority_in_front rest)) 2 rest)
-    ∙ ap (λ t. framed [] (scheme text) (codes ":") ++ t) (authority_and_rest rest)
+    append_assoc (framed_component [] (scheme text) (codes ":")) (framed_component (codes "//") (authority_in_front rest) []) (text_after (option_map length (authority_in_front rest)) 2 rest)
+    ∙ ap (λ t. framed_component [] (scheme text) (codes ":") ++ t) (authority_and_rest rest)
     ∙ scheme_and_rest text
 
 pub front_taken : (text rest : List ℕ) → rest ≡ after_authority text → (length rest ≤ length text) × (take (length text - length rest) text ≡ the_front (scheme text) (authority text))
@@ -137,12 +137,12 @@ front_taken text rest is =
     let at : length text - length rest ≡ length front = omega (arith, len) in
     (omega (arith, len), ap (λ n. take n text) at ∙ ap (take (length front)) (sym whole) ∙ take_at front rest (length front) refl)
 
--- what stands behind it
+-- what is after it
 pub rest_is : (text rest : List ℕ) → rest ≡ after_path text → rest ≡ the_rest (query text) (fragment text)
 unfolding query fragment after_path after_query
 rest_is text rest is =
     let two = after_authority text in
     let three = drop (position_or_len ends_path two) two in
-    let four = behind (option_map length (query_in_front three)) 1 three in
+    let four = text_after (option_map length (query_in_front three)) 1 three in
     let last = fragment_and_nothing four (query_then_fragment three (first_in_front ends_path two)) in
-    is ∙ sym (ap (λ t. framed (codes "?") (query_in_front three) [] ++ t) last ∙ query_and_rest three)
+    is ∙ sym (ap (λ t. framed_component (codes "?") (query_in_front three) [] ++ t) last ∙ query_and_rest three)

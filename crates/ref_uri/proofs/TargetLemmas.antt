@@ -9,8 +9,8 @@ use Rattle.ref_uri.specs.Characters.{has_whole_triples, is_unreserved}
 use Rattle.ref_uri.specs.Components.{Components, are_components, is_path_after, begins_with_slashes, if_there}
 use Rattle.ref_uri.specs.Resolution.{resolved_components, target_components, target_path, with_guard, query_or}
 use Rattle.ref_uri.specs.DotSegments.{remove_dot_segments}
-use Rattle.ref_uri.specs.Normal.{guarded, normal_path, normal_text, normal_triple, hex_value}
-use Rattle.ref_uri.specs.inner.Written.{the_front, the_rest, written}
+use Rattle.ref_uri.specs.Normal.{guarded_path, normal_path, normal_text, normal_triple, hex_value}
+use Rattle.ref_uri.specs.inner.Written.{the_front, the_rest, written_text}
 use Rattle.ref_uri.specs.declared.written.Form.{Form}
 use Rattle.ref_uri.specs.declared.written.Form.TheVariants.{Given}
 use Rattle.ref_uri.proofs.UniqueLemmas.{Tested, tested}
@@ -72,18 +72,18 @@ no_slashes c t s a =
     not-true (begins_with_slashes c.path) (and_parts (not (begins_with_slashes c.path)) (not (list_any (λ x. eqb x 58) (before_first (λ x. eqb x 47) c.path))) (ap (λ x. is_path_after x None c.path) (sym s) ∙ ap (λ x. is_path_after c.scheme x c.path) (sym a) ∙ t.place_test)).0
 
 -- the path of a reference itself, guarded
-pub own_path : (c : Components) → are_components c ≡ true → (path : List ℕ) → (is_some c.scheme ≡ true → path ≡ remove_dot_segments (normal_text c.path)) → (c.scheme ≡ None → path ≡ normal_text c.path) → guarded c.authority path ≡ normal_path c.scheme c.authority c.path
+pub own_path : (c : Components) → are_components c ≡ true → (path : List ℕ) → (is_some c.scheme ≡ true → path ≡ remove_dot_segments (normal_text c.path)) → (c.scheme ≡ None → path ≡ normal_text c.path) → guarded_path c.authority path ≡ normal_path c.scheme c.authority c.path
 own_path c h path some none = by_scheme c.scheme refl
   where
-    unguarded : (a : Option (List ℕ)) → c.scheme ≡ None → c.authority ≡ a → guarded a (normal_text c.path) ≡ normal_text c.path
+    unguarded : (a : Option (List ℕ)) → c.scheme ≡ None → c.authority ≡ a → guarded_path a (normal_text c.path) ≡ normal_text c.path
     unguarded (Some x) s a = refl
     unguarded None s a =
         let none : begins_with_slashes (normal_text c.path) ≡ false = slashes_in_front c.path (and_parts _ _ (tested c h).path_test).1 ∙ no_slashes c (tested c h) s a in
         rw none refl
 
-    by_scheme : (s : Option (List ℕ)) → c.scheme ≡ s → guarded c.authority path ≡ normal_path s c.authority c.path
-    by_scheme (Some x) is = ap (guarded c.authority) (some (ap is_some is))
-    by_scheme None is = ap (guarded c.authority) (none is) ∙ unguarded c.authority is refl
+    by_scheme : (s : Option (List ℕ)) → c.scheme ≡ s → guarded_path c.authority path ≡ normal_path s c.authority c.path
+    by_scheme (Some x) is = ap (guarded_path c.authority) (some (ap is_some is))
+    by_scheme None is = ap (guarded_path c.authority) (none is) ∙ unguarded c.authority is refl
 
 abbrev pub the_components : Option (List ℕ) → Option (List ℕ) → List ℕ → Option (List ℕ) → Option (List ℕ) → Components
 the_components s a p q f = record { scheme = s; authority = a; path = p; query = q; fragment = f }
@@ -109,21 +109,21 @@ pub target_of_path : (base reference : Components) → reference.scheme ≡ None
 target_of_path base reference s a some = rw (s, a, some) refl
 
 -- the same, guarded
-pub resolved_of_base : (base reference : Components) → reference.scheme ≡ None → reference.authority ≡ None → eqb (length reference.path) 0 ≡ true → resolved_components base reference ≡ the_components base.scheme base.authority (guarded base.authority base.path) (query_or reference.query base.query) reference.fragment
+pub resolved_of_base : (base reference : Components) → reference.scheme ≡ None → reference.authority ≡ None → eqb (length reference.path) 0 ≡ true → resolved_components base reference ≡ the_components base.scheme base.authority (guarded_path base.authority base.path) (query_or reference.query base.query) reference.fragment
 resolved_of_base base reference s a empty = ap with_guard (target_of_base base reference s a empty)
 
-pub resolved_path : (base reference : Components) → reference.scheme ≡ None → reference.authority ≡ None → eqb (length reference.path) 0 ≡ false → resolved_components base reference ≡ the_components base.scheme base.authority (guarded base.authority (target_path base reference.path)) reference.query reference.fragment
+pub resolved_path : (base reference : Components) → reference.scheme ≡ None → reference.authority ≡ None → eqb (length reference.path) 0 ≡ false → resolved_components base reference ≡ the_components base.scheme base.authority (guarded_path base.authority (target_path base reference.path)) reference.query reference.fragment
 resolved_path base reference s a some = ap with_guard (target_of_path base reference s a some)
 
-pub resolved_of_scheme : (base reference : Components) → is_some reference.scheme ≡ true → resolved_components base reference ≡ the_components reference.scheme reference.authority (guarded reference.authority (remove_dot_segments reference.path)) reference.query reference.fragment
+pub resolved_of_scheme : (base reference : Components) → is_some reference.scheme ≡ true → resolved_components base reference ≡ the_components reference.scheme reference.authority (guarded_path reference.authority (remove_dot_segments reference.path)) reference.query reference.fragment
 resolved_of_scheme base reference there =
     let some = some_there reference.scheme there in
-    ap with_guard (target_of_scheme base reference some.0 some.1) ∙ ap (λ s. the_components s reference.authority (guarded reference.authority (remove_dot_segments reference.path)) reference.query reference.fragment) (sym some.1)
+    ap with_guard (target_of_scheme base reference some.0 some.1) ∙ ap (λ s. the_components s reference.authority (guarded_path reference.authority (remove_dot_segments reference.path)) reference.query reference.fragment) (sym some.1)
 
-pub resolved_of_authority : (base reference : Components) → reference.scheme ≡ None → is_some reference.authority ≡ true → resolved_components base reference ≡ the_components base.scheme reference.authority (guarded reference.authority (remove_dot_segments reference.path)) reference.query reference.fragment
+pub resolved_of_authority : (base reference : Components) → reference.scheme ≡ None → is_some reference.authority ≡ true → resolved_components base reference ≡ the_components base.scheme reference.authority (guarded_path reference.authority (remove_dot_segments reference.path)) reference.query reference.fragment
 resolved_of_authority base reference none there =
     let some = some_there reference.authority there in
-    ap with_guard (target_of_authority base reference some.0 none some.1) ∙ ap (λ a. the_components base.scheme a (guarded a (remove_dot_segments reference.path)) reference.query reference.fragment) (sym some.1)
+    ap with_guard (target_of_authority base reference some.0 none some.1) ∙ ap (λ a. the_components base.scheme a (guarded_path a (remove_dot_segments reference.path)) reference.query reference.fragment) (sym some.1)
 
 pub none_there : {X : Type 0} (o : Option (Bor X)) → is_some o ≡ false → option_copied o ≡ None
 none_there None h = refl
@@ -170,12 +170,12 @@ not_there x e = cc
 pub of_that : (P : List ℕ → Type 0) (x y : List ℕ) → P x → Some x ≡ Some y → P y
 of_that P x y h e = subst P (the_same x y e) h
 
--- components that keep their text stand between the same marks
+-- components that keep their text are between the same marks
 pub front_kept : (s a t b : Option (List ℕ)) → t ≡ s → b ≡ a → the_front s a ≡ the_front t b
 front_kept s a t b is are = ap (λ x. the_front x a) (sym is) ∙ ap (the_front t) (sym are)
 
 pub rest_kept : (q f r g : Option (List ℕ)) → r ≡ q → g ≡ f → the_rest q f ≡ the_rest r g
 rest_kept q f r g is are = ap (λ x. the_rest x f) (sym is) ∙ ap (the_rest r) (sym are)
 
-pub component_given : (form : Form) (o : Option (List ℕ)) → form ≡ Given → option_map (written form) o ≡ o
-component_given form o is = ap (λ f. option_map (written f) o) is ∙ map_given o
+pub component_given : (form : Form) (o : Option (List ℕ)) → form ≡ Given → option_map (written_text form) o ≡ o
+component_given form o is = ap (λ f. option_map (written_text f) o) is ∙ map_given o

@@ -8,7 +8,7 @@ use Rattle.std.proofs.lemmas.List.{take_at, drop_at}
 use Rattle.std.proofs.lemmas.List.Folds.{length-prefix_len}
 use Rattle.ref_uri.specs.Characters.{is_encoded, is_scheme_character, is_path_character, is_query_character}
 use Rattle.ref_uri.specs.Authority.{is_authority}
-use Rattle.ref_uri.specs.Components.{Components, components, text_of, framed, are_components, if_there, is_scheme, is_path, is_query, is_path_after, scheme, authority, path, query, fragment, after_scheme, after_authority, after_path, after_query, authority_in_front, query_in_front, fragment_in_front, behind, begins_with_slashes, ends_scheme, ends_authority, ends_path, ends_query}
+use Rattle.ref_uri.specs.Components.{Components, components, text_of, framed_component, are_components, if_there, is_scheme, is_path, is_query, is_path_after, scheme, authority, path, query, fragment, after_scheme, after_authority, after_path, after_query, authority_in_front, query_in_front, fragment_in_front, text_after, begins_with_slashes, ends_scheme, ends_authority, ends_path, ends_query}
 use Rattle.ref_uri.proofs.PathLemmas.{colon_in_first_segment, slashes_come_first}
 use Rattle.ref_uri.proofs.StructureLemmas.{regroup}
 use Rattle.ref_uri.proofs.AuthorityCharacters.{is_authority_character, authority_characters, list_all-wider}
@@ -17,7 +17,7 @@ use Rattle.ref_uri.proofs.AuthorityCharacters.{is_authority_character, authority
 abbrev pub Starts : (ℕ → Bool) → List ℕ → Type 0
 Starts p text = (text ≡ []) ⊎ (p (get_or text 0 0) ≡ true)
 
--- the first that passes stands behind a front in which none does
+-- the first that passes is after a front in which none does
 pub first_behind : (p : ℕ → Bool) (front rest : List ℕ) → list_all (λ c. not (p c)) front ≡ true → Starts p rest → position_or_len p (front ++ rest) ≡ length front
 first_behind p [] [] none starts = refl
 first_behind p [] (c ∷ rest) none (inl empty) = cc
@@ -34,51 +34,51 @@ pub rest_behind : (p : ℕ → Bool) (front rest : List ℕ) → list_all (λ c.
 rest_behind p front rest none starts = ap (λ n. drop n (front ++ rest)) (first_behind p front rest none starts) ∙ drop_at front rest (length front) refl
 
 -- a query and a fragment begin with what ends a path, a fragment with what ends a query
-fragment_starts : (p : ℕ → Bool) (f : Option (List ℕ)) → p 35 ≡ true → Starts p (framed (codes "#") f [])
+fragment_starts : (p : ℕ → Bool) (f : Option (List ℕ)) → p 35 ≡ true → Starts p (framed_component (codes "#") f [])
 fragment_starts p None h = inl refl
 fragment_starts p (Some f) h = inr h
 
-query_starts : (p : ℕ → Bool) (q f : Option (List ℕ)) → p 63 ≡ true → p 35 ≡ true → Starts p (framed (codes "?") q [] ++ framed (codes "#") f [])
+query_starts : (p : ℕ → Bool) (q f : Option (List ℕ)) → p 63 ≡ true → p 35 ≡ true → Starts p (framed_component (codes "?") q [] ++ framed_component (codes "#") f [])
 query_starts p None f h k = fragment_starts p f k
 query_starts p (Some q) f h k = inr h
 
 -- the fragment
-fragment_found : (f : Option (List ℕ)) → fragment_in_front (framed (codes "#") f []) ≡ f
+fragment_found : (f : Option (List ℕ)) → fragment_in_front (framed_component (codes "#") f []) ≡ f
 fragment_found None = refl
 fragment_found (Some f) = ap (λ t. Some t) (append-nil f)
 
 pub encoded_apart : (allowed p : ℕ → Bool) → ((c : ℕ) → (allowed c || eqb c 37) ≡ true → not (p c) ≡ true) → (text : List ℕ) → is_encoded allowed text ≡ true → list_all (λ c. not (p c)) text ≡ true
 encoded_apart allowed p apart text h = list_all-wider (λ c. allowed c || eqb c 37) (λ c. not (p c)) apart text (and_parts _ _ h).0
 
--- the query, and what is left behind it
-query_found : (q f : Option (List ℕ)) → if_there is_query q ≡ true → query_in_front (framed (codes "?") q [] ++ framed (codes "#") f []) ≡ q
+-- the query, and what is left after it
+query_found : (q f : Option (List ℕ)) → if_there is_query q ≡ true → query_in_front (framed_component (codes "?") q [] ++ framed_component (codes "#") f []) ≡ q
 query_found None None h = refl
 query_found None (Some f) h = refl
 query_found (Some q) f h =
-    ap (λ t. Some (before_first ends_query (t ++ framed (codes "#") f []))) (append-nil q)
-    ∙ ap (λ t. Some t) (before_behind ends_query q (framed (codes "#") f []) (encoded_apart is_query_character ends_query (λ c k. grind (arith, nat_tests)) q h) (fragment_starts ends_query f refl))
+    ap (λ t. Some (before_first ends_query (t ++ framed_component (codes "#") f []))) (append-nil q)
+    ∙ ap (λ t. Some t) (before_behind ends_query q (framed_component (codes "#") f []) (encoded_apart is_query_character ends_query (λ c k. grind (arith, nat_tests)) q h) (fragment_starts ends_query f refl))
 
-behind_query : (q f : Option (List ℕ)) → behind (option_map length q) 1 (framed (codes "?") q [] ++ framed (codes "#") f []) ≡ framed (codes "#") f []
+behind_query : (q f : Option (List ℕ)) → text_after (option_map length q) 1 (framed_component (codes "?") q [] ++ framed_component (codes "#") f []) ≡ framed_component (codes "#") f []
 behind_query None f = refl
 behind_query (Some q) f =
     let one : length q + 1 ≡ suc (length q) = omega arith in
-    rw (one, append-nil q) (drop_at q (framed (codes "#") f []) (length q) refl)
+    rw (one, append-nil q) (drop_at q (framed_component (codes "#") f []) (length q) refl)
 
--- the authority, and what is left behind it
-authority_found : (a : Option (List ℕ)) (rest : List ℕ) → if_there is_authority a ≡ true → ((x : List ℕ) → a ≡ Some x → Starts ends_authority rest) → (a ≡ None → begins_with_slashes rest ≡ false) → authority_in_front (framed (codes "//") a [] ++ rest) ≡ a
+-- the authority, and what is left after it
+authority_found : (a : Option (List ℕ)) (rest : List ℕ) → if_there is_authority a ≡ true → ((x : List ℕ) → a ≡ Some x → Starts ends_authority rest) → (a ≡ None → begins_with_slashes rest ≡ false) → authority_in_front (framed_component (codes "//") a [] ++ rest) ≡ a
 authority_found None rest h starts no_slashes = rw (no_slashes refl) refl
 authority_found (Some a) rest h starts no_slashes =
     ap (λ t. Some (before_first ends_authority (t ++ rest))) (append-nil a)
     ∙ ap (λ t. Some t) (before_behind ends_authority a rest (list_all-wider is_authority_character (λ c. not (ends_authority c)) (λ c k. grind (arith, nat_tests)) a (authority_characters a h)) (starts a refl))
 
-behind_authority : (a : Option (List ℕ)) (rest : List ℕ) → behind (option_map length a) 2 (framed (codes "//") a [] ++ rest) ≡ rest
+behind_authority : (a : Option (List ℕ)) (rest : List ℕ) → text_after (option_map length a) 2 (framed_component (codes "//") a [] ++ rest) ≡ rest
 behind_authority None rest = refl
 behind_authority (Some a) rest =
     let two : length a + 2 ≡ suc (suc (length a)) = omega arith in
     rw (two, append-nil a) (drop_at a rest (length a) refl)
 
 -- a path with no `//` in front, and what follows it
-no_slashes_in : (p : List ℕ) (q f : Option (List ℕ)) → begins_with_slashes p ≡ false → begins_with_slashes (p ++ (framed (codes "?") q [] ++ framed (codes "#") f [])) ≡ false
+no_slashes_in : (p : List ℕ) (q f : Option (List ℕ)) → begins_with_slashes p ≡ false → begins_with_slashes (p ++ (framed_component (codes "?") q [] ++ framed_component (codes "#") f [])) ≡ false
 no_slashes_in [] None None h = refl
 no_slashes_in [] None (Some f) h = refl
 no_slashes_in [] (Some q) f h = refl
@@ -87,8 +87,8 @@ no_slashes_in (x ∷ []) None (Some f) h = and_right (eqb x 47) false refl
 no_slashes_in (x ∷ []) (Some q) f h = and_right (eqb x 47) false refl
 no_slashes_in (x ∷ y ∷ p) q f h = h
 
--- behind an authority comes a path that is empty or begins with `/`
-path_starts : (p : List ℕ) (q f : Option (List ℕ)) → (eqb (length p) 0 || eqb (get_or p 0 0) 47) ≡ true → Starts ends_authority (p ++ (framed (codes "?") q [] ++ framed (codes "#") f []))
+-- after an authority comes a path that is empty or begins with `/`
+path_starts : (p : List ℕ) (q f : Option (List ℕ)) → (eqb (length p) 0 || eqb (get_or p 0 0) 47) ≡ true → Starts ends_authority (p ++ (framed_component (codes "?") q [] ++ framed_component (codes "#") f []))
 path_starts [] q f h = query_starts ends_authority q f refl refl
 path_starts (x ∷ p) q f h = inr (slash (or_cases (eqb (length (x ∷ p)) 0) (eqb x 47) h))
   where
@@ -106,8 +106,8 @@ unfolding scheme
 no_scheme_at text other =
     rw (length-prefix_len (λ c. not (ends_scheme c)) text, other, and_right (ltb 0 (position_or_len ends_scheme text)) false refl) refl
 
--- the scheme, and what is left behind it
-scheme_found : (s : Option (List ℕ)) (rest : List ℕ) → if_there is_scheme s ≡ true → (s ≡ None → eqb (get_or rest (position_or_len ends_scheme rest) 0) 58 ≡ false) → scheme (framed [] s (codes ":") ++ rest) ≡ s
+-- the scheme, and what is left after it
+scheme_found : (s : Option (List ℕ)) (rest : List ℕ) → if_there is_scheme s ≡ true → (s ≡ None → eqb (get_or rest (position_or_len ends_scheme rest) 0) 58 ≡ false) → scheme (framed_component [] s (codes ":") ++ rest) ≡ s
 scheme_found None rest h no_colon = no_scheme_at rest (no_colon refl)
 scheme_found (Some []) rest h no_colon = absurd (false≢true h)
 scheme_found (Some (x ∷ name)) rest h no_colon =
@@ -122,7 +122,7 @@ scheme_found (Some (x ∷ name)) rest h no_colon =
     get_or_seam [] c b = refl
     get_or_seam (y ∷ a) c b = get_or_seam a c b
 
-behind_scheme : (s : Option (List ℕ)) (rest : List ℕ) → behind (option_map length s) 1 (framed [] s (codes ":") ++ rest) ≡ rest
+behind_scheme : (s : Option (List ℕ)) (rest : List ℕ) → text_after (option_map length s) 1 (framed_component [] s (codes ":") ++ rest) ≡ rest
 behind_scheme None rest = refl
 behind_scheme (Some s) rest =
     let one : length s + 1 ≡ suc (length s) = omega arith in
@@ -133,17 +133,17 @@ behind_scheme (Some s) rest =
     past (y ∷ a) = past a
 
 -- Each step of the definition, by the step before it.
-after_scheme-step : (text : List ℕ) (s : Option (List ℕ)) → scheme text ≡ s → after_scheme text ≡ behind (option_map length s) 1 text
+after_scheme-step : (text : List ℕ) (s : Option (List ℕ)) → scheme text ≡ s → after_scheme text ≡ text_after (option_map length s) 1 text
 unfolding after_scheme
-after_scheme-step text s is = ap (λ o. behind (option_map length o) 1 text) is
+after_scheme-step text s is = ap (λ o. text_after (option_map length o) 1 text) is
 
 authority-step : (text rest : List ℕ) → after_scheme text ≡ rest → authority text ≡ authority_in_front rest
 unfolding authority
 authority-step text rest is = ap authority_in_front is
 
-after_authority-step : (text rest : List ℕ) (a : Option (List ℕ)) → after_scheme text ≡ rest → authority text ≡ a → after_authority text ≡ behind (option_map length a) 2 rest
+after_authority-step : (text rest : List ℕ) (a : Option (List ℕ)) → after_scheme text ≡ rest → authority text ≡ a → after_authority text ≡ text_after (option_map length a) 2 rest
 unfolding after_authority
-after_authority-step text rest a is has = ap (λ t. behind (option_map length (authority text)) 2 t) is ∙ ap (λ o. behind (option_map length o) 2 rest) has
+after_authority-step text rest a is has = ap (λ t. text_after (option_map length (authority text)) 2 t) is ∙ ap (λ o. text_after (option_map length o) 2 rest) has
 
 path-step : (text rest : List ℕ) → after_authority text ≡ rest → path text ≡ before_first ends_path rest
 unfolding path
@@ -157,9 +157,9 @@ query-step : (text rest : List ℕ) → after_path text ≡ rest → query text 
 unfolding query
 query-step text rest is = ap query_in_front is
 
-after_query-step : (text rest : List ℕ) (q : Option (List ℕ)) → after_path text ≡ rest → query text ≡ q → after_query text ≡ behind (option_map length q) 1 rest
+after_query-step : (text rest : List ℕ) (q : Option (List ℕ)) → after_path text ≡ rest → query text ≡ q → after_query text ≡ text_after (option_map length q) 1 rest
 unfolding after_query
-after_query-step text rest q is has = ap (λ t. behind (option_map length (query text)) 1 t) is ∙ ap (λ o. behind (option_map length o) 1 rest) has
+after_query-step text rest q is has = ap (λ t. text_after (option_map length (query text)) 1 t) is ∙ ap (λ o. text_after (option_map length o) 1 rest) has
 
 fragment-step : (text rest : List ℕ) → after_query text ≡ rest → fragment text ≡ fragment_in_front rest
 unfolding fragment
@@ -186,15 +186,15 @@ tested c h =
 
 -- what follows a scheme, an authority and a path
 abbrev behind_path_of : Components → List ℕ
-behind_path_of c = framed (codes "?") c.query [] ++ framed (codes "#") c.fragment []
+behind_path_of c = framed_component (codes "?") c.query [] ++ framed_component (codes "#") c.fragment []
 
 abbrev behind_scheme_of : Components → List ℕ
-behind_scheme_of c = framed (codes "//") c.authority [] ++ (c.path ++ behind_path_of c)
+behind_scheme_of c = framed_component (codes "//") c.authority [] ++ (c.path ++ behind_path_of c)
 
 path_apart : (p : List ℕ) → is_path p ≡ true → list_all (λ c. not (ends_path c)) p ≡ true
 path_apart p h = encoded_apart is_path_character ends_path (λ c k. grind (arith, nat_tests)) p h
 
--- behind an authority the rest begins with what ends it, and without one it doesn't begin with `//`
+-- after an authority the rest begins with what ends it, and without one it doesn't begin with `//`
 rest_starts : (c : Components) → Tested c → (x : List ℕ) → c.authority ≡ Some x → Starts ends_authority (c.path ++ behind_path_of c)
 rest_starts c t x is = path_starts c.path c.query c.fragment (ap (λ a. is_path_after c.scheme a c.path) (sym is) ∙ t.place_test)
 
@@ -209,8 +209,8 @@ rest_has_no_slashes c t is = no_slashes_in c.path c.query c.fragment (from_place
 no_colon_first : (c : Components) → Tested c → c.scheme ≡ None → eqb (get_or (behind_scheme_of c) (position_or_len ends_scheme (behind_scheme_of c)) 0) 58 ≡ false
 no_colon_first c t none = by_authority c.authority (ap (λ s. is_path_after s c.authority c.path) (sym none) ∙ t.place_test)
   where
-    by_authority : (a : Option (List ℕ)) → is_path_after None a c.path ≡ true → eqb (get_or (framed (codes "//") a [] ++ (c.path ++ behind_path_of c)) (position_or_len ends_scheme (framed (codes "//") a [] ++ (c.path ++ behind_path_of c))) 0) 58 ≡ false
-    by_authority (Some a) h = slashes_come_first (framed (codes "//") (Some a) [] ++ (c.path ++ behind_path_of c)) refl
+    by_authority : (a : Option (List ℕ)) → is_path_after None a c.path ≡ true → eqb (get_or (framed_component (codes "//") a [] ++ (c.path ++ behind_path_of c)) (position_or_len ends_scheme (framed_component (codes "//") a [] ++ (c.path ++ behind_path_of c))) 0) 58 ≡ false
+    by_authority (Some a) h = slashes_come_first (framed_component (codes "//") (Some a) [] ++ (c.path ++ behind_path_of c)) refl
     by_authority None h =
         let apart = not-true (list_any (λ x. eqb x 58) (before_first (λ x. eqb x 47) c.path)) (and_parts (not (begins_with_slashes c.path)) (not (list_any (λ x. eqb x 58) (before_first (λ x. eqb x 47) c.path))) h).1 in
         sym (colon_in_first_segment (c.path ++ behind_path_of c))
@@ -220,16 +220,16 @@ no_colon_first c t none = by_authority c.authority (ap (λ s. is_path_after s c.
 abbrev the_components : Option (List ℕ) → Option (List ℕ) → List ℕ → Option (List ℕ) → Option (List ℕ) → Components
 the_components s a p q f = record { scheme = s; authority = a; path = p; query = q; fragment = f }
 
-regrouped : (c : Components) → text_of c ≡ framed [] c.scheme (codes ":") ++ behind_scheme_of c
-regrouped c = regroup (framed [] c.scheme (codes ":")) (framed (codes "//") c.authority []) c.path (framed (codes "?") c.query []) (framed (codes "#") c.fragment [])
+regrouped : (c : Components) → text_of c ≡ framed_component [] c.scheme (codes ":") ++ behind_scheme_of c
+regrouped c = regroup (framed_component [] c.scheme (codes ":")) (framed_component (codes "//") c.authority []) c.path (framed_component (codes "?") c.query []) (framed_component (codes "#") c.fragment [])
 
 -- components that hold what they may are those of their text
 pub components-text_of : (c : Components) → are_components c ≡ true → components (text_of c) ≡ c
 components-text_of c h =
     let t = tested c h in
-    let text = framed [] c.scheme (codes ":") ++ behind_scheme_of c in
+    let text = framed_component [] c.scheme (codes ":") ++ behind_scheme_of c in
     let rest = c.path ++ behind_path_of c in
-    let last = framed (codes "#") c.fragment [] in
+    let last = framed_component (codes "#") c.fragment [] in
     let s : scheme text ≡ c.scheme = scheme_found c.scheme (behind_scheme_of c) t.scheme_test (no_colon_first c t) in
     let one : after_scheme text ≡ behind_scheme_of c = after_scheme-step text c.scheme s ∙ behind_scheme c.scheme (behind_scheme_of c) in
     let a : authority text ≡ c.authority = authority-step text (behind_scheme_of c) one ∙ authority_found c.authority rest t.authority_test (rest_starts c t) (rest_has_no_slashes c t) in

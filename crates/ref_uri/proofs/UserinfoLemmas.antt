@@ -32,7 +32,7 @@ no_at_is a absent = rw absent refl
 pub host_alone : (a : List ℕ) → is_host_and_port a ≡ true → is_authority a ≡ true
 host_alone a h = no_at_is a (no_at a (host_and_port_characters a h)) ∙ h
 
--- where what stands before the first `@` isn't userinfo, nor all a host and a port, it is no authority
+-- where what is before the first `@` isn't userinfo, nor all a host and a port, it is no authority
 no_authority : (a : List ℕ) → (position_or_len (λ x. eqb x 64) a < length a → is_encoded is_userinfo_character (take (position_or_len (λ x. eqb x 64) a) a) ≡ false) → is_host_and_port a ≡ false → is_authority a ≡ false
 no_authority a front h =
     let at = position_or_len (λ x. eqb x 64) a in
@@ -87,7 +87,7 @@ userinfo_inside t u lt h mark =
       | inr less ↦ omega arith
     ]
 
--- where it stops at an `@`, the host and the port behind it decide
+-- where it stops at an `@`, the host and the port after it decide
 pub userinfo_taken : (t : List ℕ) (u : ℕ) → u < length t → is_encoded is_userinfo_character (take u t) ≡ true → get_or t u 0 ≡ 64 → is_authority (before_first ends_authority t) ≡ is_host_and_port (before_first ends_authority (drop (u + 1) t))
 userinfo_taken t u lt h mark =
     let end = position_or_len ends_authority t in

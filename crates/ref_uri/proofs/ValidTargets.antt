@@ -8,8 +8,8 @@ use Rattle.ref_uri.specs.Characters.{has_whole_triples, is_unreserved, is_path_c
 use Rattle.ref_uri.specs.Authority.{is_authority}
 use Rattle.ref_uri.specs.Components.{Components, are_components, if_there, is_scheme, is_path, is_query, is_path_after, begins_with_slashes}
 use Rattle.ref_uri.specs.DotSegments.{remove_dot_segments}
-use Rattle.ref_uri.specs.Normal.{guarded, normal, normal_path, normal_text, normal_triple, normal_authority}
-use Rattle.ref_uri.specs.Resolution.{merged, query_or, target_path, with_guard, resolved_components, through_last_slash}
+use Rattle.ref_uri.specs.Normal.{guarded_path, normal_components, normal_path, normal_text, normal_triple, normal_authority}
+use Rattle.ref_uri.specs.Resolution.{merged_path, query_or, target_path, with_guard, resolved_components, through_last_slash}
 use Rattle.ref_uri.proofs.Induction.{by_units}
 use Rattle.ref_uri.proofs.PathLemmas.{before_first-cons}
 use Rattle.ref_uri.proofs.NormalLemmas.{normal_none, normal_character, normal_triple_front}
@@ -24,30 +24,30 @@ pub from_tests : (c : Components) → Tested c → are_components c ≡ true
 unfolding are_components
 from_tests c t = and_from _ _ (and_from _ _ (and_from _ _ (and_from _ _ (and_from _ _ t.scheme_test t.authority_test) t.path_test) t.query_test) t.fragment_test) t.place_test
 
--- where the path of a reference may stand
+-- where the path of a reference may be
 pub place_of : (c : Components) → Tested c → (x : List ℕ) → c.authority ≡ Some x → StartsPath c.path
 place_of c t x is = ap (λ a. is_path_after c.scheme a c.path) (sym is) ∙ t.place_test
 
--- a guarded path may follow a scheme and what stands before it
-guarded_place : (s : List ℕ) (a : Option (List ℕ)) (path : List ℕ) → ((x : List ℕ) → a ≡ Some x → StartsPath path) → is_path_after (Some s) a (guarded a path) ≡ true
+-- a guarded path may follow a scheme and what is before it
+guarded_place : (s : List ℕ) (a : Option (List ℕ)) (path : List ℕ) → ((x : List ℕ) → a ≡ Some x → StartsPath path) → is_path_after (Some s) a (guarded_path a path) ≡ true
 guarded_place s (Some x) path starts = starts x refl
 guarded_place s None path starts = ap not (guarded_has_no_slashes path)
 
 -- a target with a scheme, guarded
-pub valid_target : (s : List ℕ) (a : Option (List ℕ)) (path : List ℕ) (q f : Option (List ℕ)) → is_scheme s ≡ true → if_there is_authority a ≡ true → is_path path ≡ true → if_there is_query q ≡ true → if_there is_query f ≡ true → ((x : List ℕ) → a ≡ Some x → StartsPath path) → are_components (the_components (Some s) a (guarded a path) q f) ≡ true
+pub valid_target : (s : List ℕ) (a : Option (List ℕ)) (path : List ℕ) (q f : Option (List ℕ)) → is_scheme s ≡ true → if_there is_authority a ≡ true → is_path path ≡ true → if_there is_query q ≡ true → if_there is_query f ≡ true → ((x : List ℕ) → a ≡ Some x → StartsPath path) → are_components (the_components (Some s) a (guarded_path a path) q f) ≡ true
 valid_target s a path q f scheme authority is query fragment starts =
-    from_tests (the_components (Some s) a (guarded a path) q f)
+    from_tests (the_components (Some s) a (guarded_path a path) q f)
     (record { scheme_test = scheme; authority_test = authority; path_test = guarded_is_path a path is; query_test = query; fragment_test = fragment; place_test = guarded_place s a path starts })
 
--- a path behind the base's
-merged_is_path : (base : Components) (path : List ℕ) → is_path base.path ≡ true → is_path path ≡ true → is_path (merged base path) ≡ true
+-- a path after the base's
+merged_is_path : (base : Components) (path : List ℕ) → is_path base.path ≡ true → is_path path ≡ true → is_path (merged_path base path) ≡ true
 merged_is_path base path h k =
     elim (is_some base.authority && eqb (length base.path) 0) as (λ b. is_path (cond b (47 ∷ path) (through_last_slash base.path ++ path)) ≡ true) [
       | true ↦ path-append (47 ∷ []) path refl k
       | false ↦ path-append (through_last_slash base.path) path (through_is_path base.path h) k
     ]
 
-merged_starts : (base : Components) (path x : List ℕ) → base.authority ≡ Some x → StartsPath base.path → StartsPath (merged base path)
+merged_starts : (base : Components) (path x : List ℕ) → base.authority ≡ Some x → StartsPath base.path → StartsPath (merged_path base path)
 merged_starts base path x is starts =
     elim (cases_Bool (eqb (length base.path) 0)) [
       | inl empty ↦ rw (is, empty) (or_true (eqb (length (47 ∷ path)) 0))
@@ -61,16 +61,16 @@ merged_starts base path x is starts =
 -- the path of the target of a reference that has one
 target_is_path : (base : Components) (path : List ℕ) → is_path base.path ≡ true → is_path path ≡ true → is_path (target_path base path) ≡ true
 target_is_path base path h k =
-    elim (eqb (get_or path 0 0) 47) as (λ b. is_path (cond b (remove_dot_segments path) (remove_dot_segments (merged base path))) ≡ true) [
+    elim (eqb (get_or path 0 0) 47) as (λ b. is_path (cond b (remove_dot_segments path) (remove_dot_segments (merged_path base path))) ≡ true) [
       | true ↦ removed_is_path path k
-      | false ↦ removed_is_path (merged base path) (merged_is_path base path h k)
+      | false ↦ removed_is_path (merged_path base path) (merged_is_path base path h k)
     ]
 
 target_starts : (base : Components) (path x : List ℕ) → base.authority ≡ Some x → StartsPath base.path → StartsPath (target_path base path)
 target_starts base path x is starts =
     elim (cases_Bool (eqb (get_or path 0 0) 47)) [
       | inl slash ↦ rw slash (removed_starts path (rw slash (or_true (eqb (length path) 0))))
-      | inr other ↦ rw other (removed_starts (merged base path) (merged_starts base path x is starts))
+      | inr other ↦ rw other (removed_starts (merged_path base path) (merged_starts base path x is starts))
     ]
   where
     or_true : (b : Bool) → (b || true) ≡ true
@@ -94,9 +94,9 @@ resolved_is_valid base reference s is h k = by_scheme reference.scheme refl
     base_scheme : is_scheme s ≡ true
     base_scheme = ap (if_there is_scheme) (sym is) ∙ b.scheme_test
 
-    with_base : (a : Option (List ℕ)) (path : List ℕ) (q : Option (List ℕ)) → if_there is_authority a ≡ true → is_path path ≡ true → if_there is_query q ≡ true → ((x : List ℕ) → a ≡ Some x → StartsPath path) → are_components (the_components base.scheme a (guarded a path) q reference.fragment) ≡ true
+    with_base : (a : Option (List ℕ)) (path : List ℕ) (q : Option (List ℕ)) → if_there is_authority a ≡ true → is_path path ≡ true → if_there is_query q ≡ true → ((x : List ℕ) → a ≡ Some x → StartsPath path) → are_components (the_components base.scheme a (guarded_path a path) q reference.fragment) ≡ true
     with_base a path q authority is_path_of query place =
-        subst (λ (o : Option (List ℕ)). are_components (the_components o a (guarded a path) q reference.fragment) ≡ true) (sym is) (valid_target s a path q reference.fragment base_scheme authority is_path_of query r.fragment_test place)
+        subst (λ (o : Option (List ℕ)). are_components (the_components o a (guarded_path a path) q reference.fragment) ≡ true) (sym is) (valid_target s a path q reference.fragment base_scheme authority is_path_of query r.fragment_test place)
 
     of_path : reference.scheme ≡ None → reference.authority ≡ None → (empty : Bool) → eqb (length reference.path) 0 ≡ empty → are_components (resolved_components base reference) ≡ true
     of_path none no_authority true empty =
@@ -168,7 +168,7 @@ normal_starts (c ∷ path) whole h =
     or_true false = refl
 
 -- the normal form of components that hold what they may
-pub normal_is_valid : (c : Components) → are_components c ≡ true → are_components (normal c) ≡ true
+pub normal_is_valid : (c : Components) → are_components c ≡ true → are_components (normal_components c) ≡ true
 normal_is_valid c h = by_scheme c.scheme refl
   where
     t : Tested c
@@ -185,7 +185,7 @@ normal_is_valid c h = by_scheme c.scheme refl
     query_test None k = refl
     query_test (Some x) k = normal_is_query x k
 
-    same_guard : (a : Option (List ℕ)) (path : List ℕ) → guarded a path ≡ guarded (option_map normal_authority a) path
+    same_guard : (a : Option (List ℕ)) (path : List ℕ) → guarded_path a path ≡ guarded_path (option_map normal_authority a) path
     same_guard None path = refl
     same_guard (Some x) path = refl
 

@@ -11,8 +11,8 @@ use Rattle.ref_uri.specs.Characters.{has_whole_triples, is_path_character}
 use Rattle.ref_uri.specs.Components.{Components, components, are_components, text_of, scheme, is_path}
 use Rattle.ref_uri.specs.DotSegments.{segments, remove_dot_segments}
 use Rattle.ref_uri.specs.inner.Lengths.{IsParsedUri}
-use Rattle.ref_uri.specs.Normal.{guarded, normal, normal_text, normal_form}
-use Rattle.ref_uri.specs.Resolution.{resolved, resolved_components}
+use Rattle.ref_uri.specs.Normal.{guarded_path, normal_components, normal_text, normal_form}
+use Rattle.ref_uri.specs.Resolution.{target_text, resolved_components}
 use Rattle.ref_uri.specs.inner.Target.{given_path, written_path, written_components, lengths_of_components, AreParts, LosesSameDots, IsTarget}
 use Rattle.ref_uri.proofs.EncodedLemmas.{whole-append, encoded-append}
 use Rattle.ref_uri.proofs.NormalTargets.{normal_parts_are}
@@ -45,9 +45,9 @@ path_at_once (Merged directory path) h same =
 
 -- the components of a target that is written at once
 pub written_at_once : (t : Target) → IsTarget t → LosesSameDots t.path → written_components Normal t ≡ written_components NormalTarget t
-written_at_once t is same = ap (λ (p : List ℕ). record (written_components Normal t) { path = guarded (option_copied t.authority) p }) (path_at_once t.path is.path_test same)
+written_at_once t is same = ap (λ (p : List ℕ). record (written_components Normal t) { path = guarded_path (option_copied t.authority) p }) (path_at_once t.path is.path_test same)
 
--- whole triples stand in a path as it is given
+-- whole triples are in a path as it is given
 pub given_is_whole : (path : PathOf) → AreParts path → has_whole_triples (given_path path) ≡ true
 given_is_whole (Kept path) h = whole_path path.now h
 given_is_whole (OfBase path) h = whole_path path.now h
@@ -59,24 +59,24 @@ pub scheme_there : (b : Components) (base : List ℕ) → b ≡ components base 
 scheme_there b base is there = ap (λ (d : Components). is_some d.scheme) is ∙ there
 
 -- the components of a target against it, in normal form
-pub written_normal : (t : Target) (b r : Components) → is_some b.scheme ≡ true → written_components Given t ≡ resolved_components b r → written_components NormalTarget t ≡ normal (resolved_components b r)
+pub written_normal : (t : Target) (b r : Components) → is_some b.scheme ≡ true → written_components Given t ≡ resolved_components b r → written_components NormalTarget t ≡ normal_components (resolved_components b r)
 written_normal t b r based given =
     let s = option_copied t.scheme in
     let a = option_copied t.authority in
     let q = option_copied t.query in
     let f = option_copied t.fragment in
     let there = ap is_some (sym (map_given s)) ∙ ap (λ (d : Components). is_some d.scheme) given ∙ target_has_scheme b r based in
-    normal_parts_are s a (guarded a (given_path t.path)) (written_path NormalTarget t.path) q f there (sym (guarded_removed a (given_path t.path)))
-    ∙ ap normal (sym (as_given s a (guarded a (given_path t.path)) q f) ∙ given)
+    normal_parts_are s a (guarded_path a (given_path t.path)) (written_path NormalTarget t.path) q f there (sym (guarded_removed a (given_path t.path)))
+    ∙ ap normal_components (sym (as_given s a (guarded_path a (given_path t.path)) q f) ∙ given)
 
 -- the normal form of a target, and that it is a URI
-pub normal_of_target : (b r : Components) (base reference : List ℕ) → b ≡ components base → r ≡ components reference → are_components b ≡ true → are_components r ≡ true → is_some b.scheme ≡ true → text_of (normal (resolved_components b r)) ≡ normal_form (resolved base reference)
+pub normal_of_target : (b r : Components) (base reference : List ℕ) → b ≡ components base → r ≡ components reference → are_components b ≡ true → are_components r ≡ true → is_some b.scheme ≡ true → text_of (normal_components (resolved_components b r)) ≡ normal_form (target_text base reference)
 normal_of_target b r base reference is are h k based =
     let s = some_there b.scheme based in
     let target = resolved_components b r in
     normal_text_of target (text_of target) (sym (components-text_of target (resolved_is_valid b r s.0 s.1 h k))) ∙ ap normal_form (resolved_text_of b r base reference is are)
 
-pub normal_target_uri : (b r : Components) (text : List ℕ) (lengths : Lengths) → are_components b ≡ true → are_components r ≡ true → is_some b.scheme ≡ true → text ≡ text_of (normal (resolved_components b r)) → lengths ≡ lengths_of_components (normal (resolved_components b r)) → IsParsedUri text lengths
+pub normal_target_uri : (b r : Components) (text : List ℕ) (lengths : Lengths) → are_components b ≡ true → are_components r ≡ true → is_some b.scheme ≡ true → text ≡ text_of (normal_components (resolved_components b r)) → lengths ≡ lengths_of_components (normal_components (resolved_components b r)) → IsParsedUri text lengths
 normal_target_uri b r text lengths h k based written long =
     let s = some_there b.scheme based in
     let target = resolved_components b r in

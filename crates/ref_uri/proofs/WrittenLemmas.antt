@@ -14,7 +14,7 @@ use Rattle.ref_uri.specs.DotSegments.{segments}
 use Rattle.ref_uri.proofs.EncodedLemmas.{whole-append}
 use Rattle.ref_uri.proofs.SegmentLemmas.{segments-slash, segments-other, segments-triple, segments-shape, segments-run}
 use Rattle.ref_uri.specs.Normal.{hex_value, normal_triple, normal_encoded, normal_text}
-use Rattle.ref_uri.specs.inner.Written.{written}
+use Rattle.ref_uri.specs.inner.Written.{written_text}
 use Rattle.ref_uri.specs.declared.written.Form.{Form}
 use Rattle.ref_uri.specs.declared.written.Form.TheVariants.{Given, Normal, NormalTarget}
 use Rattle.ref_uri.proofs.NormalLemmas.{normal_character, normal_triple_front, normal_none}
@@ -42,7 +42,7 @@ normal_ascii fold keeps =
     (λ c t ne whole rest ascii. rw (normal_character fold c t ne) (IsAscii-cons (fold c) (normal_encoded fold t) (keeps c (ascii 0)) (rest (IsAscii-drop (c ∷ t) 1 ascii))))
     (λ high low t h l whole rest ascii. rw (normal_triple_front fold high low t h l) (IsAscii-append (normal_triple fold high low) (normal_encoded fold t) (triple_ascii fold keeps high low h l) (rest (IsAscii-drop (37 ∷ high ∷ low ∷ t) 3 ascii))))
 
-pub written_ascii : (form : Form) (text : List ℕ) → has_whole_triples text ≡ true → IsAscii text → IsAscii (written form text)
+pub written_ascii : (form : Form) (text : List ℕ) → has_whole_triples text ≡ true → IsAscii text → IsAscii (written_text form text)
 written_ascii Given text h ascii = ascii
 written_ascii Normal text h ascii = normal_ascii (λ c. c) (λ c lt. lt) text h ascii
 written_ascii NormalTarget text h ascii = normal_ascii (λ c. c) (λ c lt. lt) text h ascii
@@ -88,7 +88,7 @@ normal_passes fold keeps p q character unreserved percent hex =
     rw (normal_triple_front fold high low t h l)
     (list_all-append q (normal_triple fold high low) (normal_encoded fold t) ∙ and_from (list_all q (normal_triple fold high low)) (list_all q (normal_encoded fold t)) (triple_passes fold keeps q unreserved percent hex high low h l) (rest behind.1)))
 
--- whole triples stand in a text in normal form
+-- whole triples are in a text in normal form
 pub normal_is_whole : (fold : ℕ → ℕ) → Keeps fold → (text : List ℕ) → has_whole_triples text ≡ true → has_whole_triples (normal_encoded fold text) ≡ true
 normal_is_whole fold keeps =
     by_units (λ t. has_whole_triples (normal_encoded fold t) ≡ true)
@@ -172,7 +172,7 @@ normal_segments path whole =
         ∙ ap (map normal_text) (sym (segments-triple high low t h l))
 
 -- the segments of a path that is written are those of the path, written
-pub written_segments : (form : Form) (path : List ℕ) → has_whole_triples path ≡ true → segments (written form path) ≡ map (written form) (segments path)
+pub written_segments : (form : Form) (path : List ℕ) → has_whole_triples path ≡ true → segments (written_text form path) ≡ map (written_text form) (segments path)
 written_segments Given path whole = sym (map-id (segments path))
 written_segments Normal path whole = normal_segments path whole
 written_segments NormalTarget path whole = normal_segments path whole

@@ -4,9 +4,9 @@ use Rattle.ref_uri.specs.declared.lengths.Lengths.{Lengths}
 use Rattle.ref_uri.specs.Components.{Components, components, are_components, text_of, scheme}
 use Rattle.ref_uri.specs.inner.Lengths.{IsParsed, IsParsedUri}
 use Rattle.ref_uri.specs.Reference.{is_uri_reference}
-use Rattle.ref_uri.specs.Normal.{normal, normal_form}
+use Rattle.ref_uri.specs.Normal.{normal_components, normal_form}
 use Rattle.std.specs.Option.{option_or}
-use Rattle.ref_uri.specs.Resolution.{resolved, resolved_components}
+use Rattle.ref_uri.specs.Resolution.{target_text, resolved_components}
 use Rattle.ref_uri.proofs.TargetLemmas.{some_there}
 use Rattle.ref_uri.specs.inner.Target.{lengths_of_components}
 use Rattle.std.specs.Result.{IfOk}
@@ -39,13 +39,13 @@ unfolding is_uri_reference
 components_hold text h = h
 
 -- the text of the normal form
-pub normal_text_of : (c : Components) (text : List ℕ) → c ≡ components text → text_of (normal c) ≡ normal_form text
+pub normal_text_of : (c : Components) (text : List ℕ) → c ≡ components text → text_of (normal_components c) ≡ normal_form text
 unfolding normal_form
-normal_text_of c text is = ap (λ d. text_of (normal d)) is
+normal_text_of c text is = ap (λ d. text_of (normal_components d)) is
 
 -- the text of the target
-pub resolved_text_of : (b r : Components) (base reference : List ℕ) → b ≡ components base → r ≡ components reference → text_of (resolved_components b r) ≡ resolved base reference
-unfolding resolved
+pub resolved_text_of : (b r : Components) (base reference : List ℕ) → b ≡ components base → r ≡ components reference → text_of (resolved_components b r) ≡ target_text base reference
+unfolding target_text
 resolved_text_of b r base reference is are = ap (λ d. text_of (resolved_components d r)) is ∙ ap (λ d. text_of (resolved_components (components base) d)) are
 
 -- a target has a scheme
@@ -63,18 +63,18 @@ resolved_uri base reference text lengths scheme h k is long =
     written_uri (resolved_components base reference) text lengths (resolved_is_valid base reference there.0 there.1 h k) (target_has_scheme base reference scheme) is long
 
 -- a normal form, written
-pub normal_parsed : (c : Components) (text : List ℕ) (lengths : Lengths) → are_components c ≡ true → text ≡ text_of (normal c) → lengths ≡ lengths_of_components (normal c) → IsParsed text lengths
-normal_parsed c text lengths h is long = written_parsed (normal c) text lengths (normal_is_valid c h) is long
+pub normal_parsed : (c : Components) (text : List ℕ) (lengths : Lengths) → are_components c ≡ true → text ≡ text_of (normal_components c) → lengths ≡ lengths_of_components (normal_components c) → IsParsed text lengths
+normal_parsed c text lengths h is long = written_parsed (normal_components c) text lengths (normal_is_valid c h) is long
 
 -- a normal form has a scheme where what it is of has one
-pub normal_scheme : (c : Components) (text : List ℕ) → are_components c ≡ true → text ≡ text_of (normal c) → is_some (scheme text) ≡ is_some c.scheme
-normal_scheme c text h is = ap is_some (written_scheme_is (normal c) text (normal_is_valid c h) is) ∙ mapped c.scheme
+pub normal_scheme : (c : Components) (text : List ℕ) → are_components c ≡ true → text ≡ text_of (normal_components c) → is_some (scheme text) ≡ is_some c.scheme
+normal_scheme c text h is = ap is_some (written_scheme_is (normal_components c) text (normal_is_valid c h) is) ∙ mapped c.scheme
   where
     mapped : (o : Option (List ℕ)) → is_some (option_map (map to_ascii_lowercase) o) ≡ is_some o
     mapped None = refl
     mapped (Some x) = refl
 
--- two facts on what a call answers
+-- two facts on what a call returns
 pub both_if_ok : {X E : Type 0} (r : Result X E) (P Q : X → Type 0) → IfOk r P → IfOk r Q → IfOk r (λ x. P x × Q x)
 both_if_ok (Ok x) P Q h k = (h, k)
 both_if_ok (Err e) P Q h k = tt

@@ -5,7 +5,7 @@ use Rattle.std.specs.Option.{option_map_or}
 use Rattle.std.specs.Char.{is_ascii_digit, is_ascii_hexdigit}
 use Rattle.ref_uri.specs.Characters.{is_one_of, is_encoded, is_name_character, is_userinfo_character}
 
--- what stands before the first such character, where there is one
+-- what is before the first such character, where there is one
 abbrev pub part_before : ℕ → List ℕ → Option (List ℕ)
 part_before c text = if list_any (λ x. x == c) text then Some (before_first (λ x. x == c) text) else None
 
@@ -13,7 +13,7 @@ part_before c text = if list_any (λ x. x == c) text then Some (before_first (λ
 abbrev pub part_after : ℕ → List ℕ → List ℕ
 part_after c text = if list_any (λ x. x == c) text then after_first (λ x. x == c) text else text
 
--- what stands before the `@` (3.2.1)
+-- what is before the `@` (3.2.1)
 abbrev pub userinfo : List ℕ → Option (List ℕ)
 userinfo authority = part_before 64 authority
 
@@ -39,11 +39,11 @@ port_part authority = drop (host_len (host_and_port authority)) (host_and_port a
 abbrev pub is_address_character : ℕ → Bool
 is_address_character c = is_ascii_hexdigit c || is_one_of (codes ":.") c
 
--- a run of them that isn't empty: which of them are IPv6 addresses is not told (3.2.2)
+-- a run of them that isn't empty: which of them are IPv6 addresses is not said (3.2.2)
 abbrev pub is_address : List ℕ → Bool
 is_address text = nat_lt 0 (length text) && list_all is_address_character text
 
--- hex digits, `.`, and unreserved, sub-delims or `:`, each at least once (IPvFuture behind its `v`, 3.2.2)
+-- hex digits, `.`, and unreserved, sub-delims or `:`, each at least once (IPvFuture after its `v`, 3.2.2)
 abbrev pub is_version_and_address : List ℕ → Bool
 is_version_and_address text =
     nat_lt 0 (length (before_first (λ c. c == 46) text)) && nat_lt 0 (length (after_first (λ c. c == 46) text))
@@ -59,7 +59,7 @@ is_future_address (v ∷ rest) = ((v == 118) || (v == 86)) && is_version_and_add
 abbrev pub is_either_address : List ℕ → Bool
 is_either_address text = is_address text || is_future_address text
 
--- The first `]` ends the text, and an address stands before it.
+-- The first `]` ends the text, and an address is before it.
 abbrev pub is_address_and_bracket : List ℕ → Bool
 is_address_and_bracket text =
     (position_or_len (λ c. c == 93) text + 1 == length text) && is_either_address (before_first (λ c. c == 93) text)

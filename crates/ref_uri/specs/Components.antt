@@ -15,15 +15,15 @@ pub record Components : Type 0 where
   pub fragment : Option (List ℕ)
 
 -- a component between two marks, or nothing where it is absent
-abbrev pub framed : List ℕ → Option (List ℕ) → List ℕ → List ℕ
-framed before None after = []
-framed before (Some component) after = before ++ component ++ after
+abbrev pub framed_component : List ℕ → Option (List ℕ) → List ℕ → List ℕ
+framed_component before None after = []
+framed_component before (Some component) after = before ++ component ++ after
 
 -- the text that components make (5.3)
 abbrev pub text_of : Components → List ℕ
 text_of c =
-    framed [] c.scheme (codes ":") ++ framed (codes "//") c.authority [] ++ c.path ++ framed (codes "?") c.query []
-    ++ framed (codes "#") c.fragment []
+    framed_component [] c.scheme (codes ":") ++ framed_component (codes "//") c.authority [] ++ c.path ++ framed_component (codes "?") c.query []
+    ++ framed_component (codes "#") c.fragment []
 
 -- what ends a scheme
 abbrev pub ends_scheme : ℕ → Bool
@@ -41,25 +41,25 @@ ends_path c = is_one_of (codes "?#") c
 abbrev pub ends_query : ℕ → Bool
 ends_query c = c == 35
 
--- what stands before the first of `:/?#`, where that is a `:` and something stands before it
+-- what is before the first of `:/?#`, where that is a `:` and something is before it
 unfoldable pub scheme : List ℕ → Option (List ℕ)
 scheme text =
     let name = before_first ends_scheme text in
     if nat_lt 0 (length name) && (slice_index text (length name) == 58) then Some name else None
 
 -- what follows a component of this length and its marks, if it is there
-abbrev pub behind : Option ℕ → ℕ → List ℕ → List ℕ
-behind component marks text = option_map_or (λ len. drop (len + marks) text) component text
+abbrev pub text_after : Option ℕ → ℕ → List ℕ → List ℕ
+text_after component marks text = option_map_or (λ len. drop (len + marks) text) component text
 
--- the text behind the scheme and its `:`
+-- the text after the scheme and its `:`
 unfoldable pub after_scheme : List ℕ → List ℕ
-after_scheme text = behind (option_map length (scheme text)) 1 text
+after_scheme text = text_after (option_map length (scheme text)) 1 text
 
--- two slashes, behind which an authority stands
+-- two slashes, after which an authority stands
 abbrev pub begins_with_slashes : List ℕ → Bool
 begins_with_slashes text = (slice_index text 0 == 47) && (slice_index text 1 == 47)
 
--- what stands behind `//`, up to the next of `/?#`
+-- what is after `//`, up to the next of `/?#`
 abbrev pub authority_in_front : List ℕ → Option (List ℕ)
 authority_in_front text = if begins_with_slashes text then Some (before_first ends_authority (drop 2 text)) else None
 
@@ -67,19 +67,19 @@ authority_in_front text = if begins_with_slashes text then Some (before_first en
 unfoldable pub authority : List ℕ → Option (List ℕ)
 authority text = authority_in_front (after_scheme text)
 
--- the text behind the authority
+-- the text after the authority
 unfoldable pub after_authority : List ℕ → List ℕ
-after_authority text = behind (option_map length (authority text)) 2 (after_scheme text)
+after_authority text = text_after (option_map length (authority text)) 2 (after_scheme text)
 
 -- up to the next of `?#`
 unfoldable pub path : List ℕ → List ℕ
 path text = before_first ends_path (after_authority text)
 
--- the text behind the path
+-- the text after the path
 unfoldable pub after_path : List ℕ → List ℕ
 after_path text = drop (position_or_len ends_path (after_authority text)) (after_authority text)
 
--- what stands behind `?`, up to `#`
+-- what is after `?`, up to `#`
 abbrev pub query_in_front : List ℕ → Option (List ℕ)
 query_in_front text = if slice_index text 0 == 63 then Some (before_first ends_query (drop 1 text)) else None
 
@@ -87,11 +87,11 @@ query_in_front text = if slice_index text 0 == 63 then Some (before_first ends_q
 unfoldable pub query : List ℕ → Option (List ℕ)
 query text = query_in_front (after_path text)
 
--- the text behind the query
+-- the text after the query
 unfoldable pub after_query : List ℕ → List ℕ
-after_query text = behind (option_map length (query text)) 1 (after_path text)
+after_query text = text_after (option_map length (query text)) 1 (after_path text)
 
--- what stands behind `#`
+-- what is after `#`
 abbrev pub fragment_in_front : List ℕ → Option (List ℕ)
 fragment_in_front text = if slice_index text 0 == 35 then Some (drop 1 text) else None
 
@@ -121,8 +121,8 @@ is_query text = is_encoded is_query_character text
 abbrev pub if_there : (List ℕ → Bool) → Option (List ℕ) → Bool
 if_there test component = option_map_or test component true
 
--- Which path may follow what (3.3): behind an authority it is empty or begins with `/`; with no authority it doesn't begin
--- with `//`; with no scheme either, no `:` stands in its first segment.
+-- Which path may follow what (3.3): after an authority it is empty or begins with `/`; with no authority it doesn't begin
+-- with `//`; with no scheme either, no `:` is in its first segment.
 abbrev pub is_path_after : Option (List ℕ) → Option (List ℕ) → List ℕ → Bool
 is_path_after scheme (Some authority) path = (length path == 0) || (slice_index path 0 == 47)
 is_path_after (Some scheme) None path = not (begins_with_slashes path)

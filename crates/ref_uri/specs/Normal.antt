@@ -3,7 +3,7 @@ use Rattle.std.specs.Prelude.{ℕ, true, false, ◌+◌, ◌*◌, ◌-◌, ◌&&
 use Rattle.std.specs.Char.{to_ascii_lowercase, to_ascii_uppercase}
 use Rattle.ref_uri.specs.Characters.{is_unreserved}
 use Rattle.ref_uri.specs.Authority.{userinfo, host, port_part}
-use Rattle.ref_uri.specs.Components.{Components, components, text_of, framed, begins_with_slashes}
+use Rattle.ref_uri.specs.Components.{Components, components, text_of, framed_component, begins_with_slashes}
 use Rattle.ref_uri.specs.DotSegments.{remove_dot_segments}
 
 -- the value of a hex digit
@@ -41,21 +41,21 @@ normal_port_part part = if length part == 1 then [] else part
 -- an authority in normal form: userinfo, host and port part each (3.2.3 and 6.2.2)
 unfoldable pub normal_authority : List ℕ → List ℕ
 normal_authority authority =
-    framed [] (option_map normal_text (userinfo authority)) (codes "@") ++ normal_host (host authority)
+    framed_component [] (option_map normal_text (userinfo authority)) (codes "@") ++ normal_host (host authority)
     ++ normal_port_part (port_part authority)
 
--- `/.` stands before a path that would be taken for an authority (6.2.2.3 leaves it open; 3.3)
-abbrev pub guarded : Option (List ℕ) → List ℕ → List ℕ
-guarded authority path = if is_none authority && begins_with_slashes path then codes "/." ++ path else path
+-- `/.` is before a path that would be taken for an authority (6.2.2.3 leaves it open; 3.3)
+abbrev pub guarded_path : Option (List ℕ) → List ℕ → List ℕ
+guarded_path authority path = if is_none authority && begins_with_slashes path then codes "/." ++ path else path
 
 -- with a scheme dot segments go too (6.2.2.3); without one they stay
 abbrev pub normal_path : Option (List ℕ) → Option (List ℕ) → List ℕ → List ℕ
 normal_path None authority path = normal_text path
-normal_path (Some scheme) authority path = guarded authority (remove_dot_segments (normal_text path))
+normal_path (Some scheme) authority path = guarded_path authority (remove_dot_segments (normal_text path))
 
 -- component by component
-abbrev pub normal : Components → Components
-normal c =
+abbrev pub normal_components : Components → Components
+normal_components c =
     record {
       scheme = option_map (map to_ascii_lowercase) c.scheme;
       authority = option_map normal_authority c.authority;
@@ -66,4 +66,4 @@ normal c =
 
 -- the normal form of a reference's text
 unfoldable pub normal_form : List ℕ → List ℕ
-normal_form text = text_of (normal (components text))
+normal_form text = text_of (normal_components (components text))

@@ -5,12 +5,12 @@ use Rattle.std.specs.Prelude.{◌≡◌, true, false, [], ◌∷◌, codes, Some
 use Rattle.std.specs.Char.{to_ascii_lowercase}
 use Rattle.ref_uri.specs.Characters.{is_unreserved, is_sub_delim, is_scheme_character, is_name_character, is_userinfo_character, is_segment_character, is_path_character, is_query_character, begins_with_hex_digits, has_whole_triples, is_encoded}
 use Rattle.ref_uri.specs.Authority.{part_before, part_after, userinfo, host_and_port, host_len, host, port_part, is_address_character, is_address, is_version_and_address, is_future_address, is_address_and_bracket, is_bracketed, is_host, is_port_part, is_host_and_port, is_authority}
-use Rattle.ref_uri.specs.Components.{framed, text_of, ends_scheme, ends_authority, ends_path, ends_query, behind, after_scheme, begins_with_slashes, authority_in_front, after_authority, after_path, query_in_front, after_query, fragment_in_front, components, is_scheme, is_path, is_query, if_there, is_path_after, are_components}
+use Rattle.ref_uri.specs.Components.{framed_component, text_of, ends_scheme, ends_authority, ends_path, ends_query, text_after, after_scheme, begins_with_slashes, authority_in_front, after_authority, after_path, query_in_front, after_query, fragment_in_front, components, is_scheme, is_path, is_query, if_there, is_path_after, are_components}
 use Rattle.ref_uri.specs.Reference.{is_uri, IsTextOfComponents, with_fragment}
-use Rattle.ref_uri.specs.DotSegments.{segments, behind_slashes, joined, is_dot, is_dot_dot, is_dot_segment, kept_after, first_after, remaining, ends_in_dots, without_dots}
-use Rattle.ref_uri.specs.Normal.{hex_value, normal_triple, normal_encoded, normal_text, normal_host, normal_port_part, normal_authority, normal_path, normal}
+use Rattle.ref_uri.specs.DotSegments.{segments, behind_slashes, joined_segments, is_dot, is_dot_dot, is_dot_segment, kept_after, first_after, remaining_segments, ends_in_dots, without_dots}
+use Rattle.ref_uri.specs.Normal.{hex_value, normal_triple, normal_encoded, normal_text, normal_host, normal_port_part, normal_authority, normal_path, normal_components}
 use Rattle.ref_uri.specs.Resolution.{target_path, target_components, with_guard, resolved_components}
-use Rattle.ref_uri.specs.Targets.{unparsed, parsed, against, uri_part, fragment_part}
+use Rattle.ref_uri.specs.Targets.{parse_refusal, uri_of, uri_against, uri_part, fragment_part}
 
 -- characters of the parts of a reference (2.2, 2.3, 3.1 to 3.5)
 pub record CharacterRows : Type 0 where
@@ -86,9 +86,9 @@ pub record AuthorityRows : Type 0 where
 
 -- where components begin and end, and what they may hold (3 and Appendix B)
 pub record ComponentRows : Type 0 where
-  pub with_its_mark : framed (codes "//") (Some (codes "a")) [] ≡ codes "//a"
-  pub empty_with_its_mark : framed (codes "?") (Some []) [] ≡ codes "?"
-  pub absent : framed (codes "?") None [] ≡ []
+  pub with_its_mark : framed_component (codes "//") (Some (codes "a")) [] ≡ codes "//a"
+  pub empty_with_its_mark : framed_component (codes "?") (Some []) [] ≡ codes "?"
+  pub absent : framed_component (codes "?") None [] ≡ []
   pub whole_text : text_of (record { scheme = Some (codes "foo"); authority = Some (codes "a"); path = codes "/b"; query = Some (codes "c"); fragment = Some (codes "d") }) ≡ codes "foo://a/b?c#d"
   pub path_alone : text_of (record { scheme = None; authority = None; path = codes "b"; query = None; fragment = None }) ≡ codes "b"
   pub colon_ends_scheme : ends_scheme 58 ≡ true
@@ -99,8 +99,8 @@ pub record ComponentRows : Type 0 where
   pub slash_in_path : ends_path 47 ≡ false
   pub hash_ends_query : ends_query 35 ≡ true
   pub question_in_query : ends_query 63 ≡ false
-  pub behind_three : behind (Some 3) 1 (codes "foo:a") ≡ codes "a"
-  pub behind_none : behind None 1 (codes "foo") ≡ codes "foo"
+  pub behind_three : text_after (Some 3) 1 (codes "foo:a") ≡ codes "a"
+  pub behind_none : text_after None 1 (codes "foo") ≡ codes "foo"
   pub behind_scheme : after_scheme (codes "foo://a/b?c#d") ≡ codes "//a/b?c#d"
   pub behind_no_scheme : after_scheme (codes "/a") ≡ codes "/a"
   pub two_slashes : begins_with_slashes (codes "//a") ≡ true
@@ -146,8 +146,8 @@ pub record SegmentRows : Type 0 where
   pub of_nothing : segments [] ≡ [] ∷ []
   pub with_slashes : behind_slashes (codes "a" ∷ codes "b" ∷ []) ≡ codes "/a/b"
   pub with_no_slash : behind_slashes [] ≡ []
-  pub absolute : joined ([] ∷ codes "a" ∷ []) ≡ codes "/a"
-  pub relative : joined (codes "a" ∷ codes "b" ∷ []) ≡ codes "a/b"
+  pub absolute : joined_segments ([] ∷ codes "a" ∷ []) ≡ codes "/a"
+  pub relative : joined_segments (codes "a" ∷ codes "b" ∷ []) ≡ codes "a/b"
   pub dot : is_dot (codes ".") ≡ true
   pub two_dots : is_dot (codes "..") ≡ false
   pub dot_dot : is_dot_dot (codes "..") ≡ true
@@ -159,8 +159,8 @@ pub record SegmentRows : Type 0 where
   pub one_more : kept_after (codes "a" ∷ []) (codes "b") ≡ codes "b" ∷ codes "a" ∷ []
   pub first_taken_away : first_after (codes "b") [] (codes "..") ≡ []
   pub first_stays : first_after (codes "b") (codes "c" ∷ []) (codes "..") ≡ codes "b"
-  pub from_the_left : remaining (codes "b") [] (codes "c" ∷ codes ".." ∷ codes "d" ∷ []) ≡ codes "b" ∷ codes "d" ∷ []
-  pub past_the_root : remaining [] [] (codes ".." ∷ codes "g" ∷ []) ≡ [] ∷ codes "g" ∷ []
+  pub from_the_left : remaining_segments (codes "b") [] (codes "c" ∷ codes ".." ∷ codes "d" ∷ []) ≡ codes "b" ∷ codes "d" ∷ []
+  pub past_the_root : remaining_segments [] [] (codes ".." ∷ codes "g" ∷ []) ≡ [] ∷ codes "g" ∷ []
   pub dots_at_the_end : ends_in_dots (codes "a" ∷ codes ".." ∷ []) ≡ true
   pub dots_in_front : ends_in_dots (codes ".." ∷ codes "a" ∷ []) ≡ false
   pub slash_at_the_end : without_dots ([] ∷ codes "a" ∷ codes ".." ∷ []) ≡ [] ∷ [] ∷ []
@@ -189,8 +189,8 @@ pub record NormalRows : Type 0 where
   pub authority_stays : normal_authority (codes "a:80") ≡ codes "a:80"
   pub dots_without_scheme : normal_path None None (codes "a/../%7e") ≡ codes "a/../~"
   pub dots_with_scheme : normal_path (Some (codes "a")) None (codes "/.//c") ≡ codes "/.//c"
-  pub by_components : normal (components (codes "HTTP://A:/%7e?%7e#%2f")) ≡ components (codes "http://a/~?~#%2F")
-  pub empty_components : normal (components []) ≡ components []
+  pub by_components : normal_components (components (codes "HTTP://A:/%7e?%7e#%2f")) ≡ components (codes "http://a/~?~#%2F")
+  pub empty_components : normal_components (components []) ≡ components []
 
 -- the five cases of resolution (5.2.2 and 5.2.3)
 pub record ResolutionRows : Type 0 where
@@ -209,18 +209,18 @@ pub record ResolutionRows : Type 0 where
 
 -- what texts mean, alone and against a base
 pub record MeaningRows : Type 0 where
-  pub up : against (codes "http://a/b/c/d;p?q") (codes "../g") ≡ Ok (codes "http://a/b/g")
-  pub past_the_root : against (codes "http://a/b/c/d;p?q") (codes "../../../g") ≡ Ok (codes "http://a/g")
-  pub empty_text : against (codes "http://a/b/c/d;p?q") [] ≡ Ok (codes "http://a/b/c/d;p?q")
-  pub query : against (codes "http://a/b/c/d;p?q") (codes "?y") ≡ Ok (codes "http://a/b/c/d;p?y")
-  pub fragment : against (codes "http://a/b/c/d;p?q") (codes "#s") ≡ Ok (codes "http://a/b/c/d;p?q#s")
-  pub authority : against (codes "http://a/b/c/d;p?q") (codes "//g") ≡ Ok (codes "http://g")
-  pub scheme : against (codes "http://a/b/c/d;p?q") (codes "http:g") ≡ Ok (codes "http:g")
-  pub letters_triples_dots : parsed (codes "HTTP://Ex%41mple.com/%7efoo/./bar/../x%2f") ≡ Ok (codes "http://example.com/~foo/x%2F")
-  pub empty_port : parsed (codes "http://a:/") ≡ Ok (codes "http://a/")
-  pub port_stays : parsed (codes "http://a:80") ≡ Ok (codes "http://a:80")
-  pub scheme_of_digit : parsed (codes "1a:b") ≡ Err (unparsed (codes "1a:b"))
-  pub lone_percent : parsed (codes "%4") ≡ Err (unparsed (codes "%4"))
+  pub up : uri_against (codes "http://a/b/c/d;p?q") (codes "../g") ≡ Ok (codes "http://a/b/g")
+  pub past_the_root : uri_against (codes "http://a/b/c/d;p?q") (codes "../../../g") ≡ Ok (codes "http://a/g")
+  pub empty_text : uri_against (codes "http://a/b/c/d;p?q") [] ≡ Ok (codes "http://a/b/c/d;p?q")
+  pub query : uri_against (codes "http://a/b/c/d;p?q") (codes "?y") ≡ Ok (codes "http://a/b/c/d;p?y")
+  pub fragment : uri_against (codes "http://a/b/c/d;p?q") (codes "#s") ≡ Ok (codes "http://a/b/c/d;p?q#s")
+  pub authority : uri_against (codes "http://a/b/c/d;p?q") (codes "//g") ≡ Ok (codes "http://g")
+  pub scheme : uri_against (codes "http://a/b/c/d;p?q") (codes "http:g") ≡ Ok (codes "http:g")
+  pub letters_triples_dots : uri_of (codes "HTTP://Ex%41mple.com/%7efoo/./bar/../x%2f") ≡ Ok (codes "http://example.com/~foo/x%2F")
+  pub empty_port : uri_of (codes "http://a:/") ≡ Ok (codes "http://a/")
+  pub port_stays : uri_of (codes "http://a:80") ≡ Ok (codes "http://a:80")
+  pub scheme_of_digit : uri_of (codes "1a:b") ≡ Err (parse_refusal (codes "1a:b"))
+  pub lone_percent : uri_of (codes "%4") ≡ Err (parse_refusal (codes "%4"))
   pub before_the_fragment : uri_part (codes "s#/k") ≡ codes "s"
   pub before_the_last_hash : uri_part (codes "a#b#c") ≡ codes "a#b"
   pub without_fragment : uri_part (codes "s") ≡ codes "s"

@@ -4,41 +4,41 @@ use Rattle.std.specs.List.{ends_with, before_last, after_last, list_any}
 use Rattle.ref_uri.specs.Components.{scheme}
 use Rattle.ref_uri.specs.Reference.{is_uri_reference, with_fragment}
 use Rattle.ref_uri.specs.Normal.{normal_form}
-use Rattle.ref_uri.specs.Resolution.{resolved}
+use Rattle.ref_uri.specs.Resolution.{target_text}
 
 -- why a text means no URI
 pub data Refusal : Type 0 where
   -- the text is no URI reference
-  unparsed : List ℕ → Refusal
+  parse_refusal : List ℕ → Refusal
   -- the text, and a base that has no scheme
-  unresolved : List ℕ → List ℕ → Refusal
+  resolve_refusal : List ℕ → List ℕ → Refusal
 
 -- what is displayed
 abbrev pub refusal_text : Refusal → List ℕ
-refusal_text (unparsed text) = codes "Invalid URI reference '" ++ text ++ codes "': not a URI reference of RFC 3986"
-refusal_text (unresolved text base) = codes "Failed to resolve '" ++ text ++ codes "' against '" ++ base ++ codes "': the base has no scheme"
+refusal_text (parse_refusal text) = codes "Invalid URI reference '" ++ text ++ codes "': not a URI reference of RFC 3986"
+refusal_text (resolve_refusal text base) = codes "Failed to resolve '" ++ text ++ codes "' against '" ++ base ++ codes "': the base has no scheme"
 
 -- the base of texts without a scheme
 abbrev pub default_base : List ℕ
 default_base = codes "json-schema:///"
 
 -- the URI that a text means: its normal form, resolved against the default base where it has no scheme
-unfoldable pub parsed : List ℕ → Result (List ℕ) Refusal
-parsed text =
+unfoldable pub uri_of : List ℕ → Result (List ℕ) Refusal
+uri_of text =
     if is_uri_reference text then
-    (if is_some (scheme text) then Ok (normal_form text) else Ok (resolved default_base (normal_form text)))
-    else Err (unparsed text)
+    (if is_some (scheme text) then Ok (normal_form text) else Ok (target_text default_base (normal_form text)))
+    else Err (parse_refusal text)
 
 -- The URI that a text means against a base. A base that ends in the fragment that the text is, is the answer itself; else the
 -- base's fragment takes no part.
-unfoldable pub against : List ℕ → List ℕ → Result (List ℕ) Refusal
-against base text =
+unfoldable pub uri_against : List ℕ → List ℕ → Result (List ℕ) Refusal
+uri_against base text =
     if is_some (scheme base) then
     (if (slice_index text 0 == 35) && ends_with nat_eq base text then Ok base
-    else (if is_uri_reference text then Ok (normal_form (resolved (with_fragment base None) text)) else Err (unparsed text)))
-    else Err (unresolved text base)
+    else (if is_uri_reference text then Ok (normal_form (target_text (with_fragment base None) text)) else Err (parse_refusal text)))
+    else Err (resolve_refusal text base)
 
--- the URI part of a reference that doesn't begin with `#`: what stands before its last `#`
+-- the URI part of a reference that doesn't begin with `#`: what is before its last `#`
 abbrev pub uri_part : List ℕ → List ℕ
 uri_part reference = if list_any (λ c. c == 35) reference then before_last (λ c. c == 35) reference else reference
 
@@ -50,4 +50,4 @@ fragment_part reference =
 
 -- the URI that a reference points into: a reference that begins with `#` points into the base
 abbrev pub target : List ℕ → List ℕ → Result (List ℕ) Refusal
-target base reference = if slice_index reference 0 == 35 then Ok base else against base (uri_part reference)
+target base reference = if slice_index reference 0 == 35 then Ok base else uri_against base (uri_part reference)

@@ -33,7 +33,7 @@ fn digits_len(text: &[u8]) -> usize
     text.iter().take_while(|c| c.is_ascii_digit()).count()
 }
 
-/// How many characters of an IPv6 address stand in front. Which texts of them are one isn't told.
+/// How many characters of an IPv6 address come first. Which texts of them are one isn't said.
 fn address_len(text: &[u8]) -> usize
     ensures value { result ≡ prefix_len is_address_character text.now }
     ensures within { result ≤ length text.now }
@@ -43,7 +43,7 @@ fn address_len(text: &[u8]) -> usize
         .count()
 }
 
-/// How many characters of an address of a later version stand in front.
+/// How many characters of an address of a later version come first.
 fn future_address_len(text: &[u8]) -> usize
     ensures value { result ≡ prefix_len is_userinfo_character text.now }
     ensures within { result ≤ length text.now }
@@ -53,7 +53,7 @@ fn future_address_len(text: &[u8]) -> usize
         .count()
 }
 
-/// How long the part of an address of a later version behind its `v` is: hex digits, `.`, and characters.
+/// How long the part of an address of a later version after its `v` is: hex digits, `.`, and characters.
 fn version_and_address_len(text: &[u8]) -> Option<usize>
     ensures within { IfSome result (λ n. n ≤ length text.now) }
     ensures sound { IfSome result (λ n. is_version_and_address (take n text.now) ≡ true) }
@@ -85,7 +85,7 @@ fn either_address_len(text: &[u8]) -> usize
     }
 }
 
-/// How long an address at the front is with the `]` behind it, where one stands there.
+/// How long an address at the front is with the `]` after it, where one is there.
 fn address_and_bracket_len(text: &[u8]) -> Option<usize>
     ensures within { IfSome result (λ n. n ≤ length text.now) }
     ensures sound { IfSome result (λ n. is_address_and_bracket (take n text.now) ≡ true) }
@@ -116,7 +116,7 @@ fn begins_with_bracket(text: &[u8]) -> bool
     matches!(text, [b'[', ..])
 }
 
-/// How long the name at the front is, with the port behind it.
+/// How long the name at the front is, with the port after it.
 fn name_and_port_len(text: &[u8]) -> usize
     requires { slice_index text.now 0 ≢ 91 }
     ensures within { result ≤ length text.now }
@@ -128,7 +128,7 @@ fn name_and_port_len(text: &[u8]) -> usize
     name + port_len(&text[name..])
 }
 
-/// How long the address in brackets at the front is, with the port behind it.
+/// How long the address in brackets at the front is, with the port after it.
 fn brackets_and_port_len(text: &[u8]) -> Option<usize>
     requires { slice_index text.now 0 ≡ 91 }
     ensures within { IfSome result (λ n. n ≤ length text.now) }
@@ -140,7 +140,7 @@ fn brackets_and_port_len(text: &[u8]) -> Option<usize>
     Some(brackets + port_len(&text[brackets..]))
 }
 
-/// How long the host at the front is, with the port behind it: up to the next of `/?#`. `Syntax` exactly where what stands
+/// How long the host at the front is, with the port after it: up to the next of `/?#`. `Syntax` exactly where what stands
 /// there is none.
 fn host_and_port_len(text: &[u8]) -> Result<usize, ParseError>
     ensures accepted { is_ok result ≡ is_host_and_port (before_first ends_authority text.now) }
@@ -159,7 +159,7 @@ fn host_and_port_len(text: &[u8]) -> Result<usize, ParseError>
     Ok(len)
 }
 
-/// How long the authority at the front is: up to the next of `/?#`. `Syntax` exactly where what stands there is none
+/// How long the authority at the front is: up to the next of `/?#`. `Syntax` exactly where what is there is none
 /// (RFC 3986, 3.2). Where no end follows what was read as a name and a port, it is read on as userinfo.
 pub fn authority_len(text: &[u8]) -> Result<usize, ParseError>
     ensures accepted { is_ok result ≡ is_authority (before_first ends_authority text.now) }

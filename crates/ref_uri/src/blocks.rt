@@ -6,7 +6,7 @@ use std::simd::prelude::*;
 /// How many bytes are looked at together.
 pub const BLOCK: usize = 16;
 
-/// Whether the byte stands in a block.
+/// Whether the byte is in a block.
 #[inline(always)]
 pub fn block_holds(bytes: &[u8], at: usize, byte: u8) -> bool
     requires { at + BLOCK ≤ length bytes.now }
@@ -16,7 +16,7 @@ pub fn block_holds(bytes: &[u8], at: usize, byte: u8) -> bool
     block.simd_eq(u8x16::splat(byte)).to_bitmask() != 0
 }
 
-/// Whether the byte stands in a text.
+/// Whether the byte is in a text.
 #[inline]
 pub fn holds(bytes: &[u8], byte: u8) -> bool
     ensures { IsFalse result → (k : ℕ) → k < length bytes.now → slice_index bytes.now k ≢ byte }

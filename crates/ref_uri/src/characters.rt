@@ -1,4 +1,4 @@
-//! Which characters may stand in which component, and runs of them (RFC 3986, 2 and 3).
+//! Which characters may be in which component, and runs of them (RFC 3986, 2 and 3).
 ghost use Rattle.std.specs.Prelude.{◌≡◌, ◌≤◌, ◌<◌, ◌+◌, ℕ, IsTrue, slice_index, take, drop, length, true, false, is_ok, IfOk, IfErr, ◌==◌};
 ghost use Rattle.std.specs.List.{before_first, position_or_len, prefix_len};
 ghost use Rattle.std.specs.Char.{is_ascii_hexdigit};
@@ -10,7 +10,7 @@ use crate::blocks::BLOCK;
 use crate::error::ParseError;
 use std::simd::prelude::*;
 
-// What a character is, or where it may stand.
+// What a character is, or where it may be.
 const UNRESERVED: u8 = 1;
 
 const SCHEME: u8 = 2;
@@ -106,7 +106,7 @@ pub fn is_hex_digit(c: u8) -> bool
 /// The parts of a reference that hold characters and triples.
 #[derive(Clone, Copy)]
 pub enum Class {
-    /// The first segment of a reference without a scheme, where no `:` may stand.
+    /// The first segment of a reference without a scheme, where no `:` may be.
     FirstSegment,
     Userinfo,
     Name,
@@ -168,7 +168,7 @@ fn is_plain_block(bytes: &[u8], at: usize) -> bool
     (is_neither & block.simd_ne(u8x16::splat(b'_'))).to_bitmask() == 0
 }
 
-/// How many bytes at the front are characters of the class, one looked at behind another.
+/// How many bytes at the front are characters of the class, one looked at after another.
 #[inline(always)]
 fn short_run_len(bytes: &[u8], class: Class) -> usize
     ensures value { result ≡ prefix_len (allows class) bytes.now }

@@ -4,8 +4,8 @@ ghost use Rattle.std.specs.List.{before_last};
 ghost use Rattle.ref_uri.specs.Characters.{has_whole_triples};
 ghost use Rattle.ref_uri.specs.DotSegments.{segments, remove_dot_segments};
 ghost use Rattle.ref_uri.specs.inner.Target.{LacksEncodedDot};
-ghost use Rattle.ref_uri.specs.inner.Written.{written};
-ghost use Rattle.ref_uri.specs.inner.Removal.{segment_of, first_written, first_progress, next_written, next_progress, slash_of, path_then, progress_then, path_after, progress_after, end_of, ended, dots_after, last_taken, AreNames, IsInside, IsNoEncodedDot};
+ghost use Rattle.ref_uri.specs.inner.Written.{written_text};
+ghost use Rattle.ref_uri.specs.inner.Removal.{segment_of, first_written, first_progress, next_written, next_progress, slash_of, path_then, progress_then, path_after, progress_after, end_of, ended_path, dots_after, last_taken, AreNames, IsInside, IsNoEncodedDot};
 
 use crate::blocks::{BLOCK, block_holds};
 use crate::lengths::{head, tail};
@@ -13,21 +13,21 @@ use crate::written::{Form, index_of};
 use std::alloc::AllocError;
 use std::simd::prelude::*;
 
-/// How far a path is written behind a buffer's text.
+/// How far a path is written after a buffer's text.
 #[derive(Clone, Copy)]
 pub enum Progress {
     /// Only dot segments came, and nothing is written.
     Front,
     /// The last segment was no dot segment.
     Within,
-    /// The last segment was a dot segment, behind others: the path ends in a slash if no other comes.
+    /// The last segment was a dot segment, after others: the path ends in a slash if no other comes.
     Dots,
 }
 
 /// What a segment asks of the path.
 #[derive(Clone, Copy)]
 pub enum Segment {
-    /// To stand in it.
+    /// To be in it.
     Name,
     /// `.`: nothing.
     Dot,
@@ -75,7 +75,7 @@ fn block_holds_encoded_dot(bytes: &[u8], at: usize) -> bool
     (percents & twos & letters.simd_eq(u8x16::splat(b'e'))).to_bitmask() != 0
 }
 
-/// Whether a triple of `.` may stand in a text: none does, where this is false.
+/// Whether a triple of `.` may be in a text: none does, where this is false.
 pub fn may_hold_encoded_dot(bytes: &[u8]) -> bool
     ensures { IsFalse result → LacksEncodedDot bytes.now }
 {
@@ -105,7 +105,7 @@ fn segment_of(text: &str) -> Segment
     }
 }
 
-/// Where what stands before the last slash of the path that begins at `start` ends.
+/// Where what is before the last slash of the path that begins at `start` ends.
 fn end_of_rest(bytes: &[u8], start: usize) -> usize
     requires { start ≤ length bytes.now }
     ensures value { take result bytes.now ≡ take start bytes.now ++ before_last (λ c. c == 47) (drop start bytes.now) }
@@ -152,7 +152,7 @@ fn settle_first(buffer: &mut String, end: usize) -> Progress
     }
 }
 
-/// Lets the segment that was appended at `end`, with the slash before it, stand in the path that begins at `start`, or
+/// Lets the segment that was appended at `end`, with the slash before it, stay in the path that begins at `start`, or
 /// takes a dot segment away: then the path is as it asks.
 fn settle_next(buffer: &mut String, start: usize, end: usize) -> Progress
     requires buffer_ascii { IsAscii (string_bytes buffer.old) }
@@ -177,7 +177,7 @@ fn settle_next(buffer: &mut String, start: usize, end: usize) -> Progress
     }
 }
 
-/// Appends the slash in front of a segment, unless the segment is a path's first one.
+/// Appends the slash before a segment, unless the segment is a path's first one.
 fn push_slash(buffer: &mut String, progress: Progress) -> Result<(), AllocError>
     ensures text { OnOk result (string_bytes buffer.new ≡ string_bytes buffer.old ++ slash_of progress) }
     ensures ascii { OnOk result (IsAscii (string_bytes buffer.old) → IsAscii (string_bytes buffer.new)) }
@@ -267,8 +267,8 @@ fn push_normal_segment(
     requires within { start ≤ length (string_bytes buffer.old) }
     requires ascii { IsAscii segment.now }
     requires triples { has_whole_triples segment.now ≡ true }
-    ensures text { (before path : List ℕ) → string_bytes buffer.old ≡ before ++ path → length before ≡ start → OnOk result (string_bytes buffer.new ≡ before ++ path_then progress path (written form segment.now)) }
-    ensures progress { IfOk result (λ p. p ≡ progress_then progress (written form segment.now)) }
+    ensures text { (before path : List ℕ) → string_bytes buffer.old ≡ before ++ path → length before ≡ start → OnOk result (string_bytes buffer.new ≡ before ++ path_then progress path (written_text form segment.now)) }
+    ensures progress { IfOk result (λ p. p ≡ progress_then progress (written_text form segment.now)) }
     ensures ascii { OnOk result (IsAscii (string_bytes buffer.new)) }
     ensures start { OnOk result (start ≤ length (string_bytes buffer.new)) }
 {
@@ -291,8 +291,8 @@ fn push_segment(
     requires within { start ≤ length (string_bytes buffer.old) }
     requires ascii { IsAscii segment.now }
     requires triples { has_whole_triples segment.now ≡ true }
-    ensures text { (before path : List ℕ) → string_bytes buffer.old ≡ before ++ path → length before ≡ start → OnOk result (string_bytes buffer.new ≡ before ++ path_then progress path (written form segment.now)) }
-    ensures progress { IfOk result (λ p. p ≡ progress_then progress (written form segment.now)) }
+    ensures text { (before path : List ℕ) → string_bytes buffer.old ≡ before ++ path → length before ≡ start → OnOk result (string_bytes buffer.new ≡ before ++ path_then progress path (written_text form segment.now)) }
+    ensures progress { IfOk result (λ p. p ≡ progress_then progress (written_text form segment.now)) }
     ensures ascii { OnOk result (IsAscii (string_bytes buffer.new)) }
     ensures start { OnOk result (start ≤ length (string_bytes buffer.new)) }
 {
@@ -327,7 +327,7 @@ fn push_part(
     Ok(settle(buffer, start, progress, end))
 }
 
-/// Writes more segments of the path that begins at `start`, one behind another.
+/// Writes more segments of the path that begins at `start`, one after another.
 fn push_each_segment(
     buffer: &mut String,
     start: usize,
@@ -339,8 +339,8 @@ fn push_each_segment(
     requires within { start ≤ length (string_bytes buffer.old) }
     requires ascii { IsAscii path.now }
     requires triples { has_whole_triples path.now ≡ true }
-    ensures text { (before written_path : List ℕ) → string_bytes buffer.old ≡ before ++ written_path → length before ≡ start → OnOk result (string_bytes buffer.new ≡ before ++ path_after progress written_path (map (written form) (segments path.now))) }
-    ensures progress { IfOk result (λ p. p ≡ progress_after progress (map (written form) (segments path.now))) }
+    ensures text { (before written_path : List ℕ) → string_bytes buffer.old ≡ before ++ written_path → length before ≡ start → OnOk result (string_bytes buffer.new ≡ before ++ path_after progress written_path (map (written_text form) (segments path.now))) }
+    ensures progress { IfOk result (λ p. p ≡ progress_after progress (map (written_text form) (segments path.now))) }
     ensures ascii { OnOk result (IsAscii (string_bytes buffer.new)) }
     ensures start { OnOk result (start ≤ length (string_bytes buffer.new)) }
 {
@@ -355,7 +355,7 @@ fn push_each_segment(
     push_segment(buffer, start, progress, rest, form)
 }
 
-/// Appends a path none of whose segments is a dot segment, behind a slash where other segments precede it.
+/// Appends a path none of whose segments is a dot segment, after a slash where other segments precede it.
 fn push_names(buffer: &mut String, progress: Progress, path: &str) -> Result<Progress, AllocError>
     requires { IsAscii path.now }
     ensures text { OnOk result (string_bytes buffer.new ≡ string_bytes buffer.old ++ (slash_of progress ++ path.now)) }
@@ -367,7 +367,7 @@ fn push_names(buffer: &mut String, progress: Progress, path: &str) -> Result<Pro
     Ok(Progress::Within)
 }
 
-/// Appends a path none of whose segments is a dot segment in normal form, in this form, behind a slash where other segments
+/// Appends a path none of whose segments is a dot segment in normal form, in this form, after a slash where other segments
 /// precede it.
 fn push_normal_names(
     buffer: &mut String,
@@ -377,7 +377,7 @@ fn push_normal_names(
 ) -> Result<Progress, AllocError>
     requires ascii { IsAscii path.now }
     requires triples { has_whole_triples path.now ≡ true }
-    ensures text { OnOk result (string_bytes buffer.new ≡ string_bytes buffer.old ++ (slash_of progress ++ written form path.now)) }
+    ensures text { OnOk result (string_bytes buffer.new ≡ string_bytes buffer.old ++ (slash_of progress ++ written_text form path.now)) }
     ensures progress { IfOk result (λ p. p ≡ Progress.Within) }
     ensures ascii { OnOk result (IsAscii (string_bytes buffer.old) → IsAscii (string_bytes buffer.new)) }
 {
@@ -407,8 +407,8 @@ fn push_segments(
     requires within { start ≤ length (string_bytes buffer.old) }
     requires ascii { IsAscii path.now }
     requires triples { has_whole_triples path.now ≡ true }
-    ensures text { (before written_path : List ℕ) → string_bytes buffer.old ≡ before ++ written_path → length before ≡ start → OnOk result (string_bytes buffer.new ≡ before ++ path_after progress written_path (map (written form) (segments path.now))) }
-    ensures progress { IfOk result (λ p. p ≡ progress_after progress (map (written form) (segments path.now))) }
+    ensures text { (before written_path : List ℕ) → string_bytes buffer.old ≡ before ++ written_path → length before ≡ start → OnOk result (string_bytes buffer.new ≡ before ++ path_after progress written_path (map (written_text form) (segments path.now))) }
+    ensures progress { IfOk result (λ p. p ≡ progress_after progress (map (written_text form) (segments path.now))) }
     ensures ascii { OnOk result (IsAscii (string_bytes buffer.new)) }
     ensures start { OnOk result (start ≤ length (string_bytes buffer.new)) }
 {
@@ -444,7 +444,7 @@ fn push_rest(
     requires within { start ≤ length (string_bytes buffer.old) }
     requires ascii { IsAscii path.now }
     requires triples { has_whole_triples path.now ≡ true }
-    ensures text { (before written_path : List ℕ) → string_bytes buffer.old ≡ before ++ written_path → length before ≡ start → OnOk result (string_bytes buffer.new ≡ before ++ ended progress written_path (map (written form) (segments path.now))) }
+    ensures text { (before written_path : List ℕ) → string_bytes buffer.old ≡ before ++ written_path → length before ≡ start → OnOk result (string_bytes buffer.new ≡ before ++ ended_path progress written_path (map (written_text form) (segments path.now))) }
     ensures ascii { OnOk result (IsAscii (string_bytes buffer.new)) }
 {
     let progress = push_segments(buffer, start, progress, path, form)?;
@@ -456,7 +456,7 @@ pub fn push_without_dots(buffer: &mut String, path: &str, form: Form) -> Result<
     requires buffer_ascii { IsAscii (string_bytes buffer.old) }
     requires ascii { IsAscii path.now }
     requires triples { has_whole_triples path.now ≡ true }
-    ensures text { OnOk result (string_bytes buffer.new ≡ string_bytes buffer.old ++ remove_dot_segments (written form path.now)) }
+    ensures text { OnOk result (string_bytes buffer.new ≡ string_bytes buffer.old ++ remove_dot_segments (written_text form path.now)) }
     ensures ascii { OnOk result (IsAscii (string_bytes buffer.new)) }
 {
     let start = buffer.len();
@@ -475,7 +475,7 @@ pub fn push_merged_without_dots(
     requires directory_triples { has_whole_triples directory.now ≡ true }
     requires ascii { IsAscii path.now }
     requires triples { has_whole_triples path.now ≡ true }
-    ensures text { OnOk result (string_bytes buffer.new ≡ string_bytes buffer.old ++ remove_dot_segments (written form (directory.now ++ 47 ∷ path.now))) }
+    ensures text { OnOk result (string_bytes buffer.new ≡ string_bytes buffer.old ++ remove_dot_segments (written_text form (directory.now ++ 47 ∷ path.now))) }
     ensures ascii { OnOk result (IsAscii (string_bytes buffer.new)) }
 {
     let start = buffer.len();
@@ -484,7 +484,7 @@ pub fn push_merged_without_dots(
     push_rest(buffer, start, progress, path, form.of_parts(path))
 }
 
-/// Writes the path that the buffer's text ends in, from `start` on, once more behind it, without its dot segments.
+/// Writes the path that the buffer's text ends in, from `start` on, once more after it, without its dot segments.
 fn push_again(buffer: &mut String, start: usize) -> Result<(), AllocError>
     requires buffer_ascii { IsAscii (string_bytes buffer.old) }
     requires within { start ≤ length (string_bytes buffer.old) }
@@ -502,7 +502,7 @@ fn push_again(buffer: &mut String, start: usize) -> Result<(), AllocError>
     push_end(buffer, progress)
 }
 
-/// Takes the dot segments from the path that the buffer's text ends in, from `start` on: what is left is written behind the
+/// Takes the dot segments from the path that the buffer's text ends in, from `start` on: what is left is written after the
 /// path, which then goes.
 pub fn remove_dots(buffer: &mut String, start: usize) -> Result<(), AllocError>
     requires buffer_ascii { IsAscii (string_bytes buffer.old) }

@@ -139,7 +139,7 @@ impl From<AllocError> for ResolveFault {
 /// Why a text means no URI.
 #[derive(Debug, PartialEq, Eq, Drop)]
 pub enum UriError {
-    /// The text is no URI reference, or, where `is_reference` is false, no URI. No call here answers the latter.
+    /// The text is no URI reference, or, where `is_reference` is false, no URI. No call here returns the latter.
     Parse {
         /// The text, as it was handed in.
         uri: String,

@@ -2,7 +2,7 @@
 ghost use Rattle.std.specs.Prelude.{◌≡◌, ◌↔◌, Ok, List, [], ℕ, Some, None, true, false, codes};
 ghost use Rattle.ref_uri.specs.Components.{Components, components, text_of, are_components, scheme, authority, path, query, fragment};
 ghost use Rattle.ref_uri.specs.Normal.{normal_form};
-ghost use Rattle.ref_uri.specs.Targets.{Refusal, refusal_text, parsed};
+ghost use Rattle.ref_uri.specs.Targets.{Refusal, refusal_text, uri_of};
 ghost use Rattle.ref_uri.specs.Errors.{uri_error_text, SaysRefusal};
 ghost use Rattle.ref_uri.specs.Rows.{CharacterRows, AuthorityRows, ComponentRows, SegmentRows, NormalRows, ResolutionRows, MeaningRows};
 ghost use Rattle.ref_uri.specs.inner.Rows.{BodyRows};
@@ -65,7 +65,7 @@ pub fn normal_form_is_its_own()
 
 /// What a text means by itself is its own normal form.
 pub fn meanings_are_normal()
-    ensures law { (text uri : List ℕ) → parsed text ≡ Ok uri → normal_form uri ≡ uri }
+    ensures law { (text uri : List ℕ) → uri_of text ≡ Ok uri → normal_form uri ≡ uri }
 {}
 
 /// An error that says what the definitions refuse displays the text of that refusal.

@@ -1,6 +1,6 @@
-//! Where the components of a reference stand in its text.
+//! Where the components of a reference are in its text.
 ghost use Rattle.std.specs.Prelude.{◌≡◌, ◌≤◌, ◌+◌, option_map, take, drop, length, option_copied, IsAscii};
-ghost use Rattle.ref_uri.specs.Components.{scheme, authority, path, query, fragment, after_scheme, after_authority, after_path, after_query, behind, fragment_in_front};
+ghost use Rattle.ref_uri.specs.Components.{scheme, authority, path, query, fragment, after_scheme, after_authority, after_path, after_query, text_after, fragment_in_front};
 ghost use Rattle.ref_uri.specs.inner.Written.{the_front, the_rest};
 ghost use Rattle.std.specs.Option.{ForSome};
 
@@ -32,7 +32,7 @@ pub fn tail(text: &str, len: usize) -> &str
     &text[len..]
 }
 
-/// The component of this length behind its mark, if it is there.
+/// The component of this length after its mark, if it is there.
 fn component(text: &str, len: Option<usize>, mark: usize) -> Option<&str>
     requires ascii { IsAscii text.now }
     requires within { ForSome len (λ n. n + mark ≤ length text.now) }
@@ -48,7 +48,7 @@ fn component(text: &str, len: Option<usize>, mark: usize) -> Option<&str>
 fn behind(text: &str, len: Option<usize>, marks: usize) -> &str
     requires ascii { IsAscii text.now }
     requires within { ForSome len (λ n. n + marks ≤ length text.now) }
-    ensures value { result.now ≡ behind len marks text.now }
+    ensures value { result.now ≡ text_after len marks text.now }
     ensures ascii { IsAscii result.now }
 {
     match len {
@@ -57,7 +57,7 @@ fn behind(text: &str, len: Option<usize>, marks: usize) -> &str
     }
 }
 
-/// The fragment behind its `#`, if it is there.
+/// The fragment after its `#`, if it is there.
 fn fragment(text: &str) -> Option<&str>
     requires { IsAscii text.now }
     ensures { option_copied result ≡ fragment_in_front text.now }
@@ -76,16 +76,16 @@ pub struct Parts<'a> {
     pub path: &'a str,
     pub query: Option<&'a str>,
     pub fragment: Option<&'a str>,
-    /// Scheme and authority with their marks, as they stand before the path.
+    /// Scheme and authority with their marks, as they are before the path.
     pub front: &'a str,
-    /// Query and fragment with their marks, as they stand behind the path.
+    /// Query and fragment with their marks, as they are after the path.
     pub rest: &'a str,
 }
 
 impl Lengths {
     ghost use Rattle.ref_uri.specs.inner.Lengths.{IsParsed};
 
-    /// The components, each where it stands in the text.
+    /// The components, each where it is in the text.
     pub fn parts(self, text: &str) -> Parts<'_>
         requires { IsParsed text.now self }
         ensures scheme { option_copied result.scheme ≡ scheme text.now }

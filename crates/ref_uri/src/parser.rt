@@ -3,7 +3,7 @@
 ghost use Rattle.std.specs.Prelude.{◌≡◌, ◌≢◌, ◌≤◌, true, false, None, OnOk, OnErr, ◌&&◌, ◌||◌, ◌==◌, not, take, drop, length, is_ok, is_some, IfOk, IfErr, IfSome, ◌<◌, ◌+◌, option_map, slice_index};
 ghost use Rattle.std.specs.Option.{ForSome};
 ghost use Rattle.std.specs.List.{before_first, position_or_len, prefix_len};
-ghost use Rattle.ref_uri.specs.Components.{scheme, is_scheme, if_there, ends_scheme, authority_in_front, query_in_front, fragment_in_front, is_query, behind, after_authority};
+ghost use Rattle.ref_uri.specs.Components.{scheme, is_scheme, if_there, ends_scheme, authority_in_front, query_in_front, fragment_in_front, is_query, text_after, after_authority};
 ghost use Rattle.ref_uri.specs.Authority.{is_authority};
 ghost use Rattle.ref_uri.specs.Reference.{is_uri_reference};
 ghost use Rattle.ref_uri.specs.inner.Lengths.{lengths_of};
@@ -14,7 +14,7 @@ use crate::characters::{Class, encoded_len, is_encoded, is_scheme_character, par
 use crate::error::ParseError;
 use crate::lengths::Lengths;
 
-/// How many characters of a scheme stand in front.
+/// How many characters of a scheme come first.
 fn scheme_characters_len(text: &[u8]) -> usize
     ensures { result ≡ prefix_len is_scheme_character text.now }
 {
@@ -77,7 +77,7 @@ fn read_front(text: &[u8]) -> Result<Front, ParseError>
     })
 }
 
-/// How long the authority is, where `//` stands in front.
+/// How long the authority is, where `//` comes first.
 fn authority_len(text: &[u8]) -> Result<Option<usize>, ParseError>
     ensures accepted { is_ok result ≡ if_there is_authority (authority_in_front text.now) }
     ensures len { IfOk result (λ n. n ≡ option_map length (authority_in_front text.now)) }
@@ -90,7 +90,7 @@ fn authority_len(text: &[u8]) -> Result<Option<usize>, ParseError>
     }
 }
 
-/// How long the query is, where `?` stands in front.
+/// How long the query is, where `?` comes first.
 fn query_len(text: &[u8]) -> Result<Option<usize>, ParseError>
     ensures accepted { is_ok result ≡ if_there is_query (query_in_front text.now) }
     ensures len { IfOk result (λ n. n ≡ option_map length (query_in_front text.now)) }
@@ -103,7 +103,7 @@ fn query_len(text: &[u8]) -> Result<Option<usize>, ParseError>
     }
 }
 
-/// Whether what is left begins with no `#`, or is a fragment behind it.
+/// Whether what is left begins with no `#`, or is a fragment after it.
 fn is_fragment_left(text: &[u8]) -> bool
     ensures { result ≡ if_there is_query (fragment_in_front text.now) }
 {
@@ -140,7 +140,7 @@ pub fn parse(text: &[u8]) -> Result<Lengths, ParseError>
 /// What follows a component that may be absent, and the marks that stand with it.
 fn behind(text: &[u8], component: Option<usize>, marks: usize) -> &[u8]
     requires { ForSome component (λ len. len + marks ≤ length text.now) }
-    ensures { result.now ≡ behind component marks text.now }
+    ensures { result.now ≡ text_after component marks text.now }
 {
     match component {
         Some(len) => &text[len + marks..],

@@ -1,9 +1,9 @@
 //! A URI reference that borrows its text.
 ghost use Rattle.std.specs.Prelude.{◌≡◌, ◌↔◌, List, ℕ, true, is_ok, is_some, None, IfOk, IfErr, IsErrOf, option_copied, string_bytes};
 ghost use Rattle.ref_uri.specs.Components.{components, are_components, text_of, scheme, authority, path, query, fragment};
-ghost use Rattle.ref_uri.specs.Normal.{normal, normal_form};
+ghost use Rattle.ref_uri.specs.Normal.{normal_components, normal_form};
 ghost use Rattle.ref_uri.specs.Reference.{is_uri_reference, with_fragment};
-ghost use Rattle.ref_uri.specs.Resolution.{resolved};
+ghost use Rattle.ref_uri.specs.Resolution.{target_text};
 ghost use Rattle.ref_uri.specs.inner.Target.{components_of, lengths_of_components, target_with_dots, AreFramed, LacksTriples};
 
 use crate::blocks::holds;
@@ -68,7 +68,7 @@ impl<'a> UriRef<'a> {
         self.lengths.parts(self.text)
     }
 
-    /// Whether no triple stands in the text.
+    /// Whether no triple is in the text.
     fn lacks_triples(&self) -> bool
         ensures { result ≡ true → LacksTriples (components self.now) }
     {
@@ -81,7 +81,7 @@ impl<'a> UriRef<'a> {
     fn is_settled(&self) -> bool
         requires { LacksTriples (components self.now) }
         ensures normal { result ≡ true → normal_form self.now ≡ self.now }
-        ensures target { result ≡ true → is_some (scheme self.now) ≡ true → (base : List ℕ) → normal_form (resolved base self.now) ≡ self.now }
+        ensures target { result ≡ true → is_some (scheme self.now) ≡ true → (base : List ℕ) → normal_form (target_text base self.now) ≡ self.now }
     {
         target::is_settled(self.parts())
     }
@@ -121,7 +121,7 @@ impl<'a> UriRef<'a> {
     /// where the base has no scheme, `Memory` where there is none for the target. The base's fragment takes no part. Takes
     /// memory once. Linear in the two texts.
     pub fn resolve_against(self, alloc: Global, base: UriRef<'_>) -> Result<Uri, ResolveFault>
-        ensures value { IfOk result (λ uri. uri ≡ resolved base.entry self.entry) }
+        ensures value { IfOk result (λ uri. uri ≡ target_text base.entry self.entry) }
         ensures no_scheme { IsErrOf result (ResolveFault.Invalid ResolveError.BaseWithoutScheme) ↔ (scheme base.entry ≡ None) }
     {
         if !base.has_scheme() {
@@ -140,8 +140,8 @@ impl<'a> UriRef<'a> {
         base: &UriRef<'_>,
     ) -> Result<(String, Lengths), AllocError>
         requires { is_some (scheme base.now) ≡ true }
-        ensures text { IfOk result (λ t. string_bytes t.0 ≡ text_of (normal (target_with_dots (components base.now) (components self.now)))) }
-        ensures lengths { IfOk result (λ t. t.1 ≡ lengths_of_components (normal (target_with_dots (components base.now) (components self.now)))) }
+        ensures text { IfOk result (λ t. string_bytes t.0 ≡ text_of (normal_components (target_with_dots (components base.now) (components self.now)))) }
+        ensures lengths { IfOk result (λ t. t.1 ≡ lengths_of_components (normal_components (target_with_dots (components base.now) (components self.now)))) }
     {
         let target = target::resolved(base.parts(), self.parts());
         target.write(alloc, Form::Normal, Form::Normal)
@@ -155,7 +155,7 @@ impl<'a> UriRef<'a> {
         base: &UriRef<'_>,
     ) -> Result<(String, Lengths), AllocError>
         requires { is_some (scheme base.now) ≡ true }
-        ensures text { IfOk result (λ t. string_bytes t.0 ≡ normal_form (resolved (with_fragment base.now None) self.now)) }
+        ensures text { IfOk result (λ t. string_bytes t.0 ≡ normal_form (target_text (with_fragment base.now None) self.now)) }
         ensures parsed { IfOk result (λ t. IsParsedUri (string_bytes t.0) t.1) }
     {
         let is_plain = self.lacks_triples();

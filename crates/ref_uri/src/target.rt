@@ -1,12 +1,12 @@
 //! What a target's text is composed of (RFC 3986, 5.2.2 and 5.3).
 ghost use Rattle.std.specs.Prelude.{◌≡◌, ◌≢◌, ◌↔◌, ◌≤◌, ◌<◌, ◌++◌, ℕ, slice_index, IfSome, IfNone, true, false, List, [], length, codes, Some, None, is_some, is_none, map, option_map, option_copied, string_bytes, IfOk, OnOk, IsAscii, ◌∷◌};
 ghost use Rattle.ref_uri.specs.Authority.{is_authority};
-ghost use Rattle.ref_uri.specs.Components.{Components, are_components, text_of, framed, if_there, is_scheme, is_path, is_query, begins_with_slashes};
+ghost use Rattle.ref_uri.specs.Components.{Components, are_components, text_of, framed_component, if_there, is_scheme, is_path, is_query, begins_with_slashes};
 ghost use Rattle.ref_uri.specs.DotSegments.{remove_dot_segments};
 ghost use Rattle.std.specs.Char.{to_ascii_lowercase};
-ghost use Rattle.ref_uri.specs.Normal.{guarded, normal, normal_text, normal_authority};
-ghost use Rattle.ref_uri.specs.Resolution.{through_last_slash, merged, target_path, resolved_components};
-ghost use Rattle.ref_uri.specs.inner.Written.{is_plain, the_front, the_rest, written, written_scheme, written_authority};
+ghost use Rattle.ref_uri.specs.Normal.{guarded_path, normal_components, normal_text, normal_authority};
+ghost use Rattle.ref_uri.specs.Resolution.{through_last_slash, merged_path, target_path, resolved_components};
+ghost use Rattle.ref_uri.specs.inner.Written.{is_plain, the_front, the_rest, written_text, written_scheme, written_authority};
 ghost use Rattle.ref_uri.specs.inner.Target.{given_path, normal_path_of, written_path, written_by, written_components, lengths_of_components, AreParts, ArePlain, LosesSameDots, IsTarget, AreFramed, IsPlainTarget, LacksTriples, IsSettled, components_of, behind_directory, path_behind, target_with_dots};
 
 use crate::dots::{
@@ -25,7 +25,7 @@ pub enum PathOf<'a> {
     OfBase(&'a str),
     /// A path without its dot segments.
     Removed(&'a str),
-    /// A path behind a directory and a slash, without their dot segments.
+    /// A path after a directory and a slash, without their dot segments.
     Merged(&'a str, &'a str),
 }
 
@@ -37,9 +37,9 @@ pub struct Target<'a> {
     pub path: PathOf<'a>,
     pub query: Option<&'a str>,
     pub fragment: Option<&'a str>,
-    /// Scheme and authority with their marks, where they stand in one text.
+    /// Scheme and authority with their marks, where they are in one text.
     pub front: Option<&'a str>,
-    /// Query and fragment with their marks, where they stand in one text.
+    /// Query and fragment with their marks, where they are in one text.
     pub rest: Option<&'a str>,
 }
 
@@ -58,7 +58,7 @@ fn last_slash(path: &[u8]) -> Option<usize>
     None
 }
 
-/// What stands before the last slash of a path.
+/// What is before the last slash of a path.
 fn before_last_slash(path: &str) -> Option<&str>
     requires { IsAscii path.now }
     ensures value { (more : List ℕ) → through_last_slash path.now ++ more ≡ behind_directory (option_copied result) more }
@@ -71,10 +71,10 @@ fn before_last_slash(path: &str) -> Option<&str>
     }
 }
 
-/// The directory that a relative path stands in: with an authority and an empty path it is the root (RFC 3986, 5.2.3).
+/// The directory that a relative path is in: with an authority and an empty path it is the root (RFC 3986, 5.2.3).
 fn directory(base: Parts<'_>) -> Option<&str>
     requires { IsAscii base.path.now }
-    ensures value { (path : List ℕ) → merged (components_of base.entry) path ≡ behind_directory (option_copied result) path }
+    ensures value { (path : List ℕ) → merged_path (components_of base.entry) path ≡ behind_directory (option_copied result) path }
     ensures path { is_path base.entry.path.now ≡ true → if_there is_path (option_copied result) ≡ true }
     ensures plain { is_plain base.entry.path.now ≡ true → if_there is_plain (option_copied result) ≡ true }
 {
@@ -109,7 +109,7 @@ pub fn resolved<'a>(base: Parts<'a>, reference: Parts<'a>) -> Target<'a>
     requires base_framed { AreFramed base }
     requires framed { AreFramed reference }
     ensures value { written_components Form.Given result ≡ resolved_components (components_of base.entry) (components_of reference.entry) }
-    ensures normal { is_some (option_copied base.entry.scheme) ≡ true → written_components Form.Normal result ≡ normal (target_with_dots (components_of base.entry) (components_of reference.entry)) }
+    ensures normal { is_some (option_copied base.entry.scheme) ≡ true → written_components Form.Normal result ≡ normal_components (target_with_dots (components_of base.entry) (components_of reference.entry)) }
     ensures target { IsTarget result }
     ensures plain { LacksTriples (components_of base.entry) → LacksTriples (components_of reference.entry) → IsPlainTarget result }
 {
@@ -174,7 +174,7 @@ fn own_path<'a>(scheme: Option<&str>, path: &'a str) -> PathOf<'a>
 /// A reference itself, without dot segments where it has a scheme.
 pub fn itself(reference: Parts<'_>) -> Target<'_>
     requires { are_components (components_of reference) ≡ true }
-    ensures value { written_components Form.Normal result ≡ normal (components_of reference.entry) }
+    ensures value { written_components Form.Normal result ≡ normal_components (components_of reference.entry) }
     ensures target { IsTarget result }
 {
     Target {
@@ -208,7 +208,7 @@ fn is_plain_authority(authority: Option<&str>) -> bool
     }
 }
 
-/// Whether no segment of a path behind a scheme begins with a dot.
+/// Whether no segment of a path after a scheme begins with a dot.
 fn lacks_dots(scheme: Option<&str>, path: &str) -> bool
     ensures { result ≡ true → is_some (option_copied scheme.entry) ≡ true → remove_dot_segments path.now ≡ path.now }
 {
@@ -218,7 +218,7 @@ fn lacks_dots(scheme: Option<&str>, path: &str) -> bool
     }
 }
 
-/// Whether a reference without triples is in normal form, and with a scheme its own target, as far as its characters tell.
+/// Whether a reference without triples is in normal form, and with a scheme its own target, as far as its characters show.
 pub fn is_settled(reference: Parts<'_>) -> bool
     requires { LacksTriples (components_of reference) }
     ensures { result ≡ true → IsSettled (components_of reference.entry) }
@@ -240,7 +240,7 @@ fn room(component: Option<&str>) -> usize {
     }
 }
 
-/// Appends a scheme and its `:`, and answers how long the scheme is.
+/// Appends a scheme and its `:`, and returns how long the scheme is.
 fn push_scheme(
     buffer: &mut String,
     scheme: Option<&str>,
@@ -248,7 +248,7 @@ fn push_scheme(
 ) -> Result<Option<usize>, AllocError>
     requires buffer_ascii { IsAscii (string_bytes buffer.old) }
     requires scheme { if_there is_scheme (option_copied scheme) ≡ true }
-    ensures text { OnOk result (string_bytes buffer.new ≡ string_bytes buffer.old ++ framed [] (option_map (written_scheme form) (option_copied scheme.entry)) (codes ":")) }
+    ensures text { OnOk result (string_bytes buffer.new ≡ string_bytes buffer.old ++ framed_component [] (option_map (written_scheme form) (option_copied scheme.entry)) (codes ":")) }
     ensures len { IfOk result (λ n. n ≡ option_map length (option_map (written_scheme form) (option_copied scheme.entry))) }
     ensures ascii { OnOk result (IsAscii (string_bytes buffer.new)) }
 {
@@ -262,7 +262,7 @@ fn push_scheme(
     Ok(Some(len))
 }
 
-/// Appends an authority behind `//`, and answers how long it is.
+/// Appends an authority after `//`, and returns how long it is.
 fn push_authority(
     buffer: &mut String,
     authority: Option<&str>,
@@ -270,7 +270,7 @@ fn push_authority(
 ) -> Result<Option<usize>, AllocError>
     requires buffer_ascii { IsAscii (string_bytes buffer.old) }
     requires authority { if_there is_authority (option_copied authority) ≡ true }
-    ensures text { OnOk result (string_bytes buffer.new ≡ string_bytes buffer.old ++ framed (codes "//") (option_map (written_authority form) (option_copied authority.entry)) []) }
+    ensures text { OnOk result (string_bytes buffer.new ≡ string_bytes buffer.old ++ framed_component (codes "//") (option_map (written_authority form) (option_copied authority.entry)) []) }
     ensures len { IfOk result (λ n. n ≡ option_map length (option_map (written_authority form) (option_copied authority.entry))) }
     ensures ascii { OnOk result (IsAscii (string_bytes buffer.new)) }
 {
@@ -283,7 +283,7 @@ fn push_authority(
     Ok(Some(buffer.len() - start))
 }
 
-/// Whether scheme and authority are in this form already, as far as their characters tell.
+/// Whether scheme and authority are in this form already, as far as their characters show.
 fn keeps_front(scheme: Option<&str>, authority: Option<&str>, form: Form) -> bool
     ensures scheme { result ≡ true → option_map (written_scheme form) (option_copied scheme.entry) ≡ option_copied scheme.entry }
     ensures authority { result ≡ true → option_map (written_authority form) (option_copied authority.entry) ≡ option_copied authority.entry }
@@ -305,7 +305,7 @@ fn len_of(component: Option<&str>) -> Option<usize>
     }
 }
 
-/// Appends a target's scheme and authority with their marks, and answers how long they are: at once, where they are so already.
+/// Appends a target's scheme and authority with their marks, and returns how long they are: at once, where they are so already.
 fn push_front(
     buffer: &mut String,
     target: Target<'_>,
@@ -331,7 +331,7 @@ fn push_front(
     }
 }
 
-/// Appends a query or a fragment behind its mark, and answers how long it is.
+/// Appends a query or a fragment after its mark, and returns how long it is.
 fn push_marked(
     buffer: &mut String,
     mark: &str,
@@ -339,8 +339,8 @@ fn push_marked(
     form: Form,
 ) -> Result<Option<usize>, AllocError>
     requires component { if_there is_query (option_copied component) ≡ true }
-    ensures text { OnOk result (string_bytes buffer.new ≡ string_bytes buffer.old ++ framed mark.now (option_map (written form) (option_copied component.entry)) []) }
-    ensures len { IfOk result (λ n. n ≡ option_map length (option_map (written form) (option_copied component.entry))) }
+    ensures text { OnOk result (string_bytes buffer.new ≡ string_bytes buffer.old ++ framed_component mark.now (option_map (written_text form) (option_copied component.entry)) []) }
+    ensures len { IfOk result (λ n. n ≡ option_map length (option_map (written_text form) (option_copied component.entry))) }
 {
     let Some(component) = component else {
         return Ok(None);
@@ -351,16 +351,16 @@ fn push_marked(
     Ok(Some(buffer.len() - start))
 }
 
-/// Appends a target's query and fragment with their marks, and answers how long the query is: at once as they are given, where
-/// they stand in one text.
+/// Appends a target's query and fragment with their marks, and returns how long the query is: at once as they are given, where
+/// they are in one text.
 fn push_rest(
     buffer: &mut String,
     target: Target<'_>,
     form: Form,
 ) -> Result<Option<usize>, AllocError>
     requires { IsTarget target }
-    ensures text { OnOk result (string_bytes buffer.new ≡ string_bytes buffer.old ++ the_rest (option_map (written form) (option_copied target.entry.query)) (option_map (written form) (option_copied target.entry.fragment))) }
-    ensures query { IfOk result (λ n. n ≡ option_map length (option_map (written form) (option_copied target.entry.query))) }
+    ensures text { OnOk result (string_bytes buffer.new ≡ string_bytes buffer.old ++ the_rest (option_map (written_text form) (option_copied target.entry.query)) (option_map (written_text form) (option_copied target.entry.fragment))) }
+    ensures query { IfOk result (λ n. n ≡ option_map length (option_map (written_text form) (option_copied target.entry.query))) }
 {
     match target.rest {
         Some(rest) if form.is_given() => {
@@ -385,7 +385,7 @@ fn begins_with_slashes(path: &str) -> bool
 fn guard(buffer: &mut String, start: usize, authority: Option<&str>) -> Result<(), AllocError>
     requires ascii { IsAscii (string_bytes buffer.old) }
     requires within { start ≤ length (string_bytes buffer.old) }
-    ensures { (before path : List ℕ) → string_bytes buffer.old ≡ before ++ path → length before ≡ start → OnOk result (string_bytes buffer.new ≡ before ++ guarded (option_copied authority.entry) path) }
+    ensures { (before path : List ℕ) → string_bytes buffer.old ≡ before ++ path → length before ≡ start → OnOk result (string_bytes buffer.new ≡ before ++ guarded_path (option_copied authority.entry) path) }
 {
     if authority.is_some() || !begins_with_slashes(&buffer[start..]) {
         return Ok(());
@@ -410,7 +410,7 @@ impl<'a> PathOf<'a> {
         }
     }
 
-    /// The path whose text as it is given is this one's normal form, where no triple stands in it.
+    /// The path whose text as it is given is this one's normal form, where no triple is in it.
     fn without_dots(self) -> PathOf<'a>
         requires { ArePlain self }
         ensures text { given_path result ≡ normal_path_of self.entry }
@@ -436,7 +436,7 @@ impl<'a> PathOf<'a> {
         }
     }
 
-    /// The room that the path takes: a target's stands there twice while it is put in normal form.
+    /// The room that the path takes: a target's is there twice while it is put in normal form.
     fn room(self, form: Form) -> usize {
         match form {
             Form::Given | Form::Normal => self.len(),
@@ -508,7 +508,7 @@ impl<'a> PathOf<'a> {
     }
 }
 
-/// Appends a path, guarded, and answers how long it is.
+/// Appends a path, guarded, and returns how long it is.
 fn push_path(
     buffer: &mut String,
     path: PathOf<'_>,
@@ -517,8 +517,8 @@ fn push_path(
 ) -> Result<usize, AllocError>
     requires buffer_ascii { IsAscii (string_bytes buffer.old) }
     requires parts { AreParts path }
-    ensures text { OnOk result (string_bytes buffer.new ≡ string_bytes buffer.old ++ guarded (option_copied authority.entry) (written_path form path.entry)) }
-    ensures len { IfOk result (λ n. n ≡ length (guarded (option_copied authority.entry) (written_path form path.entry))) }
+    ensures text { OnOk result (string_bytes buffer.new ≡ string_bytes buffer.old ++ guarded_path (option_copied authority.entry) (written_path form path.entry)) }
+    ensures len { IfOk result (λ n. n ≡ length (guarded_path (option_copied authority.entry) (written_path form path.entry))) }
 {
     let start = buffer.len();
     path.push(buffer, form)?;
@@ -578,7 +578,7 @@ impl<'a> Target<'a> {
         Ok((text, lengths))
     }
 
-    /// The text of the target's normal form, and how long its components are, where no triple stands in what follows the
+    /// The text of the target's normal form, and how long its components are, where no triple is in what follows the
     /// authority. Takes memory once.
     pub fn write_plain(self, alloc: Global) -> Result<(String, Lengths), AllocError>
         requires target { IsTarget self }

@@ -5,8 +5,8 @@ ghost use Rattle.ref_uri.specs.Components.{scheme, authority, path, query, fragm
 ghost use Rattle.ref_uri.specs.Errors.{IsFaultOf};
 ghost use Rattle.ref_uri.specs.inner.Faults.{IfInvalid};
 ghost use Rattle.ref_uri.specs.inner.Lengths.{IsParsedUri};
-ghost use Rattle.ref_uri.specs.Resolution.{resolved};
-ghost use Rattle.ref_uri.specs.Targets.{default_base, parsed, against, unparsed};
+ghost use Rattle.ref_uri.specs.Resolution.{target_text};
+ghost use Rattle.ref_uri.specs.Targets.{default_base, uri_of, uri_against, parse_refusal};
 ghost use Rattle.ref_uri.specs.Normal.{normal_form};
 ghost use Rattle.ref_uri.specs.Reference.{is_uri_reference, is_uri, with_fragment};
 
@@ -18,7 +18,7 @@ use crate::reference::UriRef;
 use std::alloc::{AllocError, Global};
 use std::marker::Model;
 
-/// A URI with a scheme (RFC 3986, 3) that owns its text. A fragment may stand with it.
+/// A URI with a scheme (RFC 3986, 3) that owns its text. A fragment may be with it.
 #[derive(Drop)]
 pub struct Uri {
     text: String,
@@ -33,8 +33,8 @@ impl Model for Uri {
     ghost use Rattle.ref_uri.specs.Errors.{IsFaultOf};
     ghost use Rattle.ref_uri.specs.inner.Faults.{IfInvalid};
     ghost use Rattle.ref_uri.specs.inner.Lengths.{IsParsedUri};
-    ghost use Rattle.ref_uri.specs.Resolution.{resolved};
-    ghost use Rattle.ref_uri.specs.Targets.{default_base, parsed, against, unparsed};
+    ghost use Rattle.ref_uri.specs.Resolution.{target_text};
+    ghost use Rattle.ref_uri.specs.Targets.{default_base, uri_of, uri_against, parse_refusal};
 
     ghost view = { λ u. string_bytes u.text };
 
@@ -158,8 +158,8 @@ impl Uri {
     }
 
     /// Puts the fragment in, or drops it (RFC 3986, 3.5); no other component changes. `Invalid(Syntax)` exactly where the
-    /// text is no fragment, `Memory` where a growth is refused; the URI is then as it was. `None` takes no memory and
-    /// succeeds. Linear in the fragment.
+    /// text is no fragment, `Memory` where a growth is refused; the URI is then as it was. `None` succeeds, and by
+    /// the code takes no memory. Linear in the fragment, and in the URI where its text is moved to a larger block.
     pub fn set_fragment(&mut self, fragment: Option<&str>) -> Result<(), UriParseFault>
         ensures ok { OnOk result (self.new ≡ with_fragment self.old (option_copied fragment.entry)) }
         ensures syntax { IsErrOf result (UriParseFault.Invalid ParseError.Syntax) ↔ (if_there is_query (option_copied fragment.entry) ≡ false) }
@@ -199,7 +199,7 @@ impl Uri {
 fn parse_reference(alloc: Global, text: &str) -> Result<UriRef<'_>, UriFault>
     ensures reference { IfOk result (λ reference. reference ≡ text.now) }
     ensures accepted { IsOk result → is_uri_reference text.now ≡ true }
-    ensures refused { IfErr result (λ fault. IsFaultOf (Err (unparsed text.now)) fault) }
+    ensures refused { IfErr result (λ fault. IsFaultOf (Err (parse_refusal text.now)) fault) }
     ensures invalid { IfErr result (λ fault. IfInvalid fault (is_uri_reference text.now ≡ false)) }
 {
     match UriRef::parse(text) {
@@ -233,8 +233,8 @@ fn default_base() -> UriRef<'static>
 /// `Invalid` with [`UriError::Parse`] exactly where the text is no URI reference (RFC 3986, 4.1), `Memory` where there is
 /// none. Linear in the text. An answer takes memory once.
 pub fn from_str(alloc: Global, uri: &str) -> Result<Uri, UriFault>
-    ensures ok { IfOk result (λ answer. parsed uri.now ≡ Ok answer) }
-    ensures fault { IfErr result (IsFaultOf (parsed uri.now)) }
+    ensures ok { IfOk result (λ answer. uri_of uri.now ≡ Ok answer) }
+    ensures fault { IfErr result (IsFaultOf (uri_of uri.now)) }
 {
     let reference = parse_reference(alloc, uri)?;
     if reference.has_scheme() {
@@ -268,8 +268,8 @@ fn is_fragment_at_end(base: &str, text: &str) -> bool
 /// it has one and the text is no URI reference and not that fragment; `Memory` where there is none. Linear in the two texts.
 /// An answer takes memory once; where a path holds `%2e`, with room for the path twice, which the answer keeps.
 pub fn resolve_against(alloc: Global, base: UriRef<'_>, uri: &str) -> Result<Uri, UriFault>
-    ensures ok { IfOk result (λ answer. against base.entry uri.now ≡ Ok answer) }
-    ensures fault { IfErr result (IsFaultOf (against base.entry uri.now)) }
+    ensures ok { IfOk result (λ answer. uri_against base.entry uri.now ≡ Ok answer) }
+    ensures fault { IfErr result (IsFaultOf (uri_against base.entry uri.now)) }
 {
     if !base.has_scheme() {
         let uri = String::from_str(alloc, uri)?;

@@ -5,7 +5,7 @@ ghost use Rattle.std.specs.Char.{is_ascii_hexdigit, to_ascii_lowercase};
 ghost use Rattle.ref_uri.specs.Characters.{begins_with_hex_digits, has_whole_triples};
 ghost use Rattle.ref_uri.specs.Authority.{is_authority, host_len};
 ghost use Rattle.ref_uri.specs.Normal.{hex_value, normal_triple, normal_encoded, normal_text, normal_host, normal_port_part, normal_authority};
-ghost use Rattle.ref_uri.specs.inner.Written.{in_case, is_plain_in_host, written, written_scheme, written_authority, IsNormalUpTo};
+ghost use Rattle.ref_uri.specs.inner.Written.{in_case, is_plain_in_host, written_text, written_scheme, written_authority, IsNormalUpTo};
 
 use crate::blocks::{first_from, holds};
 use crate::characters::is_unreserved;
@@ -61,7 +61,7 @@ fn push_ascii(buffer: &mut String, c: u8) -> Result<(), AllocError>
     buffer.push(char::from(c))
 }
 
-/// Whether a letter in upper case stands in a text.
+/// Whether a letter in upper case is in a text.
 pub fn holds_upper(text: &[u8]) -> bool
     ensures { result ≡ false → map to_ascii_lowercase text.now ≡ text.now }
 {
@@ -174,7 +174,7 @@ fn push_normal_text(buffer: &mut String, text: &str) -> Result<(), AllocError>
     buffer.push_str(rest)
 }
 
-/// Appends the triple that stands in the buffer's text at `percent`, as [`push_triple`] does.
+/// Appends the triple that is in the buffer's text at `percent`, as [`push_triple`] does.
 fn push_triple_again(buffer: &mut String, percent: usize) -> Result<(), AllocError>
     requires { begins_with_hex_digits (drop (percent + 1) (string_bytes buffer.old)) ≡ true }
     ensures { OnOk result (string_bytes buffer.new ≡ string_bytes buffer.old ++ normal_triple (λ c. c) (slice_index (string_bytes buffer.old) (percent + 1)) (slice_index (string_bytes buffer.old) (percent + 2))) }
@@ -184,7 +184,7 @@ fn push_triple_again(buffer: &mut String, percent: usize) -> Result<(), AllocErr
     push_triple(buffer, high, low, Case::AsItIs)
 }
 
-/// Writes the encoded text that the buffer's text ends in, from `start` on, once more behind it, in normal form.
+/// Writes the encoded text that the buffer's text ends in, from `start` on, once more after it, in normal form.
 fn push_normal_again(buffer: &mut String, start: usize) -> Result<(), AllocError>
     requires buffer_ascii { IsAscii (string_bytes buffer.old) }
     requires within { start ≤ length (string_bytes buffer.old) }
@@ -202,7 +202,7 @@ fn push_normal_again(buffer: &mut String, start: usize) -> Result<(), AllocError
     buffer.extend_from_within(at..end)
 }
 
-/// Puts the encoded text that the buffer's text ends in, from `start` on, in normal form: that is written behind the text,
+/// Puts the encoded text that the buffer's text ends in, from `start` on, in normal form: that is written after the text,
 /// which then goes.
 pub fn normalize_end(buffer: &mut String, start: usize) -> Result<(), AllocError>
     requires buffer_ascii { IsAscii (string_bytes buffer.old) }
@@ -247,7 +247,7 @@ fn push_port(buffer: &mut String, port: &str) -> Result<(), AllocError>
     buffer.push_str(port)
 }
 
-/// Whether a text is a host in normal form, without a port and a userinfo, as far as its characters tell.
+/// Whether a text is a host in normal form, without a port and a userinfo, as far as its characters show.
 pub fn is_plain_host(text: &[u8]) -> bool
     ensures { result ≡ true → list_all is_plain_in_host text.now ≡ true }
 {
@@ -300,7 +300,7 @@ impl Form {
 
     /// The form in which the parts of a text are written as in this one: as they were given, where it holds no triple.
     pub fn of_parts(self, text: &str) -> Form
-        ensures { written result text.now ≡ written self text.now }
+        ensures { written_text result text.now ≡ written_text self text.now }
     {
         match self {
             Form::Given => Form::Given,
@@ -313,7 +313,7 @@ impl Form {
     pub fn push(self, buffer: &mut String, text: &str) -> Result<(), AllocError>
         requires ascii { IsAscii text.now }
         requires triples { has_whole_triples text.now ≡ true }
-        ensures text { OnOk result (string_bytes buffer.new ≡ string_bytes buffer.old ++ written self text.now) }
+        ensures text { OnOk result (string_bytes buffer.new ≡ string_bytes buffer.old ++ written_text self text.now) }
         ensures ascii { OnOk result (IsAscii (string_bytes buffer.old) → IsAscii (string_bytes buffer.new)) }
     {
         match self {

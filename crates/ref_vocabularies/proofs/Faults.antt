@@ -5,9 +5,9 @@ use Rattle.serde_json.specs.Find.{get, as_object}
 use Rattle.std.specs.Option.{option_map_or}
 use Rattle.ref_draft.specs.Schema.{text_under}
 use Rattle.ref_uri.specs.Targets.{Refusal}
-use Rattle.ref_world.specs.Results.{◌>>=◌}
-use Rattle.ref_world.specs.Fault.{Fault, InvalidUri, as_invalid_uri}
-use Rattle.ref_world.specs.Vocabularies.{VocabularySet, from_text, with_member, collected, known_set, set_of_members, find_in}
+use Rattle.ref_definitions.specs.Results.{◌>>=◌}
+use Rattle.ref_definitions.specs.Fault.{Fault, InvalidUri, as_invalid_uri}
+use Rattle.ref_definitions.specs.Vocabularies.{VocabularySet, from_text, with_member, collected_set, known_set, set_of_members, find_in}
 use Rattle.ref_retrieve.specs.declared.error.Error.{Error}
 use Rattle.ref_retrieve.specs.declared.error.Error.TheVariants as error
 use Rattle.ref_retrieve.specs.Errors.{IsFaultOf}
@@ -33,10 +33,10 @@ refused_on (Err refusal) f fault is = let same : InvalidUri refusal ≡ fault = 
 
 -- where the next key is refused, so are the members
 pub key_refused : (whole : Result VocabularySet Refusal) (s : VocabularySet) (key : List ℕ) (value : Data) (rest : Members) (e : Error)
-    → whole ≡ collected s (member key value rest) → IsFaultOf (as_invalid_uri (from_text key)) e → IsFaultOf (as_invalid_uri whole) e
+    → whole ≡ collected_set s (member key value rest) → IsFaultOf (as_invalid_uri (from_text key)) e → IsFaultOf (as_invalid_uri whole) e
 key_refused whole s key value rest e is fault =
     subst (λ w. IsFaultOf (as_invalid_uri w) e) (sym is)
-    (fault_moved (as_invalid_uri (from_text key)) (as_invalid_uri (collected s (member key value rest))) (refused_on (from_text key) (λ v. collected (with_member s value v) rest)) e fault)
+    (fault_moved (as_invalid_uri (from_text key)) (as_invalid_uri (collected_set s (member key value rest))) (refused_on (from_text key) (λ v. collected_set (with_member s value v) rest)) e fault)
 
 -- a fact of an error that is passed on
 pub passed : {A : Type 0} (result : Result A Error) (e : Error) (P : Error → Type 0) → IsErrAnd result (λ w. w ≡ e) → P e → IfErr result P

@@ -6,7 +6,7 @@ use Rattle.std.specs.Cmp.{tied_itself}
 use Rattle.std.specs.Cmp.Lexicographic.{pointwise, nat_list_cmp_total}
 use Rattle.std.proofs.lemmas.Bool.{and_parts, false≢true}
 use Rattle.std.proofs.lemmas.Slice.Eq.{bytes_eq-Decides}
-use Rattle.ref_world.specs.Vocabularies.{Known, all_known, known_eq, has_known, Vocabulary, Standard, Custom, vocabulary_eq, VocabularySet, set_eq, put, has_uri, contains, with_vocabulary}
+use Rattle.ref_definitions.specs.Vocabularies.{Known, all_known, known_eq, has_known, Vocabulary, Standard, Custom, vocabulary_eq, VocabularySet, set_eq, with_uri, has_uri, contains, with_vocabulary}
 use Rattle.ref_vocabularies.proofs.Bits.{known_eq-is, has_known-filter, filter-same, same_lists}
 use Rattle.ref_vocabularies.proofs.Sorted.{order, after, before, same, equal, put-less, put-equal, put-greater}
 
@@ -44,10 +44,10 @@ itself : (u : List ℕ) → order u u ≡ Equal
 itself u = tied_itself nat_list_cmp_total u
 
 -- what is there once a URI is put
-has_uri-put : (u w : List ℕ) (uris : List (List ℕ)) → has_uri (put u uris) w ≡ (has_uri uris w || bytes_eq u w)
+has_uri-put : (u w : List ℕ) (uris : List (List ℕ)) → has_uri (with_uri u uris) w ≡ (has_uri uris w || bytes_eq u w)
 has_uri-put u w [] = sym (or-false (bytes_eq u w))
 has_uri-put u w (x ∷ xs) =
-    elim (order u x) as (λ o. order u x ≡ o → has_uri (match_ordering o (u ∷ x ∷ xs) (x ∷ xs) (x ∷ put u xs)) w ≡ (has_uri (x ∷ xs) w || bytes_eq u w)) [
+    elim (order u x) as (λ o. order u x ≡ o → has_uri (match_ordering o (u ∷ x ∷ xs) (x ∷ xs) (x ∷ with_uri u xs)) w ≡ (has_uri (x ∷ xs) w || bytes_eq u w)) [
       | Less ↦ λ e. or-swap (bytes_eq u w) (has_uri (x ∷ xs) w)
       | Equal ↦ λ e. or-again (bytes_eq x w) (has_uri xs w) ∙ ap (λ v. has_uri (x ∷ xs) w || bytes_eq v w) (sym (tied u x e))
       | Greater ↦ λ e. ap (λ b. bytes_eq x w || b) (has_uri-put u w xs) ∙ or-group (bytes_eq x w) (has_uri xs w) (bytes_eq u w)
@@ -59,64 +59,64 @@ contains-with s (Standard k) (Custom u) = or-false (has_uri s.customs u)
 contains-with s (Custom u) (Standard k) = or-false (has_known s.standard k)
 contains-with s (Custom u) (Custom w) = has_uri-put u w s.customs
 
--- two URIs are put in either order: first where one stands before the next URI
-earlier_first : (u w x : List ℕ) (xs : List (List ℕ)) → order u x ≡ Less → put w (put u (x ∷ xs)) ≡ put u (put w (x ∷ xs))
+-- two URIs are put in either order: first where one is before the next URI
+earlier_first : (u w x : List ℕ) (xs : List (List ℕ)) → order u x ≡ Less → with_uri w (with_uri u (x ∷ xs)) ≡ with_uri u (with_uri w (x ∷ xs))
 earlier_first u w x xs e =
     rw (put-less u x xs e)
-    (elim (order w u) as (λ o. order w u ≡ o → match_ordering o (w ∷ u ∷ x ∷ xs) (u ∷ x ∷ xs) (u ∷ put w (x ∷ xs)) ≡ put u (put w (x ∷ xs))) [
+    (elim (order w u) as (λ o. order w u ≡ o → match_ordering o (w ∷ u ∷ x ∷ xs) (u ∷ x ∷ xs) (u ∷ with_uri w (x ∷ xs)) ≡ with_uri u (with_uri w (x ∷ xs))) [
       | Less ↦ λ d.
-          sym (ap (put u) (put-less w x xs (nat_list_cmp_total.trans w u x d e)) ∙ put-greater u w (x ∷ xs) (after w u d) ∙ ap (λ r. w ∷ r) (put-less u x xs e))
-      | Equal ↦ λ d. ap (λ v. v ∷ x ∷ xs) (sym (tied w u d)) ∙ sym (ap (put u) (put-less w x xs (ap (λ v. order v x) (tied w u d) ∙ e)) ∙ put-equal u w (x ∷ xs) (same w u d))
+          sym (ap (with_uri u) (put-less w x xs (nat_list_cmp_total.trans w u x d e)) ∙ put-greater u w (x ∷ xs) (after w u d) ∙ ap (λ r. w ∷ r) (put-less u x xs e))
+      | Equal ↦ λ d. ap (λ v. v ∷ x ∷ xs) (sym (tied w u d)) ∙ sym (ap (with_uri u) (put-less w x xs (ap (λ v. order v x) (tied w u d) ∙ e)) ∙ put-equal u w (x ∷ xs) (same w u d))
       | Greater ↦ λ d. later d
     ] refl)
   where
-    later : order w u ≡ Greater → u ∷ put w (x ∷ xs) ≡ put u (put w (x ∷ xs))
+    later : order w u ≡ Greater → u ∷ with_uri w (x ∷ xs) ≡ with_uri u (with_uri w (x ∷ xs))
     later d =
-        elim (order w x) as (λ o. order w x ≡ o → u ∷ match_ordering o (w ∷ x ∷ xs) (x ∷ xs) (x ∷ put w xs) ≡ put u (match_ordering o (w ∷ x ∷ xs) (x ∷ xs) (x ∷ put w xs))) [
+        elim (order w x) as (λ o. order w x ≡ o → u ∷ match_ordering o (w ∷ x ∷ xs) (x ∷ xs) (x ∷ with_uri w xs) ≡ with_uri u (match_ordering o (w ∷ x ∷ xs) (x ∷ xs) (x ∷ with_uri w xs))) [
           | Less ↦ λ f. sym (put-less u w (x ∷ xs) (before w u d))
           | Equal ↦ λ f. sym (put-less u x xs e)
-          | Greater ↦ λ f. sym (put-less u x (put w xs) e)
+          | Greater ↦ λ f. sym (put-less u x (with_uri w xs) e)
         ] refl
 
-put-swap : (u w : List ℕ) (uris : List (List ℕ)) → put w (put u uris) ≡ put u (put w uris)
+put-swap : (u w : List ℕ) (uris : List (List ℕ)) → with_uri w (with_uri u uris) ≡ with_uri u (with_uri w uris)
 put-swap u w [] =
-    elim (order w u) as (λ o. order w u ≡ o → match_ordering o (w ∷ u ∷ []) (u ∷ []) (u ∷ w ∷ []) ≡ put u (w ∷ [])) [
+    elim (order w u) as (λ o. order w u ≡ o → match_ordering o (w ∷ u ∷ []) (u ∷ []) (u ∷ w ∷ []) ≡ with_uri u (w ∷ [])) [
       | Less ↦ λ d. sym (put-greater u w [] (after w u d))
       | Equal ↦ λ d. ap (λ v. v ∷ []) (sym (tied w u d)) ∙ sym (put-equal u w [] (same w u d))
       | Greater ↦ λ d. sym (put-less u w [] (before w u d))
     ] refl
 put-swap u w (x ∷ xs) =
-    elim (order u x) as (λ o. order u x ≡ o → put w (put u (x ∷ xs)) ≡ put u (put w (x ∷ xs))) [
+    elim (order u x) as (λ o. order u x ≡ o → with_uri w (with_uri u (x ∷ xs)) ≡ with_uri u (with_uri w (x ∷ xs))) [
       | Less ↦ λ e. earlier_first u w x xs e
       | Equal ↦ λ e. here e
       | Greater ↦ λ e. there e (put-swap u w xs)
     ] refl
   where
-    here : order u x ≡ Equal → put w (put u (x ∷ xs)) ≡ put u (put w (x ∷ xs))
+    here : order u x ≡ Equal → with_uri w (with_uri u (x ∷ xs)) ≡ with_uri u (with_uri w (x ∷ xs))
     here e =
-        elim (order w x) as (λ o. order w x ≡ o → put w (put u (x ∷ xs)) ≡ put u (put w (x ∷ xs))) [
+        elim (order w x) as (λ o. order w x ≡ o → with_uri w (with_uri u (x ∷ xs)) ≡ with_uri u (with_uri w (x ∷ xs))) [
           | Less ↦ λ d. sym (earlier_first w u x xs d)
-          | Equal ↦ λ d. ap (put w) (put-equal u x xs e) ∙ put-equal w x xs d ∙ sym (ap (put u) (put-equal w x xs d) ∙ put-equal u x xs e)
-          | Greater ↦ λ d. ap (put w) (put-equal u x xs e) ∙ put-greater w x xs d ∙ sym (ap (put u) (put-greater w x xs d) ∙ put-equal u x (put w xs) e)
+          | Equal ↦ λ d. ap (with_uri w) (put-equal u x xs e) ∙ put-equal w x xs d ∙ sym (ap (with_uri u) (put-equal w x xs d) ∙ put-equal u x xs e)
+          | Greater ↦ λ d. ap (with_uri w) (put-equal u x xs e) ∙ put-greater w x xs d ∙ sym (ap (with_uri u) (put-greater w x xs d) ∙ put-equal u x (with_uri w xs) e)
         ] refl
 
-    there : order u x ≡ Greater → put w (put u xs) ≡ put u (put w xs) → put w (put u (x ∷ xs)) ≡ put u (put w (x ∷ xs))
+    there : order u x ≡ Greater → with_uri w (with_uri u xs) ≡ with_uri u (with_uri w xs) → with_uri w (with_uri u (x ∷ xs)) ≡ with_uri u (with_uri w (x ∷ xs))
     there e swapped =
-        elim (order w x) as (λ o. order w x ≡ o → put w (put u (x ∷ xs)) ≡ put u (put w (x ∷ xs))) [
+        elim (order w x) as (λ o. order w x ≡ o → with_uri w (with_uri u (x ∷ xs)) ≡ with_uri u (with_uri w (x ∷ xs))) [
           | Less ↦ λ d. sym (earlier_first w u x xs d)
-          | Equal ↦ λ d. ap (put w) (put-greater u x xs e) ∙ put-equal w x (put u xs) d ∙ sym (ap (put u) (put-equal w x xs d) ∙ put-greater u x xs e)
+          | Equal ↦ λ d. ap (with_uri w) (put-greater u x xs e) ∙ put-equal w x (with_uri u xs) d ∙ sym (ap (with_uri u) (put-equal w x xs d) ∙ put-greater u x xs e)
           | Greater ↦ λ d.
-              ap (put w) (put-greater u x xs e) ∙ put-greater w x (put u xs) d ∙ ap (λ r. x ∷ r) swapped
-              ∙ sym (ap (put u) (put-greater w x xs d) ∙ put-greater u x (put w xs) e)
+              ap (with_uri w) (put-greater u x xs e) ∙ put-greater w x (with_uri u xs) d ∙ ap (λ r. x ∷ r) swapped
+              ∙ sym (ap (with_uri u) (put-greater w x xs d) ∙ put-greater u x (with_uri w xs) e)
         ] refl
 
-put-twice : (u : List ℕ) (uris : List (List ℕ)) → put u (put u uris) ≡ put u uris
+put-twice : (u : List ℕ) (uris : List (List ℕ)) → with_uri u (with_uri u uris) ≡ with_uri u uris
 put-twice u [] = put-equal u u [] (itself u)
 put-twice u (x ∷ xs) =
-    elim (order u x) as (λ o. order u x ≡ o → put u (match_ordering o (u ∷ x ∷ xs) (x ∷ xs) (x ∷ put u xs)) ≡ match_ordering o (u ∷ x ∷ xs) (x ∷ xs) (x ∷ put u xs)) [
+    elim (order u x) as (λ o. order u x ≡ o → with_uri u (match_ordering o (u ∷ x ∷ xs) (x ∷ xs) (x ∷ with_uri u xs)) ≡ match_ordering o (u ∷ x ∷ xs) (x ∷ xs) (x ∷ with_uri u xs)) [
       | Less ↦ λ e. put-equal u u (x ∷ xs) (itself u)
       | Equal ↦ λ e. put-equal u x xs e
-      | Greater ↦ λ e. put-greater u x (put u xs) e ∙ ap (λ r. x ∷ r) (put-twice u xs)
+      | Greater ↦ λ e. put-greater u x (with_uri u xs) e ∙ ap (λ r. x ∷ r) (put-twice u xs)
     ] refl
 
 known_with : List Known → Known → List Known

@@ -9,23 +9,23 @@ use Rattle.std.proofs.lemmas.Grind.{flat_map-append, put_two}
 use Rattle.std.proofs.lemmas.List.{map-append}
 use Rattle.std.proofs.lemmas.List.Elements.{filter_more}
 use Rattle.std.proofs.lemmas.Nat.Bits.{shr_and_one}
-use Rattle.ref_world.specs.Vocabularies.{Core, all_known, bit, name, quoted}
-use Rattle.ref_vocabularies.specs.inner.Shown.{item, names_before, opened, is_nil}
+use Rattle.ref_definitions.specs.Vocabularies.{Core, all_known, bit, name, quoted_text}
+use Rattle.ref_vocabularies.specs.inner.Shown.{item, names_before, opened_text, is_nil}
 
 regroup : (a b c d : List ℕ) → (a ++ (b ++ c)) ++ d ≡ a ++ (b ++ (c ++ d))
 regroup a b c d = simp append_assoc
 
 abbrev behind : List (List ℕ) → List ℕ
-behind texts = flat_map (λ t. codes ", " ++ quoted t) texts
+behind texts = flat_map (λ t. codes ", " ++ quoted_text t) texts
 
-behind_more : (xs : List (List ℕ)) (x : List ℕ) → behind (xs ++ x ∷ []) ≡ behind xs ++ (codes ", " ++ quoted x)
-behind_more xs x = flat_map-append (λ t. codes ", " ++ quoted t) xs (x ∷ []) ∙ ap (λ t. behind xs ++ t) (append-nil (codes ", " ++ quoted x))
+behind_more : (xs : List (List ℕ)) (x : List ℕ) → behind (xs ++ x ∷ []) ≡ behind xs ++ (codes ", " ++ quoted_text x)
+behind_more xs x = flat_map-append (λ t. codes ", " ++ quoted_text t) xs (x ∷ []) ∙ ap (λ t. behind xs ++ t) (append-nil (codes ", " ++ quoted_text x))
 
 -- a further item
-pub opened_more : (xs : List (List ℕ)) (x : List ℕ) → opened xs ++ item (is_nil xs) x ≡ opened (xs ++ x ∷ [])
-opened_more [] x = ap (λ t. codes "[" ++ t) (sym (append-nil (quoted x)))
+pub opened_more : (xs : List (List ℕ)) (x : List ℕ) → opened_text xs ++ item (is_nil xs) x ≡ opened_text (xs ++ x ∷ [])
+opened_more [] x = ap (λ t. codes "[" ++ t) (sym (append-nil (quoted_text x)))
 opened_more (y ∷ ys) x =
-    regroup (codes "[") (quoted y) (behind ys) (codes ", " ++ quoted x) ∙ ap (λ t. codes "[" ++ (quoted y ++ t)) (sym (behind_more ys x))
+    regroup (codes "[") (quoted_text y) (behind ys) (codes ", " ++ quoted_text x) ∙ ap (λ t. codes "[" ++ (quoted_text y ++ t)) (sym (behind_more ys x))
 
 pub is_nil_more : (xs : List (List ℕ)) (x : List ℕ) → is_nil (xs ++ x ∷ []) ≡ false
 is_nil_more [] x = refl
@@ -68,6 +68,6 @@ bit_is_clear n i clear e = clear (shr_and_one n i ∙ e)
 -- what was written, and one item more
 module _ {W : Type 0} (took : W → List ℕ → W → Type 0) (f g h : Formatter W) where
   pub item_written : (xs : List (List ℕ)) (x : List ℕ) (ys : List (List ℕ)) (first : Bool) → first ≡ is_nil xs → ys ≡ xs ++ x ∷ []
-      → HasWritten took f (opened xs) g → HasWritten took g (item first x) h → HasWritten took f (opened ys) h
+      → HasWritten took f (opened_text xs) g → HasWritten took g (item first x) h → HasWritten took f (opened_text ys) h
   item_written xs x ys first is all so_far more =
-      put_two took f g h (opened xs) (item first x) (opened ys) so_far more (ap (λ b. opened xs ++ item b x) is ∙ opened_more xs x ∙ ap opened (sym all))
+      put_two took f g h (opened_text xs) (item first x) (opened_text ys) so_far more (ap (λ b. opened_text xs ++ item b x) is ∙ opened_more xs x ∙ ap opened_text (sym all))

@@ -8,7 +8,7 @@ use Rattle.std.specs.declared.cmp.Ordering.{Ordering}
 use Rattle.std.specs.declared.cmp.Ordering.TheVariants.{Less, Equal, Greater}
 use Rattle.std.specs.Cmp.Lexicographic.{slice_cmp, nat_list_cmp_total, texts_ties}
 use Rattle.std.proofs.lemmas.List.Sorted.{searchable_from_sorted}
-use Rattle.ref_world.specs.Vocabularies.{put, has_uri}
+use Rattle.ref_definitions.specs.Vocabularies.{with_uri, has_uri}
 use Rattle.ref_vocabularies.specs.Views.{AreInByteOrder}
 
 abbrev pub order : List ℕ → List ℕ → Ordering
@@ -26,19 +26,19 @@ same u v e = nat_list_cmp_total.antisymm v u ∙ ap ordering_reverse e
 pub equal : (u v : List ℕ) → bytes_eq u v ≡ is_eq (order u v)
 equal u v = texts_ties u v
 
--- a step of `put`
-pub put-less : (u x : List ℕ) (xs : List (List ℕ)) → order u x ≡ Less → put u (x ∷ xs) ≡ u ∷ x ∷ xs
-put-less u x xs e = ap (λ o. match_ordering o (u ∷ x ∷ xs) (x ∷ xs) (x ∷ put u xs)) e
+-- a step of `with_uri`
+pub put-less : (u x : List ℕ) (xs : List (List ℕ)) → order u x ≡ Less → with_uri u (x ∷ xs) ≡ u ∷ x ∷ xs
+put-less u x xs e = ap (λ o. match_ordering o (u ∷ x ∷ xs) (x ∷ xs) (x ∷ with_uri u xs)) e
 
-pub put-equal : (u x : List ℕ) (xs : List (List ℕ)) → order u x ≡ Equal → put u (x ∷ xs) ≡ x ∷ xs
-put-equal u x xs e = ap (λ o. match_ordering o (u ∷ x ∷ xs) (x ∷ xs) (x ∷ put u xs)) e
+pub put-equal : (u x : List ℕ) (xs : List (List ℕ)) → order u x ≡ Equal → with_uri u (x ∷ xs) ≡ x ∷ xs
+put-equal u x xs e = ap (λ o. match_ordering o (u ∷ x ∷ xs) (x ∷ xs) (x ∷ with_uri u xs)) e
 
-pub put-greater : (u x : List ℕ) (xs : List (List ℕ)) → order u x ≡ Greater → put u (x ∷ xs) ≡ x ∷ put u xs
-put-greater u x xs e = ap (λ o. match_ordering o (u ∷ x ∷ xs) (x ∷ xs) (x ∷ put u xs)) e
+pub put-greater : (u x : List ℕ) (xs : List (List ℕ)) → order u x ≡ Greater → with_uri u (x ∷ xs) ≡ x ∷ with_uri u xs
+put-greater u x xs e = ap (λ o. match_ordering o (u ∷ x ∷ xs) (x ∷ xs) (x ∷ with_uri u xs)) e
 
 -- what a search finds no place for stands where the search ends
 pub put-searched : (u : List ℕ) (xs : List (List ℕ)) (i : ℕ) → i ≤ length xs
-    → IsPartitionPoint (λ y. order y u ≡ Less) (λ y. order y u ≡ Greater) xs i → put u xs ≡ list.insert xs i u
+    → IsPartitionPoint (λ y. order y u ≡ Less) (λ y. order y u ≡ Greater) xs i → with_uri u xs ≡ list.insert xs i u
 put-searched u [] zero small at = refl
 put-searched u [] (suc i) small at = absurd (omega arith)
 put-searched u (x ∷ xs) zero small at = put-less u x xs (before x u (at.1 0 x (omega arith) (omega arith)))
@@ -47,10 +47,10 @@ put-searched u (x ∷ xs) (suc i) small at =
     ∙ ap (λ rest. x ∷ rest) (put-searched u xs i (omega arith) (λ k d low high. at.0 (suc k) d (omega arith) (omega arith), λ k d low high. at.1 (suc k) d (omega arith) (omega arith)))
 
 -- each of some URIs passes
-all-put : (P : List ℕ → Type 0) (u : List ℕ) (xs : List (List ℕ)) → P u → AllByRecursion P xs → AllByRecursion P (put u xs)
+all-put : (P : List ℕ → Type 0) (u : List ℕ) (xs : List (List ℕ)) → P u → AllByRecursion P xs → AllByRecursion P (with_uri u xs)
 all-put P u [] p all = (p, tt)
 all-put P u (x ∷ xs) p all =
-    elim (order u x) as (λ o. AllByRecursion P (match_ordering o (u ∷ x ∷ xs) (x ∷ xs) (x ∷ put u xs))) [
+    elim (order u x) as (λ o. AllByRecursion P (match_ordering o (u ∷ x ∷ xs) (x ∷ xs) (x ∷ with_uri u xs))) [
       | Less ↦ (p, all)
       | Equal ↦ all
       | Greater ↦ (all.0, all-put P u xs p all.1)
@@ -61,11 +61,11 @@ all-mapped P Q f [] all = tt
 all-mapped P Q f (x ∷ xs) all = (f x all.0, all-mapped P Q f xs all.1)
 
 -- what is put among URIs in order leaves them in order
-pub in_order-put : (u : List ℕ) (xs : List (List ℕ)) → AreInByteOrder xs → AreInByteOrder (put u xs)
+pub in_order-put : (u : List ℕ) (xs : List (List ℕ)) → AreInByteOrder xs → AreInByteOrder (with_uri u xs)
 unfolding IsStrictlySortedBy
 in_order-put u [] sorted = (tt, tt)
 in_order-put u (x ∷ xs) sorted =
-    elim (order u x) as (λ o. order u x ≡ o → AreInByteOrder (match_ordering o (u ∷ x ∷ xs) (x ∷ xs) (x ∷ put u xs))) [
+    elim (order u x) as (λ o. order u x ≡ o → AreInByteOrder (match_ordering o (u ∷ x ∷ xs) (x ∷ xs) (x ∷ with_uri u xs))) [
       | Less ↦ λ e. ((e, all-mapped (λ y. order x y ≡ Less) (λ y. order u y ≡ Less) (λ y later. nat_list_cmp_total.trans u x y e later) xs sorted.0), sorted)
       | Equal ↦ λ e. sorted
       | Greater ↦ λ e. (all-put (λ y. order x y ≡ Less) u xs (before u x e) sorted.0, in_order-put u xs sorted.1)
@@ -89,11 +89,11 @@ none_later u [] all = refl
 none_later u (x ∷ xs) all = rw (equal x u) (rw (after u x all.0) (none_later u xs all.1))
 
 -- what is there needs no place
-pub put-there : (u : List ℕ) (xs : List (List ℕ)) → AreInByteOrder xs → has_uri xs u ≡ true → put u xs ≡ xs
+pub put-there : (u : List ℕ) (xs : List (List ℕ)) → AreInByteOrder xs → has_uri xs u ≡ true → with_uri u xs ≡ xs
 unfolding IsStrictlySortedBy
 put-there u [] sorted there = cc
 put-there u (x ∷ xs) sorted there =
-    elim (order u x) as (λ o. order u x ≡ o → match_ordering o (u ∷ x ∷ xs) (x ∷ xs) (x ∷ put u xs) ≡ x ∷ xs) [
+    elim (order u x) as (λ o. order u x ≡ o → match_ordering o (u ∷ x ∷ xs) (x ∷ xs) (x ∷ with_uri u xs) ≡ x ∷ xs) [
       | Less ↦ λ e. let none = none_later u (x ∷ xs) (e, all-mapped (λ y. order x y ≡ Less) (λ y. order u y ≡ Less) (λ y later. nat_list_cmp_total.trans u x y e later) xs sorted.0) in cc
       | Equal ↦ λ e. refl
       | Greater ↦ λ e. ap (λ rest. x ∷ rest) (put-there u xs sorted.1 (rw (equal x u, before u x e) at there))

@@ -3,12 +3,12 @@ use Rattle.std.proofs.Common.{◌≡◌, ℕ, Bool, true, false, ◌&&◌, List,
 use Rattle.std.specs.List.{find}
 use Rattle.std.specs.Option.{option_map_or}
 use Rattle.std.proofs.lemmas.Slice.Eq.{bytes_eq-Decides}
-use Rattle.ref_uri.specs.Targets.{parsed}
+use Rattle.ref_uri.specs.Targets.{uri_of}
 use Rattle.ref_uri.specs.Errors as uri
 use Rattle.ref_uri.specs.declared.error.UriFault.{UriFault}
-use Rattle.ref_world.specs.Fault.{as_invalid_uri}
-use Rattle.ref_world.specs.Results.{◌>>=◌}
-use Rattle.ref_world.specs.Vocabularies.{Known, Standard, Custom, all_known, name, is_in_2019, is_uri_of, from_text}
+use Rattle.ref_definitions.specs.Fault.{as_invalid_uri}
+use Rattle.ref_definitions.specs.Results.{◌>>=◌}
+use Rattle.ref_definitions.specs.Vocabularies.{Known, Standard, Custom, all_known, name, is_in_2019, is_uri_of, from_text}
 use Rattle.ref_retrieve.specs.declared.error.Error.{Error}
 use Rattle.ref_retrieve.specs.Errors.{IsFaultOf, of_uri_fault}
 use Rattle.ref_retrieve.proofs.Saying.{refused_then}
@@ -42,9 +42,9 @@ none_found (Some k) e = cc
 -- a text that is no URI of a known one is refused as its meaning is
 pub fault_passed : {A : Type 0} (result : Result A Error) (fault : UriFault) (text : List ℕ)
     → None ≡ option_map Standard (find (is_uri_of text) all_known)
-    → IsErrAnd result (λ e. e ≡ of_uri_fault fault) → uri.IsFaultOf (parsed text) fault
+    → IsErrAnd result (λ e. e ≡ of_uri_fault fault) → uri.IsFaultOf (uri_of text) fault
     → IfErr result (IsFaultOf (as_invalid_uri (from_text text)))
 fault_passed (Ok x) fault text none is says = tt
 fault_passed (Err e) fault text none is says =
-    subst (λ o. IsFaultOf (as_invalid_uri (option_map_or (λ k. Ok (Standard k)) o (parsed text >>= λ u. Ok (Custom u)))) e) (sym (none_found (find (is_uri_of text) all_known) none))
-    (subst (λ w. IsFaultOf (as_invalid_uri (parsed text >>= λ u. Ok (Custom u))) w) (sym is) (refused_then (parsed text) (λ u. Ok (Custom u)) fault says))
+    subst (λ o. IsFaultOf (as_invalid_uri (option_map_or (λ k. Ok (Standard k)) o (uri_of text >>= λ u. Ok (Custom u)))) e) (sym (none_found (find (is_uri_of text) all_known) none))
+    (subst (λ w. IsFaultOf (as_invalid_uri (uri_of text >>= λ u. Ok (Custom u))) w) (sym is) (refused_then (uri_of text) (λ u. Ok (Custom u)) fault says))

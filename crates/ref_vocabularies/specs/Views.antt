@@ -3,11 +3,11 @@ use Rattle.std.specs.Prelude.{ℕ, List}
 use Rattle.std.specs.Ordering.{nat_cmp}
 use Rattle.std.specs.Cmp.Lexicographic.{slice_cmp}
 use Rattle.std.specs.List.Sorted.{IsStrictlySortedBy}
-use Rattle.ref_world.specs.Vocabularies as known
+use Rattle.ref_definitions.specs.Vocabularies as known
 use Rattle.ref_vocabularies.specs.declared.vocabulary.Vocabulary.{Vocabulary}
 use Rattle.ref_vocabularies.specs.declared.vocabulary.Vocabulary.TheVariants.{Core, Applicator, Unevaluated, Validation, Metadata, Format, FormatAnnotation, Content, FormatAssertion, Custom}
 
--- the vocabulary of a variant: this map is told here alone. The definition's `Custom` takes any text; in the program it is a
+-- the vocabulary of a variant: this map is given here alone. The definition's `Custom` takes any text; in the program it is a
 -- URI's, and the law `custom_vocabularies_are_uris` says that a text names no other
 abbrev pub vocabulary_of : Vocabulary → known.Vocabulary
 vocabulary_of Core = known.Standard known.Core

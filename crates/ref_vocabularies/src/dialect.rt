@@ -1,14 +1,14 @@
-//! Where the vocabularies of a schema are told: by its draft, or by the meta-schema that it names (2020-12 Core, 8.1.1 and
+//! Where the vocabularies of a schema are given: by its draft, or by the meta-schema that it names (2020-12 Core, 8.1.1 and
 //! 8.1.2).
 ghost use Rattle.std.specs.Prelude.{◌≡◌, codes, Ok, IfOk, IfErr, Option, Result};
 ghost use Rattle.std.specs.Option.{option_map_or};
 ghost use Rattle.serde_json.specs.View.{view};
-ghost use Rattle.ref_uri.specs.Targets.{Refusal, parsed};
+ghost use Rattle.ref_uri.specs.Targets.{Refusal, uri_of};
 ghost use Rattle.ref_draft.specs.Schema.{text_under};
 ghost use Rattle.ref_draft.specs.declared.draft.Draft.TheVariants.{Unknown};
-ghost use Rattle.ref_world.specs.World.{World};
-ghost use Rattle.ref_world.specs.Fault.{as_invalid_uri};
-ghost use Rattle.ref_world.specs.Vocabularies.{VocabularySet as SetOfVocabularies, default_set, find_in, set_or_default, set_at, find_vocabularies};
+ghost use Rattle.ref_definitions.specs.World.{World};
+ghost use Rattle.ref_definitions.specs.Fault.{as_invalid_uri};
+ghost use Rattle.ref_definitions.specs.Vocabularies.{VocabularySet as SetOfVocabularies, default_set, find_in, set_or_default, set_at, find_vocabularies};
 ghost use Rattle.ref_retrieve.specs.Errors.{IsFaultOf};
 ghost use Rattle.ref_vocabularies.specs.Dialects.{set_of_dialect};
 
@@ -20,7 +20,7 @@ use ref_uri::{Uri, UriFault, uri};
 use serde_json::Value;
 use std::alloc::{AllocError, Global};
 
-/// Where the vocabularies of a schema are told.
+/// Where the vocabularies of a schema are given.
 #[derive(Debug, Drop)]
 pub enum Dialect {
     /// They are these.
@@ -30,12 +30,12 @@ pub enum Dialect {
 }
 
 impl Dialect {
-    /// Where the vocabularies of a schema are told, which is read by a draft and whose own draft is that of its text under
+    /// Where the vocabularies of a schema are given, which is read by a draft and whose own draft is that of its text under
     /// `$schema`, or else the one that it is read by. Where its own draft is known, they are those of the draft that it is
     /// read by; else the document under the URI of that text, without the fragment, declares them. Where there is no such
     /// text, or it is no URI reference, they are the default ones of [`Draft::Unknown`].
     ///
-    /// Refused only for want of memory, which it takes for the URI. A look-up, and linear in the text.
+    /// Fails only where memory is refused, which it takes for the URI. A look-up, and linear in the text.
     pub fn of(alloc: Global, draft: Draft, contents: &Value) -> Result<Dialect, AllocError>
         ensures value { (world : World) → IfOk result (λ dialect. find_vocabularies world draft (view contents.now) ≡ set_of_dialect world dialect) }
     {
@@ -48,7 +48,7 @@ impl Dialect {
 
 // The dialect of a schema whose draft isn't known.
 fn custom(alloc: Global, contents: &Value) -> Result<Dialect, AllocError>
-    ensures { (world : World) → IfOk result (λ dialect. option_map_or (λ text. set_at world (parsed text)) (text_under (codes "$schema") (view contents.now)) (default_set Unknown) ≡ set_of_dialect world dialect) }
+    ensures { (world : World) → IfOk result (λ dialect. option_map_or (λ text. set_at world (uri_of text)) (text_under (codes "$schema") (view contents.now)) (default_set Unknown) ≡ set_of_dialect world dialect) }
 {
     match contents.get("$schema").and_then(Value::as_str) {
         Some(text) => named(alloc, text),
@@ -58,7 +58,7 @@ fn custom(alloc: Global, contents: &Value) -> Result<Dialect, AllocError>
 
 // The dialect of a schema whose meta-schema a text names.
 fn named(alloc: Global, text: &str) -> Result<Dialect, AllocError>
-    ensures { (world : World) → IfOk result (λ dialect. set_at world (parsed text.now) ≡ set_of_dialect world dialect) }
+    ensures { (world : World) → IfOk result (λ dialect. set_at world (uri_of text.now) ≡ set_of_dialect world dialect) }
 {
     match uri::from_str(alloc, text) {
         Ok(mut uri) => {
@@ -75,7 +75,7 @@ fn named(alloc: Global, text: &str) -> Result<Dialect, AllocError>
 /// The vocabularies that a meta-schema declares, as [`find`] has them; the default set of [`Draft::Unknown`] where there is no
 /// document, where it declares none, and where one of its keys is refused.
 ///
-/// Refused only for want of memory, which it takes as `find` does.
+/// Fails only where memory is refused, which it takes as `find` does.
 pub fn declared_or_default(
     alloc: Global,
     document: Option<&Value>,

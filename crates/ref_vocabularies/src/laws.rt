@@ -1,7 +1,7 @@
 //! Laws of vocabularies and their sets. Each function is empty: its contract states the law, and the check proves it.
 ghost use Rattle.std.specs.Prelude.{◌≡◌, ◌||◌, ℕ, List, true, Ok};
-ghost use Rattle.ref_uri.specs.Targets.{parsed};
-ghost use Rattle.ref_world.specs.Vocabularies.{Vocabulary as Defined, VocabularySet as DefinedSet, vocabulary_eq, set_eq, contains, with_vocabulary, from_text, Custom};
+ghost use Rattle.ref_uri.specs.Targets.{uri_of};
+ghost use Rattle.ref_definitions.specs.Vocabularies.{Vocabulary as Defined, VocabularySet as DefinedSet, vocabulary_eq, set_eq, contains, with_vocabulary, from_text, Custom};
 ghost use Rattle.ref_vocabularies.specs.declared.vocabulary.Vocabulary.{Vocabulary};
 ghost use Rattle.ref_vocabularies.specs.Views.{vocabulary_of};
 
@@ -29,5 +29,5 @@ pub fn sets_have_no_order_of_growth()
 
 /// A vocabulary that a text names and that is not known is the URI that the text means.
 pub fn custom_vocabularies_are_uris()
-    ensures law { (text uri : List ℕ) → from_text text ≡ Ok (Custom uri) → parsed text ≡ Ok uri }
+    ensures law { (text uri : List ℕ) → from_text text ≡ Ok (Custom uri) → uri_of text ≡ Ok uri }
 {}

@@ -3,8 +3,8 @@ ghost use Rattle.std.specs.Prelude.{◌≡◌, [], codes, Ok, IfOk, IfErr, OnOk,
 ghost use Rattle.serde_json.specs.Find.{get, as_object};
 ghost use Rattle.serde_json.specs.View.{view, members_view};
 ghost use Rattle.ref_draft.specs.Schema.{text_under};
-ghost use Rattle.ref_world.specs.Fault.{as_invalid_uri};
-ghost use Rattle.ref_world.specs.Vocabularies.{of_known, default_set, from_text, collected, known_set, set_of_members, find_in};
+ghost use Rattle.ref_definitions.specs.Fault.{as_invalid_uri};
+ghost use Rattle.ref_definitions.specs.Vocabularies.{of_known, default_set, from_text, collected_set, known_set, set_of_members, find_in};
 ghost use Rattle.ref_retrieve.specs.Errors.{IsFaultOf};
 ghost use Rattle.ref_vocabularies.specs.inner.Adding.{AddsMember};
 
@@ -91,8 +91,8 @@ fn known_set(id: &str) -> Option<Option<VocabularySet>>
 
 // The set that the members of `$vocabulary` declare.
 fn collected(alloc: Global, members: &Map<String, Value>) -> Result<VocabularySet, Error>
-    ensures ok { IfOk result (λ set. collected (of_known []) (members_view members.now.entries) ≡ Ok set) }
-    ensures fault { IfErr result (IsFaultOf (as_invalid_uri (collected (of_known []) (members_view members.now.entries)))) }
+    ensures ok { IfOk result (λ set. collected_set (of_known []) (members_view members.now.entries) ≡ Ok set) }
+    ensures fault { IfErr result (IsFaultOf (as_invalid_uri (collected_set (of_known []) (members_view members.now.entries)))) }
 {
     let mut set = VocabularySet::new();
     for (key, value) in members {

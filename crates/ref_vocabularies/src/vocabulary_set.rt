@@ -1,7 +1,7 @@
 //! Sets of vocabularies.
 ghost use Rattle.std.specs.Prelude.{◌≡◌, ◌<◌, ℕ, true, [], IsOk, OnOk, OnErr, slice_index_or as get_or};
 ghost use Rattle.std.specs.Int.RustNames.{bit_or};
-ghost use Rattle.ref_world.specs.Vocabularies.{Known, Core, Standard, all_known, name, has_uri, put, contains, with_vocabulary, of_known, of_bits};
+ghost use Rattle.ref_definitions.specs.Vocabularies.{Known, Core, Standard, all_known, name, has_uri, with_uri, contains, with_vocabulary, of_known, of_bits};
 ghost use Rattle.ref_vocabularies.specs.Views.{vocabulary_of, AreInByteOrder};
 ghost use Rattle.std.specs.Fmt.{WritesOnOk};
 ghost use Rattle.ref_vocabularies.specs.inner.Shown.{item};
@@ -32,7 +32,7 @@ pub struct VocabularySet {
 impl Model for VocabularySet {
     ghost use Rattle.std.specs.Prelude.{◌<◌, ◌^◌, []};
     ghost use Rattle.std.specs.Option.{option_map_or};
-    ghost use Rattle.ref_world.specs.Vocabularies.{VocabularySet as SetOfVocabularies};
+    ghost use Rattle.ref_definitions.specs.Vocabularies.{VocabularySet as SetOfVocabularies};
 
     ghost Value = { SetOfVocabularies };
 
@@ -79,8 +79,8 @@ impl VocabularySet {
 
     /// Adds a vocabulary; one that is in the set already changes nothing.
     ///
-    /// Refused only for want of memory, which a custom one takes that isn't there; the set is then as it was. A custom one is
-    /// looked for by binary search, and the URIs behind its place move by one.
+    /// Fails only where memory is refused, which a custom one takes that isn't there; the set is then as it was. A custom one is
+    /// looked for by binary search, and the URIs after its place move by one.
     pub fn add(&mut self, alloc: Global, vocabulary: Vocabulary) -> Result<(), AllocError>
         ensures added { OnOk result (self.new ≡ with_vocabulary self.old (vocabulary_of vocabulary)) }
         ensures refused { OnErr result (self.new ≡ self.old) }
@@ -125,7 +125,7 @@ impl VocabularySet {
 /// The empty set.
 impl Default for VocabularySet {
     ghost use Rattle.std.specs.Prelude.{◌≡◌, []};
-    ghost use Rattle.ref_world.specs.Vocabularies.{of_known};
+    ghost use Rattle.ref_definitions.specs.Vocabularies.{of_known};
 
     ghost is_default = { λ set. set ≡ of_known [] };
 
@@ -164,7 +164,7 @@ impl Clone for VocabularySet {
 /// Two are equal where the same vocabularies are in both, in whatever order they were added. Takes no memory.
 impl PartialEq for VocabularySet {
     ghost use Rattle.std.specs.Cmp.{partial_equiv_from_equiv};
-    ghost use Rattle.ref_world.specs.Vocabularies.{set_eq};
+    ghost use Rattle.ref_definitions.specs.Vocabularies.{set_eq};
     ghost use Rattle.ref_vocabularies.specs.inner.Alike.{set_equivalence};
 
     ghost eq = { set_eq };
@@ -186,7 +186,7 @@ impl Eq for VocabularySet {
 /// in quotes, joined by `, `, in brackets.
 impl fmt::Debug for VocabularySet {
     ghost use Rattle.std.specs.Prelude.{Some};
-    ghost use Rattle.ref_world.specs.Vocabularies.{set_text};
+    ghost use Rattle.ref_definitions.specs.Vocabularies.{set_text};
 
     ghost debug_output = { λ set. Some (set_text set) };
 
@@ -227,7 +227,7 @@ fn name_at(place: usize) -> &'static str
     }
 }
 
-// Writes a text in quotes, behind a separator where it is not the first.
+// Writes a text in quotes, after a separator where it is not the first.
 fn write_item<W: fmt::Write>(f: &mut fmt::Formatter<W>, is_first: bool, text: &str) -> fmt::Result
     ensures { WritesOnOk W.write_str_gives f.old result (item is_first text.now) f.new }
 {
@@ -238,7 +238,7 @@ fn write_item<W: fmt::Write>(f: &mut fmt::Formatter<W>, is_first: bool, text: &s
 // Puts a URI at its place.
 fn insert(uris: &mut Vec<Uri>, uri: Uri) -> Result<(), AllocError>
     requires { AreInByteOrder uris.old.items }
-    ensures added { OnOk result (uris.new.items ≡ put uri uris.old.items) }
+    ensures added { OnOk result (uris.new.items ≡ with_uri uri uris.old.items) }
     ensures refused { OnErr result (uris.new.items ≡ uris.old.items) }
     ensures there { has_uri uris.old.items uri ≡ true → IsOk result }
     ensures order { AreInByteOrder uris.new.items }

@@ -1,8 +1,9 @@
 //! Public calls of the libraries: what they cost, and how they are refused memory. Reads a line a call from standard input, and prints each line
-//! with its answer behind a colon.
+//! with its answer after a colon.
 //!
-//! A line `GROUP CALL`, as `uris parse`, makes a call on values of its own. `scripts/refusals` runs the program for each such line and each request
-//! for memory, with that request refused. Where the call wants memory, it is made again, and behind it other calls on the same values.
+//! A line `GROUP CALL`, as `uris parse`, makes a call on values of its own; what is after a tab isn't read here, and says for
+//! `scripts/refusals` that the call takes no memory. `scripts/refusals` runs the program for each such line and each request
+//! for memory, with that request refused. Where the call wants memory, it is made again, and after it other calls on the same values.
 //!
 //! A line `CALL TEXT SIZE TIMES`, as `parse names 100 1`, is a workload, whose answer is how much the calls answered together; `nothing` as
 //! the call measures the workload itself. It prints the same on every run; `docs/MEASUREMENTS.md` says how it is run under `valgrind
@@ -21,6 +22,7 @@ use std::process::ExitCode;
 
 /// What is printed of a line, which begins with a word.
 fn told(alloc: Global, line: &str) -> Result<Trial, Stop> {
+    let (line, _) = line.split_once('\t').unwrap_or((line, ""));
     let (word, call) = line.split_once(' ').unwrap_or((line, ""));
     if refused::is_group(word) {
         refused::row(alloc, word, call)

@@ -3,25 +3,25 @@ use Rattle.std.proofs.Common.{◌≡◌, ◌∙◌, ℕ, List, [], ◌∷◌, �
 use Rattle.std.specs.List.{Contains}
 use Rattle.std.proofs.lemmas.List.Elements.{All-contains, All-from_recursion}
 use Rattle.ref_parts.specs.Path.{Part, value_at}
-use Rattle.ref_world.specs.World.{Document, World}
-use Rattle.ref_world.specs.Places.{Place, places}
-use Rattle.ref_world.specs.Wants.{faults}
-use Rattle.ref_world.specs.Fault.{Fault}
-use Rattle.ref_world.specs.Lookup as world
-use Rattle.ref_world.specs.Lookup.{located}
-use Rattle.ref_world.specs.Agreement.{ChildrenStand, IsAtOrBelow, IsReadAlike, IsPathOfTexts}
-use Rattle.ref_world.proofs.AtOrBelow.{below_is_place, place_has_base}
-use Rattle.ref_world.proofs.Located.{leads_to}
-use Rattle.ref_world.proofs.Standing.{StandsAt, all_stand_where}
+use Rattle.ref_definitions.specs.World.{Document, World}
+use Rattle.ref_definitions.specs.Places.{Place, places}
+use Rattle.ref_definitions.specs.Wants.{faults}
+use Rattle.ref_definitions.specs.Fault.{Fault}
+use Rattle.ref_definitions.specs.Lookup as world
+use Rattle.ref_definitions.specs.Lookup.{located_value}
+use Rattle.ref_definitions.specs.Agreement.{ChildrenStand, IsAtOrBelow, IsReadAlike, IsPathOfTexts}
+use Rattle.ref_definitions.proofs.AtOrBelow.{below_is_place, place_has_base}
+use Rattle.ref_definitions.proofs.Located.{leads_to}
+use Rattle.ref_definitions.proofs.Standing.{StandsAt, all_stand_where}
 use Rattle.ref_retrieve.specs.declared.error.Error.{Error}
 use Rattle.ref_retrieve.specs.declared.error.Error.TheVariants as error
 use Rattle.ref_retrieve.specs.Errors.{IsFaultOf}
 use Rattle.ref_resolver.specs.declared.resolver.Resolved.{Resolved}
-use Rattle.ref_resolver.specs.Layered.{own}
+use Rattle.ref_resolver.specs.Layered.{own_layer}
 use Rattle.ref_resolver.specs.Resolving.{found_of}
 use Rattle.referencing.specs.Listed.{IsMemory, AnswersPlace}
 
--- a place's value stands at its path, where the children of the document's places do
+-- a place's value is at its path, where the children of the document's places do
 pub value_there : (d : Document) (p : Place) → ChildrenStand d → Contains (places d) p → value_at d.tree p.path ≡ Some p.value
 value_there d p children there = All-contains (StandsAt d.tree) (places d) p (All-from_recursion (StandsAt d.tree) (places d) (all_stand_where d children)) there
 
@@ -35,8 +35,8 @@ pub record LeadsHere (answer : Result world.Found Fault) (q : Place) (uri : List
   pub is : q.base ≡ Ok base
   pub found : answer ≡ Ok (found_at q uri base)
 
-pub leads_here : (world : World) (d : Document) (r q : Place) (uri : List ℕ) (path : List Part) → ((e : Document) → Contains (own world) e → ChildrenStand e) → faults (own world) ≡ []
-    → IsReadAlike (own world) d r uri → IsAtOrBelow q r → q.path ≡ r.path ++ path → IsPathOfTexts path → LeadsHere (located world uri path) q uri
+pub leads_here : (world : World) (d : Document) (r q : Place) (uri : List ℕ) (path : List Part) → ((e : Document) → Contains (own_layer world) e → ChildrenStand e) → faults (own_layer world) ≡ []
+    → IsReadAlike (own_layer world) d r uri → IsAtOrBelow q r → q.path ≡ r.path ++ path → IsPathOfTexts path → LeadsHere (located_value world uri path) q uri
 leads_here [] d r q uri path children none alike under is texts = absurd (omega (arith, alike.document.1))
 leads_here (layer ∷ parents) d r q uri path children none alike under is texts =
     let base = place_has_base layer d q none alike.document (below_is_place d q r alike.place under) in

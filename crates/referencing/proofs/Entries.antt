@@ -5,7 +5,7 @@ use Rattle.std.specs.Cmp.Lexicographic.{nat_list_eq_equiv}
 use Rattle.std.specs.Map.{keys_of}
 use Rattle.std.proofs.lemmas.Slice.Eq.{bytes_eq-Decides}
 use Rattle.indexmap.specs.IndexMap.{insert_entry}
-use Rattle.ref_world.specs.Pending.{Pending, with_pending}
+use Rattle.ref_definitions.specs.Pending.{Pending, with_pending}
 use Rattle.referencing.specs.declared.input.PendingResource.{PendingResource}
 use Rattle.referencing.specs.Builder.{pending_under}
 

@@ -4,6 +4,5 @@ pub mod Retrieved
 pub mod Preparing
 pub mod Cloning
 pub mod Stepping
-pub mod Writing
 pub mod Agreeing
 pub mod Shown

@@ -2,24 +2,24 @@
 use Rattle.std.proofs.Common.{◌≡◌, ℕ, List, Ok, Err, sym, subst}
 use Rattle.serde_json.specs.Data.{Data}
 use Rattle.ref_draft.specs.declared.draft.Draft.{Draft}
-use Rattle.ref_world.specs.World.{Layer, World}
-use Rattle.ref_world.specs.Fault as fault
-use Rattle.ref_world.specs.Fault.{Fault}
-use Rattle.ref_world.specs.Preparing.{Given, IsOutcome}
-use Rattle.ref_world.specs.Closure.{IsReady, IsUsedUp}
-use Rattle.ref_world.proofs.Closure.{outcome_laws}
+use Rattle.ref_definitions.specs.World.{Layer, World}
+use Rattle.ref_definitions.specs.Fault as fault
+use Rattle.ref_definitions.specs.Fault.{Fault}
+use Rattle.ref_definitions.specs.Preparing.{Given, IsOutcome}
+use Rattle.ref_definitions.specs.Closure.{IsReady, IsUsedUp}
+use Rattle.ref_definitions.proofs.Closure.{outcome_laws}
 use Rattle.ref_retrieve.specs.declared.error.Error.{Error}
 use Rattle.ref_retrieve.specs.declared.error.Error.TheVariants as error
-use Rattle.ref_index.specs.Retrieval.{given, IsFaultyOutcome}
+use Rattle.ref_index.specs.Retrieval.{given_with, IsFaultyOutcome}
 use Rattle.referencing.specs.Prepared.{LimitIsUsedUp, AreComplete}
 use Rattle.referencing.specs.Listed.{IsMemory}
 
 -- what is given, told otherwise
 pub same_given : (P : Given → Type 0) (may_answer : List ℕ → Data → Type 0) (may_refuse : List ℕ → List ℕ → Type 0) (limit : ℕ) (d d' : Draft) (ps ps' : World) (ds ds' : Layer) → d ≡ d' → ps ≡ ps' → ds ≡ ds'
-    → P (given may_answer may_refuse limit d ps ds) → P (given may_answer may_refuse limit d' ps' ds')
+    → P (given_with may_answer may_refuse limit d ps ds) → P (given_with may_answer may_refuse limit d' ps' ds')
 same_given P may_answer may_refuse limit d d' ps ps' ds ds' draft parents documents is =
-    subst (λ x. P (given may_answer may_refuse limit d' ps' x)) documents
-    (subst (λ x. P (given may_answer may_refuse limit d' x ds)) parents (subst (λ x. P (given may_answer may_refuse limit x ps ds)) draft is))
+    subst (λ x. P (given_with may_answer may_refuse limit d' ps' x)) documents
+    (subst (λ x. P (given_with may_answer may_refuse limit d' x ds)) parents (subst (λ x. P (given_with may_answer may_refuse limit x ps ds)) draft is))
 
 pub ready_of : (g : Given) (layer : Layer) → IsOutcome g (Ok layer) → IsReady g layer
 ready_of g layer outcome = (outcome_laws g).ready layer outcome

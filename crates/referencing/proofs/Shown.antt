@@ -1,6 +1,6 @@
 -- What a registry shows for debugging.
 use Rattle.std.proofs.Common.{◌≡◌, refl, subst, ℕ, ◌∷◌, ◌++◌, length, codes, decimal, append_assoc}
-use Rattle.ref_world.specs.World.{Layer, World}
+use Rattle.ref_definitions.specs.World.{Layer, World}
 use Rattle.referencing.specs.Prepared.{registry_text}
 
 pub counts_shown : (layer : Layer) (parents world : World) (documents count : ℕ) → layer ∷ parents ≡ world → documents ≡ length layer → count ≡ length parents

@@ -3,8 +3,8 @@ use Rattle.std.specs.Prelude.{◌≡◌, ℕ, List, map, Option, None, Some, Res
 use Rattle.serde_json.specs.Data.{Data}
 use Rattle.ref_uri.specs.Targets.{Refusal}
 use Rattle.ref_draft.specs.declared.draft.Draft.{Draft}
-use Rattle.ref_world.specs.World.{World}
-use Rattle.ref_world.specs.Pending.{Addition, Pending}
+use Rattle.ref_definitions.specs.World.{World}
+use Rattle.ref_definitions.specs.Pending.{Addition, Pending}
 use Rattle.ref_index.specs.Contents.{tree_of}
 use Rattle.referencing.specs.declared.input.PendingResource.{PendingResource}
 use Rattle.referencing.specs.declared.builder.RegistryBuilder.{RegistryBuilder}
@@ -23,8 +23,8 @@ abbrev pub pending_under : List ℕ × PendingResource → Pending
 pending_under e = record { uri = e.0; tree = tree_of e.1.contents; draft = e.1.draft }
 
 -- the builder that the program's is
-abbrev pub seen : {R : Type 0} → RegistryBuilder R → Builder R
-seen b = record {
+abbrev pub builder_of : {R : Type 0} → RegistryBuilder R → Builder R
+builder_of b = record {
   retriever = b.retriever;
   limit = b.limit;
   draft = b.draft;
@@ -53,8 +53,8 @@ abbrev pub standing_above : {R : Type 0} → World → Builder R → Builder R
 standing_above parents b = record { retriever = b.retriever; limit = b.limit; draft = b.draft; parents = parents; pending = b.pending }
 
 -- with these pending documents
-abbrev pub holding : {R : Type 0} → List Pending → Builder R → Builder R
-holding pending b = record { retriever = b.retriever; limit = b.limit; draft = b.draft; parents = b.parents; pending = pending }
+abbrev pub holding_pending : {R : Type 0} → List Pending → Builder R → Builder R
+holding_pending pending b = record { retriever = b.retriever; limit = b.limit; draft = b.draft; parents = b.parents; pending = pending }
 
 -- what is added: a text, a tree, and perhaps a draft
 abbrev pub addition : List ℕ → Data → Option Draft → Addition
@@ -62,4 +62,4 @@ addition text tree draft = record { text = text; tree = tree; draft = draft }
 
 -- the builder is the old one, but holds the documents that these additions lead to
 abbrev pub Adds : {R : Type 0} → Result (List Pending) Refusal → Builder R → Builder R → Type 0
-Adds additions old new = (pending : List Pending) × (additions ≡ Ok pending) × (new ≡ holding pending old)
+Adds additions old new = (pending : List Pending) × (additions ≡ Ok pending) × (new ≡ holding_pending pending old)

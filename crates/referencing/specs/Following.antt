@@ -6,9 +6,9 @@ use Rattle.serde_json.specs.View.{view}
 use Rattle.serde_json.specs.declared.value.Value.{Value}
 use Rattle.ref_draft.specs.declared.draft.Draft.{Draft}
 use Rattle.ref_draft.specs.Views.{resource_ref}
-use Rattle.ref_world.specs.World.{World}
-use Rattle.ref_world.specs.Fault.{Fault}
-use Rattle.ref_world.specs.Follow as world
+use Rattle.ref_definitions.specs.World.{World}
+use Rattle.ref_definitions.specs.Fault.{Fault}
+use Rattle.ref_definitions.specs.Follow as world
 use Rattle.ref_retrieve.specs.declared.error.Error.{Error}
 use Rattle.ref_retrieve.specs.declared.error.Error.TheVariants as error
 use Rattle.ref_retrieve.specs.Errors.{SaysFault, error_text}
@@ -34,9 +34,9 @@ followed_of f = record { last = lent_last f.last; resolver = resolver_of f.resol
 
 -- the steps before the one with this number lead somewhere
 abbrev pub ReachesStep : World → List ℕ → List world.Step → ℕ → Type 0
-ReachesStep w base steps number = (f : world.Followed) × (world.followed w base (take number steps) ≡ Ok f)
+ReachesStep w base steps number = (f : world.Followed) × (world.followed_steps w base (take number steps) ≡ Ok f)
 
--- the error says the fault that the answer is, with the number of its step, or is want of memory
+-- the error says the fault that the answer is, with the number of its step, or is out of memory
 abbrev pub SaysStepFault : Result world.Followed (ℕ × Fault) → ℕ → Error → Type 0
 SaysStepFault answer number (error.Memory memory) = ⊤
 SaysStepFault answer number error = (fault : Fault) × (answer ≡ Err (number, fault)) × SaysFault error fault

@@ -5,3 +5,50 @@ pub mod Answering
 pub mod MetaSchemas
 pub mod Listed
 pub mod Rows
+-- What public clauses cite of the crates below: a caller imports it from here.
+pub use Rattle.ref_definitions.specs.World
+pub use Rattle.ref_definitions.specs.Places
+pub use Rattle.ref_definitions.specs.Resources
+pub use Rattle.ref_definitions.specs.Anchors
+pub use Rattle.ref_definitions.specs.Wants
+pub use Rattle.ref_definitions.specs.Cached
+pub use Rattle.ref_definitions.specs.References
+pub use Rattle.ref_definitions.specs.Preparing
+pub use Rattle.ref_definitions.specs.Retrievers
+pub use Rattle.ref_definitions.specs.Pending
+pub use Rattle.ref_definitions.specs.Bases
+pub use Rattle.ref_definitions.specs.Changes
+pub use Rattle.ref_definitions.specs.Pointers
+pub use Rattle.ref_definitions.specs.Reading
+pub use Rattle.ref_definitions.specs.Lookup
+pub use Rattle.ref_definitions.specs.Recursive
+pub use Rattle.ref_definitions.specs.Follow
+pub use Rattle.ref_definitions.specs.Agreement
+pub use Rattle.ref_definitions.specs.Listing
+pub use Rattle.ref_definitions.specs.Vocabularies
+pub use Rattle.ref_definitions.specs.Fault
+pub use Rattle.ref_definitions.specs.Results
+pub use Rattle.ref_definitions.specs.Closure
+pub use Rattle.ref_uri.specs.Targets
+pub use Rattle.ref_uri.specs.Reference
+pub use Rattle.ref_uri.specs.Errors as UriErrors
+pub use Rattle.ref_parts.specs.Path
+pub use Rattle.ref_parts.specs.Pointer
+pub use Rattle.ref_parts.specs.Segment
+pub use Rattle.ref_parts.specs.Encoded
+pub use Rattle.ref_draft.specs.Schema
+pub use Rattle.ref_draft.specs.Children
+pub use Rattle.ref_draft.specs.Views
+pub use Rattle.ref_draft.specs.Anchors as AnchorsOfValues
+pub use Rattle.ref_draft.specs.declared.draft.Draft
+pub use Rattle.ref_draft.specs.declared.spec.walk.Child
+pub use Rattle.ref_retrieve.specs.Errors
+pub use Rattle.ref_retrieve.specs.Retrieving
+pub use Rattle.ref_retrieve.specs.declared.error.Error
+pub use Rattle.ref_index.specs.Document
+pub use Rattle.ref_index.specs.Contents
+pub use Rattle.ref_index.specs.Retrieval
+pub use Rattle.ref_index.specs.Listing as ListedPlaces
+pub use Rattle.ref_resolver.specs.Layered
+pub use Rattle.ref_resolver.specs.Resolving
+pub use Rattle.ref_resolver.specs.Locations

@@ -1,20 +1,20 @@
 -- What the calls on places answer.
 use Rattle.std.specs.Prelude.{◌≡◌, ℕ, List, [], ◌∷◌, ◌++◌, Result, Ok, Err, ⊤}
 use Rattle.ref_parts.specs.Path.{Part}
-use Rattle.ref_world.specs.World.{Document, Layer}
-use Rattle.ref_world.specs.Places.{Place}
-use Rattle.ref_world.specs.Agreement.{IsAtOrBelow, IsReadAlike}
+use Rattle.ref_definitions.specs.World.{Document, Layer}
+use Rattle.ref_definitions.specs.Places.{Place}
+use Rattle.ref_definitions.specs.Agreement.{IsAtOrBelow, IsReadAlike}
 use Rattle.ref_retrieve.specs.declared.error.Error.{Error}
 use Rattle.ref_retrieve.specs.declared.error.Error.TheVariants as error
 use Rattle.ref_resolver.specs.declared.resolver.Resolved.{Resolved}
 use Rattle.ref_resolver.specs.Resolving.{found_of}
 
--- an error is want of memory
+-- an error is out of memory
 abbrev pub IsMemory : Error → Type 0
 IsMemory (error.Memory memory) = ⊤
 IsMemory other = ⊥
 
--- what a call answers is this place's value, its draft and its base, with the URI that it was asked at as the scope; or
+-- what a call returns is this place's value, its draft and its base, with the URI that it was asked at as the scope; or
 -- memory was refused
 abbrev pub AnswersPlace : Place → List ℕ → Result Resolved Error → Type 0
 AnswersPlace q uri (Ok found) =
@@ -22,7 +22,7 @@ AnswersPlace q uri (Ok found) =
     × (found_of found ≡ record { value = q.value; draft = q.draft; resolver = record { base = base; scope = uri ∷ [] } })
 AnswersPlace q uri (Err error) = IsMemory error
 
--- from a resource that the pointer and the keywords read alike, a path answers the place that stands there, at or below it
+-- from a resource that the pointer and the keywords read alike, a path answers the place that is there, at or below it
 abbrev pub Agrees : Layer → List ℕ → List Part → Result Resolved Error → Type 0
 Agrees layer uri path result =
     (d : Document) (r q : Place) → IsReadAlike layer d r uri → IsAtOrBelow q r → q.path ≡ r.path ++ path

@@ -4,10 +4,10 @@ use Rattle.std.specs.Borrow.{Bor}
 use Rattle.serde_json.specs.View.{view}
 use Rattle.serde_json.specs.declared.value.Value.{Value}
 use Rattle.ref_uri.specs.Targets.{Refusal}
-use Rattle.ref_world.specs.Fault.{as_invalid_uri}
-use Rattle.ref_world.specs.Preparing.{Given}
-use Rattle.ref_world.specs.Retrievers.{default_retriever}
-use Rattle.ref_world.specs.Pending.{Addition, Pending, given_of_builder}
+use Rattle.ref_definitions.specs.Fault.{as_invalid_uri}
+use Rattle.ref_definitions.specs.Preparing.{Given}
+use Rattle.ref_definitions.specs.Retrievers.{default_retriever}
+use Rattle.ref_definitions.specs.Pending.{Addition, Pending, given_of_builder}
 use Rattle.ref_retrieve.specs.declared.error.Error.{Error}
 use Rattle.ref_retrieve.specs.Errors.{IsFaultOf}
 use Rattle.ref_index.specs.Retrieval.{IsFaultyOutcome}

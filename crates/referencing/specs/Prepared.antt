@@ -1,52 +1,52 @@
--- What holds of every registry, and what it answers of URIs.
+-- What holds of every registry, and what it returns of URIs.
 use Rattle.std.specs.Prelude.{◌≡◌, ℕ, List, [], ◌∷◌, Bool, false, is_some, string_bytes, codes, decimal, ◌++◌, length, drop, Some, Ok, Err, ⊤}
 use Rattle.std.specs.List.{Contains}
 use Rattle.serde_json.specs.Data.{Data}
 use Rattle.std.specs.Option.{option_map_or}
 use Rattle.std.specs.Result.{result_ok}
-use Rattle.ref_uri.specs.Targets.{parsed}
+use Rattle.ref_uri.specs.Targets.{uri_of}
 use Rattle.ref_draft.specs.Schema.{text_under}
-use Rattle.ref_world.specs.World.{Document, Layer, World}
-use Rattle.ref_world.specs.Places.{Place, places}
-use Rattle.ref_world.specs.Fault.{Unretrievable}
-use Rattle.ref_world.specs.Lookup.{Resolver, lookup}
-use Rattle.ref_world.specs.Resources.{means}
-use Rattle.ref_world.specs.Wants.{faults, open_wants}
-use Rattle.ref_world.specs.Preparing.{Given, IsOutcome}
-use Rattle.ref_world.specs.Closure.{IsReady, IsUsedUp}
-use Rattle.ref_world.specs.Pending.{given_of_builder}
+use Rattle.ref_definitions.specs.World.{Document, Layer, World}
+use Rattle.ref_definitions.specs.Places.{Place, places}
+use Rattle.ref_definitions.specs.Fault.{Unretrievable}
+use Rattle.ref_definitions.specs.Lookup.{Resolver, lookup}
+use Rattle.ref_definitions.specs.Resources.{meant_place}
+use Rattle.ref_definitions.specs.Wants.{faults, open_wants}
+use Rattle.ref_definitions.specs.Preparing.{Given, IsOutcome}
+use Rattle.ref_definitions.specs.Closure.{IsReady, IsUsedUp}
+use Rattle.ref_definitions.specs.Pending.{given_of_builder}
 use Rattle.ref_retrieve.specs.declared.error.Error.{Error}
 use Rattle.ref_retrieve.specs.declared.error.Error.TheVariants as error
 use Rattle.ref_retrieve.specs.Retrieving.{retriever_of}
-use Rattle.ref_resolver.specs.Layered.{own}
+use Rattle.ref_resolver.specs.Layered.{own_layer}
 use Rattle.referencing.specs.Builder.{Builder}
 
 -- its own documents have no fault and no open want
 pub record IsPrepared (world : World) : Type 0 where
-  pub no_fault : faults (own world) ≡ []
-  pub no_want : open_wants world (own world) ≡ []
+  pub no_fault : faults (own_layer world) ≡ []
+  pub no_want : open_wants world (own_layer world) ≡ []
 
 -- no `$ref` of an own place is unretrievable: looked up from the place's base, with any dynamic scope, its text leads to a
 -- value, or to another fault
 abbrev pub ReferencesAreRetrieved : World → Type 0
 ReferencesAreRetrieved world =
     (d : Document) (place : Place) (resolver : Resolver) (reference : List ℕ)
-    → Contains (own world) d → Contains (places d) place → place.base ≡ Ok resolver.base → text_under (codes "$ref") place.value ≡ Some reference
+    → Contains (own_layer world) d → Contains (places d) place → place.base ≡ Ok resolver.base → text_under (codes "$ref") place.value ≡ Some reference
     → (uri source : List ℕ) → ¬ (lookup world resolver reference ≡ Err (Unretrievable uri source))
 
 -- what a registry shows for debugging: how many own documents and how many parents it has
 abbrev pub registry_text : World → List ℕ
-registry_text world = codes "Registry { documents: " ++ decimal (length (own world)) ++ codes ", parents: " ++ decimal (length (drop 1 world)) ++ codes " }"
+registry_text world = codes "Registry { documents: " ++ decimal (length (own_layer world)) ++ codes ", parents: " ++ decimal (length (drop 1 world)) ++ codes " }"
 
 -- whether a text is a URI that means a place
 abbrev pub contains_resource : World → List ℕ → Bool
-contains_resource world text = option_map_or (λ uri. is_some (means world uri)) (result_ok (parsed text)) false
+contains_resource world text = option_map_or (λ uri. is_some (meant_place world uri)) (result_ok (uri_of text)) false
 
--- what preparing is given by a builder, whose retriever may answer and refuse so
+-- what preparing is given by a builder, whose retriever may return and refuse so
 abbrev pub given_of : {R : Type 0} → (List ℕ → Data → Type 0) → (List ℕ → List ℕ → Type 0) → Builder R → Given
 given_of may_answer may_refuse b = given_of_builder (retriever_of may_answer may_refuse) b.limit b.draft b.parents b.pending
 
--- a registry's world is that of an outcome, in front of the parents; so its own documents are those given and what was
+-- a registry's world is that of an outcome, before the parents; so its own documents are those given and what was
 -- retrieved for them, and nothing in it is faulty or wanted
 abbrev pub IsPreparedOf : Given → World → Type 0
 IsPreparedOf given world = (layer : Layer) × IsOutcome given (Ok layer) × IsReady given layer × (world ≡ layer ∷ given.parents)

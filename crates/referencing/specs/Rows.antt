@@ -3,12 +3,12 @@ use Rattle.std.specs.Prelude.{◌≡◌, true, codes, [], ◌∷◌, Ok, Err, St
 use Rattle.std.specs.declared.alloc.AllocError.{AllocError}
 use Rattle.std.specs.declared.alloc.Global.{Global}
 use Rattle.ref_draft.specs.declared.draft.Draft.TheVariants.{Draft7}
-use Rattle.ref_uri.specs.Targets.{unparsed}
+use Rattle.ref_uri.specs.Targets.{parse_refusal}
 use Rattle.ref_uri.specs.declared.error.UriError.TheVariants.{Parse}
 use Rattle.ref_uri.specs.declared.error.ParseError.TheVariants.{Syntax}
-use Rattle.ref_world.specs.Fault as fault
-use Rattle.ref_world.specs.Places.{root}
-use Rattle.ref_world.specs.Rows.{at, world, yes, empty, c_is_true, given_alone, given_with, look, found, resolver}
+use Rattle.ref_definitions.specs.Fault as fault
+use Rattle.ref_definitions.specs.Places.{root}
+use Rattle.ref_definitions.specs.Rows.{at, world, yes, empty, c_is_true, given_alone, given_with, look, found_value, resolver}
 use Rattle.ref_retrieve.specs.declared.error.Error.TheVariants.{PointerToNowhere, NoSuchAnchor, InvalidUri, RetrievalLimit, Memory}
 use Rattle.ref_index.specs.Retrieval.{IsFaultyOutcome}
 use Rattle.ref_resolver.specs.declared.resolver.Resolved.{Resolved}
@@ -20,7 +20,7 @@ use Rattle.referencing.specs.Following.{IsStepFaultOf}
 use Rattle.referencing.specs.Listed.{AnswersPlace, Agrees}
 use Rattle.referencing.specs.Answering.{IsFailureOf}
 
--- which worlds and errors preparing may answer
+-- which worlds and errors preparing may return
 pub record PreparingRows : Type 0 where
   pub prepared : IsPreparedOf (given_alone (c_is_true ∷ [])) (world (c_is_true ∷ []))
   pub not_prepared : ¬ (IsPreparedOf (given_alone (c_is_true ∷ [])) (world []))
@@ -28,10 +28,10 @@ pub record PreparingRows : Type 0 where
   pub no_fault : (uri : String Global) → ¬ (IsFaultyOutcome (given_alone (c_is_true ∷ [])) (RetrievalLimit uri 0))
   pub used_up : (uri : String Global) → string_bytes uri ≡ codes "http://a/b" → LimitIsUsedUp (given_with 0) (RetrievalLimit uri 0)
   pub not_used_up : (uri : String Global) → ¬ (LimitIsUsedUp (given_with 2) (RetrievalLimit uri 1))
-  pub refused_uri_of_a_meta_schema : (u : String Global) → string_bytes u ≡ codes "a b" → IsMetaSchemaFault (Err (unparsed (codes "a b"))) (InvalidUri (Parse u true Syntax))
-  pub no_other_fault_of_a_meta_schema : (p : String Global) → ¬ (IsMetaSchemaFault (Err (unparsed (codes "a b"))) (NoSuchAnchor p))
+  pub refused_uri_of_a_meta_schema : (u : String Global) → string_bytes u ≡ codes "a b" → IsMetaSchemaFault (Err (parse_refusal (codes "a b"))) (InvalidUri (Parse u true Syntax))
+  pub no_other_fault_of_a_meta_schema : (p : String Global) → ¬ (IsMetaSchemaFault (Err (parse_refusal (codes "a b"))) (NoSuchAnchor p))
 
--- which errors following may answer
+-- which errors following may return
 pub record StepRows : Type 0 where
   pub second_step : (p : String Global) → string_bytes p ≡ codes "/a" → IsStepFaultOf (Err (1, fault.PointerToNowhere (codes "/a"))) (record { step = 1; error = PointerToNowhere p })
   pub not_the_first : (p : String Global) → ¬ (IsStepFaultOf (Err (1, fault.PointerToNowhere (codes "/a"))) (record { step = 0; error = PointerToNowhere p }))
@@ -40,8 +40,8 @@ pub record StepRows : Type 0 where
 
 -- which answers are a place's
 pub record PlaceRows : Type 0 where
-  pub of_the_place : (r : Resolved) → found_of r ≡ found yes Draft7 (resolver "http://a/r" (codes "http://a/r" ∷ [])) → AnswersPlace (root (at Draft7 "http://a/r" yes)) (codes "http://a/r") (Ok r)
-  pub of_another_value : (r : Resolved) → found_of r ≡ found empty Draft7 (resolver "http://a/r" (codes "http://a/r" ∷ [])) → ¬ (AnswersPlace (root (at Draft7 "http://a/r" yes)) (codes "http://a/r") (Ok r))
+  pub of_the_place : (r : Resolved) → found_of r ≡ found_value yes Draft7 (resolver "http://a/r" (codes "http://a/r" ∷ [])) → AnswersPlace (root (at Draft7 "http://a/r" yes)) (codes "http://a/r") (Ok r)
+  pub of_another_value : (r : Resolved) → found_of r ≡ found_value empty Draft7 (resolver "http://a/r" (codes "http://a/r" ∷ [])) → ¬ (AnswersPlace (root (at Draft7 "http://a/r" yes)) (codes "http://a/r") (Ok r))
   pub want_of_memory : (e : AllocError) → Agrees (at Draft7 "http://a/r" yes ∷ []) (codes "http://a/r") [] (Err (Memory e))
   pub no_other_error : (p : String Global) → ¬ (Agrees (at Draft7 "http://a/r" yes ∷ []) (codes "http://a/r") [] (Err (NoSuchAnchor p)))
-  pub no_other_value : (r : Resolved) → found_of r ≡ found empty Draft7 (resolver "http://a/r" (codes "http://a/r" ∷ [])) → ¬ (Agrees (at Draft7 "http://a/r" yes ∷ []) (codes "http://a/r") [] (Ok r))
+  pub no_other_value : (r : Resolved) → found_of r ≡ found_value empty Draft7 (resolver "http://a/r" (codes "http://a/r" ∷ [])) → ¬ (Agrees (at Draft7 "http://a/r" yes ∷ []) (codes "http://a/r") [] (Ok r))

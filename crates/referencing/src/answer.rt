@@ -1,6 +1,6 @@
 //! From documents to what steps lead to, in one call.
 ghost use Rattle.std.specs.Prelude.{◌≡◌, map, IfOk, IfErr};
-ghost use Rattle.referencing.specs.Builder.{seen};
+ghost use Rattle.referencing.specs.Builder.{builder_of};
 ghost use Rattle.referencing.specs.Prepared.{given_of};
 ghost use Rattle.referencing.specs.Following.{step_of, lent_last, followed_of};
 ghost use Rattle.referencing.specs.Answering.{copied_last, answer_of, Answers, IsFailureOf};
@@ -33,7 +33,7 @@ pub struct Answer {
 pub enum AnswerError {
     /// The documents can't be prepared.
     Prepare(Error),
-    /// A step leads nowhere.
+    /// A step finds no value.
     Follow(FollowError),
     /// All steps lead somewhere, and there is no memory for the copy.
     Memory(AllocError),
@@ -81,13 +81,13 @@ impl<'a, R: Retrieve + Drop> RegistryBuilder<'a, R> {
     /// Prepares the documents, follows steps from a base URI, and copies what they lead to out of the registry: one question
     /// to documents that nothing else is asked of.
     ///
-    /// The answer is what the steps lead to over documents that preparing may answer: those that were added and those that
+    /// The answer is what the steps lead to over documents that preparing may return: those that were added and those that
     /// were retrieved for them. `Prepare` tells a fault of the documents, a refusal of the retriever, or the limit, as
-    /// [`RegistryBuilder::prepare`] does; `Follow` the first step that leads nowhere, as [`follow`] does; `Memory` that there
+    /// [`RegistryBuilder::prepare`] does; `Follow` the first step that finds no value, as [`follow`] does; `Memory` that there
     /// is none for the copy.
     pub fn prepare_and_follow(self, base: Uri, steps: &[Step<'_>]) -> Result<Answer, AnswerError>
-        ensures answer { IfOk result (λ answer. Answers (given_of (R.may_answer (seen self.entry).retriever) (R.may_refuse (seen self.entry).retriever) (seen self.entry)) base (map step_of steps.now) (answer_of answer)) }
-        ensures fault { IfErr result (IsFailureOf (given_of (R.may_answer (seen self.entry).retriever) (R.may_refuse (seen self.entry).retriever) (seen self.entry)) base (map step_of steps.now)) }
+        ensures answer { IfOk result (λ answer. Answers (given_of (R.may_answer (builder_of self.entry).retriever) (R.may_refuse (builder_of self.entry).retriever) (builder_of self.entry)) base (map step_of steps.now) (answer_of answer)) }
+        ensures fault { IfErr result (IsFailureOf (given_of (R.may_answer (builder_of self.entry).retriever) (R.may_refuse (builder_of self.entry).retriever) (builder_of self.entry)) base (map step_of steps.now)) }
     {
         let alloc = self.alloc;
         let registry = match self.prepare() {

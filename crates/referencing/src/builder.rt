@@ -1,11 +1,11 @@
 //! What a registry is made of, before it is prepared.
 ghost use Rattle.std.specs.Prelude.{◌≡◌, List, [], None, map, IfOk, IfErr, OnOk, OnErr};
 ghost use Rattle.std.specs.Iterator.{Drains, Yields, IsFinite};
-ghost use Rattle.ref_world.specs.Fault.{as_invalid_uri};
-ghost use Rattle.ref_world.specs.Pending.{added, extended, with_pending};
+ghost use Rattle.ref_definitions.specs.Fault.{as_invalid_uri};
+ghost use Rattle.ref_definitions.specs.Pending.{with_addition, with_additions, with_pending};
 ghost use Rattle.ref_index.specs.Contents.{tree_of};
 ghost use Rattle.ref_retrieve.specs.Errors.{IsFaultOf};
-ghost use Rattle.referencing.specs.Builder.{pending_under, seen, setting_draft, retrieving_from, limited_to, standing_above, addition, Adds};
+ghost use Rattle.referencing.specs.Builder.{pending_under, builder_of, setting_draft, retrieving_from, limited_to, standing_above, addition, Adds};
 
 use crate::input::{IntoRegistryResource, PendingResource, shared};
 use indexmap::IndexMap;
@@ -37,10 +37,10 @@ pub const DEFAULT_RETRIEVAL_LIMIT: usize = 10_000;
 impl<'a> RegistryBuilder<'a> {
     // Without documents, above these parents, of which the nearest stands first.
     pub(crate) fn new(alloc: Global, parents: Vec<&'a Index<'a>>) -> RegistryBuilder<'a>
-        ensures parents { (seen result).parents ≡ map (λ p. p.now) parents.entry.items }
-        ensures pending { (seen result).pending ≡ [] }
-        ensures draft { (seen result).draft ≡ None }
-        ensures limit { (seen result).limit ≡ 10000 }
+        ensures parents { (builder_of result).parents ≡ map (λ p. p.now) parents.entry.items }
+        ensures pending { (builder_of result).pending ≡ [] }
+        ensures draft { (builder_of result).draft ≡ None }
+        ensures limit { (builder_of result).limit ≡ 10000 }
     {
         RegistryBuilder {
             alloc,
@@ -57,7 +57,7 @@ impl<'a, R: Drop> RegistryBuilder<'a, R> {
     /// Sets the draft that is detected with: a document or a retrieved one that names none is read by it. All else stays.
     /// Takes no memory.
     pub fn draft(self, draft: Draft) -> Self
-        ensures value { seen result ≡ setting_draft draft (seen self.entry) }
+        ensures value { builder_of result ≡ setting_draft draft (builder_of self.entry) }
     {
         let mut builder = self;
         builder.draft = Some(draft);
@@ -66,7 +66,7 @@ impl<'a, R: Drop> RegistryBuilder<'a, R> {
 
     /// Sets how many documents may be retrieved. All else stays. Takes no memory.
     pub fn retrieval_limit(self, limit: usize) -> Self
-        ensures value { seen result ≡ limited_to limit (seen self.entry) }
+        ensures value { builder_of result ≡ limited_to limit (builder_of self.entry) }
     {
         let mut builder = self;
         builder.limit = limit;
@@ -75,7 +75,7 @@ impl<'a, R: Drop> RegistryBuilder<'a, R> {
 
     /// Sets what documents are retrieved from that are wanted and were not added. All else stays. Takes no memory.
     pub fn retriever<S>(self, retriever: S) -> RegistryBuilder<'a, S>
-        ensures value { seen result ≡ retrieving_from retriever (seen self.entry) }
+        ensures value { builder_of result ≡ retrieving_from retriever (builder_of self.entry) }
     {
         let RegistryBuilder {
             alloc,
@@ -96,7 +96,7 @@ impl<'a, R: Drop> RegistryBuilder<'a, R> {
     }
 
     /// Adds a document under a URI, which is what the text means by itself, the `#` characters at its end dropped
-    /// (RFC 3986, 5): behind the others, or in the place of the one that stands there. The builder may borrow for less
+    /// (RFC 3986, 5): after the others, or in the place of the one that is there. The builder may borrow for less
     /// afterwards. `InvalidUri` exactly where the text means no URI, `Memory` where there is none for the URI and its entry.
     /// The value is not copied; one that is owned is shared from here on, which takes memory for a handle. A look-up in a
     /// hashed map.
@@ -107,8 +107,8 @@ impl<'a, R: Drop> RegistryBuilder<'a, R> {
     ) -> Result<RegistryBuilder<'b, R>, Error>
     where
         'a: 'b,
-        ensures ok { IfOk result (λ b. Adds (added (seen self.entry).pending (addition (U.text uri) (T.tree resource) (T.given_draft resource))) (seen self.entry) (seen b)) }
-        ensures fault { IfErr result (IsFaultOf (as_invalid_uri (added (seen self.entry).pending (addition (U.text uri) (T.tree resource) (T.given_draft resource))))) }
+        ensures ok { IfOk result (λ b. Adds (with_addition (builder_of self.entry).pending (addition (U.text uri) (T.tree resource) (T.given_draft resource))) (builder_of self.entry) (builder_of b)) }
+        ensures fault { IfErr result (IsFaultOf (as_invalid_uri (with_addition (builder_of self.entry).pending (addition (U.text uri) (T.tree resource) (T.given_draft resource))))) }
     {
         let mut builder = shortened(self);
         builder.push(uri.as_str(), resource.into_pending())?;
@@ -126,9 +126,9 @@ impl<'a, R: Drop> RegistryBuilder<'a, R> {
         'a: 'b,
         requires ends { (it : I.IntoIter) → I.into_iter_gives pairs it → I.IntoIter.can_next it × IsFinite (I.IntoIter.remaining it) }
         ensures ok { IfOk result (λ b. (it : I.IntoIter) × (xs : List (U × T)) × I.into_iter_gives pairs it × Drains I.IntoIter.next_gives it xs
-            × Adds (extended (seen self.entry).pending (map (λ x. addition (U.text x.0) (T.tree x.1) (T.given_draft x.1)) xs)) (seen self.entry) (seen b)) }
+            × Adds (with_additions (builder_of self.entry).pending (map (λ x. addition (U.text x.0) (T.tree x.1) (T.given_draft x.1)) xs)) (builder_of self.entry) (builder_of b)) }
         ensures fault { IfErr result (λ error. (it : I.IntoIter) × (xs : List (U × T)) × I.into_iter_gives pairs it × ((rest : I.IntoIter) × Yields I.IntoIter.next_gives it xs rest)
-            × IsFaultOf (as_invalid_uri (extended (seen self.entry).pending (map (λ x. addition (U.text x.0) (T.tree x.1) (T.given_draft x.1)) xs))) error) }
+            × IsFaultOf (as_invalid_uri (with_additions (builder_of self.entry).pending (map (λ x. addition (U.text x.0) (T.tree x.1) (T.given_draft x.1)) xs))) error) }
     {
         let mut builder = shortened(self);
         for (uri, resource) in pairs {
@@ -139,9 +139,9 @@ impl<'a, R: Drop> RegistryBuilder<'a, R> {
 
     // Adds a document under what a text means. Nothing changes where it is refused.
     pub(crate) fn push(&mut self, uri: &str, resource: PendingResource<'a>) -> Result<(), Error>
-        ensures ok { OnOk result (Adds (added (seen self.old).pending (addition uri.now (tree_of resource.entry.contents) resource.entry.draft)) (seen self.old) (seen self.new)) }
-        ensures fault { IfErr result (IsFaultOf (as_invalid_uri (added (seen self.old).pending (addition uri.now (tree_of resource.entry.contents) resource.entry.draft)))) }
-        ensures err { OnErr result (seen self.new ≡ seen self.old) }
+        ensures ok { OnOk result (Adds (with_addition (builder_of self.old).pending (addition uri.now (tree_of resource.entry.contents) resource.entry.draft)) (builder_of self.old) (builder_of self.new)) }
+        ensures fault { IfErr result (IsFaultOf (as_invalid_uri (with_addition (builder_of self.old).pending (addition uri.now (tree_of resource.entry.contents) resource.entry.draft)))) }
+        ensures err { OnErr result (builder_of self.new ≡ builder_of self.old) }
     {
         let uri = from_str(self.alloc, trim_hashes(uri))?;
         let resource = shared(self.alloc, resource)?;
@@ -158,7 +158,7 @@ impl<'a, R: Clone> RegistryBuilder<'a, R> {
     /// Asks that the retriever's clone equals it. A retriever without a clone can be lent, as `&MapRetriever`.
     pub fn clone(&self) -> Result<Self, AllocError>
         requires same { (x y : R) → R.is_clone x y → y ≡ x }
-        ensures value { IfOk result (λ copy. seen copy ≡ seen self.now) }
+        ensures value { IfOk result (λ copy. builder_of copy ≡ builder_of self.now) }
     {
         let parents = self.parents.clone()?;
         let pending = copied(&self.pending)?;
@@ -191,7 +191,7 @@ pub(crate) fn above<'a>(
     builder: RegistryBuilder<'a>,
     parents: Vec<&'a Index<'a>>,
 ) -> RegistryBuilder<'a>
-    ensures value { seen result ≡ standing_above (map (λ p. p.now) parents.entry.items) (seen builder.entry) }
+    ensures value { builder_of result ≡ standing_above (map (λ p. p.now) parents.entry.items) (builder_of builder.entry) }
 {
     let mut builder = builder;
     builder.parents = parents;
@@ -200,12 +200,12 @@ pub(crate) fn above<'a>(
 
 // The same builder, which borrows for less.
 fn shortened<'a: 'b, 'b, R>(builder: RegistryBuilder<'a, R>) -> RegistryBuilder<'b, R>
-    ensures { seen result ≡ seen builder.entry }
+    ensures { builder_of result ≡ builder_of builder.entry }
 {
     builder
 }
 
-// Puts a document under its URI: in the place of one that stands there, or behind the others.
+// Puts a document under its URI: in the place of one that is there, or after the others.
 fn put<'a>(
     pending: &mut IndexMap<Uri, PendingResource<'a>>,
     uri: Uri,

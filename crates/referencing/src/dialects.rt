@@ -1,7 +1,7 @@
 //! The vocabularies of schemas, by what their meta-schemas declare (2020-12 Core, 8.1.1 and 8.1.2).
 ghost use Rattle.std.specs.Prelude.{◌≡◌, IfOk};
 ghost use Rattle.serde_json.specs.View.{view};
-ghost use Rattle.ref_world.specs.Vocabularies.{find_vocabularies};
+ghost use Rattle.ref_definitions.specs.Vocabularies.{find_vocabularies};
 
 use crate::registry::Registry;
 use ref_draft::Draft;
@@ -19,7 +19,7 @@ impl<'a> Registry<'a> {
     /// where it is no URI reference or means no place here or in a parent, where the value declares none, and where one of its
     /// keys is refused.
     ///
-    /// Refused only for want of memory, which it takes for the URI and for custom vocabularies. Look-ups in the tables of this
+    /// Fails only where memory is refused, which it takes for the URI and for custom vocabularies. Look-ups in the tables of this
     /// registry and its parents, and what `find` takes.
     pub fn find_vocabularies(
         &self,

@@ -24,7 +24,8 @@ impl<'a> Clone for PendingResource<'a> {
 
     ghost is_clone = { λ p copy. (tree_of copy.contents ≡ tree_of p.contents) × (copy.draft ≡ p.draft) };
 
-    // A handle of a value that is borrowed or shared. One that is owned is copied: a builder holds none.
+    /// A handle of a value that is borrowed or shared. One that is owned is copied, which takes memory for its tree and is linear in it; a
+    /// builder holds none. Fails as out of memory.
     fn clone(&self) -> Result<PendingResource<'a>, AllocError> {
         let contents = match &self.contents {
             Contents::Borrowed(value) => Contents::Borrowed(*value),

@@ -32,7 +32,7 @@ pub fn resources_are_added_with_their_drafts()
         × (⟦<ResourceRef<'static> as IntoRegistryResource<'static>>⟧.given_draft r ≡ Some (resource_ref r).draft) }
 {}
 
-/// Rows of what preparing may answer, of its faults and of those of meta-schemas, and of a limit that is used up.
+/// Rows of what preparing may return, of its faults and of those of meta-schemas, and of a limit that is used up.
 pub fn preparing_rows()
     ensures rows { PreparingRows }
 {}

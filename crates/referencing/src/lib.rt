@@ -1,7 +1,7 @@
 //! The registry and resolver of JSON Schema references.
 //!
 //! A [`RegistryBuilder`] takes documents and prepares a [`Registry`], which retrieves nothing from then on. Read
-//! `specs/Builder.antt` and `specs/Prepared.antt` first, upon `Pending.antt` and `Preparing.antt` of `ref_world`.
+//! `specs/Builder.antt` and `specs/Prepared.antt` first, upon `Pending.antt` and `Preparing.antt` of `ref_definitions`.
 #![tactic(auto)]
 
 mod answer;
@@ -29,7 +29,7 @@ pub use ref_parts::{
     BorrowedKey, Iter, List, SmallMap, SortedTable, first_escape, parse_index, pointer,
     unescape_segment, write_escaped_str, write_index,
 };
-pub use ref_resolver::{Resolved, Resolver};
+pub use ref_resolver::{Location, Resolved, Resolver};
 pub use ref_retrieve::{DefaultRetriever, Error, MapRetriever, Reason, Retrieve, RetrieveError};
 pub use ref_uri::{
     ParseError, ResolveError, ResolveFault, Uri, UriError, UriFault, UriParseFault, UriRef,
@@ -40,7 +40,7 @@ pub use ref_vocabularies::{
 pub use registry::Registry;
 pub use steps::{FollowError, Followed, Step, follow};
 
-/// The meaning of texts as URIs, and texts as they stand in fragments.
+/// The meaning of texts as URIs, and texts as they are in fragments.
 pub mod uri {
     pub use ref_parts::{EncodedBuffer, EncodedString};
     pub use ref_uri::uri::{from_str, resolve_against};

@@ -1,10 +1,10 @@
 //! Meta-schemas: the URIs of the drafts' own, and registries of them.
 ghost use Rattle.std.specs.Prelude.{◌≡◌, List, [], map, IfOk, IfErr, Ok};
-ghost use Rattle.ref_world.specs.Fault.{as_invalid_uri};
-ghost use Rattle.ref_world.specs.MetaSchemas as world;
-ghost use Rattle.ref_world.specs.Pending.{Pending, extended};
+ghost use Rattle.ref_definitions.specs.Fault.{as_invalid_uri};
+ghost use Rattle.ref_definitions.specs.MetaSchemas as world;
+ghost use Rattle.ref_definitions.specs.Pending.{Pending, with_additions};
 ghost use Rattle.ref_retrieve.specs.Errors.{IsFaultOf};
-ghost use Rattle.referencing.specs.Builder.{seen, Adds, new_builder};
+ghost use Rattle.referencing.specs.Builder.{builder_of, Adds, new_builder};
 ghost use Rattle.referencing.specs.Prepared.{IsPreparedOf};
 ghost use Rattle.referencing.specs.MetaSchemas.{meta_addition, given_of_meta_schemas, IsMetaSchemaFault};
 
@@ -64,8 +64,8 @@ fn builder_of<'a>(
     alloc: Global,
     pairs: &'a [(&'a str, &'a Value)],
 ) -> Result<RegistryBuilder<'a>, Error>
-    ensures ok { IfOk result (λ b. Adds (extended [] (map meta_addition pairs.now)) (new_builder (seen b).retriever [] []) (seen b)) }
-    ensures fault { IfErr result (IsFaultOf (as_invalid_uri (extended [] (map meta_addition pairs.now)))) }
+    ensures ok { IfOk result (λ b. Adds (with_additions [] (map meta_addition pairs.now)) (new_builder (builder_of b).retriever [] []) (builder_of b)) }
+    ensures fault { IfErr result (IsFaultOf (as_invalid_uri (with_additions [] (map meta_addition pairs.now)))) }
 {
     let mut builder = RegistryBuilder::new(alloc, Vec::new(alloc));
     for pair in pairs {
@@ -85,8 +85,8 @@ impl<'a> Registry<'a> {
         alloc: Global,
         pairs: &'a [(&'a str, &'a Value)],
     ) -> Result<Registry<'a>, Error>
-        ensures ok { IfOk result (λ registry. (pending : List Pending) × (extended [] (map meta_addition pairs.now) ≡ Ok pending) × IsPreparedOf (given_of_meta_schemas pending) registry) }
-        ensures fault { IfErr result (IsMetaSchemaFault (extended [] (map meta_addition pairs.now))) }
+        ensures ok { IfOk result (λ registry. (pending : List Pending) × (with_additions [] (map meta_addition pairs.now) ≡ Ok pending) × IsPreparedOf (given_of_meta_schemas pending) registry) }
+        ensures fault { IfErr result (IsMetaSchemaFault (with_additions [] (map meta_addition pairs.now))) }
     {
         builder_of(alloc, pairs)?.prepare()
     }

@@ -4,14 +4,14 @@ ghost use Rattle.std.specs.List.{Contains};
 ghost use Rattle.serde_json.specs.View.{view};
 ghost use Rattle.ref_parts.specs.Path.{child_at, value_at};
 ghost use Rattle.ref_parts.specs.Segment.{part_of};
-ghost use Rattle.ref_world.specs.World.{Document as WorldDocument};
-ghost use Rattle.ref_world.specs.Places.{Place as WorldPlace, places};
-ghost use Rattle.ref_world.specs.Listing.{own_places};
-ghost use Rattle.ref_world.specs.Lookup.{located};
+ghost use Rattle.ref_definitions.specs.World.{Document as WorldDocument};
+ghost use Rattle.ref_definitions.specs.Places.{Place as WorldPlace, places};
+ghost use Rattle.ref_definitions.specs.Listing.{own_places};
+ghost use Rattle.ref_definitions.specs.Lookup.{located_value};
 ghost use Rattle.ref_retrieve.specs.Errors.{IsFaultOf};
 ghost use Rattle.ref_index.specs.Document.{document_of};
 ghost use Rattle.ref_index.specs.Listing.{listed_of};
-ghost use Rattle.ref_resolver.specs.Layered.{own};
+ghost use Rattle.ref_resolver.specs.Layered.{own_layer};
 ghost use Rattle.ref_resolver.specs.Resolving.{found_of, world_found};
 ghost use Rattle.referencing.specs.Listed.{IsMemory, Agrees};
 
@@ -47,34 +47,34 @@ fn value_along<'v>(value: &'v Value, path: &[JsonPointerSegment<'_>]) -> Option<
 }
 
 impl<'a> Registry<'a> {
-    /// The own documents, in the order in which their URIs were first added, and behind them those retrieved: of each the URI that it was
+    /// The own documents, in the order in which their URIs were first added, and after them those retrieved: of each the URI that it was
     /// added or retrieved under, which an identifier of its root may replace as the base, its value, and the draft of its root. Those of
     /// parents are left out. Takes no memory.
     pub fn documents(&self) -> &[Document<'a>]
-        ensures value { map document_of result.now ≡ own self.now }
+        ensures value { map document_of result.now ≡ own_layer self.now }
     {
         self.own_index().documents()
     }
 
     /// The value at a path of an own document, which is counted from 0 in the order in which their URIs were first added, and
-    /// behind them those retrieved. `None` for a number without a document, and where a part leads nowhere: a key steps into an object alone, an
+    /// after them those retrieved. `None` for a number without a document, and where a part finds no value: a key steps into an object alone, an
     /// index into an array alone (RFC 6901, section 4). A look-up for each part; takes no memory.
     pub fn value_at(&self, document: usize, path: &[JsonPointerSegment<'_>]) -> Option<&Value>
-        ensures value { option_map (λ v. view v.now) result ≡ option_and_then (λ d. value_at d.tree (map part_of path.now)) (slice_get (own self.now) document) }
+        ensures value { option_map (λ v. view v.now) result ≡ option_and_then (λ d. value_at d.tree (map part_of path.now)) (slice_get (own_layer self.now) document) }
     {
         let tree = self.tree(document)?;
         value_along(tree, path)
     }
 
-    /// The places where schemas stand in the own documents: document by document, in the order in which their URIs were first
-    /// added, and behind them those retrieved; in each document the root, then its children by the keywords that hold
+    /// The places where schemas are in the own documents: document by document, in the order in which their URIs were first
+    /// added, and after them those retrieved; in each document the root, then its children by the keywords that hold
     /// subschemas, and so on level by level. [`Registry::value_at`] answers the value of each. Refuses as `Memory` alone.
     ///
     /// Each place is visited once, with a look-up where it has an identifier; its path is copied, and the URI of each document;
     /// keys are lent, and the other URIs shared.
     pub fn places(&self, alloc: Global) -> Result<Vec<Place<'_>>, Error>
-        ensures value { IfOk result (λ places. map listed_of places.items ≡ own_places (own self.now)) }
-        ensures stand { (d : WorldDocument) (p : WorldPlace) → Contains (own self.now) d → Contains (places d) p → value_at d.tree p.path ≡ Some p.value }
+        ensures value { IfOk result (λ places. map listed_of places.items ≡ own_places (own_layer self.now)) }
+        ensures stand { (d : WorldDocument) (p : WorldPlace) → Contains (own_layer self.now) d → Contains (places d) p → value_at d.tree p.path ≡ Some p.value }
         ensures memory { IfErr result IsMemory }
     {
         Ok(self.own_index().places(alloc)?)
@@ -83,9 +83,9 @@ impl<'a> Registry<'a> {
     /// Where a path leads from a base: the look-up, from a new resolver at the base, of `#` and the path's pointer text, as a
     /// fragment holds it (RFC 6901, section 6).
     ///
-    /// From an own place that is a root or has an identifier, by its base and the path from there, it answers each place at or
+    /// From an own place that is a root or has an identifier, by its base and the path from there, it returns each place at or
     /// below it with the value, the draft and the base that the walk over subschemas gives it, where these hold: no other own
-    /// place bears that base; the places below have the same draft, which is one of 4 to 2020-12; and before 2020-12 no object
+    /// place has that base; the places below have the same draft, which is one of 4 to 2020-12; and before 2020-12 no object
     /// whose members are schemas holds a text under the keyword of identifiers, as a property named `$id` would.
     ///
     /// Refuses as [`Resolver::lookup`] does, whose cost it has, and as `Memory`; no value is copied.
@@ -97,12 +97,12 @@ impl<'a> Registry<'a> {
         base: &Uri,
         path: &[JsonPointerSegment<'_>],
     ) -> Result<Resolved<'_>, Error>
-        ensures value { IfOk result (λ found. located self.now base.now (map part_of path.now) ≡ Ok (found_of found)) }
+        ensures value { IfOk result (λ found. located_value self.now base.now (map part_of path.now) ≡ Ok (found_of found)) }
         ensures world { IfOk result (λ found. world_found found ≡ self.now) }
-        ensures fault { IfErr result (IsFaultOf (located self.now base.now (map part_of path.now))) }
-        ensures agrees { Agrees (own self.now) base.now (map part_of path.now) result }
+        ensures fault { IfErr result (IsFaultOf (located_value self.now base.now (map part_of path.now))) }
+        ensures agrees { Agrees (own_layer self.now) base.now (map part_of path.now) result }
     {
-        // that children of places stand at their paths
+        // that children of places are at their paths
         let _ = self.own_index();
         let reference = reference_of(alloc, path)?;
         let resolver = self.resolver(alloc, base.clone()?)?;

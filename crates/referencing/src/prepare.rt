@@ -1,9 +1,9 @@
 //! From a builder to a registry.
 ghost use Rattle.std.specs.Prelude.{◌≡◌, ◌∷◌, ◌++◌, [], map, IfOk, IfErr, OnOk};
-ghost use Rattle.ref_world.specs.Pending as world;
+ghost use Rattle.ref_definitions.specs.Pending as world;
 ghost use Rattle.ref_index.specs.Document.{document_of};
 ghost use Rattle.ref_index.specs.Retrieval.{IsFaultyOutcome};
-ghost use Rattle.referencing.specs.Builder.{pending_under, seen};
+ghost use Rattle.referencing.specs.Builder.{pending_under, builder_of};
 ghost use Rattle.referencing.specs.Listed.{IsMemory};
 ghost use Rattle.referencing.specs.Prepared.{given_of, IsPreparedOf, LimitIsUsedUp, AreComplete};
 
@@ -37,7 +37,7 @@ fn document<'a>(draft: Draft, uri: Uri, resource: PendingResource<'a>) -> Docume
     }
 }
 
-// Adds a document behind the others.
+// Adds a document after the others.
 fn push<'a>(documents: &mut Vec<Document<'a>>, document: Document<'a>) -> Result<(), AllocError>
     ensures { OnOk result (documents.new.items ≡ documents.old.items ++ document.entry ∷ []) }
 {
@@ -68,15 +68,15 @@ impl<'a, R: Retrieve + Drop> RegistryBuilder<'a, R> {
     ///
     /// Refuses as `InvalidUri` for the first identifier, `$ref` or `$schema` of the documents that means no URI; as
     /// `RetrievalLimit` where a URI is wanted and as many documents were retrieved as may be; as `Unretrievable` for a `$ref`
-    /// and `UnknownSpecification` for a `$schema` whose URI the retriever refuses; and as `Memory` for want of memory, the
+    /// and `UnknownSpecification` for a `$schema` whose URI the retriever refuses; and as `Memory` where memory is refused, the
     /// retriever's too. Each place is visited once; URIs, names and paths are copied for the tables, which are sorted once, and
     /// no value is.
     pub fn prepare(self) -> Result<Registry<'a>, Error>
-        ensures outcome { IfOk result (IsPreparedOf (given_of (R.may_answer (seen self.entry).retriever) (R.may_refuse (seen self.entry).retriever) (seen self.entry))) }
-        ensures fault { IfErr result (IsFaultyOutcome (given_of (R.may_answer (seen self.entry).retriever) (R.may_refuse (seen self.entry).retriever) (seen self.entry))) }
-        ensures alone { AreComplete (given_of (R.may_answer (seen self.entry).retriever) (R.may_refuse (seen self.entry).retriever) (seen self.entry))
-            → IfOk result (λ registry. registry ≡ (given_of (R.may_answer (seen self.entry).retriever) (R.may_refuse (seen self.entry).retriever) (seen self.entry)).documents ∷ (seen self.entry).parents) × IfErr result IsMemory }
-        ensures limit { IfErr result (LimitIsUsedUp (given_of (R.may_answer (seen self.entry).retriever) (R.may_refuse (seen self.entry).retriever) (seen self.entry))) }
+        ensures outcome { IfOk result (IsPreparedOf (given_of (R.may_answer (builder_of self.entry).retriever) (R.may_refuse (builder_of self.entry).retriever) (builder_of self.entry))) }
+        ensures fault { IfErr result (IsFaultyOutcome (given_of (R.may_answer (builder_of self.entry).retriever) (R.may_refuse (builder_of self.entry).retriever) (builder_of self.entry))) }
+        ensures alone { AreComplete (given_of (R.may_answer (builder_of self.entry).retriever) (R.may_refuse (builder_of self.entry).retriever) (builder_of self.entry))
+            → IfOk result (λ registry. registry ≡ (given_of (R.may_answer (builder_of self.entry).retriever) (R.may_refuse (builder_of self.entry).retriever) (builder_of self.entry)).documents ∷ (builder_of self.entry).parents) × IfErr result IsMemory }
+        ensures limit { IfErr result (LimitIsUsedUp (given_of (R.may_answer (builder_of self.entry).retriever) (R.may_refuse (builder_of self.entry).retriever) (builder_of self.entry))) }
     {
         let RegistryBuilder {
             alloc,

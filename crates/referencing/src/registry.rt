@@ -3,16 +3,16 @@ ghost use Rattle.std.specs.Prelude.{◌≡◌, ℕ, List, [], ◌∷◌, map, If
 ghost use Rattle.std.specs.Iterator.{Drains, Yields, IsFinite};
 ghost use Rattle.std.specs.List.{Contains};
 ghost use Rattle.serde_json.specs.View.{view};
-ghost use Rattle.ref_uri.specs.Targets.{against};
-ghost use Rattle.ref_world.specs.World.{Document as WorldDocument};
-ghost use Rattle.ref_world.specs.Agreement.{ChildrenStand};
-ghost use Rattle.ref_world.specs.Places.{Place, places};
-ghost use Rattle.ref_world.specs.Fault.{as_invalid_uri};
-ghost use Rattle.ref_world.specs.Wants.{faults, open_wants};
+ghost use Rattle.ref_uri.specs.Targets.{uri_against};
+ghost use Rattle.ref_definitions.specs.World.{Document as WorldDocument};
+ghost use Rattle.ref_definitions.specs.Agreement.{ChildrenStand};
+ghost use Rattle.ref_definitions.specs.Places.{Place, places};
+ghost use Rattle.ref_definitions.specs.Fault.{as_invalid_uri};
+ghost use Rattle.ref_definitions.specs.Wants.{faults, open_wants};
 ghost use Rattle.ref_retrieve.specs.Errors.{IsFaultOf};
-ghost use Rattle.ref_world.specs.Pending.{added, extended};
-ghost use Rattle.referencing.specs.Builder.{seen, addition, Adds, new_builder};
-ghost use Rattle.ref_resolver.specs.Layered.{world_in, own, IsHeld};
+ghost use Rattle.ref_definitions.specs.Pending.{with_addition, with_additions};
+ghost use Rattle.referencing.specs.Builder.{builder_of, addition, Adds, new_builder};
+ghost use Rattle.ref_resolver.specs.Layered.{world_in, own_layer, IsHeld};
 ghost use Rattle.referencing.specs.Prepared.{contains_resource, ReferencesAreRetrieved};
 
 use crate::builder::{RegistryBuilder, above};
@@ -39,7 +39,7 @@ pub struct Registry<'a> {
 
 impl<'a> Model for Registry<'a> {
     ghost use Rattle.std.specs.Prelude.{List, ◌∷◌, map};
-    ghost use Rattle.ref_world.specs.World.{Document as WorldDocument};
+    ghost use Rattle.ref_definitions.specs.World.{Document as WorldDocument};
     ghost use Rattle.ref_index.specs.Codes.{world_code};
 
     ghost Value = { List (List WorldDocument) };
@@ -57,7 +57,7 @@ impl<'a> Registry<'a> {
     /// A builder without documents, draft and parents, which retrieves nothing and would retrieve at most 10,000 documents.
     /// Takes no memory.
     pub fn new<'b>(alloc: Global) -> RegistryBuilder<'b>
-        ensures value { seen result ≡ new_builder (seen result).retriever [] [] }
+        ensures value { builder_of result ≡ new_builder (builder_of result).retriever [] [] }
     {
         RegistryBuilder::new(alloc, Vec::new(alloc))
     }
@@ -71,8 +71,8 @@ impl<'a> Registry<'a> {
         uri: U,
         resource: T,
     ) -> Result<RegistryBuilder<'b>, Error>
-        ensures ok { IfOk result (λ b. Adds (added [] (addition (U.text uri) (T.tree resource) (T.given_draft resource))) (new_builder (seen b).retriever self.now []) (seen b)) }
-        ensures fault { IfErr result (IsFaultOf (as_invalid_uri (added [] (addition (U.text uri) (T.tree resource) (T.given_draft resource))))) }
+        ensures ok { IfOk result (λ b. Adds (with_addition [] (addition (U.text uri) (T.tree resource) (T.given_draft resource))) (new_builder (builder_of b).retriever self.now []) (builder_of b)) }
+        ensures fault { IfErr result (IsFaultOf (as_invalid_uri (with_addition [] (addition (U.text uri) (T.tree resource) (T.given_draft resource))))) }
     {
         let builder = RegistryBuilder::new(alloc, Vec::new(alloc)).add(uri, resource)?;
         Ok(above(builder, self.indexes(alloc)?))
@@ -88,9 +88,9 @@ impl<'a> Registry<'a> {
     ) -> Result<RegistryBuilder<'b>, Error>
         requires ends { (it : I.IntoIter) → I.into_iter_gives pairs it → I.IntoIter.can_next it × IsFinite (I.IntoIter.remaining it) }
         ensures ok { IfOk result (λ b. (it : I.IntoIter) × (xs : List (U × T)) × I.into_iter_gives pairs it × Drains I.IntoIter.next_gives it xs
-            × Adds (extended [] (map (λ x. addition (U.text x.0) (T.tree x.1) (T.given_draft x.1)) xs)) (new_builder (seen b).retriever self.now []) (seen b)) }
+            × Adds (with_additions [] (map (λ x. addition (U.text x.0) (T.tree x.1) (T.given_draft x.1)) xs)) (new_builder (builder_of b).retriever self.now []) (builder_of b)) }
         ensures fault { IfErr result (λ error. (it : I.IntoIter) × (xs : List (U × T)) × I.into_iter_gives pairs it × ((rest : I.IntoIter) × Yields I.IntoIter.next_gives it xs rest)
-            × IsFaultOf (as_invalid_uri (extended [] (map (λ x. addition (U.text x.0) (T.tree x.1) (T.given_draft x.1)) xs))) error) }
+            × IsFaultOf (as_invalid_uri (with_additions [] (map (λ x. addition (U.text x.0) (T.tree x.1) (T.given_draft x.1)) xs))) error) }
     {
         let builder = RegistryBuilder::new(alloc, Vec::new(alloc)).extend(pairs)?;
         Ok(above(builder, self.indexes(alloc)?))
@@ -125,16 +125,16 @@ impl<'a> Registry<'a> {
 
     /// The value of the own document with a number. A look-up; takes no memory.
     pub(crate) fn tree(&self, document: usize) -> Option<&Value>
-        ensures value { option_map (λ v. view v.now) result ≡ option_map (λ d. d.tree) (slice_get (own self.now) document) }
+        ensures value { option_map (λ v. view v.now) result ≡ option_map (λ d. d.tree) (slice_get (own_layer self.now) document) }
     {
         self.own.tree(document)
     }
 
     /// The index of the own documents. Takes no memory.
     pub(crate) fn own_index(&self) -> &Index<'a>
-        ensures value { result.now ≡ own self.now }
-        ensures no_fault { faults (own self.now) ≡ [] }
-        ensures children { (d : WorldDocument) → Contains (own self.now) d → ChildrenStand d }
+        ensures value { result.now ≡ own_layer self.now }
+        ensures no_fault { faults (own_layer self.now) ≡ [] }
+        ensures children { (d : WorldDocument) → Contains (own_layer self.now) d → ChildrenStand d }
     {
         self.own.children_stand();
         &self.own
@@ -160,12 +160,12 @@ impl<'a> Registry<'a> {
     }
 
     /// The URI that a text means against a base, where that was resolved when the documents were prepared: so it is for the
-    /// identifier of each place, own or of a parent, with the base around it, and for what stands before the last `#` of each
+    /// identifier of each place, own or of a parent, with the base around it, and for what is before the last `#` of each
     /// place's `$ref` with the place's base, unless it begins with `#`. A look-up in the tables of this registry and its parents;
     /// takes no memory.
     pub fn resolved_uri(&self, base: &UriRef<'_>, uri: &str) -> Option<&Rc<Uri>>
         ensures held { IsHeld self.now base.now uri.now → IsSome result }
-        ensures value { IfSome result (λ u. against base.now uri.now ≡ Ok u.now.value) }
+        ensures value { IfSome result (λ u. uri_against base.now uri.now ≡ Ok u.now.value) }
     {
         self.layers().resolved_uri(base, uri)
     }
@@ -174,8 +174,8 @@ impl<'a> Registry<'a> {
     /// code takes no memory, which no clause says; [`Registry::resolved_uri`] takes none by its signature. Refuses as `InvalidUri` a base without a scheme and a text that is no URI reference, and as `Memory` where
     /// there is none for the URI.
     pub fn resolve_uri(&self, alloc: Global, base: UriRef<'_>, uri: &str) -> Result<Rc<Uri>, Error>
-        ensures ok { IfOk result (λ u. against base.entry uri.now ≡ Ok u.value) }
-        ensures fault { IfErr result (IsFaultOf (as_invalid_uri (against base.entry uri.now))) }
+        ensures ok { IfOk result (λ u. uri_against base.entry uri.now ≡ Ok u.value) }
+        ensures fault { IfErr result (IsFaultOf (as_invalid_uri (uri_against base.entry uri.now))) }
     {
         self.layers().resolve_uri(alloc, base, uri)
     }
@@ -184,10 +184,10 @@ impl<'a> Registry<'a> {
     /// an own place leads to a URI that is not present, that is, from the place's base, with any dynamic scope, the text under its
     /// `$ref` is never unretrievable. A law; the call does nothing.
     pub fn references_are_retrieved(&self)
-        ensures no_fault { faults (own self.now) ≡ [] }
-        ensures no_want { open_wants self.now (own self.now) ≡ [] }
+        ensures no_fault { faults (own_layer self.now) ≡ [] }
+        ensures no_want { open_wants self.now (own_layer self.now) ≡ [] }
         ensures law { ReferencesAreRetrieved self.now }
-        ensures bases { (d : WorldDocument) (place : Place) → Contains (own self.now) d → Contains (places d) place → (base : List ℕ) × (place.base ≡ Ok base) }
+        ensures bases { (d : WorldDocument) (place : Place) → Contains (own_layer self.now) d → Contains (places d) place → (base : List ℕ) × (place.base ≡ Ok base) }
     {
         let _ = &self.own;
     }

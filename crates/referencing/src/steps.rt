@@ -1,28 +1,30 @@
 //! Steps that are followed one after another from a base URI.
 ghost use Rattle.std.specs.Prelude.{◌≡◌, ◌≤◌, [], map, length, IfOk, IfErr, Ok};
-ghost use Rattle.ref_world.specs.Follow as world;
-ghost use Rattle.ref_world.specs.Lookup.{lookup};
+ghost use Rattle.ref_definitions.specs.Follow as world;
+ghost use Rattle.ref_definitions.specs.Lookup.{lookup};
 ghost use Rattle.ref_retrieve.specs.Errors.{IsFaultOf};
 ghost use Rattle.ref_resolver.specs.Resolving.{resolver_of, world_of, found_of, world_found};
 ghost use Rattle.referencing.specs.Following.{step_of, followed_of, IsStepFaultOf, ReachesStep};
 
 use crate::registry::Registry;
 use ref_draft::{Draft, ResourceRef};
+use ref_parts::list::List;
 use ref_resolver::{Resolved, Resolver};
 use ref_retrieve::Error;
 use ref_uri::Uri;
 use serde_json::Value;
 use std::alloc::{AllocError, Global};
 use std::fmt;
+use std::rc::Rc;
 
 /// A step: a reference that is looked up, a `$recursiveRef`, or a resource that is entered, whose identifier changes the base.
 #[derive(Clone, Copy, Drop)]
 pub enum Step<'s> {
-    /// A reference, as it stands under `$ref` or `$dynamicRef`.
+    /// A reference, as it is under `$ref` or `$dynamicRef`.
     Lookup(&'s str),
     /// The `$recursiveRef` of 2019-09.
     Recursive,
-    /// A resource that stands in the one before.
+    /// A resource that is in the one before.
     Enter(ResourceRef<'s>),
 }
 
@@ -35,7 +37,7 @@ pub struct Followed<'r> {
     pub resolver: Resolver<'r>,
 }
 
-/// Why a step leads nowhere. It displays as `Step 0: ` and the text of its error.
+/// Why a step finds no value. It displays as `Step 0: ` and the text of its error.
 #[derive(Debug, PartialEq, Eq, Drop)]
 pub struct FollowError {
     /// The number of the step, from 0.
@@ -74,9 +76,9 @@ fn stepped<'r>(
     followed: Followed<'r>,
     step: &Step<'_>,
 ) -> Result<Followed<'r>, Error>
-    ensures ok { IfOk result (λ f. world.stepped (world_of followed.entry.resolver) (followed_of followed.entry) (step_of step.now) ≡ Ok (followed_of f)) }
+    ensures ok { IfOk result (λ f. world.after_step (world_of followed.entry.resolver) (followed_of followed.entry) (step_of step.now) ≡ Ok (followed_of f)) }
     ensures world { IfOk result (λ f. world_of f.resolver ≡ world_of followed.entry.resolver) }
-    ensures fault { IfErr result (IsFaultOf (world.stepped (world_of followed.entry.resolver) (followed_of followed.entry) (step_of step.now))) }
+    ensures fault { IfErr result (IsFaultOf (world.after_step (world_of followed.entry.resolver) (followed_of followed.entry) (step_of step.now))) }
 {
     let resolver = &followed.resolver;
     match step {
@@ -101,6 +103,15 @@ impl<'a> Registry<'a> {
         Resolver::new(alloc, self.layers(), base)
     }
 
+    /// A resolver at a base URI with a dynamic scope, inner to outer, such as [`Resolver::into_parts`] gives. No URI need mean a place.
+    /// Takes no memory.
+    pub fn resolver_from_parts<'r>(&'r self, base: Rc<Uri>, scope: List<Uri>) -> Resolver<'r>
+        ensures resolver { resolver_of result ≡ record { base = base.value; scope = scope } }
+        ensures world { world_of result ≡ self.now }
+    {
+        Resolver::from_parts(self.layers(), base, scope)
+    }
+
     /// Where a reference leads from a base URI with an empty dynamic scope: [`Resolver::lookup`] from a new resolver there, whose
     /// errors and cost it has.
     pub fn lookup<'r>(
@@ -120,8 +131,8 @@ impl<'a> Registry<'a> {
 /// Where steps lead, one after another, from a base URI with an empty dynamic scope: each lookup starts from what the last one
 /// answered.
 ///
-/// The first step that leads nowhere ends it, with its number and the fault of [`Resolver::lookup`],
-/// [`Resolver::lookup_recursive_ref`] or [`Resolver::in_subresource`]; so does want of memory, with the number of the step that
+/// The first step that finds no value ends it, with its number and the fault of [`Resolver::lookup`],
+/// [`Resolver::lookup_recursive_ref`] or [`Resolver::in_subresource`]; so does out of memory, with the number of the step that
 /// wanted it, or 0 before the first. All steps before that one lead somewhere. Costs what the steps cost; no value is copied.
 pub fn follow<'r, 'a>(
     alloc: Global,
@@ -129,9 +140,9 @@ pub fn follow<'r, 'a>(
     base: Uri,
     steps: &[Step<'_>],
 ) -> Result<Followed<'r>, FollowError>
-    ensures ok { IfOk result (λ f. world.followed registry.now base (map step_of steps.now) ≡ Ok (followed_of f)) }
+    ensures ok { IfOk result (λ f. world.followed_steps registry.now base (map step_of steps.now) ≡ Ok (followed_of f)) }
     ensures world { IfOk result (λ f. world_of f.resolver ≡ registry.now) }
-    ensures fault { IfErr result (IsStepFaultOf (world.followed registry.now base (map step_of steps.now))) }
+    ensures fault { IfErr result (IsStepFaultOf (world.followed_steps registry.now base (map step_of steps.now))) }
     ensures step { IfErr result (λ e. e.step ≤ length steps.now) }
     ensures reached { IfErr result (λ e. ReachesStep registry.now base (map step_of steps.now) e.step) }
 {

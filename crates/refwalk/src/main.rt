@@ -52,7 +52,7 @@ fn report(rt: &HostRuntime) -> ExitCode {
     ExitCode::from(exit_status(&answer))
 }
 
-// Says why the words behind the program's name can't be had.
+// Says why the words after the program's name can't be had.
 fn without_words(rt: &HostRuntime, kind: ErrorKind) -> ExitCode {
     if kind == ErrorKind::OutOfMemory {
         let _ = eprintln!(rt; "refwalk: out of memory");

@@ -17,7 +17,7 @@ pub fn agreed(
     Err(Fault::Text(text))
 }
 
-/// What is to hold, or else what is told.
+/// What is to hold, or else what is said.
 pub fn expect(holds: bool, told: &'static str) -> Result<(), Fault> {
     if holds {
         return Ok(());

@@ -126,7 +126,7 @@ impl Write for Narrow {
     }
 }
 
-// Whether a request, of which a read fails behind so many bytes, ends as one that failed, with nothing written and no other failure. A reader
+// Whether a request, of which a read fails after so many bytes, ends as one that failed, with nothing written and no other failure. A reader
 // whose read failed isn't at its end.
 fn is_refused(alloc: Global, request: &str, left: usize, is_for_ever: bool) -> bool {
     let mut reader = Input::new(FailsAfter {
@@ -187,7 +187,7 @@ fn is_ended_by_a_sink(
     (answer, writer.failures) == ended
 }
 
-// Whether a failure is told by a sink that has less room than a report has bytes, and none by one that has as much.
+// Whether a failure is given by a sink that has less room than a report has bytes, and none by one that has as much.
 fn is_told_by_each_sink(alloc: Global, request: &str, ending: &Ending<'_>) -> bool {
     for room in 0..ending.report.len() {
         if !is_ended_by_a_sink(alloc, request, room, (Err(RunError::Write), 1)) {
@@ -197,7 +197,7 @@ fn is_told_by_each_sink(alloc: Global, request: &str, ending: &Ending<'_>) -> bo
     is_ended_by_a_sink(alloc, request, ending.report.len(), (Ok(ending.status), 0))
 }
 
-// Whether a failed write is told, of a sink of which each fails.
+// Whether a failed write is said, of a sink of which each fails.
 fn is_told(alloc: Global, request: &str) -> bool {
     let mut reader = MemorySource::new(request.as_bytes());
     let mut writer = Broken { failures: 0 };
@@ -223,7 +223,7 @@ fn is_ended(
     (answer, writer.failures) == ended && writer.writer.taken == room
 }
 
-// Whether a failure is told at whichever byte of a report a write fails, and none where none does.
+// Whether a failure is said at whichever byte of a report a write fails, and none where none does.
 fn is_told_at_each_byte(alloc: Global, request: &str, ending: &Ending<'_>) -> bool {
     for room in 0..ending.report.len() {
         if !is_ended(alloc, request, room, true, (Err(RunError::Write), 1)) {
@@ -239,7 +239,7 @@ fn is_told_at_each_byte(alloc: Global, request: &str, ending: &Ending<'_>) -> bo
     )
 }
 
-// Whether a failed flush is told, once the whole report is written.
+// Whether a failed flush is said, once the whole report is written.
 fn is_told_at_the_flush(alloc: Global, request: &str, ending: &Ending<'_>) -> bool {
     let ended = (Err(RunError::Write), 1);
     is_ended(alloc, request, ending.report.len(), false, ended)

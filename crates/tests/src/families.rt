@@ -2,7 +2,7 @@
 use crate::answers::agreed;
 use crate::fault::{Fault, made};
 use crate::registries::{child, known, unretrieving};
-use crate::{resources, vocabularies};
+use crate::{lookups, resources, vocabularies};
 use referencing::Registry;
 use serde_json::Value;
 use std::alloc::{AllocError, Global};
@@ -31,7 +31,7 @@ fn outcome(alloc: Global, parent: &Registry<'_>, row: &Value) -> Result<String, 
 }
 
 /// Of documents above a registry, and then which URIs that still knows by itself: of a row of the documents in its second column, and
-/// the URIs behind them.
+/// the URIs after them.
 fn of_children(alloc: Global, parent: &Registry<'_>, row: &Value) -> Result<String, Fault> {
     let child = outcome(alloc, parent, row)?;
     let still = known(alloc, parent, row, 3)?;
@@ -52,6 +52,8 @@ fn of_child(
         "vocabularies at bases" => vocabularies::at_bases(alloc, &child, row),
         "shown registries" => shown(alloc, parent, &child),
         "texts by children" => by_copies(alloc, &child, row),
+        "lookups by generations" => led_by_grandchild(alloc, &child, row),
+        "locations by children" => lookups::stands(alloc, &child, row),
         _ => of_generations(alloc, parent, &child, row),
     }
 }
@@ -74,6 +76,12 @@ fn by_copies(alloc: Global, registry: &Registry<'_>, row: &Value) -> Result<Stri
     let first = known_and_meant(alloc, registry, row)?;
     let again = known_and_meant(alloc, &copy, row)?;
     agreed(alloc, first, again, ["at first", "by the copy"])
+}
+
+/// Where steps lead from a base in the registry of a column's documents above a registry.
+fn led_by_grandchild(alloc: Global, child: &Registry<'_>, row: &Value) -> Result<String, Fault> {
+    let grandchild = crate::registries::child(alloc, child, row, 3)?;
+    lookups::led(alloc, &grandchild, row)
 }
 
 /// Which URIs are known to the registry of a column's documents above a registry.

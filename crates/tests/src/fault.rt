@@ -52,7 +52,7 @@ pub fn refused<E: fmt::Display + Drop>(alloc: Global, error: E) -> Fault {
     }
 }
 
-/// What a call answers, which may be refused. Of any kind of answer and of refusal, so that it is proved once.
+/// What a call returns, which may be refused. Of any kind of answer and of refusal, so that it is proved once.
 pub fn done<T, E: fmt::Display + Drop>(alloc: Global, answer: Result<T, E>) -> Result<T, Fault> {
     match answer {
         Ok(value) => Ok(value),

@@ -86,7 +86,7 @@ pub fn reason(alloc: Global, row: &Value) -> Result<String, Fault> {
     made(format!(in alloc; "{reason}"))
 }
 
-/// Why a retriever gives no document: want of memory, or else a reason.
+/// Why a retriever gives no document: out of memory, or else a reason.
 fn refusal_of(alloc: Global, row: &Value) -> Result<RetrieveError, Fault> {
     if row::text(row, 1)? == "Memory" {
         return Ok(RetrieveError::from(AllocError));
@@ -94,7 +94,7 @@ fn refusal_of(alloc: Global, row: &Value) -> Result<RetrieveError, Fault> {
     Ok(RetrieveError::from(reason_of(alloc, row::text(row, 1)?)?))
 }
 
-/// Of a row of a reason, or of want of memory: how a refusal for it is displayed, and its debug text in the next line.
+/// Of a row of a reason, or of being out of memory: how a refusal for it is displayed, and its debug text in the next line.
 pub fn refusal(alloc: Global, row: &Value) -> Result<String, Fault> {
     let refusal = refusal_of(alloc, row)?;
     made(format!(in alloc; "{refusal}\n{refusal:?}"))

@@ -130,13 +130,36 @@ fn answered(
     both(alloc, &first, second)
 }
 
-/// The same of a base and the references in a row's columns behind those of the registry.
+/// The same of a base and the references in a row's columns after those of the registry.
 pub fn answers(alloc: Global, registry: &Registry<'_>, row: &Value) -> Result<String, Fault> {
     let (base, first, second) = (row::text(row, 4)?, row::text(row, 5)?, row::text(row, 6)?);
     answered(alloc, registry, base, [first, second])
 }
 
-/// The base of a resolver, and behind it the URIs of its scope, the innermost first.
+/// Where the value stands that a reference leads to from a resolver, or a recursive one, which is `*`: the layer, the number of the document,
+/// and the pointer there.
+fn standing(alloc: Global, resolver: &Resolver<'_>, reference: &str) -> Result<String, Fault> {
+    let answer = match reference {
+        "*" => resolver.location_recursive(alloc),
+        _ => resolver.location(alloc, reference),
+    };
+    let location = done(alloc, answer)?;
+    let pointer = location.pointer(alloc)?;
+    let (layer, document) = (location.layer, location.document);
+    made(format!(in alloc; "{layer} {document} {pointer}"))
+}
+
+/// The same of the reference in a row, and of the resolver to which its steps lead from the base in the column before them.
+pub fn stands(alloc: Global, registry: &Registry<'_>, row: &Value) -> Result<String, Fault> {
+    let base = row::uri(alloc, row, 4)?;
+    let steps = steps_of(alloc, row::list(row, 5)?)?;
+    match follow(alloc, registry, base, steps.as_slice()) {
+        Ok(followed) => standing(alloc, &followed.resolver, row::text(row, 6)?),
+        Err(_) => Err(Fault::Form("a step leads nowhere")),
+    }
+}
+
+/// The base of a resolver, and after it the URIs of its scope, the innermost first.
 fn base_and_scope(alloc: Global, resolver: &Resolver<'_>) -> Result<String, AllocError> {
     let mut text = String::from_str(alloc, resolver.base_uri().as_str())?;
     for uri in resolver.dynamic_scope() {

@@ -1,9 +1,9 @@
 //! The tests of the libraries from `ref_retrieve` up, whose rows are data: reads a row a line from standard input, a JSON list of the table's
-//! name, of what is asked, and of the answer that is expected. Prints each row whose answer is another, and behind each table how many of its
+//! name, of what is asked, and of the answer that is expected. Prints each row whose answer is another, and after each table how many of its
 //! rows hold.
 //!
-//! Lines that are empty or begin with `//` are skipped. What a row of the name `given` holds, or the text of a request behind `request`, is given
-//! for the rows behind it; behind a request these are of the tables on requests alone, until a `given` row.
+//! Lines that are empty or begin with `//` are skipped. What a row of the name `given` holds, or the text of a request after `request`, is given
+//! for the rows after it; after a request these are of the tables on requests alone, until a `given` row.
 #![tactic(auto)]
 
 mod answers;
@@ -34,7 +34,7 @@ use serde_json::Value;
 use std::alloc::{AllocError, Global};
 use std::io;
 
-/// What is told of a row that has an answer, which is counted where it is the expected one.
+/// What is said of a row that has an answer, which is counted where it is the expected one.
 fn told_of_answer(
     alloc: Global,
     tally: &mut Tally,
@@ -49,7 +49,7 @@ fn told_of_answer(
     }
 }
 
-/// What is told of a row, which is counted where its answer, or the text of the fault in its place, is the expected one.
+/// What is said of a row, which is counted where its answer, or the text of the fault in its place, is the expected one.
 fn told_of_row(
     alloc: Global,
     tally: &mut Tally,
@@ -73,7 +73,7 @@ fn request_of(line: &str) -> Option<&str> {
     line.strip_prefix("request ")
 }
 
-/// What is told of a line, which may give something for the rows behind it.
+/// What is said of a line, which may give something for the rows after it.
 fn told_of_line(
     alloc: Global,
     tally: &mut Tally,

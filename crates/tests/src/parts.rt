@@ -4,7 +4,7 @@ use crate::reports::Ending;
 use crate::ways::{at_once, compare};
 use std::alloc::Global;
 
-/// Runs on each beginning of a request but the whole, and on the whole with an `x` behind it.
+/// Runs on each beginning of a request but the whole, and on the whole with an `x` after it.
 pub fn each(alloc: Global, request: &str, ending: &Ending<'_>) -> Result<(), Fault> {
     let bytes = request.as_bytes();
     for end in 0..bytes.len() {

@@ -128,7 +128,7 @@ fn shown(alloc: Global, found: Resolved<'_>) -> Result<String, AllocError> {
     format!(in alloc; "{value} {base} {draft:?}")
 }
 
-/// Where a path leads: of a base and the path in a row's columns behind those of the registry.
+/// Where a path leads: of a base and the path in a row's columns after those of the registry.
 pub fn located(alloc: Global, registry: &Registry<'_>, row: &Value) -> Result<String, Fault> {
     let base = row::uri(alloc, row, 4)?;
     let path = path_of(alloc, row::text(row, 5)?)?;

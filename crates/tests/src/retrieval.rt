@@ -1,9 +1,10 @@
-//! Retrievers of the tests' own: one that counts, and one that has no memory.
+//! Retrievers of the tests' own: one that counts, one that has no memory, one that refuses, one whose documents never end, and one that
+//! has every document.
 ghost use Rattle.std.specs.Prelude.{⊤};
 
 use crate::fault::{Fault, done, made};
 use crate::faults::reason_of;
-use crate::registries::{known, prepared};
+use crate::registries::{known, prepared, resolver};
 use crate::row;
 use ref_retrieve::{Error, MapRetriever, Retrieve, RetrieveError};
 use ref_uri::Uri;
@@ -77,7 +78,7 @@ impl Retrieve for Exhausted {
     }
 }
 
-/// Whether preparing a row's documents ends with the retriever's want of memory.
+/// Whether preparing a row's documents ends out of memory.
 pub fn is_exhausted(alloc: Global, row: &Value) -> Result<String, Fault> {
     let documents = row::documents(alloc, row, 1)?;
     let registry = prepared(Registry::new(alloc).retriever(Exhausted), documents);
@@ -119,4 +120,81 @@ pub fn refused(alloc: Global, row: &Value) -> Result<String, Fault> {
     let reason = row::text(row, 2)?;
     let builder = Registry::new(alloc).retriever(Refusing { reason });
     told(alloc, &prepared(builder, documents))
+}
+
+/// For a URI with a number, a schema that refers to the next number.
+#[derive(Drop)]
+struct Chain;
+
+impl Retrieve for Chain {
+    ghost use Rattle.std.specs.Prelude.{⊤};
+
+    ghost may_answer = { λ _ _ _. ⊤ };
+
+    ghost may_refuse = { λ _ _ _. ⊤ };
+
+    fn retrieve(&self, alloc: Global, uri: &Uri) -> Result<Value, RetrieveError> {
+        let next = number_in(uri.as_str().as_bytes()).saturating_add(1);
+        let text = format!(in alloc; "{{\"$ref\":\"{next}\"}}")?;
+        match Value::from_slice(alloc, text.as_bytes()) {
+            Ok(value) => Ok(value),
+            Err(_) => Err(RetrieveError::Memory(AllocError)),
+        }
+    }
+}
+
+/// The number that the digits in a text make.
+fn number_in(bytes: &[u8]) -> usize {
+    let mut number: usize = 0;
+    for byte in bytes {
+        if byte.is_ascii_digit() {
+            let digit = usize::from(byte.saturating_sub(b'0'));
+            number = number.saturating_mul(10).saturating_add(digit);
+        }
+    }
+    number
+}
+
+/// Of a row of documents and a limit, `null` where none is set: the fault with which preparing them ends, where each document that is
+/// retrieved wants another.
+pub fn endless(alloc: Global, row: &Value) -> Result<String, Fault> {
+    let documents = row::documents(alloc, row, 1)?;
+    let mut builder = Registry::new(alloc).retriever(Chain);
+    if let Ok(limit) = row::number(row, 2) {
+        builder = builder.retrieval_limit(limit);
+    }
+    match prepared(builder, documents) {
+        Ok(_) => Err(Fault::Form("nothing is refused")),
+        Err(error) => made(format!(in alloc; "{error}")),
+    }
+}
+
+/// The schema `true` under every URI.
+#[derive(Drop)]
+struct Always;
+
+impl Retrieve for Always {
+    ghost use Rattle.std.specs.Prelude.{⊤};
+
+    ghost may_answer = { λ _ _ _. ⊤ };
+
+    ghost may_refuse = { λ _ _ _. ⊤ };
+
+    fn retrieve(&self, _alloc: Global, _uri: &Uri) -> Result<Value, RetrieveError> {
+        Ok(Value::Bool(true))
+    }
+}
+
+/// Of a row of documents, a base and a reference: the fault of the look-up, where every document that is wanted is `true`.
+pub fn any(alloc: Global, row: &Value) -> Result<String, Fault> {
+    let documents = row::documents(alloc, row, 1)?;
+    let registry = done(
+        alloc,
+        prepared(Registry::new(alloc).retriever(Always), documents),
+    )?;
+    let resolver = resolver(alloc, &registry, row::text(row, 2)?)?;
+    match resolver.lookup(alloc, row::text(row, 3)?) {
+        Ok(_) => Err(Fault::Form("nothing is refused")),
+        Err(error) => made(format!(in alloc; "{error}")),
+    }
 }

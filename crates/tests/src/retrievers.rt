@@ -5,7 +5,7 @@ use ref_retrieve::{DefaultRetriever, MapRetriever, Retrieve};
 use serde_json::Value;
 use std::alloc::Global;
 
-/// What a retriever answers for a URI, or the text of its refusal.
+/// What a retriever returns for a URI, or the text of its refusal.
 fn retrieved<R: Retrieve + Drop>(alloc: Global, retriever: R, uri: &str) -> Result<String, Fault> {
     let uri = row::uri_of(alloc, uri)?;
     match done(alloc, retriever.retrieve(alloc, &uri)) {
@@ -15,7 +15,7 @@ fn retrieved<R: Retrieve + Drop>(alloc: Global, retriever: R, uri: &str) -> Resu
     }
 }
 
-/// Of a row of a URI: whether the default retriever is equal to its copy, its debug text, and what it answers.
+/// Of a row of a URI: whether the default retriever is equal to its copy, its debug text, and what it returns.
 pub fn by_default(alloc: Global, row: &Value) -> Result<String, Fault> {
     let retriever = DefaultRetriever;
     let same = retriever;
@@ -23,7 +23,7 @@ pub fn by_default(alloc: Global, row: &Value) -> Result<String, Fault> {
     made(format!(in alloc; "{} {retriever:?} {answer}", same == retriever))
 }
 
-/// What a retriever answers for URIs, a line for each.
+/// What a retriever returns for URIs, a line for each.
 fn each_retrieved(
     alloc: Global,
     retriever: &MapRetriever,

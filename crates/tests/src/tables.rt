@@ -22,8 +22,12 @@ fn of_families(alloc: Global, given: &Value, table: &str, row: &Value) -> Result
         "vocabularies" | "vocabularies by the parent" | "vocabularies at bases" => {
             families::of_documents(alloc, given, table, row)
         }
-        "children" | "generations" | "shown registries" | "texts by children" =>
-            families::of_documents(alloc, row, table, row),
+        "children"
+        | "generations"
+        | "lookups by generations"
+        | "shown registries"
+        | "texts by children"
+        | "locations by children" => families::of_documents(alloc, row, table, row),
         _ => of_faults(alloc, table, row),
     }
 }
@@ -77,6 +81,8 @@ fn of_builders(alloc: Global, table: &str, row: &Value) -> Result<String, Fault>
         "calls of a retriever" => retrieval::calls(alloc, row),
         "retrievers without memory" => retrieval::is_exhausted(alloc, row),
         "refusing retrievers" => retrieval::refused(alloc, row),
+        "endless retrieval" => retrieval::endless(alloc, row),
+        "any document" => retrieval::any(alloc, row),
         "meta-schemas" => registries::of_meta_schemas(alloc, row),
         _ => of_texts(alloc, table, row),
     }
@@ -116,6 +122,7 @@ fn of_registry(
         "answers" => lookups::answers(alloc, registry, row),
         "lookups" => lookups::led(alloc, registry, row),
         "scopes" => lookups::scoped(alloc, registry, row),
+        "locations" => lookups::stands(alloc, registry, row),
         _ => Err(Fault::Form("no such table")),
     }
 }

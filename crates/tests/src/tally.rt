@@ -1,7 +1,7 @@
 //! How many rows of each table hold.
 use std::alloc::{AllocError, Global};
 
-/// The table that is read, whose rows stand one behind the other.
+/// The table that is read, whose rows stand one after the other.
 #[derive(Drop)]
 pub struct Tally {
     line: u64,
@@ -25,12 +25,12 @@ impl Tally {
         self.line = self.line.saturating_add(1);
     }
 
-    /// What is told of a line that is no row.
+    /// What is said of a line that is no row.
     pub fn unread(&self, alloc: Global) -> Result<String, AllocError> {
         format!(in alloc; "line {}: not JSON\n", self.line)
     }
 
-    /// What is told where nothing is asked of what was given last.
+    /// What is said where nothing is asked of what was given last.
     fn unasked(&self, alloc: Global) -> Result<String, AllocError> {
         if self.has_row {
             return Ok(String::new(alloc));
@@ -41,14 +41,14 @@ impl Tally {
         )
     }
 
-    /// Goes on to what is given here for the rows behind it. What is told of what was given before.
+    /// Goes on to what is given here for the rows after it. What is said of what was given before.
     pub fn give(&mut self, alloc: Global) -> Result<String, AllocError> {
         let told = self.unasked(alloc)?;
         self.has_row = false;
         Ok(told)
     }
 
-    /// What is told of a table that ends here.
+    /// What is said of a table that ends here.
     fn table(&self, alloc: Global) -> Result<String, AllocError> {
         if self.table.is_empty() {
             return Ok(String::new(alloc));
@@ -56,14 +56,14 @@ impl Tally {
         format!(in alloc; "{}: {} rows\n", self.table, self.count)
     }
 
-    /// What is told at the end.
+    /// What is said at the end.
     pub fn end(&self, alloc: Global) -> Result<String, AllocError> {
         let told = self.unasked(alloc)?;
         let table = self.table(alloc)?;
         format!(in alloc; "{told}{table}")
     }
 
-    /// Begins a table, where a row is not of the one that is read; what is told of that.
+    /// Begins a table, where a row is not of the one that is read; what is said of that.
     fn begin_table(&mut self, alloc: Global, table: &str) -> Result<String, AllocError> {
         self.has_row = true;
         if self.table.as_str() == table {
@@ -75,7 +75,7 @@ impl Tally {
         Ok(told)
     }
 
-    /// What is told of a row, and of a table that ends before it, where another answer is expected.
+    /// What is said of a row, and of a table that ends before it, where another answer is expected.
     pub fn tell(
         &mut self,
         alloc: Global,
@@ -90,7 +90,7 @@ impl Tally {
         )
     }
 
-    /// Counts a row whose answer is what is expected. What is told of a table that ends before it.
+    /// Counts a row whose answer is what is expected. What is said of a table that ends before it.
     pub fn count(&mut self, alloc: Global, table: &str) -> Result<String, AllocError> {
         let told = self.begin_table(alloc, table)?;
         self.count = self.count.saturating_add(1);

@@ -54,7 +54,7 @@ fn verdict(alloc: Global, schema: &Value, instance: &Value) -> Result<String, Fa
     verdict_by(alloc, &resolver, schema, instance)
 }
 
-/// Appends URIs, each with a space behind it.
+/// Appends URIs, each with a space after it.
 fn push_uris(text: &mut String, uris: &[Uri]) -> Result<(), AllocError> {
     for uri in uris {
         text.push_str(uri.as_str())?;
@@ -74,7 +74,7 @@ fn push_listed(
     made(push_uris(text, uris.as_slice()))
 }
 
-/// What the first document refers to, and behind a semicolon what the second does.
+/// What the first document refers to, and after a semicolon what the second does.
 fn listed(alloc: Global, registry: &Registry<'_>) -> Result<String, Fault> {
     let mut text = String::new(alloc);
     push_listed(alloc, &mut text, registry, 0)?;
@@ -83,7 +83,7 @@ fn listed(alloc: Global, registry: &Registry<'_>) -> Result<String, Fault> {
     Ok(text)
 }
 
-/// What a document refers to, and behind a semicolon what another of the same registry does.
+/// What a document refers to, and after a semicolon what another of the same registry does.
 fn bundled(alloc: Global, document: &Value, other: &Value) -> Result<String, Fault> {
     let registry = registry_of_both(alloc, document, "http://a/b/s", other)?;
     listed(alloc, &registry)
@@ -108,13 +108,13 @@ fn described_by<'v>(
     done(alloc, prepared(builder, files))
 }
 
-/// What stands under `name` of a file, by the resolver at a description.
+/// What is under `name` of a file, by the resolver at a description.
 fn name_by(alloc: Global, resolver: &Resolver<'_>) -> Result<String, Fault> {
     let found = done(alloc, resolver.lookup(alloc, "pet#/name"))?;
     made(found.contents().to_string(alloc))
 }
 
-/// What stands under `name` of a file, to which a description refers.
+/// What is under `name` of a file, to which a description refers.
 fn described(alloc: Global, description: &Value, file: &Value) -> Result<String, Fault> {
     let registry = described_by(alloc, description, file)?;
     let resolver = resolver(alloc, &registry, "http://a/api")?;

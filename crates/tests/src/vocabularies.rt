@@ -31,7 +31,7 @@ pub fn declared(alloc: Global, row: &Value) -> Result<String, Fault> {
     found(alloc, row::column(row, 1)?)
 }
 
-/// Of a row of a draft and a schema: where the schema's vocabularies are told, their set or the URI of the meta-schema.
+/// Of a row of a draft and a schema: where the schema's vocabularies are given, their set or the URI of the meta-schema.
 pub fn dialect(alloc: Global, row: &Value) -> Result<String, Fault> {
     match Dialect::of(alloc, row::named_draft(row, 1)?, row::column(row, 2)?)? {
         Dialect::Known(set) => made(format!(in alloc; "{set:?}")),
@@ -39,7 +39,7 @@ pub fn dialect(alloc: Global, row: &Value) -> Result<String, Fault> {
     }
 }
 
-/// Of a row of a draft: the vocabularies that its schemas have where none are told.
+/// Of a row of a draft: the vocabularies that its schemas have where none are given.
 pub fn default_of(alloc: Global, row: &Value) -> Result<String, Fault> {
     let set = default_vocabularies(row::named_draft(row, 1)?);
     made(format!(in alloc; "{set:?}"))

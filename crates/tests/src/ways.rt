@@ -98,7 +98,7 @@ impl Found {
         self.answer == Ok(ending.status) && self.report.as_slice() == ending.report.as_bytes()
     }
 
-    /// What is told of a run that ends otherwise.
+    /// What is said of a run that ends otherwise.
     fn told(&self, alloc: Global, way: &str) -> Result<(), Fault> {
         let report = str::from_utf8(self.report.as_slice()).unwrap_or("no text");
         let text = format!(in alloc; "{:?} {report:?} {way}", self.answer)?;

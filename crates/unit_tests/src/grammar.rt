@@ -74,7 +74,7 @@ fn is_authority(authority: &str) -> bool {
     }
 }
 
-/// The scheme of a text without query and fragment, and what is behind it.
+/// The scheme of a text without query and fragment, and what is after it.
 fn split_scheme(text: &str) -> (Option<&str>, &str) {
     match text.split_once(':') {
         Some((scheme, behind)) if !scheme.is_empty() && !scheme.contains('/') => (
@@ -85,7 +85,7 @@ fn split_scheme(text: &str) -> (Option<&str>, &str) {
     }
 }
 
-/// Whether this is what may stand behind a scheme, or where none is.
+/// Whether this is what may be after a scheme, or where none is.
 fn is_hierarchy(text: &str, has_scheme: bool) -> bool {
     match text.strip_prefix("//") {
         Some(rest) => {

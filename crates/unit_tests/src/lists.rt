@@ -81,7 +81,7 @@ fn let_go<T: Drop>(value: T) {
 
 // ---- lists of numbers
 
-// A list with a number in front of another list.
+// A list with a number before another list.
 fn with_front(list: &List<usize>, alloc: Global, number: usize) -> Result<List<usize>, AllocError> {
     list.push_front(alloc, Rc::new(alloc, number)?)
 }
@@ -185,7 +185,7 @@ fn a_list_of_texts_serves_generic_callers(rt: HostRuntime) -> Result<(), AllocEr
     assert_longer(&rt, rt.alloc(), copy, first)
 }
 
-// A list with the numbers below a count in front of another list, the greatest in front.
+// A list with the numbers below a count before another list, the greatest in front.
 fn lengthened(list: List<usize>, alloc: Global, count: usize) -> Result<List<usize>, AllocError> {
     let mut longer = list;
     for number in 0..count {
@@ -235,7 +235,7 @@ fn a_list_of_a_million_items_is_dropped(rt: HostRuntime) -> Result<(), AllocErro
     Ok(())
 }
 
-// ---- want of memory
+// ---- out of memory
 
 // Whichever growth is refused, a list is copied, and an item that can't be put in front leaves the list as it was.
 #[test]

@@ -12,7 +12,7 @@ use std::test::Fail;
 
 pub const ROWS: &str = r##"
 # places: 8
-// A front, and pieces that stand at each place of a text behind it: a bad byte, a lone `%`, a triple, marks and none.
+// A front, and pieces that are at each place of a text after it: a bad byte, a lone `%`, a triple, marks and none.
 ["",""," ","%","%4","%7e",":","@","~","=","?","#","é","`","/"]
 ["/",""," ","%","%4","%7e",":","@","~","=","?","#","é","`","/"]
 ["s:",""," ","%","%4","%7e",":","@","~","=","?","#","é","`","/"]
@@ -23,24 +23,24 @@ pub const ROWS: &str = r##"
 ["/%41",""," ","%","%4","%7e",":","@","~","=","?","#","é","`","/"]
 
 # short texts: 2
-// A front, an alphabet, how many of its characters stand behind the front at most, how many such texts there are, and how many of
+// A front, an alphabet, how many of its characters are after the front at most, how many such texts there are, and how many of
 // them are references, by a regular expression.
 ["","a:/?#@[]%1",5,111111,13326]
 ["//","[]v1.:@",6,137257,7619]
 
 # repeated references: 1
-// A piece, how often it stands in a path, and the path that this leads to: another piece, how often it stands, and the rest.
+// A piece, how often it is in a path, and the path that this leads to: another piece, how often it stands, and the rest.
 // A path of `..` and `a` in turn leads to `a` at the root.
 ["/../a",1500,"/a",1,""]
 
 # repeated texts: 2
 // The same of texts.
-// Each `..` behind `/a/%2e%2e` takes `%2e%2e` away, so each `a` stays. Without those `..`, only the last `a` stays.
+// Each `..` after `/a/%2e%2e` takes `%2e%2e` away, so each `a` stays. Without those `..`, only the last `a` stays.
 ["/a/%2e%2e/..",1500,"/a",1500,"/"]
 ["/%2e%2e/a",1500,"/a",1,""]
 
 # names of each length: 15
-// What stands behind the name, what the target begins with, whether the name stays in it, and what is behind that.
+// What is after the name, what the target begins with, whether the name stays in it, and what is after that.
 ["/../x","http://h/",false,"x"]
 ["/%2e%2E/x","http://h/",false,"x"]
 ["/%2E%2e","http://h/",false,""]
@@ -71,7 +71,7 @@ fn around(alloc: Global, front: &str, count: usize, behind: &str) -> Result<Stri
     format!(in alloc; "{front}{amid}{behind}")
 }
 
-/// A piece behind a front and up to 40 `g`, with `g` behind it up to 40 in all and without.
+/// A piece after a front and up to 40 `g`, with `g` after it up to 40 in all and without.
 fn at_each_place(
     rt: &impl Abort,
     alloc: Global,
@@ -96,7 +96,7 @@ pub fn places(rt: &impl Abort, alloc: Global, row: &Row<'_>) -> Result<(), Alloc
     Ok(())
 }
 
-/// The text of this number behind a front: its digits are the characters, the lowest first.
+/// The text of this number after a front: its digits are the characters, the lowest first.
 fn write_number(
     text: &mut String,
     front: &str,
@@ -116,7 +116,7 @@ fn write_number(
     Ok(())
 }
 
-/// Of the texts that begin so, up to `longest` characters of the alphabet behind it: how many there are, and how many are
+/// Of the texts that begin so, up to `longest` characters of the alphabet after it: how many there are, and how many are
 /// references. Each is compared with the grammar.
 fn compare_with_the_grammar(
     rt: &impl Abort,
@@ -157,7 +157,7 @@ pub fn short_texts(rt: &impl Abort, alloc: Global, row: &Row<'_>) -> Result<(), 
     Ok(())
 }
 
-/// Ends the test where a URI isn't `http://h` with these two texts behind it.
+/// Ends the test where a URI isn't `http://h` with these two texts after it.
 fn assert_ends(rt: &impl Abort, uri: &str, kept: &str, row: &Row<'_>) {
     let path = uri.strip_prefix("http://h").unwrap_or("");
     row.same(rt, path.strip_prefix(kept), row.optional(4));
@@ -181,7 +181,7 @@ pub fn repeated(rt: &impl Abort, alloc: Global, row: &Row<'_>) -> Result<(), Fai
     Ok(())
 }
 
-/// Ends the test where a text has another meaning against `http://h/b`, or alone behind `http://h`.
+/// Ends the test where a text has another meaning against `http://h/b`, or alone after `http://h`.
 fn assert_meant(
     rt: &impl Abort,
     alloc: Global,
@@ -205,7 +205,7 @@ fn name_of(rt: &impl Abort, alloc: Global, row: &Row<'_>, len: usize) -> Result<
     assert_meant(rt, alloc, text.as_str(), expected.as_str(), row)
 }
 
-/// Dot segments and triples behind a name of each length, which stays or goes.
+/// Dot segments and triples after a name of each length, which stays or goes.
 pub fn names(rt: &impl Abort, alloc: Global, row: &Row<'_>) -> Result<(), Fail> {
     for len in 0..=40usize {
         name_of(rt, alloc, row, len)?;

@@ -34,7 +34,7 @@ fn write_at(
     Ok(())
 }
 
-// Writes at a key, and answers what was found there.
+// Writes at a key, and returns what was found there.
 fn replace<K: Eq + Hash + Drop>(
     map: &mut SmallMap<K, usize, 2>,
     alloc: Global,
@@ -138,7 +138,7 @@ fn a_map_holds_maps(rt: HostRuntime) -> Result<(), AllocError> {
     assert_written_below(&rt, rt.alloc(), &mut map)
 }
 
-// ---- want of memory
+// ---- out of memory
 
 // Puts a default at 1, 20 at 2, and a default at 3 and again at 2. Only the third growth takes memory; a map without it has the
 // first two, inline.

@@ -74,7 +74,7 @@ fn is_root(node: &JsonPointerNode<'_>) -> bool {
         && *node == JsonPointerNode::default()
 }
 
-// Whether the node above one is the path of a key behind a root, with that key as its segment.
+// Whether the node above one is the path of a key after a root, with that key as its segment.
 fn stands_below<'a>(
     alloc: Global,
     node: &JsonPointerNode<'a>,

@@ -19,7 +19,7 @@ pub const DRAFTS: [Draft; 6] = [
     Draft::Unknown,
 ];
 
-/// A row: a JSON list of what is asked and of what is expected. The columns are its items. What is asked may also stand in the
+/// A row: a JSON list of what is asked and of what is expected. The columns are its items. What is asked may also are in the
 /// last line of the table before the row that is an object, under `given`.
 #[derive(Clone, Copy)]
 pub struct Row<'a> {
@@ -40,12 +40,12 @@ impl<'a> Row<'a> {
         self.given.get("given").unwrap_or(self.given)
     }
 
-    /// What stands in a column, where it is there.
+    /// What is in a column, where it is there.
     pub fn value(&self, column: usize) -> Option<&'a Value> {
         self.columns.get(column)
     }
 
-    /// What stands in a column that is there.
+    /// What is in a column that is there.
     pub fn document(&self, column: usize) -> &'a Value {
         self.value(column).unwrap_or(self.given)
     }
@@ -120,7 +120,7 @@ impl<'a> Row<'a> {
     }
 }
 
-/// Asks the row of a line, or keeps what the line gives for the rows behind it.
+/// Asks the row of a line, or keeps what the line gives for the rows after it.
 fn ask_line<R: Abort>(
     rt: &R,
     alloc: Global,
@@ -160,7 +160,7 @@ fn count_of(rt: &impl Abort, heading: &str, number: &str, lines: &str) -> usize 
     count
 }
 
-/// Asks each row of a text, and counts them. A line that begins with `# ` names the table of the rows behind it, with their number behind a
+/// Asks each row of a text, and counts them. A line that begins with `# ` names the table of the rows after it, with their number after a
 /// colon; one that begins with `//` is skipped.
 pub fn for_each_row<R: Abort>(rt: &R, alloc: Global, rows: &str) -> Result<usize, Fail> {
     let mut count = 0usize;

@@ -12,7 +12,7 @@ use std::process::Abort;
 
 pub const ROWS: &str = r##"
 # tokens: 15
-// A key, and `/` with its token behind it.
+// A key, and `/` with its token after it.
 ["","/"]
 ["abc","/abc"]
 ["abcdefgh","/abcdefgh"]
@@ -197,7 +197,7 @@ fn the_greatest_index_is_written_behind_what_the_buffer_holds(
     Ok(())
 }
 
-/// Ends the test where an escape isn't found behind so many other bytes and before so many of `behind`, or one is found without it.
+/// Ends the test where an escape isn't found after so many other bytes and before so many of `after`, or one is found without it.
 fn assert_found(
     rt: &impl Abort,
     alloc: Global,

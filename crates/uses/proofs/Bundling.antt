@@ -4,7 +4,7 @@ use Rattle.std.proofs.lemmas.List.{map-append}
 use Rattle.std.proofs.lemmas.List.Elements.{filter-append, filter_map-append}
 use Rattle.std.specs.List.{cons_option, filter, filter_map}
 use Rattle.std.specs.Option.{option_to_list}
-use Rattle.ref_world.specs.Listing.{Listed}
+use Rattle.referencing.specs.Listing.{Listed}
 
 one : (o : Option (List ℕ)) → cons_option o [] ≡ option_to_list o
 one None = refl

@@ -3,7 +3,7 @@ use Rattle.std.proofs.Common.{◌≡◌, true, List, [], ◌∷◌, ◌++◌, ma
 use Rattle.std.proofs.lemmas.Bool.{and_parts, false≢true, eqb-true}
 use Rattle.std.proofs.lemmas.List.{take-append-drop, map-append}
 use Rattle.std.specs.Cmp.Lexicographic.{pointwise, same_text}
-use Rattle.ref_parts.specs.Path.{Part, Key, Index, part_eq}
+use Rattle.referencing.specs.Path.{Part, Key, Index, part_eq}
 
 part_same : (p q : Part) → part_eq p q ≡ true → p ≡ q
 part_same (Key k) (Key m) e = ap Key (same_text k m (sym e))

@@ -2,20 +2,20 @@
 use Rattle.std.proofs.Common.{◌≡◌, ℕ, zero, suc, arith, ◌+◌, ◌-◌, ◌<◌, ◌≤◌, true, false, List, ◌∷◌, length, map, drop, get_or, Option, None, Some, Result, Ok, Err, sym, ap, ◌∙◌, if◌then◌else◌}
 use Rattle.std.proofs.lemmas.List.{drop_more, drop_all}
 use Rattle.serde_json.specs.Data.{Data}
-use Rattle.ref_draft.specs.declared.draft.Draft.{Draft}
-use Rattle.ref_draft.specs.declared.spec.walk.Child.{Child}
-use Rattle.ref_draft.specs.Children.{Walked, walked}
-use Rattle.ref_draft.specs.Views.{walked_child}
-use Rattle.ref_world.specs.Results.{◌>>=◌}
-use Rattle.ref_world.specs.World.{World}
-use Rattle.ref_world.specs.Fault.{Fault, as_invalid_uri}
-use Rattle.ref_world.specs.Lookup.{Resolver, Found, in_subresource}
-use Rattle.ref_retrieve.specs.declared.error.Error.{Error}
-use Rattle.ref_retrieve.specs.declared.error.Error.TheVariants as error
-use Rattle.ref_retrieve.specs.Errors.{IsFaultOf}
+use Rattle.referencing.specs.Draft.{Draft}
+use Rattle.referencing.specs.Child.{Child}
+use Rattle.referencing.specs.Children.{Walked, walked_children}
+use Rattle.referencing.specs.Views.{walked_child}
+use Rattle.referencing.specs.Results.{◌>>=◌}
+use Rattle.referencing.specs.World.{World}
+use Rattle.referencing.specs.Fault.{Fault, as_invalid_uri}
+use Rattle.referencing.specs.Lookup.{Resolver, Found, in_subresource}
+use Rattle.referencing.specs.Error.{Error}
+use Rattle.referencing.specs.Error.TheVariants as error
+use Rattle.referencing.specs.Errors.{IsFaultOf}
 use Rattle.uses.specs.declared.validator.Verdict.{Verdict}
 use Rattle.uses.specs.declared.validator.Verdict.TheVariants.{Valid, Invalid, TooDeep}
-use Rattle.uses.specs.Validating.{is_valid, is_of_type, referred, part_for, unless_valid, Validator, behind, at_child, at_children, validated}
+use Rattle.uses.specs.Validating.{is_valid, is_of_type, referred_from, part_for, unless_valid, Validator, after_reference, at_child, at_children, validated_within}
 
 -- ---- faults
 
@@ -46,40 +46,40 @@ ends first more e = fault_as first (unless_valid first more) e (λ fault is. ap 
 
 -- ---- one schema
 
-pub too_deep : (w : World) (n : ℕ) (r : Resolver) (d : Draft) (s i : Data) → n ≡ 0 → validated w n r d s i ≡ Ok TooDeep
-unfolding validated
+pub too_deep : (w : World) (n : ℕ) (r : Resolver) (d : Draft) (s i : Data) → n ≡ 0 → validated_within w n r d s i ≡ Ok TooDeep
+unfolding validated_within
 too_deep w n r d s i is = rw is
 
 below : (w : World) (n : ℕ) (r : Resolver) (d : Draft) (s i : Data) → 0 < n
-    → validated w n r d s i ≡ (if is_of_type s i then unless_valid (behind (validated w (n - 1)) i (referred w r s)) (at_children (validated w (n - 1)) r i (walked d s)) else Ok Invalid)
-unfolding validated
+    → validated_within w n r d s i ≡ (if is_of_type s i then unless_valid (after_reference (validated_within w (n - 1)) i (referred_from w r s)) (at_children (validated_within w (n - 1)) r i (walked_children d s)) else Ok Invalid)
+unfolding validated_within
 below w zero r d s i h = absurd (omega arith)
 below w (suc n) r d s i h = let e : suc n - 1 ≡ n = omega arith in rw e
 
-pub of_other_type : (w : World) (n : ℕ) (r : Resolver) (d : Draft) (s i : Data) → 0 < n → is_of_type s i ≡ false → validated w n r d s i ≡ Ok Invalid
-of_other_type w n r d s i h is = below w n r d s i h ∙ ap (λ b. if b then unless_valid (behind (validated w (n - 1)) i (referred w r s)) (at_children (validated w (n - 1)) r i (walked d s)) else Ok Invalid) is
+pub of_other_type : (w : World) (n : ℕ) (r : Resolver) (d : Draft) (s i : Data) → 0 < n → is_of_type s i ≡ false → validated_within w n r d s i ≡ Ok Invalid
+of_other_type w n r d s i h is = below w n r d s i h ∙ ap (λ b. if b then unless_valid (after_reference (validated_within w (n - 1)) i (referred_from w r s)) (at_children (validated_within w (n - 1)) r i (walked_children d s)) else Ok Invalid) is
 
 pub of_its_type : (w : World) (n : ℕ) (r : Resolver) (d : Draft) (s i : Data) → 0 < n → is_of_type s i ≡ true
-    → validated w n r d s i ≡ unless_valid (behind (validated w (n - 1)) i (referred w r s)) (at_children (validated w (n - 1)) r i (walked d s))
-of_its_type w n r d s i h is = below w n r d s i h ∙ ap (λ b. if b then unless_valid (behind (validated w (n - 1)) i (referred w r s)) (at_children (validated w (n - 1)) r i (walked d s)) else Ok Invalid) is
+    → validated_within w n r d s i ≡ unless_valid (after_reference (validated_within w (n - 1)) i (referred_from w r s)) (at_children (validated_within w (n - 1)) r i (walked_children d s))
+of_its_type w n r d s i h is = below w n r d s i h ∙ ap (λ b. if b then unless_valid (after_reference (validated_within w (n - 1)) i (referred_from w r s)) (at_children (validated_within w (n - 1)) r i (walked_children d s)) else Ok Invalid) is
 
 -- ---- behind a reference
 
-pub no_reference : (next : Validator) (i : Data) (o : Option (Result Found Fault)) → o ≡ None → behind next i o ≡ Ok Valid
-no_reference next i o is = ap (behind next i) is
+pub no_reference : (next : Validator) (i : Data) (o : Option (Result Found Fault)) → o ≡ None → after_reference next i o ≡ Ok Valid
+no_reference next i o is = ap (after_reference next i) is
 
-pub nowhere : (next : Validator) (i : Data) (o : Option (Result Found Fault)) (meaning : Result Found Fault) (e : Error) → o ≡ Some meaning → IsFaultOf meaning e → IsFaultOf (behind next i o) e
+pub nowhere : (next : Validator) (i : Data) (o : Option (Result Found Fault)) (meaning : Result Found Fault) (e : Error) → o ≡ Some meaning → IsFaultOf meaning e → IsFaultOf (after_reference next i o) e
 nowhere next i o meaning e is =
-    fault_as meaning (behind next i o) e (λ fault ends. ap (behind next i) is ∙ ap (λ m. m >>= λ found. next found.resolver found.draft found.value i) ends)
+    fault_as meaning (after_reference next i o) e (λ fault ends. ap (after_reference next i) is ∙ ap (λ m. m >>= λ found. next found.resolver found.draft found.value i) ends)
 
 pub there : (w v : World) (m : ℕ) (i : Data) (o : Option (Result Found Fault)) (found : Found) (r : Resolver) (d : Draft) (t : Data)
-    → o ≡ Some (Ok found) → v ≡ w → r ≡ found.resolver → d ≡ found.draft → t ≡ found.value → behind (validated w m) i o ≡ validated v m r d t i
+    → o ≡ Some (Ok found) → v ≡ w → r ≡ found.resolver → d ≡ found.draft → t ≡ found.value → after_reference (validated_within w m) i o ≡ validated_within v m r d t i
 there w v m i o found r d t is world resolver draft value =
-    ap (behind (validated w m) i) is
-    ∙ ap (λ v. validated v m found.resolver found.draft found.value i) (sym world)
-    ∙ ap (λ r. validated v m r found.draft found.value i) (sym resolver)
-    ∙ ap (λ d. validated v m r d found.value i) (sym draft)
-    ∙ ap (λ t. validated v m r d t i) (sym value)
+    ap (after_reference (validated_within w m) i) is
+    ∙ ap (λ v. validated_within v m found.resolver found.draft found.value i) (sym world)
+    ∙ ap (λ r. validated_within v m r found.draft found.value i) (sym resolver)
+    ∙ ap (λ d. validated_within v m r d found.value i) (sym draft)
+    ∙ ap (λ t. validated_within v m r d t i) (sym value)
 
 -- ---- at a subschema
 
@@ -91,11 +91,11 @@ part_of : (next : Validator) (r : Resolver) (i part : Data) (child : Walked) →
 part_of next r i part child is = rw is
 
 pub asked : (w v : World) (m : ℕ) (r inner : Resolver) (i part : Data) (child : Walked) → part_for child.path i ≡ Some part → in_subresource r child.draft child.value ≡ Ok inner → v ≡ w
-    → at_child (validated w m) r i child ≡ validated v m inner child.draft child.value part
+    → at_child (validated_within w m) r i child ≡ validated_within v m inner child.draft child.value part
 asked w v m r inner i part child is entered world =
-    part_of (validated w m) r i part child is
-    ∙ ap (λ a. as_invalid_uri a >>= λ inner. validated w m inner child.draft child.value part) entered
-    ∙ ap (λ w. validated w m inner child.draft child.value part) (sym world)
+    part_of (validated_within w m) r i part child is
+    ∙ ap (λ a. as_invalid_uri a >>= λ inner. validated_within w m inner child.draft child.value part) entered
+    ∙ ap (λ w. validated_within w m inner child.draft child.value part) (sym world)
 
 pub not_entered : (next : Validator) (r : Resolver) (i part : Data) (child : Walked) (e : Error) → part_for child.path i ≡ Some part → IsFaultOf (as_invalid_uri (in_subresource r child.draft child.value)) e
     → IsFaultOf (at_child next r i child) e
@@ -117,9 +117,9 @@ none_left next r i children at h = ap (λ cs. at_children next r i (map walked_c
 
 -- past the reference, at the first subschema
 pub past_reference : (w : World) (n : ℕ) (r : Resolver) (d : Draft) (s i : Data) (v : Verdict) (children : List Child) → 0 < n → is_of_type s i ≡ true
-    → behind (validated w (n - 1)) i (referred w r s) ≡ Ok v → is_valid v ≡ true → walked d s ≡ map walked_child children
-    → validated w n r d s i ≡ at_children (validated w (n - 1)) r i (map walked_child (drop 0 children))
+    → after_reference (validated_within w (n - 1)) i (referred_from w r s) ≡ Ok v → is_valid v ≡ true → walked_children d s ≡ map walked_child children
+    → validated_within w n r d s i ≡ at_children (validated_within w (n - 1)) r i (map walked_child (drop 0 children))
 past_reference w n r d s i v children h its led valid are =
     of_its_type w n r d s i h its
-    ∙ goes_on (behind (validated w (n - 1)) i (referred w r s)) (at_children (validated w (n - 1)) r i (walked d s)) v led valid
-    ∙ ap (at_children (validated w (n - 1)) r i) are
+    ∙ goes_on (after_reference (validated_within w (n - 1)) i (referred_from w r s)) (at_children (validated_within w (n - 1)) r i (walked_children d s)) v led valid
+    ∙ ap (at_children (validated_within w (n - 1)) r i) are

@@ -3,13 +3,13 @@ use Rattle.std.specs.Prelude.{ℕ, ◌==◌, Bool, List, codes, filter, if◌the
 use Rattle.std.specs.List.{filter_map}
 use Rattle.std.specs.Result.{result_ok}
 use Rattle.serde_json.specs.Data.{Data}
-use Rattle.ref_parts.specs.Path.{value_at}
-use Rattle.ref_draft.specs.Schema.{text_under}
-use Rattle.ref_uri.specs.Reference.{with_fragment}
-use Rattle.ref_uri.specs.Targets.{Refusal, against}
-use Rattle.ref_world.specs.Results.{◌>>=◌}
-use Rattle.ref_world.specs.World.{Layer}
-use Rattle.ref_world.specs.Listing.{Listed, own_places}
+use Rattle.referencing.specs.Path.{value_at}
+use Rattle.referencing.specs.Schema.{text_under}
+use Rattle.referencing.specs.Reference.{with_fragment}
+use Rattle.referencing.specs.Targets.{Refusal, uri_against}
+use Rattle.referencing.specs.Results.{◌>>=◌}
+use Rattle.referencing.specs.World.{Layer}
+use Rattle.referencing.specs.Listing.{Listed, own_places}
 
 -- the value at a listed place
 abbrev pub value_there : Layer → Listed → Option Data
@@ -17,7 +17,7 @@ value_there layer p = option_and_then (λ d. value_at d.tree p.path) (slice_get 
 
 -- the URI that a reference at a base means, without its fragment
 abbrev pub uri_of : Result (List ℕ) Refusal → List ℕ → Option (List ℕ)
-uri_of base reference = result_ok (base >>= λ base. against base reference >>= λ uri. Ok (with_fragment uri None))
+uri_of base reference = result_ok (base >>= λ base. uri_against base reference >>= λ uri. Ok (with_fragment uri None))
 
 -- the URI that the `$ref` of a listed place means, without its fragment, where it has one
 abbrev pub refers_to : Layer → Listed → Option (List ℕ)

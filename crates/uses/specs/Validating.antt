@@ -3,14 +3,14 @@ use Rattle.std.specs.Prelude.{ℕ, zero, suc, Bool, true, false, List, [], ◌�
 use Rattle.std.specs.Option.{option_map_or}
 use Rattle.serde_json.specs.Data.{Data}
 use Rattle.serde_json.specs.Find.{get, as_null, as_bool, as_number, as_str, as_array, as_object}
-use Rattle.ref_parts.specs.Path.{Part, Key, Index}
-use Rattle.ref_draft.specs.declared.draft.Draft.{Draft}
-use Rattle.ref_draft.specs.Schema.{text_under}
-use Rattle.ref_draft.specs.Children.{Walked, walked}
-use Rattle.ref_world.specs.Results.{◌>>=◌}
-use Rattle.ref_world.specs.World.{World}
-use Rattle.ref_world.specs.Fault.{Fault, as_invalid_uri}
-use Rattle.ref_world.specs.Lookup.{Resolver, Found, lookup, in_subresource}
+use Rattle.referencing.specs.Path.{Part, Key, Index}
+use Rattle.referencing.specs.Draft.{Draft}
+use Rattle.referencing.specs.Schema.{text_under}
+use Rattle.referencing.specs.Children.{Walked, walked_children}
+use Rattle.referencing.specs.Results.{◌>>=◌}
+use Rattle.referencing.specs.World.{World}
+use Rattle.referencing.specs.Fault.{Fault, as_invalid_uri}
+use Rattle.referencing.specs.Lookup.{Resolver, Found, lookup, in_subresource}
 use Rattle.uses.specs.declared.validator.Verdict.{Verdict}
 use Rattle.uses.specs.declared.validator.Verdict.TheVariants.{Valid, Invalid, TooDeep}
 
@@ -20,8 +20,8 @@ is_valid Invalid = false
 is_valid TooDeep = false
 
 -- where a schema's text under `$ref` leads from a resolver
-abbrev pub referred : World → Resolver → Data → Option (Result Found Fault)
-referred world r schema = option_map (lookup world r) (text_under (codes "$ref") schema)
+abbrev pub referred_from : World → Resolver → Data → Option (Result Found Fault)
+referred_from world r schema = option_map (lookup world r) (text_under (codes "$ref") schema)
 
 -- whether a value has a type by its name (2020-12 Core, 4.2.1); `integer` and texts that name none aren't read
 abbrev pub has_type : Data → List ℕ → Bool
@@ -44,7 +44,7 @@ part_for (Key keyword ∷ Key name ∷ []) instance = if bytes_eq keyword (codes
 part_for (Key keyword ∷ Index i ∷ []) instance = if bytes_eq keyword (codes "allOf") then Some instance else None
 part_for path instance = None
 
--- the first answer, unless it is `Valid`: then the one behind it
+-- the first answer, unless it is `Valid`: then the one after it
 abbrev pub unless_valid : Result Verdict Fault → Result Verdict Fault → Result Verdict Fault
 unless_valid (Ok verdict) more = if is_valid verdict then more else Ok verdict
 unless_valid (Err fault) more = Err fault
@@ -54,9 +54,9 @@ abbrev pub Validator : Type 0
 Validator = Resolver → Draft → Data → Data → Result Verdict Fault
 
 -- behind a reference, where there is one
-abbrev pub behind : Validator → Data → Option (Result Found Fault) → Result Verdict Fault
-behind next instance None = Ok Valid
-behind next instance (Some meaning) = meaning >>= λ found. next found.resolver found.draft found.value instance
+abbrev pub after_reference : Validator → Data → Option (Result Found Fault) → Result Verdict Fault
+after_reference next instance None = Ok Valid
+after_reference next instance (Some meaning) = meaning >>= λ found. next found.resolver found.draft found.value instance
 
 -- at a subschema, where it is asked of something
 abbrev pub at_child : Validator → Resolver → Data → Walked → Result Verdict Fault
@@ -69,9 +69,9 @@ at_children next r instance [] = Ok Valid
 at_children next r instance (child ∷ children) = unless_valid (at_child next r instance child) (at_children next r instance children)
 
 -- at most so many schemas that lead to one another: the type, then what the reference leads to, then the subschemas
-unfoldable pub validated : World → ℕ → Validator
-validated world zero r draft schema instance = Ok TooDeep
-validated world (suc depth) r draft schema instance =
+unfoldable pub validated_within : World → ℕ → Validator
+validated_within world zero r draft schema instance = Ok TooDeep
+validated_within world (suc depth) r draft schema instance =
     if is_of_type schema instance
-    then unless_valid (behind (validated world depth) instance (referred world r schema)) (at_children (validated world depth) r instance (walked draft schema))
+    then unless_valid (after_reference (validated_within world depth) instance (referred_from world r schema)) (at_children (validated_within world depth) r instance (walked_children draft schema))
     else Ok Invalid

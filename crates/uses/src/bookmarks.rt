@@ -1,11 +1,11 @@
 //! A tool that keeps places by pointer: by the base URI of the resource that they belong to, and the path from there.
 ghost use Rattle.std.specs.Prelude.{◌≡◌, ◌++◌, map, Ok, IfOk, IfErr, IfSome};
 ghost use Rattle.serde_json.specs.View.{view};
-ghost use Rattle.ref_parts.specs.Segment.{part_of};
-ghost use Rattle.ref_world.specs.World.{Document};
-ghost use Rattle.ref_world.specs.Places.{Place as WorldPlace};
-ghost use Rattle.ref_world.specs.Agreement.{IsAtOrBelow, IsReadAlike};
-ghost use Rattle.ref_resolver.specs.Layered.{own};
+ghost use Rattle.referencing.specs.Segment.{part_of};
+ghost use Rattle.referencing.specs.World.{Document};
+ghost use Rattle.referencing.specs.Places.{Place as WorldPlace};
+ghost use Rattle.referencing.specs.Agreement.{IsAtOrBelow, IsReadAlike};
+ghost use Rattle.referencing.specs.Layered.{own_layer};
 ghost use Rattle.referencing.specs.Listed.{IsMemory};
 
 use referencing::{Draft, Error, JsonPointerSegment, Place, Registry, Uri};
@@ -52,9 +52,9 @@ pub fn opened<'r>(
     registry: &'r Registry<'_>,
     kept: Bookmark<'_, '_>,
 ) -> Result<(&'r Value, Draft, Rc<Uri>), Error>
-    ensures place { (d : Document) (r q : WorldPlace) → IsReadAlike (own registry.now) d r kept.entry.resource.now → IsAtOrBelow q r → q.path ≡ r.path ++ map part_of kept.entry.path.now
+    ensures place { (d : Document) (r q : WorldPlace) → IsReadAlike (own_layer registry.now) d r kept.entry.resource.now → IsAtOrBelow q r → q.path ≡ r.path ++ map part_of kept.entry.path.now
         → IfOk result (λ found. (view found.0.now ≡ q.value) × (found.1 ≡ q.draft) × (q.base ≡ Ok found.2.value)) }
-    ensures memory { (d : Document) (r q : WorldPlace) → IsReadAlike (own registry.now) d r kept.entry.resource.now → IsAtOrBelow q r → q.path ≡ r.path ++ map part_of kept.entry.path.now
+    ensures memory { (d : Document) (r q : WorldPlace) → IsReadAlike (own_layer registry.now) d r kept.entry.resource.now → IsAtOrBelow q r → q.path ≡ r.path ++ map part_of kept.entry.path.now
         → IfErr result IsMemory }
 {
     let (value, inner, draft) = registry

@@ -1,9 +1,9 @@
 //! A bundler that lists the documents that one of a registry's own refers to.
 ghost use Rattle.std.specs.Prelude.{◌≡◌, ◌++◌, ◌∷◌, [], None, IfOk, IfErr, OnOk};
-ghost use Rattle.ref_uri.specs.Reference.{with_fragment};
-ghost use Rattle.ref_index.specs.Listing.{listed_of};
+ghost use Rattle.referencing.specs.Reference.{with_fragment};
+ghost use Rattle.referencing.specs.ListedPlaces.{listed_of};
 ghost use Rattle.referencing.specs.Listed.{IsMemory};
-ghost use Rattle.ref_resolver.specs.Layered.{own};
+ghost use Rattle.referencing.specs.Layered.{own_layer};
 ghost use Rattle.uses.specs.Bundling.{refers_to, refers_from, referred_by};
 
 use referencing::{Error, Place, Registry, Uri};
@@ -25,7 +25,7 @@ fn referred(
     registry: &Registry<'_>,
     place: &Place<'_>,
 ) -> Result<Option<Uri>, AllocError>
-    ensures { IfOk result (λ uri. uri ≡ refers_to (own registry.now) (listed_of place.now)) }
+    ensures { IfOk result (λ uri. uri ≡ refers_to (own_layer registry.now) (listed_of place.now)) }
 {
     let Some(value) = registry.value_at(place.document, place.path.as_slice()) else {
         return Ok(None);
@@ -47,7 +47,7 @@ fn referred_from(
     document: usize,
     place: &Place<'_>,
 ) -> Result<Option<Uri>, AllocError>
-    ensures { IfOk result (λ uri. uri ≡ refers_from (own registry.now) document (listed_of place.now)) }
+    ensures { IfOk result (λ uri. uri ≡ refers_from (own_layer registry.now) document (listed_of place.now)) }
 {
     if place.document != document {
         return Ok(None);
@@ -55,7 +55,7 @@ fn referred_from(
     referred(alloc, registry, place)
 }
 
-// Adds a URI behind the others.
+// Adds a URI after the others.
 fn push(uris: &mut Vec<Uri>, uri: Uri) -> Result<(), AllocError>
     ensures { OnOk result (uris.new.items ≡ uris.old.items ++ uri ∷ []) }
 {
@@ -66,8 +66,8 @@ fn push(uris: &mut Vec<Uri>, uri: Uri) -> Result<(), AllocError>
 /// The URIs that the references of one of a registry's own documents mean, without their fragments: one for each place of it with
 /// a text under `$ref` that as a whole means a URI against the place's base, in the order of its places, also where several mean the
 /// same. The document is the one with this number, counted from 0 in the order of [`Registry::places`]; a number without a document
-/// has none. A look-up takes its URI from what stands before the text's last `#` alone, so it may lead on from a text that isn't
-/// listed here. A bundler puts together what stands under them.
+/// has none. A look-up takes its URI from what is before the text's last `#` alone, so it may lead on from a text that isn't
+/// listed here. A bundler puts together what is under them.
 ///
 /// Refuses as `Memory` alone. Visits each place of the registry once, and those of the document with a look-up of their value and of
 /// the URI.
@@ -76,7 +76,7 @@ pub fn referred_documents(
     registry: &Registry<'_>,
     document: usize,
 ) -> Result<Vec<Uri>, Error>
-    ensures value { IfOk result (λ uris. uris.items ≡ referred_by (own registry.now) document) }
+    ensures value { IfOk result (λ uris. uris.items ≡ referred_by (own_layer registry.now) document) }
     ensures memory { IfErr result IsMemory }
 {
     let mut uris = Vec::new(alloc);

@@ -1,8 +1,8 @@
 //! A dialect whose meta-schema is in a parent.
 ghost use Rattle.std.specs.Prelude.{◌≡◌, IfOk, IfErr};
 ghost use Rattle.serde_json.specs.View.{view};
-ghost use Rattle.ref_world.specs.World.{World};
-ghost use Rattle.ref_world.specs.Vocabularies.{find_vocabularies};
+ghost use Rattle.referencing.specs.World.{World};
+ghost use Rattle.referencing.specs.Vocabularies.{find_vocabularies};
 ghost use Rattle.uses.specs.Uses.{IsPreparedAbove, IsRefusedAbove};
 
 use referencing::{Draft, Error, Registry, VocabularySet};

@@ -1,8 +1,8 @@
 //! An editor that asks for the value and the base of a place.
 ghost use Rattle.std.specs.Prelude.{◌≡◌, [], Ok, IfOk, IfErr};
 ghost use Rattle.serde_json.specs.View.{view};
-ghost use Rattle.ref_world.specs.Lookup.{Found, lookup};
-ghost use Rattle.ref_retrieve.specs.Errors.{IsFaultOf};
+ghost use Rattle.referencing.specs.Lookup.{Found, lookup};
+ghost use Rattle.referencing.specs.Errors.{IsFaultOf};
 
 use referencing::{Error, Registry, Uri};
 use serde_json::Value;

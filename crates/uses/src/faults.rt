@@ -1,6 +1,6 @@
 //! A fault that is shown to a person.
 ghost use Rattle.std.specs.Prelude.{◌≡◌, map, string_bytes, IfOk};
-ghost use Rattle.referencing.specs.Builder.{seen};
+ghost use Rattle.referencing.specs.Builder.{builder_of};
 ghost use Rattle.referencing.specs.Following.{step_of};
 ghost use Rattle.referencing.specs.Prepared.{given_of};
 ghost use Rattle.uses.specs.Uses.{step_text, IsShown};
@@ -8,7 +8,7 @@ ghost use Rattle.uses.specs.Uses.{step_text, IsShown};
 use referencing::{AnswerError, FollowError, RegistryBuilder, Retrieve, Step, Uri};
 use std::alloc::{AllocError, Global};
 
-/// The number of the step that leads nowhere, from 0, and the text of its fault. Takes memory for the text.
+/// The number of the step that finds no value, from 0, and the text of its fault. Takes memory for the text.
 pub fn step_text(alloc: Global, fault: &FollowError) -> Result<String, AllocError>
     ensures text { IfOk result (λ text. string_bytes text ≡ step_text fault.now) }
 {
@@ -24,7 +24,7 @@ pub fn shown<R: Retrieve + Drop>(
     base: Uri,
     steps: &[Step<'_>],
 ) -> Result<String, AllocError>
-    ensures text { IfOk result (λ text. IsShown (given_of (R.may_answer (seen builder.entry).retriever) (R.may_refuse (seen builder.entry).retriever) (seen builder.entry)) base (map step_of steps.now) (string_bytes text)) }
+    ensures text { IfOk result (λ text. IsShown (given_of (R.may_answer (builder_of builder.entry).retriever) (R.may_refuse (builder_of builder.entry).retriever) (builder_of builder.entry)) base (map step_of steps.now) (string_bytes text)) }
 {
     match builder.prepare_and_follow(base, steps) {
         Ok(_) => Ok(String::from_str(alloc, "found")?),

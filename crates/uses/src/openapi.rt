@@ -1,7 +1,7 @@
 //! A resolver of OpenAPI descriptions, with a retriever of its own over files handed in.
 ghost use Rattle.std.specs.Prelude.{IfOk, IfErr};
-ghost use Rattle.ref_index.specs.Retrieval.{IsFaultyOutcome};
-ghost use Rattle.referencing.specs.Builder.{seen};
+ghost use Rattle.referencing.specs.Retrieval.{IsFaultyOutcome};
+ghost use Rattle.referencing.specs.Builder.{builder_of};
 ghost use Rattle.referencing.specs.Prepared.{given_of, IsPreparedOf};
 ghost use Rattle.uses.specs.Uses.{HasFile, SaysNoFile};
 
@@ -19,7 +19,7 @@ pub struct Files {
 impl Retrieve for Files {
     ghost use Rattle.std.specs.Prelude.{IfOk, IfErr};
     ghost use Rattle.serde_json.specs.View.{view};
-    ghost use Rattle.ref_retrieve.specs.Retrieving.{IfRefused};
+    ghost use Rattle.referencing.specs.Retrieving.{IfRefused};
     ghost use Rattle.uses.specs.Uses.{HasFile, SaysNoFile};
 
     ghost may_answer = { λ f. HasFile f.files.items };
@@ -41,8 +41,8 @@ impl Retrieve for Files {
 
 /// The registry of what a builder holds, and of the files that it wants. Refuses as [`RegistryBuilder::prepare`] does.
 pub fn prepared<'a>(builder: RegistryBuilder<'a>, files: Files) -> Result<Registry<'a>, Error>
-    ensures outcome { IfOk result (IsPreparedOf (given_of (HasFile files.files.items) (SaysNoFile files.files.items) (seen builder.entry))) }
-    ensures fault { IfErr result (IsFaultyOutcome (given_of (HasFile files.files.items) (SaysNoFile files.files.items) (seen builder.entry))) }
+    ensures outcome { IfOk result (IsPreparedOf (given_of (HasFile files.files.items) (SaysNoFile files.files.items) (builder_of builder.entry))) }
+    ensures fault { IfErr result (IsFaultyOutcome (given_of (HasFile files.files.items) (SaysNoFile files.files.items) (builder_of builder.entry))) }
 {
     builder.retriever(files).prepare()
 }

@@ -1,12 +1,12 @@
 //! A validator that follows `$ref` while it goes through a schema.
 ghost use Rattle.std.specs.Prelude.{◌≡◌, option_map, Some, Ok, Result, IfOk, IfErr, IfSome};
 ghost use Rattle.serde_json.specs.View.{view};
-ghost use Rattle.ref_draft.specs.Views.{walked_child};
-ghost use Rattle.ref_world.specs.Fault.{Fault};
-ghost use Rattle.ref_world.specs.Lookup.{Found};
-ghost use Rattle.ref_retrieve.specs.Errors.{IsFaultOf};
-ghost use Rattle.ref_resolver.specs.Resolving.{resolver_of, world_of, found_of, world_found};
-ghost use Rattle.uses.specs.Validating.{referred, is_valid, is_of_type, part_for, validated};
+ghost use Rattle.referencing.specs.Views.{walked_child};
+ghost use Rattle.referencing.specs.Fault.{Fault};
+ghost use Rattle.referencing.specs.Lookup.{Found};
+ghost use Rattle.referencing.specs.Errors.{IsFaultOf};
+ghost use Rattle.referencing.specs.Resolving.{resolver_of, world_of, found_of, world_found};
+ghost use Rattle.uses.specs.Validating.{referred_from, is_valid, is_of_type, part_for, validated_within};
 
 use referencing::{Child, Draft, Error, JsonPointerSegment, Resolved, Resolver, ResourceRef};
 use serde_json::Value;
@@ -19,7 +19,7 @@ pub enum Verdict {
     Valid,
     /// It doesn't.
     Invalid,
-    /// More schemas stand in one another than were allowed.
+    /// More schemas are in one another than were allowed.
     TooDeep,
 }
 
@@ -38,9 +38,9 @@ fn referred<'r>(
     resolver: &Resolver<'r>,
     schema: &Value,
 ) -> Result<Option<Resolved<'r>>, Error>
-    ensures ok { IfOk result (λ found. option_map (λ f. Ok (found_of f)) found ≡ referred (world_of resolver.now) (resolver_of resolver.now) (view schema.now)) }
+    ensures ok { IfOk result (λ found. option_map (λ f. Ok (found_of f)) found ≡ referred_from (world_of resolver.now) (resolver_of resolver.now) (view schema.now)) }
     ensures world { IfOk result (λ found. IfSome found (λ f. world_found f ≡ world_of resolver.now)) }
-    ensures fault { IfErr result (λ error. (meaning : Result Found Fault) × (referred (world_of resolver.now) (resolver_of resolver.now) (view schema.now) ≡ Some meaning) × IsFaultOf meaning error) }
+    ensures fault { IfErr result (λ error. (meaning : Result Found Fault) × (referred_from (world_of resolver.now) (resolver_of resolver.now) (view schema.now) ≡ Some meaning) × IsFaultOf meaning error) }
 {
     let Some(reference) = schema.get("$ref").and_then(Value::as_str) else {
         return Ok(None);
@@ -78,7 +78,7 @@ fn part_for<'v>(child: &Child<'_>, instance: &'v Value) -> Option<&'v Value>
 /// Whether an instance meets a schema: its `type`, the schema that its `$ref` leads to, and its subschemas under `properties`
 /// and `allOf`, each from the resolver at it; other keywords aren't read. `resolver` is the one at the schema, whose identifier
 /// it has applied, and `draft` the schema's. It goes through at most `depth` schemas that lead to one another, so a circle of
-/// references is told as `TooDeep`. The first of these that is met by anything but `Valid` decides.
+/// references is said as `TooDeep`. The first of these that is met by anything but `Valid` decides.
 ///
 /// Refuses as [`Resolver::lookup`] and [`Resolver::in_subresource`] do. A look-up for each `$ref`, and memory for the list of a
 /// schema's children.
@@ -90,8 +90,8 @@ pub fn validated(
     instance: &Value,
     depth: usize,
 ) -> Result<Verdict, Error>
-    ensures value { IfOk result (λ verdict. validated (world_of resolver.now) depth (resolver_of resolver.now) draft (view schema.now) (view instance.now) ≡ Ok verdict) }
-    ensures fault { IfErr result (IsFaultOf (validated (world_of resolver.now) depth (resolver_of resolver.now) draft (view schema.now) (view instance.now))) }
+    ensures value { IfOk result (λ verdict. validated_within (world_of resolver.now) depth (resolver_of resolver.now) draft (view schema.now) (view instance.now) ≡ Ok verdict) }
+    ensures fault { IfErr result (IsFaultOf (validated_within (world_of resolver.now) depth (resolver_of resolver.now) draft (view schema.now) (view instance.now))) }
 {
     if depth == 0 {
         return Ok(Verdict::TooDeep);

@@ -4,27 +4,27 @@ use Rattle.std.specs.Option.{option_to_list}
 use Rattle.serde_json.specs.Data.{Data}
 use Rattle.serde_json.specs.Find.{get}
 use Rattle.ref_parts.specs.Path.{Key, path_eq}
-use Rattle.ref_world.specs.World.{Document, Layer}
+use Rattle.ref_definitions.specs.World.{Document, Layer}
 use Rattle.ref_bundle.specs.Needed.{targets_from}
 use Rattle.ref_bundle.specs.Embedding.{base_uri, obstacle}
-use Rattle.ref_bundle.specs.Bundle.{Problem, KeyTaken, NotEmbedded, root_refusals, BundleRefusal, at_path, borne, shared, replaced}
+use Rattle.ref_bundle.specs.Bundle.{Problem, KeyTaken, NotEmbedded, root_refusals, BundleRefusal, at_path, sites_of_uris, shared_uri, replaced_uris}
 use Rattle.ref_bundle.specs.inner.Seen.{Seen, own_uri_of}
 
 abbrev pub first : {X : Type 0} → List X → Option X
 first [] = None
 first (x ∷ xs) = Some x
 
--- the URIs that a place bears, where its document has this one
+-- the URIs that a place has, where its document has this one
 abbrev pub uris_seen : List ℕ → Seen → List (List ℕ)
 uris_seen uri s = (if path_eq s.path [] then uri ∷ [] else []) ++ option_to_list (own_uri_of s)
 
--- the problems of the URIs that it bears
+-- the problems of the URIs that it has
 abbrev pub shared_seen : Layer → List ℕ → Seen → List Problem
-shared_seen layer uri s = flat_map (shared (borne layer) (s.document, s.path)) (uris_seen uri s)
+shared_seen layer uri s = flat_map (shared_uri (sites_of_uris layer) (s.document, s.path)) (uris_seen uri s)
 
 -- and of those that it refers to
 abbrev pub replaced_seen : Layer → ℕ → Seen → List Problem
-replaced_seen layer top s = flat_map (replaced layer top) (targets_from s.base s.value)
+replaced_seen layer top s = flat_map (replaced_uris layer top) (targets_from s.base s.value)
 
 -- the refusals of a place
 abbrev pub refusals_seen : Layer → ℕ → List ℕ → Seen → List BundleRefusal

@@ -1,7 +1,7 @@
 -- The reasons why a document can't be embedded, in two parts.
 use Rattle.std.specs.Prelude.{not, ◌&&◌, if◌then◌else◌, Option, Some, None}
 use Rattle.ref_draft.specs.Children.{is_object}
-use Rattle.ref_world.specs.World.{Document}
+use Rattle.ref_definitions.specs.World.{Document}
 use Rattle.ref_bundle.specs.Embedding.{Obstacle, NotAnObject, IdentifierBesideRef, NotAnIdentifier, NotKept, UntoldDraft, ResolvedAgain, base_uri, is_beside_ref, has_no_identifier, is_kept, loses_draft, is_resolved_again}
 
 -- by its tree

@@ -23,13 +23,13 @@ added_where (Some false) s n = record { marks = slice_set s.marks n true; queue 
 added_where (Some true) s n = s
 added_where None s n = s
 
-abbrev pub added : State → ℕ → State
-added s n = added_where (slice_get s.marks n) s n
+abbrev pub added_document : State → ℕ → State
+added_document s n = added_where (slice_get s.marks n) s n
 
 -- with these numbers
 abbrev pub all_added : State → List ℕ → State
 all_added s [] = s
-all_added s (n ∷ ns) = all_added (added s n) ns
+all_added s (n ∷ ns) = all_added (added_document s n) ns
 
 -- the list of a number
 abbrev pub list_at : List (List ℕ) → ℕ → List ℕ

@@ -10,10 +10,10 @@ use Rattle.ref_parts.specs.Segment.{part_of}
 use Rattle.ref_draft.specs.declared.draft.Draft.{Draft}
 use Rattle.ref_draft.specs.Schema.{identifier}
 use Rattle.ref_uri.specs.Targets.{Refusal}
-use Rattle.ref_world.specs.World.{Document, Layer}
-use Rattle.ref_world.specs.Places.{Place, places}
-use Rattle.ref_world.specs.Listing.{Listed}
-use Rattle.ref_bundle.specs.Needed.{counted}
+use Rattle.ref_definitions.specs.World.{Document, Layer}
+use Rattle.ref_definitions.specs.Places.{Place, places}
+use Rattle.ref_definitions.specs.Listing.{Listed}
+use Rattle.ref_bundle.specs.Needed.{counted_documents}
 use Rattle.ref_bundle.specs.Embedding.{base_uri}
 use Rattle.ref_bundle.specs.declared.own.Spot.{Spot}
 use Rattle.ref_bundle.specs.declared.own.Own.{Own}
@@ -36,10 +36,10 @@ abbrev pub seen_in : ℕ × Document → List Seen
 seen_in e = map (see e.0) (places e.1)
 
 -- one of the program's
-abbrev pub seen : Spot → Seen
-seen s = record { document = s.document; path = map part_of s.path.items; value = view s.value.now; draft = s.draft; base = Ok s.base.value }
+abbrev pub seen_spot : Spot → Seen
+seen_spot s = record { document = s.document; path = map part_of s.path.items; value = view s.value.now; draft = s.draft; base = Ok s.base.value }
 
--- the URI that it bears by its own identifier
+-- the URI that it has by its own identifier
 abbrev pub own_uri_of : Seen → Option (List ℕ)
 own_uri_of s = option_and_then (λ id. result_ok s.base) (identifier s.draft s.value)
 
@@ -48,12 +48,12 @@ own_uri_of s = option_and_then (λ id. result_ok s.base) (identifier s.draft s.v
 abbrev pub document_in : Own → Document
 document_in own = record { uri = own.uri.now; tree = view own.tree.now; draft = own.draft }
 
-abbrev pub numbered : Own → ℕ × Document
-numbered own = (own.number, document_in own)
+abbrev pub numbered_document : Own → ℕ × Document
+numbered_document own = (own.number, document_in own)
 
 -- its places are those of the document
 abbrev pub HasPlaces : Own → Type 0
-HasPlaces own = map seen own.places.items ≡ seen_in (numbered own)
+HasPlaces own = map seen_spot own.places.items ≡ seen_in (numbered_document own)
 
 -- documents as a layer
 abbrev pub layer_in : List Own → Layer
@@ -61,7 +61,7 @@ layer_in owns = map document_in owns
 
 -- they are numbered in their order, and have their places
 pub record AreOwn (owns : List Own) : Type 0 where
-  pub order : map numbered owns ≡ counted 0 (layer_in owns)
+  pub order : map numbered_document owns ≡ counted_documents 0 (layer_in owns)
   pub places : AllByRecursion HasPlaces owns
 
 -- a document that is to be embedded
@@ -77,11 +77,11 @@ HasBase p = p.base.value ≡ base_uri (part_document p)
 
 -- ---- places that are listed, document by document
 
--- a place that is listed, where its value stands in its document
+-- a place that is listed, where its value is in its document
 abbrev pub see_listed : Layer → Listed → Option Seen
 see_listed layer l = option_map (λ v. record { document = l.document; path = l.path; value = v; draft = l.draft; base = l.base }) (option_and_then (λ d. value_at d.tree l.path) (slice_get layer l.document))
 
--- those whose values stand there
+-- those whose values are there
 abbrev pub all_seen : Layer → List Listed → List Seen
 all_seen layer ls = flat_map (λ l. option_to_list (see_listed layer l)) ls
 
@@ -92,10 +92,10 @@ put_last (g ∷ []) x = (g ++ x ∷ []) ∷ []
 put_last (g ∷ h ∷ gs) x = g ∷ put_last (h ∷ gs) x
 
 -- with a place in the last of them, where its document has been begun, or else in a new one
-abbrev pub put : List (List Seen) → Seen → List (List Seen)
-put gs s = if nat_lt s.document (length gs) then put_last gs s else gs ++ (s ∷ []) ∷ []
+abbrev pub put_place : List (List Seen) → Seen → List (List Seen)
+put_place gs s = if nat_lt s.document (length gs) then put_last gs s else gs ++ (s ∷ []) ∷ []
 
 -- with places, one after another
-abbrev pub gathered : List (List Seen) → List Seen → List (List Seen)
-gathered gs [] = gs
-gathered gs (s ∷ ss) = gathered (put gs s) ss
+abbrev pub gathered_places : List (List Seen) → List Seen → List (List Seen)
+gathered_places gs [] = gs
+gathered_places gs (s ∷ ss) = gathered_places (put_place gs s) ss

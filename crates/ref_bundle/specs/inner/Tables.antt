@@ -1,11 +1,11 @@
--- The tables of the URIs that places bear.
+-- The tables of the URIs that places have.
 use Rattle.std.specs.Prelude.{◌≡◌, ℕ, Bool, true, false, not, List, [], map, filter, String, string_bytes, Option, Some, None, option_map}
 use Rattle.std.specs.Option.{option_map_or, option_to_list}
 use Rattle.std.specs.declared.alloc.Global.{Global}
 use Rattle.ref_parts.specs.Segment.{part_of}
 use Rattle.ref_parts.specs.Table.{Entry, last_value}
-use Rattle.ref_world.specs.World.{Layer}
-use Rattle.ref_bundle.specs.Bundle.{Site, is_site, borne}
+use Rattle.ref_definitions.specs.World.{Layer}
+use Rattle.ref_bundle.specs.Bundle.{Site, is_site, sites_of_uris}
 use Rattle.ref_bundle.specs.inner.Seen.{Seen, own_uri_of}
 use Rattle.ref_bundle.specs.declared.tables.Site as rust_site
 use Rattle.ref_bundle.specs.declared.tables.Bearers as rust_bearers
@@ -15,17 +15,17 @@ abbrev pub site_of : rust_site.Site → Site
 site_of s = (s.document, map part_of s.path.items)
 
 -- entries that are to become a table, and those of a table
-abbrev pub entered : List (String Global × String Global × rust_site.Site) → List (Entry Site)
-entered es = map (λ e. (string_bytes e.0, string_bytes e.1, site_of e.2)) es
+abbrev pub table_entries_of : List (String Global × String Global × rust_site.Site) → List (Entry Site)
+table_entries_of es = map (λ e. (string_bytes e.0, string_bytes e.1, site_of e.2)) es
 
-abbrev pub tabled : List (Entry rust_site.Site) → List (Entry Site)
-tabled es = map (λ e. (e.0, e.1, site_of e.2)) es
+abbrev pub table_of : List (Entry rust_site.Site) → List (Entry Site)
+table_of es = map (λ e. (e.0, e.1, site_of e.2)) es
 
 -- the entry of a URI
-abbrev pub under : List ℕ × Site → Entry Site
-under b = (b.0, [], b.1)
+abbrev pub entry_under : List ℕ × Site → Entry Site
+entry_under b = (b.0, [], b.1)
 
--- the URI that a place bears by its own identifier, with the place
+-- the URI that a place has by its own identifier, with the place
 abbrev pub borne_at : Seen → List (List ℕ × Site)
 borne_at s = option_to_list (option_map (λ uri. (uri, (s.document, s.path))) (own_uri_of s))
 
@@ -38,7 +38,7 @@ abbrev pub is_other : Option (List (Entry Site)) → List ℕ × Site → Bool
 is_other None b = true
 is_other (Some table) b = is_other_in table b.0 b.1
 
--- the tables of a layer: of all that its places bear, and of those entries whose place isn't the last under their URI
+-- the tables of a layer: of all that its places have, and of those entries whose place isn't the last under their URI
 pub record AreTables (layer : Layer) (b : rust_bearers.Bearers) : Type 0 where
-  pub last : tabled b.last ≡ map under (borne layer)
-  pub others : tabled b.others ≡ map under (filter (is_other (Some (map under (borne layer)))) (borne layer))
+  pub last : table_of b.last ≡ map entry_under (sites_of_uris layer)
+  pub others : table_of b.others ≡ map entry_under (filter (is_other (Some (map entry_under (sites_of_uris layer)))) (sites_of_uris layer))

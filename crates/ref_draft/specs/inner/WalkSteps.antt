@@ -1,4 +1,4 @@
--- That a child stands at its path, step by step.
+-- That a child is at its path, step by step.
 use Rattle.std.specs.Prelude.{◌≡◌, Some, ⊤}
 use Rattle.serde_json.specs.Data.{Data, null, boolean, number, string, array, object, Members, no_members, member}
 use Rattle.serde_json.specs.Find.{get_member}

@@ -4,9 +4,9 @@ ghost use Rattle.serde_json.specs.Data.{object, no_items, item, no_members, memb
 ghost use Rattle.ref_parts.specs.Path.{Index};
 ghost use Rattle.ref_draft.specs.declared.draft.Draft.TheVariants.{Draft4, Draft6, Draft7, Draft201909, Draft202012, Unknown};
 ghost use Rattle.ref_draft.specs.declared.spec.Holding.TheVariants.{Whole, WholeObject, Elements, Members, ElementsOrWhole, ObjectMembers, Nothing};
-ghost use Rattle.ref_draft.specs.Children.{AllStand, whole, elements_from, each_member, elements, members, is_object, has_object, held, below, children, keys_of, InKeyOrder, with_draft, walked, keyword_of, is_given, subresources};
+ghost use Rattle.ref_draft.specs.Children.{AllStand, whole_child, elements_from, each_member, elements, members, is_object, has_object, held_children, children_below, children, keys_of, InKeyOrder, with_draft, walked_children, keyword_of, is_given, subresources};
 ghost use Rattle.ref_draft.specs.UniqueKeys.{KeysDiffer, HasUniqueKeys, ItemsHaveUniqueKeys, MembersHaveUniqueKeys};
-ghost use Rattle.ref_draft.specs.Rows.{empty, yes, text, one, two, list, pair, key, schema, paths, dependent};
+ghost use Rattle.ref_draft.specs.Rows.{empty, yes, text, one, two, list, pair, key, schema, paths, dependent_schema};
 
 /// The children of one schema in each draft.
 pub fn children_of_drafts()
@@ -16,10 +16,10 @@ pub fn children_of_drafts()
     ensures of_2019 { paths Draft201909 ≡ (key "$defs" ∷ key "a" ∷ []) ∷ (key "additionalItems" ∷ []) ∷ (key "contains" ∷ []) ∷ (key "dependencies" ∷ key "b" ∷ []) ∷ (key "if" ∷ []) ∷ (key "items" ∷ Index 0 ∷ []) ∷ (key "properties" ∷ key "d" ∷ []) ∷ [] }
     ensures of_2020 { paths Draft202012 ≡ (key "$defs" ∷ key "a" ∷ []) ∷ (key "contains" ∷ []) ∷ (key "if" ∷ []) ∷ (key "items" ∷ []) ∷ (key "prefixItems" ∷ Index 0 ∷ []) ∷ (key "properties" ∷ key "d" ∷ []) ∷ [] }
     ensures of_unknown { paths Unknown ≡ paths Draft202012 }
-    ensures with_values { children Draft201909 dependent ≡ ((key "dependencies" ∷ key "a" ∷ []), empty) ∷ ((key "items" ∷ Index 0 ∷ []), yes) ∷ ((key "items" ∷ Index 1 ∷ []), empty) ∷ [] }
+    ensures with_values { children Draft201909 dependent_schema ≡ ((key "dependencies" ∷ key "a" ∷ []), empty) ∷ ((key "items" ∷ Index 0 ∷ []), yes) ∷ ((key "items" ∷ Index 1 ∷ []), empty) ∷ [] }
     ensures of_no_object { children Draft202012 (list (one "not" yes)) ≡ [] }
-    ensures of_members { below Draft202012 (member (codes "const") empty (member (codes "not") yes no_members)) ≡ ((key "not" ∷ []), yes) ∷ [] }
-    ensures of_no_members { below Draft202012 no_members ≡ [] }
+    ensures of_members { children_below Draft202012 (member (codes "const") empty (member (codes "not") yes no_members)) ≡ ((key "not" ∷ []), yes) ∷ [] }
+    ensures of_no_members { children_below Draft202012 no_members ≡ [] }
     ensures keys { keys_of (member (codes "b") yes (member (codes "a") yes no_members)) ≡ codes "b" ∷ codes "a" ∷ [] }
     ensures in_order { InKeyOrder (two "B" yes "a" yes) }
     ensures out_of_order { ¬ (InKeyOrder (two "a" yes "B" yes)) }
@@ -29,9 +29,9 @@ pub fn children_of_drafts()
 
 /// What `subresources_of` gives beside the children.
 pub fn subresources_of_drafts()
-    ensures of_2019 { subresources Draft201909 dependent ≡ yes ∷ empty ∷ [] }
-    ensures of_7 { subresources Draft7 dependent ≡ empty ∷ yes ∷ empty ∷ [] }
-    ensures of_2020 { subresources Draft202012 dependent ≡ pair yes empty ∷ [] }
+    ensures of_2019 { subresources Draft201909 dependent_schema ≡ yes ∷ empty ∷ [] }
+    ensures of_7 { subresources Draft7 dependent_schema ≡ empty ∷ yes ∷ empty ∷ [] }
+    ensures of_2020 { subresources Draft202012 dependent_schema ≡ pair yes empty ∷ [] }
     ensures of_4 { subresources Draft4 (two "additionalItems" yes "additionalProperties" empty) ≡ empty ∷ [] }
     ensures of_no_object { subresources Draft7 (list empty) ≡ [] }
     ensures given { is_given Draft201909 ((key "items" ∷ Index 0 ∷ []), yes) ≡ true }
@@ -42,23 +42,23 @@ pub fn subresources_of_drafts()
 
 /// How each form of keyword holds its children.
 pub fn children_of_keywords()
-    ensures value { held Whole (codes "not") yes ≡ ((key "not" ∷ []), yes) ∷ [] }
-    ensures boolean_in_place_of_an_object { held WholeObject (codes "additionalItems") yes ≡ [] }
-    ensures an_object { held WholeObject (codes "additionalItems") empty ≡ ((key "additionalItems" ∷ []), empty) ∷ [] }
-    ensures each_element { held Elements (codes "allOf") (pair yes empty) ≡ ((key "allOf" ∷ Index 0 ∷ []), yes) ∷ ((key "allOf" ∷ Index 1 ∷ []), empty) ∷ [] }
-    ensures no_array { held Elements (codes "allOf") (one "a" yes) ≡ [] }
-    ensures every_member { held Members (codes "$defs") (one "a" yes) ≡ ((key "$defs" ∷ key "a" ∷ []), yes) ∷ [] }
-    ensures no_object { held Members (codes "$defs") (list yes) ≡ [] }
-    ensures elements_of_items { held ElementsOrWhole (codes "items") (list yes) ≡ ((key "items" ∷ Index 0 ∷ []), yes) ∷ [] }
-    ensures value_of_items { held ElementsOrWhole (codes "items") (one "a" yes) ≡ ((key "items" ∷ []), one "a" yes) ∷ [] }
-    ensures objects_of_dependencies { held ObjectMembers (codes "dependencies") (two "a" empty "b" (list (text "c"))) ≡ ((key "dependencies" ∷ key "a" ∷ []), empty) ∷ [] }
-    ensures nothing { held Nothing (codes "const") empty ≡ [] }
+    ensures value { held_children Whole (codes "not") yes ≡ ((key "not" ∷ []), yes) ∷ [] }
+    ensures boolean_in_place_of_an_object { held_children WholeObject (codes "additionalItems") yes ≡ [] }
+    ensures an_object { held_children WholeObject (codes "additionalItems") empty ≡ ((key "additionalItems" ∷ []), empty) ∷ [] }
+    ensures each_element { held_children Elements (codes "allOf") (pair yes empty) ≡ ((key "allOf" ∷ Index 0 ∷ []), yes) ∷ ((key "allOf" ∷ Index 1 ∷ []), empty) ∷ [] }
+    ensures no_array { held_children Elements (codes "allOf") (one "a" yes) ≡ [] }
+    ensures every_member { held_children Members (codes "$defs") (one "a" yes) ≡ ((key "$defs" ∷ key "a" ∷ []), yes) ∷ [] }
+    ensures no_object { held_children Members (codes "$defs") (list yes) ≡ [] }
+    ensures elements_of_items { held_children ElementsOrWhole (codes "items") (list yes) ≡ ((key "items" ∷ Index 0 ∷ []), yes) ∷ [] }
+    ensures value_of_items { held_children ElementsOrWhole (codes "items") (one "a" yes) ≡ ((key "items" ∷ []), one "a" yes) ∷ [] }
+    ensures objects_of_dependencies { held_children ObjectMembers (codes "dependencies") (two "a" empty "b" (list (text "c"))) ≡ ((key "dependencies" ∷ key "a" ∷ []), empty) ∷ [] }
+    ensures nothing { held_children Nothing (codes "const") empty ≡ [] }
 {}
 
 /// Elements and members one by one.
 pub fn elements_and_members()
-    ensures whole_value { whole (codes "not") empty ≡ ((key "not" ∷ []), empty) ∷ [] }
-    ensures whole_array { whole (codes "allOf") (list yes) ≡ ((key "allOf" ∷ []), list yes) ∷ [] }
+    ensures whole_value { whole_child (codes "not") empty ≡ ((key "not" ∷ []), empty) ∷ [] }
+    ensures whole_array { whole_child (codes "allOf") (list yes) ≡ ((key "allOf" ∷ []), list yes) ∷ [] }
     ensures counted_on { elements_from (codes "allOf") 3 (item yes (item empty no_items)) ≡ ((key "allOf" ∷ Index 3 ∷ []), yes) ∷ ((key "allOf" ∷ Index 4 ∷ []), empty) ∷ [] }
     ensures no_elements { elements_from (codes "allOf") 0 no_items ≡ [] }
     ensures by_keys { each_member (codes "$defs") (member (codes "a") yes (member (codes "b") empty no_members)) ≡ ((key "$defs" ∷ key "a" ∷ []), yes) ∷ ((key "$defs" ∷ key "b" ∷ []), empty) ∷ [] }
@@ -89,8 +89,8 @@ pub fn trees_with_unique_keys()
 pub fn drafts_and_places_of_children()
     ensures draft_of_a_child { with_draft Draft7 ((key "not" ∷ []), schema "http://json-schema.org/draft-04/schema#") ≡ record { path = key "not" ∷ []; value = schema "http://json-schema.org/draft-04/schema#"; draft = Draft4 } }
     ensures draft_of_its_parent { with_draft Draft7 ((key "not" ∷ []), yes) ≡ record { path = key "not" ∷ []; value = yes; draft = Draft7 } }
-    ensures in_order { walked Draft202012 (two "if" yes "then" (schema "invalid")) ≡ record { path = key "if" ∷ []; value = yes; draft = Draft202012 } ∷ record { path = key "then" ∷ []; value = schema "invalid"; draft = Unknown } ∷ [] }
-    ensures none { walked Draft202012 yes ≡ [] }
-    ensures standing { AllStand (one "not" yes) (walked Draft202012 (one "not" yes)) }
-    ensures not_standing { ¬ (AllStand empty (walked Draft202012 (one "not" yes))) }
+    ensures in_order { walked_children Draft202012 (two "if" yes "then" (schema "invalid")) ≡ record { path = key "if" ∷ []; value = yes; draft = Draft202012 } ∷ record { path = key "then" ∷ []; value = schema "invalid"; draft = Unknown } ∷ [] }
+    ensures none { walked_children Draft202012 yes ≡ [] }
+    ensures standing { AllStand (one "not" yes) (walked_children Draft202012 (one "not" yes)) }
+    ensures not_standing { ¬ (AllStand empty (walked_children Draft202012 (one "not" yes))) }
 {}

@@ -2,7 +2,7 @@
 ghost use Rattle.std.specs.Prelude.{◌≡◌, true, false, [], ◌∷◌, codes, length};
 ghost use Rattle.ref_draft.specs.declared.draft.Draft.TheVariants.{Draft4, Draft6, Draft7, Draft201909, Draft202012, Unknown};
 ghost use Rattle.ref_draft.specs.declared.spec.Holding.TheVariants.{Whole, WholeObject, Elements, Members, ElementsOrWhole, ObjectMembers, Nothing};
-ghost use Rattle.ref_draft.specs.Keywords.{is_one_of, row_4, row_6, row_7, row_2019, row_2020, row, is_before_2019, is_before_2020, is_unknown, is_items_or_dependencies, boolean_or_schema, holding, is_map_keyword, is_left_out, id_keyword, known_in_all, known_in_4, known_since_6, known_since_7, known_since_2019, known_since_2020, is_known_in_2019, is_known};
+ghost use Rattle.ref_draft.specs.Keywords.{is_one_of, row_4, row_6, row_7, row_2019, row_2020, row, is_before_2019, is_before_2020, is_unknown, is_items_or_dependencies, boolean_or_schema, holding_of, is_map_keyword, is_left_out, id_keyword, known_in_all, known_in_4, known_since_6, known_since_7, known_since_2019, known_since_2020, is_known_in_2019, is_known};
 ghost use Rattle.ref_draft.specs.Order.{rank};
 
 /// The keywords under which schemas stand, draft by draft.
@@ -32,17 +32,17 @@ pub fn rows_of_drafts()
 
 /// How keywords hold schemas.
 pub fn holdings_of_keywords()
-    ensures boolean_or_schema_in_4 { holding Draft4 (codes "additionalItems") ≡ WholeObject }
-    ensures value { holding Draft6 (codes "additionalItems") ≡ Whole }
-    ensures elements { holding Draft202012 (codes "prefixItems") ≡ Elements }
-    ensures no_elements { holding Draft201909 (codes "prefixItems") ≡ Nothing }
-    ensures members { holding Draft201909 (codes "$defs") ≡ Members }
-    ensures items_before_2020 { holding Draft201909 (codes "items") ≡ ElementsOrWhole }
-    ensures items_since_2020 { holding Unknown (codes "items") ≡ Whole }
-    ensures dependencies_before_2020 { holding Draft4 (codes "dependencies") ≡ ObjectMembers }
-    ensures dependencies_since_2020 { holding Draft202012 (codes "dependencies") ≡ Nothing }
-    ensures no_keyword { holding Draft7 (codes "const") ≡ Nothing }
-    ensures if_since_7 { holding Draft6 (codes "if") ≡ Nothing }
+    ensures boolean_or_schema_in_4 { holding_of Draft4 (codes "additionalItems") ≡ WholeObject }
+    ensures value { holding_of Draft6 (codes "additionalItems") ≡ Whole }
+    ensures elements { holding_of Draft202012 (codes "prefixItems") ≡ Elements }
+    ensures no_elements { holding_of Draft201909 (codes "prefixItems") ≡ Nothing }
+    ensures members { holding_of Draft201909 (codes "$defs") ≡ Members }
+    ensures items_before_2020 { holding_of Draft201909 (codes "items") ≡ ElementsOrWhole }
+    ensures items_since_2020 { holding_of Unknown (codes "items") ≡ Whole }
+    ensures dependencies_before_2020 { holding_of Draft4 (codes "dependencies") ≡ ObjectMembers }
+    ensures dependencies_since_2020 { holding_of Draft202012 (codes "dependencies") ≡ Nothing }
+    ensures no_keyword { holding_of Draft7 (codes "const") ≡ Nothing }
+    ensures if_since_7 { holding_of Draft6 (codes "if") ≡ Nothing }
     ensures booleans_of_4 { boolean_or_schema Draft4 ≡ codes "additionalItems" ∷ codes "additionalProperties" ∷ [] }
     ensures booleans_of_6 { boolean_or_schema Draft6 ≡ [] }
     ensures items { is_items_or_dependencies (codes "items") ≡ true }

@@ -2,7 +2,7 @@
 ghost use Rattle.std.specs.Prelude.{◌≡◌, true, false, [], ◌∷◌, codes};
 ghost use Rattle.ref_parts.specs.Path.{Index};
 ghost use Rattle.ref_draft.specs.declared.draft.Draft.TheVariants.{Draft4, Draft6, Draft7, Draft201909, Draft202012, Unknown};
-ghost use Rattle.ref_draft.specs.Scan.{is_value_keyword, is_child_keyword, AnIndex, AValue, AChild, parts_of, spelled, IsPieceOf, IsWord, SpellsWord, PassesItems, IsAccepted, AcceptsChildren};
+ghost use Rattle.ref_draft.specs.Scan.{is_value_keyword, is_child_keyword, AnIndex, AValue, AChild, parts_of, spelled_path, IsPieceOf, IsWord, SpellsWord, PassesItems, IsAccepted, AcceptsChildren};
 ghost use Rattle.ref_draft.specs.ScanSteps.{scan, scan_past};
 ghost use Rattle.ref_draft.specs.Beginnings.{is_array, IsMapOfSchemas, EndsWithin, AllEndWithin};
 ghost use Rattle.ref_draft.specs.Rows.{empty, yes, one, list, key};
@@ -49,7 +49,7 @@ pub fn keywords_of_the_scan()
     ensures no_child_keyword { is_child_keyword Draft7 (codes "$defs") ≡ false }
 {}
 
-/// What stands between a schema and its child.
+/// What is between a schema and its child.
 pub fn beginnings_of_paths()
     ensures an_array { is_array (list yes) ≡ true }
     ensures no_array { is_array empty ≡ false }
@@ -67,8 +67,8 @@ pub fn pieces_of_words()
     ensures of_an_index { parts_of (AnIndex 3) ≡ Index 3 ∷ [] }
     ensures of_a_value { parts_of (AValue (codes "not")) ≡ key "not" ∷ [] }
     ensures of_a_child { parts_of (AChild (codes "allOf") (Index 0)) ≡ key "allOf" ∷ Index 0 ∷ [] }
-    ensures no_pieces { spelled [] ≡ [] }
-    ensures two_pieces { spelled (AChild (codes "$defs") (key "a") ∷ AValue (codes "not") ∷ []) ≡ key "$defs" ∷ key "a" ∷ key "not" ∷ [] }
+    ensures no_pieces { spelled_path [] ≡ [] }
+    ensures two_pieces { spelled_path (AChild (codes "$defs") (key "a") ∷ AValue (codes "not") ∷ []) ≡ key "$defs" ∷ key "a" ∷ key "not" ∷ [] }
     ensures an_index { IsPieceOf Draft4 (AnIndex 3) }
     ensures a_value { IsPieceOf Draft7 (AValue (codes "if")) }
     ensures no_value { ¬ (IsPieceOf Draft6 (AValue (codes "if"))) }

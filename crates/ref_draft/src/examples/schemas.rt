@@ -2,7 +2,7 @@
 ghost use Rattle.std.specs.Prelude.{◌≡◌, true, false, [], ◌∷◌, map, codes, length, Some, None};
 ghost use Rattle.serde_json.specs.Data.{boolean};
 ghost use Rattle.ref_draft.specs.declared.draft.Draft.TheVariants.{Draft4, Draft6, Draft7, Draft201909, Draft202012, Unknown};
-ghost use Rattle.ref_draft.specs.Schema.{text_under, is_true, trimmed, meta_schemas, is_at, draft_of_uri, from_schema_uri, detect, begins_with_hash, is_hidden, identifier};
+ghost use Rattle.ref_draft.specs.Schema.{text_under, is_true, trimmed_text, meta_schemas, is_at, draft_of_uri, from_schema_uri, detect, begins_with_hash, is_hidden, identifier};
 ghost use Rattle.ref_draft.specs.Rows.{empty, yes, text, one, two, list, schema};
 
 /// The draft of a schema by its `$schema` (2020-12 Core, 8.1.1).
@@ -32,11 +32,11 @@ pub fn drafts_of_uris()
     ensures of_the_newest { draft_of_uri (codes "https://json-schema.org/schema") ≡ Draft202012 }
     ensures trailing_hashes { from_schema_uri (codes "http://json-schema.org/draft-06/schema##") ≡ Draft6 }
     ensures no_such_version { from_schema_uri (codes "http://json-schema.org/draft-05/schema#") ≡ Unknown }
-    ensures trimmed_twice { trimmed (codes "k##") ≡ codes "k" }
-    ensures trimmed_at_the_end { trimmed (codes "a#b") ≡ codes "a#b" }
-    ensures trimmed_to_nothing { trimmed (codes "#") ≡ [] }
-    ensures trimmed_whole { trimmed (codes "k") ≡ codes "k" }
-    ensures trimmed_empty { trimmed [] ≡ [] }
+    ensures trimmed_twice { trimmed_text (codes "k##") ≡ codes "k" }
+    ensures trimmed_at_the_end { trimmed_text (codes "a#b") ≡ codes "a#b" }
+    ensures trimmed_to_nothing { trimmed_text (codes "#") ≡ [] }
+    ensures trimmed_whole { trimmed_text (codes "k") ≡ codes "k" }
+    ensures trimmed_empty { trimmed_text [] ≡ [] }
 {}
 
 /// The identifier of a value in each draft (2020-12 Core, 8.2.1; Draft 7 Core, 8.2 and 8.3).

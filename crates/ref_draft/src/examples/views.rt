@@ -20,19 +20,19 @@ ghost use Rattle.ref_draft.specs.declared.segments.Segment.TheVariants as segmen
 ghost use Rattle.ref_draft.specs.declared.spec.children.ChildIterInner.TheVariants as inner;
 ghost use Rattle.ref_draft.specs.declared.spec.Holding.TheVariants.{Whole, Members, ObjectMembers};
 ghost use Rattle.ref_draft.specs.Anchors.{Plain, Dynamic};
-ghost use Rattle.ref_draft.specs.Views.{tagged, resource, resource_ref, id_of, anchor_name, anchor_resource, AllName, anchors_left, part_of, segment_parts, walked_child, objects_of, inner_left, values_left};
+ghost use Rattle.ref_draft.specs.Views.{tagged_value, resource, resource_ref, id_of, anchor_name, anchor_resource, AllName, anchors_left, part_of, segment_parts, walked_child, objects_of, inner_left, values_left};
 ghost use Rattle.ref_draft.specs.inner.Added.{Adds};
 ghost use Rattle.ref_draft.specs.inner.WalkSteps.{AreFoundIn, FindsMembers, FindsMembersWhere, members_in};
 ghost use Rattle.ref_draft.specs.Rows.{empty, yes, text, one, two, list, key};
 
 /// Resources and their identifiers.
 pub fn views_of_resources()
-    ensures owned { (value : Tree) → view value ≡ yes → resource (record { contents = value; draft = Draft7 }) ≡ tagged Draft7 yes }
+    ensures owned { (value : Tree) → view value ≡ yes → resource (record { contents = value; draft = Draft7 }) ≡ tagged_value Draft7 yes }
     ensures owned_by_4 { (value : Tree) → view value ≡ empty → resource (record { contents = value; draft = Draft4 }) ≡ record { contents = empty; draft = Draft4 } }
-    ensures borrowed { (value : Bor Tree) → view value.now ≡ yes → resource_ref (record { contents = value; draft = Draft7 }) ≡ tagged Draft7 yes }
+    ensures borrowed { (value : Bor Tree) → view value.now ≡ yes → resource_ref (record { contents = value; draft = Draft7 }) ≡ tagged_value Draft7 yes }
     ensures borrowed_by_4 { (value : Bor Tree) → view value.now ≡ empty → resource_ref (record { contents = value; draft = Draft4 }) ≡ record { contents = empty; draft = Draft4 } }
-    ensures identifier { id_of (tagged Draft202012 (one "$id" (text "k##"))) ≡ Some (codes "k") }
-    ensures hidden_identifier { id_of (tagged Draft7 (two "$id" (text "k") "$ref" yes)) ≡ None }
+    ensures identifier { id_of (tagged_value Draft202012 (one "$id" (text "k##"))) ≡ Some (codes "k") }
+    ensures hidden_identifier { id_of (tagged_value Draft7 (two "$id" (text "k") "$ref" yes)) ≡ None }
 {}
 
 /// Anchors, and what an iterator over them has left.
@@ -41,8 +41,8 @@ pub fn views_of_anchors()
     ensures dynamic { (name : Bor (List ℕ)) (of : Borrowed) → anchor_name (anchor.Dynamic name of) ≡ (name.now, Dynamic) }
     ensures named_by_a_plain { (name : Bor (List ℕ)) (of : Borrowed) → anchor_resource (anchor.Default name of) ≡ resource_ref of }
     ensures named_by_a_dynamic { (name : Bor (List ℕ)) (of : Borrowed) → anchor_resource (anchor.Dynamic name of) ≡ resource_ref of }
-    ensures none_names { AllName (tagged Draft7 yes) [] }
-    ensures one_names { (name : Bor (List ℕ)) (of : Borrowed) → resource_ref of ≡ tagged Draft7 yes → AllName (tagged Draft7 yes) (anchor.Default name of ∷ []) }
+    ensures none_names { AllName (tagged_value Draft7 yes) [] }
+    ensures one_names { (name : Bor (List ℕ)) (of : Borrowed) → resource_ref of ≡ tagged_value Draft7 yes → AllName (tagged_value Draft7 yes) (anchor.Default name of ∷ []) }
     ensures none_left { anchors_left left.Empty ≡ [] }
     ensures one_left { (a : AnyAnchor) → anchors_left (left.One a) ≡ a ∷ [] }
     ensures two_left { (a b : AnyAnchor) → anchors_left (left.Two a b) ≡ a ∷ b ∷ [] }

@@ -2,8 +2,8 @@
 ghost use Rattle.std.specs.Prelude.{◌≡◌, [], map, filter};
 ghost use Rattle.std.specs.Iterator.{YieldsFirstBy, item_count};
 ghost use Rattle.serde_json.specs.View.{view};
-ghost use Rattle.ref_draft.specs.Keywords.{holding, is_left_out};
-ghost use Rattle.ref_draft.specs.Children.{held, is_given, subresources};
+ghost use Rattle.ref_draft.specs.Keywords.{holding_of, is_left_out};
+ghost use Rattle.ref_draft.specs.Children.{held_children, is_given, subresources};
 ghost use Rattle.ref_draft.specs.Views.{inner_left, objects_of, values_left};
 ghost use Rattle.std.specs.Borrow.{Bor};
 ghost use Rattle.serde_json.specs.declared.value.Value.{Value};
@@ -77,7 +77,7 @@ impl<'a> ChildIterInner<'a> {
     // The values under a keyword of the draft: in 2019-09 none under `dependencies`.
     fn under(draft: Draft, keyword: &str, value: &'a Value) -> Self
         ensures { inner_left result ≡ map (λ child. child.1)
-            (filter (is_given draft) (held (holding draft keyword.now) keyword.now (view value.now))) }
+            (filter (is_given draft) (held_children (holding_of draft keyword.now) keyword.now (view value.now))) }
     {
         if is_left_out(draft, keyword) {
             ChildIterInner::Empty
@@ -87,7 +87,7 @@ impl<'a> ChildIterInner<'a> {
     }
 
     fn held(holding: Holding, keyword: &str, value: &'a Value) -> Self
-        ensures { inner_left result ≡ map (λ child. child.1) (held holding keyword.now (view value.now)) }
+        ensures { inner_left result ≡ map (λ child. child.1) (held_children holding keyword.now (view value.now)) }
     {
         match holding {
             Holding::Whole => ChildIterInner::Once(value),

@@ -1,6 +1,6 @@
 //! The keywords of Draft 2020-12.
 ghost use Rattle.std.specs.Prelude.{◌≡◌};
-ghost use Rattle.ref_draft.specs.Keywords.{holding, is_one_of, row_2020};
+ghost use Rattle.ref_draft.specs.Keywords.{holding_of, is_one_of, row_2020};
 
 use crate::draft::Draft;
 use crate::spec::Holding;
@@ -8,7 +8,7 @@ use crate::spec::columns::{is_array_or_prefix, is_map_or_defs};
 
 // How a keyword holds its subschemas.
 pub(crate) fn holding(keyword: &str) -> Holding
-    ensures { result ≡ holding Draft.Draft202012 keyword.now }
+    ensures { result ≡ holding_of Draft.Draft202012 keyword.now }
 {
     if is_value(keyword) {
         Holding::Whole

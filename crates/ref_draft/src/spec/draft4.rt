@@ -1,6 +1,6 @@
 //! The keywords of Draft 4.
 ghost use Rattle.std.specs.Prelude.{◌≡◌};
-ghost use Rattle.ref_draft.specs.Keywords.{boolean_or_schema, holding, is_one_of};
+ghost use Rattle.ref_draft.specs.Keywords.{boolean_or_schema, holding_of, is_one_of};
 
 use crate::draft::Draft;
 use crate::spec::columns::{is_array_or_prefix, is_map_or_defs, is_value};
@@ -8,7 +8,7 @@ use crate::spec::{Holding, items_or_dependencies};
 
 // How a keyword holds its subschemas.
 pub(crate) fn holding(keyword: &str) -> Holding
-    ensures { result ≡ holding Draft.Draft4 keyword.now }
+    ensures { result ≡ holding_of Draft.Draft4 keyword.now }
 {
     if is_boolean_or_schema(keyword) {
         Holding::WholeObject

@@ -1,6 +1,6 @@
 //! The keywords of Draft 6.
 ghost use Rattle.std.specs.Prelude.{◌≡◌};
-ghost use Rattle.ref_draft.specs.Keywords.{holding, is_one_of, row_6};
+ghost use Rattle.ref_draft.specs.Keywords.{holding_of, is_one_of, row_6};
 
 use crate::draft::Draft;
 use crate::spec::columns::{is_array, is_map};
@@ -8,7 +8,7 @@ use crate::spec::{Holding, items_or_dependencies};
 
 // How a keyword holds its subschemas.
 pub(crate) fn holding(keyword: &str) -> Holding
-    ensures { result ≡ holding Draft.Draft6 keyword.now }
+    ensures { result ≡ holding_of Draft.Draft6 keyword.now }
 {
     if is_value(keyword) {
         Holding::Whole

@@ -1,7 +1,7 @@
 //! Identifiers, and texts under a key.
 ghost use Rattle.std.specs.Prelude.{◌≡◌, option_map};
 ghost use Rattle.serde_json.specs.View.{view};
-ghost use Rattle.ref_draft.specs.Schema.{identifier, text_under, trimmed};
+ghost use Rattle.ref_draft.specs.Schema.{identifier, text_under, trimmed_text};
 ghost use Rattle.ref_draft.specs.Anchors.{after_hash};
 
 use crate::draft::Draft;
@@ -18,7 +18,7 @@ pub(crate) fn text_under<'a>(contents: &'a Value, key: &str) -> Option<&'a str>
 ///
 /// Takes no memory. Linear in their number.
 pub fn trim_hashes(text: &str) -> &str
-    ensures value { result.now ≡ trimmed text.now }
+    ensures value { result.now ≡ trimmed_text text.now }
 {
     text.trim_end_matches('#')
 }

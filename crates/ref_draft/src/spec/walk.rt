@@ -2,8 +2,8 @@
 ghost use Rattle.std.specs.Prelude.{◌≡◌, ◌++◌, ◌∷◌, [], map, filter, IfOk, OnOk, option_map};
 ghost use Rattle.ref_parts.specs.Path.{Key};
 ghost use Rattle.serde_json.specs.View.{view, items_view, members_view};
-ghost use Rattle.ref_draft.specs.Keywords.{holding};
-ghost use Rattle.ref_draft.specs.Children.{AllStand, InKeyOrder, walked, with_draft, held, elements_from, each_member, has_object};
+ghost use Rattle.ref_draft.specs.Keywords.{holding_of};
+ghost use Rattle.ref_draft.specs.Children.{AllStand, InKeyOrder, walked_children, with_draft, held_children, elements_from, each_member, has_object};
 ghost use Rattle.ref_draft.specs.inner.WalkSteps.{AreFoundIn, FindsMembersWhere};
 ghost use Rattle.ref_draft.specs.inner.Added.{Adds};
 ghost use Rattle.ref_draft.specs.Views.{segment_parts, walked_child};
@@ -17,7 +17,7 @@ use std::alloc::{AllocError, Global};
 /// A subschema right below a schema.
 #[derive(Debug, Drop)]
 pub struct Child<'a> {
-    /// The keyword that it stands under.
+    /// The keyword that it is under.
     pub keyword: &'a str,
     /// The index or key after the keyword; none where the keyword's value is the subschema.
     pub segment: Option<JsonPointerSegment<'a>>,
@@ -34,7 +34,7 @@ pub(crate) fn children<'a>(
     draft: Draft,
     contents: &'a Value,
 ) -> Result<Vec<Child<'a>>, AllocError>
-    ensures children { IfOk result (λ v. map walked_child v.items ≡ walked draft (view contents.now)) }
+    ensures children { IfOk result (λ v. map walked_child v.items ≡ walked_children draft (view contents.now)) }
     ensures order { OnOk result (InKeyOrder (view contents.now)) }
     ensures found { IfOk result (λ v. AllStand (view contents.now) (map walked_child v.items)) }
 {
@@ -57,9 +57,9 @@ fn push_held<'a>(
     value: &'a Value,
 ) -> Result<(), AllocError>
     ensures adds { OnOk result
-        (Adds draft (held (holding draft keyword.now) keyword.now (view value.now))
+        (Adds draft (held_children (holding_of draft keyword.now) keyword.now (view value.now))
         children.old.items children.new.items) }
-    ensures unique { FindsMembersWhere (holding draft keyword.now) (view value.now) }
+    ensures unique { FindsMembersWhere (holding_of draft keyword.now) (view value.now) }
 {
     match draft.holding(keyword) {
         Holding::Whole => push(children, draft, keyword, None, value),

@@ -1,8 +1,8 @@
 -- The places that were found while they are gone through, for private clauses.
 use Rattle.std.specs.Prelude.{◌≡◌, ℕ, ◌≤◌, List, ◌++◌, flat_map, take, drop, length}
 use Rattle.serde_json.specs.Data.{depth}
-use Rattle.ref_world.specs.World.{Document}
-use Rattle.ref_world.specs.Places.{Place}
+use Rattle.ref_definitions.specs.World.{Document}
+use Rattle.ref_definitions.specs.Places.{Place}
 use Rattle.ref_findings.specs.Places.{children_near, levels_near, places_near}
 
 -- the rest of a level, then the level below it, of which the beginning was found, and the m levels below that

@@ -3,12 +3,12 @@ use Rattle.std.specs.Prelude.{◌≡◌, ℕ, Bool, List, [], ◌∷◌, map, fl
 use Rattle.std.specs.List.{AllByRecursion}
 use Rattle.std.specs.Option.{option_to_list}
 use Rattle.ref_parts.specs.Table.{Entry}
-use Rattle.ref_world.specs.World.{Document, Layer}
-use Rattle.ref_world.specs.Resources.{own_uri}
+use Rattle.ref_definitions.specs.World.{Document, Layer}
+use Rattle.ref_definitions.specs.Resources.{own_uri}
 use Rattle.serde_json.specs.View.{view}
 use Rattle.ref_draft.specs.Schema.{identifier}
 use Rattle.ref_draft.specs.declared.draft.Draft.{Draft}
-use Rattle.ref_world.specs.Places.{Place, base_within}
+use Rattle.ref_definitions.specs.Places.{Place, base_within}
 use Rattle.ref_resolver.specs.Layered.{world_in}
 use Rattle.ref_findings.specs.declared.site.Place as rust
 use Rattle.ref_findings.specs.declared.site.Site as rust_site
@@ -40,8 +40,8 @@ pub record Survey : Type 0 where
   pub is_sound : Bool
 
 -- that of the program
-abbrev pub seen : rust_survey.Survey → Survey
-seen s = record { source = source_of s.source.now; places = map place_of s.places.items; is_sound = s.is_sound }
+abbrev pub seen_survey : rust_survey.Survey → Survey
+seen_survey s = record { source = source_of s.source.now; places = map place_of s.places.items; is_sound = s.is_sound }
 
 -- that of a source
 abbrev pub survey_in : Draft → Source → Survey

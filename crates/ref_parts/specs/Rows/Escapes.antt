@@ -2,7 +2,7 @@
 use Rattle.std.specs.Prelude.{◌≡◌, [], ◌∷◌, codes, Some, None}
 use Rattle.ref_parts.specs.Path.{Key}
 use Rattle.ref_parts.specs.Pointer.{escape, unescape, first_escape, pointer_text}
-use Rattle.ref_parts.specs.Encoded.{encoded}
+use Rattle.ref_parts.specs.Encoded.{encoded_text}
 
 pub record EscapeRows : Type 0 where
   pub nothing : escape [] ≡ []
@@ -23,4 +23,4 @@ pub record EscapeRows : Type 0 where
   pub tilde_at_the_end : unescape (codes "~0~1~") ≡ codes "~/~"
   pub many_tildes : unescape (codes "~~~~~") ≡ codes "~~~~~"
   pub whole_pointer : pointer_text (Key (codes "a/b%") ∷ Key [] ∷ Key (codes "~") ∷ []) ≡ codes "/a~1b%//~0"
-  pub pointer_in_a_fragment : encoded (pointer_text (Key (codes "a/b%") ∷ Key [] ∷ Key (codes "~") ∷ [])) ≡ codes "/a~1b%25//~0"
+  pub pointer_in_a_fragment : encoded_text (pointer_text (Key (codes "a/b%") ∷ Key [] ∷ Key (codes "~") ∷ [])) ≡ codes "/a~1b%25//~0"

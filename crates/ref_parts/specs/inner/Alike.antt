@@ -1,4 +1,4 @@
--- The laws of equality and of hashing that the impls of lists and paths keep: an impl may cite what stands in specs alone.
+-- The laws of equality and of hashing that the impls of lists and paths keep: an impl may cite what is in specs alone.
 use Rattle.std.specs.Prelude.{◌≡◌, Bool, true, List, [], ◌∷◌, ◌++◌, flat_map, refl}
 use Rattle.std.specs.Hash.{HashWrites}
 use Rattle.std.specs.Cmp.{IsEquivalence, nat_eq_equiv}

@@ -37,7 +37,7 @@ pub record IsPlaceOf {K V : Type 0} (eq : K → K → Bool) (key : K) (slots : L
   pub first : lookup (eq key) (pairs (take i slots)) ≡ None
   pub here : (old : K × V) × (slots ≡ take i slots ++ (Some old ∷ drop (i + 1) slots)) × (eq key old.0 ≡ true)
 
--- the first entry whose key is equal stands at this place
+-- the first entry whose key is equal is at this place
 pub record IsAt {K V : Type 0} (eq : K → K → Bool) (key : K) (entries : List (K × V)) (place : ℕ) : Type 0 where
   pub front : List (K × V)
   pub pair : K × V

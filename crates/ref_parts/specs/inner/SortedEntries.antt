@@ -12,7 +12,7 @@ use Rattle.ref_parts.specs.declared.table.Slot.{Slot}
 abbrev pub pair_cmp : List ℕ × List ℕ → List ℕ × List ℕ → Ordering
 pair_cmp p q = ordering_then (slice_cmp nat_cmp p.0 q.0) (slice_cmp nat_cmp p.1 q.1)
 
--- the texts that a tuple stands under
+-- the texts that a tuple is under
 abbrev pub pair_of : {V : Type 0} → String Global × String Global × V → List ℕ × List ℕ
 pair_of e = (string_bytes e.0, string_bytes e.1)
 

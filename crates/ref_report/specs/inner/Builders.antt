@@ -2,8 +2,8 @@
 use Rattle.std.specs.Prelude.{◌≡◌, ℕ, List, Option, unwrap_or, Ok}
 use Rattle.std.specs.Option.{option_or}
 use Rattle.ref_draft.specs.declared.draft.Draft.{Draft}
-use Rattle.ref_world.specs.World.{World}
-use Rattle.ref_world.specs.Pending.{Pending}
+use Rattle.ref_definitions.specs.World.{World}
+use Rattle.ref_definitions.specs.Pending.{Pending}
 use Rattle.referencing.specs.Builder.{Builder, new_builder}
 use Rattle.ref_report.specs.Request.{Document}
 use Rattle.ref_report.specs.Worlds.{pending_of}
@@ -13,8 +13,8 @@ abbrev pub Holds : {R : Type 0} → World → List Document → Builder R → Ty
 Holds parents documents b = (pending : List Pending) × (pending_of documents ≡ Ok pending) × (b ≡ new_builder b.retriever parents pending)
 
 -- the builder with a retriever, and with a limit and a draft where they are given
-abbrev pub retrieving : {R S : Type 0} → S → Option ℕ → Option Draft → Builder R → Builder S
-retrieving retriever limit draft b = record {
+abbrev pub retrieving_from_map : {R S : Type 0} → S → Option ℕ → Option Draft → Builder R → Builder S
+retrieving_from_map retriever limit draft b = record {
   retriever = retriever;
   limit = unwrap_or limit b.limit;
   draft = option_or draft b.draft;

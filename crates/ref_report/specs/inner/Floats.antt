@@ -3,7 +3,7 @@ use Rattle.std.specs.Prelude.{◌≡◌, List, [], unwrap_or, false}
 use Rattle.std.specs.List.{AllByRecursion}
 use Rattle.serde_json.specs.Data.{Data}
 use Rattle.serde_json.specs.Written.{has_float}
-use Rattle.ref_world.specs.World.{Layer, World}
+use Rattle.ref_definitions.specs.World.{Layer, World}
 use Rattle.ref_report.specs.Request.{Document, Request}
 
 -- no number in the tree is another than a whole number of 64 bits

@@ -2,7 +2,7 @@
 use Rattle.std.specs.Prelude.{◌≡◌, true, false, codes, Ok, Err, String, string_bytes}
 use Rattle.std.specs.declared.alloc.AllocError.{AllocError}
 use Rattle.std.specs.declared.alloc.Global.{Global}
-use Rattle.ref_uri.specs.Targets.{unparsed, unresolved}
+use Rattle.ref_uri.specs.Targets.{parse_refusal, resolve_refusal}
 use Rattle.ref_uri.specs.Errors.{parse_error_text, uri_parse_fault_text, resolve_error_text, resolve_fault_text, uri_error_text, uri_fault_text, SaysRefusal, IsFaultOf}
 use Rattle.ref_uri.specs.declared.error.UriError.TheVariants.{Parse, Resolve}
 use Rattle.ref_uri.specs.declared.error.UriFault.TheVariants as uri_fault
@@ -24,7 +24,7 @@ pub record ErrorRows : Type 0 where
   pub unresolved_reference : (uri base : String Global) → string_bytes uri ≡ codes "b" → string_bytes base ≡ codes "/a" → uri_error_text (Resolve uri base BaseWithoutScheme) ≡ codes "Failed to resolve 'b' against '/a': the base has no scheme"
   pub fault_of_error : (uri : String Global) → string_bytes uri ≡ codes "a b" → uri_fault_text (uri_fault.Invalid (Parse uri true Syntax)) ≡ codes "Invalid URI reference 'a b': not a URI reference of RFC 3986"
   pub fault_of_memory : (e : AllocError) → uri_fault_text (uri_fault.Memory e) ≡ codes "Out of memory"
-  pub says : (uri : String Global) → string_bytes uri ≡ codes "a b" → SaysRefusal (Parse uri true Syntax) (unparsed (codes "a b"))
-  pub says_no_other : (uri : String Global) → SaysRefusal (Parse uri true Syntax) (unresolved (codes "b") (codes "/a")) → ⊥
+  pub says : (uri : String Global) → string_bytes uri ≡ codes "a b" → SaysRefusal (Parse uri true Syntax) (parse_refusal (codes "a b"))
+  pub says_no_other : (uri : String Global) → SaysRefusal (Parse uri true Syntax) (resolve_refusal (codes "b") (codes "/a")) → ⊥
   pub memory_in_any_case : (e : AllocError) → IsFaultOf (Ok (codes "a:b")) (uri_fault.Memory e)
-  pub fault_of_a_refusal : (uri : String Global) → string_bytes uri ≡ codes "a b" → IsFaultOf (Err (unparsed (codes "a b"))) (uri_fault.Invalid (Parse uri true Syntax))
+  pub fault_of_a_refusal : (uri : String Global) → string_bytes uri ≡ codes "a b" → IsFaultOf (Err (parse_refusal (codes "a b"))) (uri_fault.Invalid (Parse uri true Syntax))

@@ -1,4 +1,4 @@
--- How a path is written without its dot segments, one segment behind another (RFC 3986, 5.2.4).
+-- How a path is written without its dot segments, one segment after another (RFC 3986, 5.2.4).
 use Rattle.std.specs.Prelude.{◌≡◌, ◌≢◌, ◌<◌, ◌-◌, ◌+◌, false, slice_index, ℕ, List, [], ◌∷◌, ◌++◌, codes, ◌==◌, if◌then◌else◌}
 use Rattle.std.specs.List.{before_last, AllByRecursion}
 use Rattle.ref_uri.specs.DotSegments.{is_dot, is_dot_dot, is_dot_segment}
@@ -35,7 +35,7 @@ next_progress Name = Within
 next_progress Dot = Dots
 next_progress DotDot = Dots
 
--- what stands between the path and one more segment
+-- what is between the path and one more segment
 abbrev pub slash_of : Progress → List ℕ
 slash_of Front = []
 slash_of Within = codes "/"
@@ -70,8 +70,8 @@ end_of Within = []
 end_of Dots = codes "/"
 
 -- a path after its last segments
-abbrev pub ended : Progress → List ℕ → List (List ℕ) → List ℕ
-ended progress path segments = path_after progress path segments ++ end_of (progress_after progress segments)
+abbrev pub ended_path : Progress → List ℕ → List (List ℕ) → List ℕ
+ended_path progress path segments = path_after progress path segments ++ end_of (progress_after progress segments)
 
 -- how far a path is after a dot segment
 abbrev pub dots_after : Progress → Progress
@@ -89,7 +89,7 @@ last_taken Dots path = before_last (λ c. c == 47) path
 abbrev pub AreNames : List (List ℕ) → Type 0
 AreNames segments = AllByRecursion (λ segment. is_dot_segment segment ≡ false) segments
 
--- if a dot stands at this place, no segment begins there
+-- if a dot is at this place, no segment begins there
 abbrev pub IsInside : List ℕ → ℕ → Type 0
 IsInside path at = slice_index path at ≡ 46 → (0 < at) × (slice_index path (at - 1) ≢ 47)
 

@@ -20,9 +20,9 @@ use Rattle.ref_uri.specs.inner.Scans.{begins_with_triple, begins_encoded, ends_a
 use Rattle.ref_uri.specs.inner.Faults.{IfInvalid}
 use Rattle.ref_uri.specs.Components.{components}
 use Rattle.ref_uri.specs.inner.Lengths.{the_lengths, lengths_of, IsParsed, IsParsedUri}
-use Rattle.ref_uri.specs.inner.Removal.{segment_of, first_written, next_written, first_progress, next_progress, path_then, progress_then, path_after, progress_after, slash_of, end_of, ended}
+use Rattle.ref_uri.specs.inner.Removal.{segment_of, first_written, next_written, first_progress, next_progress, path_then, progress_then, path_after, progress_after, slash_of, end_of, ended_path}
 use Rattle.ref_uri.specs.inner.Target.{given_path, normal_path_of, written_path, written_components, lengths_of_components, AreParts, LacksEncodedDot, LosesSameDots, IsTarget, components_of, behind_directory, path_behind, path_with_dots, target_with_dots}
-use Rattle.ref_uri.specs.inner.Written.{the_front, the_rest, is_plain, in_case, written, written_scheme, written_authority}
+use Rattle.ref_uri.specs.inner.Written.{the_front, the_rest, is_plain, in_case, written_text, written_scheme, written_authority}
 
 pub record BodyRows : Type 0 where
   pub at_in_first_segment : is_first_segment_character 64 ≡ true
@@ -70,12 +70,12 @@ pub record BodyRows : Type 0 where
   pub slash_behind_a_dot_segment : slash_of Dots ≡ codes "/"
   pub slash_at_the_end : end_of Dots ≡ codes "/"
   pub no_slash_at_the_end : end_of Within ≡ []
-  pub ended_by_a_dot : ended Front [] (codes "a" ∷ codes "." ∷ []) ≡ codes "a/"
-  pub ended_by_a_name : ended Front [] (codes "b" ∷ codes ".." ∷ codes "c" ∷ []) ≡ codes "/c"
+  pub ended_by_a_dot : ended_path Front [] (codes "a" ∷ codes "." ∷ []) ≡ codes "a/"
+  pub ended_by_a_name : ended_path Front [] (codes "b" ∷ codes ".." ∷ codes "c" ∷ []) ≡ codes "/c"
   pub lower_case : in_case Lower 65 ≡ 97
   pub case_as_it_is : in_case AsItIs 65 ≡ 65
-  pub as_given : written Given (codes "%7e") ≡ codes "%7e"
-  pub in_normal_form : written Normal (codes "%7e") ≡ codes "~"
+  pub as_given : written_text Given (codes "%7e") ≡ codes "%7e"
+  pub in_normal_form : written_text Normal (codes "%7e") ≡ codes "~"
   pub scheme_as_given : written_scheme Given (codes "HTTP") ≡ codes "HTTP"
   pub scheme_in_normal_form : written_scheme Normal (codes "HTTP") ≡ codes "http"
   pub authority_as_given : written_authority Given (codes "A:") ≡ codes "A:"

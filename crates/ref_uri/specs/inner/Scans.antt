@@ -13,6 +13,6 @@ abbrev pub begins_encoded : (ℕ → Bool) → List ℕ → Bool
 begins_encoded allowed [] = false
 begins_encoded allowed (c ∷ rest) = allowed c || begins_with_triple (c ∷ rest)
 
--- the text ends at this place, or what ends an authority stands there
+-- the text ends at this place, or what ends an authority is there
 abbrev pub ends_authority_at : List ℕ → ℕ → Bool
 ends_authority_at text at = (at == length text) || ends_authority (slice_index text at)

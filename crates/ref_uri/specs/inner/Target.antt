@@ -13,9 +13,9 @@ use Rattle.ref_uri.specs.DotSegments.{remove_dot_segments}
 use Rattle.ref_uri.specs.inner.Lengths.{the_lengths}
 use Rattle.std.specs.Char.{to_ascii_lowercase}
 use Rattle.std.specs.Str.{IsAscii}
-use Rattle.ref_uri.specs.Normal.{guarded, normal_text, normal_authority}
-use Rattle.ref_uri.specs.Resolution.{merged, target_components}
-use Rattle.ref_uri.specs.inner.Written.{is_plain, the_front, the_rest, written, written_scheme, written_authority}
+use Rattle.ref_uri.specs.Normal.{guarded_path, normal_text, normal_authority}
+use Rattle.ref_uri.specs.Resolution.{merged_path, target_components}
+use Rattle.ref_uri.specs.inner.Written.{is_plain, the_front, the_rest, written_text, written_scheme, written_authority}
 
 -- a path as it is given
 abbrev pub given_path : PathOf → List ℕ
@@ -43,9 +43,9 @@ written_by front form target =
     record {
       scheme = option_map (written_scheme front) (option_copied target.scheme);
       authority = option_map (written_authority front) (option_copied target.authority);
-      path = guarded (option_copied target.authority) (written_path form target.path);
-      query = option_map (written form) (option_copied target.query);
-      fragment = option_map (written form) (option_copied target.fragment);
+      path = guarded_path (option_copied target.authority) (written_path form target.path);
+      query = option_map (written_text form) (option_copied target.query);
+      fragment = option_map (written_text form) (option_copied target.fragment);
     }
 
 -- the components as they are written in one form
@@ -63,7 +63,7 @@ AreParts (OfBase path) = is_path path.now ≡ true
 AreParts (Removed path) = is_path path.now ≡ true
 AreParts (Merged directory path) = (is_path directory.now ≡ true) × (is_path path.now ≡ true)
 
--- no triple of `.` stands in the text (2.1)
+-- no triple of `.` is in the text (2.1)
 abbrev pub LacksEncodedDot : List ℕ → Type 0
 LacksEncodedDot text = (before after : List ℕ) → (text ≢ before ++ (codes "%2e" ++ after)) × (text ≢ before ++ (codes "%2E" ++ after))
 
@@ -74,14 +74,14 @@ LosesSameDots (OfBase path) = ⊤
 LosesSameDots (Removed path) = LacksEncodedDot path.now
 LosesSameDots (Merged directory path) = LacksEncodedDot directory.now × LacksEncodedDot path.now
 
--- No `%` stands in the path's parts, and its dot segments are to go in normal form.
+-- No `%` is in the path's parts, and its dot segments are to go in normal form.
 abbrev pub ArePlain : PathOf → Type 0
 ArePlain (Kept path) = ⊥
 ArePlain (OfBase path) = is_plain path.now ≡ true
 ArePlain (Removed path) = is_plain path.now ≡ true
 ArePlain (Merged directory path) = (is_plain directory.now ≡ true) × (is_plain path.now ≡ true)
 
--- no `%` stands in what follows scheme and authority
+-- no `%` is in what follows scheme and authority
 pub record IsPlainTarget (target : Target) : Type 0 where
   pub path : ArePlain target.path
   pub query : if_there is_plain (option_copied target.query) ≡ true
@@ -103,13 +103,13 @@ pub record IsTarget (target : Target) : Type 0 where
   pub front_test : (front : List ℕ) → option_copied target.front ≡ Some front → (front ≡ the_front (option_copied target.scheme) (option_copied target.authority)) × IsAscii front
   pub rest_test : (rest : List ℕ) → option_copied target.rest ≡ Some rest → rest ≡ the_rest (option_copied target.query) (option_copied target.fragment)
 
--- what stands around the path
+-- what is around the path
 pub record AreFramed (parts : Parts) : Type 0 where
   pub front : parts.front.now ≡ the_front (option_copied parts.scheme) (option_copied parts.authority)
   pub ascii : IsAscii parts.front.now
   pub rest : parts.rest.now ≡ the_rest (option_copied parts.query) (option_copied parts.fragment)
 
--- the components that stand in a text
+-- the components that are in a text
 abbrev pub components_of : Parts → Components
 components_of parts =
     record {
@@ -125,11 +125,11 @@ abbrev pub behind_directory : Option (List ℕ) → List ℕ → List ℕ
 behind_directory None path = path
 behind_directory (Some directory) path = directory ++ 47 ∷ path
 
--- a path behind the base's, unless it begins with `/` (5.2.2)
+-- a path after the base's, unless it begins with `/` (5.2.2)
 abbrev pub path_behind : Components → List ℕ → List ℕ
-path_behind base path = if slice_index path 0 == 47 then path else merged base path
+path_behind base path = if slice_index path 0 == 47 then path else merged_path base path
 
--- a target's path with its dot segments: the reference's, the base's where there is none, or the one behind the other (5.2.2)
+-- a target's path with its dot segments: the reference's, the base's where there is none, or one after the other (5.2.2)
 abbrev pub path_with_dots : Components → Components → List ℕ
 path_with_dots base reference =
     if is_some reference.scheme || is_some reference.authority then reference.path

@@ -3,7 +3,7 @@ use Rattle.std.specs.Prelude.{ℕ, List, [], codes, Option, ◌≡◌, ◌≤◌
 use Rattle.std.specs.List.{list_all}
 use Rattle.std.specs.Char.{is_ascii_uppercase, to_ascii_lowercase}
 use Rattle.ref_uri.specs.Characters.{has_whole_triples}
-use Rattle.ref_uri.specs.Components.{framed}
+use Rattle.ref_uri.specs.Components.{framed_component}
 use Rattle.ref_uri.specs.Normal.{normal_text, normal_authority}
 use Rattle.ref_uri.specs.inner.Scans.{begins_with_triple}
 use Rattle.ref_uri.specs.declared.written.Case.{Case}
@@ -17,10 +17,10 @@ in_case AsItIs = λ c. c
 in_case Lower = to_ascii_lowercase
 
 -- a path, a query or a fragment
-abbrev pub written : Form → List ℕ → List ℕ
-written Given = λ text. text
-written Normal = normal_text
-written NormalTarget = normal_text
+abbrev pub written_text : Form → List ℕ → List ℕ
+written_text Given = λ text. text
+written_text Normal = normal_text
+written_text NormalTarget = normal_text
 
 -- a scheme
 abbrev pub written_scheme : Form → List ℕ → List ℕ
@@ -38,15 +38,15 @@ written_authority NormalTarget = normal_authority
 abbrev pub is_plain_in_host : ℕ → Bool
 is_plain_in_host c = not (is_ascii_uppercase c || (c == 37) || (c == 58) || (c == 64) || (c == 91))
 
--- what stands before the path
+-- what is before the path
 abbrev pub the_front : Option (List ℕ) → Option (List ℕ) → List ℕ
-the_front scheme authority = framed [] scheme (codes ":") ++ framed (codes "//") authority []
+the_front scheme authority = framed_component [] scheme (codes ":") ++ framed_component (codes "//") authority []
 
--- what stands behind it
+-- what is after it
 abbrev pub the_rest : Option (List ℕ) → Option (List ℕ) → List ℕ
-the_rest query fragment = framed (codes "?") query [] ++ framed (codes "#") fragment []
+the_rest query fragment = framed_component (codes "?") query [] ++ framed_component (codes "#") fragment []
 
--- no `%` stands in the text
+-- no `%` is in the text
 abbrev pub is_plain : List ℕ → Bool
 is_plain text = list_all (λ c. not (c == 37)) text
 

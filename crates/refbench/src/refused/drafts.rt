@@ -56,7 +56,7 @@ fn four(alloc: Global) -> Result<Segments<'static>, Stop> {
     Ok(segments)
 }
 
-/// The keywords of children with what stands behind them.
+/// The keywords of children with what is after them.
 fn listing(alloc: Global, children: &[Child<'_>]) -> Result<String, AllocError> {
     let mut text = String::new(alloc);
     for child in children {

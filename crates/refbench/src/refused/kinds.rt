@@ -11,7 +11,7 @@ use serde_json::Value;
 use std::alloc::{AllocError, Global};
 use std::rc::Rc;
 
-/// Nothing stands before these calls.
+/// Nothing is before these calls.
 #[derive(Drop)]
 struct Kinds;
 

@@ -1,4 +1,4 @@
-//! The references that lead nowhere, of a document that the line gives.
+//! The unresolvable references, of a document that the line gives.
 use crate::refused::documents::{list_of, uri, value};
 use crate::refused::registries::{contained, leading_nowhere};
 use crate::refused::stop::{Stop, after, before};

@@ -50,7 +50,7 @@ fn shared(alloc: Global, number: u32) -> Result<Rc<u32>, AllocError> {
     Ok(Rc::new(alloc, number)?)
 }
 
-/// A list of a number in front of another list.
+/// A list of a number before another list.
 fn in_front(alloc: Global, number: u32, list: &List<u32>) -> Result<List<u32>, AllocError> {
     list.push_front(alloc, shared(alloc, number)?)
 }

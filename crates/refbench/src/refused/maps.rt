@@ -5,7 +5,7 @@ use ref_parts::small_map::SmallMap;
 use ref_parts::table::SortedTable;
 use std::alloc::{AllocError, Global};
 
-/// A map of two pairs, as many as stand in it without memory, and one of three.
+/// A map of two pairs, as many as are in it without memory, and one of three.
 #[derive(Drop)]
 struct Maps {
     two: SmallMap<u32, u32, 2>,
@@ -97,7 +97,7 @@ fn read(alloc: Global, map: &SmallMap<u32, u32, 2>) -> Result<String, Stop> {
     after(format!(in alloc; "{third} {is_small}"))
 }
 
-/// Three entries, of which two stand under one pair of texts.
+/// Three entries, of which two are under one pair of texts.
 fn entries(alloc: Global) -> Result<Vec<(String, String, u32)>, AllocError> {
     let mut entries = Vec::with_capacity(alloc, 3)?;
     for (first, number) in [("b", 1u32), ("a", 2), ("b", 3)] {
@@ -119,7 +119,7 @@ fn table(alloc: Global) -> Result<String, Stop> {
     }
 }
 
-/// How many pairs a table has, and what stands under one of them and under none.
+/// How many pairs a table has, and what is under one of them and under none.
 fn read_table(alloc: Global) -> Result<String, Stop> {
     let table = SortedTable::from_entries(alloc, entries(alloc)?)?;
     let len = table.len();

@@ -178,7 +178,7 @@ fn located(alloc: Global, registry: &Registry<'_>, key: &str) -> Result<String, 
     outcome(alloc, registry.locate(alloc, &base, &path))
 }
 
-/// The references that lead nowhere, each with its document and its fault.
+/// The unresolvable references, each with its document and its fault.
 fn entries(alloc: Global, dangling: &[Dangling<'_>]) -> Result<String, AllocError> {
     let mut text = String::new(alloc);
     for entry in dangling {
@@ -195,7 +195,7 @@ impl Told for Vec<Dangling<'_>> {
     }
 }
 
-/// The references of a registry that lead nowhere.
+/// The references of a registry that are unresolvable.
 pub fn leading_nowhere(alloc: Global, registry: &Registry<'_>) -> Result<String, Stop> {
     outcome(alloc, dangling(alloc, registry))
 }

@@ -65,7 +65,7 @@ fn reported(alloc: Global, sink: &mut MemorySink, request: &str) -> Result<Strin
     }
 }
 
-/// A status, and the lines of a report, each with a bar in front of it.
+/// A status, and the lines of a report, each with a bar before it.
 fn told(alloc: Global, status: Status, report: &[u8]) -> Result<String, AllocError> {
     let mut text = format!(in alloc; "{status:?}")?;
     for line in str::from_utf8(report).unwrap_or("no text").lines() {

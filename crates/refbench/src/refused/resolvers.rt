@@ -3,7 +3,7 @@ use crate::refused::documents::{SUBRESOURCE, title_of, uri, value};
 use crate::refused::stop::{Refusal, Stop, Told, after, outcome};
 use ref_uri::Uri;
 use referencing::{
-    Draft, FollowError, Followed, Registry, Resolved, Resolver, ResourceRef, Step, follow,
+    Draft, FollowError, Followed, Location, Registry, Resolved, Resolver, ResourceRef, Step, follow,
 };
 use std::alloc::{AllocError, Global};
 
@@ -12,11 +12,15 @@ pub fn resolver(alloc: Global, resolver: &Resolver<'_>, call: &str) -> Result<St
     if let Some(reference) = call.strip_prefix("lookup ") {
         return outcome(alloc, resolver.lookup(alloc, reference));
     }
+    if let Some(reference) = call.strip_prefix("location ") {
+        return outcome(alloc, resolver.location(alloc, reference));
+    }
     match call {
         "resolve_uri" => at(alloc, resolver, "z"),
         "resolve_uri cached" => at(alloc, resolver, "x"),
         "resolve_uri invalid" => at(alloc, resolver, "a b"),
         "lookup_recursive_ref" => outcome(alloc, resolver.lookup_recursive_ref(alloc)),
+        "location_recursive" => outcome(alloc, resolver.location_recursive(alloc)),
         "in_subresource" => entered(alloc, resolver),
         "clone" => outcome(alloc, resolver.clone()),
         "find_vocabularies" => declared(alloc, resolver),
@@ -54,6 +58,15 @@ impl Told for Resolved<'_> {
 impl Told for Resolver<'_> {
     fn told(&self, alloc: Global) -> Result<String, AllocError> {
         format!(in alloc; "{self:?}")
+    }
+}
+
+/// The layer, the number of the document, and the pointer there.
+impl Told for Location<'_> {
+    fn told(&self, alloc: Global) -> Result<String, AllocError> {
+        let pointer = self.pointer(alloc)?;
+        let (layer, document) = (self.layer, self.document);
+        format!(in alloc; "{layer} {document} {pointer}")
     }
 }
 
@@ -109,7 +122,7 @@ fn followed_to_fault(alloc: Global, registry: &Registry<'_>, base: Uri) -> Resul
     }
 }
 
-/// The number of the step that leads nowhere, with its fault.
+/// The number of the step that finds no value, with its fault.
 fn told(alloc: Global, ended: &FollowError) -> Result<String, Stop> {
     let (step, error) = (ended.step, &ended.error);
     if error.is_memory() {

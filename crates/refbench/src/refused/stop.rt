@@ -45,7 +45,7 @@ impl From<AllocError> for Stop {
 
 /// What a call may be refused with.
 pub trait Refusal {
-    /// Whether it is want of memory.
+    /// Whether it is out of memory.
     fn is_memory(&self) -> bool;
 }
 
@@ -107,7 +107,7 @@ impl Refusal for AnswerError {
     }
 }
 
-/// What a call answers.
+/// What a call returns.
 pub trait Told {
     /// What is printed of it.
     fn told(&self, alloc: Global) -> Result<String, AllocError>;
@@ -125,7 +125,7 @@ impl Told for usize {
     }
 }
 
-/// Why a refused call has no answer: only want of memory is right, and only where what it would have changed is as it was.
+/// Why a refused call has no answer: only out of memory is right, and only where what it would have changed is as it was.
 pub fn refused<E: Refusal>(refusal: &E, stands: bool) -> Stop {
     if refusal.is_memory() && stands {
         Stop::Refused
@@ -134,7 +134,7 @@ pub fn refused<E: Refusal>(refusal: &E, stands: bool) -> Stop {
     }
 }
 
-/// The text of a fault, which is the answer; want of memory is none.
+/// The text of a fault, which is the answer; out of memory is none.
 pub fn fault<E: Refusal + fmt::Display>(alloc: Global, error: &E) -> Result<String, Stop> {
     if error.is_memory() {
         return Err(Stop::Refused);
@@ -161,7 +161,7 @@ pub fn outcome<T: Told + Drop, E: Refusal + fmt::Display + Drop>(
     }
 }
 
-/// The same once the call has answered, where only want of memory may be in the way.
+/// The same once the call has answered, where only out of memory may be in the way.
 pub fn outcome_after<T: Told + Drop, E: Refusal + Drop>(
     alloc: Global,
     answer: Result<T, E>,
@@ -173,7 +173,7 @@ pub fn outcome_after<T: Told + Drop, E: Refusal + Drop>(
     }
 }
 
-/// A value that is made before the call: only want of memory may keep it from that.
+/// A value that is made before the call: only where memory is refused it can't be made.
 pub fn before<T, E: Refusal + Drop>(made: Result<T, E>) -> Result<T, Stop> {
     match made {
         Ok(value) => Ok(value),
@@ -181,7 +181,7 @@ pub fn before<T, E: Refusal + Drop>(made: Result<T, E>) -> Result<T, Stop> {
     }
 }
 
-/// Why a value isn't made before the call: only want of memory may keep it from that.
+/// Why a value isn't made before the call: only where memory is refused it can't be made.
 fn unmade(is_memory: bool) -> Stop {
     if is_memory { Stop::Before } else { Stop::Wrong }
 }

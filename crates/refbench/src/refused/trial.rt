@@ -33,7 +33,7 @@ fn line(alloc: Global, group: &str, call: &str, answer: &str) -> Result<String, 
     format!(in alloc; "{group} {call}: {answer}")
 }
 
-/// Makes a call. Where it wants memory, makes the very same call again, and behind it its neighbours, on the same values: none of them
+/// Makes a call. Where it wants memory, makes the very same call again, and after it its neighbours, on the same values: none of them
 /// may then be refused.
 pub fn tried<C: Calls>(
     alloc: Global,

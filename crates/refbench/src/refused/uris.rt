@@ -5,7 +5,7 @@ use ref_uri::uri::{from_str, resolve_against};
 use ref_uri::{Uri, UriRef};
 use std::alloc::{AllocError, Global};
 
-/// URIs that stand before a call.
+/// URIs that are before a call.
 #[derive(Drop)]
 struct Uris {
     /// `HTTP://A/./%7e`.

@@ -1,7 +1,7 @@
 //! Workloads of resolvers: look-ups in a registry of the documents of `registries`, and of a dynamic anchor in a long scope.
 //!
 //! `chain`, `chain-anchor` and `chain-ref` go on from what the last look-up answered: with the identifiers as absolute URIs, with
-//! an anchor behind each, and with the `$ref` of the last value. `flat` looks the identifiers up from one resolver, and
+//! an anchor after each, and with the `$ref` of the last value. `flat` looks the identifiers up from one resolver, and
 //! `flat-ref` the `$ref` of each definition from a resolver at it. `pointer`,
 //! `pointer-type`, `pointer-plain` and `anchor` look a fragment up from resolvers at documents or identifiers. `here` looks `#` up
 //! where the scope isn't empty, and `resolved` resolves a `$ref` against the base at which it stands. The documents are borrowed,
@@ -28,7 +28,7 @@ fn reference_of(alloc: Global, number: usize, size: usize) -> Result<String, All
     format!(in alloc; "../d{next}/k{key}")
 }
 
-/// The URI of a definition with its anchor behind it.
+/// The URI of a definition with its anchor after it.
 fn anchor_of(alloc: Global, number: usize) -> Result<String, AllocError> {
     let (document, key) = (number / DEFINITIONS, number % DEFINITIONS);
     format!(in alloc; "http://example.com/d{document}/k{key}#a{key}")
@@ -114,7 +114,7 @@ fn resolvers_of<'r>(
     Some(resolvers)
 }
 
-/// Adds a resolver behind the others.
+/// Adds a resolver after the others.
 fn push<'r>(resolvers: &mut Vec<Resolver<'r>>, resolver: Resolver<'r>) -> Result<(), AllocError> {
     resolvers.push(resolver)?;
     Ok(())

@@ -60,7 +60,7 @@ fn call_of(name: &str) -> Option<Call> {
     }
 }
 
-/// How long the text is that a call answers; nothing where it answers none. A base is parsed where the call has one. What a call
+/// How long the text is that a call returns; nothing where it returns none. A base is parsed where the call has one. What a call
 /// answers is matched where it stands, so that moving it costs nothing beside the call.
 fn length_of(alloc: Global, call: Call, base: &str, text: &str) -> Option<usize> {
     match call {

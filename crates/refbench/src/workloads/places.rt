@@ -1,4 +1,4 @@
-//! Workloads of the places of a registry: their list, the look-up of their paths, and the references that lead nowhere.
+//! Workloads of the places of a registry: their list, the look-up of their paths, and the unresolvable references.
 
 use crate::workloads::line::Line;
 use crate::workloads::registries::documents_of;
@@ -39,7 +39,7 @@ fn located(alloc: Global, registry: &Registry<'_>, times: u32) -> Result<u64, Er
     Ok(sum)
 }
 
-/// How many of so many lists of the references that lead nowhere are empty: each reference of the documents leads somewhere.
+/// How many of so many lists of the unresolvable references are empty: each reference of the documents leads somewhere.
 fn linted(alloc: Global, registry: &Registry<'_>, times: u32) -> Result<u64, Error> {
     let mut sum: u64 = 0;
     for _ in 0..times {

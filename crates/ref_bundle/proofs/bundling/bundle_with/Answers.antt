@@ -1,9 +1,9 @@
 use Rattle.std.proofs.Common.{◌≡◌, ◌==◌, ◌&&◌, ℕ, not, None, Some, map, filter, option_map, refl, ap, sym, ◌∙◌, rules}
-use Rattle.ref_world.specs.World.{Document}
+use Rattle.ref_definitions.specs.World.{Document}
 use Rattle.ref_bundle.specs.Bundle.{to_embed, bundle_of}
 use Rattle.ref_bundle.specs.Saying.{refusal_said, bundle_said}
 use Rattle.ref_bundle.specs.inner.Reach.{is_marked}
-use Rattle.ref_bundle.specs.inner.Seen.{document_in, layer_in, numbered, numbered_part}
+use Rattle.ref_bundle.specs.inner.Seen.{document_in, layer_in, numbered_document, numbered_part}
 use Rattle.ref_bundle.proofs.Gathering.{document_at}
 use Rattle.ref_bundle.proofs.Running.{reached_are_needed}
 use Rattle.ref_bundle.proofs.Whole.{AreMarked, parts_are, first_is, is_refused, is_bundle}
@@ -23,7 +23,7 @@ returns-in-Some-clause-fault c =
     let embeds : map numbered_part slice ≡ to_embed layer n = lent ∙ c.in_ok-parts.ensures.parts ∙ ap (filter (λ e. not (e.0 == n) && is_marked marks e.0)) c.requires.own.order ∙ parts_are layer n marks are in
     let said : option_map refusal_said c.in_ok-refusal.field-0 ≡ Some (refusal_said c.in-Some.refusal) = search rules in
     is_refused layer n (document_in own) (refusal_said c.in-Some.refusal) at
-    (sym said ∙ first_is layer n (document_in own) marks (numbered_part c.in_ok-top.top) (map numbered_part slice) (map numbered owns) (option_map refusal_said c.in_ok-refusal.field-0) c.requires.own.order are c.in_ok-top.ensures.value embeds c.in_ok-refusal.ensures.value)
+    (sym said ∙ first_is layer n (document_in own) marks (numbered_part c.in_ok-top.top) (map numbered_part slice) (map numbered_document owns) (option_map refusal_said c.in_ok-refusal.field-0) c.requires.own.order are c.in_ok-top.ensures.value embeds c.in_ok-refusal.ensures.value)
 
 pub returns-clause-value : goal.returns-clause-value
 returns-clause-value c =
@@ -41,5 +41,5 @@ returns-clause-value c =
     let said : option_map refusal_said c.in_ok-refusal.field-0 ≡ None = search rules in
     let document = ap (λ (e : ℕ × Document). e.1) c.in_ok-top.ensures.value in
     is_bundle layer n (document_in own) (bundle_said c.in_ok-bundle_of-in-None.field-0) at
-    (sym said ∙ first_is layer n (document_in own) marks (numbered_part c.in_ok-top.top) (map numbered_part c.as_slice.result.now) (map numbered owns) (option_map refusal_said c.in_ok-refusal.field-0) c.requires.own.order are c.in_ok-top.ensures.value embeds c.in_ok-refusal.ensures.value)
+    (sym said ∙ first_is layer n (document_in own) marks (numbered_part c.in_ok-top.top) (map numbered_part c.as_slice.result.now) (map numbered_document owns) (option_map refusal_said c.in_ok-refusal.field-0) c.requires.own.order are c.in_ok-top.ensures.value embeds c.in_ok-refusal.ensures.value)
     (c.in_ok-bundle_of-in-None.ensures ∙ ap (λ d. bundle_of d (map numbered_part c.as_slice-in-None.result.now)) document ∙ ap (bundle_of (document_in own)) shown)

@@ -1,5 +1,5 @@
 use Rattle.std.proofs.Common.{refl}
-use Rattle.ref_world.proofs.OnLiterals.{world_on_literals}
+use Rattle.ref_definitions.proofs.OnLiterals.{world_on_literals}
 use Rattle.ref_bundle.proofs.examples.obstacles.Goals as goal
 
 pub returns : goal.returns

@@ -1,6 +1,6 @@
 use Rattle.std.proofs.Common.{refl}
 use Rattle.std.specs.List.Sorted.{IsStrictlySortedBy}
-use Rattle.ref_world.proofs.OnLiterals.{world_on_literals}
+use Rattle.ref_definitions.proofs.OnLiterals.{world_on_literals}
 use Rattle.ref_bundle.proofs.laws.look_ups_in_bundles.Goals as goal
 
 pub returns : goal.returns

@@ -1,6 +1,6 @@
 use Rattle.std.proofs.Common.{◌≡◌, ◌++◌, map, flat_map, take}
 use Rattle.std.specs.Option.{option_to_list}
-use Rattle.ref_world.specs.World.{Layer}
+use Rattle.ref_definitions.specs.World.{Layer}
 use Rattle.ref_bundle.specs.Needed.{document_under}
 use Rattle.ref_bundle.specs.inner.Tables.{AreTables}
 use Rattle.ref_bundle.proofs.reach.push_meant.Given as goal

@@ -1,6 +1,6 @@
 use Rattle.std.proofs.Common.{◌≡◌, refl, ◌<◌, ◌+◌, [], List, ℕ, Vec, Global, Some, slice_get, map, length, ap, sym, subst, ◌∙◌, arith, rules}
 use Rattle.std.proofs.lemmas.Option.{slice_get_read}
-use Rattle.ref_bundle.specs.inner.Reach.{state, added, all_added, list_at, IsRun}
+use Rattle.ref_bundle.specs.inner.Reach.{state, added_document, all_added, list_at, IsRun}
 use Rattle.ref_bundle.proofs.Running.{run_begins, run_goes_on, run_within, lists_length}
 use Rattle.ref_bundle.proofs.reach.reach.Goals as goal
 
@@ -11,8 +11,8 @@ loop-head-init c =
     let root = c.args.root in
     let marks = c.in_ok-reached.reached.marks.items in
     let long : length marks ≡ length lists = c.in_ok-reached.ensures.long ∙ sym (lists_length items c.args.lists.now) in
-    let is : state c.add.new.self ≡ added (record { marks = marks; queue = [] }) root =
-    c.in_ok-add.ensures ∙ ap (λ q. added (record { marks = marks; queue = q }) root) c.in_ok-reached.ensures.empty in
+    let is : state c.add.new.self ≡ added_document (record { marks = marks; queue = [] }) root =
+    c.in_ok-add.ensures ∙ ap (λ q. added_document (record { marks = marks; queue = q }) root) c.in_ok-reached.ensures.empty in
     subst (IsRun lists root 0) (sym is) (run_begins lists root marks long c.in_ok-reached.ensures.none)
 
 pub loop-head-smaller : goal.loop-head-smaller

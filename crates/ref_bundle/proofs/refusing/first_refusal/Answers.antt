@@ -2,7 +2,7 @@ use Rattle.std.proofs.Common.{◌≡◌, [], None, Some, cond, option_map, map, 
 use Rattle.ref_bundle.specs.Bundle.{refusals_in}
 use Rattle.ref_bundle.specs.Saying.{refusal_said}
 use Rattle.ref_bundle.specs.inner.Reach.{is_marked}
-use Rattle.ref_bundle.specs.inner.Seen.{layer_in, numbered, numbered_part}
+use Rattle.ref_bundle.specs.inner.Seen.{layer_in, numbered_document, numbered_part}
 use Rattle.ref_bundle.proofs.Firsts.{found_here, none_more}
 use Rattle.ref_bundle.proofs.refusing.first_refusal.Goals as goal
 
@@ -12,7 +12,7 @@ returns-in-Some c =
     let said : option_map refusal_said c.in_ok-refusal.field-0 ≡ Some (refusal_said c.in-Some.refusal) = search rules in
     record {
       value = found_here (λ e. cond (is_marked c.args.needed.now e.0) (refusals_in (layer_in c.args.owns.now) (numbered_part c.args.top.now) (map numbered_part c.args.parts.now) e) [])
-          numbered c.args.owns.now l.own-index c.own-item.result (refusal_said c.in-Some.refusal) c.loop-own-test.true c.own-item.is l.invariant (sym said ∙ c.in_ok-refusal.ensures);
+          numbered_document c.args.owns.now l.own-index c.own-item.result (refusal_said c.in-Some.refusal) c.loop-own-test.true c.own-item.is l.invariant (sym said ∙ c.in_ok-refusal.ensures);
     }
 
 pub loop-own-preserved : goal.loop-own-preserved
@@ -20,4 +20,4 @@ loop-own-preserved c =
     let l = c.loop-own in
     let said : option_map refusal_said c.in_ok-refusal.field-0 ≡ None = search rules in
     none_more (λ e. cond (is_marked c.args.needed.now e.0) (refusals_in (layer_in c.args.owns.now) (numbered_part c.args.top.now) (map numbered_part c.args.parts.now) e) [])
-    numbered c.args.owns.now l.own-index c.own-item.result c.loop-own-test.true c.own-item.is l.invariant (sym said ∙ c.in_ok-refusal.ensures)
+    numbered_document c.args.owns.now l.own-index c.own-item.result c.loop-own-test.true c.own-item.is l.invariant (sym said ∙ c.in_ok-refusal.ensures)

@@ -1,10 +1,10 @@
 use Rattle.std.proofs.Common.{◌≡◌, [], map, flat_map, take, cond, None}
 use Rattle.ref_bundle.specs.Bundle.{refusals_in}
 use Rattle.ref_bundle.specs.inner.Reach.{is_marked}
-use Rattle.ref_bundle.specs.inner.Seen.{numbered, layer_in, numbered_part}
+use Rattle.ref_bundle.specs.inner.Seen.{numbered_document, layer_in, numbered_part}
 use Rattle.ref_bundle.specs.inner.First.{first}
 use Rattle.ref_bundle.proofs.refusing.first_refusal.Given as goal
 
 abbrev pub invariant-loop-own : goal.invariant-loop-own
 invariant-loop-own l =
-    first (flat_map (λ e. cond (is_marked l.needed e.0) (refusals_in (layer_in l.owns) (numbered_part l.top) (map numbered_part l.parts) e) []) (map numbered (take l.own-index l.owns))) ≡ None
+    first (flat_map (λ e. cond (is_marked l.needed e.0) (refusals_in (layer_in l.owns) (numbered_part l.top) (map numbered_part l.parts) e) []) (map numbered_document (take l.own-index l.owns))) ≡ None

@@ -1,7 +1,7 @@
 use Rattle.std.proofs.Common.{◌≡◌, List, Some, option_map, map, flat_map, ap, sym, ◌∙◌, arith, rules}
 use Rattle.ref_bundle.specs.Bundle.{BundleRefusal}
 use Rattle.ref_bundle.specs.Saying.{refusal_said}
-use Rattle.ref_bundle.specs.inner.Seen.{Seen, seen, layer_in, numbered}
+use Rattle.ref_bundle.specs.inner.Seen.{Seen, seen_spot, layer_in, numbered_document}
 use Rattle.ref_bundle.specs.inner.First.{first, refusals_seen}
 use Rattle.ref_bundle.proofs.Lists.{taken_all}
 use Rattle.ref_bundle.proofs.Firsts.{found_here, of_places}
@@ -14,10 +14,10 @@ returns-in-Some c =
     let own = c.args.own.now in
     let f : Seen → List BundleRefusal = refusals_seen layer c.args.top own.uri.now in
     let items = c.deref-spot-items.result.now in
-    let lent : map seen items ≡ map seen own.places.items = ap (map seen) c.deref-spot-items.ensures.value in
+    let lent : map seen_spot items ≡ map seen_spot own.places.items = ap (map seen_spot) c.deref-spot-items.ensures.value in
     let said : option_map refusal_said c.in_ok-refusal.field-0 ≡ Some (refusal_said c.in-Some.refusal) = search rules in
-    found_here f seen items l.spot-index c.spot-item.result (refusal_said c.in-Some.refusal) c.loop-spot-test.true c.spot-item.is l.invariant (sym said ∙ c.in_ok-refusal.ensures)
-    ∙ ap (λ ss. first (flat_map f ss)) (lent ∙ c.requires.places) ∙ ap first (of_places layer c.args.top (numbered own))
+    found_here f seen_spot items l.spot-index c.spot-item.result (refusal_said c.in-Some.refusal) c.loop-spot-test.true c.spot-item.is l.invariant (sym said ∙ c.in_ok-refusal.ensures)
+    ∙ ap (λ ss. first (flat_map f ss)) (lent ∙ c.requires.places) ∙ ap first (of_places layer c.args.top (numbered_document own))
 
 pub returns : goal.returns
 returns c =
@@ -26,5 +26,5 @@ returns c =
     let own = c.args.own.now in
     let f : Seen → List BundleRefusal = refusals_seen layer c.args.top own.uri.now in
     let items = c.deref-spot-items.result.now in
-    let lent : map seen items ≡ map seen own.places.items = ap (map seen) c.deref-spot-items.ensures.value in
-    sym (sym (ap first (of_places layer c.args.top (numbered own))) ∙ sym (ap (λ ss. first (flat_map f ss)) (lent ∙ c.requires.places)) ∙ sym (ap (λ ss. first (flat_map f ss)) (taken_all seen items l.spot-index (omega arith))) ∙ l.invariant)
+    let lent : map seen_spot items ≡ map seen_spot own.places.items = ap (map seen_spot) c.deref-spot-items.ensures.value in
+    sym (sym (ap first (of_places layer c.args.top (numbered_document own))) ∙ sym (ap (λ ss. first (flat_map f ss)) (lent ∙ c.requires.places)) ∙ sym (ap (λ ss. first (flat_map f ss)) (taken_all seen_spot items l.spot-index (omega arith))) ∙ l.invariant)

@@ -1,7 +1,7 @@
 use Rattle.std.proofs.Common.{◌≡◌, ◌++◌, [], ◌∷◌, Option, Some, map, flat_map, option_map, ap, sym, ◌∙◌, rules}
 use Rattle.std.specs.Option.{option_map_or, option_to_list}
 use Rattle.ref_parts.specs.Segment.{part_of}
-use Rattle.ref_bundle.specs.Bundle.{Problem, SharedUri, Site, borne, shared, other_bearer}
+use Rattle.ref_bundle.specs.Bundle.{Problem, SharedUri, Site, sites_of_uris, shared_uri, other_bearer}
 use Rattle.ref_bundle.specs.inner.Tables.{site_of}
 use Rattle.ref_bundle.specs.inner.First.{first}
 use Rattle.ref_bundle.proofs.refusing.shared_uri.Goals as goal
@@ -19,9 +19,9 @@ returns c =
     let text : c.as_str.result.now ≡ u = search rules in
     λ layer are.
     let meets : option_map (λ s. site_of s.now) c.other.result ≡ Some (site_of other) = search rules in
-    let found : other_bearer (borne layer) u at ≡ Some (site_of other) =
-    ap (λ p. other_bearer (borne layer) u (c.args.spot.now.document, p)) (sym spot) ∙ ap (λ t. other_bearer (borne layer) t (c.args.spot.now.document, map part_of c.as_slice.result.now)) (sym text) ∙ sym (c.other.ensures.value layer are) ∙ meets in
+    let found : other_bearer (sites_of_uris layer) u at ≡ Some (site_of other) =
+    ap (λ p. other_bearer (sites_of_uris layer) u (c.args.spot.now.document, p)) (sym spot) ∙ ap (λ t. other_bearer (sites_of_uris layer) t (c.args.spot.now.document, map part_of c.as_slice.result.now)) (sym text) ∙ sym (c.other.ensures.value layer are) ∙ meets in
     ap (λ v. Some (SharedUri v other.document (map part_of c.in_ok-copied.field-0.items))) copy
     ∙ ap (λ p. Some (SharedUri u other.document p)) path
     ∙ sym (ap f found)
-    ∙ sym (ap (λ o. first (flat_map (shared (borne layer) at) (option_to_list o))) given)
+    ∙ sym (ap (λ o. first (flat_map (shared_uri (sites_of_uris layer) at) (option_to_list o))) given)

@@ -1,7 +1,7 @@
 use Rattle.std.proofs.Common.{◌≡◌, ◌++◌, ◌∷◌, [], map, string_bytes, ap, ◌∙◌, rules}
 use Rattle.std.specs.List.{AllZip}
 use Rattle.ref_parts.specs.Segment.{part_of}
-use Rattle.ref_bundle.specs.inner.Tables.{entered}
+use Rattle.ref_bundle.specs.inner.Tables.{table_entries_of}
 use Rattle.ref_bundle.proofs.Bearing.{one_entered, copied_parts}
 use Rattle.ref_bundle.proofs.tables.push.Goals as goal
 
@@ -14,4 +14,4 @@ returns c =
     let added : c.push.new.self.items ≡ c.args.entries.now.items ++ (uri, second, record { document = c.args.document; path = path }) ∷ [] = search rules in
     let first : string_bytes uri ≡ c.args.uri.now = search rules in
     let nothing : string_bytes second ≡ [] = search rules in
-    ap entered added ∙ one_entered c.args.entries.now.items _ c.args.uri.now (c.args.document, map part_of c.args.path.now) first nothing (ap (λ p. (c.args.document, p)) (copied_parts c.args.path.now path.items copies))
+    ap table_entries_of added ∙ one_entered c.args.entries.now.items _ c.args.uri.now (c.args.document, map part_of c.args.path.now) first nothing (ap (λ p. (c.args.document, p)) (copied_parts c.args.path.now path.items copies))

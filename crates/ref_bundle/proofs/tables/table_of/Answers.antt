@@ -1,7 +1,7 @@
 use Rattle.std.proofs.Common.{map, flat_map, filter, option_map, ap, ◌∙◌, arith}
 use Rattle.ref_bundle.specs.Bundle.{borne_in}
-use Rattle.ref_bundle.specs.inner.Seen.{numbered}
-use Rattle.ref_bundle.specs.inner.Tables.{tabled, under, is_other}
+use Rattle.ref_bundle.specs.inner.Seen.{numbered_document}
+use Rattle.ref_bundle.specs.inner.Tables.{table_of, entry_under, is_other}
 use Rattle.ref_bundle.proofs.Lists.{taken_all}
 use Rattle.ref_bundle.proofs.Bearing.{tabled_entries}
 use Rattle.ref_bundle.proofs.tables.table_of.Goals as goal
@@ -9,5 +9,5 @@ use Rattle.ref_bundle.proofs.tables.table_of.Goals as goal
 pub returns : goal.returns
 returns c =
     let l = c.loop-own in
-    ap tabled c.in_ok-table.ensures.entered ∙ tabled_entries l.entries.items ∙ l.invariant
-    ∙ ap (flat_map (λ e. map under (filter (is_other (option_map (λ t. tabled t.now) c.args.last)) (borne_in e)))) (taken_all numbered c.args.owns.now l.own-index (omega arith))
+    ap table_of c.in_ok-table.ensures.entered ∙ tabled_entries l.entries.items ∙ l.invariant
+    ∙ ap (flat_map (λ e. map entry_under (filter (is_other (option_map (λ t. table_of t.now) c.args.last)) (borne_in e)))) (taken_all numbered_document c.args.owns.now l.own-index (omega arith))

@@ -4,8 +4,8 @@ use Rattle.std.specs.Result.{result_ok}
 use Rattle.serde_json.specs.View.{view}
 use Rattle.ref_draft.specs.Schema.{text_under}
 use Rattle.ref_uri.specs.Targets.{Refusal, target}
-use Rattle.ref_world.specs.Wants.{schema_at}
-use Rattle.ref_bundle.specs.Needed.{meant}
+use Rattle.ref_definitions.specs.Wants.{schema_at}
+use Rattle.ref_bundle.specs.Needed.{meant_uris}
 use Rattle.ref_bundle.proofs.Meanings.{three, meant_is, meant_of}
 use Rattle.ref_bundle.proofs.uris.targets.Goals as goal
 
@@ -23,6 +23,6 @@ returns c =
     record {
       value = all
           ∙ ap (λ l. l ++ option_to_list (option_and_then (λ text. result_ok (f text)) dynamic) ++ option_to_list (option_and_then (λ r. result_ok r) (schema_at value))) (meant_of f ref)
-          ∙ ap (λ l. meant (option_map f ref) ++ l ++ option_to_list (option_and_then (λ r. result_ok r) (schema_at value))) (meant_of f dynamic)
-          ∙ ap (λ l. meant (option_map f ref) ++ meant (option_map f dynamic) ++ l) (meant_is (schema_at value));
+          ∙ ap (λ l. meant_uris (option_map f ref) ++ l ++ option_to_list (option_and_then (λ r. result_ok r) (schema_at value))) (meant_of f dynamic)
+          ∙ ap (λ l. meant_uris (option_map f ref) ++ meant_uris (option_map f dynamic) ++ l) (meant_is (schema_at value));
     }

@@ -1,7 +1,7 @@
 use Rattle.std.proofs.Common.{◌≡◌, ◌++◌, map, flat_map, take}
 use Rattle.std.specs.Option.{option_to_list}
 use Rattle.ref_parts.specs.Table.{entries_of}
-use Rattle.ref_world.specs.Resources.{own_uri}
+use Rattle.ref_definitions.specs.Resources.{own_uri}
 use Rattle.ref_findings.specs.Sources.{under_uri}
 use Rattle.ref_findings.specs.inner.Seen.{place_of}
 use Rattle.ref_findings.proofs.bearers.push_own.Given as goal

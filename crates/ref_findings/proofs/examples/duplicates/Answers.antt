@@ -1,6 +1,6 @@
 use Rattle.std.proofs.Common.{refl}
 use Rattle.ref_findings.specs.Findings.{is_meta_schema}
-use Rattle.ref_world.proofs.OnLiterals.{world_on_literals}
+use Rattle.ref_definitions.proofs.OnLiterals.{world_on_literals}
 use Rattle.ref_findings.proofs.examples.duplicates.Goals as goal
 
 pub returns : goal.returns

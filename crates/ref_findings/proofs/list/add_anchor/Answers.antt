@@ -2,7 +2,7 @@ use Rattle.std.proofs.Common.{◌++◌, Some, OnOk, subst}
 use Rattle.ref_draft.specs.Views.{anchor_name}
 use Rattle.ref_findings.specs.Findings.{name_problem, finding_at}
 use Rattle.std.specs.List.{AllZip}
-use Rattle.ref_findings.specs.Places.{nearest}
+use Rattle.ref_findings.specs.Places.{nearest_base}
 use Rattle.ref_findings.specs.Entries.{IsFindingOf}
 use Rattle.ref_findings.specs.inner.Meanings.{IsMaybe}
 use Rattle.ref_findings.specs.inner.Seen.{site_of, known_in}
@@ -14,8 +14,8 @@ returns c = λ fs near zip.
     let n = c.args.number in
     let s = site_of c.args.site.now in
     let a = anchor_name c.args.anchor in
-    let said : IsMaybe (name_problem k n (nearest s.1) a.0) c.in_ok-problem.problem =
-    subst (λ x. IsMaybe (name_problem k n (nearest s.1) x) c.in_ok-problem.problem) c.name.ensures.value
+    let said : IsMaybe (name_problem k n (nearest_base s.1) a.0) c.in_ok-problem.problem =
+    subst (λ x. IsMaybe (name_problem k n (nearest_base s.1) x) c.in_ok-problem.problem) c.name.ensures.value
     (subst (λ b. IsMaybe (name_problem k n b c.name.result.now) c.in_ok-problem.problem) near c.in_ok-problem.ensures.value) in
-    subst (λ w. OnOk c.add.result (AllZip IsFindingOf c.add.new.list.items (fs ++ finding_at s (Some w) (name_problem k n (nearest s.1) a.0)))) c.of_anchor-keyword.ensures.value
-    (c.add.ensures (name_problem k n (nearest s.1) a.0) fs said zip)
+    subst (λ w. OnOk c.add.result (AllZip IsFindingOf c.add.new.list.items (fs ++ finding_at s (Some w) (name_problem k n (nearest_base s.1) a.0)))) c.of_anchor-keyword.ensures.value
+    (c.add.ensures (name_problem k n (nearest_base s.1) a.0) fs said zip)

@@ -1,6 +1,6 @@
 use Rattle.std.proofs.Common.{◌≡◌, ◌++◌, Some, OnOk, sym, subst, rules}
 use Rattle.std.specs.Prelude.{option_and_then}
-use Rattle.ref_world.specs.Places.{base_within, identifier_of}
+use Rattle.ref_definitions.specs.Places.{base_within, identifier_of}
 use Rattle.ref_findings.specs.Findings.{by_base, finding_at, identifier_problem}
 use Rattle.std.specs.List.{AllZip}
 use Rattle.ref_findings.specs.Entries.{IsFindingOf}

@@ -2,7 +2,7 @@ use Rattle.std.proofs.Common.{◌≡◌, Some, codes, sym, subst, rules}
 use Rattle.std.specs.Prelude.{option_and_then}
 use Rattle.ref_draft.specs.Schema.{text_under}
 use Rattle.ref_findings.specs.Findings.{reference_problem}
-use Rattle.ref_findings.specs.Places.{nearest}
+use Rattle.ref_findings.specs.Places.{nearest_base}
 use Rattle.ref_findings.specs.inner.Meanings.{IsMaybe}
 use Rattle.ref_findings.specs.inner.Seen.{site_of, known_in}
 use Rattle.ref_findings.proofs.list.add_reference.Goals as goal
@@ -13,8 +13,8 @@ returns c = λ fs zip.
     let s = site_of c.args.site.now in
     let text = text_under (codes "$ref") s.1.value in
     let there : text ≡ Some c.in-Some.reference.now = search rules in
-    let near : c.in_ok-base.base.value ≡ nearest s.1 = search rules in
-    let said : IsMaybe (reference_problem k (nearest s.1) c.in-Some.reference.now) c.in_ok-problem.problem =
+    let near : c.in_ok-base.base.value ≡ nearest_base s.1 = search rules in
+    let said : IsMaybe (reference_problem k (nearest_base s.1) c.in-Some.reference.now) c.in_ok-problem.problem =
     subst (λ b. IsMaybe (reference_problem k b c.in-Some.reference.now) c.in_ok-problem.problem) near c.in_ok-problem.ensures.value in
-    c.add.ensures (option_and_then (reference_problem k (nearest s.1)) text) fs
-    (subst (λ o. IsMaybe (option_and_then (reference_problem k (nearest s.1)) o) c.in_ok-problem.problem) (sym there) said) zip
+    c.add.ensures (option_and_then (reference_problem k (nearest_base s.1)) text) fs
+    (subst (λ o. IsMaybe (option_and_then (reference_problem k (nearest_base s.1)) o) c.in_ok-problem.problem) (sym there) said) zip

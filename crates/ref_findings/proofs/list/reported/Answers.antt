@@ -2,7 +2,7 @@ use Rattle.std.proofs.Common.{◌≡◌, ◌∙◌, ◌∷◌, ◌++◌, [], map
 use Rattle.std.specs.List.{AllZip}
 use Rattle.ref_resolver.specs.Layered.{world_in}
 use Rattle.ref_findings.specs.Bearers.{uris_borne, names_borne}
-use Rattle.ref_findings.specs.Findings.{Known, unread, place_findings, has_reference}
+use Rattle.ref_findings.specs.Findings.{Known, unread_sources, place_findings, has_reference}
 use Rattle.ref_findings.specs.Entries.{source_of, IsFindingOf}
 use Rattle.ref_findings.specs.inner.Seen.{site_of}
 use Rattle.ref_findings.proofs.Knowing.{known_with, same_known}
@@ -20,8 +20,8 @@ returns c =
     let first : uris ≡ reverse (uris_borne ls) = search rules in
     let second : names ≡ reverse (names_borne ls) = search rules in
     let same = same_known (world_in c.new-layers.result) bad ls uris names (index ∷ []) world first second in
-    let zipped : AllZip IsFindingOf c.in_ok-findings.findings.items (unread ss ++ place_findings (known_with (world_in c.new-layers.result) bad ls (reverse uris) (reverse names)) ls) = search rules in
+    let zipped : AllZip IsFindingOf c.in_ok-findings.findings.items (unread_sources ss ++ place_findings (known_with (world_in c.new-layers.result) bad ls (reverse uris) (reverse names)) ls) = search rules in
     record {
-      findings = subst (λ (k : Known). AllZip IsFindingOf c.in_ok-findings.findings.items (unread ss ++ place_findings k k.sites)) same zipped;
+      findings = subst (λ (k : Known). AllZip IsFindingOf c.in_ok-findings.findings.items (unread_sources ss ++ place_findings k k.sites)) same zipped;
       references = c.count_references.ensures;
     }

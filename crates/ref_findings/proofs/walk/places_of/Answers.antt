@@ -2,7 +2,7 @@ use Rattle.std.proofs.Common.{◌≡◌, ◌∙◌, ◌∷◌, ◌++◌, [], ◌
 use Rattle.std.proofs.lemmas.Option.{slice_get-get_or, slice_get-map}
 use Rattle.std.proofs.lemmas.List.{length-map, map-append}
 use Rattle.serde_json.specs.View.{view}
-use Rattle.ref_world.specs.World.{Document}
+use Rattle.ref_definitions.specs.World.{Document}
 use Rattle.ref_findings.specs.Places.{places_near}
 use Rattle.ref_findings.specs.inner.Queue.{IsAt}
 use Rattle.ref_findings.specs.inner.Seen.{place_of}

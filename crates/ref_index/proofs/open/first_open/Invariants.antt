@@ -1,10 +1,10 @@
 use Rattle.std.proofs.Common.{◌≡◌, ◌-◌, ◌≤◌, List, ◌∷◌, map, take, drop, vec_len, false}
 use Rattle.std.specs.List.{AllByRecursion}
-use Rattle.ref_world.specs.World.{Layer}
-use Rattle.ref_world.specs.Resources.{resources}
-use Rattle.ref_world.specs.Anchors.{Named}
-use Rattle.ref_world.specs.Cached.{Pair}
-use Rattle.ref_world.specs.Wants.{Want, is_open}
+use Rattle.ref_definitions.specs.World.{Layer}
+use Rattle.ref_definitions.specs.Resources.{resources}
+use Rattle.ref_definitions.specs.Anchors.{Named}
+use Rattle.ref_definitions.specs.Cached.{Pair}
+use Rattle.ref_definitions.specs.Wants.{Want, is_open}
 use Rattle.ref_index.specs.Found.{Holds}
 use Rattle.ref_index.proofs.open.first_open.Given as goal
 

@@ -1,6 +1,6 @@
 use Rattle.std.proofs.Common.{◌∙◌, ◌∷◌, ◌++◌, [], ◌<◌, ap, map, get_or, length, arith}
 use Rattle.std.proofs.lemmas.Option.{slice_get-get_or}
-use Rattle.ref_world.specs.Places.{places}
+use Rattle.ref_definitions.specs.Places.{places}
 use Rattle.ref_index.specs.Document.{document_of}
 use Rattle.ref_index.specs.Listing.{listed_of}
 use Rattle.ref_index.specs.Queue.{place_of}

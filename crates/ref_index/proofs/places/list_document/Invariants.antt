@@ -1,5 +1,5 @@
 use Rattle.std.proofs.Common.{◌-◌, map, length}
-use Rattle.ref_world.specs.Places.{places}
+use Rattle.ref_definitions.specs.Places.{places}
 use Rattle.ref_index.specs.Document.{document_of}
 use Rattle.ref_index.specs.Listing.{listed_of}
 use Rattle.ref_index.specs.Queue.{IsListedTo}

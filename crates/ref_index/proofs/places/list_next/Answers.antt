@@ -1,9 +1,9 @@
 use Rattle.std.proofs.Common.{◌≡◌, ◌∷◌, ◌++◌, [], ◌∙◌, List, Ok, OnOk, sym, ap, subst, map, rules}
 use Rattle.std.proofs.lemmas.List.{map-append}
 use Rattle.std.proofs.lemmas.Option.{get_or_from_slice_get}
-use Rattle.ref_draft.specs.Children.{walked}
-use Rattle.ref_world.specs.Listing.{listed}
-use Rattle.ref_world.specs.Places.{child_place, children_with, children_of}
+use Rattle.ref_draft.specs.Children.{walked_children}
+use Rattle.ref_definitions.specs.Listing.{listed_place}
+use Rattle.ref_definitions.specs.Places.{child_place, children_with, children_of}
 use Rattle.ref_index.specs.declared.queue.Visit.{Visit}
 use Rattle.ref_index.specs.Listing.{listed_of}
 use Rattle.ref_index.specs.Queue.{place_of, value_of}
@@ -17,9 +17,9 @@ returns c = λ v at.
     let based : (place_of w).base ≡ Ok c.in_ok-base.base.value = search rules in
     let path : c.in_ok-path.path ≡ w.path = search rules in
     let before = map listed_of c.args.places.now.items in
-    let longer : map listed_of c.push.new.self.items ≡ before ++ listed c.args.number (place_of w) ∷ [] =
+    let longer : map listed_of c.push.new.self.items ≡ before ++ listed_place c.args.number (place_of w) ∷ [] =
     ap (map listed_of) c.in_ok-push.ensures.items ∙ map-append listed_of c.args.places.now.items (c.in_ok-place.place ∷ []) ∙ ap (λ l. before ++ l ∷ []) (c.in_ok-place.ensures based) in
-    subst (λ u. OnOk c.push_children.result ((map listed_of c.push.new.self.items ≡ before ++ listed c.args.number (place_of u) ∷ [])
+    subst (λ u. OnOk c.push_children.result ((map listed_of c.push.new.self.items ≡ before ++ listed_place c.args.number (place_of u) ∷ [])
     × ((more : List Visit) × (c.push_children.new.queue.items ≡ c.args.queue.now.items ++ more) × (map place_of more ≡ children_of (place_of u))))) same
     (on_ok c.push_children.result
     (λ pushed. (
@@ -27,6 +27,6 @@ returns c = λ v at.
       (
         pushed.0,
         pushed.1,
-        pushed.2 ∙ ap (λ l. map (child_place l c.in_ok-base.base.value) (walked w.draft (value_of w.value))) path ∙ ap (λ b. children_with b (place_of w)) (sym based),
+        pushed.2 ∙ ap (λ l. map (child_place l c.in_ok-base.base.value) (walked_children w.draft (value_of w.value))) path ∙ ap (λ b. children_with b (place_of w)) (sym based),
       ),
     )) c.push_children.ensures)

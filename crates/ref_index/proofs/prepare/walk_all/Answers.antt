@@ -1,7 +1,7 @@
 use Rattle.std.proofs.Common.{◌≡◌, ◌∷◌, ◌++◌, [], map, ap, sym, subst, ◌∙◌, append_assoc, rules}
 use Rattle.std.specs.Vec.Iter.{into_iter_items}
 use Rattle.std.proofs.lemmas.List.{map-append}
-use Rattle.ref_world.specs.Wants.{faults}
+use Rattle.ref_definitions.specs.Wants.{faults}
 use Rattle.ref_index.specs.Document.{document_of}
 use Rattle.ref_index.specs.Visits.{IsFirstFault}
 use Rattle.ref_index.proofs.Retrieving.{first_of_more}

@@ -1,6 +1,6 @@
 use Rattle.std.proofs.Common.{◌≡◌, ◌++◌, OnOk, subst, rules}
-use Rattle.ref_world.specs.Resources.{resource_of}
-use Rattle.ref_world.specs.Anchors.{named_at, named_under}
+use Rattle.ref_definitions.specs.Resources.{resource_of}
+use Rattle.ref_definitions.specs.Anchors.{named_at, named_under}
 use Rattle.ref_index.specs.Found.{Holds}
 use Rattle.ref_index.proofs.Holding.{number_kept}
 use Rattle.ref_index.proofs.walk.add_by_base.Goals as goal

@@ -1,5 +1,5 @@
 use Rattle.std.proofs.Common.{◌≡◌, ◌++◌, ◌∷◌, [], ℕ, List, sym, subst, rules}
-use Rattle.ref_world.specs.Resources.{resource_of}
+use Rattle.ref_definitions.specs.Resources.{resource_of}
 use Rattle.ref_index.specs.Found.{Holds}
 use Rattle.ref_index.proofs.walk.add_identified.Goals as goal
 

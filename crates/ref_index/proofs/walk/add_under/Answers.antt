@@ -1,5 +1,5 @@
 use Rattle.std.proofs.Common.{◌≡◌, ◌++◌, ◌∷◌, [], ℕ, List, OnOk, subst, rules}
-use Rattle.ref_world.specs.Anchors.{named_under}
+use Rattle.ref_definitions.specs.Anchors.{named_under}
 use Rattle.ref_index.specs.Found.{Holds}
 use Rattle.ref_index.proofs.Holding.{number_kept}
 use Rattle.ref_index.proofs.walk.add_under.Goals as goal

@@ -3,9 +3,9 @@ use Rattle.serde_json.specs.View.{view}
 use Rattle.ref_draft.specs.Schema.{identifier}
 use Rattle.ref_draft.specs.Views.{id_of}
 use Rattle.ref_uri.specs.Errors.{IsFaultOf}
-use Rattle.ref_world.specs.Places.{base_within, identifier_of}
-use Rattle.ref_world.specs.Cached.{pairs_of_identifier, reference_pairs}
-use Rattle.ref_world.specs.Wants.{Reference, MetaSchema, wanted, reference_at, refusals_of, schema_at}
+use Rattle.ref_definitions.specs.Places.{base_within, identifier_of}
+use Rattle.ref_definitions.specs.Cached.{pairs_of_identifier, reference_pairs}
+use Rattle.ref_definitions.specs.Wants.{Reference, MetaSchema, wants_of_text, reference_at, refusals_of, schema_at}
 use Rattle.ref_index.specs.Found.{Holds}
 use Rattle.ref_index.specs.Queue.{place_of}
 use Rattle.ref_index.specs.Visits.{IsFirstFault, resources_at, names_at}
@@ -45,6 +45,6 @@ returns-clause-added c = λ layer rs ns ws ps held stands.
     let placed = c.in_ok-add_place.ensures layer rs ns ws (ps ++ own) kept stands same based in
     let referred = c.in_ok-add_reference.ensures.added layer rs' ns' ws (ps ++ own) placed in
     let value = view c.get-value.result.now in
-    let all = c.in_ok-add_meta_schema.ensures.added layer rs' ns' (ws ++ wanted Reference (reference_at base value)) ((ps ++ own) ++ reference_pairs base value) referred in
+    let all = c.in_ok-add_meta_schema.ensures.added layer rs' ns' (ws ++ wants_of_text Reference (reference_at base value)) ((ps ++ own) ++ reference_pairs base value) referred in
     holds_same layer c.add_meta_schema.new.found rs' rs' ns' ns' _ _ _ _ refl refl (wants_where p.base base p.value ws based) (pairs_where p.base base p.value own ps based)
-    (subst (λ d. Holds layer c.add_meta_schema.new.found rs' ns' ((ws ++ wanted Reference (reference_at base d)) ++ wanted MetaSchema (schema_at d)) ((ps ++ own) ++ reference_pairs base d)) c.get-value.ensures.value all)
+    (subst (λ d. Holds layer c.add_meta_schema.new.found rs' ns' ((ws ++ wants_of_text Reference (reference_at base d)) ++ wants_of_text MetaSchema (schema_at d)) ((ps ++ own) ++ reference_pairs base d)) c.get-value.ensures.value all)

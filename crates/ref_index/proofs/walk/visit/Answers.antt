@@ -1,7 +1,7 @@
 use Rattle.std.proofs.Common.{◌≡◌, ◌∙◌, Ok, sym, ap, subst, map, option_map, rules}
 use Rattle.std.proofs.lemmas.Option.{get_or_from_slice_get}
-use Rattle.ref_draft.specs.Children.{walked}
-use Rattle.ref_world.specs.Places.{child_place, children_with}
+use Rattle.ref_draft.specs.Children.{walked_children}
+use Rattle.ref_definitions.specs.Places.{child_place, children_with}
 use Rattle.ref_index.specs.Queue.{place_of, value_of}
 use Rattle.ref_index.specs.Visits.{IsVisited}
 use Rattle.ref_index.proofs.walk.visit.Goals as goal
@@ -18,7 +18,7 @@ returns-clause-ok c = λ v at.
       faultless = c.in_ok-base.ensures.faultless;
       more = pushed.0;
       grown = pushed.1;
-      children = pushed.2 ∙ ap (λ l. map (child_place l c.in_ok-base.base.value) (walked w.draft (value_of w.value))) path ∙ ap (λ b. children_with b (place_of w)) (sym based);
+      children = pushed.2 ∙ ap (λ l. map (child_place l c.in_ok-base.base.value) (walked_children w.draft (value_of w.value))) path ∙ ap (λ b. children_with b (place_of w)) (sym based);
       stand = pushed.3;
     } in
     subst (λ u. IsVisited c.args.number (option_map (λ u. u.now.value) c.args.under) u c.args.found.now c.settle.new.found c.args.queue.now.items c.push_children.new.queue.items) same visited

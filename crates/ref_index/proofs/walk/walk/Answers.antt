@@ -1,7 +1,7 @@
 use Rattle.std.proofs.Common.{◌≡◌, ◌∙◌, ◌∷◌, ◌++◌, [], ◌<◌, ap, subst, get_or, length, Some, flat_map, arith, rules}
 use Rattle.std.specs.Prelude.{slice_get}
 use Rattle.std.proofs.lemmas.Option.{slice_get-get_or}
-use Rattle.ref_world.specs.Places.{places, root, levels_below}
+use Rattle.ref_definitions.specs.Places.{places, root, levels_below}
 use Rattle.serde_json.specs.Data.{depth}
 use Rattle.ref_index.specs.Document.{document_of}
 use Rattle.ref_index.specs.Queue.{place_of, IsQueue}

@@ -1,5 +1,5 @@
 use Rattle.std.proofs.Common.{◌-◌, length}
-use Rattle.ref_world.specs.Places.{places}
+use Rattle.ref_definitions.specs.Places.{places}
 use Rattle.ref_index.specs.Document.{document_of}
 use Rattle.ref_index.specs.Visits.{IsAt}
 use Rattle.ref_index.proofs.walk.walk.Given as goal

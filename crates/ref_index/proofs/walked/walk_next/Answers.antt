@@ -4,7 +4,7 @@ use Rattle.std.proofs.lemmas.List.{map-append, length-map}
 use Rattle.std.proofs.lemmas.Option.{get_or_from_slice_get}
 use Rattle.ref_index.specs.Document.{document_of}
 use Rattle.ref_index.specs.Visits.{IsFound, IsWalked}
-use Rattle.ref_world.specs.Places.{places}
+use Rattle.ref_definitions.specs.Places.{places}
 use Rattle.ref_index.proofs.Layers.{at_length, found_more}
 use Rattle.ref_index.proofs.walked.walk_next.Goals as goal
 

@@ -1,6 +1,6 @@
 use Rattle.std.proofs.Common.{◌≡◌, [], map, Some, refl, rules}
 use Rattle.ref_parts.specs.Segment.{part_of}
-use Rattle.ref_world.specs.Lookup.{lookup}
+use Rattle.ref_definitions.specs.Lookup.{lookup}
 use Rattle.ref_index.specs.Listing.{listed_of}
 use Rattle.ref_lint.specs.inner.Listed.{reference_of, IsWhy}
 use Rattle.ref_lint.proofs.Saying.{leads_nowhere}

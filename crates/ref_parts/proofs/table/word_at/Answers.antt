@@ -5,7 +5,7 @@ use Rattle.ref_parts.specs.inner.SortedEntries.{big_endian}
 use Rattle.ref_parts.proofs.SlotLaws.{number_of_filled, number_of_eight}
 use Rattle.ref_parts.proofs.table.word_at.Goals as goal
 
--- what stands behind the place, as it is cut out
+-- what is after the place, as it is cut out
 abbrev rest : List ℕ → ℕ → List ℕ
 rest bytes cut = take (length bytes - cut) (drop cut bytes)
 

@@ -1,5 +1,5 @@
 use Rattle.std.proofs.Common.{◌≡◌, [], map, unwrap_or, refl, ap}
-use Rattle.ref_world.specs.Pending.{builder_draft}
+use Rattle.ref_definitions.specs.Pending.{builder_draft}
 use Rattle.ref_report.specs.Report.{step_in, steps_of}
 use Rattle.ref_report.specs.inner.View.{request_view, step_view, report_view}
 use Rattle.ref_report.proofs.Options.{if_so}

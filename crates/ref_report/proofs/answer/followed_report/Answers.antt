@@ -1,5 +1,5 @@
 use Rattle.std.proofs.Common.{map}
-use Rattle.ref_world.specs.Follow.{followed}
+use Rattle.ref_definitions.specs.Follow.{followed_steps}
 use Rattle.referencing.specs.Following.{step_of, followed_of}
 use Rattle.ref_report.specs.inner.View.{report_view}
 use Rattle.ref_report.proofs.Options.{if_so}
@@ -13,11 +13,11 @@ done_report-requires c =
 
 pub returns-in-Ok : goal.returns-in-Ok
 returns-in-Ok c =
-    let answer = followed c.args.registry.now c.args.base (map step_of c.args.steps.now) in
+    let answer = followed_steps c.args.registry.now c.args.base (map step_of c.args.steps.now) in
     if_so _ _ c.done_report.result (λ report is. done_is answer (followed_of c.in-Ok.followed) (report_view report) c.in-Ok.ensures.ok is) c.done_report.ensures
 
 pub returns-in-Err : goal.returns-in-Err
 returns-in-Err c =
-    let answer = followed c.args.registry.now c.args.base (map step_of c.args.steps.now) in
+    let answer = followed_steps c.args.registry.now c.args.base (map step_of c.args.steps.now) in
     let fault = c.in-Err.fault in
     if_so _ _ c.step_report.result (λ report is. step_is answer fault.step fault.error (report_view report) c.in-Err.ensures.fault is) c.step_report.ensures

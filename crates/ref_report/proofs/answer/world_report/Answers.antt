@@ -1,6 +1,6 @@
 use Rattle.std.proofs.Common.{◌≡◌, map, ap, ◌∙◌}
-use Rattle.ref_world.specs.Follow.{followed}
-use Rattle.ref_world.specs.Pending.{builder_draft}
+use Rattle.ref_definitions.specs.Follow.{followed_steps}
+use Rattle.ref_definitions.specs.Pending.{builder_draft}
 use Rattle.referencing.specs.Following.{step_of}
 use Rattle.ref_report.specs.Report.{step_in, followed_report, lint_lines, with_lines}
 use Rattle.ref_report.specs.inner.View.{step_view, report_view}
@@ -15,5 +15,5 @@ returns c =
     ∙ ap (λ d. map (step_in d) (map step_view c.args.steps.now)) c.unwrap_or-draft.ensures in
     if_so _ _ c.linted.result
     (λ report is. is ∙ ap (λ lint. with_lines (lint_lines lint world) (report_view c.in_ok-report.report)) c.unwrap_or.ensures
-    ∙ ap (with_lines _) (c.in_ok-report.ensures ∙ ap (λ s. followed_report (followed world c.args.base s)) steps))
+    ∙ ap (with_lines _) (c.in_ok-report.ensures ∙ ap (λ s. followed_report (followed_steps world c.args.base s)) steps))
     c.linted.ensures

@@ -1,12 +1,12 @@
-use Rattle.std.proofs.Common.{◌≡◌, ℕ, List, Result, [], IfOk, IfErr, Ok, sym, ap, subst, ◌∙◌, rules}
-use Rattle.ref_world.specs.Fault.{Fault}
-use Rattle.ref_world.specs.Anchors.{Named, anchor}
-use Rattle.ref_world.specs.Lookup.{by_scope, in_scope}
+use Rattle.std.proofs.Common.{◌≡◌, ℕ, List, Result, [], Ok, ap, subst, ◌∙◌, rules}
+use Rattle.ref_definitions.specs.Fault.{Fault}
+use Rattle.ref_definitions.specs.Anchors.{Named, anchor}
+use Rattle.ref_definitions.specs.Lookup.{by_scope, in_scope}
 use Rattle.ref_retrieve.specs.Errors.{IsFaultOf}
-use Rattle.ref_resolver.specs.Resolving.{resolver_of, world_of, found_of}
+use Rattle.ref_resolver.specs.Resolving.{resolver_of, world_of}
 use Rattle.ref_resolver.specs.Scoped.{dynamic_under}
 use Rattle.ref_resolver.proofs.Faults.{fault_as}
-use Rattle.ref_resolver.proofs.Scoping.{from_here, passed, taken, ended, found_under}
+use Rattle.ref_resolver.proofs.Scoping.{from_here, passed, taken, ended}
 use Rattle.ref_resolver.proofs.fragment.outermost.Goals as goal
 
 pub returns-in_err-found-clause-fault : goal.returns-in_err-found-clause-fault
@@ -64,12 +64,4 @@ returns-clause-ok c = λ n is.
     let w = world_of c.args.resolver.now in
     let (m, same, at) = c.loop-outer.invariant.0 n is in
     let left = ap (λ xs. from_here r (c.loop-outer.uri.now, m) (in_scope w c.args.name.now xs)) c.in-None.ensures.steps.0 in
-    subst (λ a. IfOk c.under_uri.result (λ found. a ≡ Ok (found_of found))) (sym (same ∙ left ∙ found_under r c.loop-outer.uri.now m c.loop-outer.place at)) c.under_uri.ensures.ok
-
-pub returns-clause-fault : goal.returns-clause-fault
-returns-clause-fault c = λ n is.
-    let r = resolver_of c.args.resolver.now in
-    let w = world_of c.args.resolver.now in
-    let (m, same, at) = c.loop-outer.invariant.0 n is in
-    let left = ap (λ xs. from_here r (c.loop-outer.uri.now, m) (in_scope w c.args.name.now xs)) c.in-None.ensures.steps.0 in
-    subst (λ a. IfErr c.under_uri.result (IsFaultOf a)) (sym (same ∙ left ∙ found_under r c.loop-outer.uri.now m c.loop-outer.place at)) c.under_uri.ensures.fault
+    (m, same ∙ left, at)

@@ -1,9 +1,9 @@
 use Rattle.std.proofs.Common.{rules}
-use Rattle.ref_uri.specs.Targets.{against}
+use Rattle.ref_uri.specs.Targets.{uri_against}
 use Rattle.ref_retrieve.proofs.Saying.{refused_uri}
 use Rattle.ref_resolver.proofs.layers.anew.Goals as goal
 
 pub returns-in_err-uri-clause-fault : goal.returns-in_err-uri-clause-fault
 returns-in_err-uri-clause-fault c =
-    let fault = refused_uri (against c.args.base c.args.uri.now) c.in_err-uri.field-0.0 c.in_err-uri.ensures.fault in
+    let fault = refused_uri (uri_against c.args.base c.args.uri.now) c.in_err-uri.field-0.0 c.in_err-uri.ensures.fault in
     search rules

@@ -1,6 +1,11 @@
-use Rattle.std.proofs.Common.{◌≡◌, map, drop}
-use Rattle.ref_world.specs.Anchors.{named}
+use Rattle.std.proofs.Common.{◌≡◌, ◌≤◌, ◌-◌, length, map, drop}
+use Rattle.ref_definitions.specs.Anchors.{named_entry}
 use Rattle.ref_resolver.proofs.located.named_above.Given as goal
 
-abbrev pub invariant-loop-parent : goal.invariant-loop-parent
-invariant-loop-parent l = named (map (λ p. p.now) l.parents) l.uri l.name ≡ named (map (λ p. p.now) (drop l.parent-index l.parents)) l.uri l.name
+abbrev pub invariant-loop-number : goal.invariant-loop-number
+invariant-loop-number l =
+    (l.number ≤ length l.parents)
+    × (named_entry (map (λ p. p.now) l.parents) l.uri l.name ≡ named_entry (map (λ p. p.now) (drop l.number l.parents)) l.uri l.name)
+
+abbrev pub decreases-loop-number : goal.decreases-loop-number
+decreases-loop-number l = length l.parents - l.number

@@ -4,7 +4,7 @@ use Rattle.std.specs.Str.{IsUtf8}
 use Rattle.percent_encoding.specs.Percent.{percent_decode}
 use Rattle.percent_encoding.specs.Iter.{decoded_bytes}
 use Rattle.serde_json.specs.View.{view}
-use Rattle.ref_world.specs.Fault.{InvalidPercentEncoding}
+use Rattle.ref_definitions.specs.Fault.{InvalidPercentEncoding}
 use Rattle.ref_retrieve.specs.Errors.{IsFaultOf}
 use Rattle.ref_resolver.specs.Walking.{pointed_to}
 use Rattle.ref_resolver.proofs.Faults.{says_of}

@@ -1,6 +1,6 @@
 use Rattle.std.proofs.Common.{ap, ok_or, option_map}
 use Rattle.serde_json.specs.View.{view}
-use Rattle.ref_world.specs.Fault.{PointerToNowhere}
+use Rattle.ref_definitions.specs.Fault.{PointerToNowhere}
 use Rattle.ref_resolver.proofs.Faults.{says_of}
 use Rattle.ref_resolver.proofs.pointed.found.Goals as goal
 

@@ -1,6 +1,6 @@
 use Rattle.std.proofs.Common.{sym, ap, ◌∙◌, ok_or}
-use Rattle.ref_world.specs.Fault.{InvalidArrayIndex}
-use Rattle.ref_world.specs.Pointers.{index_of}
+use Rattle.ref_definitions.specs.Fault.{InvalidArrayIndex}
+use Rattle.ref_definitions.specs.Pointers.{index_of}
 use Rattle.ref_resolver.proofs.Faults.{says_of}
 use Rattle.ref_resolver.proofs.pointed.index_in.Goals as goal
 

@@ -4,8 +4,8 @@ use Rattle.ref_draft.specs.Schema.{identifier}
 use Rattle.ref_draft.specs.Children.{is_object}
 use Rattle.ref_draft.specs.ScanSteps.{scan}
 use Rattle.ref_draft.specs.Views.{part_of}
-use Rattle.ref_world.specs.Places.{base_within}
-use Rattle.ref_world.specs.Fault.{as_invalid_uri}
+use Rattle.ref_definitions.specs.Places.{base_within}
+use Rattle.ref_definitions.specs.Fault.{as_invalid_uri}
 use Rattle.ref_retrieve.specs.Errors.{IsFaultOf}
 use Rattle.ref_resolver.specs.Walking.{along_of}
 use Rattle.ref_resolver.proofs.Pointing.{step_refused}

@@ -1,6 +1,6 @@
 use Rattle.std.proofs.Common.{◌≡◌, refl, sym, ◌∙◌, codes, Ok, Err}
-use Rattle.ref_uri.specs.Targets.{unparsed}
-use Rattle.ref_world.specs.Fault as fault
+use Rattle.ref_uri.specs.Targets.{parse_refusal}
+use Rattle.ref_definitions.specs.Fault as fault
 use Rattle.ref_retrieve.proofs.laws.fault_rows.Goals as goal
 
 pub returns : goal.returns
@@ -14,6 +14,6 @@ returns c = record {
     source_of_memory_says_none = λ uri e wanted text says. says.1;
     memory_in_any_case = λ e. tt;
     no_fault_of_an_answer = λ p is. let e : Ok (codes "a") ≡ Err is.0 = is.1 in cc;
-    fault_of_a_refusal = λ u is. (fault.InvalidUri (unparsed (codes "a b")), refl, (is, refl, refl));
+    fault_of_a_refusal = λ u is. (fault.InvalidUri (parse_refusal (codes "a b")), refl, (is, refl, refl));
   };
 }

@@ -20,7 +20,7 @@ returns-in_err-brackets-clause-none c =
     brackets_none text c.requires (subst (λ (l : List ℕ). (n : ℕ) → n ≤ length l → is_address_and_bracket (take n l) ≡ true → ⊥) is (λ n le h. (let e = found n le h in cc))) in
     subst (λ (o : Option ℕ). IfNone o (is_host_and_port (before_first ends_authority text) ≡ false)) (sym c.from_residual.ensures) none
 
--- the address and its `]` behind the `[`
+-- the address and its `]` after the `[`
 within : (c : goal.After-port_len) → c.in_ok-brackets.field-0 ≤ length (drop 1 c.args.text.now)
 within c = subst (λ (l : List ℕ). c.in_ok-brackets.field-0 ≤ length l) (take_rest c.args.text.now 1) c.in_ok-brackets.ensures.within
 

@@ -4,7 +4,7 @@ use Rattle.std.proofs.lemmas.List.{take-append-drop}
 use Rattle.std.proofs.lemmas.Result.{on_ok_weaker, MatchResult-weaker}
 use Rattle.ref_uri.specs.Characters.{has_whole_triples}
 use Rattle.ref_uri.specs.DotSegments.{segments}
-use Rattle.ref_uri.specs.inner.Written.{written}
+use Rattle.ref_uri.specs.inner.Written.{written_text}
 use Rattle.ref_uri.specs.inner.Removal.{path_then, progress_then, path_after, progress_after}
 use Rattle.ref_uri.proofs.LastSlash.{is_slash}
 use Rattle.ref_uri.proofs.NormalLemmas.{whole_behind}
@@ -29,8 +29,8 @@ segments-preserved c =
     let progress = c.segments.progress in
     let cut = cut_off rest len inv.5 (omega arith) ∙ ap (λ t. take len rest ∷ segments t) (sym c.tail-rest.ensures.value) in (
       left_on form c.args.start _ _ _ c.args.progress progress c.in_ok-progress.progress c.args.path.now rest (take len rest) c.tail-rest.result.now inv.0 cut
-          (λ before w e n. c.in_ok-progress.ensures.text before w e n ∙ ap (λ s. before ++ path_then progress w (written form s)) c.head.ensures)
-          (c.in_ok-progress.ensures.progress ∙ ap (λ s. progress_then progress (written form s)) c.head.ensures),
+          (λ before w e n. c.in_ok-progress.ensures.text before w e n ∙ ap (λ s. before ++ path_then progress w (written_text form s)) c.head.ensures)
+          (c.in_ok-progress.ensures.progress ∙ ap (λ s. progress_then progress (written_text form s)) c.head.ensures),
       c.in_ok-progress.ensures.ascii,
       c.in_ok-progress.ensures.start,
       c.tail-rest.ensures.ascii,
@@ -47,7 +47,7 @@ returns-clause-text c = λ before path e n.
     let so_far = inv.0.text before path e n in
     let whole = whole_segment c.segments.rest.now c.segments.len inv.5 (omega arith) in
     on_ok_weaker c.push_segment-2.result
-    (λ is. is ∙ ap (λ t. before ++ t) (ap (λ ss. path_after c.segments.progress so_far.0 (map (written form) ss)) (sym whole) ∙ so_far.2))
+    (λ is. is ∙ ap (λ t. before ++ t) (ap (λ ss. path_after c.segments.progress so_far.0 (map (written_text form) ss)) (sym whole) ∙ so_far.2))
     (c.push_segment-2.ensures.text before so_far.0 so_far.1 n)
 
 pub returns-clause-progress : goal.returns-clause-progress
@@ -56,4 +56,4 @@ returns-clause-progress c =
     let inv = c.segments.invariant in
     let whole = whole_segment c.segments.rest.now c.segments.len inv.5 (omega arith) in
     MatchResult-weaker c.push_segment-2.result c.push_segment-2.ensures.progress
-    (λ p is. is ∙ ap (λ ss. progress_after c.segments.progress (map (written form) ss)) (sym whole) ∙ inv.0.is) (λ _ h. h)
+    (λ p is. is ∙ ap (λ ss. progress_after c.segments.progress (map (written_text form) ss)) (sym whole) ∙ inv.0.is) (λ _ h. h)

@@ -6,11 +6,11 @@ use Rattle.ref_uri.specs.declared.dots.Segment.TheVariants.{Name, Dot, DotDot}
 use Rattle.ref_uri.proofs.NormalLemmas.{drop_past}
 use Rattle.ref_uri.proofs.dots.settle_next.Goals as goal
 
--- what stands before the slash
+-- what is before the slash
 in_front : (buffer front segment : List ℕ) (end : ℕ) → buffer ≡ front ++ 47 ∷ segment → length front ≡ end → take end buffer ≡ front
 in_front buffer front segment end e n = ap (λ t. take end t) e ∙ take_at front (47 ∷ segment) end n
 
--- what the segment behind it asks
+-- what the segment after it asks
 asked : (asks : Segment) (last buffer front segment : List ℕ) (end : ℕ) → asks ≡ segment_of last → last ≡ drop (end + 1) buffer → buffer ≡ front ++ 47 ∷ segment → length front ≡ end → segment_of segment ≡ asks
 asked asks last buffer front segment end is behind e n =
     let there : drop (end + 1) buffer ≡ segment = ap (λ k. drop (k + 1) buffer) (sym n) ∙ ap (λ t. drop (length front + 1) t) e ∙ drop_past front 47 segment in

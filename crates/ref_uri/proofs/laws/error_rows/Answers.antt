@@ -1,5 +1,5 @@
 use Rattle.std.proofs.Common.{refl, codes}
-use Rattle.ref_uri.specs.Targets.{unparsed}
+use Rattle.ref_uri.specs.Targets.{parse_refusal}
 use Rattle.ref_uri.proofs.laws.error_rows.Goals as goal
 
 pub returns : goal.returns
@@ -20,6 +20,6 @@ returns c = record {
     says = λ uri is. (is, refl, refl);
     says_no_other = λ uri says. says;
     memory_in_any_case = λ e. tt;
-    fault_of_a_refusal = λ uri is. (unparsed (codes "a b"), refl, (is, refl, refl));
+    fault_of_a_refusal = λ uri is. (parse_refusal (codes "a b"), refl, (is, refl, refl));
   };
 }

@@ -1,5 +1,5 @@
 use Rattle.std.proofs.Common.{ℕ, List, ap}
-use Rattle.ref_uri.specs.Normal.{normal}
+use Rattle.ref_uri.specs.Normal.{normal_components}
 use Rattle.ref_uri.specs.inner.Target.{components_of, written_path}
 use Rattle.ref_uri.specs.declared.written.Form.TheVariants.{Normal}
 use Rattle.ref_uri.proofs.UniqueLemmas.{tested}
@@ -9,7 +9,7 @@ use Rattle.ref_uri.proofs.target.itself.Goals as goal
 pub returns-clause-value : goal.returns-clause-value
 returns-clause-value c =
     let reference = components_of c.args.reference in
-    ap (λ (path : List ℕ). record (normal reference) { path = path }) (own_path reference c.requires (written_path Normal c.own_path.result) c.own_path.ensures.with_scheme c.own_path.ensures.without_scheme)
+    ap (λ (path : List ℕ). record (normal_components reference) { path = path }) (own_path reference c.requires (written_path Normal c.own_path.result) c.own_path.ensures.with_scheme c.own_path.ensures.without_scheme)
 
 pub returns-clause-target : goal.returns-clause-target
 returns-clause-target c =

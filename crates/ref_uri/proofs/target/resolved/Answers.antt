@@ -3,7 +3,7 @@ use Rattle.std.proofs.lemmas.Bool.Decides.{nat_tests}
 use Rattle.ref_uri.specs.Characters.{is_path_character}
 use Rattle.ref_uri.specs.Components.{is_query, if_there}
 use Rattle.ref_uri.specs.DotSegments.{remove_dot_segments}
-use Rattle.ref_uri.specs.Normal.{guarded, normal, normal_text}
+use Rattle.ref_uri.specs.Normal.{guarded_path, normal_components, normal_text}
 use Rattle.ref_uri.specs.inner.Target.{components_of, written_path, path_behind}
 use Rattle.ref_uri.specs.inner.Written.{is_plain, the_front, the_rest}
 use Rattle.std.specs.Str.{IsAscii}
@@ -62,14 +62,14 @@ pub returns-then-is_some-clause-value : goal.returns-then-is_some-clause-value
 returns-then-is_some-clause-value c =
     let base = components_of c.args.base in
     let r = components_of c.args.reference in
-    as_given r.scheme r.authority (guarded r.authority (remove_dot_segments r.path)) r.query r.fragment
+    as_given r.scheme r.authority (guarded_path r.authority (remove_dot_segments r.path)) r.query r.fragment
     ∙ sym (resolved_of_scheme base r (still_there c.args.reference.scheme (sym c.is_some.ensures ∙ c.if-is_some.true)))
 
 pub returns-then-is_some-2-clause-value : goal.returns-then-is_some-2-clause-value
 returns-then-is_some-2-clause-value c =
     let base = components_of c.args.base in
     let r = components_of c.args.reference in
-    as_given base.scheme r.authority (guarded r.authority (remove_dot_segments r.path)) r.query r.fragment
+    as_given base.scheme r.authority (guarded_path r.authority (remove_dot_segments r.path)) r.query r.fragment
     ∙ sym (resolved_of_authority base r (none_there c.args.reference.scheme (sym c.is_some.ensures ∙ c.if-is_some.false)) (still_there c.args.reference.authority (sym c.is_some-2.ensures ∙ c.if-is_some-2.true)))
 
 pub returns-then-is_empty-clause-value : goal.returns-then-is_empty-clause-value
@@ -78,8 +78,8 @@ returns-then-is_empty-clause-value c =
     let r = components_of c.args.reference in
     let scheme = none_there c.args.reference.scheme (sym c.is_some.ensures ∙ c.if-is_some.false) in
     let authority = none_there c.args.reference.authority (sym c.is_some-2.ensures ∙ c.if-is_some-2.false) in
-    as_given base.scheme base.authority (guarded base.authority base.path) (option_copied c.or.result) r.fragment
-    ∙ ap (λ q. the_components base.scheme base.authority (guarded base.authority base.path) q r.fragment) (ap option_copied c.or.ensures ∙ or_is_query_or c.args.reference.query c.args.base.query)
+    as_given base.scheme base.authority (guarded_path base.authority base.path) (option_copied c.or.result) r.fragment
+    ∙ ap (λ q. the_components base.scheme base.authority (guarded_path base.authority base.path) q r.fragment) (ap option_copied c.or.ensures ∙ or_is_query_or c.args.reference.query c.args.base.query)
     ∙ sym (resolved_of_base base r scheme authority (sym c.is_empty.ensures ∙ c.if-is_empty.true))
 
 pub returns-clause-value : goal.returns-clause-value
@@ -88,8 +88,8 @@ returns-clause-value c =
     let reference = components_of c.args.reference in
     let scheme = none_there c.args.reference.scheme (sym c.is_some.ensures ∙ c.if-is_some.false) in
     let authority = none_there c.args.reference.authority (sym c.is_some-2.ensures ∙ c.if-is_some-2.false) in
-    as_given base.scheme base.authority (guarded base.authority (written_path Given c.path_behind.result)) reference.query reference.fragment
-    ∙ ap (λ path. the_components base.scheme base.authority (guarded base.authority path) reference.query reference.fragment) c.path_behind.ensures.value
+    as_given base.scheme base.authority (guarded_path base.authority (written_path Given c.path_behind.result)) reference.query reference.fragment
+    ∙ ap (λ path. the_components base.scheme base.authority (guarded_path base.authority path) reference.query reference.fragment) c.path_behind.ensures.value
     ∙ sym (resolved_path base reference scheme authority (sym c.is_empty.ensures ∙ c.if-is_empty.false))
 
 pub returns-then-is_some-clause-normal : goal.returns-then-is_some-clause-normal
@@ -97,7 +97,7 @@ returns-then-is_some-clause-normal c = λ based.
     let base = components_of c.args.base in
     let r = components_of c.args.reference in
     let there = still_there c.args.reference.scheme (sym c.is_some.ensures ∙ c.if-is_some.true) in
-    normal_parts_are r.scheme r.authority r.path (remove_dot_segments (normal_text r.path)) r.query r.fragment there refl ∙ ap normal (sym (dots_with_scheme base r there))
+    normal_parts_are r.scheme r.authority r.path (remove_dot_segments (normal_text r.path)) r.query r.fragment there refl ∙ ap normal_components (sym (dots_with_scheme base r there))
 
 pub returns-then-is_some-2-clause-normal : goal.returns-then-is_some-2-clause-normal
 returns-then-is_some-2-clause-normal c = λ based.
@@ -105,7 +105,7 @@ returns-then-is_some-2-clause-normal c = λ based.
     let r = components_of c.args.reference in
     let scheme = none_there c.args.reference.scheme (sym c.is_some.ensures ∙ c.if-is_some.false) in
     normal_parts_are base.scheme r.authority r.path (remove_dot_segments (normal_text r.path)) r.query r.fragment based refl
-    ∙ ap normal (sym (dots_with_authority base r scheme (still_there c.args.reference.authority (sym c.is_some-2.ensures ∙ c.if-is_some-2.true))))
+    ∙ ap normal_components (sym (dots_with_authority base r scheme (still_there c.args.reference.authority (sym c.is_some-2.ensures ∙ c.if-is_some-2.true))))
 
 pub returns-then-is_empty-clause-normal : goal.returns-then-is_empty-clause-normal
 returns-then-is_empty-clause-normal c = λ based.
@@ -114,8 +114,8 @@ returns-then-is_empty-clause-normal c = λ based.
     let scheme = none_there c.args.reference.scheme (sym c.is_some.ensures ∙ c.if-is_some.false) in
     let authority = none_there c.args.reference.authority (sym c.is_some-2.ensures ∙ c.if-is_some-2.false) in
     normal_parts_are base.scheme base.authority base.path (remove_dot_segments (normal_text base.path)) (option_copied c.or.result) r.fragment based refl
-    ∙ ap (λ q. normal (the_components base.scheme base.authority base.path q r.fragment)) (ap option_copied c.or.ensures ∙ or_is_query_or c.args.reference.query c.args.base.query)
-    ∙ ap normal (sym (dots_of_base base r scheme authority (sym c.is_empty.ensures ∙ c.if-is_empty.true)))
+    ∙ ap (λ q. normal_components (the_components base.scheme base.authority base.path q r.fragment)) (ap option_copied c.or.ensures ∙ or_is_query_or c.args.reference.query c.args.base.query)
+    ∙ ap normal_components (sym (dots_of_base base r scheme authority (sym c.is_empty.ensures ∙ c.if-is_empty.true)))
 
 pub returns-clause-normal : goal.returns-clause-normal
 returns-clause-normal c = λ based.
@@ -124,7 +124,7 @@ returns-clause-normal c = λ based.
     let scheme = none_there c.args.reference.scheme (sym c.is_some.ensures ∙ c.if-is_some.false) in
     let authority = none_there c.args.reference.authority (sym c.is_some-2.ensures ∙ c.if-is_some-2.false) in
     normal_parts_are base.scheme base.authority (path_behind base r.path) (written_path Normal c.path_behind.result) r.query r.fragment based c.path_behind.ensures.normal
-    ∙ ap normal (sym (dots_behind base r scheme authority (sym c.is_empty.ensures ∙ c.if-is_empty.false)))
+    ∙ ap normal_components (sym (dots_behind base r scheme authority (sym c.is_empty.ensures ∙ c.if-is_empty.false)))
 
 pub returns-then-is_some-clause-plain : goal.returns-then-is_some-clause-plain
 returns-then-is_some-clause-plain c = λ base reference. record { path = reference.path; query = reference.query; fragment = reference.fragment }

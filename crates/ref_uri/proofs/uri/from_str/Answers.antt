@@ -2,7 +2,7 @@ use Rattle.std.proofs.Common.{◌≡◌, Ok, true, false, is_some, refl, ap, sym
 use Rattle.ref_uri.specs.Components.{scheme}
 use Rattle.ref_uri.specs.Normal.{normal_form}
 use Rattle.ref_uri.specs.Reference.{is_uri_reference}
-use Rattle.ref_uri.specs.Targets.{unparsed, parsed}
+use Rattle.ref_uri.specs.Targets.{parse_refusal, uri_of}
 use Rattle.ref_uri.proofs.DefaultTarget.{default_text, default_uri}
 use Rattle.ref_uri.proofs.Meanings.{parsed_with_scheme, parsed_without_scheme, parsed_refused, fault_moved, fault_passed, default_has_scheme}
 use Rattle.ref_uri.proofs.uri.from_str.Goals as goal
@@ -11,8 +11,8 @@ pub returns-in_err-reference-clause-fault : goal.returns-in_err-reference-clause
 returns-in_err-reference-clause-fault c =
     let text = c.args.uri.now in
     let fault = c.in_err-reference.field-0.0 in
-    fault_passed c.from_residual.result fault (parsed text) c.from_residual.ensures.1
-    (fault_moved (parsed text) (unparsed text) fault (is_uri_reference text ≡ false) c.in_err-reference.ensures.refused c.in_err-reference.ensures.invalid (parsed_refused text))
+    fault_passed c.from_residual.result fault (uri_of text) c.from_residual.ensures.1
+    (fault_moved (uri_of text) (parse_refusal text) fault (is_uri_reference text ≡ false) c.in_err-reference.ensures.refused c.in_err-reference.ensures.invalid (parsed_refused text))
 
 pub from_written-requires : goal.from_written-requires
 from_written-requires c = (c.in_ok-text.ensures.parsed, c.in_ok-text.ensures.scheme ∙ sym c.has_scheme.ensures.value ∙ c.if-has_scheme.true)

@@ -1,14 +1,14 @@
 use Rattle.std.proofs.Common.{[], string_bytes}
 use Rattle.serde_json.specs.View.{view, members_view}
-use Rattle.ref_world.specs.Fault.{as_invalid_uri}
-use Rattle.ref_world.specs.Vocabularies.{of_known, collected}
+use Rattle.ref_definitions.specs.Fault.{as_invalid_uri}
+use Rattle.ref_definitions.specs.Vocabularies.{of_known, collected_set}
 use Rattle.ref_retrieve.specs.Errors.{IsFaultOf}
 use Rattle.ref_vocabularies.proofs.Faults.{passed, key_refused}
 use Rattle.ref_vocabularies.proofs.meta_schema.collected.Goals as goal
 
 pub returns-in_err-add_member-clause-fault : goal.returns-in_err-add_member-clause-fault
 returns-in_err-add_member-clause-fault c =
-    let whole = collected (of_known []) (members_view c.args.members.now.entries) in
+    let whole = collected_set (of_known []) (members_view c.args.members.now.entries) in
     let error = c.in_err-add_member.field-0.0 in
     let left = rw c.in-Some.ensures.steps at c.loop-key.invariant in
     let refused = rw c.as_str.ensures.value at c.in_err-add_member.ensures.fault in

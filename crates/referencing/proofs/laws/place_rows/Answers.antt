@@ -1,12 +1,12 @@
 use Rattle.std.proofs.Common.{refl, sym, ap, ◌∙◌, codes, inr, true≢false}
 use Rattle.ref_draft.specs.declared.draft.Draft.TheVariants.{Draft7}
 use Rattle.ref_draft.specs.Children.{is_object}
-use Rattle.ref_world.specs.Places.{root}
-use Rattle.ref_world.specs.Lookup.{Found}
-use Rattle.ref_world.specs.Agreement.{itself}
-use Rattle.ref_world.specs.Rows.{at, yes}
-use Rattle.ref_world.proofs.ReadAlike.{read_alike}
-use Rattle.ref_world.proofs.OnLiterals.{world_on_literals}
+use Rattle.ref_definitions.specs.Places.{root}
+use Rattle.ref_definitions.specs.Lookup.{Found}
+use Rattle.ref_definitions.specs.Agreement.{itself}
+use Rattle.ref_definitions.specs.Rows.{at, yes}
+use Rattle.ref_definitions.proofs.ReadAlike.{read_alike}
+use Rattle.ref_definitions.proofs.OnLiterals.{world_on_literals}
 use Rattle.referencing.proofs.laws.place_rows.Goals as goal
 
 pub returns : goal.returns

@@ -1,16 +1,16 @@
 use Rattle.std.proofs.Common.{◌≡◌, refl, sym, subst, List, [], ◌∷◌, codes, Ok, Err, Result, arith}
 use Rattle.std.specs.Prelude.{String}
 use Rattle.std.specs.declared.alloc.Global.{Global}
-use Rattle.ref_uri.specs.Targets.{unparsed}
-use Rattle.ref_world.specs.Fault as fault
-use Rattle.ref_world.specs.World.{Layer}
-use Rattle.ref_world.specs.Pending.{Pending}
-use Rattle.ref_world.specs.Preparing.{begun, ready, limited, IsOutcome}
-use Rattle.ref_world.specs.Closure.{IsUsedUp}
-use Rattle.ref_world.specs.Rows.{world, given_alone, given_with, refers_to_b, c_is_true}
-use Rattle.ref_world.proofs.Closure.{documents_alone, outcome_laws}
-use Rattle.ref_world.proofs.Retrieval.{want_of_b}
-use Rattle.ref_world.proofs.OnLiterals.{world_on_literals}
+use Rattle.ref_uri.specs.Targets.{parse_refusal}
+use Rattle.ref_definitions.specs.Fault as fault
+use Rattle.ref_definitions.specs.World.{Layer}
+use Rattle.ref_definitions.specs.Pending.{Pending}
+use Rattle.ref_definitions.specs.Preparing.{begun, ready, limited, IsOutcome}
+use Rattle.ref_definitions.specs.Closure.{IsUsedUp}
+use Rattle.ref_definitions.specs.Rows.{world, given_alone, given_with, refers_to_b, c_is_true}
+use Rattle.ref_definitions.proofs.Closure.{documents_alone, outcome_laws}
+use Rattle.ref_definitions.proofs.Retrieval.{want_of_b}
+use Rattle.ref_definitions.proofs.OnLiterals.{world_on_literals}
 use Rattle.ref_retrieve.specs.declared.error.Error.TheVariants.{NoSuchAnchor}
 use Rattle.ref_retrieve.specs.Errors.{SaysFault}
 use Rattle.referencing.proofs.laws.preparing_rows.Goals as goal
@@ -33,8 +33,8 @@ no_error f same = cc
 first_layer : (layer : Layer) → world [] ≡ layer ∷ [] → [] ≡ layer
 first_layer layer is = cc
 
-no_anchor : (p : String Global) (f : fault.Fault) → the_pending (Err (fault.InvalidUri (unparsed (codes "a b")))) ≡ Err f → SaysFault (NoSuchAnchor p) f → ⊥
-no_anchor p f is says = let same : f ≡ fault.InvalidUri (unparsed (codes "a b")) = cc in subst (SaysFault (NoSuchAnchor p)) same says
+no_anchor : (p : String Global) (f : fault.Fault) → the_pending (Err (fault.InvalidUri (parse_refusal (codes "a b")))) ≡ Err f → SaysFault (NoSuchAnchor p) f → ⊥
+no_anchor p f is says = let same : f ≡ fault.InvalidUri (parse_refusal (codes "a b")) = cc in subst (SaysFault (NoSuchAnchor p)) same says
 
 is_ready : IsOutcome (given_alone alone) (Ok alone)
 unfolding world_on_literals
@@ -54,7 +54,7 @@ returns c = record {
     no_fault = λ uri is. no_error is.0 (documents_alone (given_alone alone) (Err is.0) refl refl is.1);
     used_up = λ uri is. subst (λ u. IsUsedUp (given_with 0) u 0) (sym is) ((outcome_laws (given_with 0)).used_up (codes "http://a/b") 0 is_limit);
     not_used_up = λ uri is. omega (arith, is.is);
-    refused_uri_of_a_meta_schema = λ u is. (fault.InvalidUri (unparsed (codes "a b")), refl, (is, refl, refl));
+    refused_uri_of_a_meta_schema = λ u is. (fault.InvalidUri (parse_refusal (codes "a b")), refl, (is, refl, refl));
     no_other_fault_of_a_meta_schema = λ p is. no_anchor p is.0 is.1 is.2;
   };
 }

@@ -1,11 +1,11 @@
 use Rattle.std.proofs.Common.{◌≡◌, ℕ, refl, ap, [], ◌∷◌, codes, Ok, Err, Result, arith}
-use Rattle.ref_world.specs.Fault as fault
-use Rattle.ref_world.specs.World.{Layer}
-use Rattle.ref_world.specs.Follow.{Followed}
-use Rattle.ref_world.specs.Preparing.{begun, ready, IsOutcome}
-use Rattle.ref_world.specs.Rows.{world, given_alone, c_is_true}
-use Rattle.ref_world.proofs.Closure.{outcome_laws}
-use Rattle.ref_world.proofs.OnLiterals.{world_on_literals}
+use Rattle.ref_definitions.specs.Fault as fault
+use Rattle.ref_definitions.specs.World.{Layer}
+use Rattle.ref_definitions.specs.Follow.{Followed}
+use Rattle.ref_definitions.specs.Preparing.{begun, ready, IsOutcome}
+use Rattle.ref_definitions.specs.Rows.{world, given_alone, c_is_true}
+use Rattle.ref_definitions.proofs.Closure.{outcome_laws}
+use Rattle.ref_definitions.proofs.OnLiterals.{world_on_literals}
 use Rattle.referencing.proofs.laws.step_rows.Goals as goal
 
 abbrev alone : Layer

@@ -1,5 +1,5 @@
 use Rattle.std.proofs.Common.{◌≡◌, ◌++◌, map}
-use Rattle.ref_world.specs.Pending as world
+use Rattle.ref_definitions.specs.Pending as world
 use Rattle.ref_index.specs.Document.{document_of}
 use Rattle.referencing.specs.Builder.{pending_under}
 use Rattle.referencing.proofs.prepare.documents.Given as goal

@@ -1,5 +1,5 @@
 use Rattle.std.proofs.Common.{map, arith, ◌∙◌}
-use Rattle.ref_world.specs.Follow.{followed}
+use Rattle.ref_definitions.specs.Follow.{followed_steps}
 use Rattle.ref_resolver.specs.Resolving.{resolver_of}
 use Rattle.referencing.specs.Following.{followed_of, step_of}
 use Rattle.referencing.proofs.Stepping.{followed_start, followed_next, followed_stop, followed_end, started, reached_next, nowhere_yet}
@@ -11,7 +11,7 @@ loop-number-init c = (followed_start c.args.registry.now c.args.base (resolver_o
 pub returns-in-Err-stepped-clause-fault : goal.returns-in-Err-stepped-clause-fault
 returns-in-Err-stepped-clause-fault c =
     let l = c.loop-number in
-    followed_stop c.args.registry.now l.number (followed_of l.followed) c.args.steps.now c.index-steps-number.result c.in-Err-stepped.error (followed c.args.registry.now c.args.base (map step_of c.args.steps.now))
+    followed_stop c.args.registry.now l.number (followed_of l.followed) c.args.steps.now c.index-steps-number.result c.in-Err-stepped.error (followed_steps c.args.registry.now c.args.base (map step_of c.args.steps.now))
     c.loop-number-test.true c.index-steps-number.is l.invariant.0 (rw l.invariant.1 at c.in-Err-stepped.ensures.fault)
 
 pub loop-number-preserved : goal.loop-number-preserved

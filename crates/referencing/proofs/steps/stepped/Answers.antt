@@ -2,14 +2,14 @@ use Rattle.std.proofs.Common.{◌≡◌, Ok, refl}
 use Rattle.serde_json.specs.Data.{Data}
 use Rattle.ref_draft.specs.declared.draft.Draft.{Draft}
 use Rattle.ref_draft.specs.Views.{resource_ref}
-use Rattle.ref_world.specs.World.{World}
-use Rattle.ref_world.specs.Lookup.{Resolver, in_subresource}
-use Rattle.ref_world.specs.Follow as world
+use Rattle.ref_definitions.specs.World.{World}
+use Rattle.ref_definitions.specs.Lookup.{Resolver, in_subresource}
+use Rattle.ref_definitions.specs.Follow as world
 use Rattle.ref_resolver.specs.Resolving.{resolver_of, world_of}
 use Rattle.referencing.specs.Following.{followed_of}
 use Rattle.referencing.proofs.steps.stepped.Goals as goal
 
-entered : (w : World) (f : world.Followed) (draft : Draft) (value : Data) (r : Resolver) → in_subresource f.resolver draft value ≡ Ok r → world.stepped w f (world.Enter draft value) ≡ Ok (record { last = f.last; resolver = r })
+entered : (w : World) (f : world.Followed) (draft : Draft) (value : Data) (r : Resolver) → in_subresource f.resolver draft value ≡ Ok r → world.after_step w f (world.Enter draft value) ≡ Ok (record { last = f.last; resolver = r })
 entered w f draft value r at = rw at refl
 
 pub returns-clause-ok : goal.returns-clause-ok

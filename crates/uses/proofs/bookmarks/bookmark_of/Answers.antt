@@ -1,5 +1,5 @@
 use Rattle.std.proofs.Common.{rules}
-use Rattle.ref_parts.specs.Segment.{part_of}
+use Rattle.referencing.specs.Segment.{part_of}
 use Rattle.uses.proofs.Paths.{goes_on}
 use Rattle.uses.proofs.bookmarks.bookmark_of.Goals as goal
 

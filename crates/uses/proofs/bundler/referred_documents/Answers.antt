@@ -2,8 +2,8 @@ use Rattle.std.proofs.Common.{rules, ◌≡◌, ◌+◌, [], ◌∷◌, ◌++◌
 use Rattle.std.proofs.lemmas.List.{take_more}
 use Rattle.std.specs.List.{filter, filter_map}
 use Rattle.std.specs.Option.{option_to_list}
-use Rattle.ref_index.specs.Listing.{listed_of}
-use Rattle.ref_resolver.specs.Layered.{own}
+use Rattle.referencing.specs.ListedPlaces.{listed_of}
+use Rattle.referencing.specs.Layered.{own_layer}
 use Rattle.uses.specs.Bundling.{refers_to, refers_from, is_of}
 use Rattle.uses.proofs.Bundling.{one_more}
 use Rattle.uses.proofs.bundler.referred_documents.Goals as goal
@@ -11,7 +11,7 @@ use Rattle.uses.proofs.bundler.referred_documents.Goals.{in-Some+in_ok-push, in_
 
 pub loop-place-preserved : goal.loop-place-preserved
 loop-place-preserved c =
-    let layer = own c.args.registry.now in
+    let layer = own_layer c.args.registry.now in
     let number = c.args.document in
     let f = refers_to layer in
     let test = is_of number in

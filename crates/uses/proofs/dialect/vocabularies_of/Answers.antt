@@ -1,7 +1,7 @@
 use Rattle.std.proofs.Common.{rules, inr, subst}
 use Rattle.serde_json.specs.View.{view}
-use Rattle.ref_world.specs.Retrievers.{default_retriever}
-use Rattle.ref_index.specs.Retrieval.{IsFaultyOutcome}
+use Rattle.referencing.specs.Retrievers.{default_retriever}
+use Rattle.referencing.specs.Retrieval.{IsFaultyOutcome}
 use Rattle.referencing.specs.Prepared.{given_of}
 use Rattle.uses.specs.Uses.{IsRefusedAbove}
 use Rattle.uses.proofs.dialect.vocabularies_of.Goals as goal

@@ -1,5 +1,5 @@
 use Rattle.std.proofs.Common.{rules}
-use Rattle.ref_resolver.specs.Resolving.{found_of}
+use Rattle.referencing.specs.Resolving.{found_of}
 use Rattle.uses.proofs.editor.value_and_base.Goals as goal
 
 pub returns-clause-ok : goal.returns-clause-ok

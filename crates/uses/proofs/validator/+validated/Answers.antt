@@ -1,13 +1,13 @@
 use Rattle.std.proofs.Common.{rules, arith, ◌≡◌, ◌+◌, ◌-◌, true, false, Some, None, Ok, map, drop, option_map, refl, sym, ap, subst, ◌∙◌}
 use Rattle.serde_json.specs.View.{view}
-use Rattle.ref_draft.specs.Views.{walked_child}
-use Rattle.ref_draft.specs.Children.{walked}
-use Rattle.ref_world.specs.Fault.{as_invalid_uri}
-use Rattle.ref_world.specs.Lookup.{in_subresource}
-use Rattle.ref_retrieve.specs.Errors.{IsFaultOf}
-use Rattle.ref_resolver.specs.Resolving.{resolver_of, world_of, found_of, world_found}
+use Rattle.referencing.specs.Views.{walked_child}
+use Rattle.referencing.specs.Children.{walked_children}
+use Rattle.referencing.specs.Fault.{as_invalid_uri}
+use Rattle.referencing.specs.Lookup.{in_subresource}
+use Rattle.referencing.specs.Errors.{IsFaultOf}
+use Rattle.referencing.specs.Resolving.{resolver_of, world_of, found_of, world_found}
 use Rattle.uses.specs.declared.validator.Verdict.TheVariants.{Valid}
-use Rattle.uses.specs.Validating.{referred, is_valid, is_of_type, part_for, behind, at_child, at_children, validated}
+use Rattle.uses.specs.Validating.{referred_from, is_valid, is_of_type, part_for, after_reference, at_child, at_children, validated_within}
 use Rattle.uses.proofs.Validating.{goes_on, stops, ends, too_deep, of_other_type, of_its_type, no_reference, nowhere, there, not_asked, asked, not_entered, one_more, none_left, past_reference}
 use Rattle.uses.proofs.validator.+validated.Goals as goal
 use Rattle.uses.proofs.validator.+validated.Goals.{in-Some+in_ok-behind+else-not-is_valid, in_default}
@@ -32,9 +32,9 @@ returns-in_err-found-clause-fault t c =
     let e = c.in_err-found.field-0.0 in
     let its : is_of_type s i ≡ true = search rules in
     let (meaning, is, says) = c.in_err-found.ensures.fault in
-    let refused = nowhere (validated w (n - 1)) i (referred w r s) meaning e is says in
-    let ended = ends (behind (validated w (n - 1)) i (referred w r s)) (at_children (validated w (n - 1)) r i (walked d s)) e refused in
-    let fault : IsFaultOf (validated w n r d s i) e = subst (λ a. IsFaultOf a e) (sym (of_its_type w n r d s i (omega (arith, c.if-depth-eq0.false)) its)) ended in
+    let refused = nowhere (validated_within w (n - 1)) i (referred_from w r s) meaning e is says in
+    let ended = ends (after_reference (validated_within w (n - 1)) i (referred_from w r s)) (at_children (validated_within w (n - 1)) r i (walked_children d s)) e refused in
+    let fault : IsFaultOf (validated_within w n r d s i) e = subst (λ a. IsFaultOf a e) (sym (of_its_type w n r d s i (omega (arith, c.if-depth-eq0.false)) its)) ended in
     search rules
 
 pub returns-in_err-behind-clause-fault : goal.returns-in_err-behind-clause-fault
@@ -49,12 +49,12 @@ returns-in_err-behind-clause-fault t c =
     let found = c.in-Some.found in
     let to = c.into_inner-there.result in
     let its : is_of_type s i ≡ true = search rules in
-    let led : referred w r s ≡ Some (Ok (found_of found)) = sym c.in_ok-found.ensures.ok ∙ ap (option_map (λ f. Ok (found_of f))) c.in-Some.is in
+    let led : referred_from w r s ≡ Some (Ok (found_of found)) = sym c.in_ok-found.ensures.ok ∙ ap (option_map (λ f. Ok (found_of f))) c.in-Some.is in
     let world : world_found found ≡ w = rw c.in-Some.is at c.in_ok-found.ensures.world in
-    let at = there w (world_of to.1) (n - 1) i (referred w r s) (found_of found) (resolver_of to.1) to.2 (view to.0.now) led (c.into_inner-there.ensures.world ∙ world) c.into_inner-there.ensures.resolver c.into_inner-there.ensures.draft c.into_inner-there.ensures.value in
-    let refused : IsFaultOf (behind (validated w (n - 1)) i (referred w r s)) e = subst (λ a. IsFaultOf a e) (sym at) c.in_err-behind.ensures.fault in
-    let ended = ends (behind (validated w (n - 1)) i (referred w r s)) (at_children (validated w (n - 1)) r i (walked d s)) e refused in
-    let fault : IsFaultOf (validated w n r d s i) e = subst (λ a. IsFaultOf a e) (sym (of_its_type w n r d s i (omega (arith, c.if-depth-eq0.false)) its)) ended in
+    let at = there w (world_of to.1) (n - 1) i (referred_from w r s) (found_of found) (resolver_of to.1) to.2 (view to.0.now) led (c.into_inner-there.ensures.world ∙ world) c.into_inner-there.ensures.resolver c.into_inner-there.ensures.draft c.into_inner-there.ensures.value in
+    let refused : IsFaultOf (after_reference (validated_within w (n - 1)) i (referred_from w r s)) e = subst (λ a. IsFaultOf a e) (sym at) c.in_err-behind.ensures.fault in
+    let ended = ends (after_reference (validated_within w (n - 1)) i (referred_from w r s)) (at_children (validated_within w (n - 1)) r i (walked_children d s)) e refused in
+    let fault : IsFaultOf (validated_within w n r d s i) e = subst (λ a. IsFaultOf a e) (sym (of_its_type w n r d s i (omega (arith, c.if-depth-eq0.false)) its)) ended in
     search rules
 
 pub returns-then-not-is_valid-clause-value : goal.returns-then-not-is_valid-clause-value
@@ -69,11 +69,11 @@ returns-then-not-is_valid-clause-value t c =
     let to = c.into_inner-there.result in
     let its : is_of_type s i ≡ true = search rules in
     let other : is_valid c.in_ok-behind.behind ≡ false = search rules in
-    let led : referred w r s ≡ Some (Ok (found_of found)) = sym c.in_ok-found.ensures.ok ∙ ap (option_map (λ f. Ok (found_of f))) c.in-Some.is in
+    let led : referred_from w r s ≡ Some (Ok (found_of found)) = sym c.in_ok-found.ensures.ok ∙ ap (option_map (λ f. Ok (found_of f))) c.in-Some.is in
     let world : world_found found ≡ w = rw c.in-Some.is at c.in_ok-found.ensures.world in
-    let at = there w (world_of to.1) (n - 1) i (referred w r s) (found_of found) (resolver_of to.1) to.2 (view to.0.now) led (c.into_inner-there.ensures.world ∙ world) c.into_inner-there.ensures.resolver c.into_inner-there.ensures.draft c.into_inner-there.ensures.value in
+    let at = there w (world_of to.1) (n - 1) i (referred_from w r s) (found_of found) (resolver_of to.1) to.2 (view to.0.now) led (c.into_inner-there.ensures.world ∙ world) c.into_inner-there.ensures.resolver c.into_inner-there.ensures.draft c.into_inner-there.ensures.value in
     of_its_type w n r d s i (omega (arith, c.if-depth-eq0.false)) its
-    ∙ stops (behind (validated w (n - 1)) i (referred w r s)) (at_children (validated w (n - 1)) r i (walked d s)) c.in_ok-behind.behind (at ∙ c.in_ok-behind.ensures.value) other
+    ∙ stops (after_reference (validated_within w (n - 1)) i (referred_from w r s)) (at_children (validated_within w (n - 1)) r i (walked_children d s)) c.in_ok-behind.behind (at ∙ c.in_ok-behind.ensures.value) other
 
 pub loop-child-init : goal.loop-child-init
 loop-child-init t c =
@@ -85,24 +85,24 @@ loop-child-init t c =
     let i = view c.args.instance.now in
     let items = c.deref-child-items.result.now in
     let its : is_of_type s i ≡ true = search rules in
-    let are : walked d s ≡ map walked_child items = search rules in
+    let are : walked_children d s ≡ map walked_child items = search rules in
     elim c.match-branch-2.branch [
       | in-Some+in_ok-behind+else-not-is_valid b ↦
           let found = b.in-Some.found in
           let to = b.into_inner-there.result in
           let valid : is_valid b.in_ok-behind.behind ≡ true = search rules in
-          let led : referred w r s ≡ Some (Ok (found_of found)) = sym c.in_ok-found.ensures.ok ∙ ap (option_map (λ f. Ok (found_of f))) b.in-Some.is in
+          let led : referred_from w r s ≡ Some (Ok (found_of found)) = sym c.in_ok-found.ensures.ok ∙ ap (option_map (λ f. Ok (found_of f))) b.in-Some.is in
           let world : world_found found ≡ w = rw b.in-Some.is at c.in_ok-found.ensures.world in
-          let at = there w (world_of to.1) (n - 1) i (referred w r s) (found_of found) (resolver_of to.1) to.2 (view to.0.now) led (b.into_inner-there.ensures.world ∙ world) b.into_inner-there.ensures.resolver b.into_inner-there.ensures.draft b.into_inner-there.ensures.value in
+          let at = there w (world_of to.1) (n - 1) i (referred_from w r s) (found_of found) (resolver_of to.1) to.2 (view to.0.now) led (b.into_inner-there.ensures.world ∙ world) b.into_inner-there.ensures.resolver b.into_inner-there.ensures.draft b.into_inner-there.ensures.value in
           past_reference w n r d s i b.in_ok-behind.behind items (omega (arith, c.if-depth-eq0.false)) its (at ∙ b.in_ok-behind.ensures.value) valid are
       | in_default b ↦
-          let none : referred w r s ≡ None = search rules in
-          past_reference w n r d s i Valid items (omega (arith, c.if-depth-eq0.false)) its (no_reference (validated w (n - 1)) i (referred w r s) none) refl are
+          let none : referred_from w r s ≡ None = search rules in
+          past_reference w n r d s i Valid items (omega (arith, c.if-depth-eq0.false)) its (no_reference (validated_within w (n - 1)) i (referred_from w r s) none) refl are
     ]
 
 pub loop-child-preserved-in_default-part_for : goal.loop-child-preserved-in_default-part_for
 loop-child-preserved-in_default-part_for t c =
-    let next = validated (world_of c.args.resolver.now) (c.args.depth - 1) in
+    let next = validated_within (world_of c.args.resolver.now) (c.args.depth - 1) in
     let r = resolver_of c.args.resolver.now in
     let i = view c.args.instance.now in
     let items = c.deref-child-items.result.now in
@@ -115,7 +115,7 @@ loop-child-preserved-in_default-part_for t c =
 
 pub returns-in_err-inner-clause-fault : goal.returns-in_err-inner-clause-fault
 returns-in_err-inner-clause-fault t c =
-    let next = validated (world_of c.args.resolver.now) (c.args.depth - 1) in
+    let next = validated_within (world_of c.args.resolver.now) (c.args.depth - 1) in
     let r = resolver_of c.args.resolver.now in
     let i = view c.args.instance.now in
     let items = c.deref-child-items.result.now in
@@ -133,7 +133,7 @@ pub returns-in_err-below-clause-fault : goal.returns-in_err-below-clause-fault
 returns-in_err-below-clause-fault t c =
     let w = world_of c.args.resolver.now in
     let m = c.args.depth - 1 in
-    let next = validated w m in
+    let next = validated_within w m in
     let r = resolver_of c.args.resolver.now in
     let i = view c.args.instance.now in
     let items = c.deref-child-items.result.now in
@@ -154,7 +154,7 @@ pub returns-then-not-is_valid-2-clause-value : goal.returns-then-not-is_valid-2-
 returns-then-not-is_valid-2-clause-value t c =
     let w = world_of c.args.resolver.now in
     let m = c.args.depth - 1 in
-    let next = validated w m in
+    let next = validated_within w m in
     let r = resolver_of c.args.resolver.now in
     let i = view c.args.instance.now in
     let items = c.deref-child-items.result.now in
@@ -175,7 +175,7 @@ pub loop-child-preserved : goal.loop-child-preserved
 loop-child-preserved t c =
     let w = world_of c.args.resolver.now in
     let m = c.args.depth - 1 in
-    let next = validated w m in
+    let next = validated_within w m in
     let r = resolver_of c.args.resolver.now in
     let i = view c.args.instance.now in
     let items = c.deref-child-items.result.now in
@@ -194,5 +194,5 @@ loop-child-preserved t c =
 
 pub returns-clause-value : goal.returns-clause-value
 returns-clause-value t c =
-    let next = validated (world_of c.args.resolver.now) (c.args.depth - 1) in
+    let next = validated_within (world_of c.args.resolver.now) (c.args.depth - 1) in
     c.loop-child.invariant ∙ none_left next (resolver_of c.args.resolver.now) (view c.args.instance.now) c.deref-child-items.result.now c.loop-child.child-index (omega arith)

@@ -5,7 +5,7 @@ use Rattle.ref_draft.specs.Views.{part_of}
 use Rattle.ref_draft.proofs.Holdings.{scan_key}
 use Rattle.ref_draft.proofs.spec.scan.accepts.Goals as goal
 
--- no part stands behind a child keyword
+-- no part is after a child keyword
 pub returns-then-is_none : goal.returns-then-is_none
 returns-then-is_none c =
     let key = scan_key c.args.draft c.args.object c.as_str.result.now (map part_of (iter_rest c.next.new.self)) in

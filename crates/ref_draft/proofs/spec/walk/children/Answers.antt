@@ -1,7 +1,7 @@
 use Rattle.std.proofs.Common.{map, arith}
 use Rattle.std.proofs.lemmas.Grind.{common_steps}
 use Rattle.serde_json.specs.View.{view, members_view}
-use Rattle.ref_draft.specs.Keywords.{holding}
+use Rattle.ref_draft.specs.Keywords.{holding_of}
 use Rattle.ref_draft.specs.Views.{walked_child}
 use Rattle.ref_draft.proofs.Order.{ordered_object}
 use Rattle.ref_draft.proofs.Standing.{are_found, members_in_is, step}
@@ -20,7 +20,7 @@ pub loop-keyword-preserved : goal.loop-keyword-preserved
 loop-keyword-preserved c =
     let found = rw c.in-Some-2.ensures.steps at c.loop-keyword.invariant.2 in (
       grind (arith, common_steps),
-      step c.args.draft (view c.args.contents.now) (holding c.args.draft c.as_str.result.now) c.as_str.result.now (view c.in-Some-2.value.now) (map walked_child c.loop-keyword.children.items)
+      step c.args.draft (view c.args.contents.now) (holding_of c.args.draft c.as_str.result.now) c.as_str.result.now (view c.in-Some-2.value.now) (map walked_child c.loop-keyword.children.items)
           (map walked_child c.push_held.new.children.items) c.loop-keyword.invariant.1 (rw c.as_str.ensures.value found.0) c.push_held.ensures.unique c.in_ok-push_held.ensures.adds,
       found.1,
       c.loop-keyword.invariant.3,

@@ -1,6 +1,6 @@
 use Rattle.std.proofs.Common.{◌≡◌, ◌∙◌, [], false, None, Some, ap, sym, subst, rules}
 use Rattle.std.specs.Prelude.{if◌then◌else◌}
-use Rattle.ref_world.specs.Lookup.{lookup}
+use Rattle.ref_definitions.specs.Lookup.{lookup}
 use Rattle.ref_findings.specs.Findings.{is_among, by_answer}
 use Rattle.ref_findings.specs.inner.Meanings.{IsMaybe, IsWhy}
 use Rattle.ref_findings.specs.inner.Seen.{known_in}

@@ -1,5 +1,5 @@
 use Rattle.std.proofs.Common.{Err, Some, ap, rules}
-use Rattle.ref_world.specs.Places.{base_within}
+use Rattle.ref_definitions.specs.Places.{base_within}
 use Rattle.ref_findings.specs.Findings.{InvalidUri, by_base}
 use Rattle.ref_findings.specs.inner.Meanings.{IsMeaning}
 use Rattle.ref_findings.specs.inner.Seen.{known_in}

@@ -1,7 +1,7 @@
 use Rattle.std.proofs.Common.{subst}
 use Rattle.std.specs.List.{Contains}
-use Rattle.ref_world.specs.World.{Document}
-use Rattle.ref_world.specs.Agreement.{ChildrenStand}
+use Rattle.ref_definitions.specs.World.{Document}
+use Rattle.ref_definitions.specs.Agreement.{ChildrenStand}
 use Rattle.ref_index.proofs.index.Index.children_stand.Goals as goal
 
 pub returns : goal.returns

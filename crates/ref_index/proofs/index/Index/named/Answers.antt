@@ -2,7 +2,7 @@ use Rattle.std.proofs.Common.{◌≡◌, ◌∙◌, sym, ap, subst, filter, Some
 use Rattle.std.specs.Prelude.{slice_get}
 use Rattle.std.specs.List.{last_or}
 use Rattle.ref_parts.specs.Table.{is_under}
-use Rattle.ref_world.specs.Anchors.{names, last_named}
+use Rattle.ref_definitions.specs.Anchors.{names, last_named}
 use Rattle.ref_index.specs.Index.{IsIndexOf, IsNameIn}
 use Rattle.ref_index.proofs.Looking.{none_found, none_is_some, name_both, name_found, got, tells}
 use Rattle.ref_index.proofs.index.Index.named.Goals as goal

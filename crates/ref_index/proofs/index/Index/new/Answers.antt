@@ -3,12 +3,12 @@ use Rattle.std.specs.List.{AllZip}
 use Rattle.std.proofs.lemmas.List.{length-map}
 use Rattle.ref_parts.specs.Table.{entries_of}
 use Rattle.ref_parts.proofs.TableLaws.{refilled}
-use Rattle.ref_world.specs.Resources.{resources}
-use Rattle.ref_world.specs.Anchors.{names}
-use Rattle.ref_world.specs.Cached.{pairs}
+use Rattle.ref_definitions.specs.Resources.{resources}
+use Rattle.ref_definitions.specs.Anchors.{names}
+use Rattle.ref_definitions.specs.Cached.{pairs}
 use Rattle.ref_index.specs.Document.{document_of}
 use Rattle.ref_index.specs.Found.{IsResourceOf, IsNameOf, IsPairOf}
-use Rattle.ref_index.specs.Index.{IsResourceIn, IsNameIn, IsPairIn, numbered}
+use Rattle.ref_index.specs.Index.{IsResourceIn, IsNameIn, IsPairIn, numbered_uri}
 use Rattle.ref_index.proofs.Looking.{zip_mapped}
 use Rattle.ref_index.proofs.Numbering.{IsNumberedPair}
 use Rattle.ref_index.proofs.index.Index.new.Goals as goal
@@ -20,10 +20,10 @@ invariant_of-result c =
     let by_uri = c.in_ok-by_uri.by_uri in
     let lent : c.as_mut_slice.result.now ≡ c.args.found.resolved.items = search rules in
     let len : length c.set_entries.new.pairs ≡ c.args.found.resolved.len =
-    ap length c.set_entries.ensures ∙ length-map c.as_mut_slice.result.now (numbered by_uri) ∙ c.as_mut_slice.ensures.len in
+    ap length c.set_entries.ensures ∙ length-map c.as_mut_slice.result.now (numbered_uri by_uri) ∙ c.as_mut_slice.ensures.len in
     let entered : c.in_ok-by_pair.by_pair ≡ entries_of c.set_entries.new.pairs = c.in_ok-by_pair.ensures.entered ∙ ap entries_of (refilled c.args.found.resolved.len c.args.found.resolved.items c.set_entries.new.pairs len) in
-    let numbers : AllZip (IsNumberedPair by_uri) c.set_entries.new.pairs (pairs layer) = subst (λ l. AllZip (IsNumberedPair by_uri) l (pairs layer)) (sym (c.set_entries.ensures ∙ ap (map (numbered by_uri)) lent))
-    (zip_mapped IsPairOf (IsNumberedPair by_uri) (numbered by_uri) (λ t p is. (is.0, is.1, is.2, refl)) c.args.found.resolved.items (pairs layer) held.by_pair) in
+    let numbers : AllZip (IsNumberedPair by_uri) c.set_entries.new.pairs (pairs layer) = subst (λ l. AllZip (IsNumberedPair by_uri) l (pairs layer)) (sym (c.set_entries.ensures ∙ ap (map (numbered_uri by_uri)) lent))
+    (zip_mapped IsPairOf (IsNumberedPair by_uri) (numbered_uri by_uri) (λ t p is. (is.0, is.1, is.2, refl)) c.args.found.resolved.items (pairs layer) held.by_pair) in
     record {
       resource = subst (λ l. AllZip (IsResourceIn layer c.args.found.entries.items) l (resources layer)) (sym c.in_ok-by_uri.ensures.entered)
           (zip_mapped (IsResourceOf layer c.args.found.entries.items) (IsResourceIn layer c.args.found.entries.items) (λ e. (string_bytes e.0, string_bytes e.1, e.2)) (λ t r is. is) c.args.found.resources.items (resources layer) held.by_uri);

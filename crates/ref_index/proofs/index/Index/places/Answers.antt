@@ -1,6 +1,6 @@
 use Rattle.std.proofs.Common.{◌<◌, length, sym, subst, arith}
 use Rattle.std.specs.List.{Contains}
-use Rattle.ref_world.proofs.AtOrBelow.{place_has_base}
+use Rattle.ref_definitions.proofs.AtOrBelow.{place_has_base}
 use Rattle.ref_index.specs.Document.{document_of}
 use Rattle.ref_index.proofs.Listing.{in_mapped}
 use Rattle.ref_index.proofs.index.Index.places.Goals as goal

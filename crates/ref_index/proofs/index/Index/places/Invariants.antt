@@ -1,5 +1,5 @@
 use Rattle.std.proofs.Common.{length, ◌-◌, ◌≡◌, ◌≤◌, ◌++◌, map, drop}
-use Rattle.ref_world.specs.Listing.{listed_from, own_places}
+use Rattle.ref_definitions.specs.Listing.{listed_from, own_places}
 use Rattle.ref_index.specs.Document.{document_of}
 use Rattle.ref_index.specs.Listing.{listed_of}
 use Rattle.ref_index.proofs.index.Index.places.Given as goal

@@ -2,7 +2,7 @@ use Rattle.std.proofs.Common.{◌≡◌, ◌∙◌, sym, ap, subst, filter, None
 use Rattle.std.specs.Prelude.{slice_get}
 use Rattle.std.specs.List.{last_or}
 use Rattle.ref_parts.specs.Table.{is_under}
-use Rattle.ref_world.specs.Cached.{pairs}
+use Rattle.ref_definitions.specs.Cached.{pairs}
 use Rattle.ref_index.specs.Index.{IsIndexOf}
 use Rattle.ref_index.proofs.Looking.{pair_absent, pair_both, pair_found, place_found}
 use Rattle.ref_index.proofs.index.Index.resolved.Goals as goal

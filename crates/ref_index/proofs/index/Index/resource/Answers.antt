@@ -2,7 +2,7 @@ use Rattle.std.proofs.Common.{◌≡◌, [], ◌∙◌, sym, ap, subst, filter, 
 use Rattle.std.specs.Prelude.{slice_get}
 use Rattle.std.specs.List.{last_or}
 use Rattle.ref_parts.specs.Table.{is_under}
-use Rattle.ref_world.specs.Resources.{resources, last_under}
+use Rattle.ref_definitions.specs.Resources.{resources, last_under}
 use Rattle.ref_index.specs.Index.{IsIndexOf, IsResourceIn, IsFoundAt}
 use Rattle.ref_index.proofs.Looking.{none_found, uri_both, resource_found, got, entry_there}
 use Rattle.ref_index.proofs.index.Index.resource.Goals as goal

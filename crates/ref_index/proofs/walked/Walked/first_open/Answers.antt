@@ -1,7 +1,7 @@
 use Rattle.std.proofs.Common.{◌≡◌, ◌∷◌, map, false, subst}
-use Rattle.ref_world.specs.Anchors.{names}
-use Rattle.ref_world.specs.Cached.{pairs}
-use Rattle.ref_world.specs.Wants.{wants, is_open}
+use Rattle.ref_definitions.specs.Anchors.{names}
+use Rattle.ref_definitions.specs.Cached.{pairs}
+use Rattle.ref_definitions.specs.Wants.{wants, is_open}
 use Rattle.ref_index.specs.Visits.{IsFound}
 use Rattle.ref_index.proofs.Opening.{all_up_to}
 use Rattle.ref_index.proofs.walked.Walked.first_open.Goals as goal

@@ -1,6 +1,6 @@
 use Rattle.std.proofs.Common.{◌≡◌, map, subst, rules}
 use Rattle.std.specs.List.{Contains}
-use Rattle.ref_world.specs.Cached.{pairs}
+use Rattle.ref_definitions.specs.Cached.{pairs}
 use Rattle.ref_resolver.proofs.Held.{held_above}
 use Rattle.ref_resolver.proofs.layers.Layers.resolved_uri.Goals as goal
 

@@ -1,24 +1,35 @@
-use Rattle.std.proofs.Common.{◌≡◌, IfOk, IfErr, Ok, sym, ap, subst, ◌∙◌}
-use Rattle.ref_world.specs.Lookup.{moved, by_scope, in_scope}
+use Rattle.std.proofs.Common.{◌≡◌, IfOk, IfErr, Ok, sym, subst, ◌∙◌, rules}
+use Rattle.ref_definitions.specs.Lookup.{moved_resolver}
 use Rattle.ref_retrieve.specs.Errors.{IsFaultOf}
+use Rattle.ref_resolver.specs.Located.{IsLocated}
 use Rattle.ref_resolver.specs.Resolving.{resolver_of, world_of, found_of}
-use Rattle.ref_resolver.proofs.Fragments.{dynamic_there}
+use Rattle.ref_resolver.proofs.Fragments.{dynamic_moved}
+use Rattle.ref_resolver.proofs.Scoping.{found_under}
 use Rattle.ref_resolver.proofs.resolver.Resolver.at_dynamic.Goals as goal
+
+pub returns-in_err-uri-clause-fault : goal.returns-in_err-uri-clause-fault
+returns-in_err-uri-clause-fault c = λ n name dynamic at.
+    let there = c.in_ok-resolver.resolver in
+    let same = dynamic_moved (world_of c.args.self.now) (moved_resolver (resolver_of c.args.self.now) c.args.uri.value) (world_of there) (resolver_of there) n c.args.name.now c.in_ok-resolver.ensures.world c.in_ok-resolver.ensures.resolver name dynamic in
+    let fault = subst (λ a. IsFaultOf a c.in_err-uri.field-0.0) (sym same) (c.in_err-uri.ensures.fault n (subst (λ v. IsLocated v c.args.found n.place) (sym c.in_ok-resolver.ensures.world) at)) in
+    search rules
 
 pub returns-clause-ok : goal.returns-clause-ok
 returns-clause-ok c = λ n name dynamic at.
-    let w = world_of c.args.self.now in
-    let r = moved (resolver_of c.args.self.now) c.args.uri.value in
     let there = c.in_ok-resolver.resolver in
-    let same = dynamic_there w r n (sym dynamic) ∙ ap (λ text. by_scope r n (in_scope w text r.scope)) name ∙ ap (λ x. by_scope x n (in_scope w c.args.name.now x.scope)) (sym c.in_ok-resolver.ensures.resolver)
-    ∙ ap (λ v. by_scope (resolver_of there) n (in_scope v c.args.name.now (resolver_of there).scope)) (sym c.in_ok-resolver.ensures.world) in
-    subst (λ a. IfOk c.outermost.result (λ f. a ≡ Ok (found_of f))) (sym same) (c.outermost.ensures.ok n at)
+    let r = resolver_of there in
+    let uri = c.in_ok-uri.uri.now in
+    let place = c.in_ok-uri.place in
+    let same = dynamic_moved (world_of c.args.self.now) (moved_resolver (resolver_of c.args.self.now) c.args.uri.value) (world_of there) r n c.args.name.now c.in_ok-resolver.ensures.world c.in_ok-resolver.ensures.resolver name dynamic in
+    let (m, outer, stands) = c.in_ok-uri.ensures.ok n (subst (λ v. IsLocated v c.args.found n.place) (sym c.in_ok-resolver.ensures.world) at) in
+    subst (λ a. IfOk c.under_uri.result (λ f. a ≡ Ok (found_of f))) (sym (same ∙ outer ∙ found_under (world_of there) r uri m place stands)) c.under_uri.ensures.ok
 
 pub returns-clause-fault : goal.returns-clause-fault
 returns-clause-fault c = λ n name dynamic at.
-    let w = world_of c.args.self.now in
-    let r = moved (resolver_of c.args.self.now) c.args.uri.value in
     let there = c.in_ok-resolver.resolver in
-    let same = dynamic_there w r n (sym dynamic) ∙ ap (λ text. by_scope r n (in_scope w text r.scope)) name ∙ ap (λ x. by_scope x n (in_scope w c.args.name.now x.scope)) (sym c.in_ok-resolver.ensures.resolver)
-    ∙ ap (λ v. by_scope (resolver_of there) n (in_scope v c.args.name.now (resolver_of there).scope)) (sym c.in_ok-resolver.ensures.world) in
-    subst (λ a. IfErr c.outermost.result (IsFaultOf a)) (sym same) (c.outermost.ensures.fault n at)
+    let r = resolver_of there in
+    let uri = c.in_ok-uri.uri.now in
+    let place = c.in_ok-uri.place in
+    let same = dynamic_moved (world_of c.args.self.now) (moved_resolver (resolver_of c.args.self.now) c.args.uri.value) (world_of there) r n c.args.name.now c.in_ok-resolver.ensures.world c.in_ok-resolver.ensures.resolver name dynamic in
+    let (m, outer, stands) = c.in_ok-uri.ensures.ok n (subst (λ v. IsLocated v c.args.found n.place) (sym c.in_ok-resolver.ensures.world) at) in
+    subst (λ a. IfErr c.under_uri.result (IsFaultOf a)) (sym (same ∙ outer ∙ found_under (world_of there) r uri m place stands)) c.under_uri.ensures.fault

@@ -1,10 +1,10 @@
 use Rattle.std.proofs.Common.{map}
-use Rattle.ref_world.specs.Pending.{extended}
-use Rattle.referencing.specs.Builder.{seen, addition, Adds}
+use Rattle.ref_definitions.specs.Pending.{with_additions}
+use Rattle.referencing.specs.Builder.{builder_of, addition, Adds}
 use Rattle.referencing.proofs.builder.RegistryBuilder.extend.Given as goal
 
 abbrev pub invariant-loop-uri : goal.invariant-loop-uri
 invariant-loop-uri g l =
     (goal.iterator-loop-uri g).can_next l.uri-iterator ×
     (goal.iterator-loop-uri g).is_finite l.uri-iterator ×
-    Adds (extended (seen l.fn.self).pending (map (λ x. addition (g.U.AsStr.text x.0) (g.T.IntoRegistryResource.tree x.1) (g.T.IntoRegistryResource.given_draft x.1)) l.yielded)) (seen l.fn.self) (seen l.builder)
+    Adds (with_additions (builder_of l.fn.self).pending (map (λ x. addition (g.U.AsStr.text x.0) (g.T.IntoRegistryResource.tree x.1) (g.T.IntoRegistryResource.given_draft x.1)) l.yielded)) (builder_of l.fn.self) (builder_of l.builder)

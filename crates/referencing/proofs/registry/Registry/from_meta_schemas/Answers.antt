@@ -1,5 +1,5 @@
 use Rattle.std.proofs.Common.{sym, subst, IfErr}
-use Rattle.ref_world.specs.Retrievers.{default_retriever}
+use Rattle.ref_definitions.specs.Retrievers.{default_retriever}
 use Rattle.ref_index.specs.Retrieval.{IsFaultyOutcome}
 use Rattle.referencing.specs.Prepared.{given_of}
 use Rattle.referencing.specs.MetaSchemas.{IsMetaSchemaFault}

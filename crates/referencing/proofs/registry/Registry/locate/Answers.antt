@@ -1,7 +1,7 @@
 use Rattle.std.proofs.Common.{◌≡◌, Ok, map, rules}
 use Rattle.std.specs.Prelude.{IfOk, IfErr}
 use Rattle.ref_parts.specs.Segment.{part_of}
-use Rattle.ref_world.specs.Lookup.{located}
+use Rattle.ref_definitions.specs.Lookup.{located_value}
 use Rattle.ref_retrieve.specs.Errors.{IsFaultOf}
 use Rattle.ref_resolver.specs.Resolving.{found_of}
 use Rattle.referencing.proofs.Agreeing.{leads_here, answers_place}
@@ -10,7 +10,7 @@ use Rattle.referencing.proofs.registry.Registry.locate.Goals as goal
 pub returns-clause-agrees : goal.returns-clause-agrees
 returns-clause-agrees c = λ d r q alike under is.
     let path = map part_of c.args.path.now in
-    let answer = located c.args.self.now c.args.base.now path in
+    let answer = located_value c.args.self.now c.args.base.now path in
     let ok : IfOk c.lookup.result (λ found. answer ≡ Ok (found_of found)) = search rules in
     let fault : IfErr c.lookup.result (IsFaultOf answer) = search rules in
     answers_place answer q c.args.base.now c.lookup.result

@@ -1,0 +1,19 @@
+//! `patchsard serve`.
+use crate::stop::Stop;
+use ref_serve::{Input, Output, RunError, State, serve};
+
+/// Answers the calls on standard input, one a line, on standard output. The status is 0 where the input ends.
+pub fn serve_calls(rt: &HostRuntime) -> Result<u8, Stop> {
+    let mut reader = Input::new(rt.stdin());
+    let mut writer = Output::new(rt.stdout());
+    let mut state = State::new(rt.alloc());
+    match serve(rt.alloc(), &mut reader, &mut writer, &mut state) {
+        Ok(()) => Ok(0),
+        Err(RunError::Read) => {
+            let _ = eprintln!(rt; "patchsard: cannot read standard input");
+            Err(Stop::Reported)
+        }
+        Err(RunError::Write) => Err(Stop::Write),
+        Err(RunError::Memory) => Err(Stop::Memory),
+    }
+}

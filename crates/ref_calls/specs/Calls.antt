@@ -1,0 +1,200 @@
+-- A call: which one an object is, and its members.
+use Rattle.std.specs.Prelude.{ℕ, Bool, true, false, ◌&&◌, ◌||◌, List, [], ◌∷◌, codes, map, Option, Some, None, option_map, option_and_then, Result, Ok, Err, ok_or, is_some, bytes_eq, if◌then◌else◌}
+use Rattle.std.specs.List.{list_any}
+use Rattle.std.specs.Str.{is_utf8}
+use Rattle.serde_json.specs.Data.{Data, null, boolean, number, string, array, object, Items, no_items, item, Members, no_members, member}
+use Rattle.serde_json.specs.Find.{get, as_bool, as_str, as_array, as_object, as_number, as_u64}
+use Rattle.serde_json.specs.Read.{read}
+use Rattle.ref_uri.specs.Targets.{uri_of}
+use Rattle.ref_draft.specs.declared.draft.Draft.{Draft}
+use Rattle.ref_draft.specs.declared.draft.Draft.TheVariants as draft
+use Rattle.ref_definitions.specs.Results.{◌>>=◌}
+use Rattle.ref_definitions.specs.Fault.{as_invalid_uri}
+use Rattle.ref_calls.specs.declared.call.Call.{Call}
+use Rattle.ref_calls.specs.declared.call.Call.TheVariants.{Open, Lookup, Recursive, Enter, Follow, Places, Dangling, Vocabularies, Bundle, Close}
+use Rattle.ref_calls.specs.declared.fault.Wrong.TheVariants.{UnknownField, MissingField, InvalidField}
+use Rattle.ref_calls.specs.Errors.{plain_error, field_error, as_error}
+
+-- ---- the whole
+
+-- the tree that serde_json reads; bytes that are no UTF-8 are no JSON (RFC 8259, section 8.1)
+abbrev pub tree_of : List ℕ → Option Data
+tree_of bytes = if is_utf8 bytes then read bytes else None
+
+-- the call that a name means
+abbrev pub call_named : List ℕ → Option Call
+call_named s =
+    if bytes_eq s (codes "open") then Some Open
+    else (if bytes_eq s (codes "lookup") then Some Lookup
+    else (if bytes_eq s (codes "recursive") then Some Recursive
+    else (if bytes_eq s (codes "enter") then Some Enter
+    else (if bytes_eq s (codes "follow") then Some Follow
+    else (if bytes_eq s (codes "places") then Some Places
+    else (if bytes_eq s (codes "dangling") then Some Dangling
+    else (if bytes_eq s (codes "vocabularies") then Some Vocabularies
+    else (if bytes_eq s (codes "bundle") then Some Bundle
+    else (if bytes_eq s (codes "close") then Some Close else None)))))))))
+
+-- the members that a call knows besides `call` and `id`
+abbrev pub fields_of : Call → List (List ℕ)
+fields_of Open = codes "documents" ∷ codes "remote" ∷ codes "parent" ∷ codes "draft" ∷ codes "limit" ∷ []
+fields_of Lookup = codes "registry" ∷ codes "base" ∷ codes "scope" ∷ codes "reference" ∷ codes "values" ∷ []
+fields_of Recursive = codes "registry" ∷ codes "base" ∷ codes "scope" ∷ codes "values" ∷ []
+fields_of Enter = codes "registry" ∷ codes "base" ∷ codes "scope" ∷ codes "schema" ∷ codes "draft" ∷ []
+fields_of Follow = codes "registry" ∷ codes "base" ∷ codes "scope" ∷ codes "values" ∷ codes "draft" ∷ codes "steps" ∷ []
+fields_of Places = codes "registry" ∷ []
+fields_of Dangling = codes "registry" ∷ []
+fields_of Vocabularies = codes "registry" ∷ codes "schema" ∷ codes "draft" ∷ []
+fields_of Bundle = codes "registry" ∷ codes "document" ∷ []
+fields_of Close = codes "registry" ∷ []
+
+-- whether a call knows a member
+abbrev pub is_known : Call → List ℕ → Bool
+is_known call field = bytes_eq field (codes "call") || bytes_eq field (codes "id") || list_any (λ known. bytes_eq known field) (fields_of call)
+
+-- the first member, in byte order, that a call doesn't know
+abbrev pub unknown_in : Call → Members → Option (List ℕ)
+unknown_in call no_members = None
+unknown_in call (member k d ms) = if is_known call k then unknown_in call ms else Some k
+
+-- a call, unless it doesn't know a member
+abbrev pub unless_unknown : Call → Option (List ℕ) → Result Call Data
+unless_unknown call None = Ok call
+unless_unknown call (Some field) = Err (field_error UnknownField field)
+
+abbrev pub not_an_object : Data
+not_an_object = plain_error (codes "NotAnObject") (codes "The line is no JSON object")
+
+abbrev pub unknown_call : Data
+unknown_call = plain_error (codes "UnknownCall") (codes "The member 'call' names no call")
+
+abbrev pub not_json : Data
+not_json = plain_error (codes "NotJson") (codes "The line is no JSON")
+
+-- the call that an object is, each of whose members it knows
+unfoldable pub call_of : Data → Result Call Data
+call_of d = do
+  members ← ok_or (as_object d) not_an_object
+  call ← ok_or (option_and_then call_named (option_and_then as_str (get (codes "call") d))) unknown_call
+  unless_unknown call (unknown_in call members)
+
+-- ---- members
+
+-- a member that is needed
+abbrev pub required : List ℕ → Data → Result Data Data
+required field d = ok_or (get field d) (field_error MissingField field)
+
+-- the text, the whole number of 64 bits and the items that a member is
+abbrev pub text_in : List ℕ → Data → Result (List ℕ) Data
+text_in field d = ok_or (as_str d) (field_error InvalidField field)
+
+abbrev pub number_in : List ℕ → Data → Result ℕ Data
+number_in field d = ok_or (option_and_then as_u64 (as_number d)) (field_error InvalidField field)
+
+abbrev pub items_in : List ℕ → Data → Result Items Data
+items_in field d = ok_or (as_array d) (field_error InvalidField field)
+
+-- the URI that a text means
+abbrev pub uri_of_text : List ℕ → Result (List ℕ) Data
+uri_of_text text = as_error (as_invalid_uri (uri_of text))
+
+-- whether a member is `true`; it isn't where it is missing
+abbrev pub is_set_at : List ℕ → Option Data → Result Bool Data
+is_set_at field None = Ok false
+is_set_at field (Some d) = ok_or (as_bool d) (field_error InvalidField field)
+
+abbrev pub is_set : List ℕ → Data → Result Bool Data
+is_set field d = is_set_at field (get field d)
+
+-- the draft that a name means
+abbrev pub draft_named : List ℕ → Option Draft
+draft_named s =
+    if bytes_eq s (codes "4") then Some draft.Draft4
+    else (if bytes_eq s (codes "6") then Some draft.Draft6
+    else (if bytes_eq s (codes "7") then Some draft.Draft7
+    else (if bytes_eq s (codes "2019-09") then Some draft.Draft201909
+    else (if bytes_eq s (codes "2020-12") then Some draft.Draft202012 else None))))
+
+-- the name of a draft
+abbrev pub draft_name : Draft → List ℕ
+draft_name draft.Draft4 = codes "4"
+draft_name draft.Draft6 = codes "6"
+draft_name draft.Draft7 = codes "7"
+draft_name draft.Draft201909 = codes "2019-09"
+draft_name draft.Draft202012 = codes "2020-12"
+draft_name draft.Unknown = codes "unknown"
+
+-- the draft under `draft`, or else 2020-12
+abbrev pub draft_at : Option Data → Result Draft Data
+draft_at None = Ok draft.Draft202012
+draft_at (Some d) = ok_or (option_and_then draft_named (as_str d)) (field_error InvalidField (codes "draft"))
+
+unfoldable pub draft_of : Data → Result Draft Data
+draft_of d = draft_at (get (codes "draft") d)
+
+-- an object or a boolean
+abbrev pub schema_in : Data → Result Data Data
+schema_in d = if is_some (as_object d) || is_some (as_bool d) then Ok d else Err (field_error InvalidField (codes "schema"))
+
+unfoldable pub schema_of : Data → Result Data Data
+schema_of d = required (codes "schema") d >>= schema_in
+
+-- the URI under `base`
+unfoldable pub base_of : Data → Result (List ℕ) Data
+base_of d = do
+  value ← required (codes "base") d
+  text ← text_in (codes "base") value
+  uri_of_text text
+
+-- the URIs that texts mean
+abbrev pub uris_in : Items → Result (List (List ℕ)) Data
+uris_in no_items = Ok []
+uris_in (item d ds) = do
+  text ← text_in (codes "scope") d
+  uri ← uri_of_text text
+  uris ← uris_in ds
+  Ok (uri ∷ uris)
+
+-- the dynamic scope under `scope`, the innermost first, or else the empty one
+abbrev pub scope_at : Option Data → Result (List (List ℕ)) Data
+scope_at None = Ok []
+scope_at (Some d) = items_in (codes "scope") d >>= uris_in
+
+unfoldable pub scope_of : Data → Result (List (List ℕ)) Data
+scope_of d = scope_at (get (codes "scope") d)
+
+-- ---- documents
+
+-- `[text, schema]`: the text of a URI, a schema, and no third item
+abbrev pub pair_of : Items → Option (List ℕ × Data)
+pair_of (item uri (item tree no_items)) = option_map (λ text. (text, tree)) (as_str uri)
+pair_of other = None
+
+abbrev pub document_of : Data → Option (List ℕ × Data)
+document_of d = option_and_then pair_of (as_array d)
+
+-- what f gives of each item, if it gives something of each
+abbrev pub every : {B : Type 0} → (Data → Option B) → Items → Option (List B)
+every f no_items = Some []
+every f (item d ds) = option_and_then (λ y. option_map (λ ys. y ∷ ys) (every f ds)) (f d)
+
+-- a list of such
+unfoldable pub documents_of : Data → Option (List (List ℕ × Data))
+documents_of d = option_and_then (every document_of) (as_array d)
+
+-- the documents under a member, where it is there
+abbrev pub documents_at : List ℕ → Option Data → Result (Option (List (List ℕ × Data))) Data
+documents_at field None = Ok None
+documents_at field (Some d) = ok_or (option_map Some (documents_of d)) (field_error InvalidField field)
+
+-- the documents under `documents`, which are needed
+abbrev pub needed_documents : Option Data → Result (List (List ℕ × Data)) Data
+needed_documents found = documents_at (codes "documents") found >>= λ documents. ok_or documents (field_error MissingField (codes "documents"))
+
+-- documents under the URIs that their texts mean
+abbrev pub under_uris : List (List ℕ × Data) → Result (List (List ℕ × Data)) Data
+under_uris [] = Ok []
+under_uris (e ∷ es) = do
+  uri ← uri_of_text e.0
+  more ← under_uris es
+  Ok ((uri, e.1) ∷ more)

@@ -1,0 +1,88 @@
+-- The error objects of answers.
+use Rattle.std.specs.Prelude.{◌≡◌, ℕ, List, [], ◌∷◌, ◌++◌, codes, Result, Ok, Err, Option, Some, None}
+use Rattle.serde_json.specs.Data.{Data, string}
+use Rattle.serde_json.specs.declared.value.Value.{Value}
+use Rattle.ref_uri.specs.Targets.{Refusal}
+use Rattle.ref_definitions.specs.Fault.{Fault, fault_text, Unretrievable, PointerToNowhere, InvalidPercentEncoding, InvalidArrayIndex, NoSuchAnchor, InvalidAnchor, InvalidUri, UnknownSpecification, CircularMetaschema, RetrievalLimit}
+use Rattle.ref_retrieve.specs.declared.error.Error.{Error}
+use Rattle.ref_retrieve.specs.declared.error.Error.TheVariants as error
+use Rattle.ref_retrieve.specs.Errors.{SaysFault}
+use Rattle.ref_calls.specs.declared.fault.Wrong.{Wrong}
+use Rattle.ref_calls.specs.declared.fault.Wrong.TheVariants.{UnknownField, MissingField, InvalidField, UnknownRegistry}
+use Rattle.ref_calls.specs.declared.stop.Stop.{Stop}
+use Rattle.ref_calls.specs.declared.stop.Stop.TheVariants.{Memory}
+use Rattle.ref_calls.specs.Outcome.{IsStop}
+use Rattle.ref_calls.specs.Objects.{object_of}
+
+-- an error's name and message
+abbrev pub error_members : List ℕ → List ℕ → List (List ℕ × Data)
+error_members name message = (codes "name", string name) ∷ (codes "message", string message) ∷ []
+
+-- an error without further members
+abbrev pub plain_error : List ℕ → List ℕ → Data
+plain_error name message = object_of (error_members name message)
+
+-- ---- what is wrong with a member
+
+abbrev pub wrong_name : Wrong → List ℕ
+wrong_name UnknownField = codes "UnknownField"
+wrong_name MissingField = codes "MissingField"
+wrong_name InvalidField = codes "InvalidField"
+wrong_name UnknownRegistry = codes "UnknownRegistry"
+
+abbrev pub wrong_text : Wrong → List ℕ
+wrong_text UnknownField = codes "Unknown member"
+wrong_text MissingField = codes "Missing member"
+wrong_text InvalidField = codes "Wrong type or form of the member"
+wrong_text UnknownRegistry = codes "No open registry has the number under"
+
+-- the members of its error
+abbrev pub field_members : Wrong → List ℕ → List (List ℕ × Data)
+field_members wrong field =
+    (codes "name", string (wrong_name wrong)) ∷ (codes "message", string (wrong_text wrong ++ codes " '" ++ field ++ codes "'")) ∷ (codes "field", string field) ∷ []
+
+-- its error
+unfoldable pub field_error : Wrong → List ℕ → Data
+field_error wrong field = object_of (field_members wrong field)
+
+-- ---- faults
+
+abbrev pub fault_name : Fault → List ℕ
+fault_name (Unretrievable uri source) = codes "Unretrievable"
+fault_name (PointerToNowhere pointer) = codes "PointerToNowhere"
+fault_name (InvalidPercentEncoding pointer) = codes "InvalidPercentEncoding"
+fault_name (InvalidArrayIndex pointer index) = codes "InvalidArrayIndex"
+fault_name (NoSuchAnchor anchor) = codes "NoSuchAnchor"
+fault_name (InvalidAnchor anchor) = codes "InvalidAnchor"
+fault_name (InvalidUri refusal) = codes "InvalidUri"
+fault_name (UnknownSpecification uri) = codes "UnknownSpecification"
+fault_name (CircularMetaschema uri) = codes "CircularMetaschema"
+fault_name (RetrievalLimit uri limit) = codes "RetrievalLimit"
+
+-- the document that is wanted and isn't there: its URI, and by what it is wanted
+abbrev pub wanted : Fault → Option (List ℕ × List ℕ)
+wanted (Unretrievable uri source) = Some (uri, codes "reference")
+wanted (UnknownSpecification uri) = Some (uri, codes "meta-schema")
+wanted other = None
+
+abbrev pub wanted_members : Option (List ℕ × List ℕ) → List (List ℕ × Data)
+wanted_members None = []
+wanted_members (Some w) = (codes "uri", string w.0) ∷ (codes "kind", string w.1) ∷ []
+
+-- the members of a fault's error
+abbrev pub fault_members : Fault → List (List ℕ × Data)
+fault_members fault = error_members (fault_name fault) (fault_text fault) ++ wanted_members (wanted fault)
+
+-- a fault's error
+unfoldable pub fault_error : Fault → Data
+fault_error fault = object_of (fault_members fault)
+
+-- the stop of an error: that memory ran out, or the error of the fault that it says
+abbrev pub IsStopOf : Error → Stop Value → Type 0
+IsStopOf (error.Memory memory) stop = stop ≡ Memory
+IsStopOf other stop = (fault : Fault) → SaysFault other fault → IsStop stop (fault_error fault)
+
+-- a fault as an error object
+abbrev pub as_error : {A : Type 0} → Result A Fault → Result A Data
+as_error (Ok x) = Ok x
+as_error (Err fault) = Err (fault_error fault)

@@ -1,0 +1,5 @@
+pub mod Outcome
+pub mod Objects
+pub mod Errors
+pub mod Calls
+pub mod inner

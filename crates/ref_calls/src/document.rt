@@ -1,0 +1,113 @@
+//! The documents of a call.
+ghost use Rattle.std.specs.Prelude.{◌≡◌, ◌≢◌, ℕ, List, codes, map, option_map, IfOk};
+ghost use Rattle.serde_json.specs.Find.{get, get_member};
+ghost use Rattle.serde_json.specs.View.{view, members_view};
+ghost use Rattle.ref_retrieve.specs.Retrieving.{trees_of};
+ghost use Rattle.ref_calls.specs.Calls as spec;
+ghost use Rattle.ref_calls.specs.Outcome.{Answers};
+ghost use Rattle.ref_calls.specs.inner.Given.{given_of};
+
+use crate::fault::{Wrong, field_error};
+use crate::field::uri_of;
+use crate::members::Members;
+use crate::stop::Stop;
+use ref_uri::Uri;
+use serde_json::{Map, Value};
+use std::alloc::{AllocError, Global};
+
+/// A document: the text of its URI, and its tree.
+pub type Document = (String, Value);
+
+// The pair that an item is.
+fn document_of(item: Value) -> Option<Document>
+    ensures { option_map given_of result ≡ spec.document_of (view item) }
+{
+    let Value::Array(mut items) = item else {
+        return None;
+    };
+    if items.len() != 2 {
+        return None;
+    }
+    let tree = items.pop()?;
+    match items.pop()? {
+        Value::String(uri) => Some((uri, tree)),
+        _ => None,
+    }
+}
+
+// The pairs that a list has, unless an item is none.
+#[tactic(auto, unfolding(crate::specs::Calls::documents_of))]
+fn documents_of(alloc: Global, value: Value) -> Result<Option<Vec<Document>>, AllocError>
+    ensures { IfOk result (λ o. option_map (λ v. map given_of v.items) o ≡ spec.documents_of (view value)) }
+{
+    let Value::Array(items) = value else {
+        return Ok(None);
+    };
+    let mut documents = Vec::with_capacity(alloc, items.len())?;
+    for item in items {
+        let Some(document) = document_of(item) else {
+            return Ok(None);
+        };
+        documents.push(document)?;
+    }
+    Ok(Some(documents))
+}
+
+// The member under a key, which is taken out.
+fn taken(members: &mut Members, key: &str) -> Option<Value>
+    ensures value { option_map view result ≡ get_member key.now (members_view members.old.entries) }
+    ensures others { (other : List ℕ) → other ≢ key.now → get_member other (members_view members.new.entries) ≡ get_member other (members_view members.old.entries) }
+{
+    members.remove(key)
+}
+
+/// The documents under a member, where it is there.
+pub fn documents_under(
+    alloc: Global,
+    members: &mut Members,
+    field: &str,
+) -> Result<Option<Vec<Document>>, Stop<Value>>
+    ensures value { Answers (option_map (λ v. map given_of v.items)) result (spec.documents_at field.now (get_member field.now (members_view members.old.entries))) }
+    ensures others { (other : List ℕ) → other ≢ field.now → get_member other (members_view members.new.entries) ≡ get_member other (members_view members.old.entries) }
+{
+    let Some(value) = taken(members, field) else {
+        return Ok(None);
+    };
+    match documents_of(alloc, value)? {
+        Some(documents) => Ok(Some(documents)),
+        None => Err(field_error(alloc, Wrong::InvalidField, field)),
+    }
+}
+
+/// The documents under `documents`, which are needed.
+pub fn needed_documents(alloc: Global, members: &mut Members) -> Result<Vec<Document>, Stop<Value>>
+    ensures value { Answers (λ v. map given_of v.items) result (spec.needed_documents (get_member (codes "documents") (members_view members.old.entries))) }
+    ensures others { (other : List ℕ) → other ≢ codes "documents" → get_member other (members_view members.new.entries) ≡ get_member other (members_view members.old.entries) }
+{
+    match documents_under(alloc, members, "documents")? {
+        Some(documents) => Ok(documents),
+        None => Err(field_error(alloc, Wrong::MissingField, "documents")),
+    }
+}
+
+/// Documents under the URIs that their texts mean.
+pub fn under_uris(alloc: Global, documents: Vec<Document>) -> Result<Vec<(Uri, Value)>, Stop<Value>>
+    ensures { Answers (λ v. trees_of v.items) result (spec.under_uris (map given_of documents.items)) }
+{
+    let mut pairs = Vec::with_capacity(alloc, documents.len())?;
+    for (text, tree) in documents {
+        let uri = uri_of(alloc, text.as_str())?;
+        pairs.push((uri, tree))?;
+    }
+    Ok(pairs)
+}
+
+/// The members of an object.
+pub fn members_of(alloc: Global, tree: Value) -> Members
+    ensures { (key : List ℕ) → get_member key (members_view result.entries) ≡ get key (view tree) }
+{
+    match tree {
+        Value::Object(members) => members,
+        _ => Map::new(alloc),
+    }
+}

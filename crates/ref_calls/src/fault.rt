@@ -1,0 +1,165 @@
+//! Error objects.
+ghost use Rattle.std.specs.Prelude.{◌≡◌, true, IfOk, OnOk, IsErr, option_map};
+ghost use Rattle.serde_json.specs.Data.{no_members};
+ghost use Rattle.serde_json.specs.View.{view, members_view};
+ghost use Rattle.ref_definitions.specs.Fault.{Fault};
+ghost use Rattle.ref_retrieve.specs.Errors.{is_memory, SaysFault};
+ghost use Rattle.ref_calls.specs.Objects.{with_all};
+ghost use Rattle.ref_calls.specs.Errors as spec;
+ghost use Rattle.ref_calls.specs.Outcome.{IsStop};
+
+use crate::members::{Members, put_text};
+use crate::stop::Stop;
+use ref_retrieve::Error;
+use ref_retrieve::laws::errors_say_faults;
+use serde_json::{Map, Value};
+use std::alloc::{AllocError, Global};
+
+/// What is wrong with a member of a call.
+#[derive(Clone, Copy, PartialEq, Eq, Drop)]
+pub enum Wrong {
+    /// The call doesn't know it.
+    UnknownField,
+    /// The call needs it, and it isn't there.
+    MissingField,
+    /// It has the wrong type or form.
+    InvalidField,
+    /// No open registry has its number.
+    UnknownRegistry,
+}
+
+impl Wrong {
+    fn name(self) -> &'static str
+        ensures { result.now ≡ spec.wrong_name self }
+    {
+        match self {
+            Wrong::UnknownField => "UnknownField",
+            Wrong::MissingField => "MissingField",
+            Wrong::InvalidField => "InvalidField",
+            Wrong::UnknownRegistry => "UnknownRegistry",
+        }
+    }
+
+    fn text(self) -> &'static str
+        ensures { result.now ≡ spec.wrong_text self }
+    {
+        match self {
+            Wrong::UnknownField => "Unknown member",
+            Wrong::MissingField => "Missing member",
+            Wrong::InvalidField => "Wrong type or form of the member",
+            Wrong::UnknownRegistry => "No open registry has the number under",
+        }
+    }
+}
+
+/// The members of an error: its name and its message.
+pub fn error_members(alloc: Global, name: &str, message: &str) -> Result<Members, AllocError>
+    ensures { IfOk result (λ m. members_view m.entries ≡ with_all (spec.error_members name.now message.now) no_members) }
+{
+    let mut members = Map::new(alloc);
+    put_text(alloc, &mut members, "name", name)?;
+    put_text(alloc, &mut members, "message", message)?;
+    Ok(members)
+}
+
+/// An error without further members.
+pub fn plain_error(alloc: Global, name: &str, message: &str) -> Stop<Value>
+    ensures { IsStop result (spec.plain_error name.now message.now) }
+{
+    match error_members(alloc, name, message) {
+        Ok(members) => Stop::Because(Value::Object(members)),
+        Err(_) => Stop::Memory,
+    }
+}
+
+fn field_members(alloc: Global, wrong: Wrong, field: &str) -> Result<Members, AllocError>
+    ensures { IfOk result (λ m. members_view m.entries ≡ with_all (spec.field_members wrong field.now) no_members) }
+{
+    let text = wrong.text();
+    let message = format!(in alloc; "{text} '{field}'")?;
+    let mut members = error_members(alloc, wrong.name(), message.as_str())?;
+    put_text(alloc, &mut members, "field", field)?;
+    Ok(members)
+}
+
+/// The error of a member.
+#[tactic(auto, unfolding(crate::specs::Errors::field_error))]
+pub fn field_error(alloc: Global, wrong: Wrong, field: &str) -> Stop<Value>
+    ensures { IsStop result (spec.field_error wrong field.now) }
+{
+    match field_members(alloc, wrong, field) {
+        Ok(members) => Stop::Because(Value::Object(members)),
+        Err(_) => Stop::Memory,
+    }
+}
+
+// The name of a fault.
+fn name_of(error: &Error) -> &'static str
+    ensures { (fault : Fault) → SaysFault error.now fault → result.now ≡ spec.fault_name fault }
+{
+    match error {
+        Error::Unretrievable { .. } => "Unretrievable",
+        Error::PointerToNowhere { .. } => "PointerToNowhere",
+        Error::InvalidPercentEncoding { .. } => "InvalidPercentEncoding",
+        Error::InvalidArrayIndex { .. } => "InvalidArrayIndex",
+        Error::NoSuchAnchor { .. } => "NoSuchAnchor",
+        Error::InvalidAnchor { .. } => "InvalidAnchor",
+        Error::InvalidUri(_) => "InvalidUri",
+        Error::UnknownSpecification { .. } => "UnknownSpecification",
+        Error::CircularMetaschema { .. } => "CircularMetaschema",
+        Error::RetrievalLimit { .. } => "RetrievalLimit",
+        Error::Memory(_) => "OutOfMemory",
+    }
+}
+
+// The document that is wanted and isn't there: its URI, and by what it is wanted.
+fn wanted_of(error: &Error) -> Option<(&str, &'static str)>
+    ensures { (fault : Fault) → SaysFault error.now fault → option_map (λ w. (w.0.now, w.1.now)) result ≡ spec.wanted fault }
+{
+    match error {
+        Error::Unretrievable { uri, .. } => Some((uri.as_str(), "reference")),
+        Error::UnknownSpecification { specification } => {
+            Some((specification.as_str(), "meta-schema"))
+        }
+        _ => None,
+    }
+}
+
+// Puts the document that is wanted and isn't there.
+fn put_wanted(alloc: Global, members: &mut Members, error: &Error) -> Result<(), AllocError>
+    ensures { (fault : Fault) → SaysFault error.now fault → OnOk result (members_view members.new.entries ≡ with_all (spec.wanted_members (spec.wanted fault)) (members_view members.old.entries)) }
+{
+    match wanted_of(error) {
+        Some((uri, kind)) => {
+            put_text(alloc, members, "uri", uri)?;
+            put_text(alloc, members, "kind", kind)
+        }
+        None => Ok(()),
+    }
+}
+
+/// The members of a fault's error. Running out of memory is none.
+pub fn fault_members(alloc: Global, error: &Error) -> Result<Members, AllocError>
+    ensures members { (fault : Fault) → SaysFault error.now fault → IfOk result (λ m. members_view m.entries ≡ with_all (spec.fault_members fault) no_members) }
+    ensures memory { is_memory error.now ≡ true → IsErr result }
+{
+    if error.is_memory() {
+        return Err(AllocError);
+    }
+    errors_say_faults();
+    let message = format!(in alloc; "{error}")?;
+    let mut members = error_members(alloc, name_of(error), message.as_str())?;
+    put_wanted(alloc, &mut members, error)?;
+    Ok(members)
+}
+
+/// The error of a fault.
+#[tactic(auto, unfolding(crate::specs::Errors::fault_error))]
+pub fn fault_error(alloc: Global, error: &Error) -> Stop<Value>
+    ensures { spec.IsStopOf error.now result }
+{
+    match fault_members(alloc, error) {
+        Ok(members) => Stop::Because(Value::Object(members)),
+        Err(_) => Stop::Memory,
+    }
+}

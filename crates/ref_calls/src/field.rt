@@ -1,0 +1,185 @@
+//! The members of calls.
+ghost use Rattle.std.specs.Prelude.{◌≡◌, IfOk};
+ghost use Rattle.serde_json.specs.View.{view, items_view};
+ghost use Rattle.ref_calls.specs.Calls as spec;
+ghost use Rattle.ref_calls.specs.Outcome.{Answers};
+
+use crate::fault::{Wrong, fault_error, field_error};
+use crate::stop::Stop;
+use ref_draft::Draft;
+use ref_parts::list::List;
+use ref_retrieve::Error;
+use ref_uri::Uri;
+use ref_uri::uri::from_str;
+use serde_json::Value;
+use std::alloc::{AllocError, Global};
+use std::rc::Rc;
+
+/// A member that is needed.
+pub fn required<'t>(alloc: Global, tree: &'t Value, field: &str) -> Result<&'t Value, Stop<Value>>
+    ensures { Answers (λ v. view v.now) result (spec.required field.now (view tree.now)) }
+{
+    match tree.get(field) {
+        Some(value) => Ok(value),
+        None => Err(field_error(alloc, Wrong::MissingField, field)),
+    }
+}
+
+/// The text that a member is.
+pub fn text_in<'t>(alloc: Global, value: &'t Value, field: &str) -> Result<&'t str, Stop<Value>>
+    ensures { Answers (λ s. s.now) result (spec.text_in field.now (view value.now)) }
+{
+    match value.as_str() {
+        Some(text) => Ok(text),
+        None => Err(field_error(alloc, Wrong::InvalidField, field)),
+    }
+}
+
+/// The whole number that a member is.
+pub fn number_in(alloc: Global, value: &Value, field: &str) -> Result<usize, Stop<Value>>
+    ensures { Answers (λ n. n) result (spec.number_in field.now (view value.now)) }
+{
+    match value.as_u64() {
+        Some(number) => Ok(number as usize),
+        None => Err(field_error(alloc, Wrong::InvalidField, field)),
+    }
+}
+
+/// The items that a member has.
+pub fn items_in<'t>(
+    alloc: Global,
+    value: &'t Value,
+    field: &str,
+) -> Result<&'t [Value], Stop<Value>>
+    ensures { Answers (λ items. items_view items.now) result (spec.items_in field.now (view value.now)) }
+{
+    match value.as_array() {
+        Some(items) => Ok(items.as_slice()),
+        None => Err(field_error(alloc, Wrong::InvalidField, field)),
+    }
+}
+
+/// The URI that a text means.
+pub fn uri_of(alloc: Global, text: &str) -> Result<Uri, Stop<Value>>
+    ensures { Answers (λ u. u) result (spec.uri_of_text text.now) }
+{
+    match from_str(alloc, text) {
+        Ok(uri) => Ok(uri),
+        Err(fault) => Err(fault_error(alloc, &Error::from(fault))),
+    }
+}
+
+/// Whether a member is `true`; it isn't where it is missing.
+pub fn is_set(alloc: Global, tree: &Value, field: &str) -> Result<bool, Stop<Value>>
+    ensures { Answers (λ b. b) result (spec.is_set field.now (view tree.now)) }
+{
+    let Some(value) = tree.get(field) else {
+        return Ok(false);
+    };
+    match value.as_bool() {
+        Some(is_set) => Ok(is_set),
+        None => Err(field_error(alloc, Wrong::InvalidField, field)),
+    }
+}
+
+fn draft_named(name: &str) -> Option<Draft>
+    ensures { result ≡ spec.draft_named name.now }
+{
+    match name {
+        "4" => Some(Draft::Draft4),
+        "6" => Some(Draft::Draft6),
+        "7" => Some(Draft::Draft7),
+        "2019-09" => Some(Draft::Draft201909),
+        "2020-12" => Some(Draft::Draft202012),
+        _ => None,
+    }
+}
+
+/// The name of a draft.
+pub fn draft_name(draft: Draft) -> &'static str
+    ensures { result.now ≡ spec.draft_name draft }
+{
+    match draft {
+        Draft::Draft4 => "4",
+        Draft::Draft6 => "6",
+        Draft::Draft7 => "7",
+        Draft::Draft201909 => "2019-09",
+        Draft::Draft202012 => "2020-12",
+        Draft::Unknown => "unknown",
+    }
+}
+
+/// The draft under `draft`, or else 2020-12.
+#[tactic(auto, unfolding(crate::specs::Calls::draft_of))]
+pub fn draft_of(alloc: Global, tree: &Value) -> Result<Draft, Stop<Value>>
+    ensures { Answers (λ d. d) result (spec.draft_of (view tree.now)) }
+{
+    let Some(value) = tree.get("draft") else {
+        return Ok(Draft::Draft202012);
+    };
+    match value.as_str().and_then(draft_named) {
+        Some(draft) => Ok(draft),
+        None => Err(field_error(alloc, Wrong::InvalidField, "draft")),
+    }
+}
+
+/// An object or a boolean.
+#[tactic(auto, unfolding(crate::specs::Calls::schema_of))]
+pub fn schema_of(alloc: Global, tree: &Value) -> Result<&Value, Stop<Value>>
+    ensures { Answers (λ v. view v.now) result (spec.schema_of (view tree.now)) }
+{
+    let value = required(alloc, tree, "schema")?;
+    if value.is_object() || value.is_boolean() {
+        Ok(value)
+    } else {
+        Err(field_error(alloc, Wrong::InvalidField, "schema"))
+    }
+}
+
+/// The URI under `base`.
+#[tactic(auto, unfolding(crate::specs::Calls::base_of))]
+pub fn base_of(alloc: Global, tree: &Value) -> Result<Uri, Stop<Value>>
+    ensures { Answers (λ u. u) result (spec.base_of (view tree.now)) }
+{
+    let value = required(alloc, tree, "base")?;
+    let text = text_in(alloc, value, "base")?;
+    uri_of(alloc, text)
+}
+
+// The URIs that texts mean.
+fn uris_in(alloc: Global, items: &[Value]) -> Result<Vec<Uri>, Stop<Value>>
+    ensures { Answers (λ v. v.items) result (spec.uris_in (items_view items.now)) }
+{
+    let mut uris = Vec::with_capacity(alloc, items.len())?;
+    for item in items {
+        let text = text_in(alloc, item, "scope")?;
+        let uri = uri_of(alloc, text)?;
+        uris.push(uri)?;
+    }
+    Ok(uris)
+}
+
+// The list of the same URIs, in the same order.
+fn list_of(alloc: Global, uris: Vec<Uri>) -> Result<List<Uri>, AllocError>
+    ensures { IfOk result (λ list. list ≡ uris.items) }
+{
+    let mut uris = uris;
+    let mut list = List::new();
+    while let Some(uri) = uris.pop() {
+        list = list.push_front(alloc, Rc::new(alloc, uri)?)?;
+    }
+    Ok(list)
+}
+
+/// The dynamic scope under `scope`, or else the empty one.
+#[tactic(auto, unfolding(crate::specs::Calls::scope_of))]
+pub fn scope_of(alloc: Global, tree: &Value) -> Result<List<Uri>, Stop<Value>>
+    ensures { Answers (λ list. list) result (spec.scope_of (view tree.now)) }
+{
+    let Some(value) = tree.get("scope") else {
+        return Ok(List::new());
+    };
+    let items = items_in(alloc, value, "scope")?;
+    let uris = uris_in(alloc, items)?;
+    Ok(list_of(alloc, uris)?)
+}

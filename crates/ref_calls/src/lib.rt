@@ -1,0 +1,17 @@
+//! Calls that are JSON objects, and the objects that answer them: which call an object is, what its members are, and why a call has no result.
+//!
+//! `docs/PROTOCOL.md` describes them. Read `specs/Calls.antt` first, and then `specs/Errors.antt`.
+#![tactic(auto)]
+
+pub mod answer;
+pub mod call;
+pub mod document;
+pub mod fault;
+pub mod field;
+pub mod members;
+pub mod stop;
+
+pub use call::{Call, call_of};
+pub use fault::Wrong;
+pub use members::Members;
+pub use stop::Stop;

@@ -1,0 +1,15 @@
+use Rattle.std.proofs.Common.{refl}
+use Rattle.ref_definitions.proofs.OnLiterals.{world_on_literals}
+use Rattle.ref_definitions.proofs.examples.vocabularies.texts_of_sets.Goals as goal
+
+pub returns : goal.returns
+unfolding world_on_literals
+returns c = record {
+  known_and_custom = refl;
+  none = refl;
+  one_name = refl;
+  two_names = refl;
+  of_bits_and_custom = refl;
+  in_quotes = refl;
+  nothing_in_quotes = refl;
+}

@@ -1,0 +1,44 @@
+-- A line that is read piece by piece.
+use Rattle.std.proofs.Common.{◌≡◌, ℕ, Bool, true, false, List, [], ◌∷◌, ◌++◌, inl, Option, refl, sym, ap, ◌∙◌, subst, append_assoc, append-nil}
+use Rattle.std.proofs.lemmas.Bool.{false≢true}
+use Rattle.std.proofs.KnownBytes.{Consumes-nil, Consumes-trans}
+use Rattle.std.specs.Io.KnownBytes.{Consumes}
+use Rattle.ref_lines.specs.declared.line.Line.{Line}
+use Rattle.ref_lines.specs.declared.line.Part.{Part}
+use Rattle.ref_lines.specs.inner.Held.{IsFree, Keeps, Passes, Cuts, IsNext, Got, GotNext}
+use Rattle.ref_lines.proofs.Cutting.{free_append}
+
+-- what passing bytes gives a line
+abbrev pub Passed : List ℕ → List ℕ → Part → Part → Bool → Type 0
+Passed held held' part part' met = (line : List ℕ) → Keeps part line → (passed : List ℕ) × Passes held passed met held' × Keeps part' (line ++ passed)
+
+pub got_none : (left : Option (List ℕ)) (held : List ℕ) (part : Part) (ended : Bool) → Keeps part [] → Got left left held held part ended ended
+got_none left held part ended keeps = ([], [], Consumes-nil left, append-nil held, tt, keeps, λ is. (refl, is))
+
+pub got_line : (left left' : Option (List ℕ)) (before held after : List ℕ) (part part' : Part) (line : Line) (ended mid ended' : Bool)
+    → Got left left' before held part ended mid → Passed held after part part' true → ended' ≡ mid
+    → ((l b a : List ℕ) (e : Bool) → Keeps part' l → Cuts b l a e → IsNext line b a e)
+    → GotNext left left' before after line ended ended'
+got_line left left' before held after part part' line ended mid ended' (bytes, l, consumes, is, free, keeps, stays) pass same gives =
+    let (passed, (front, cut), kept) = pass l keeps in
+    let whole : before ++ bytes ≡ (l ++ passed) ++ 10 ∷ after = is ∙ ap (λ ys. l ++ ys) cut ∙ sym (append_assoc l passed (10 ∷ after)) in
+    (bytes, consumes, gives (l ++ passed) (before ++ bytes) after ended' kept (free_append l passed free front, inl whole), λ e. ((stays e).0, same ∙ (stays e).1))
+
+pub got_last : (left left' : Option (List ℕ)) (before held after : List ℕ) (part part' : Part) (line : Line) (ended mid ended' : Bool)
+    → Got left left' before held part ended mid → Passed held after part part' false → ended' ≡ mid → ended' ≡ true
+    → ((l b a : List ℕ) → Keeps part' l → IsFree l → b ≡ l → a ≡ [] → IsNext line b a true)
+    → GotNext left left' before after line ended ended'
+got_last left left' before held after part part' line ended mid ended' (bytes, l, consumes, is, free, keeps, stays) pass same end gives =
+    let (passed, (front, whole, none), kept) = pass l keeps in
+    let all : before ++ bytes ≡ l ++ passed = is ∙ ap (λ ys. l ++ ys) whole in
+    let next : IsNext line (before ++ bytes) after true = gives (l ++ passed) (before ++ bytes) after kept (free_append l passed free front) all none in
+    (bytes, consumes, subst (IsNext line (before ++ bytes) after) (sym end) next, λ e. ((stays e).0, same ∙ (stays e).1))
+
+pub got_more : (left left' left'' : Option (List ℕ)) (before held after more : List ℕ) (part part' : Part) (ended mid ended' : Bool)
+    → Got left left' before held part ended mid → Passed held after part part' false → mid ≡ false → Consumes left' left'' more
+    → Got left left'' before more part' ended ended'
+got_more left left' left'' before held after more part part' ended mid ended' (bytes, l, consumes, is, free, keeps, stays) pass begun consumed =
+    let (passed, (front, whole, none), kept) = pass l keeps in
+    let all : before ++ (bytes ++ more) ≡ (l ++ passed) ++ more =
+    sym (append_assoc before bytes more) ∙ ap (λ ys. ys ++ more) (is ∙ ap (λ ys. l ++ ys) whole) in
+    (bytes ++ more, l ++ passed, Consumes-trans left left' left'' bytes more consumes consumed, all, free_append l passed free front, kept, λ e. absurd (false≢true (sym begun ∙ (stays e).1)))

@@ -1,0 +1,3 @@
+pub mod Cutting
+pub mod Getting
+pub mod Serving

@@ -1,0 +1,59 @@
+-- Answers that are written one after another.
+use Rattle.std.proofs.Common.{◌≡◌, ℕ, Bool, true, List, [], ◌∷◌, ◌++◌, Option, Some, None, Result, Vec, refl, sym, ap, ◌∙◌, subst, append_assoc, append-nil}
+use Rattle.std.specs.declared.alloc.AllocError.{AllocError}
+use Rattle.std.specs.declared.alloc.Global.{Global}
+use Rattle.std.proofs.KnownBytes.{Consumes-nil, Consumes-trans, Appends-nil, Appends-trans}
+use Rattle.std.specs.Io.KnownBytes.{Appends}
+use Rattle.ref_lines.specs.Lines.{lines}
+use Rattle.ref_lines.specs.Serving.{Answers, AnswersLine, Serves, ServedSoFar}
+use Rattle.ref_lines.specs.inner.Answering.{answer_text, Served, GotAnswer}
+use Rattle.ref_lines.proofs.Cutting.{cut_lines, no_lines}
+
+module _ {S : Type 0} (may_answer : S → List ℕ → S → List ℕ → Type 0) where
+  -- one answer more
+  pub answers_more : (s : S) (front : List (List ℕ)) (t : S) (text : List ℕ) (line : List ℕ) (next : S) (more : List ℕ)
+      → Answers may_answer s front t text → AnswersLine may_answer t line next more → Answers may_answer s (front ++ line ∷ []) next (text ++ more)
+  answers_more s [] t text line next more (none, same) answer =
+      let whole : text ++ more ≡ more ++ [] = ap (λ ys. ys ++ more) none ∙ sym (append-nil more) in
+      (next, more, [], subst (λ x. AnswersLine may_answer x line next more) same answer, (refl, refl), whole)
+  answers_more s (l ∷ front) t text line next more (mid, first, rest, one, others, is) answer =
+      let whole : text ++ more ≡ first ++ (rest ++ more) = ap (λ ys. ys ++ more) is ∙ append_assoc first rest more in
+      (mid, first, rest ++ more, one, answers_more mid front t rest line next more others answer, whole)
+
+  pub served_none : (s : S) (left taken : Option (List ℕ)) (held : List ℕ) (ended : Bool) → held ≡ [] → Served may_answer s s left left taken taken held ended
+  served_none s left taken held ended none =
+      ([], [], [], Consumes-nil left, Appends-nil taken, (refl, refl), λ rest _. ap (λ ys. lines (ys ++ rest)) (sym none))
+
+  pub served_more : (s t next : S) (left left' left'' taken taken' taken'' : Option (List ℕ)) (held after : List ℕ) (ended ended' : Bool) (answer : Result (Vec ℕ Global) AllocError)
+      → Served may_answer s t left left' taken taken' held ended → GotAnswer may_answer t next left' left'' (Some answer) held after ended ended'
+      → Appends taken' taken'' (answer_text answer) → Served may_answer s next left left'' taken taken'' after ended'
+  served_more s t next left left' left'' taken taken' taken'' held after ended ended' answer (bytes, text, front, consumes, appends, answers, are) (more, consumed, (line, cut, one), stays) written =
+      let step = λ (rest : List ℕ) (none : ended' ≡ true → rest ≡ []).
+      let before : lines (bytes ++ (more ++ rest)) ≡ front ++ lines (held ++ (more ++ rest)) =
+      are (more ++ rest) (λ e. ap (λ ys. ys ++ rest) (stays e).0 ∙ none (stays e).1) in
+      let cuts : lines ((held ++ more) ++ rest) ≡ line ∷ lines (after ++ rest) = cut_lines (held ++ more) line after rest ended' cut none in
+      ap lines (append_assoc bytes more rest) ∙ before ∙ ap (λ ys. front ++ lines ys) (sym (append_assoc held more rest)) ∙ ap (λ ls. front ++ ls) cuts
+      ∙ sym (append_assoc front (line ∷ []) (lines (after ++ rest))) in (
+        bytes ++ more,
+        text ++ answer_text answer,
+        front ++ line ∷ [],
+        Consumes-trans left left' left'' bytes more consumes consumed,
+        Appends-trans taken taken' taken'' text (answer_text answer) appends written,
+        answers_more s front t text line next (answer_text answer) answers one,
+        step,
+      )
+
+  pub served_all : (s t next : S) (left left' left'' taken taken' : Option (List ℕ)) (held after : List ℕ) (ended ended' : Bool)
+      → Served may_answer s t left left' taken taken' held ended → GotAnswer may_answer t next left' left'' None held after ended ended'
+      → Serves may_answer s next left left'' taken taken'
+  served_all s t next left left' left'' taken taken' held after ended ended' (bytes, text, front, consumes, appends, answers, are) (more, consumed, (none, empty, end, same), stays) =
+      let before : lines (bytes ++ more) ≡ front ++ lines (held ++ more) = are more (λ e. (stays e).0) in
+      let all : lines (bytes ++ more) ≡ front = before ∙ ap (λ ys. front ++ lines ys) none ∙ ap (λ ls. front ++ ls) no_lines ∙ append-nil front in
+      let given : Answers may_answer s (lines (bytes ++ more)) next text =
+      subst (λ ls. Answers may_answer s ls next text) (sym all) (subst (λ x. Answers may_answer s front x text) (sym same) answers) in
+      (bytes ++ more, text, Consumes-trans left left' left'' bytes more consumes consumed, given, appends)
+
+  pub served_so_far : (s t next : S) (left left' taken taken' : Option (List ℕ)) (held : List ℕ) (ended : Bool)
+      → Served may_answer s t left left' taken taken' held ended → next ≡ t → ServedSoFar may_answer s next taken taken'
+  served_so_far s t next left left' taken taken' held ended (bytes, text, front, consumes, appends, answers, are) same =
+      (front, text, subst (λ x. Answers may_answer s front x text) (sym same) answers, appends)

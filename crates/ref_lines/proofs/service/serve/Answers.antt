@@ -1,0 +1,33 @@
+use Rattle.std.proofs.Common.{sym, ◌∙◌, refl}
+use Rattle.std.proofs.lemmas.Bool.{false≢true}
+use Rattle.ref_lines.specs.inner.Held.{held}
+use Rattle.ref_lines.proofs.Serving.{served_none, served_more, served_all}
+use Rattle.ref_lines.proofs.service.serve.Goals as goal
+
+pub loop-init : goal.loop-init
+loop-init g c = record {
+  served = served_none g.S.Service.may_answer c.args.service.now _ _ (held c.new-chunk.result) c.new-chunk.result.has_ended c.new-chunk.ensures.held;
+  end = λ e. absurd (false≢true (sym c.new-chunk.ensures.ended ∙ e));
+  reads = refl;
+  writes = refl;
+}
+
+pub returns-in-None-clause-served : goal.returns-in-None-clause-served
+returns-in-None-clause-served g c =
+    let next = rw c.in-None.is at c.in_ok-answer.ensures.next in
+    let (bytes, consumes, (none, empty, end, same), stays) = next in (
+      c.in_ok-answer.ensures.end c.loop.invariant.end end,
+      served_all g.S.Service.may_answer c.args.service.now c.loop.service c.next_answer.new.service _ _ _ _ _ (held c.loop.chunk) (held c.next_answer.new.chunk) c.loop.chunk.has_ended c.next_answer.new.chunk.has_ended
+          c.loop.invariant.served next,
+    )
+
+pub loop-preserved : goal.loop-preserved
+loop-preserved g c =
+    let next = rw c.in-Some.is at c.in_ok-answer.ensures.next in
+    record {
+      served = served_more g.S.Service.may_answer c.args.service.now c.loop.service c.next_answer.new.service _ _ _ _ _ _ (held c.loop.chunk) (held c.next_answer.new.chunk) c.loop.chunk.has_ended c.next_answer.new.chunk.has_ended
+          c.in-Some.answer c.loop.invariant.served next c.in_ok-write-in-Some.ensures.taken;
+      end = c.in_ok-answer.ensures.end c.loop.invariant.end;
+      reads = c.in_ok-answer.ensures.count ∙ c.loop.invariant.reads;
+      writes = c.in_ok-write-in-Some.ensures.kept ∙ c.loop.invariant.writes;
+    }

@@ -1,0 +1,87 @@
+-- Where a value is, part by part of a pointer.
+use Rattle.std.proofs.Common.{◌≡◌, ℕ, true, false, List, [], ◌∷◌, ◌++◌, map, Some, None, is_some, Result, Ok, Err, IfOk, sym, ap, ◌∙◌}
+use Rattle.std.specs.Option.{ok_or}
+use Rattle.serde_json.specs.Data.{Data, null, boolean, number, string, array, object}
+use Rattle.serde_json.specs.Find.{get_item, get_member, as_array}
+use Rattle.ref_parts.specs.Path.{Part, Key, Index, value_at}
+use Rattle.ref_parts.specs.Pointer.{unescape}
+use Rattle.ref_draft.specs.declared.draft.Draft.{Draft}
+use Rattle.ref_definitions.specs.Results.{◌>>=◌}
+use Rattle.ref_definitions.specs.World.{World}
+use Rattle.ref_definitions.specs.Places.{Place}
+use Rattle.ref_definitions.specs.Fault.{PointerToNowhere, InvalidArrayIndex, as_invalid_uri}
+use Rattle.ref_definitions.specs.Bases.{Along, along_part}
+use Rattle.ref_definitions.specs.Pointers.{index_of, step_into}
+use Rattle.ref_definitions.specs.Lookup.{Resolver, Found, in_subresource}
+use Rattle.ref_definitions.proofs.Changes.{first_answers, there_or, step_leads, part_more}
+use Rattle.ref_index.specs.Parts.{part_of as owned_part}
+use Rattle.ref_resolver.specs.declared.located.Located.{Located}
+use Rattle.ref_resolver.specs.Located.{IsLocated}
+use Rattle.ref_resolver.specs.Resolving.{under_uri}
+use Rattle.ref_resolver.specs.Walking.{stepped_along}
+
+pub if_ok : {A E : Type 0} (P Q : A → Type 0) (r : Result A E) → ((a : A) → P a → Q a) → IfOk r P → IfOk r Q
+if_ok P Q (Ok a) then is = then a is
+if_ok P Q (Err e) then is = tt
+
+-- ---- the part that a token is
+
+pub index_part : (pointer : List ℕ) (value : Data) (token : List ℕ) (s : Part × Data) (i : ℕ) → is_some (as_array value) ≡ true → index_of token ≡ Some i → step_into pointer value token ≡ Ok s → Index i ≡ s.0
+index_part pointer null token s i is at steps = absurd (cc)
+index_part pointer (boolean b) token s i is at steps = absurd (cc)
+index_part pointer (number n) token s i is at steps = absurd (cc)
+index_part pointer (string t) token s i is at steps = absurd (cc)
+index_part pointer (array ds) token s i is at steps =
+    let index = first_answers (ok_or (index_of token) (InvalidArrayIndex pointer token)) (λ j. ok_or (get_item j ds) (PointerToNowhere pointer) >>= λ d. Ok (Index j, d)) s steps in
+    let element = first_answers (ok_or (get_item index.0 ds) (PointerToNowhere pointer)) (λ d. Ok (Index index.0, d)) s index.2 in
+    let same : (Index index.0, element.0) ≡ s = cc in
+    let found : Some i ≡ Some index.0 = sym at ∙ there_or (index_of token) (InvalidArrayIndex pointer token) index.0 index.1 in
+    let one : i ≡ index.0 = cc in
+    ap (λ j. Index j) one ∙ ap (λ (t : Part × Data). t.0) same
+index_part pointer (object ms) token s i is at steps = absurd (cc)
+
+pub no_index : (pointer : List ℕ) (value : Data) (token : List ℕ) (s : Part × Data) → is_some (as_array value) ≡ true → index_of token ≡ None → step_into pointer value token ≡ Ok s → ⊥
+no_index pointer null token s is none steps = cc
+no_index pointer (boolean b) token s is none steps = cc
+no_index pointer (number n) token s is none steps = cc
+no_index pointer (string t) token s is none steps = cc
+no_index pointer (array ds) token s is none steps =
+    let index = first_answers (ok_or (index_of token) (InvalidArrayIndex pointer token)) (λ j. ok_or (get_item j ds) (PointerToNowhere pointer) >>= λ d. Ok (Index j, d)) s steps in
+    let found : None ≡ Some index.0 = sym none ∙ there_or (index_of token) (InvalidArrayIndex pointer token) index.0 index.1 in
+    cc
+no_index pointer (object ms) token s is none steps = cc
+
+pub key_part : (pointer : List ℕ) (value : Data) (token : List ℕ) (s : Part × Data) → is_some (as_array value) ≡ false → step_into pointer value token ≡ Ok s → Key (unescape token) ≡ s.0
+key_part pointer null token s is steps = absurd (cc)
+key_part pointer (boolean b) token s is steps = absurd (cc)
+key_part pointer (number n) token s is steps = absurd (cc)
+key_part pointer (string t) token s is steps = absurd (cc)
+key_part pointer (array ds) token s is steps = absurd (cc)
+key_part pointer (object ms) token s is steps =
+    let found = first_answers (ok_or (get_member (unescape token) ms) (PointerToNowhere pointer)) (λ d. Ok (Key (unescape token), d)) s steps in
+    let same : (Key (unescape token), found.0) ≡ s = cc in
+    ap (λ (t : Part × Data). t.0) same
+
+-- ---- one part more
+
+pub one_step_on : (draft : Draft) (pointer : List ℕ) (along : Along) (value start : Data) (token : List ℕ) (before after : List Part) (at : Data × Along)
+    → ((s : Part × Data) → step_into pointer value token ≡ Ok s → after ≡ before ++ s.0 ∷ []) → value_at start before ≡ Some value → stepped_along draft pointer along value token ≡ Ok at → value_at start after ≡ Some at.0
+one_step_on draft pointer along value start token before after at pushed here is =
+    let step = first_answers (step_into pointer value token) (λ s. as_invalid_uri (along_part draft along s.0 s.1) >>= λ next. Ok (s.1, next)) at is in
+    let base = first_answers (as_invalid_uri (along_part draft along step.0.0 step.0.1)) (λ next. Ok (step.0.1, next)) at step.2 in
+    let same : (step.0.1, base.0) ≡ at = cc in
+    ap (value_at start) (pushed step.0 step.1) ∙ part_more start step.0.1 value before step.0.0 here (step_leads pointer value token step.0 step.1) ∙ ap (λ (t : Data × Along). Some t.0) same
+
+-- ---- a place
+
+-- the document of a place leads along the entry's path to its value
+pub place_there : (w : World) (l : Located) (p : Place) (path : List Part) (at : IsLocated w l p) → path ≡ map owned_part l.entry.now.path.items → value_at at.path.document.tree path ≡ Some p.value
+place_there w l p path at is = ap (value_at at.path.document.tree) (is ∙ at.path.path) ∙ at.path.value
+
+-- what is found under a URI is the value that is given
+pub under_value : (r : Resolver) (uri : List ℕ) (draft : Draft) (value : Data) (f : Found) → under_uri r uri draft value ≡ Ok f → value ≡ f.value
+under_value r uri draft value f is =
+    let moved = first_answers (as_invalid_uri (in_subresource (record r { base = uri }) draft value)) (λ m. Ok (record { value = value; draft = draft; resolver = m })) f is in
+    let found : Found = record { value = value; draft = draft; resolver = moved.0 } in
+    let same : found ≡ f = cc in
+    ap (λ (x : Found). x.value) same

@@ -1,0 +1,7 @@
+use Rattle.std.proofs.Common.{◌≡◌, map, take}
+use Rattle.ref_parts.specs.Segment.{part_of}
+use Rattle.ref_index.specs.Parts.{part_of as owned_part}
+use Rattle.ref_resolver.proofs.location.lent.Given as goal
+
+abbrev pub invariant-loop-part : goal.invariant-loop-part
+invariant-loop-part l = map part_of l.parts.items ≡ map owned_part (take l.part-index l.path)

@@ -1,0 +1,16 @@
+use Rattle.std.proofs.Common.{◌≡◌, map, ap, ◌∙◌, rules}
+use Rattle.ref_parts.specs.Segment.{part_of}
+use Rattle.ref_index.specs.Parts.{part_of as owned_part}
+use Rattle.ref_resolver.proofs.Standing.{place_there}
+use Rattle.ref_resolver.proofs.location.location_of.Goals as goal
+
+pub returns : goal.returns
+returns c = λ w p at.
+    let slice : c.as_slice.result.now ≡ c.args.place.entry.now.path.items = search rules in
+    record {
+      layer = at.layer;
+      in_world = at.numbered;
+      document = at.path.document;
+      in_layer = at.path.numbered;
+      there = place_there w c.args.place p (map part_of c.in_ok-path.path.items) at (c.in_ok-path.ensures ∙ ap (map owned_part) slice);
+    }

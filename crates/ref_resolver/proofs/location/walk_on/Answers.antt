@@ -1,0 +1,46 @@
+use Rattle.std.proofs.Common.{sym, subst, ◌∙◌, rules}
+use Rattle.serde_json.specs.View.{view}
+use Rattle.ref_parts.specs.Pointer.{tokens}
+use Rattle.ref_definitions.specs.Pointers.{walked_along}
+use Rattle.ref_retrieve.specs.Errors.{IsFaultOf}
+use Rattle.ref_resolver.specs.Walking.{along_of, stepped_along}
+use Rattle.ref_resolver.proofs.Faults.{fault_ends, goes_on}
+use Rattle.ref_resolver.proofs.Pointing.{walk_turn, walk_last}
+use Rattle.ref_resolver.proofs.location.walk_on.Goals as goal
+
+pub loop-token-preserved : goal.loop-token-preserved
+loop-token-preserved c =
+    let l = c.loop-token in
+    let d = c.args.walk.draft in
+    let p = c.args.walk.pointer.now in
+    let cut = rw c.in-Some.is at c.cut_at_slash.ensures in
+    let turn = walk_turn d p (along_of l.along) (view l.along.value.now) l.rest.now c.in-Some.token.now c.in-Some.more.now cut.0 cut.1 in
+    let on = goes_on (stepped_along d p (along_of l.along) (view l.along.value.now) c.in-Some.token.now) (λ s. walked_along d p s.1 s.0 (tokens c.in-Some.more.now)) (view c.in_ok-along.along.value.now, along_of c.in_ok-along.along) c.in_ok-along.ensures.ok in
+    (l.invariant.0 ∙ turn ∙ on, λ start here. c.in_ok-along.ensures.path start (l.invariant.1 start here), search rules)
+
+pub returns-in_err-along-clause-fault : goal.returns-in_err-along-clause-fault
+returns-in_err-along-clause-fault c =
+    let l = c.loop-token in
+    let d = c.args.walk.draft in
+    let p = c.args.walk.pointer.now in
+    let cut = rw c.in-Some.is at c.cut_at_slash.ensures in
+    let turn = walk_turn d p (along_of l.along) (view l.along.value.now) l.rest.now c.in-Some.token.now c.in-Some.more.now cut.0 cut.1 in
+    let ended = fault_ends (stepped_along d p (along_of l.along) (view l.along.value.now) c.in-Some.token.now) (λ s. walked_along d p s.1 s.0 (tokens c.in-Some.more.now)) c.in_err-along.field-0.0 c.in_err-along.ensures.fault in
+    let fault = subst (λ a. IsFaultOf a c.in_err-along.field-0.0) (sym (l.invariant.0 ∙ turn)) ended in
+    search rules
+
+pub returns-in_err-step_on-clause-fault : goal.returns-in_err-step_on-clause-fault
+returns-in_err-step_on-clause-fault c =
+    let l = c.loop-token in
+    let none = rw c.in_default.is at c.cut_at_slash.ensures in
+    let same = l.invariant.0 ∙ walk_last c.args.walk.draft c.args.walk.pointer.now (along_of l.along) (view l.along.value.now) l.rest.now none in
+    let fault = subst (λ a. IsFaultOf a c.in_err-step_on.field-0.0) (sym same) c.in_err-step_on.ensures.fault in
+    search rules
+
+pub returns-clause-ok : goal.returns-clause-ok
+returns-clause-ok c = λ start here.
+    let l = c.loop-token in
+    let none = rw c.in_default.is at c.cut_at_slash.ensures in
+    let same = l.invariant.0 ∙ walk_last c.args.walk.draft c.args.walk.pointer.now (along_of l.along) (view l.along.value.now) l.rest.now none in
+    let at = c.in_ok-step_on.field-0 in
+    ((view at.value.now, along_of at), same ∙ c.in_ok-step_on.ensures.ok, c.in_ok-step_on.ensures.path start (l.invariant.1 start here))

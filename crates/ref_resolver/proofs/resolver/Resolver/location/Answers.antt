@@ -1,0 +1,82 @@
+use Rattle.std.proofs.Common.{◌≡◌, ℕ, List, IfOk, IfErr, None, true, false, lit<, refl, sym, ap, subst, ◌∙◌, rules}
+use Rattle.std.proofs.lemmas.Str.Pattern.{strip_prefix_char}
+use Rattle.serde_json.specs.View.{view}
+use Rattle.ref_definitions.specs.Fault.{not_retrieved}
+use Rattle.ref_definitions.specs.Resources.{meant_place}
+use Rattle.ref_definitions.specs.Lookup.{lookup, moved_resolver, at_fragment}
+use Rattle.ref_retrieve.specs.Errors.{IsFaultOf}
+use Rattle.ref_resolver.specs.Locations.{StandsAt, IsWhere}
+use Rattle.ref_resolver.specs.Resolving.{resolver_of, world_of}
+use Rattle.ref_resolver.specs.Names.{is_name}
+use Rattle.ref_resolver.proofs.Faults.{says_of}
+use Rattle.ref_resolver.proofs.Fragments.{pointer_there, whole_there}
+use Rattle.ref_resolver.proofs.Lookups.{lookup_refused, lookup_absent, lookup_present}
+use Rattle.ref_resolver.proofs.resolver.Resolver.location.Goals as goal
+
+pub returns-in_err-uri-clause-fault : goal.returns-in_err-uri-clause-fault
+returns-in_err-uri-clause-fault c =
+    let fault = lookup_refused (world_of c.args.self.now) (resolver_of c.args.self.now) c.args.reference.now c.in_err-uri.field-0.0 c.in_err-uri.ensures.fault in
+    search rules
+
+pub returns-in_default-clause-fault : goal.returns-in_default-clause-fault
+returns-in_default-clause-fault c =
+    let w = world_of c.args.self.now in
+    let r = resolver_of c.args.self.now in
+    let uri : List ℕ = c.in_ok-uri.field-0.uri.value in
+    let none : meant_place w uri ≡ None = search rules in
+    let says = rw c.deref-in_default.ensures at c.not_retrieved.ensures.fault in
+    says_of (lookup w r c.args.reference.now) (not_retrieved uri) c.not_retrieved.result (lookup_absent w r c.args.reference.now uri c.in_ok-uri.ensures.ok none) says
+
+pub returns-in-Some-strip_prefix-clause-ok : goal.returns-in-Some-strip_prefix-clause-ok
+returns-in-Some-strip_prefix-clause-ok c =
+    let w = world_of c.args.self.now in
+    let r = resolver_of c.args.self.now in
+    let uri : List ℕ = c.in_ok-uri.field-0.uri.value in
+    let fragment = c.in_ok-uri.field-0.fragment.now in
+    let (p, is, at) = c.in-Some.ensures.value in
+    let text : c.as_str.result.now ≡ uri = search rules in
+    let slash = rw c.in-Some-strip_prefix.is at (strip_prefix_char 47 fragment c.strip_prefix.result c.strip_prefix.ensures.cases (lit< tt)) in
+    let same = lookup_present w r c.args.reference.now uri p c.in_ok-uri.ensures.ok (ap (meant_place w) (sym text) ∙ is) ∙ ap (at_fragment w (moved_resolver r uri) p) (sym c.in_ok-uri.ensures.fragment)
+    ∙ pointer_there w (moved_resolver r uri) p c.in-Some.place fragment c.in-Some-strip_prefix.text.now at slash in
+    subst (λ a. IfOk c.location_along.result (IsWhere w a)) (sym same) (c.location_along.ensures.ok (moved_resolver r uri) p refl at)
+
+pub returns-in-Some-strip_prefix-clause-fault : goal.returns-in-Some-strip_prefix-clause-fault
+returns-in-Some-strip_prefix-clause-fault c =
+    let w = world_of c.args.self.now in
+    let r = resolver_of c.args.self.now in
+    let uri : List ℕ = c.in_ok-uri.field-0.uri.value in
+    let fragment = c.in_ok-uri.field-0.fragment.now in
+    let (p, is, at) = c.in-Some.ensures.value in
+    let text : c.as_str.result.now ≡ uri = search rules in
+    let slash = rw c.in-Some-strip_prefix.is at (strip_prefix_char 47 fragment c.strip_prefix.result c.strip_prefix.ensures.cases (lit< tt)) in
+    let same = lookup_present w r c.args.reference.now uri p c.in_ok-uri.ensures.ok (ap (meant_place w) (sym text) ∙ is) ∙ ap (at_fragment w (moved_resolver r uri) p) (sym c.in_ok-uri.ensures.fragment)
+    ∙ pointer_there w (moved_resolver r uri) p c.in-Some.place fragment c.in-Some-strip_prefix.text.now at slash in
+    subst (λ a. IfErr c.location_along.result (IsFaultOf a)) (sym same) (c.location_along.ensures.fault (moved_resolver r uri) refl)
+
+pub returns-clause-ok : goal.returns-clause-ok
+returns-clause-ok c =
+    let w = world_of c.args.self.now in
+    let r = resolver_of c.args.self.now in
+    let uri : List ℕ = c.in_ok-uri.field-0.uri.value in
+    let fragment = c.in_ok-uri.field-0.fragment.now in
+    let place = c.in-Some.place in
+    let (p, is, at) = c.in-Some.ensures.value in
+    let text : c.as_str.result.now ≡ uri = search rules in
+    let none = rw c.in-None.is at (strip_prefix_char 47 fragment c.strip_prefix.result c.strip_prefix.ensures.cases (lit< tt)) in
+    let name : is_name fragment ≡ false = sym c.is_name.ensures ∙ c.if-is_name.false in
+    let same = lookup_present w r c.args.reference.now uri p c.in_ok-uri.ensures.ok (ap (meant_place w) (sym text) ∙ is) ∙ ap (at_fragment w (moved_resolver r uri) p) (sym c.in_ok-uri.ensures.fragment)
+    ∙ whole_there w (moved_resolver r uri) p place fragment at name none in (
+      record { value = view place.value.now; draft = place.entry.now.draft; resolver = moved_resolver r uri },
+      same,
+      subst (StandsAt w c.in_ok-location_of-in-None.field-0) (sym at.value) (c.in_ok-location_of-in-None.ensures w p at),
+    )
+
+pub returns-then-is_name-clause-ok : goal.returns-then-is_name-clause-ok
+returns-then-is_name-clause-ok c =
+    let name : is_name c.in_ok-uri.field-0.fragment.now ≡ true = sym c.is_name.ensures ∙ c.if-is_name.true in
+    c.location_of_name.ensures.ok c.args.reference.now c.in_ok-uri.ensures.ok (sym c.in_ok-uri.ensures.fragment) name
+
+pub returns-then-is_name-clause-fault : goal.returns-then-is_name-clause-fault
+returns-then-is_name-clause-fault c =
+    let name : is_name c.in_ok-uri.field-0.fragment.now ≡ true = sym c.is_name.ensures ∙ c.if-is_name.true in
+    c.location_of_name.ensures.fault c.args.reference.now c.in_ok-uri.ensures.ok (sym c.in_ok-uri.ensures.fragment) name

@@ -1,0 +1,15 @@
+use Rattle.std.proofs.Common.{IfOk, IfErr, sym, subst, ◌∙◌}
+use Rattle.ref_retrieve.specs.Errors.{IsFaultOf}
+use Rattle.ref_resolver.specs.Locations.{IsWhere}
+use Rattle.ref_resolver.specs.Resolving.{world_of}
+use Rattle.ref_resolver.proofs.resolver.Resolver.location_recursive.Goals as goal
+
+pub returns-clause-ok : goal.returns-clause-ok
+returns-clause-ok c =
+    let same = c.in_ok-reference.ensures.reference ∙ sym c.in_ok-reference.ensures.ok in
+    subst (λ a. IfOk c.location.result (IsWhere (world_of c.args.self.now) a)) same c.location.ensures.ok
+
+pub returns-clause-fault : goal.returns-clause-fault
+returns-clause-fault c =
+    let same = c.in_ok-reference.ensures.reference ∙ sym c.in_ok-reference.ensures.ok in
+    subst (λ a. IfErr c.location.result (IsFaultOf a)) same c.location.ensures.fault

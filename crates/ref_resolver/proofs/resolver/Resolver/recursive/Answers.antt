@@ -1,0 +1,66 @@
+use Rattle.std.proofs.Common.{◌≡◌, map, Ok, true, false, sym, ap, subst, ◌∙◌, rules}
+use Rattle.ref_definitions.specs.Lookup.{lookup}
+use Rattle.ref_definitions.specs.Recursive.{is_marked, lookup_recursive, outermost_marked}
+use Rattle.ref_retrieve.specs.Errors.{IsFaultOf}
+use Rattle.ref_resolver.specs.Resolving.{resolver_of, world_of, found_of}
+use Rattle.ref_resolver.proofs.Faults.{fault_as}
+use Rattle.ref_resolver.proofs.Lookups.{recursive_refused, recursive_first, recursive_marked, marked_turn, unmarked_turn, fault_turn}
+use Rattle.ref_resolver.proofs.resolver.Resolver.recursive.Goals as goal
+
+pub returns-in_err-resolved-clause-fault : goal.returns-in_err-resolved-clause-fault
+returns-in_err-resolved-clause-fault c =
+    let fault = recursive_refused (world_of c.args.self.now) (resolver_of c.args.self.now) c.in_err-resolved.field-0.0 c.in_err-resolved.ensures.fault in
+    search rules
+
+pub returns-then-not-is_marked-clause-ok : goal.returns-then-not-is_marked-clause-ok
+returns-then-not-is_marked-clause-ok c =
+    let unmarked : is_marked (found_of c.in_ok-resolved.resolved).value ≡ false = search rules in
+    recursive_first (world_of c.args.self.now) (resolver_of c.args.self.now) (found_of c.in_ok-resolved.resolved) c.in_ok-resolved.ensures.ok unmarked
+
+pub loop-uri-init : goal.loop-uri-init
+loop-uri-init c =
+    let marked : is_marked (found_of c.in_ok-resolved.resolved).value ≡ true = search rules in
+    let same = recursive_marked (world_of c.args.self.now) (resolver_of c.args.self.now) (found_of c.in_ok-resolved.resolved) c.in_ok-resolved.ensures.ok marked in
+    search rules
+
+pub loop-uri-preserved : goal.loop-uri-preserved
+loop-uri-preserved c =
+    let w = world_of c.args.self.now in
+    let r = resolver_of c.args.self.now in
+    let first = found_of c.loop-uri.resolved in
+    let marked : is_marked (found_of c.in_ok-outer.outer).value ≡ true = search rules in
+    let text : c.as_str-text.result.now ≡ c.in-Some.uri.now = search rules in
+    let there : lookup w r c.in-Some.uri.now ≡ Ok (found_of c.in_ok-outer.outer) = ap (lookup w r) (sym text) ∙ c.in_ok-outer.ensures.ok in (
+      c.loop-uri.invariant.0
+          ∙ ap (λ xs. outermost_marked (Ok first) (map (lookup w r) xs)) c.in-Some.ensures.steps
+          ∙ marked_turn first (found_of c.in_ok-outer.outer) (lookup w r c.in-Some.uri.now) (map (lookup w r) c.next.new.self) there marked,
+      c.in_ok-outer.ensures.ok,
+      search rules,
+      search rules,
+      tt,
+      tt,
+    )
+
+pub returns-in_err-outer-clause-fault : goal.returns-in_err-outer-clause-fault
+returns-in_err-outer-clause-fault c =
+    let w = world_of c.args.self.now in
+    let r = resolver_of c.args.self.now in
+    let first = found_of c.loop-uri.resolved in
+    let text : c.as_str-text.result.now ≡ c.in-Some.uri.now = search rules in
+    let left = c.loop-uri.invariant.0 ∙ ap (λ xs. outermost_marked (Ok first) (map (lookup w r) xs)) c.in-Some.ensures.steps in
+    let fault = fault_as (lookup w r c.in-Some.uri.now) (lookup_recursive w r) c.in_err-outer.field-0.0
+    (λ f is. left ∙ fault_turn first f (lookup w r c.in-Some.uri.now) (map (lookup w r) c.next.new.self) is)
+    (subst (λ u. IsFaultOf (lookup w r u) c.in_err-outer.field-0.0) text c.in_err-outer.ensures.fault) in
+    search rules
+
+pub returns-then-not-is_marked-2-clause-ok : goal.returns-then-not-is_marked-2-clause-ok
+returns-then-not-is_marked-2-clause-ok c =
+    let w = world_of c.args.self.now in
+    let r = resolver_of c.args.self.now in
+    let first = found_of c.loop-uri.resolved in
+    let unmarked : is_marked (found_of c.in_ok-outer.outer).value ≡ false = search rules in
+    let text : c.as_str-text.result.now ≡ c.in-Some.uri.now = search rules in
+    let there : lookup w r c.in-Some.uri.now ≡ Ok (found_of c.in_ok-outer.outer) = ap (lookup w r) (sym text) ∙ c.in_ok-outer.ensures.ok in
+    c.loop-uri.invariant.0
+    ∙ ap (λ xs. outermost_marked (Ok first) (map (lookup w r) xs)) c.in-Some.ensures.steps
+    ∙ unmarked_turn first (found_of c.in_ok-outer.outer) (lookup w r c.in-Some.uri.now) (map (lookup w r) c.next.new.self) there unmarked

@@ -1,0 +1,307 @@
+//! Where the value is that a reference leads to, so that a user who keeps the documents finds it there.
+ghost use Rattle.std.specs.Prelude.{◌≡◌, ℕ, List, [], ◌∷◌, ◌++◌, true, map, string_bytes, Some, Ok, IfOk, IfErr, OnOk};
+ghost use Rattle.serde_json.specs.View.{view};
+ghost use Rattle.serde_json.specs.Data.{Data};
+ghost use Rattle.ref_parts.specs.Path.{Part, Key, value_at};
+ghost use Rattle.ref_parts.specs.Pointer.{pointer_text, tokens, unescape};
+ghost use Rattle.ref_parts.specs.Segment.{part_of};
+ghost use Rattle.ref_uri.specs.Targets.{target, fragment_part};
+ghost use Rattle.ref_definitions.specs.World.{World};
+ghost use Rattle.ref_definitions.specs.Places.{Place};
+ghost use Rattle.ref_definitions.specs.Pointers.{step_into, walked_along, pointed_value};
+ghost use Rattle.ref_definitions.specs.Anchors.{Named};
+ghost use Rattle.ref_draft.specs.Anchors.{Dynamic};
+ghost use Rattle.ref_definitions.specs.Lookup.{Resolver as Start, lookup, moved_resolver, named_found};
+ghost use Rattle.ref_definitions.specs.Recursive.{lookup_recursive};
+ghost use Rattle.ref_retrieve.specs.Errors.{IsFaultOf};
+ghost use Rattle.ref_index.specs.Parts.{part_of as owned_part};
+ghost use Rattle.ref_resolver.specs.Layered.{world_in};
+ghost use Rattle.ref_resolver.specs.Located.{IsLocated};
+ghost use Rattle.ref_resolver.specs.Locations.{StandsAt, IsWhere, EndsAt};
+ghost use Rattle.ref_resolver.specs.Names.{is_name};
+ghost use Rattle.ref_resolver.specs.Resolving.{resolver_of, world_of, at_pointer};
+ghost use Rattle.ref_resolver.specs.Walking.{along_of, stepped_along};
+
+use crate::fragment::{is_name, meaning, not_retrieved, outermost, under_uri};
+use crate::layers::Layers;
+use crate::located::Located;
+use crate::pointed::{Along, Walk, cut_at_slash, index_of, no_utf8, step};
+use crate::resolver::{Resolver, Target};
+use crate::written::pointer_of;
+use percent_encoding::{DecodeError, percent_decode};
+use ref_draft::Segments;
+use ref_index::PathPart;
+use ref_parts::escape::unescape_segment;
+use ref_parts::path::JsonPointerSegment;
+use ref_retrieve::Error;
+use ref_uri::Uri;
+use serde_json::Value;
+use std::alloc::{AllocError, Global};
+use std::borrow::CowStr;
+use std::rc::Rc;
+
+/// Where a value is.
+#[derive(Debug, Drop)]
+pub struct Location<'r> {
+    /// The layer of its document: 0 for the registry's own documents, and then its parents, of which the nearest is 1.
+    pub layer: usize,
+    /// The number of its document in that layer, counted from 0 in the order in which their URIs were first added, and after them
+    /// those retrieved.
+    pub document: usize,
+    /// Its path in the document.
+    pub path: Vec<JsonPointerSegment<'r>>,
+}
+
+// A part of a path, whose key is lent.
+fn lent_part(part: &PathPart) -> JsonPointerSegment<'_>
+    ensures { part_of result ≡ owned_part part.now }
+{
+    match part {
+        PathPart::Key(key) => JsonPointerSegment::from(key),
+        PathPart::Index(index) => JsonPointerSegment::from(*index),
+    }
+}
+
+// A path, whose keys are lent. Takes memory for the list.
+fn lent<'p>(alloc: Global, path: &'p [PathPart]) -> Result<Vec<JsonPointerSegment<'p>>, AllocError>
+    ensures { IfOk result (λ parts. map part_of parts.items ≡ map owned_part path.now) }
+{
+    let mut parts = Vec::with_capacity(alloc, path.len())?;
+    for part in path {
+        parts.push(lent_part(part))?;
+    }
+    Ok(parts)
+}
+
+// Where a place is.
+fn location_of<'r>(alloc: Global, place: Located<'r>) -> Result<Location<'r>, AllocError>
+    ensures { (w : World) (p : Place) → IsLocated w place.entry p → IfOk result (λ l. StandsAt w l p.value) }
+{
+    let path = lent(alloc, place.entry.path.as_slice())?;
+    Ok(Location {
+        layer: place.layer,
+        document: place.entry.document,
+        path,
+    })
+}
+
+// The key that a token is, copied.
+fn key_of<'p>(alloc: Global, token: &str) -> Result<JsonPointerSegment<'p>, AllocError>
+    ensures { IfOk result (λ segment. part_of segment ≡ Key (unescape token.now)) }
+{
+    let key = unescape_segment(alloc, token)?.into_owned(alloc)?;
+    Ok(JsonPointerSegment::Key(CowStr::Owned(key)))
+}
+
+// The part of a path that a token is, where it leads to a value.
+fn segment_of<'p>(
+    alloc: Global,
+    value: &Value,
+    token: &str,
+) -> Result<JsonPointerSegment<'p>, AllocError>
+    ensures { (pointer : List ℕ) (s : Part × Data) → step_into pointer (view value.now) token.now ≡ Ok s
+        → IfOk result (λ segment. part_of segment ≡ s.0) }
+{
+    if !value.is_array() {
+        return key_of(alloc, token);
+    }
+    match index_of(token) {
+        Some(index) => Ok(JsonPointerSegment::Index(index)),
+        None => key_of(alloc, token),
+    }
+}
+
+// Adds that part after a path.
+fn push_part(
+    alloc: Global,
+    path: &mut Vec<JsonPointerSegment<'_>>,
+    value: &Value,
+    token: &str,
+) -> Result<(), AllocError>
+    ensures { (pointer : List ℕ) (s : Part × Data) → step_into pointer (view value.now) token.now ≡ Ok s
+        → OnOk result (map part_of path.new.items ≡ map part_of path.old.items ++ s.0 ∷ []) }
+{
+    let segment = segment_of(alloc, value, token)?;
+    path.push(segment)?;
+    Ok(())
+}
+
+// One token further, with its part after the path.
+fn step_on<'v, 't>(
+    alloc: Global,
+    walk: &Walk<'_, '_>,
+    along: Along<'v, 't>,
+    path: &mut Vec<JsonPointerSegment<'_>>,
+    token: &'t str,
+) -> Result<Along<'v, 't>, Error>
+    ensures ok { IfOk result (λ a. stepped_along walk.now.draft walk.now.pointer.now (along_of along.entry) (view along.entry.value.now) token.now ≡ Ok (view a.value.now, along_of a)) }
+    ensures path { (start : Data) → value_at start (map part_of path.old.items) ≡ Some (view along.entry.value.now)
+        → IfOk result (λ a. value_at start (map part_of path.new.items) ≡ Some (view a.value.now)) }
+    ensures fault { IfErr result (IsFaultOf (stepped_along walk.now.draft walk.now.pointer.now (along_of along.entry) (view along.entry.value.now) token.now)) }
+{
+    push_part(alloc, path, along.value, token)?;
+    step(alloc, walk, along, token)
+}
+
+// Token by token, from the value of a resource, with their parts after the path to it.
+fn walk_on(
+    alloc: Global,
+    walk: Walk<'_, '_>,
+    base: Rc<Uri>,
+    value: &Value,
+    path: &mut Vec<JsonPointerSegment<'_>>,
+    text: &str,
+) -> Result<(), Error>
+    ensures ok { (start : Data) → value_at start (map part_of path.old.items) ≡ Some (view value.now)
+        → OnOk result (EndsAt start path.new.items (walked_along walk.entry.draft walk.entry.pointer.now (record { base = base.value; since = [] }) (view value.now) (tokens text.now))) }
+    ensures fault { IfErr result (IsFaultOf (walked_along walk.entry.draft walk.entry.pointer.now (record { base = base.value; since = [] }) (view value.now) (tokens text.now))) }
+{
+    let mut along = Along {
+        value,
+        base,
+        since: Segments::new(alloc),
+    };
+    let mut rest = text;
+    while let Some((token, more)) = cut_at_slash(rest) {
+        along = step_on(alloc, &walk, along, path, token)?;
+        rest = more;
+    }
+    let _ = step_on(alloc, &walk, along, path, rest)?;
+    Ok(())
+}
+
+// What is after the fragment's first `/`, decoded and then walked, as `follow_pointer` does.
+fn follow_on(
+    alloc: Global,
+    walk: Walk<'_, '_>,
+    base: Rc<Uri>,
+    value: &Value,
+    path: &mut Vec<JsonPointerSegment<'_>>,
+    text: &str,
+) -> Result<(), Error>
+    ensures ok { (start : Data) → value_at start (map part_of path.old.items) ≡ Some (view value.now)
+        → OnOk result (EndsAt start path.new.items (pointed_value walk.entry.draft walk.entry.pointer.now base.value (view value.now) text.now)) }
+    ensures fault { IfErr result (IsFaultOf (pointed_value walk.entry.draft walk.entry.pointer.now base.value (view value.now) text.now)) }
+{
+    match percent_decode(text.as_bytes()).decode_utf8(alloc) {
+        Ok(decoded) => walk_on(alloc, walk, base, value, path, decoded.as_str()),
+        Err(DecodeError::OutOfMemory) => Err(Error::Memory(AllocError)),
+        Err(DecodeError::Utf8(_)) => Err(no_utf8(alloc, walk.pointer)),
+    }
+}
+
+// Where a pointer leads in the resource at a place, where `text` is the fragment after its first `/`.
+fn location_along<'r>(
+    alloc: Global,
+    layers: Layers<'r>,
+    base: Rc<Uri>,
+    place: Located<'r>,
+    pointer: &str,
+    text: &str,
+) -> Result<Location<'r>, Error>
+    ensures ok { (r : Start) (p : Place) → r.base ≡ base.value → IsLocated (world_in layers.entry) place.entry p
+        → IfOk result (IsWhere (world_in layers.entry) (at_pointer r place.entry.entry.now.draft pointer.now (view place.entry.value.now) text.now)) }
+    ensures fault { (r : Start) → r.base ≡ base.value
+        → IfErr result (IsFaultOf (at_pointer r place.entry.entry.now.draft pointer.now (view place.entry.value.now) text.now)) }
+{
+    let mut path = lent(alloc, place.entry.path.as_slice())?;
+    let walk = Walk {
+        layers,
+        draft: place.entry.draft,
+        pointer,
+    };
+    follow_on(alloc, walk, base, place.value, &mut path, text)?;
+    Ok(Location {
+        layer: place.layer,
+        document: place.entry.document,
+        path,
+    })
+}
+
+impl<'r> Location<'r> {
+    /// The path as a JSON Pointer: each part with a `/` before it, a key escaped, an index in decimal digits (RFC 6901, sections 3 and
+    /// 4). Linear in its keys; takes memory for the text.
+    pub fn pointer(&self, alloc: Global) -> Result<String, AllocError>
+        ensures value { IfOk result (λ text. string_bytes text ≡ pointer_text (map part_of self.now.path.items)) }
+    {
+        pointer_of(alloc, self.path.as_slice())
+    }
+}
+
+impl<'r> Resolver<'r> {
+    /// Where the value is that [`Resolver::lookup`] of a reference answers: the layer, counted from 0 for the registry's own
+    /// documents, the number of the document in it, and the path there.
+    ///
+    /// Refuses as [`Resolver::lookup`] does, whose cost it has. Takes memory for the path's parts and, of a pointer, for its keys; the other
+    /// keys are lent.
+    pub fn location(&self, alloc: Global, reference: &str) -> Result<Location<'r>, Error>
+        ensures ok { IfOk result (IsWhere (world_of self.now) (lookup (world_of self.now) (resolver_of self.now) reference.now)) }
+        ensures fault { IfErr result (IsFaultOf (lookup (world_of self.now) (resolver_of self.now) reference.now)) }
+    {
+        let Target {
+            uri,
+            place,
+            fragment,
+        } = self.target(alloc, reference)?;
+        if is_name(fragment) {
+            return self.location_of_name(alloc, uri, fragment);
+        }
+        let Some(place) = self.layers.resource_or(place, uri.as_str()) else {
+            return Err(not_retrieved(alloc, &uri));
+        };
+        match fragment.strip_prefix('/') {
+            Some(text) => location_along(alloc, self.layers, uri, place, fragment, text),
+            None => Ok(location_of(alloc, place)?),
+        }
+    }
+
+    /// Where the value is that [`Resolver::lookup_recursive_ref`] answers, as [`Resolver::location`] says it. Refuses as that call does,
+    /// whose cost it has, and takes memory for the path's parts.
+    pub fn location_recursive(&self, alloc: Global) -> Result<Location<'r>, Error>
+        ensures ok { IfOk result (IsWhere (world_of self.now) (lookup_recursive (world_of self.now) (resolver_of self.now))) }
+        ensures fault { IfErr result (IsFaultOf (lookup_recursive (world_of self.now) (resolver_of self.now))) }
+    {
+        let (_, reference) = self.recursive(alloc)?;
+        self.location(alloc, reference)
+    }
+
+    // Where the value is that a name means under a URI.
+    fn location_of_name(
+        &self,
+        alloc: Global,
+        uri: Rc<Uri>,
+        name: &str,
+    ) -> Result<Location<'r>, Error>
+        ensures ok { (reference : List ℕ) → target (resolver_of self.now).base reference ≡ Ok uri.value → fragment_part reference ≡ name.now → is_name name.now ≡ true
+            → IfOk result (IsWhere (world_of self.now) (lookup (world_of self.now) (resolver_of self.now) reference)) }
+        ensures fault { (reference : List ℕ) → target (resolver_of self.now).base reference ≡ Ok uri.value → fragment_part reference ≡ name.now → is_name name.now ≡ true
+            → IfErr result (IsFaultOf (lookup (world_of self.now) (resolver_of self.now) reference)) }
+    {
+        let Some(found) = meaning(&self.layers, uri.as_str(), name) else {
+            return Err(self.no_name(alloc, &uri, name));
+        };
+        if found.named.is_dynamic {
+            return self.location_of_dynamic(alloc, uri, name, found.place);
+        }
+        Ok(location_of(alloc, found.place)?)
+    }
+
+    // Where the value is that a name means under a URI where a dynamic anchor has it, at the place that was found.
+    fn location_of_dynamic(
+        &self,
+        alloc: Global,
+        uri: Rc<Uri>,
+        name: &str,
+        found: Located<'r>,
+    ) -> Result<Location<'r>, Error>
+        ensures ok { (n : Named) → n.name ≡ name.now → n.kind ≡ Dynamic → IsLocated (world_of self.now) found.entry n.place
+            → IfOk result (IsWhere (world_of self.now) (named_found (world_of self.now) (moved_resolver (resolver_of self.now) uri.value) n n.kind)) }
+        ensures fault { (n : Named) → n.name ≡ name.now → n.kind ≡ Dynamic → IsLocated (world_of self.now) found.entry n.place
+            → IfErr result (IsFaultOf (named_found (world_of self.now) (moved_resolver (resolver_of self.now) uri.value) n n.kind)) }
+    {
+        let resolver = self.moved(alloc, uri)?;
+        let (uri, place) = outermost(alloc, &resolver, name, found)?;
+        let _ = under_uri(alloc, &resolver, uri, place)?;
+        Ok(location_of(alloc, place)?)
+    }
+}

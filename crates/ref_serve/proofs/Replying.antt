@@ -1,0 +1,57 @@
+-- Replies to calls that change no registry.
+use Rattle.std.proofs.Common.{◌≡◌, ℕ, List, Option, Some, Result, Ok, Err, IfOk, codes, refl, sym, subst}
+use Rattle.serde_json.specs.Data.{Data}
+use Rattle.serde_json.specs.Find.{get}
+use Rattle.serde_json.specs.View.{view}
+use Rattle.serde_json.specs.declared.value.Value.{Value}
+use Rattle.ref_calls.specs.declared.call.Call.{Call}
+use Rattle.ref_calls.specs.declared.call.Call.TheVariants.{Open, Lookup, Recursive, Enter, Follow, Places, Dangling, Vocabularies, Bundle, Close}
+use Rattle.ref_calls.specs.declared.stop.Stop.{Stop}
+use Rattle.ref_calls.specs.declared.stop.Stop.TheVariants.{Memory, Because}
+use Rattle.ref_serve.specs.declared.answer.Reply.{Reply}
+use Rattle.ref_serve.specs.State.{Registries}
+use Rattle.ref_calls.specs.Calls.{call_of, tree_of}
+use Rattle.ref_calls.specs.Objects.{answer_of, IsLineOf}
+use Rattle.ref_serve.specs.Results.{Gives}
+use Rattle.ref_serve.specs.Answering.{IsResult, IsReply, IsReplyTo, IsAnswerTo, IsAnswer}
+use Rattle.ref_serve.specs.inner.Replies.{Replies, IsUnchanged, changed}
+
+as_reply : (call : Call) (state next : Registries) (d : Data) (outcome : Result Data Data) → (call ≡ Open → ⊥) → (call ≡ Close → ⊥) → IsUnchanged call state d next outcome → IsReply call state d next outcome
+as_reply Open state next d outcome other another given = absurd (other refl)
+as_reply Lookup state next d outcome other another given = given
+as_reply Recursive state next d outcome other another given = given
+as_reply Enter state next d outcome other another given = given
+as_reply Follow state next d outcome other another given = given
+as_reply Places state next d outcome other another given = given
+as_reply Dangling state next d outcome other another given = given
+as_reply Vocabularies state next d outcome other another given = given
+as_reply Bundle state next d outcome other another given = given
+as_reply Close state next d outcome other another given = absurd (another refl)
+
+pub replies : (call : Call) (state : Registries) (d : Data) (read : Result Call Data) (result : Result Reply (Stop Value)) → read ≡ Ok call → (call ≡ Open → ⊥) → (call ≡ Close → ⊥)
+    → Replies (IsUnchanged call state d) state result → Replies (IsReplyTo read state d) state result
+replies call state d read (Ok reply) is other another given =
+    let next = changed state reply.opened.items reply.closed in
+    subst (λ r. IsReplyTo r state d next (Ok (view reply.result))) (sym is) (as_reply call state next d (Ok (view reply.result)) other another given)
+replies call state d read (Err Memory) is other another given = tt
+replies call state d read (Err (Because value)) is other another given =
+    subst (λ r. IsReplyTo r state d state (Err (view value))) (sym is) (as_reply call state state d (Err (view value)) other another given)
+
+pub stopped : (call : Call) (state : Registries) (d : Data) (stop : Stop Value) → Gives (IsResult call state d) (Err stop) → Replies (IsUnchanged call state d) state (Err stop)
+stopped call state d Memory given = tt
+stopped call state d (Because value) given = (given, refl)
+
+-- ---- lines
+
+pub ok_map : {X E : Type 0} (result : Result X E) (P Q : X → Type 0) → ((x : X) → P x → Q x) → IfOk result P → IfOk result Q
+ok_map (Ok x) P Q more given = more x given
+ok_map (Err e) P Q more given = tt
+
+pub answered : (state next : Registries) (line text : List ℕ) (tree : Option Data) → tree ≡ tree_of line → IsAnswerTo state tree next text → IsAnswer state line next text
+unfolding IsAnswer
+answered state next line text tree is given = subst (λ t. IsAnswerTo state t next text) is given
+
+pub failed : (state next : Registries) (d : Data) (id : Option Data) (error : Data) (text : List ℕ) → id ≡ get (codes "id") d → next ≡ state
+    → IsReplyTo (call_of d) state d state (Err error) → IsLineOf (answer_of id (codes "error") error) text → IsAnswerTo state (Some d) next text
+failed state next d id error text is same reply written =
+    (Err error, subst (λ n. IsReplyTo (call_of d) state d n (Err error)) (sym same) reply, subst (λ i. IsLineOf (answer_of i (codes "error") error) text) is written)

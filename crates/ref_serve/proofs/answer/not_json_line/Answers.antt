@@ -1,0 +1,5 @@
+use Rattle.ref_calls.specs.Calls.{not_json}
+use Rattle.ref_serve.proofs.answer.not_json_line.Goals as goal
+
+pub returns : goal.returns
+returns c = c.error_text.ensures not_json c.plain_error-error.ensures

@@ -1,0 +1,165 @@
+-- The results of calls that change no registry.
+use Rattle.std.specs.Prelude.{◌≡◌, ℕ, Bool, List, [], ◌∷◌, ◌++◌, map, codes, Option, None, Some, Result, Ok, Err, if◌then◌else◌}
+use Rattle.serde_json.specs.Data.{Data, string, Items, no_items, item}
+use Rattle.serde_json.specs.Find.{as_str, as_array}
+use Rattle.serde_json.specs.View.{view}
+use Rattle.serde_json.specs.declared.value.Value.{Value}
+use Rattle.ref_parts.specs.Pointer.{pointer_text}
+use Rattle.ref_parts.specs.Segment.{part_of}
+use Rattle.ref_draft.specs.declared.draft.Draft.{Draft}
+use Rattle.ref_draft.specs.Schema.{detect}
+use Rattle.ref_definitions.specs.World.{World}
+use Rattle.ref_definitions.specs.Results.{◌>>=◌}
+use Rattle.ref_definitions.specs.Fault.{Fault, as_invalid_uri}
+use Rattle.ref_definitions.specs.Lookup.{Resolver, Found, lookup, in_subresource}
+use Rattle.ref_definitions.specs.Recursive.{lookup_recursive}
+use Rattle.ref_resolver.specs.declared.location.Location.{Location}
+use Rattle.ref_resolver.specs.Locations.{StandsAt}
+use Rattle.ref_calls.specs.declared.fault.Wrong.TheVariants.{InvalidField}
+use Rattle.ref_calls.specs.declared.stop.Stop.{Stop}
+use Rattle.ref_calls.specs.declared.stop.Stop.TheVariants.{Memory, Because}
+use Rattle.ref_calls.specs.Objects.{object_of, list_of, texts, whole}
+use Rattle.ref_calls.specs.Errors.{field_error, fault_error, as_error}
+use Rattle.ref_calls.specs.Calls.{required, text_in, is_set, base_of, scope_of, draft_of, draft_name, schema_of}
+use Rattle.ref_serve.specs.State.{OpenRegistry, Registries, registry_under, layer_number}
+
+-- a call gives what it may, unless memory ran out: its result or its error object
+abbrev pub Gives : (Result Data Data → Type 0) → Result Value (Stop Value) → Type 0
+Gives may (Ok value) = may (Ok (view value))
+Gives may (Err Memory) = Unit {0}
+Gives may (Err (Because value)) = may (Err (view value))
+
+-- what may be given once something is read, or the error of what can't be read
+abbrev pub Then : {A : Type 0} → Result A Data → (A → Result Data Data → Type 0) → Result Data Data → Type 0
+Then (Ok x) may outcome = may x outcome
+Then (Err error) may outcome = outcome ≡ Err error
+
+-- ---- what is asked
+
+-- an open registry with its number, and whether answers have values
+pub record Asked : Type 0 where
+  pub number : ℕ
+  pub world : World
+  pub parents : List ℕ
+  pub values : Bool
+
+abbrev pub asked_with : ℕ × OpenRegistry → Bool → Asked
+asked_with r values = record { number = r.0; world = r.1.0; parents = r.1.1; values = values }
+
+unfoldable pub asked_of : Registries → Data → Result Asked Data
+asked_of state d = do
+  registry ← registry_under state d (codes "registry")
+  values ← is_set (codes "values") d
+  Ok (asked_with registry values)
+
+-- the base and the dynamic scope of a call
+unfoldable pub resolver_of : Data → Result Resolver Data
+resolver_of d = do
+  base ← base_of d
+  scope ← scope_of d
+  Ok (record { base = base; scope = scope })
+
+-- ---- places
+
+-- the members of a base and a dynamic scope
+abbrev pub resolver_members : Resolver → List (List ℕ × Data)
+resolver_members r = (codes "base", string r.base) ∷ (codes "scope", texts r.scope) ∷ []
+
+-- the member of a value, where it is asked for
+abbrev pub value_member : Bool → Data → List (List ℕ × Data)
+value_member values value = if values then (codes "value", value) ∷ [] else []
+
+-- the members of a value that is found at a location
+abbrev pub found_members : Asked → Location → Data → Draft → List (List ℕ × Data)
+found_members asked l value draft =
+    (codes "registry", whole (layer_number asked.number asked.parents l.layer)) ∷ (codes "document", whole l.document)
+    ∷ (codes "pointer", string (pointer_text (map part_of l.path.items))) ∷ (codes "draft", string (draft_name draft)) ∷ value_member asked.values value
+
+-- ---- lookup and recursive
+
+-- the object of what is found: any location where the value stands
+abbrev pub IsFoundAt : Asked → Found → Data → Type 0
+IsFoundAt asked found d =
+    (l : Location) × StandsAt asked.world l found.value × (d ≡ object_of (found_members asked l found.value found.draft ++ resolver_members found.resolver))
+
+-- the object of what a look-up finds, or the error of its fault
+abbrev pub IsFound : Asked → Result Found Fault → Result Data Data → Type 0
+IsFound asked (Ok found) (Ok d) = IsFoundAt asked found d
+IsFound asked (Ok found) (Err e) = ⊥
+IsFound asked (Err fault) (Ok d) = ⊥
+IsFound asked (Err fault) (Err e) = e ≡ fault_error fault
+
+unfoldable pub IsLookedUp : Asked → Resolver → List ℕ → Result Data Data → Type 0
+IsLookedUp asked r reference outcome = IsFound asked (lookup asked.world r reference) outcome
+
+unfoldable pub IsRecursive : Asked → Resolver → Result Data Data → Type 0
+IsRecursive asked r outcome = IsFound asked (lookup_recursive asked.world r) outcome
+
+-- an object, or one with an error
+abbrev pub listed_outcome : Result Data Data → Data
+listed_outcome (Ok d) = d
+listed_outcome (Err e) = object_of ((codes "error", e) ∷ [])
+
+-- one of a list of references: what it means, or an object with its error
+abbrev pub IsListed : Asked → Resolver → List ℕ → Data → Type 0
+IsListed asked r reference d = (outcome : Result Data Data) × IsLookedUp asked r reference outcome × (d ≡ listed_outcome outcome)
+
+abbrev pub IsListedAs : Asked → Resolver → List ℕ → Result Data Data → Type 0
+IsListedAs asked r reference (Ok d) = IsListed asked r reference d
+IsListedAs asked r reference (Err e) = ⊥
+
+-- the text that an item is
+abbrev pub reference_in : Data → Result (List ℕ) Data
+reference_in d = text_in (codes "reference") d
+
+-- each of them, in order
+abbrev pub AreListed : Asked → Resolver → List (List ℕ) → List Data → Type 0
+AreListed asked r [] [] = Unit {0}
+AreListed asked r [] (d ∷ ds) = ⊥
+AreListed asked r (reference ∷ more) [] = ⊥
+AreListed asked r (reference ∷ more) (d ∷ ds) = IsListed asked r reference d × AreListed asked r more ds
+
+-- the texts of a list of references
+abbrev pub references_in : Items → Result (List (List ℕ)) Data
+references_in no_items = Ok []
+references_in (item d ds) = do
+  reference ← reference_in d
+  more ← references_in ds
+  Ok (reference ∷ more)
+
+abbrev pub IsList : Asked → Resolver → List (List ℕ) → Result Data Data → Type 0
+IsList asked r references outcome = (ds : List Data) × AreListed asked r references ds × (outcome ≡ Ok (list_of ds))
+
+-- a text is looked up; of a list nothing is said here
+abbrev pub IsReferenceAs : Asked → Resolver → Option (List ℕ) → Option Items → Result Data Data → Type 0
+IsReferenceAs asked r (Some reference) items outcome = IsLookedUp asked r reference outcome
+IsReferenceAs asked r None (Some items) outcome = Unit {0}
+IsReferenceAs asked r None None outcome = outcome ≡ Err (field_error InvalidField (codes "reference"))
+
+abbrev pub IsReference : Asked → Resolver → Data → Result Data Data → Type 0
+IsReference asked r d outcome = IsReferenceAs asked r (as_str d) (as_array d) outcome
+
+-- `lookup`
+unfoldable pub IsLookup : Registries → Data → Result Data Data → Type 0
+IsLookup state d outcome =
+    Then (asked_of state d) (λ asked. Then (resolver_of d) (λ r. Then (required (codes "reference") d) (IsReference asked r))) outcome
+
+-- `recursive`
+unfoldable pub IsRecursiveCall : Registries → Data → Result Data Data → Type 0
+IsRecursiveCall state d outcome = Then (asked_of state d) (λ asked. Then (resolver_of d) (IsRecursive asked)) outcome
+
+-- ---- enter
+
+-- the base and the dynamic scope inside of a schema, whose draft is detected
+abbrev pub entered_resolver : Resolver → Draft → Data → Result Resolver Data
+entered_resolver r draft schema = as_error (as_invalid_uri (in_subresource r (detect draft schema) schema))
+
+-- `enter`
+unfoldable pub enter_result : Registries → Data → Result Data Data
+enter_result state d = do
+  registry ← registry_under state d (codes "registry")
+  r ← resolver_of d
+  schema ← schema_of d
+  draft ← draft_of d
+  inner ← entered_resolver r draft schema
+  Ok (object_of (resolver_members inner))

@@ -1,0 +1,41 @@
+-- The registries that are open.
+use Rattle.std.specs.Prelude.{ℕ, zero, suc, List, [], ◌∷◌, Option, None, Some, option_and_then, ok_or, slice_get, unwrap_or, Result}
+use Rattle.serde_json.specs.Data.{Data}
+use Rattle.ref_definitions.specs.World.{World}
+use Rattle.ref_definitions.specs.Results.{◌>>=◌}
+use Rattle.ref_calls.specs.declared.fault.Wrong.TheVariants.{UnknownRegistry}
+use Rattle.ref_calls.specs.Errors.{field_error}
+use Rattle.ref_calls.specs.Calls.{required, number_in}
+
+-- an open registry: its world, and the numbers of its parents, nearest first
+abbrev pub OpenRegistry : Type 0
+OpenRegistry = World × List ℕ
+
+-- the registries by their numbers; in the place of a closed one there is none
+abbrev pub Registries : Type 0
+Registries = List (Option OpenRegistry)
+
+-- the open registry with a number
+abbrev pub open_at : Registries → ℕ → Option OpenRegistry
+open_at state number = option_and_then (λ slot. slot) (slice_get state number)
+
+-- the registries without the one with a number
+abbrev pub without_registry : Registries → ℕ → Registries
+without_registry [] number = []
+without_registry (slot ∷ state) zero = None ∷ state
+without_registry (slot ∷ state) (suc n) = slot ∷ without_registry state n
+
+-- the number under a member, and the open registry that has it
+abbrev pub numbered_registry : Registries → List ℕ → ℕ → Result (ℕ × OpenRegistry) Data
+numbered_registry state field number = ok_or (option_and_then (λ o. Some (number, o)) (open_at state number)) (field_error UnknownRegistry field)
+
+unfoldable pub registry_under : Registries → Data → List ℕ → Result (ℕ × OpenRegistry) Data
+registry_under state d field = do
+  value ← required field d
+  number ← number_in field value
+  numbered_registry state field number
+
+-- the number of the registry of a layer: 0 is the registry itself, and its parents follow, nearest first
+abbrev pub layer_number : ℕ → List ℕ → ℕ → ℕ
+layer_number number parents zero = number
+layer_number number parents (suc n) = unwrap_or (slice_get parents n) number

@@ -1,0 +1,3 @@
+-- What stands here need not be believed: it says what structs stand for.
+pub mod Seen
+pub mod Replies

@@ -1,0 +1,29 @@
+-- What a call gives, before the registries change.
+use Rattle.std.specs.Prelude.{◌≡◌, ℕ, List, ◌++◌, Option, None, Some, Result, Ok, Err}
+use Rattle.serde_json.specs.Data.{Data}
+use Rattle.serde_json.specs.View.{view}
+use Rattle.serde_json.specs.declared.value.Value.{Value}
+use Rattle.ref_calls.specs.declared.stop.Stop.{Stop}
+use Rattle.ref_calls.specs.declared.stop.Stop.TheVariants.{Memory, Because}
+use Rattle.ref_serve.specs.declared.answer.Reply.{Reply}
+use Rattle.ref_calls.specs.declared.call.Call.{Call}
+use Rattle.ref_serve.specs.Answering.{IsResult}
+use Rattle.ref_serve.specs.State.{OpenRegistry, Registries, without_registry}
+
+-- the registries with others after them, and without one that is closed
+abbrev pub without : Registries → Option ℕ → Registries
+without state None = state
+without state (Some number) = without_registry state number
+
+abbrev pub changed : Registries → List (Option OpenRegistry) → Option ℕ → Registries
+changed state opened number = without (state ++ opened) number
+
+-- a reply that may be given, with what becomes of the registries
+abbrev pub Replies : (Registries → Result Data Data → Type 0) → Registries → Result Reply (Stop Value) → Type 0
+Replies may state (Ok reply) = may (changed state reply.opened.items reply.closed) (Ok (view reply.result))
+Replies may state (Err Memory) = Unit {0}
+Replies may state (Err (Because value)) = may state (Err (view value))
+
+-- the result of a call that changes no registry
+abbrev pub IsUnchanged : Call → Registries → Data → Registries → Result Data Data → Type 0
+IsUnchanged call state d next outcome = IsResult call state d outcome × (next ≡ state)

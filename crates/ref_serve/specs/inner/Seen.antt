@@ -1,0 +1,24 @@
+-- What is seen of structs.
+use Rattle.std.specs.Prelude.{◌≡◌, ℕ, List, Option, None, Some, Result, Ok}
+use Rattle.serde_json.specs.View.{view}
+use Rattle.ref_definitions.specs.World.{World}
+use Rattle.ref_definitions.specs.Fault.{Fault}
+use Rattle.ref_definitions.specs.Lookup.{Resolver, Found as WorldFound, lookup}
+use Rattle.ref_definitions.specs.Recursive.{lookup_recursive}
+use Rattle.ref_resolver.specs.Locations.{StandsAt}
+use Rattle.ref_serve.specs.declared.asked.Asked.{Asked}
+use Rattle.ref_serve.specs.declared.place.Found.{Found}
+use Rattle.ref_serve.specs.Results as results
+
+abbrev pub asked_view : Asked → results.Asked
+asked_view a = record { number = a.number; world = a.registry.now.0; parents = a.registry.now.1; values = a.values }
+
+-- what a reference means, or without one what a recursive reference means
+abbrev pub answer_at : World → Resolver → Option (List ℕ) → Result WorldFound Fault
+answer_at world r None = lookup_recursive world r
+answer_at world r (Some reference) = lookup world r reference
+
+-- it was found, with its place, and the resolver there
+abbrev pub IsFoundBy : World → Result WorldFound Fault → Found → Resolver → Type 0
+IsFoundBy world answer f r =
+    (answer ≡ Ok (record { value = view f.value.now; draft = f.draft; resolver = r })) × StandsAt world f.location (view f.value.now)

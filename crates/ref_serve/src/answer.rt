@@ -1,0 +1,156 @@
+//! From a line to its answer.
+ghost use Rattle.std.specs.Prelude.{◌≡◌, codes, None, Some, IfOk, OnOk, OnErr};
+ghost use Rattle.serde_json.specs.View.{view};
+ghost use Rattle.ref_calls.specs.Objects.{answer_of, IsLineOf};
+ghost use Rattle.ref_calls.specs.Calls.{call_of, not_json};
+ghost use Rattle.ref_serve.specs.Answering as spec;
+ghost use Rattle.ref_serve.specs.Results.{Gives};
+ghost use Rattle.ref_serve.specs.inner.Replies.{changed, Replies, IsUnchanged};
+
+use crate::bundling::bundle_document;
+use crate::entering::enter;
+use crate::following::follow;
+use crate::listing::{dangling_references, places};
+use crate::looking::{lookup, recursive};
+use crate::opening::open;
+use crate::registry::registry_of;
+use crate::state::{Open, State};
+use crate::vocabularies::vocabularies;
+use ref_calls::answer::{error_text, id_of, text_of, tree_of};
+use ref_calls::call::{Call, call_of};
+use ref_calls::fault::plain_error;
+use ref_calls::stop::Stop;
+use ref_lines::Service;
+use serde_json::{Map, Value};
+use std::alloc::{AllocError, Global};
+
+// What a call gives: its result, and how the registries change.
+#[derive(Drop)]
+struct Reply {
+    result: Value,
+    opened: Vec<Option<Open>>,
+    closed: Option<usize>,
+}
+
+impl Service for State {
+    ghost use Rattle.ref_serve.specs.Answering.{IsAnswer};
+
+    ghost may_answer = { IsAnswer };
+
+    /// The line of the answer to a call; the registries change as the call says.
+    fn answer(&mut self, alloc: Global, line: &[u8]) -> Result<Vec<u8>, AllocError> {
+        answer_line(alloc, self, line)
+    }
+}
+
+// The line of the answer to a line.
+fn answer_line(alloc: Global, state: &mut State, line: &[u8]) -> Result<Vec<u8>, AllocError>
+    ensures answer { IfOk result (λ text. spec.IsAnswer state.old line.now state.new text.items) }
+    ensures refused { OnErr result (state.new ≡ state.old) }
+{
+    match tree_of(alloc, line)? {
+        Some(tree) => answer_tree(alloc, state, tree),
+        None => not_json_line(alloc),
+    }
+}
+
+// The line of the answer to a line that is no JSON.
+fn not_json_line(alloc: Global) -> Result<Vec<u8>, AllocError>
+    ensures { IfOk result (λ text. IsLineOf (answer_of None (codes "error") not_json) text.items) }
+{
+    let error = plain_error(alloc, "NotJson", "The line is no JSON");
+    error_text(alloc, None, error)
+}
+
+fn answer_tree(alloc: Global, state: &mut State, tree: Value) -> Result<Vec<u8>, AllocError>
+    ensures answer { IfOk result (λ text. spec.IsAnswerTo state.old (Some (view tree)) state.new text.items) }
+    ensures refused { OnErr result (state.new ≡ state.old) }
+{
+    let id = id_of(&tree)?;
+    match reply_to(alloc, state, tree) {
+        Ok(reply) => {
+            let Reply {
+                result,
+                opened,
+                closed,
+            } = reply;
+            let text = text_of(alloc, id, "result", result)?;
+            change(state, opened, closed)?;
+            Ok(text)
+        }
+        Err(Stop::Because(error)) => text_of(alloc, id, "error", error),
+        Err(Stop::Memory) => Err(AllocError),
+    }
+}
+
+fn change(
+    state: &mut State,
+    opened: Vec<Option<Open>>,
+    closed: Option<usize>,
+) -> Result<(), AllocError>
+    ensures changed { OnOk result (state.new ≡ changed state.old opened.items closed) }
+    ensures refused { OnErr result (state.new ≡ state.old) }
+{
+    state.add(opened)?;
+    if let Some(number) = closed {
+        state.close(number);
+    }
+    Ok(())
+}
+
+// What a call gives.
+fn reply_to(alloc: Global, state: &mut State, tree: Value) -> Result<Reply, Stop<Value>>
+    ensures same { state.new ≡ state.old }
+    ensures reply { Replies (spec.IsReplyTo (call_of (view tree)) state.old (view tree)) state.old result }
+{
+    match call_of(alloc, &tree)? {
+        Call::Open => {
+            let opened = open(alloc, state, tree)?;
+            Ok(Reply {
+                result: opened.result,
+                opened: opened.registries,
+                closed: None,
+            })
+        }
+        Call::Close => {
+            let (number, _open) = registry_of(alloc, state, &tree)?;
+            Ok(Reply {
+                result: Value::Object(Map::new(alloc)),
+                opened: Vec::new(alloc),
+                closed: Some(number),
+            })
+        }
+        call => unchanged(alloc, state, call, &tree),
+    }
+}
+
+// The reply to a call that changes no registry.
+fn unchanged(alloc: Global, state: &State, call: Call, tree: &Value) -> Result<Reply, Stop<Value>>
+    ensures { Replies (IsUnchanged call state.now (view tree.now)) state.now result }
+{
+    match result_of(alloc, state, call, tree) {
+        Ok(result) => Ok(Reply {
+            result,
+            opened: Vec::new(alloc),
+            closed: None,
+        }),
+        Err(stop) => Err(stop),
+    }
+}
+
+// The result of a call that changes no registry.
+fn result_of(alloc: Global, state: &State, call: Call, tree: &Value) -> Result<Value, Stop<Value>>
+    ensures { Gives (spec.IsResult call state.now (view tree.now)) result }
+{
+    match call {
+        Call::Lookup => lookup(alloc, state, tree),
+        Call::Recursive => recursive(alloc, state, tree),
+        Call::Enter => enter(alloc, state, tree),
+        Call::Follow => follow(alloc, state, tree),
+        Call::Places => places(alloc, state, tree),
+        Call::Dangling => dangling_references(alloc, state, tree),
+        Call::Vocabularies => vocabularies(alloc, state, tree),
+        Call::Bundle => bundle_document(alloc, state, tree),
+        Call::Open | Call::Close => Err(plain_error(alloc, "UnknownCall", "")),
+    }
+}

@@ -1,0 +1,22 @@
+//! A server of reference resolution: a call a line in, an answer a line out, from a source to a sink of `ref_streams`.
+//!
+//! `docs/PROTOCOL.md` describes the calls. The registries that are open are a [`State`], which is the service that `ref_lines` asks for the answer to
+//! each line.
+#![tactic(auto)]
+
+mod answer;
+mod asked;
+mod bundling;
+mod entering;
+mod following;
+mod listing;
+mod looking;
+mod opening;
+mod place;
+mod registry;
+mod state;
+mod vocabularies;
+
+pub use ref_lines::{OUT_OF_MEMORY, Service, serve};
+pub use ref_streams::{Failed, Input, MemorySink, MemorySource, Output, RunError, Sink, Source};
+pub use state::{Open, State};

@@ -1,0 +1,149 @@
+//! Where a value is found.
+ghost use Rattle.std.specs.Prelude.{◌≡◌, ◌∷◌, ◌++◌, [], codes, map, Some, None, IfOk, IfErr, OnOk, IfSome, Option, option_map, string_bytes};
+ghost use Rattle.serde_json.specs.Data.{Data, string};
+ghost use Rattle.serde_json.specs.View.{view, members_view};
+ghost use Rattle.ref_parts.specs.Pointer.{slash, part_text, pointer_text};
+ghost use Rattle.ref_parts.specs.Segment.{part_of};
+ghost use Rattle.ref_retrieve.specs.Errors.{IsFaultOf};
+ghost use Rattle.ref_resolver.specs.Locations.{IsWhere, StandsAt};
+ghost use Rattle.ref_resolver.specs.Resolving.{resolver_of, world_of};
+ghost use Rattle.ref_calls.specs.Objects.{with_all, whole};
+ghost use Rattle.ref_serve.specs.Results as results;
+ghost use Rattle.ref_serve.specs.inner.Seen.{asked_view, IsFoundBy, answer_at};
+
+use crate::asked::Asked;
+use ref_calls::field::draft_name;
+use ref_calls::members::{Members, put_number, put_text, uris_of};
+use referencing::{
+    Draft, Error, JsonPointerSegment, Location, Resolver, write_escaped_str, write_index,
+};
+use serde_json::{Value, put};
+use std::alloc::{AllocError, Global};
+
+// Where the value is that a reference means, or without one a recursive reference.
+fn location_of<'s>(
+    alloc: Global,
+    resolver: &Resolver<'s>,
+    reference: Option<&str>,
+) -> Result<Location<'s>, Error>
+    ensures ok { IfOk result (IsWhere (world_of resolver.now) (answer_at (world_of resolver.now) (resolver_of resolver.now) (option_map (λ r. r.now) reference.entry))) }
+    ensures fault { IfErr result (IsFaultOf (answer_at (world_of resolver.now) (resolver_of resolver.now) (option_map (λ r. r.now) reference.entry))) }
+{
+    match reference {
+        Some(reference) => resolver.location(alloc, reference),
+        None => resolver.location_recursive(alloc),
+    }
+}
+
+/// The pointer of a path (RFC 6901, section 3).
+pub fn pointer_of(alloc: Global, path: &[JsonPointerSegment<'_>]) -> Result<String, AllocError>
+    ensures { IfOk result (λ text. string_bytes text ≡ pointer_text (map part_of path.now)) }
+{
+    let mut pointer = String::new(alloc);
+    for segment in path {
+        push_segment(&mut pointer, segment)?;
+    }
+    Ok(pointer)
+}
+
+fn push_segment(pointer: &mut String, segment: &JsonPointerSegment<'_>) -> Result<(), AllocError>
+    ensures { OnOk result (string_bytes pointer.new ≡ string_bytes pointer.old ++ slash ∷ part_text (part_of segment.now)) }
+{
+    pointer.push('/')?;
+    match segment {
+        JsonPointerSegment::Key(key) => write_escaped_str(pointer, key.as_str()),
+        JsonPointerSegment::Index(index) => write_index(pointer, *index),
+    }
+}
+
+/// Puts a place in one of a registry's own documents.
+pub fn put_site(
+    alloc: Global,
+    members: &mut Members,
+    document: usize,
+    path: &[JsonPointerSegment<'_>],
+) -> Result<(), AllocError>
+    ensures { OnOk result (members_view members.new.entries ≡ with_all ((codes "document", whole document) ∷ (codes "pointer", string (pointer_text (map part_of path.now))) ∷ []) (members_view members.old.entries)) }
+{
+    put_number(alloc, members, "document", document)?;
+    let pointer = pointer_of(alloc, path)?;
+    put(members, alloc, "pointer", Value::String(pointer))
+}
+
+/// Puts the base and the dynamic scope.
+pub fn put_resolver(
+    alloc: Global,
+    members: &mut Members,
+    resolver: &Resolver<'_>,
+) -> Result<(), AllocError>
+    ensures { OnOk result (members_view members.new.entries ≡ with_all (results.resolver_members (resolver_of resolver.now)) (members_view members.old.entries)) }
+{
+    put_text(alloc, members, "base", resolver.base_uri().as_str())?;
+    let scope = uris_of(alloc, resolver.dynamic_scope())?;
+    put(members, alloc, "scope", scope)
+}
+
+/// A value that was found, its draft and its place.
+#[derive(Drop)]
+pub struct Found<'s> {
+    pub value: &'s Value,
+    pub draft: Draft,
+    pub location: Location<'s>,
+}
+
+/// What a reference means from a resolver, or without one what a recursive reference means, and the resolver there.
+pub fn found_at<'s>(
+    alloc: Global,
+    resolver: &Resolver<'s>,
+    reference: Option<&str>,
+) -> Result<(Found<'s>, Resolver<'s>), Error>
+    ensures ok { IfOk result (λ f. IsFoundBy (world_of resolver.now) (answer_at (world_of resolver.now) (resolver_of resolver.now) (option_map (λ r. r.now) reference.entry)) f.0 (resolver_of f.1)) }
+    ensures world { IfOk result (λ f. world_of f.1 ≡ world_of resolver.now) }
+    ensures fault { IfErr result (IsFaultOf (answer_at (world_of resolver.now) (resolver_of resolver.now) (option_map (λ r. r.now) reference.entry))) }
+{
+    let resolved = match reference {
+        Some(reference) => resolver.lookup(alloc, reference)?,
+        None => resolver.lookup_recursive_ref(alloc)?,
+    };
+    let location = location_of(alloc, resolver, reference)?;
+    let (value, next, draft) = resolved.into_inner();
+    let found = Found {
+        value,
+        draft,
+        location,
+    };
+    Ok((found, next))
+}
+
+// Puts a value, where it is asked for.
+fn put_value(
+    alloc: Global,
+    members: &mut Members,
+    values: bool,
+    value: &Value,
+) -> Result<(), AllocError>
+    ensures { OnOk result (members_view members.new.entries ≡ with_all (results.value_member values (view value.now)) (members_view members.old.entries)) }
+{
+    if !values {
+        return Ok(());
+    }
+    put(members, alloc, "value", value.clone()?)
+}
+
+/// Puts the place of what was found, its draft, and its value where that is asked for.
+pub fn put_found(
+    alloc: Global,
+    members: &mut Members,
+    asked: &Asked<'_>,
+    found: &Found<'_>,
+) -> Result<(), AllocError>
+    ensures { OnOk result (members_view members.new.entries ≡ with_all (results.found_members (asked_view asked.now) found.now.location (view found.now.value.now) found.now.draft) (members_view members.old.entries)) }
+{
+    let location = &found.location;
+    put_number(alloc, members, "registry", asked.layer(location.layer))?;
+    put_number(alloc, members, "document", location.document)?;
+    let pointer = location.pointer(alloc)?;
+    put(members, alloc, "pointer", Value::String(pointer))?;
+    put_text(alloc, members, "draft", draft_name(found.draft))?;
+    put_value(alloc, members, asked.values, found.value)
+}

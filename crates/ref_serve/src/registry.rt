@@ -1,0 +1,41 @@
+//! The registry that a call asks.
+ghost use Rattle.std.specs.Prelude.{codes};
+ghost use Rattle.serde_json.specs.View.{view};
+ghost use Rattle.ref_calls.specs.Outcome.{Answers};
+ghost use Rattle.ref_serve.specs.State as spec;
+
+use crate::state::{Open, State};
+use ref_calls::fault::{Wrong, field_error};
+use ref_calls::field::{number_in, required};
+use ref_calls::stop::Stop;
+use serde_json::Value;
+use std::alloc::Global;
+
+/// The number under a member, and the open registry that has it.
+#[tactic(auto, unfolding(crate::specs::State::registry_under))]
+pub fn registry_under<'s>(
+    alloc: Global,
+    state: &'s State,
+    tree: &Value,
+    field: &str,
+) -> Result<(usize, &'s Open), Stop<Value>>
+    ensures { Answers (λ r. (r.0, r.1.now)) result (spec.registry_under state.now (view tree.now) field.now) }
+{
+    let value = required(alloc, tree, field)?;
+    let number = number_in(alloc, value, field)?;
+    match state.open(number) {
+        Some(open) => Ok((number, open)),
+        None => Err(field_error(alloc, Wrong::UnknownRegistry, field)),
+    }
+}
+
+/// The open registry that is asked.
+pub fn registry_of<'s>(
+    alloc: Global,
+    state: &'s State,
+    tree: &Value,
+) -> Result<(usize, &'s Open), Stop<Value>>
+    ensures { Answers (λ r. (r.0, r.1.now)) result (spec.registry_under state.now (view tree.now) (codes "registry")) }
+{
+    registry_under(alloc, state, tree, "registry")
+}

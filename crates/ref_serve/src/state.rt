@@ -1,0 +1,154 @@
+//! The registries that are open.
+ghost use Rattle.std.specs.Prelude.{◌≡◌, ◌++◌, [], None, IfOk, OnOk, OnErr, option_map, length};
+ghost use Rattle.ref_serve.specs.State as spec;
+
+use referencing::Registry;
+use std::alloc::{AllocError, Global};
+use std::marker::Model;
+
+/// An open registry. Contracts see its world and the numbers of its parents.
+#[derive(Drop)]
+pub struct Open {
+    registry: Registry<'static>,
+    // The numbers of its parents, nearest first.
+    parents: Vec<usize>,
+    // The same registry for the rest of the program, once it is a parent.
+    lent: Option<&'static Registry<'static>>,
+}
+
+impl Model for Open {
+    ghost use Rattle.std.specs.Prelude.{◌≡◌, ℕ, List, IfSome};
+    ghost use Rattle.ref_definitions.specs.World.{Document as WorldDocument};
+    ghost use Rattle.ref_serve.specs.Codes.{open_code};
+
+    ghost Value = { List (List WorldDocument) × List ℕ };
+
+    ghost coded = { open_code };
+
+    ghost view = { λ o. (o.registry, o.parents.items) };
+
+    ghost invariant = { λ o. IfSome o.lent (λ r. r.now ≡ o.registry) };
+}
+
+impl Open {
+    /// A registry with the numbers of its parents.
+    pub fn new(registry: Registry<'static>, parents: Vec<usize>) -> Open
+        ensures value { result ≡ (registry.entry, parents.items) }
+    {
+        Open {
+            registry,
+            parents,
+            lent: None,
+        }
+    }
+
+    /// The registry.
+    pub fn registry(&self) -> &Registry<'static>
+        ensures value { result.now ≡ self.now.0 }
+    {
+        &self.registry
+    }
+
+    /// The numbers of its parents, nearest first.
+    pub fn parents(&self) -> &[usize]
+        ensures value { result.now ≡ self.now.1 }
+    {
+        self.parents.as_slice()
+    }
+
+    /// The registry, for the rest of the program: its documents, which are shared, aren't given back then. Takes memory for handles, the
+    /// first time.
+    pub fn lend(&mut self, alloc: Global) -> Result<&'static Registry<'static>, AllocError>
+        ensures value { IfOk result (λ r. r.now ≡ self.old.0) }
+        ensures same { self.new ≡ self.old }
+    {
+        if let Some(lent) = self.lent {
+            return Ok(lent);
+        }
+        let copy = self.registry.clone()?;
+        let lent: &'static Registry<'static> = Box::leak(Box::new(alloc, copy)?);
+        self.lent = Some(lent);
+        Ok(lent)
+    }
+}
+
+/// The registries by their numbers; in the place of a closed one there is none. Contracts see that list.
+#[derive(Drop)]
+pub struct State {
+    slots: Vec<Option<Open>>,
+}
+
+impl Model for State {
+    ghost use Rattle.std.specs.Prelude.{ℕ, List, Option};
+    ghost use Rattle.ref_definitions.specs.World.{Document as WorldDocument};
+    ghost use Rattle.ref_serve.specs.Codes.{state_code};
+
+    ghost Value = { List (Option (List (List WorldDocument) × List ℕ)) };
+
+    ghost coded = { state_code };
+
+    ghost view = { λ s. s.slots.items };
+}
+
+impl State {
+    /// No registry was opened.
+    pub fn new(alloc: Global) -> State
+        ensures empty { result ≡ [] }
+    {
+        State {
+            slots: Vec::new(alloc),
+        }
+    }
+
+    /// How many registries were opened.
+    pub fn len(&self) -> usize
+        ensures value { result ≡ length self.now }
+    {
+        self.slots.len()
+    }
+
+    /// The open registry with a number.
+    pub fn open(&self, number: usize) -> Option<&Open>
+        ensures value { option_map (λ o. o.now) result ≡ spec.open_at self.now number }
+    {
+        match self.slots.get(number) {
+            Some(Some(open)) => Some(open),
+            _ => None,
+        }
+    }
+
+    /// The registry with a number, where it is open, for the rest of the program, as [`Open::lend`] gives it.
+    pub fn lend(
+        &mut self,
+        alloc: Global,
+        number: usize,
+    ) -> Result<Option<&'static Registry<'static>>, AllocError>
+        ensures same { self.new ≡ self.old }
+    {
+        if number >= self.slots.len() {
+            return Ok(None);
+        }
+        match &mut self.slots[number] {
+            Some(open) => Ok(Some(open.lend(alloc)?)),
+            None => Ok(None),
+        }
+    }
+
+    /// Gives registries the next numbers. Where there is no memory for that, nothing changes.
+    pub fn add(&mut self, opened: Vec<Option<Open>>) -> Result<(), AllocError>
+        ensures added { OnOk result (self.new ≡ self.old ++ opened.items) }
+        ensures refused { OnErr result (self.new ≡ self.old) }
+    {
+        let mut opened = opened;
+        self.slots.append(&mut opened)
+    }
+
+    /// Closes the registry with a number.
+    pub fn close(&mut self, number: usize)
+        ensures closed { self.new ≡ spec.without_registry self.old number }
+    {
+        if number < self.slots.len() {
+            self.slots[number] = None;
+        }
+    }
+}

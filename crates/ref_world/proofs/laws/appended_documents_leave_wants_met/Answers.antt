@@ -1,5 +1,0 @@
-use Rattle.ref_world.proofs.Appending.{meanings_stay, meanings_stay_below, met_wants_stay, open_wants_after}
-use Rattle.ref_world.proofs.laws.appended_documents_leave_wants_met.Goals as goal
-
-pub returns : goal.returns
-returns c = record { meanings = meanings_stay; below = meanings_stay_below; wants = met_wants_stay; open_wants = open_wants_after }

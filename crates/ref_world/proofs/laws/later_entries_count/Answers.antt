@@ -1,5 +1,0 @@
-use Rattle.ref_world.proofs.Last.{last_under_both, last_named_both}
-use Rattle.ref_world.proofs.laws.later_entries_count.Goals as goal
-
-pub returns : goal.returns
-returns c = record { under_a_uri = last_under_both; under_a_name = last_named_both }

@@ -1,5 +1,0 @@
-use Rattle.ref_world.proofs.Pending.{pending_differ}
-use Rattle.ref_world.proofs.laws.pending_documents_differ.Goals as goal
-
-pub returns : goal.returns
-returns c = record { law = pending_differ }

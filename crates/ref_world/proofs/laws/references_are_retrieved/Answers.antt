@@ -1,5 +1,0 @@
-use Rattle.ref_world.proofs.References.{references_are_retrieved}
-use Rattle.ref_world.proofs.laws.references_are_retrieved.Goals as goal
-
-pub returns : goal.returns
-returns c = record { law = references_are_retrieved }
