@@ -1,3 +1,8 @@
 pub mod Closing
 pub mod Giving
+pub mod ListOfReferences
+pub mod DanglingList
+pub mod KnownVocabularies
 pub mod Replying
+pub mod OpeningReads
+pub mod OpeningWorlds

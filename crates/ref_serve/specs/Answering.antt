@@ -1,25 +1,30 @@
 -- The answer to a line, and what becomes of the open registries.
-use Rattle.std.specs.Prelude.{◌≡◌, ℕ, List, [], ◌∷◌, ◌++◌, codes, Option, None, Some, Result, Ok, Err}
+use Rattle.std.specs.Prelude.{◌≡◌, ℕ, List, [], codes, Option, None, Some, Result, Ok, Err}
 use Rattle.serde_json.specs.Data.{Data}
 use Rattle.serde_json.specs.Find.{get}
 use Rattle.ref_calls.specs.declared.call.Call.{Call}
-use Rattle.ref_calls.specs.declared.call.Call.TheVariants.{Open, Lookup, Recursive, Enter, Close}
+use Rattle.ref_calls.specs.declared.call.Call.TheVariants.{Open, Lookup, Recursive, Enter, Places, Dangling, Vocabularies, Bundle, Close}
 use Rattle.ref_calls.specs.Objects.{object_of, answer_of, IsLineOf}
 use Rattle.ref_calls.specs.Calls.{tree_of, call_of, not_json}
 use Rattle.ref_serve.specs.State.{OpenRegistry, Registries, registry_under, without_registry}
+use Rattle.ref_serve.specs.Opening.{opening_of, IsOpenedAs}
 use Rattle.ref_serve.specs.Results.{IsLookup, IsRecursiveCall, enter_result}
+use Rattle.ref_serve.specs.Listings.{places_result, dangling_result, vocabularies_result, IsBundle}
 
 -- the result of a call that changes no registry, or its error; of the calls without a definition here any
 abbrev pub IsResult : Call → Registries → Data → Result Data Data → Type 0
 IsResult Lookup state d outcome = IsLookup state d outcome
 IsResult Recursive state d outcome = IsRecursiveCall state d outcome
 IsResult Enter state d outcome = outcome ≡ enter_result state d
+IsResult Places state d outcome = outcome ≡ places_result state d
+IsResult Dangling state d outcome = outcome ≡ dangling_result state d
+IsResult Vocabularies state d outcome = outcome ≡ vocabularies_result state d
+IsResult Bundle state d outcome = IsBundle state d outcome
 IsResult other state d outcome = Unit {0}
 
 -- a registry is opened after the others, or there is an error, and nothing changes
-abbrev pub IsOpened : Registries → Registries → Result Data Data → Type 0
-IsOpened state next (Ok result) = (o : OpenRegistry) × (next ≡ state ++ Some o ∷ [])
-IsOpened state next (Err error) = next ≡ state
+unfoldable pub IsOpened : Registries → Data → Registries → Result Data Data → Type 0
+IsOpened state d next outcome = IsOpenedAs (opening_of state d) state next outcome
 
 -- a registry is closed, and the result has no members
 abbrev pub IsClosed : Registries → Registries → ℕ → Result Data Data → Type 0
@@ -31,7 +36,7 @@ IsClose state next (Ok found) outcome = IsClosed state next found.0 outcome
 IsClose state next (Err error) outcome = (outcome ≡ Err error) × (next ≡ state)
 
 abbrev pub IsReply : Call → Registries → Data → Registries → Result Data Data → Type 0
-IsReply Open state d next outcome = IsOpened state next outcome
+IsReply Open state d next outcome = IsOpened state d next outcome
 IsReply Close state d next outcome = IsClose state next (registry_under state d (codes "registry")) outcome
 IsReply call state d next outcome = IsResult call state d outcome × (next ≡ state)
 

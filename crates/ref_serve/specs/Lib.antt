@@ -1,5 +1,7 @@
 pub mod Codes
 pub mod State
 pub mod Results
+pub mod Opening
+pub mod Listings
 pub mod Answering
 pub mod inner

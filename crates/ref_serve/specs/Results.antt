@@ -130,10 +130,10 @@ references_in (item d ds) = do
 abbrev pub IsList : Asked → Resolver → List (List ℕ) → Result Data Data → Type 0
 IsList asked r references outcome = (ds : List Data) × AreListed asked r references ds × (outcome ≡ Ok (list_of ds))
 
--- a text is looked up; of a list nothing is said here
+-- a text is looked up, and each of a list of texts
 abbrev pub IsReferenceAs : Asked → Resolver → Option (List ℕ) → Option Items → Result Data Data → Type 0
 IsReferenceAs asked r (Some reference) items outcome = IsLookedUp asked r reference outcome
-IsReferenceAs asked r None (Some items) outcome = Unit {0}
+IsReferenceAs asked r None (Some items) outcome = Then (references_in items) (IsList asked r) outcome
 IsReferenceAs asked r None None outcome = outcome ≡ Err (field_error InvalidField (codes "reference"))
 
 abbrev pub IsReference : Asked → Resolver → Data → Result Data Data → Type 0

@@ -1,4 +1,12 @@
 //! `bundle`.
+ghost use Rattle.std.specs.Prelude.{◌≡◌, ℕ, List, Result, Err, IfOk};
+ghost use Rattle.serde_json.specs.View.{view};
+ghost use Rattle.ref_bundle.specs.Saying.{obstacle_said, problem_said, refusal_said, IsRefusalOf};
+ghost use Rattle.ref_bundle.specs.Bundle.{Bundle as WorldBundle, BundleRefusal};
+ghost use Rattle.ref_calls.specs.Objects.{object_of};
+ghost use Rattle.ref_serve.specs.Listings as spec;
+ghost use Rattle.ref_serve.specs.Results.{Gives};
+
 use crate::place::put_site;
 use crate::registry::registry_of;
 use crate::state::State;
@@ -10,7 +18,9 @@ use ref_calls::stop::Stop;
 use serde_json::Value;
 use std::alloc::{AllocError, Global};
 
-fn obstacle_name(obstacle: &Obstacle) -> &'static str {
+fn obstacle_name(obstacle: &Obstacle) -> &'static str
+    ensures { result.now ≡ spec.obstacle_name (obstacle_said obstacle.now) }
+{
     match obstacle {
         Obstacle::NotAnObject => "NotAnObject",
         Obstacle::IdentifierBesideRef => "IdentifierBesideRef",
@@ -21,7 +31,9 @@ fn obstacle_name(obstacle: &Obstacle) -> &'static str {
     }
 }
 
-fn problem_name(problem: &Problem<'_>) -> &'static str {
+fn problem_name(problem: &Problem<'_>) -> &'static str
+    ensures { result.now ≡ spec.problem_name (problem_said problem.now) }
+{
     match problem {
         Problem::NoDocument => "NoDocument",
         Problem::NotEmbedded(obstacle) => obstacle_name(obstacle),
@@ -32,7 +44,10 @@ fn problem_name(problem: &Problem<'_>) -> &'static str {
     }
 }
 
-fn refusal_object(alloc: Global, refusal: &Refusal<'_>) -> Result<Value, AllocError> {
+// The error object of a refusal.
+fn refusal_object(alloc: Global, refusal: &Refusal<'_>) -> Result<Value, AllocError>
+    ensures { IfOk result (λ d. (message : List ℕ) × (view d ≡ object_of (spec.refusal_members message (refusal_said refusal.now)))) }
+{
     let message = format!(in alloc; "{refusal}")?;
     let mut members = error_members(alloc, "NotBundled", message.as_str())?;
     put_text(
@@ -50,7 +65,10 @@ fn refusal_object(alloc: Global, refusal: &Refusal<'_>) -> Result<Value, AllocEr
     Ok(Value::Object(members))
 }
 
-fn bundle_error(alloc: Global, error: &BundleError<'_>) -> Result<Value, AllocError> {
+// The same of an error, which may be that memory ran out.
+fn bundle_error(alloc: Global, error: &BundleError<'_>) -> Result<Value, AllocError>
+    ensures { (answer : Result WorldBundle BundleRefusal) → IsRefusalOf answer error.now → IfOk result (λ d. spec.IsBundled answer (Err (view d))) }
+{
     match error {
         BundleError::Refused(refusal) => refusal_object(alloc, refusal),
         BundleError::Memory(_) => Err(AllocError),
@@ -58,7 +76,10 @@ fn bundle_error(alloc: Global, error: &BundleError<'_>) -> Result<Value, AllocEr
 }
 
 /// One document in place of those that it needs.
-pub fn bundle_document(alloc: Global, state: &State, tree: &Value) -> Result<Value, Stop<Value>> {
+#[tactic(auto, unfolding(crate::specs::Listings::IsBundle, crate::specs::Listings::document_number))]
+pub fn bundle_document(alloc: Global, state: &State, tree: &Value) -> Result<Value, Stop<Value>>
+    ensures { Gives (spec.IsBundle state.now (view tree.now)) result }
+{
     let (_number, open) = registry_of(alloc, state, tree)?;
     let value = required(alloc, tree, "document")?;
     let document = number_in(alloc, value, "document")?;

@@ -1,4 +1,12 @@
 //! `places` and `dangling`.
+ghost use Rattle.std.specs.Prelude.{◌≡◌, IfOk};
+ghost use Rattle.serde_json.specs.View.{view};
+ghost use Rattle.ref_index.specs.Listing.{listed_of};
+ghost use Rattle.ref_lint.specs.Dangling.{DanglingReference};
+ghost use Rattle.ref_lint.specs.Entries.{IsEntryOf};
+ghost use Rattle.ref_calls.specs.Outcome.{Answers};
+ghost use Rattle.ref_serve.specs.Listings as spec;
+
 use crate::place::put_site;
 use crate::registry::registry_of;
 use crate::state::State;
@@ -11,7 +19,10 @@ use referencing::{Place, Registry};
 use serde_json::{Map, Value, put};
 use std::alloc::{AllocError, Global};
 
-fn place_object(alloc: Global, place: &Place<'_>) -> Result<Value, AllocError> {
+// The object of a place.
+fn place_object(alloc: Global, place: &Place<'_>) -> Result<Value, AllocError>
+    ensures { IfOk result (λ d. view d ≡ spec.place_object (listed_of place.now)) }
+{
     let mut members = Map::new(alloc);
     put_site(alloc, &mut members, place.document, place.path.as_slice())?;
     put_text(alloc, &mut members, "base", place.base.as_str())?;
@@ -19,7 +30,11 @@ fn place_object(alloc: Global, place: &Place<'_>) -> Result<Value, AllocError> {
     Ok(Value::Object(members))
 }
 
-fn dangling_object(alloc: Global, entry: &Dangling<'_>) -> Result<Value, AllocError> {
+// The object of an entry.
+#[tactic(auto, unfolding(ref_calls::specs::Errors::fault_error))]
+fn dangling_object(alloc: Global, entry: &Dangling<'_>) -> Result<Value, AllocError>
+    ensures { (r : DanglingReference) → IsEntryOf entry.now r → IfOk result (λ d. view d ≡ spec.dangling_object r) }
+{
     let mut members = Map::new(alloc);
     put_site(alloc, &mut members, entry.document, entry.path.as_slice())?;
     let error = fault_members(alloc, &entry.error)?;
@@ -27,7 +42,11 @@ fn dangling_object(alloc: Global, entry: &Dangling<'_>) -> Result<Value, AllocEr
     Ok(Value::Object(members))
 }
 
-fn places_in(alloc: Global, registry: &Registry<'_>) -> Result<Value, AllocError> {
+// The list of the places of a registry.
+#[tactic(auto, unfolding(crate::specs::Listings::places_list))]
+fn places_in(alloc: Global, registry: &Registry<'_>) -> Result<Value, AllocError>
+    ensures { IfOk result (λ d. view d ≡ spec.places_list registry.now) }
+{
     // It refuses where memory is refused alone.
     let Ok(places) = registry.places(alloc) else {
         return Err(AllocError);
@@ -40,7 +59,11 @@ fn places_in(alloc: Global, registry: &Registry<'_>) -> Result<Value, AllocError
     Ok(Value::Array(list))
 }
 
-fn dangling_in(alloc: Global, registry: &Registry<'_>) -> Result<Value, AllocError> {
+// The list of the unresolvable references of a registry.
+#[tactic(auto, unfolding(crate::specs::Listings::dangling_list))]
+fn dangling_in(alloc: Global, registry: &Registry<'_>) -> Result<Value, AllocError>
+    ensures { IfOk result (λ d. view d ≡ spec.dangling_list registry.now) }
+{
     // It refuses where memory is refused alone.
     let Ok(entries) = dangling(alloc, registry) else {
         return Err(AllocError);
@@ -54,17 +77,19 @@ fn dangling_in(alloc: Global, registry: &Registry<'_>) -> Result<Value, AllocErr
 }
 
 /// The subschemas of a registry's own documents.
-pub fn places(alloc: Global, state: &State, tree: &Value) -> Result<Value, Stop<Value>> {
+#[tactic(auto, unfolding(crate::specs::Listings::places_result))]
+pub fn places(alloc: Global, state: &State, tree: &Value) -> Result<Value, Stop<Value>>
+    ensures { Answers view result (spec.places_result state.now (view tree.now)) }
+{
     let (_number, open) = registry_of(alloc, state, tree)?;
     Ok(places_in(alloc, open.registry())?)
 }
 
 /// The references of a registry's own documents that find nothing.
-pub fn dangling_references(
-    alloc: Global,
-    state: &State,
-    tree: &Value,
-) -> Result<Value, Stop<Value>> {
+#[tactic(auto, unfolding(crate::specs::Listings::dangling_result))]
+pub fn dangling_references(alloc: Global, state: &State, tree: &Value) -> Result<Value, Stop<Value>>
+    ensures { Answers view result (spec.dangling_result state.now (view tree.now)) }
+{
     let (_number, open) = registry_of(alloc, state, tree)?;
     Ok(dangling_in(alloc, open.registry())?)
 }

@@ -70,6 +70,7 @@ fn found_item(
     }
 }
 
+// Each of a list of references, in order.
 fn found_items(
     alloc: Global,
     asked: &Asked<'_>,
@@ -77,6 +78,7 @@ fn found_items(
     items: &[Value],
 ) -> Result<Value, Stop<Value>>
     requires { world_of resolver.now ≡ asked.now.registry.now.0 }
+    ensures { Gives (Then (results.references_in (items_view items.now)) (results.IsList (asked_view asked.now) (resolver_view resolver.now))) result }
 {
     let mut list = Vec::with_capacity(alloc, items.len())?;
     for item in items {

@@ -123,6 +123,7 @@ impl State {
         alloc: Global,
         number: usize,
     ) -> Result<Option<&'static Registry<'static>>, AllocError>
+        ensures value { IfOk result (λ lent. option_map (λ r. r.now) lent ≡ option_map (λ o. o.0) (spec.open_at self.old number)) }
         ensures same { self.new ≡ self.old }
     {
         if number >= self.slots.len() {
