@@ -1,0 +1,74 @@
+// A client of `patchsard serve`: a line out for each call, a line in for each answer. Node 18 and later, no package.
+//
+//     const patchsard = new Patchsard();
+//     const registry = await patchsard.open([["https://example.com/order", order]]);
+//     const { value, base, scope } = await registry.lookup("https://example.com/order", "#/$defs/item");
+//     patchsard.end();
+//
+// `value` is the caller's own object, not a copy; each document is to have a URI of its own. An error of the protocol is thrown as an `Error` with its `name` and its further members.
+import { spawn } from "node:child_process";
+import { createInterface } from "node:readline";
+
+export class Patchsard {
+    #waiting = [];
+    constructor(program = process.env.PATCHSARD ?? "patchsard") {
+        this.process = spawn(program, ["serve"], { stdio: ["pipe", "pipe", "inherit"] });
+        createInterface({ input: this.process.stdout }).on("line", (line) => {
+            const { resolve, reject } = this.#waiting.shift(); // answers come in the order of the calls
+            const { result, error } = JSON.parse(line);
+            error ? reject(Object.assign(new Error(error.message), error)) : resolve(result);
+        });
+        const end = (error) => {
+            this.ended ??= error;
+            for (const { reject } of this.#waiting.splice(0)) reject(this.ended);
+        };
+        for (const it of [this.process, this.process.stdin]) it.on("error", end);
+        this.process.on("close", (status) => end(new Error(`${program} has ended, with status ${status}`)));
+    }
+    call(call, members) {
+        return new Promise((resolve, reject) => {
+            if (this.ended) return reject(this.ended);
+            this.#waiting.push({ resolve, reject });
+            this.process.stdin.write(JSON.stringify({ call, ...members }) + "\n");
+        });
+    }
+    // `retrieve` takes the URI of a document that isn't there, and answers a schema or a promise of one; `parent` is a registry.
+    async open(documents, { retrieve, parent, ...members } = {}) {
+        for (const remote = new Map(); ; ) {
+            try {
+                const answer = await this.call("open", { documents, remote: [...remote], parent: parent?.number, ...members });
+                const values = answer.documents.map((uri, number) => (number < documents.length ? documents[number][1] : remote.get(uri)));
+                return new Registry(this, answer.registry, values, parent);
+            } catch (error) {
+                if (!retrieve || !error.uri || remote.has(error.uri)) throw error;
+                remote.set(error.uri, await retrieve(error.uri));
+            }
+        }
+    }
+    end() {
+        this.process.stdin.end();
+    }
+}
+
+class Registry {
+    constructor(patchsard, number, documents, parent) {
+        Object.assign(this, { patchsard, number, documents, parent });
+    }
+    async lookup(base, reference, scope = []) {
+        return this.#found(await this.patchsard.call("lookup", { registry: this.number, base, scope, reference }));
+    }
+    // One line for all: in each one's place what it leads to, or `{ error }`.
+    async lookupAll(base, reference, scope = []) {
+        const all = await this.patchsard.call("lookup", { registry: this.number, base, scope, reference });
+        return all.map((it) => (it.error ? it : this.#found(it)));
+    }
+    close() {
+        return this.patchsard.call("close", { registry: this.number });
+    }
+    #found(answer) {
+        let owner = this;
+        while (owner.number !== answer.registry) owner = owner.parent;
+        const tokens = answer.pointer.split("/").slice(1).map((it) => it.replaceAll("~1", "/").replaceAll("~0", "~"));
+        return { ...answer, value: tokens.reduce((value, token) => value[token], owner.documents[answer.document]) };
+    }
+}

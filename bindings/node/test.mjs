@@ -1,0 +1,60 @@
+// node --test bindings/node/test.mjs, with the program in the environment variable PATCHSARD or on PATH.
+import assert from "node:assert/strict";
+import { after, before, test } from "node:test";
+import { Patchsard } from "./client.mjs";
+
+const base = "https://example.com/order";
+const order = { $defs: { item: { type: "string" }, "a/b~c": { $anchor: "odd" } }, examples: [[]], allOf: [{ $ref: "#/$defs/item" }] };
+let patchsard;
+before(() => (patchsard = new Patchsard()));
+after(() => patchsard.end());
+
+test("a look-up answers the caller's own object", async () => {
+    const registry = await patchsard.open([[base, order]]);
+    const found = await registry.lookup(base, "#/$defs/item");
+    assert.equal(found.value, order.$defs.item);
+    assert.equal(found.draft, "2020-12");
+    assert.deepEqual(found.scope, [base]);
+    assert.equal((await registry.lookup(base, "#odd")).value, order.$defs["a/b~c"]);
+    assert.equal((await registry.lookup(base, "")).value, order);
+    await registry.close();
+    await assert.rejects(registry.lookup(base, ""), { name: "UnknownRegistry" });
+});
+
+test("many references in one line", async () => {
+    const registry = await patchsard.open([[base, order]]);
+    const [found, missing] = await registry.lookupAll(base, ["#/examples/0", "#/$defs/itme"]);
+    assert.equal(found.value, order.examples[0]);
+    assert.equal(missing.error.name, "PointerToNowhere");
+});
+
+test("calls that wait for one another's answers", async () => {
+    const registry = await patchsard.open([[base, order]]);
+    const all = await Promise.all(Array.from({ length: 100 }, (_, number) => registry.lookup(base, number % 2 ? "#/$defs/item" : "#odd")));
+    assert.ok(all.every(({ value }, number) => value === (number % 2 ? order.$defs.item : order.$defs["a/b~c"])));
+});
+
+test("documents that are retrieved", async () => {
+    const item = { $ref: "part" };
+    const part = { type: "integer" };
+    const files = new Map([["https://example.com/item", item], ["https://example.com/part", part]]);
+    const registry = await patchsard.open([[base, { $ref: "item" }]], { retrieve: async (uri) => files.get(uri) });
+    assert.equal((await registry.lookup(base, "part")).value, part);
+    await assert.rejects(patchsard.open([[base, { $ref: "item" }]]), { name: "Unretrievable", uri: "https://example.com/item", kind: "reference" });
+});
+
+test("a registry behind another", async () => {
+    const parent = await patchsard.open([[base, order]]);
+    const part = { $ref: "order#odd" };
+    const registry = await patchsard.open([["https://example.com/part", part]], { parent });
+    await parent.close();
+    assert.equal((await registry.lookup("https://example.com/part", "#")).value, part);
+    assert.equal((await registry.lookup("https://example.com/part", "order#odd")).value, order.$defs["a/b~c"]);
+});
+
+test("a program that ends", async () => {
+    const other = new Patchsard();
+    other.end();
+    await new Promise((resolve) => other.process.on("close", resolve));
+    await assert.rejects(other.open([]), /has ended/);
+});

@@ -1,0 +1,48 @@
+"""References of JSON Schema, resolved by the program patchsard, with the names of Python's `referencing`."""
+from patchsard import exceptions, jsonschema
+from patchsard._core import Dangling, Draft, Registry, Resolved, Resolver, Resource
+from patchsard.exceptions import (
+    CallRefused,
+    CannotDetermineSpecification,
+    InvalidAnchor,
+    InvalidArrayIndex,
+    InvalidPercentEncoding,
+    InvalidUri,
+    NoSuchAnchor,
+    NoSuchResource,
+    NotBundled,
+    PointerToNowhere,
+    ProcessEnded,
+    ProgramNotFound,
+    RetrievalLimit,
+    UnknownSpecification,
+    Unresolvable,
+    Unretrievable,
+)
+
+__all__ = [
+    "CallRefused",
+    "CannotDetermineSpecification",
+    "Dangling",
+    "Draft",
+    "InvalidAnchor",
+    "InvalidArrayIndex",
+    "InvalidPercentEncoding",
+    "InvalidUri",
+    "NoSuchAnchor",
+    "NoSuchResource",
+    "NotBundled",
+    "PointerToNowhere",
+    "ProcessEnded",
+    "ProgramNotFound",
+    "Registry",
+    "Resolved",
+    "Resolver",
+    "Resource",
+    "RetrievalLimit",
+    "UnknownSpecification",
+    "Unresolvable",
+    "Unretrievable",
+    "exceptions",
+    "jsonschema",
+]

@@ -1,0 +1,637 @@
+"""Registries, resolvers and what they answer."""
+from __future__ import annotations
+
+import json
+import weakref
+from typing import Any, Callable, Dict, Iterable, Iterator, List, Mapping, NamedTuple, Optional, Sequence, Set, Tuple, Union
+
+from patchsard import _process
+from patchsard.exceptions import CannotDetermineSpecification, NoSuchResource, ProcessEnded, Unresolvable, Unretrievable, from_answer
+
+Schema = Any
+Pairs = Iterable[Tuple[str, Any]]
+
+_encode = json.JSONEncoder(separators=(",", ":"), allow_nan=False, ensure_ascii=False).encode
+# After as many documents that were retrieved one at a time, they are looked for ahead.
+_ROUNDS = 4
+# In place of a document that isn't there.
+_MISSING = object()
+# As many registries may stand behind one another; a longer row is opened as one.
+_DEPTH = 8
+
+
+class Draft(NamedTuple):
+    """A draft of JSON Schema. `name` is its name in the program's protocol, `uri` its meta-schema's URI."""
+
+    name: str
+    uri: str
+
+    def create_resource(self, contents: Schema) -> "Resource":
+        """A document that is read by this draft, whatever it says itself."""
+        return Resource(contents, self)
+
+    def detect(self, contents: Schema) -> "Draft":
+        """The draft that the document names; this one where it names none that is known."""
+        return _named(contents) or self
+
+
+DRAFT4 = Draft("4", "http://json-schema.org/draft-04/schema#")
+DRAFT6 = Draft("6", "http://json-schema.org/draft-06/schema#")
+DRAFT7 = Draft("7", "http://json-schema.org/draft-07/schema#")
+DRAFT201909 = Draft("2019-09", "https://json-schema.org/draft/2019-09/schema")
+DRAFT202012 = Draft("2020-12", "https://json-schema.org/draft/2020-12/schema")
+DRAFTS = (DRAFT4, DRAFT6, DRAFT7, DRAFT201909, DRAFT202012)
+_BY_URI = {draft.uri.rstrip("#"): draft for draft in DRAFTS}
+_BY_NAME = {draft.name: draft for draft in DRAFTS}
+# The names that specifications have in Python's `referencing`.
+_BY_SPECIFICATION = {"draft-04": DRAFT4, "draft-06": DRAFT6, "draft-07": DRAFT7, "draft2019-09": DRAFT201909, "draft2020-12": DRAFT202012}
+
+
+def _named(contents: Schema) -> Optional[Draft]:
+    uri = contents.get("$schema") if isinstance(contents, dict) else None
+    return _BY_URI.get(uri.rstrip("#")) if isinstance(uri, str) else None
+
+
+class Resource:
+    """A document, and the draft by which it is read. Where `specification` is `None`, the document's `$schema` says it, or else the registry."""
+
+    __slots__ = ("contents", "specification")
+
+    def __init__(self, contents: Schema, specification: Optional[Draft] = None) -> None:
+        self.contents = contents
+        self.specification = specification
+
+    @classmethod
+    def from_contents(cls, contents: Schema, default_specification: Optional[Draft] = None) -> "Resource":
+        """The document by the draft that its `$schema` names, or the default one; where there is neither, `CannotDetermineSpecification`."""
+        draft = _named(contents) or default_specification
+        if draft is None:
+            raise CannotDetermineSpecification(contents)
+        return cls(contents, draft)
+
+    def id(self) -> Optional[str]:
+        """The identifier that the document gives itself."""
+        draft = self.specification or _named(self.contents) or DRAFT202012
+        if not isinstance(self.contents, dict):
+            return None
+        found = self.contents.get("id" if draft is DRAFT4 else "$id")
+        is_old = draft in (DRAFT4, DRAFT6, DRAFT7)
+        if not isinstance(found, str) or is_old and ("$ref" in self.contents or found.startswith("#")):
+            return None
+        return found.rstrip("#")
+
+    def __eq__(self, other: object) -> bool:
+        return isinstance(other, Resource) and (self.contents, self.specification) == (other.contents, other.specification)
+
+    def __repr__(self) -> str:
+        return f"Resource({self.contents!r}, {self.specification and self.specification.name!r})"
+
+
+def _resource(given: Any) -> Resource:
+    """A document that is given as a `Resource`, as one of Python's `referencing`, or by itself."""
+    if isinstance(given, Resource):
+        return given
+    specification = getattr(given, "_specification", None)
+    if specification is not None and hasattr(given, "contents"):
+        return Resource(given.contents, _BY_SPECIFICATION.get(specification.name))
+    return Resource(given)
+
+
+def _text(resource: Resource) -> str:
+    """The document as JSON. One that is read by a draft which it doesn't name says so in the text, at the end, where the last mention counts."""
+    contents, draft = resource.contents, resource.specification
+    try:
+        text = _encode(contents)
+    except RecursionError:
+        raise ValueError("The document nests too deep") from None
+    _check_keys(contents)
+    if draft is not None and isinstance(contents, dict) and contents and _named(contents) is not draft:
+        return f'{text[:-1]},"$schema":"{draft.uri}"}}'
+    return text
+
+
+def _check_keys(contents: Schema) -> None:
+    """A TypeError where the keys of an object are no texts: `json` would make some of them texts."""
+    waiting = [contents]
+    for value in waiting:
+        kind = type(value)
+        if kind is str:
+            continue
+        if kind is dict or isinstance(value, dict):
+            for key in value:
+                if type(key) is not str and not isinstance(key, str):
+                    raise TypeError(f"The keys of JSON objects are texts: {key!r}")
+            waiting += value.values()
+        elif kind is list or isinstance(value, (list, tuple)):
+            waiting += value
+
+
+def _at(value: Schema, pointer: str) -> Schema:
+    """The value below another by a JSON Pointer that the program answered."""
+    if not pointer:
+        return value
+    if "~" in pointer:
+        tokens = [token.replace("~1", "/").replace("~0", "~") for token in pointer[1:].split("/")]
+    else:
+        tokens = pointer[1:].split("/")
+    for token in tokens:
+        value = value[token] if isinstance(value, dict) else value[int(token)]
+    return value
+
+
+class _Opened:
+    """A registry as the program has it, until nothing refers to it."""
+
+    __slots__ = ("process", "number", "documents", "parent", "close", "__weakref__")
+
+    def __init__(self, process: _process.Process, number: int, documents: List[Schema], parent: Optional["_Opened"]) -> None:
+        self.process = process
+        self.number = number
+        self.documents = documents
+        self.parent = parent
+        self.close = weakref.finalize(self, process.close_later, number)
+        self.close.atexit = False
+
+    def value(self, answer: Dict[str, Any]) -> Schema:
+        """The caller's value at the place that an answer tells."""
+        number = answer["registry"]
+        opened = self
+        while opened.number != number:
+            assert opened.parent is not None
+            opened = opened.parent
+        document = opened.documents[answer["document"]]
+        if document is _MISSING:
+            raise Unretrievable(answer["base"], "The document isn't there")
+        return _at(document, answer["pointer"])
+
+    def ask(self, ref: str, call: str, members: str = "") -> Any:
+        """What the program answers, or the exception for its error."""
+        answer = self.process.ask(f'{{"call":"{call}","registry":{self.number}{members}}}\n'.encode("utf-8"))
+        if "error" in answer:
+            raise from_answer(answer["error"], ref)
+        return answer["result"]
+
+
+def _listed(texts: Dict[str, str]) -> str:
+    """Documents as members of a list in a call."""
+    return ",".join(f"[{_encode(uri)},{text}]" for uri, text in texts.items())
+
+
+def _meta_schemas() -> List[Tuple[str, Schema]]:
+    """The meta-schemas of the drafts, where `jsonschema-specifications` is installed."""
+    try:
+        from jsonschema_specifications import REGISTRY
+    except ImportError:
+        return []
+    return [(uri, resource.contents) for uri, resource in REGISTRY.items() if _named(resource.contents)]
+
+
+def _meta(process: _process.Process) -> Optional[_Opened]:
+    """The registry of the meta-schemas, which is the parent of every other; opened once in a process."""
+    if process.meta is None:
+        documents = _meta_schemas()
+        if not documents:
+            process.meta = ()
+        else:
+            answer = process.ask(f'{{"call":"open","documents":{_encode(documents)}}}\n'.encode("utf-8"))
+            if "error" in answer:
+                raise from_answer(answer["error"], "")
+            process.meta = _Opened(process, answer["result"]["registry"], [contents for _, contents in documents], None)
+    return process.meta or None
+
+
+class Registry(Mapping[str, Resource]):
+    """Documents, each under a URI.
+
+    A registry doesn't change: `with_resource` and its like answer another. The program gets its documents when a reference is first looked up, or by
+    `crawl`, and with them all documents that they refer to: what is not in the registry is asked of `retrieve`, a function from a URI to a document,
+    which raises an exception or answers `None` where it has none. Values in answers are those of the documents that were given, not copies, so they must not change.
+
+    `draft` is the draft of documents that name none, and `limit` says how many documents may be retrieved. A document that can't be had is an error as soon as the
+    program gets the others, or with `allow_missing` only where a reference to it is looked up. The meta-schemas of the drafts are there where the package
+    `jsonschema-specifications` is installed.
+    """
+
+    __slots__ = ("_documents", "_retrieve", "_draft", "_limit", "_allow_missing", "_retrieved", "_parent", "_opened", "__weakref__")
+
+    def __init__(
+        self,
+        resources: Union[Mapping[str, Any], Pairs] = (),
+        retrieve: Optional[Callable[[str], Any]] = None,
+        *,
+        draft: Draft = DRAFT202012,
+        limit: Optional[int] = None,
+        allow_missing: bool = False,
+    ) -> None:
+        pairs = resources.items() if isinstance(resources, Mapping) else resources
+        self._documents: Dict[str, Resource] = {uri.rstrip("#"): _resource(given) for uri, given in pairs}
+        self._retrieve = retrieve
+        self._draft = draft
+        self._limit = limit
+        self._allow_missing = allow_missing
+        self._retrieved: Dict[str, Resource] = {}
+        self._parent: Optional[Registry] = None
+        self._opened: Optional[_Opened] = None
+
+    def with_resource(self, uri: str, resource: Any) -> "Registry":
+        """A registry with one document more: a `Resource`, or a schema by itself."""
+        return self.with_resources([(uri, resource)])
+
+    def with_resources(self, pairs: Pairs) -> "Registry":
+        """A registry with more documents. One under the URI of another takes its place."""
+        added = {uri.rstrip("#"): _resource(given) for uri, given in pairs}
+        depth, registry = 1, self
+        while registry._parent is not None:
+            depth, registry = depth + 1, registry._parent
+        if self._is_open() and depth < _DEPTH and not any(uri in self for uri in added):
+            return self._evolved(added, {}, self)
+        return self._evolved({**self._all(), **added}, self._all_retrieved(), None)
+
+    def with_contents(self, pairs: Pairs, default_specification: Optional[Draft] = None) -> "Registry":
+        """A registry with more documents, each by the draft that it names, or the default one, or that of the registry."""
+        return self.with_resources((uri, Resource(contents, None if _named(contents) else default_specification)) for uri, contents in pairs)
+
+    def combine(self, *registries: "Registry") -> "Registry":
+        """A registry with the documents of all. Only one of them may have a `retrieve` of its own."""
+        documents, retrieved, retrieve = self._all(), self._all_retrieved(), self._retrieve
+        for registry in registries:
+            documents.update(registry._all())
+            retrieved.update(registry._all_retrieved())
+            if registry._retrieve is not None and registry._retrieve is not retrieve:
+                if retrieve is not None:
+                    raise ValueError("The registries have different functions to retrieve")
+                retrieve = registry._retrieve
+        new = self._evolved(documents, retrieved, None)
+        new._retrieve = retrieve
+        return new
+
+    def crawl(self) -> "Registry":
+        """This registry, after the program has got its documents; so what is wrong with them shows here."""
+        self._open()
+        return self
+
+    def resolver(self, base_uri: str = "") -> "Resolver":
+        """A resolver of references that stand in the document with that URI."""
+        return Resolver(self, base_uri, ())
+
+    def resolver_with_root(self, resource: Any) -> "Resolver":
+        """A resolver of references that stand in a document, which needs no URI, and is added to the registry."""
+        resource = _resource(resource)
+        return self._with_root(resource).resolver("").in_subresource(resource)
+
+    def contents(self, uri: str) -> Schema:
+        """The document under a URI, or the schema with that identifier."""
+        return self[uri].contents
+
+    def dangling(self) -> "List[Dangling]":
+        """The references of the registry's documents, and of those that they wanted, that find nothing."""
+        opened = self._as_one()._open()
+        return [Dangling(opened.documents[it["document"]], it["pointer"], it["error"]) for it in opened.ask("", "dangling")]
+
+    def bundle(self, uri: str) -> Schema:
+        """A document with all others that it needs in it, as a new value."""
+        opened = self._as_one()._open()
+        try:
+            found = opened.ask(uri, "lookup", f',"base":{_encode(uri)},"reference":"#"')
+        except Unresolvable:
+            raise NoSuchResource(uri) from None
+        if found["registry"] != opened.number or found["pointer"]:
+            raise NoSuchResource(uri)
+        return opened.ask(uri, "bundle", f',"document":{found["document"]}')["bundle"]
+
+    def close(self) -> None:
+        """Gives back the memory that the program has for this registry. It is opened anew where it is used again."""
+        opened, self._opened = self._opened, None
+        if opened is not None:
+            opened.close()
+
+    def __enter__(self) -> "Registry":
+        return self
+
+    def __exit__(self, *_: object) -> None:
+        self.close()
+
+    def __getitem__(self, uri: str) -> Resource:
+        registry: Optional[Registry] = self
+        while registry is not None:
+            found = registry._documents.get(uri.rstrip("#"))
+            if found is not None:
+                return found
+            registry = registry._parent
+        try:
+            resolved = self.resolver(uri)._lookup("#", may_retrieve=False)
+        except Unresolvable:
+            raise NoSuchResource(uri) from None
+        return Resource(resolved.contents, resolved.specification)
+
+    def __contains__(self, uri: object) -> bool:
+        return uri in self._documents or self._parent is not None and uri in self._parent
+
+    def __iter__(self) -> Iterator[str]:
+        """The URIs that documents were added under."""
+        return iter(self._all())
+
+    def __len__(self) -> int:
+        return len(self._all())
+
+    def __eq__(self, other: object) -> bool:
+        return self is other
+
+    def __hash__(self) -> int:
+        return id(self)
+
+    def __repr__(self) -> str:
+        return f"<Registry of {len(self)} documents>"
+
+    def _evolved(self, documents: Dict[str, Resource], retrieved: Dict[str, Resource], parent: Optional["Registry"]) -> "Registry":
+        new = Registry((), self._retrieve, draft=self._draft, limit=self._limit, allow_missing=self._allow_missing)
+        new._documents, new._retrieved, new._parent = documents, retrieved, parent
+        return new
+
+    def _with_root(self, resource: Resource) -> "Registry":
+        """A registry with a document that has no URI, behind which this one stays open for the next."""
+        if self._documents:
+            try:
+                self._open()
+            except Unretrievable:
+                pass
+        return self.with_resource("", resource)
+
+    def _all(self) -> Dict[str, Resource]:
+        return {**(self._parent._all() if self._parent is not None else {}), **self._documents}
+
+    def _all_retrieved(self) -> Dict[str, Resource]:
+        return {**(self._parent._all_retrieved() if self._parent is not None else {}), **self._retrieved}
+
+    def _as_one(self) -> "Registry":
+        """This registry as one of the program's, with all documents that it needs."""
+        if self._parent is None and not self._allow_missing:
+            return self
+        new = self._evolved(self._all(), self._all_retrieved(), None)
+        new._allow_missing = False
+        return new
+
+    def _is_open(self) -> bool:
+        return self._opened is not None and not self._opened.process.ended
+
+    def _open(self) -> _Opened:
+        opened = self._opened
+        if opened is not None and not opened.process.ended:
+            return opened
+        process = _process.shared()
+        was_asked = process.asked
+        try:
+            opened = self._open_in(process)
+        except ProcessEnded:
+            # One that ran before may have ended since its last answer.
+            if not was_asked:
+                raise
+            opened = self._open_in(_process.shared())
+        self._opened = opened
+        return opened
+
+    def _open_in(self, process: _process.Process) -> _Opened:
+        parent = self._parent._open() if self._parent is not None else _meta(process)
+        texts = {uri: _text(resource) for uri, resource in self._documents.items()}
+        retrieved = dict(self._retrieved)
+        remote = {uri: _text(resource) for uri, resource in retrieved.items()}
+        members = self._members(parent)
+        head = f'{members},"documents":[{_listed(texts)}],"remote":['
+        rounds = 0
+        while True:
+            answer = process.ask(f"{head}{_listed(remote)}]}}\n".encode("utf-8"))
+            if "error" not in answer:
+                break
+            error = from_answer(answer["error"], answer["error"].get("uri", ""))
+            if not isinstance(error, Unretrievable) or error.uri is None or error.uri in remote:
+                raise error
+            retrieved[error.uri], remote[error.uri] = self._retrieved_or_missing(error)
+            rounds += 1
+            if rounds == _ROUNDS:
+                self._retrieve_ahead(process, parent, texts, retrieved, remote)
+        uris = answer["result"]["documents"]
+        documents = [resource.contents for resource in self._documents.values()]
+        documents += [retrieved[uri].contents for uri in uris if uri in retrieved]
+        opened = _Opened(process, answer["result"]["registry"], documents, parent)
+        if len(documents) != len(uris):
+            # Some URIs mean the same; the last document under them took the place of the others.
+            opened.documents = [retrieved[uri].contents if uri in retrieved else None for uri in uris]
+            for uri, resource in self._documents.items():
+                opened.documents[opened.ask(uri, "lookup", f',"base":{_encode(uri)},"reference":"#"')["document"]] = resource.contents
+        self._retrieved = {uri: resource for uri, resource in retrieved.items() if resource.contents is not _MISSING}
+        return opened
+
+    def _members(self, parent: Optional[_Opened]) -> str:
+        """The begin of a call `open`."""
+        members = f'{{"call":"open","draft":"{self._draft.name}"'
+        if parent is not None:
+            members += f',"parent":{parent.number}'
+        if self._limit is not None:
+            members += f',"limit":{self._limit}'
+        return members
+
+    def _retrieve_ahead(
+        self, process: _process.Process, parent: Optional[_Opened], texts: Dict[str, str], retrieved: Dict[str, Resource], remote: Dict[str, str]
+    ) -> None:
+        """Retrieves what documents want, asking about each by itself, and then about what was retrieved. By `open` of all together each would be sent again for
+        each that is retrieved. What can't be had is left to that `open`, which decides."""
+        answer = process.ask(f'{self._members(parent)},"documents":[{_listed(dict.fromkeys(texts, "true"))}]}}\n'.encode("utf-8"))
+        if "error" in answer:
+            return
+        stubs = _Opened(process, answer["result"]["registry"], [], parent)
+        known = {*answer["result"]["documents"], *remote}
+        most = 10000 if self._limit is None else self._limit
+        level = {**texts, **remote}
+        while level:
+            wanted: Dict[str, Unretrievable] = {}
+            for uri, text in level.items():
+                wants, identifiers = self._wants(stubs, uri, text)
+                wanted.update(wants)
+                known |= identifiers
+            level = {}
+            for uri, error in wanted.items():
+                if uri in known or len(remote) > most:
+                    continue
+                known.add(uri)
+                try:
+                    retrieved[uri], remote[uri] = self._retrieved_or_missing(error)
+                except Unretrievable:
+                    continue
+                level[uri] = remote[uri]
+
+    def _wants(self, stubs: _Opened, uri: str, text: str) -> Tuple[Dict[str, Unretrievable], Set[str]]:
+        """The documents that a document wants, beside those that there are stubs of, and the base URIs in it."""
+        wants: Dict[str, Unretrievable] = {}
+        head = f'{self._members(stubs)},"documents":[{_listed({uri: text})}],"remote":['
+        while True:
+            stub = f'{{"$schema":"{self._draft.uri}"}}'
+            answer = stubs.process.ask(f"{head}{_listed(dict.fromkeys(wants, stub))}]}}\n".encode("utf-8"))
+            if "error" not in answer:
+                opened = _Opened(stubs.process, answer["result"]["registry"], [], stubs)
+                return wants, {it["base"] for it in opened.ask("", "places") if it["document"] == 0}
+            error = from_answer(answer["error"], answer["error"].get("uri", ""))
+            if not isinstance(error, Unretrievable) or error.uri is None or error.uri in wants:
+                return wants, set()
+            wants[error.uri] = error
+
+    def _asked_for(self, error: Unretrievable) -> Resource:
+        """What the caller's function retrieves."""
+        if self._retrieve is None or error.uri is None:
+            raise error
+        try:
+            given = self._retrieve(error.uri)
+        except Exception as cause:
+            raise error from cause
+        if given is None:
+            raise error
+        return _resource(given)
+
+    def _retrieved_or_missing(self, error: Unretrievable) -> Tuple[Resource, str]:
+        """What the caller's function retrieves, with its text; or where it may be missing, what stands in its place."""
+        try:
+            resource = self._asked_for(error)
+        except Unretrievable:
+            if not self._allow_missing:
+                raise
+            return Resource(_MISSING), f'{{"$schema":"{self._draft.uri}"}}'
+        return resource, _text(resource)
+
+
+class Resolved:
+    """What a reference leads to: `contents`, the caller's own value, and `resolver`, which resolves the references that stand in it."""
+
+    __slots__ = ("contents", "_registry", "_answer")
+
+    def __init__(self, contents: Schema, registry: Registry, answer: Dict[str, Any]) -> None:
+        self.contents = contents
+        self._registry = registry
+        self._answer = answer
+
+    @property
+    def resolver(self) -> "Resolver":
+        """The resolver at the value."""
+        return Resolver(self._registry, self._answer["base"], self._answer["scope"])
+
+    @property
+    def specification(self) -> Optional[Draft]:
+        """The draft by which the value is read, or `None` for an unknown one."""
+        return _BY_NAME.get(self._answer["draft"])
+
+    def __eq__(self, other: object) -> bool:
+        return isinstance(other, Resolved) and self.contents is other.contents and self.resolver == other.resolver
+
+    def __hash__(self) -> int:
+        return hash((id(self.contents), self._answer["base"]))
+
+    def __repr__(self) -> str:
+        return f"Resolved({self.contents!r}, {self.resolver!r})"
+
+
+class Dangling(NamedTuple):
+    """A reference that finds nothing: the document it stands in, the pointer to its schema there, and the error as the program tells it."""
+
+    document: Schema
+    pointer: str
+    error: Dict[str, str]
+
+    @property
+    def contents(self) -> Schema:
+        """The schema whose reference it is."""
+        return _at(self.document, self.pointer)
+
+
+class Resolver:
+    """Looks references up from a base URI. It is made by a registry, and doesn't change."""
+
+    __slots__ = ("_registry", "_base_uri", "_scope", "_members")
+
+    def __init__(self, registry: Registry, base_uri: str, scope: Sequence[str]) -> None:
+        self._registry = registry
+        self._base_uri = base_uri
+        self._scope = scope
+        self._members: Optional[str] = None
+
+    @property
+    def base_uri(self) -> str:
+        """The URI that references are resolved against."""
+        return self._base_uri
+
+    def dynamic_scope(self) -> Iterator[Tuple[str, Registry]]:
+        """The URIs of the dynamic scope, the innermost first, each with the registry."""
+        return ((uri, self._registry) for uri in self._scope)
+
+    def lookup(self, ref: str) -> Resolved:
+        """Where a reference leads. Raises `Unresolvable`, or a class below it, where it finds nothing."""
+        return self._lookup(ref)
+
+    def lookup_all(self, refs: Iterable[str], return_exceptions: bool = False) -> List[Any]:
+        """Where each of several references leads, asked at once. The first that finds nothing is raised, or with `return_exceptions` stands in its place."""
+        refs = list(refs)
+        opened = self._registry._open()
+        value, registry = opened.value, self._registry
+        found: List[Any] = []
+        for ref, answer in zip(refs, self._ask(opened, "lookup", ',"reference":' + _encode(refs))):
+            try:
+                if "error" not in answer:
+                    found.append(Resolved(value(answer), registry, answer))
+                else:
+                    found.append(self._retried(ref, from_answer(answer["error"], ref)))
+            except Unresolvable as error:
+                if not return_exceptions:
+                    raise
+                found.append(error)
+        return found
+
+    def in_subresource(self, subresource: Any) -> "Resolver":
+        """The resolver inside of a subschema, whose identifier changes the base URI where it has one. A schema without an identifier isn't sent."""
+        specification = getattr(subresource, "_specification", None)
+        resource = _resource(subresource)
+        contents = resource.contents
+        if not isinstance(contents, dict) or "$id" not in contents and "id" not in contents:
+            return self
+        if specification is not None and resource.specification is None:
+            return self
+        # Nothing else of the schema matters to its identifier.
+        members = {key: contents[key] for key in ("$id", "id", "$ref", "$schema") if key in contents}
+        draft = resource.specification or self._registry._draft
+        if resource.specification is not None:
+            members["$schema"] = draft.uri
+        answer = self._ask(self._registry._open(), "enter", f',"draft":"{draft.name}","schema":{_encode(members)}')
+        return Resolver(self._registry, answer["base"], answer["scope"])
+
+    def lookup_recursive_ref(self) -> Resolved:
+        """Where `$recursiveRef` leads, in 2019-09."""
+        opened = self._registry._open()
+        answer = self._ask(opened, "recursive", ref="#")
+        return Resolved(opened.value(answer), self._registry, answer)
+
+    def __eq__(self, other: object) -> bool:
+        return isinstance(other, Resolver) and (self._registry, self._base_uri, list(self._scope)) == (other._registry, other._base_uri, list(other._scope))
+
+    def __hash__(self) -> int:
+        return hash((self._registry, self._base_uri))
+
+    def __repr__(self) -> str:
+        return f"<Resolver at {self._base_uri!r}>"
+
+    def _ask(self, opened: _Opened, call: str, more: str = "", ref: str = "") -> Any:
+        if self._members is None:
+            self._members = f',"base":{_encode(self._base_uri)},"scope":{_encode(self._scope)}'
+        return opened.ask(ref, call, self._members + more)
+
+    def _lookup(self, ref: str, may_retrieve: bool = True) -> Resolved:
+        opened = self._registry._open()
+        try:
+            answer = self._ask(opened, "lookup", ',"reference":' + _encode(ref), ref)
+            return Resolved(opened.value(answer), self._registry, answer)
+        except Unretrievable as error:
+            if not may_retrieve:
+                raise
+            return self._retried(ref, error)
+
+    def _retried(self, ref: str, error: Exception) -> Resolved:
+        """What a reference finds in a registry with the document that wasn't there, where it can be retrieved."""
+        if not isinstance(error, Unretrievable) or error.uri is None or self._registry._retrieve is None:
+            raise error
+        registry = self._registry.with_resource(error.uri, self._registry._asked_for(error))
+        return Resolver(registry, self._base_uri, self._scope)._lookup(ref, may_retrieve=False)

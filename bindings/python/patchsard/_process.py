@@ -1,0 +1,189 @@
+"""The running program: one for a Python process, started at its first use, asked by one thread at a time."""
+from __future__ import annotations
+
+import atexit
+import collections
+import json
+import os
+import shutil
+import subprocess
+import threading
+from typing import Any, Deque, Dict, Optional
+
+from patchsard.exceptions import ProcessEnded, ProgramNotFound
+
+_MOST = 1 << 16
+# As json.loads, but for what it asks of a text that is known to be one line.
+_decoded = json.JSONDecoder().scan_once
+
+
+def find_program() -> str:
+    """The path of the program: what PATCHSARD names; else what was built in the repository that this file is in; else the one on PATH."""
+    named = os.environ.get("PATCHSARD")
+    if named:
+        found = shutil.which(named)
+        if found is None:
+            raise ProgramNotFound(f"The environment variable PATCHSARD names {named!r}, which is no program")
+        return found
+    top = os.path.dirname(os.path.dirname(os.path.dirname(os.path.dirname(os.path.abspath(__file__)))))
+    built = os.path.join(top, "scripts", "built")
+    if os.access(built, os.X_OK):
+        done = subprocess.run([built, "patchsard"], stdin=subprocess.DEVNULL, stdout=subprocess.PIPE, check=False)
+        if done.returncode == 0:
+            return os.fsdecode(done.stdout).strip()
+    found = shutil.which("patchsard")
+    if found is None:
+        raise ProgramNotFound(
+            "The program patchsard isn't built and isn't on PATH: run ./build patchsard in a clone of its repository, and name what it builds in the environment "
+            "variable PATCHSARD, unless this package is in that clone"
+        )
+    return found
+
+
+class Process:
+    """A running `patchsard serve`."""
+
+    def __init__(self) -> None:
+        self._program = find_program()
+        try:
+            self._popen = subprocess.Popen([self._program, "serve"], stdin=subprocess.PIPE, stdout=subprocess.PIPE, bufsize=0, start_new_session=True)
+        except OSError as error:
+            raise ProgramNotFound(f"{self._program} can't be started: {error.strerror}") from error
+        assert self._popen.stdin is not None and self._popen.stdout is not None
+        self._input = self._popen.stdin.fileno()
+        self._output = self._popen.stdout.fileno()
+        self._lock = threading.Lock()
+        self._to_close: Deque[int] = collections.deque()
+        self.asked = False
+        self.ended = False
+        self.meta: Any = None
+
+    @property
+    def pid(self) -> int:
+        """The number of the process."""
+        return self._popen.pid
+
+    def is_alive(self) -> bool:
+        """Whether it runs still, as far as one can tell without asking it."""
+        if not self.ended and self._popen.poll() is not None:
+            with self._lock:
+                if not self.ended:
+                    self._end()
+        return not self.ended
+
+    def ask(self, line: bytes) -> Dict[str, Any]:
+        """The answer to a line."""
+        with self._lock:
+            self._close_waiting()
+            answer = self._exchange(line)
+        try:
+            return _decoded(answer.decode("utf-8"), 0)[0]
+        except (ValueError, StopIteration):
+            raise ProcessEnded(f"{self._program} answers what is no JSON") from None
+
+    def close_later(self, number: int) -> None:
+        """Closes a registry: now where nobody asks, else before the next call. Never waits for a lock, since the garbage collector calls it."""
+        self._to_close.append(number)
+        if not self.ended and self._lock.acquire(blocking=False):
+            try:
+                self._close_waiting()
+            except ProcessEnded:
+                pass
+            finally:
+                self._lock.release()
+
+    def _close_waiting(self) -> None:
+        while self._to_close:
+            self._exchange(b'{"call":"close","registry":%d}\n' % self._to_close.popleft())
+
+    def _exchange(self, line: bytes) -> bytes:
+        if self.ended:
+            raise ProcessEnded("The program patchsard has ended")
+        try:
+            self.asked = True
+            written = os.write(self._input, line)
+            if written < len(line):
+                rest = memoryview(line)[written:]
+                while rest:
+                    rest = rest[os.write(self._input, rest) :]
+            answer = os.read(self._output, _MOST)
+            return answer if answer[-1:] == b"\n" else self._read_on(answer)
+        except BaseException as error:
+            # What is half written or unread would be taken for part of the next call.
+            self._end()
+            if isinstance(error, (OSError, EOFError)):
+                raise ProcessEnded(f"{self._program} has ended, with status {self._popen.returncode}, while it was asked") from error
+            raise
+
+    def _read_on(self, first: bytes) -> bytes:
+        parts = [first]
+        while parts[-1][-1:] != b"\n":
+            if not parts[-1]:
+                raise EOFError
+            parts.append(os.read(self._output, _MOST))
+        return b"".join(parts)
+
+    def _end(self) -> None:
+        self.ended = True
+        self._close_pipes()
+        try:
+            self._popen.wait(0.2)
+        except subprocess.TimeoutExpired:
+            self._popen.kill()
+            self._popen.wait()
+
+    def _close_pipes(self) -> None:
+        for pipe in (self._popen.stdin, self._popen.stdout):
+            try:
+                if pipe is not None:
+                    pipe.close()
+            except OSError:
+                pass
+
+    def stop(self) -> None:
+        """Ends the process: a thread that asks it gets `ProcessEnded`."""
+        if not self._lock.acquire(timeout=0.2):
+            self._popen.kill()
+            self._lock.acquire()
+        try:
+            if not self.ended:
+                self._end()
+        finally:
+            self._lock.release()
+
+    def forget(self) -> None:
+        """In a fork of the Python process, which must not write into the pipe of the one that it comes from."""
+        self.ended = True
+        self._close_pipes()
+        self._popen.returncode = 0
+
+
+_shared: Optional[Process] = None
+_starting = threading.Lock()
+
+
+def shared() -> Process:
+    """The process that all registries use; a new one where there is none, or it has ended."""
+    global _shared
+    with _starting:
+        if _shared is None or not _shared.is_alive():
+            _shared = Process()
+        return _shared
+
+
+def _stop() -> None:
+    if _shared is not None and not _shared.ended:
+        _shared.stop()
+
+
+def _forget() -> None:
+    global _shared, _starting
+    _starting = threading.Lock()
+    if _shared is not None:
+        _shared.forget()
+        _shared = None
+
+
+atexit.register(_stop)
+if hasattr(os, "register_at_fork"):
+    os.register_at_fork(after_in_child=_forget)

@@ -1,0 +1,120 @@
+"""What can go wrong. The classes of errors that the program tells have the names that its protocol gives them."""
+from __future__ import annotations
+
+from typing import Any, Dict, Optional, Type
+
+
+class Unresolvable(Exception):
+    """A reference finds no value.
+
+    `ref` is the reference, or the URI of the document that isn't there; `message` is a sentence for people.
+    """
+
+    def __init__(self, ref: str, message: str = "") -> None:
+        super().__init__(ref, message)
+        self.ref = ref
+        self.message = message
+
+    def __str__(self) -> str:
+        return f"{self.ref!r}: {self.message}" if self.message else repr(self.ref)
+
+
+class PointerToNowhere(Unresolvable):
+    """A JSON Pointer leads to no value of the document."""
+
+
+class InvalidArrayIndex(PointerToNowhere):
+    """A JSON Pointer goes into an array by what is no index."""
+
+
+class InvalidPercentEncoding(PointerToNowhere):
+    """The fragment that holds a JSON Pointer has a broken percent-encoding."""
+
+
+class NoSuchAnchor(Unresolvable):
+    """No schema of the resource has this anchor."""
+
+
+class InvalidAnchor(Unresolvable):
+    """The fragment is neither a JSON Pointer nor the name of an anchor."""
+
+
+class InvalidUri(Unresolvable):
+    """The reference is no URI reference."""
+
+
+class Unretrievable(Unresolvable):
+    """A document that a reference names isn't there. `uri` is its URI, where it is known."""
+
+    uri: Optional[str] = None
+
+
+class UnknownSpecification(Unretrievable):
+    """A meta-schema that a `$schema` names isn't there."""
+
+
+class RetrievalLimit(Exception):
+    """The documents want more documents than the registry's `limit` allows."""
+
+
+class NotBundled(Exception):
+    """The document can't be written as one with all that it needs. `reason` is the name of what is in the way."""
+
+    reason: Optional[str] = None
+
+
+class NoSuchResource(KeyError):
+    """No document and no identifier of a registry has this URI. A caller's `retrieve` may raise it too."""
+
+    def __init__(self, ref: str) -> None:
+        super().__init__(ref)
+        self.ref = ref
+
+
+class CannotDetermineSpecification(Exception):
+    """A document names no draft that is known, and no default was given. `contents` is the document."""
+
+    def __init__(self, contents: Any) -> None:
+        super().__init__(contents)
+        self.contents = contents
+
+
+class ProcessEnded(RuntimeError):
+    """The program ended while it was asked. The next registry starts another, and those that were open are opened in it anew."""
+
+
+class ProgramNotFound(RuntimeError):
+    """The program `patchsard` isn't there."""
+
+
+class CallRefused(ValueError):
+    """The program takes a call, or a document in it, for malformed. `name` is the name of the error in the protocol."""
+
+    def __init__(self, name: str, message: str) -> None:
+        super().__init__(f"{name}: {message}")
+        self.name = name
+
+
+_OF_REFERENCES: Dict[str, Type[Unresolvable]] = {
+    it.__name__: it
+    for it in (PointerToNowhere, InvalidArrayIndex, InvalidPercentEncoding, NoSuchAnchor, InvalidAnchor, InvalidUri, Unretrievable, UnknownSpecification)
+}
+
+
+def from_answer(error: Dict[str, Any], ref: str) -> Exception:
+    """The exception for an error of the protocol."""
+    name, message = error["name"], error["message"]
+    if name in _OF_REFERENCES:
+        found = _OF_REFERENCES[name](ref, message)
+        if isinstance(found, Unretrievable):
+            found.uri = error.get("uri")
+        return found
+    if name == "RetrievalLimit":
+        return RetrievalLimit(message)
+    if name == "NotBundled":
+        refused = NotBundled(message)
+        refused.reason = error.get("reason")
+        return refused
+    if name == "OutOfMemory":
+        return MemoryError(message)
+    return CallRefused(name, message)

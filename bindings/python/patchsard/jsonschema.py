@@ -1,0 +1,83 @@
+"""The drafts of JSON Schema, and validators of Python's `jsonschema` whose references the program resolves."""
+from __future__ import annotations
+
+from typing import Any, Callable, Iterator, NamedTuple, Optional, Tuple
+
+from patchsard._core import DRAFT4, DRAFT6, DRAFT7, DRAFT201909, DRAFT202012, Draft, Registry, Resolved, Resolver, Resource, _BY_URI
+from patchsard.exceptions import Unresolvable
+
+__all__ = ["DRAFT4", "DRAFT6", "DRAFT7", "DRAFT201909", "DRAFT202012", "EMPTY_REGISTRY", "lookup_recursive_ref", "specification_with", "validator_for"]
+
+EMPTY_REGISTRY = Registry()
+
+
+def specification_with(dialect_id: str, default: Optional[Draft] = None) -> Draft:
+    """The draft whose meta-schema has this URI; the default one where none has, or a `KeyError` without a default."""
+    found = _BY_URI.get(dialect_id.rstrip("#"), default)
+    if found is None:
+        raise KeyError(dialect_id)
+    return found
+
+
+def lookup_recursive_ref(resolver: Resolver) -> Resolved:
+    """Where `$recursiveRef` leads, in 2019-09."""
+    return resolver.lookup_recursive_ref()
+
+
+def validator_for(schema: Any, *, registry: Any = None, retrieve: Optional[Callable[[str], Any]] = None, default: Any = None, **options: Any) -> Any:
+    """A validator of Python's `jsonschema`, version 4.18 or later, whose references the program resolves.
+
+    `registry` is a `Registry` or one of Python's `referencing`, `retrieve` a function as a `Registry` takes it, `default` the class for a schema without
+    `$schema`, and further options, such as `format_checker`, are those of the class. A reference to a document that isn't there is an error where it is followed.
+    """
+    import jsonschema.validators
+
+    if default is None:
+        kind = jsonschema.validators.validator_for(schema)
+    else:
+        kind = jsonschema.validators.validator_for(schema, default=default)
+    if registry is None:
+        registry = Registry(retrieve=retrieve)
+    elif retrieve is not None:
+        raise ValueError("Either registry or retrieve: a registry has its own function to retrieve")
+    elif not isinstance(registry, Registry):
+        held = registry
+        registry = Registry(retrieve=lambda uri: held.get_or_retrieve(uri).value)
+    dialect = (kind.ID_OF(kind.META_SCHEMA) or "").rstrip("#")
+    if dialect == "http://json-schema.org/draft-03/schema":
+        raise ValueError("Draft 3 isn't known")
+    draft = specification_with(dialect, DRAFT202012)
+    resource = Resource(schema, draft)
+    own = registry._with_root(resource)
+    own._allow_missing = True
+    return kind(schema, _resolver=_Resolver(own.resolver("").in_subresource(resource)), **options)
+
+
+class _Resolved(NamedTuple):
+    contents: Any
+    resolver: "_Resolver"
+
+
+class _Resolver:
+    """A resolver as validators of `jsonschema` ask it: what it raises is of `referencing`."""
+
+    __slots__ = ("_resolver",)
+
+    def __init__(self, resolver: Resolver) -> None:
+        self._resolver = resolver
+
+    def lookup(self, ref: str) -> _Resolved:
+        try:
+            resolved = self._resolver.lookup(ref)
+        except Unresolvable as error:
+            import referencing.exceptions
+
+            raise referencing.exceptions.Unresolvable(ref=ref) from error
+        return _Resolved(resolved.contents, _Resolver(resolved.resolver))
+
+    def in_subresource(self, subresource: Any) -> "_Resolver":
+        inner = self._resolver.in_subresource(subresource)
+        return self if inner is self._resolver else _Resolver(inner)
+
+    def dynamic_scope(self) -> Iterator[Tuple[str, Any]]:
+        return self._resolver.dynamic_scope()

@@ -1,0 +1,146 @@
+"""One process for all registries: threads, its end, forks, and where the program is."""
+import gc
+import os
+import shutil
+import signal
+import subprocess
+import sys
+import tempfile
+import threading
+import unittest
+from unittest import mock
+
+import patchsard
+from patchsard import Registry, _process
+
+SCHEMA = {"$defs": {str(number): {"const": number} for number in range(50)}}
+
+
+def registry():
+    return Registry().with_resource("https://example.com/a", SCHEMA)
+
+
+class OneProcess(unittest.TestCase):
+    def test_it_is_shared(self):
+        registry().crawl()
+        pid = _process.shared().pid
+        registry().crawl()
+        self.assertEqual(_process.shared().pid, pid)
+
+    def test_threads(self):
+        resolver = registry().resolver("https://example.com/a")
+        wrong = []
+
+        def ask(start):
+            for number in range(start, start + 40):
+                key = str(number % 50)
+                own = registry().resolver("https://example.com/a") if number % 10 == 0 else resolver
+                if own.lookup("#/$defs/" + key).contents is not SCHEMA["$defs"][key]:
+                    wrong.append(key)
+
+        threads = [threading.Thread(target=ask, args=(start,)) for start in range(8)]
+        for thread in threads:
+            thread.start()
+        for thread in threads:
+            thread.join()
+        self.assertEqual(wrong, [])
+
+    def test_a_killed_process(self):
+        held = registry()
+        resolver = held.resolver("https://example.com/a")
+        resolver.lookup("#/$defs/7")
+        pid = _process.shared().pid
+        os.kill(pid, signal.SIGKILL)
+        with self.assertRaises(patchsard.ProcessEnded):
+            resolver.lookup("#/$defs/7")
+        self.assertIs(registry().resolver("https://example.com/a").lookup("#/$defs/7").contents, SCHEMA["$defs"]["7"])
+        self.assertNotEqual(_process.shared().pid, pid)
+        self.assertIs(resolver.lookup("#/$defs/8").contents, SCHEMA["$defs"]["8"])
+
+    def test_a_process_that_was_killed_unseen(self):
+        registry().crawl()
+        os.kill(_process.shared().pid, signal.SIGKILL)
+        self.assertIs(registry().resolver("https://example.com/a").lookup("#/$defs/7").contents, SCHEMA["$defs"]["7"])
+
+    def test_an_interrupted_call(self):
+        resolver = registry().resolver("https://example.com/a")
+        resolver.lookup("#/$defs/1")
+        with mock.patch.object(_process.os, "read", side_effect=KeyboardInterrupt):
+            with self.assertRaises(KeyboardInterrupt):
+                resolver.lookup("#/$defs/2")
+        self.assertIs(resolver.lookup("#/$defs/3").contents, SCHEMA["$defs"]["3"])
+
+    @unittest.skipUnless(hasattr(os, "fork"), "no fork")
+    def test_a_fork_has_its_own(self):
+        resolver = registry().resolver("https://example.com/a")
+        resolver.lookup("#/$defs/1")
+        pid = _process.shared().pid
+        child = os.fork()
+        if child == 0:
+            is_right = resolver.lookup("#/$defs/2").contents is SCHEMA["$defs"]["2"] and _process.shared().pid != pid
+            _process._stop()
+            os._exit(0 if is_right else 1)
+        self.assertEqual(os.waitpid(child, 0)[1], 0)
+        self.assertIs(resolver.lookup("#/$defs/3").contents, SCHEMA["$defs"]["3"])
+        self.assertEqual(_process.shared().pid, pid)
+
+    def test_the_garbage_collector_closes(self):
+        asked = []
+        exchange = _process.Process._exchange
+
+        def seen(self, line):
+            asked.append(line)
+            return exchange(self, line)
+
+        with mock.patch.object(_process.Process, "_exchange", seen):
+            resolver = registry().resolver("https://example.com/a")
+            resolver.lookup("#")
+            number = resolver._registry._open().number
+            del resolver
+            gc.collect()
+        self.assertEqual(asked[-1], b'{"call":"close","registry":%d}\n' % number)
+
+    def test_it_ends_with_python(self):
+        code = "import patchsard; from patchsard import _process; patchsard.Registry().with_resource('u:a', {}).crawl(); print(_process.shared().pid)"
+        pid = int(subprocess.run([sys.executable, "-c", code], stdout=subprocess.PIPE, check=True, timeout=60).stdout)
+        with self.assertRaises(ProcessLookupError):
+            os.kill(pid, 0)
+
+
+class WhereTheProgramIs(unittest.TestCase):
+    def test_named(self):
+        with mock.patch.dict(os.environ, PATCHSARD=sys.executable):
+            self.assertEqual(_process.find_program(), sys.executable)
+        with mock.patch.dict(os.environ, PATCHSARD="/nowhere/patchsard"):
+            with self.assertRaisesRegex(patchsard.ProgramNotFound, "PATCHSARD names '/nowhere/patchsard'"):
+                _process.find_program()
+
+    def test_on_the_path_or_nowhere(self):
+        with tempfile.TemporaryDirectory() as room, mock.patch.dict(os.environ, PATH=room), mock.patch.object(_process, "__file__", f"{room}/a/b/c/d/e.py"):
+            os.environ.pop("PATCHSARD", None)
+            with self.assertRaisesRegex(patchsard.ProgramNotFound, "./build patchsard"):
+                _process.find_program()
+            with open(f"{room}/patchsard", "w") as file:
+                file.write("#!/bin/sh\n")
+            os.chmod(f"{room}/patchsard", 0o755)
+            self.assertEqual(_process.find_program(), f"{room}/patchsard")
+
+    def test_built_in_the_repository(self):
+        with tempfile.TemporaryDirectory() as room, mock.patch.dict(os.environ), mock.patch.object(_process, "__file__", f"{room}/a/b/c/d.py"):
+            os.environ.pop("PATCHSARD", None)
+            os.mkdir(f"{room}/scripts")
+            for ends, expected in (("echo /built/$1", "/built/patchsard"), ("exit 1", shutil.which("patchsard"))):
+                with open(f"{room}/scripts/built", "w") as file:
+                    file.write(f"#!/bin/sh\n{ends}\n")
+                os.chmod(f"{room}/scripts/built", 0o755)
+                if expected:
+                    self.assertEqual(_process.find_program(), expected)
+
+    def test_a_program_that_knows_no_serve(self):
+        with mock.patch.dict(os.environ, PATCHSARD="false"), mock.patch.object(_process, "_shared", None):
+            with self.assertRaisesRegex(patchsard.ProcessEnded, "has ended, with status 1"):
+                registry().crawl()
+
+
+if __name__ == "__main__":
+    unittest.main()

@@ -1,0 +1,369 @@
+"""What registries and resolvers answer."""
+import gc
+import unittest
+import urllib.parse
+
+import patchsard
+from patchsard import Registry, Resource
+from patchsard.jsonschema import DRAFT4, DRAFT7, DRAFT201909, DRAFT202012, lookup_recursive_ref, specification_with
+
+BASE = "https://example.com/order"
+
+
+def order():
+    return {
+        "$id": BASE,
+        "properties": {"item": {"$ref": "#/$defs/item"}},
+        "$defs": {"item": {"type": "string"}, "a/b~c": {"$anchor": "odd"}, "é ": {"$id": "sub/part", "$defs": {"inner": {}}}, "none": True},
+        "allOf": [{"not": {}}, {"$id": "other", "items": {"type": "null"}}],
+    }
+
+
+class Lookups(unittest.TestCase):
+    def setUp(self):
+        self.order = order()
+        self.registry = Registry().with_resource(BASE, self.order)
+        self.resolver = self.registry.resolver(BASE)
+
+    def test_values_are_the_callers_own(self):
+        found = self.resolver.lookup("#/$defs/item")
+        self.assertIs(found.contents, self.order["$defs"]["item"])
+        self.assertEqual(found.specification, DRAFT202012)
+        self.assertIs(self.resolver.lookup("#").contents, self.order)
+        self.assertIs(self.resolver.lookup("").contents, self.order)
+        self.assertIs(self.resolver.lookup("#odd").contents, self.order["$defs"]["a/b~c"])
+        self.assertIs(self.resolver.lookup("#/$defs/a~1b~0c").contents, self.order["$defs"]["a/b~c"])
+        self.assertIs(self.resolver.lookup("#/$defs/%C3%A9%20").contents, self.order["$defs"]["é "])
+        self.assertIs(self.resolver.lookup("#/allOf/1/items").contents, self.order["allOf"][1]["items"])
+        self.assertIs(self.resolver.lookup("#/$defs/none").contents, True)
+
+    def test_every_place_of_a_document(self):
+        odd = {key: {"const": key, "enum": [[], [{"": [None]}], key, 10**30, 1.5e300]} for key in ("", "/", "~", "~1", "%25", "%", "#", "é", "0", "-1", " ", '"', "\\", "\n", "a/b~c")}
+        document = {"$defs": odd, "properties": odd["/"], "allOf": [odd[""], True], "examples": (odd["~"], ({"a": {}},))}
+        places = [("", document)]
+        for pointer, value in places:
+            if isinstance(value, dict):
+                places += [(f"{pointer}/{key.replace('~', '~0').replace('/', '~1')}", below) for key, below in value.items()]
+            elif isinstance(value, (list, tuple)):
+                places += [(f"{pointer}/{number}", below) for number, below in enumerate(value)]
+        resolver = Registry().with_resource("u:a", document).resolver("u:a")
+        found = resolver.lookup_all("#" + urllib.parse.quote(pointer, safe="/~") for pointer, _ in places)
+        self.assertGreater(len(places), 200)
+        for (pointer, value), it in zip(places, found):
+            self.assertIs(it.contents, value, pointer)
+
+    def test_a_resolver_goes_on_at_what_it_found(self):
+        found = self.resolver.lookup("sub/part")
+        self.assertEqual(found.resolver.base_uri, "https://example.com/sub/part")
+        self.assertIs(found.resolver.lookup("#/$defs/inner").contents, self.order["$defs"]["é "]["$defs"]["inner"])
+        self.assertIs(found.resolver.lookup("../order#/$defs/item").contents, self.order["$defs"]["item"])
+        self.assertEqual([uri for uri, _ in found.resolver.dynamic_scope()], [BASE])
+
+    def test_what_is_not_found(self):
+        for ref, kind in [
+            ("#/$defs/itme", patchsard.PointerToNowhere),
+            ("#nothing", patchsard.NoSuchAnchor),
+            ("#a/b", patchsard.InvalidAnchor),
+            ("nowhere", patchsard.Unretrievable),
+        ]:
+            with self.subTest(ref), self.assertRaises(kind) as raised:
+                self.resolver.lookup(ref)
+            self.assertIsInstance(raised.exception, patchsard.Unresolvable)
+            self.assertEqual(raised.exception.ref, ref)
+            self.assertIn(ref, str(raised.exception))
+
+    def test_faults_of_references(self):
+        for ref, kind in [("#/allOf/x", patchsard.InvalidArrayIndex), ("#/%FF", patchsard.InvalidPercentEncoding), ("http://[", patchsard.InvalidUri)]:
+            with self.subTest(ref), self.assertRaises(kind):
+                self.resolver.lookup(ref)
+        with self.assertRaises(ValueError):
+            self.resolver.lookup("#\ud800")
+
+    def test_several_at_once(self):
+        refs = ["#/$defs/item", "#odd", "#/$defs/itme"]
+        found = self.resolver.lookup_all(iter(refs), return_exceptions=True)
+        self.assertIs(found[0].contents, self.order["$defs"]["item"])
+        self.assertIs(found[1].contents, self.order["$defs"]["a/b~c"])
+        self.assertIsInstance(found[2], patchsard.PointerToNowhere)
+        self.assertEqual(found[2].ref, "#/$defs/itme")
+        with self.assertRaises(patchsard.PointerToNowhere):
+            self.resolver.lookup_all(refs)
+        self.assertEqual(self.resolver.lookup_all([]), [])
+        self.assertEqual(self.resolver.lookup_all(refs[:2])[1], self.resolver.lookup(refs[1]))
+
+    def test_in_subresource(self):
+        part = self.order["$defs"]["é "]
+        inner = self.resolver.in_subresource(Resource(part, DRAFT202012))
+        self.assertEqual(inner.base_uri, "https://example.com/sub/part")
+        self.assertIs(inner.lookup("#").contents, part)
+        self.assertIs(self.resolver.in_subresource(self.order["$defs"]["item"]), self.resolver)
+        self.assertIs(self.resolver.in_subresource(True), self.resolver)
+        self.assertEqual(self.resolver.in_subresource(DRAFT4.create_resource({"$id": "x"})), self.resolver)
+        self.assertEqual(self.resolver.in_subresource(DRAFT4.create_resource({"id": "x"})).base_uri, "https://example.com/x")
+
+    def test_contents(self):
+        self.assertIs(self.registry.contents(BASE), self.order)
+        self.assertIs(self.registry.contents(BASE + "#"), self.order)
+        self.assertIs(self.registry.contents("https://example.com/other"), self.order["allOf"][1])
+        self.assertIs(self.registry[BASE].contents, self.order)
+        with self.assertRaises(patchsard.NoSuchResource):
+            self.registry.contents("https://example.com/nowhere")
+        self.assertEqual((list(self.registry), len(self.registry), BASE in self.registry, "x" in self.registry), ([BASE], 1, True, False))
+
+
+class Registries(unittest.TestCase):
+    def test_they_do_not_change(self):
+        first = Registry()
+        second = first.with_resource("https://example.com/a", {"$anchor": "n"})
+        third = second.with_resource("https://example.com/a", {"$anchor": "m"})
+        self.assertEqual([len(first), len(second), len(third)], [0, 1, 1])
+        self.assertEqual(second.resolver("https://example.com/a").lookup("#n").contents, {"$anchor": "n"})
+        self.assertEqual(third.resolver("https://example.com/a").lookup("#m").contents, {"$anchor": "m"})
+        with self.assertRaises(patchsard.NoSuchAnchor):
+            third.resolver("https://example.com/a").lookup("#n")
+
+    def test_texts_that_mean_one_uri(self):
+        documents = {"a": {"const": 1}, "b": {"const": 2}, "json-schema:///a": {"const": 3}, "c": {"$ref": "d"}}
+        resolver = Registry(documents, retrieve=lambda uri: {"const": uri}).resolver("")
+        self.assertEqual([resolver.lookup(it).contents["const"] for it in "abd"], [3, 2, "json-schema:///d"])
+        self.assertIs(resolver.lookup("a").contents, documents["json-schema:///a"])
+
+    def test_documents_behind_an_open_registry(self):
+        documents = {f"https://example.com/{number}": {"const": number} for number in range(30)}
+        registry = Registry()
+        for uri, document in documents.items():
+            registry = registry.with_resource(uri, document).crawl()
+        resolver = registry.resolver("https://example.com/")
+        for uri, document in documents.items():
+            self.assertIs(resolver.lookup(uri).contents, document)
+        self.assertEqual(list(registry), list(documents))
+
+    def test_with_contents_and_combine(self):
+        old = {"definitions": {"a": {"$id": "#n"}}}
+        left = Registry().with_contents([("https://example.com/old", old)], default_specification=DRAFT7)
+        new = {"$defs": {"a": {"$anchor": "n"}}}
+        both = Registry([("https://example.com/new", new)]).combine(left)
+        resolver = both.resolver("https://example.com/")
+        found = resolver.lookup("old#n")
+        self.assertIs(found.contents, old["definitions"]["a"])
+        self.assertEqual(found.specification, DRAFT7)
+        self.assertIs(resolver.lookup("new#n").contents, new["$defs"]["a"])
+        with self.assertRaises(ValueError):
+            Registry(retrieve=lambda uri: {}).combine(Registry(retrieve=lambda uri: True))
+
+    def test_the_draft_of_documents(self):
+        schema = {"definitions": {"a": {"id": "#n"}}}
+        self.assertIs(Registry(draft=DRAFT4).with_resource("u:a", schema).resolver("u:a").lookup("#n").contents, schema["definitions"]["a"])
+        self.assertIs(Registry().with_resource("u:a", DRAFT4.create_resource(schema)).resolver("u:a").lookup("#n").contents, schema["definitions"]["a"])
+        with self.assertRaises(patchsard.NoSuchAnchor):
+            Registry().with_resource("u:a", schema).resolver("u:a").lookup("#n")
+        named = {"$schema": DRAFT4.uri, **schema}
+        self.assertIs(Registry().with_resource("u:a", named).resolver("u:a").lookup("#n").contents, schema["definitions"]["a"])
+
+    def test_resources(self):
+        self.assertEqual(Resource.from_contents({"$schema": DRAFT7.uri}).specification, DRAFT7)
+        self.assertEqual(Resource.from_contents({}, default_specification=DRAFT4).specification, DRAFT4)
+        with self.assertRaises(patchsard.CannotDetermineSpecification):
+            Resource.from_contents({})
+        self.assertEqual(DRAFT7.detect({"$schema": DRAFT4.uri}), DRAFT4)
+        self.assertEqual(specification_with("http://json-schema.org/draft-07/schema"), DRAFT7)
+        with self.assertRaises(KeyError):
+            specification_with("https://example.com/dialect")
+        self.assertEqual(Resource({"$id": "https://example.com/a#"}).id(), "https://example.com/a")
+        self.assertIsNone(Resource({"$id": "#a"}, DRAFT7).id())
+        self.assertIsNone(Resource(True).id())
+
+    def test_resolver_with_root(self):
+        shared = {"$id": "https://example.com/shared"}
+        registry = Registry().with_resource("https://example.com/shared", shared).crawl()
+        root = {"$id": "https://example.com/root", "$defs": {"a": {}}}
+        resolver = registry.resolver_with_root(Resource(root, DRAFT202012))
+        self.assertEqual(resolver.base_uri, "https://example.com/root")
+        self.assertIs(resolver.lookup("#/$defs/a").contents, root["$defs"]["a"])
+        self.assertIs(resolver.lookup("shared").contents, shared)
+        nameless = {"$defs": {"a": {}}}
+        self.assertIs(registry.resolver_with_root(nameless).lookup("#/$defs/a").contents, nameless["$defs"]["a"])
+
+    def test_recursive_references(self):
+        tree = {"$schema": DRAFT201909.uri, "$id": "https://example.com/tree", "$recursiveAnchor": True, "items": {"$recursiveRef": "#"}}
+        strict = {"$schema": DRAFT201909.uri, "$id": "https://example.com/strict", "$recursiveAnchor": True, "$ref": "tree"}
+        registry = Registry([("https://example.com/tree", tree), ("https://example.com/strict", strict)])
+        resolver = registry.resolver("https://example.com/strict").lookup("tree").resolver
+        self.assertIs(lookup_recursive_ref(resolver).contents, strict)
+        self.assertIs(lookup_recursive_ref(registry.resolver("https://example.com/tree")).contents, tree)
+
+    def test_dynamic_references(self):
+        tree = {"$id": "https://example.com/tree", "$dynamicAnchor": "node", "items": {"$dynamicRef": "#node"}}
+        strict = {"$id": "https://example.com/strict", "$dynamicAnchor": "node", "$ref": "tree"}
+        registry = Registry([("https://example.com/tree", tree), ("https://example.com/strict", strict)])
+        resolver = registry.resolver("https://example.com/strict").lookup("tree").resolver
+        self.assertIs(resolver.lookup("#node").contents, strict)
+        self.assertIs(registry.resolver("https://example.com/tree").lookup("#node").contents, tree)
+
+    def test_dangling(self):
+        schema = {"$ref": "#/$defs/a", "$defs": {"a": {}, "b": {"$ref": "#/$defs/c"}}}
+        registry = Registry().with_resource("https://example.com/a", schema)
+        (found,) = registry.dangling()
+        self.assertIs(found.contents, schema["$defs"]["b"])
+        self.assertEqual((found.pointer, found.error["name"]), ("/$defs/b", "PointerToNowhere"))
+        more = registry.crawl().with_resource("https://example.com/b", {"$ref": "a#x"})
+        self.assertEqual([it.error["name"] for it in more.dangling()], ["PointerToNowhere", "NoSuchAnchor"])
+
+    def test_bundle(self):
+        registry = Registry([("https://example.com/a", {"$id": "https://example.com/a", "$ref": "b"}), ("https://example.com/b", {"type": "string"})])
+        bundle = registry.bundle("https://example.com/a")
+        self.assertEqual(bundle["$defs"], {"https://example.com/b": {"$id": "https://example.com/b", "type": "string"}})
+        with self.assertRaises(patchsard.NoSuchResource):
+            registry.bundle("https://example.com/c")
+        with self.assertRaises(patchsard.NotBundled) as raised:
+            Registry([("https://example.com/a", {"$ref": "b"}), ("https://example.com/b", True)]).bundle("https://example.com/a")
+        self.assertTrue(raised.exception.reason)
+
+    def test_what_is_no_json(self):
+        for value, kind in [
+            ({"a": float("nan")}, ValueError),
+            ({"a": [float("inf")]}, ValueError),
+            ({1: 2}, TypeError),
+            ({"a": [{None: 2}]}, TypeError),
+            ({"a": object()}, TypeError),
+            ({"a": b"x"}, TypeError),
+            ({"a": "\ud800"}, ValueError),
+        ]:
+            with self.subTest(repr(value)), self.assertRaises(kind):
+                Registry().with_resource("u:a", value).crawl()
+        deep = {}
+        for _ in range(200):
+            deep = {"not": deep}
+        with self.assertRaises(ValueError):
+            Registry().with_resource("u:a", deep).crawl()
+        for _ in range(100000):
+            deep = {"not": deep}
+        with self.assertRaises(ValueError):
+            Registry().with_resource("u:a", deep).crawl()
+        while deep:
+            deep = deep["not"]
+        circle = []
+        circle.append(circle)
+        with self.assertRaises(ValueError):
+            Registry().with_resource("u:a", circle).crawl()
+        self.assertEqual(Registry().with_resource("u:a", {"a": ({"b": 1.5}, None, "\n\u2028é")}).resolver("u:a").lookup("#/a/0/b").contents, 1.5)
+
+    def test_a_closed_registry_is_opened_anew(self):
+        schema = {"$defs": {"a": {}}}
+        with Registry().with_resource("u:a", schema) as registry:
+            self.assertIs(registry.resolver("u:a").lookup("#/$defs/a").contents, schema["$defs"]["a"])
+        resolver = registry.resolver("u:a")
+        self.assertIs(resolver.lookup("#/$defs/a").contents, schema["$defs"]["a"])
+        registry.close()
+        self.assertIs(resolver.lookup("#/$defs/a").contents, schema["$defs"]["a"])
+        child = registry.with_resource("u:b", {"$ref": "u:a"})
+        child.crawl()
+        registry.close()
+        del registry, resolver
+        gc.collect()
+        self.assertIs(child.resolver("u:b").lookup("u:a").contents, schema)
+
+
+class Retrieval(unittest.TestCase):
+    def setUp(self):
+        self.files = {"https://example.com/b": {"$ref": "c"}, "https://example.com/c": {"$defs": {"d": {}}}, "https://example.com/later": {"$ref": "c"}}
+        self.asked = []
+
+    def retrieve(self, uri):
+        self.asked.append(uri)
+        return self.files[uri]
+
+    def test_what_references_want(self):
+        registry = Registry(retrieve=self.retrieve).with_resource("https://example.com/a", {"$ref": "b"})
+        self.assertEqual(self.asked, [])
+        found = registry.resolver("https://example.com/a").lookup("c#/$defs/d")
+        self.assertIs(found.contents, self.files["https://example.com/c"]["$defs"]["d"])
+        self.assertEqual(self.asked, ["https://example.com/b", "https://example.com/c"])
+        registry.close()
+        registry.crawl()
+        self.assertEqual(len(self.asked), 2)
+
+    def test_what_a_look_up_wants(self):
+        resolver = Registry(retrieve=self.retrieve).with_resource("https://example.com/a", {}).resolver("https://example.com/a")
+        found = resolver.lookup("later")
+        self.assertIs(found.contents, self.files["https://example.com/later"])
+        self.assertIs(found.resolver.lookup("c").contents, self.files["https://example.com/c"])
+        self.assertEqual(self.asked, ["https://example.com/later", "https://example.com/c"])
+        self.assertIs(resolver.lookup_all(["#", "later"])[1].contents, self.files["https://example.com/later"])
+        with self.assertRaises(patchsard.Unretrievable) as raised:
+            resolver.lookup("nowhere")
+        self.assertIsInstance(raised.exception.__cause__, KeyError)
+
+    def test_a_document_in_place_of_a_retrieved_one(self):
+        registry = Registry(retrieve=self.retrieve).with_resource("https://example.com/a", {"$ref": "b"}).crawl()
+        given = {"const": 1}
+        for other in (registry.with_resource("https://example.com/b", given), registry.with_resource("https://example.com/a", {"$ref": "b"})):
+            other = other.with_resource("https://example.com/b", given)
+            self.assertIs(other.resolver("https://example.com/a").lookup("b").contents, given)
+        self.assertIs(registry.resolver("https://example.com/a").lookup("b").contents, self.files["https://example.com/b"])
+
+    def test_what_is_not_there(self):
+        for registry in (Registry(), Registry(retrieve=self.retrieve), Registry(retrieve=self.files.get)):
+            with self.assertRaises(patchsard.Unretrievable) as raised:
+                registry.with_resource("https://example.com/a", {"$ref": "nowhere#/x"}).crawl()
+            self.assertEqual(raised.exception.uri, "https://example.com/nowhere")
+
+    def test_what_may_be_missing(self):
+        schema = {"$ref": "nowhere#/x", "$defs": {"a": {"$schema": "https://example.com/nothing", "$ref": "b"}}}
+        registry = Registry(retrieve=self.retrieve, allow_missing=True).with_resource("https://example.com/a", schema)
+        resolver = registry.resolver("https://example.com/a")
+        self.assertIs(resolver.lookup("b").contents, self.files["https://example.com/b"])
+        self.assertIs(resolver.lookup("#/$defs/a").contents, schema["$defs"]["a"])
+        with self.assertRaises(patchsard.Unretrievable):
+            resolver.lookup("nowhere")
+        with self.assertRaises(patchsard.Unresolvable):
+            resolver.lookup("nowhere#/x")
+        self.assertIsInstance(resolver.lookup_all(["nowhere"], return_exceptions=True)[0], patchsard.Unretrievable)
+        with self.assertRaises(patchsard.Unretrievable):
+            registry.dangling()
+
+    def test_meta_schemas_that_are_wanted(self):
+        dialect = {"$schema": DRAFT202012.uri, "$id": "https://example.com/dialect"}
+        self.files["https://example.com/dialect"] = dialect
+        schema = {"$schema": "https://example.com/dialect"}
+        registry = Registry(retrieve=self.retrieve).with_resource("https://example.com/a", schema)
+        self.assertIs(registry.resolver("https://example.com/a").lookup("#").contents, schema)
+        self.assertEqual(self.asked, ["https://example.com/dialect"])
+        with self.assertRaises(patchsard.UnknownSpecification):
+            Registry().with_resource("https://example.com/a", schema).crawl()
+
+    def test_a_resource_is_retrieved(self):
+        schema = {"definitions": {"a": {"$id": "#n"}}}
+        registry = Registry(retrieve=lambda uri: Resource(schema, DRAFT7)).with_resource("https://example.com/a", {"$ref": "b#n"})
+        self.assertIs(registry.resolver("https://example.com/a").lookup("b#n").contents, schema["definitions"]["a"])
+
+    def test_many_are_retrieved_once_each(self):
+        base = "https://example.com/files/"
+        for number in range(60):
+            refs = [{"$ref": str(it)} for it in (number + 1, number // 2) if it < 60]
+            self.files[base + str(number)] = {"allOf": refs, "$defs": {"a": {"$id": f"inner{number}"}, "b": {"$ref": f"inner{max(number - 1, 0)}"}}}
+        root = {"$ref": "0", "$defs": {"own": {"$id": "inner"}, "used": {"$ref": "inner"}}}
+        registry = Registry(retrieve=self.retrieve).with_resources([(base + "root", root), (base + "other", {"$ref": "root"})])
+        resolver = registry.resolver(base + "root")
+        self.assertIs(resolver.lookup("59").contents, self.files[base + "59"])
+        self.assertIs(resolver.lookup("inner31").contents, self.files[base + "31"]["$defs"]["a"])
+        self.assertEqual(sorted(self.asked), sorted(base + str(number) for number in range(60)))
+
+    def test_many_where_one_is_missing(self):
+        base = "https://example.com/files/"
+        for number in range(20):
+            self.files[base + str(number)] = {"$ref": str(number + 1)}
+        with self.assertRaises(patchsard.Unretrievable) as raised:
+            Registry(retrieve=self.retrieve).with_resource(base + "root", {"$ref": "0"}).crawl()
+        self.assertEqual(raised.exception.uri, base + "20")
+        found = Registry(retrieve=self.retrieve, allow_missing=True).with_resource(base + "root", {"$ref": "0"}).resolver(base).lookup("19")
+        self.assertIs(found.contents, self.files[base + "19"])
+
+    def test_the_limit(self):
+        chain = Registry(retrieve=lambda uri: {"$ref": uri + "x"}, limit=3).with_resource("https://example.com/a", {"$ref": "b"})
+        with self.assertRaises(patchsard.RetrievalLimit):
+            chain.crawl()
+
+
+if __name__ == "__main__":
+    unittest.main()

@@ -1,0 +1,81 @@
+"""Validators of Python's `jsonschema`, where it is installed."""
+import unittest
+
+from patchsard import Registry, Unresolvable
+from patchsard.jsonschema import DRAFT7, validator_for
+
+try:
+    import referencing
+    import jsonschema
+except ImportError:
+    jsonschema = None
+
+
+@unittest.skipUnless(jsonschema, "jsonschema 4.18 or later isn't installed")
+class Validators(unittest.TestCase):
+    def test_references_in_the_schema(self):
+        validator = validator_for({"$defs": {"name": {"type": "string"}}, "items": {"$ref": "#/$defs/name"}})
+        self.assertIsInstance(validator, jsonschema.Draft202012Validator)
+        self.assertTrue(validator.is_valid(["a"]))
+        (error,) = validator.iter_errors(["a", 1])
+        self.assertEqual(error.message, "1 is not of type 'string'")
+        self.assertEqual(list(error.absolute_path), [1])
+
+    def test_registries_of_both_kinds(self):
+        schema = {"$id": "https://example.com/a", "$ref": "b#name"}
+        part = {"$defs": {"name": {"$anchor": "name", "type": "string"}}}
+        for registry in (
+            Registry().with_resource("https://example.com/b", part),
+            Registry().with_resource("https://example.com/b", part).crawl(),
+            Registry(retrieve=lambda uri: part),
+            referencing.Registry().with_resource("https://example.com/b", referencing.jsonschema.DRAFT202012.create_resource(part)),
+        ):
+            validator = validator_for(schema, registry=registry)
+            self.assertEqual([validator.is_valid("a"), validator.is_valid(1)], [True, False])
+        validator = validator_for(schema, retrieve=lambda uri: part)
+        self.assertEqual([validator.is_valid("a"), validator.is_valid(1)], [True, False])
+
+    def test_drafts(self):
+        old = {"$schema": DRAFT7.uri, "definitions": {"a": {"$id": "#name", "type": "string"}}, "$ref": "#name"}
+        self.assertEqual([validator_for(old).is_valid(it) for it in ("a", 1)], [True, False])
+        del old["$schema"]
+        self.assertEqual([validator_for(old, default=jsonschema.Draft7Validator).is_valid(it) for it in ("a", 1)], [True, False])
+        with self.assertRaises(ValueError):
+            validator_for({"$schema": "http://json-schema.org/draft-03/schema#"})
+
+    def test_meta_schemas(self):
+        for uri in ("https://json-schema.org/draft/2020-12/schema", "https://json-schema.org/draft/2019-09/schema", "http://json-schema.org/draft-07/schema#"):
+            validator = validator_for({"$schema": uri, "allOf": [{"$ref": uri}]})
+            self.assertEqual([validator.is_valid({"items": {"type": it}}) for it in ("string", "text")], [True, False], uri)
+
+    def test_dynamic_references(self):
+        tree = {"$id": "https://example.com/tree", "$dynamicAnchor": "node", "type": "object", "properties": {"children": {"items": {"$dynamicRef": "#node"}}}}
+        strict = {"$id": "https://example.com/strict", "$dynamicAnchor": "node", "$ref": "tree", "unevaluatedProperties": False}
+        validator = validator_for(strict, retrieve={"https://example.com/tree": tree}.__getitem__)
+        self.assertEqual([validator.is_valid({"children": [it]}) for it in ({"children": []}, {"daat": 1})], [True, False])
+
+    def test_a_reference_that_finds_nothing(self):
+        validator = validator_for({"$ref": "#/$defs/nothing"})
+        with self.assertRaises(referencing.exceptions.Unresolvable) as raised:
+            validator.is_valid(1)
+        self.assertIsInstance(raised.exception.__cause__.__cause__, Unresolvable)
+        self.assertEqual(raised.exception.ref, "#/$defs/nothing")
+
+    def test_a_document_that_is_not_there(self):
+        validator = validator_for({"properties": {"a": {"$ref": "https://example.com/nowhere"}}})
+        self.assertTrue(validator.is_valid({"b": 1}))
+        with self.assertRaises(referencing.exceptions.Unresolvable):
+            validator.is_valid({"a": 1})
+
+    def test_a_dialect_of_ones_own(self):
+        schema = {"$schema": "https://example.com/dialect", "$defs": {"a": {"type": "string"}}, "$ref": "#/$defs/a"}
+        validator = validator_for(schema, default=jsonschema.Draft202012Validator)
+        self.assertEqual([validator.is_valid(it) for it in ("a", 1)], [True, False])
+
+    def test_options(self):
+        validator = validator_for({"format": "ipv4"}, format_checker=jsonschema.FormatChecker())
+        self.assertEqual([validator.is_valid(it) for it in ("127.0.0.1", "127.0.0")], [True, False])
+
+
+if __name__ == "__main__":
+    unittest.main()
