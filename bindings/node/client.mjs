@@ -45,9 +45,7 @@ export class Patchsard {
             }
         }
     }
-    end() {
-        this.process.stdin.end();
-    }
+    end() { this.process.stdin.end(); }
 }
 
 class Registry {

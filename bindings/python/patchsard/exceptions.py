@@ -1,4 +1,4 @@
-"""What can go wrong. The classes of errors that the program tells have the names that its protocol gives them."""
+"""What can go wrong. The classes of the program's errors have the names that its protocol gives them."""
 from __future__ import annotations
 
 from typing import Any, Dict, Optional, Type
@@ -16,6 +16,8 @@ class Unresolvable(Exception):
         self.message = message
 
     def __str__(self) -> str:
+        if not self.ref:
+            return self.message or repr(self.ref)
         return f"{self.ref!r}: {self.message}" if self.message else repr(self.ref)
 
 
