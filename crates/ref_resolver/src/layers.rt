@@ -134,7 +134,7 @@ impl<'r> Layers<'r> {
     }
 
     /// The URI that a text means against a base, as `resolve_uri` gives it, and the place that it means, where the index of the own
-    /// documents has that beside the URI.
+    /// documents has that beside the URI, or finds it under the text.
     #[inline(always)]
     pub(crate) fn resolve_place(
         &self,
@@ -150,10 +150,31 @@ impl<'r> Layers<'r> {
             let place = place_of(self.own, found.entry);
             return Ok((found.uri.clone()?, place));
         }
-        match resolved_above(self.parents, base.as_str(), uri) {
-            Some(uri) => Ok((uri.clone()?, None)),
-            None => Ok((anew(alloc, base, uri)?, None)),
+        if let Some(uri) = resolved_above(self.parents, base.as_str(), uri) {
+            return Ok((uri.clone()?, None));
         }
+        self.resolve_anew(alloc, base, uri)
+    }
+
+    // The same where no layer has resolved the text: a URI that identifies a place of the own documents, in normal form, needn't be resolved.
+    #[inline(never)]
+    fn resolve_anew(
+        &self,
+        alloc: Global,
+        base: UriRef<'_>,
+        uri: &str,
+    ) -> Result<(Rc<Uri>, Option<Located<'r>>), Error>
+        ensures ok { IfOk result (λ t. uri_against base.entry uri.now ≡ Ok t.0.value) }
+        ensures place { IfOk result (λ t. IfSome t.1 (IsMeant (meant_place (world_in self.now) t.0.value))) }
+        ensures fault { IfErr result (IsFaultOf (as_invalid_uri (uri_against base.entry uri.now))) }
+    {
+        if base.has_scheme() {
+            if let Some(entry) = self.own.identified(uri) {
+                let place = place_of(self.own, Some(entry));
+                return Ok((entry.base.clone()?, place));
+            }
+        }
+        Ok((anew(alloc, base, uri)?, None))
     }
 }
 
