@@ -1,5 +1,5 @@
 -- That the tables of an index tell the places of its documents.
-use Rattle.std.specs.Prelude.{◌≡◌, ℕ, List, [], Option, Some, None, MatchOption, String, Ok}
+use Rattle.std.specs.Prelude.{◌≡◌, ℕ, Bool, true, List, [], Option, Some, None, MatchOption, String, Ok}
 use Rattle.std.specs.Borrow.{Bor}
 use Rattle.std.specs.List.{AllZip, Contains}
 use Rattle.std.specs.declared.alloc.Global.{Global}
@@ -16,6 +16,7 @@ use Rattle.ref_index.specs.declared.entry.Entry.{Entry}
 use Rattle.ref_index.specs.declared.entry.NamedEntry.{NamedEntry}
 use Rattle.ref_index.specs.declared.entry.FoundName.{FoundName}
 use Rattle.ref_index.specs.declared.found.ResolvedUri.{ResolvedUri}
+use Rattle.ref_index.specs.NormalUris.{HaveNormalUris}
 use Rattle.ref_index.specs.Found.{IsEntryOf, IsNumberOf, kind_of}
 
 -- an entry under a URI and the empty text is that of a resource
@@ -35,13 +36,14 @@ IsPairIn by_uri e p = (e.0 ≡ p.0) × (e.1 ≡ p.1) × (uri_against p.0 p.1 ≡
 abbrev pub numbered_uri : List (table.Entry ℕ) → String Global × String Global × ResolvedUri → String Global × String Global × ResolvedUri
 numbered_uri by_uri t = (t.0, t.1, record { uri = t.2.uri; entry = last_value t.2.uri.value [] by_uri })
 
--- the tables hold the resources and the names of the documents, and what is resolved of them, in their order; and the children
--- of the documents' places are at their paths
-pub record IsIndexOf (layer : Layer) (entries : List Entry) (by_uri : List (table.Entry ℕ)) (by_name : List (table.Entry NamedEntry)) (by_pair : List (table.Entry ResolvedUri)) : Type 0 where
+-- the tables hold the resources and the names of the documents, and what is resolved of them, in their order; the children
+-- of the documents' places are at their paths; and where the index says so, the documents' URIs are in normal form
+pub record IsIndexOf (layer : Layer) (entries : List Entry) (by_uri : List (table.Entry ℕ)) (by_name : List (table.Entry NamedEntry)) (by_pair : List (table.Entry ResolvedUri)) (is_normal : Bool) : Type 0 where
   pub resource : AllZip (IsResourceIn layer entries) by_uri (resources layer)
   pub name : AllZip (IsNameIn layer entries) by_name (names layer)
   pub pair : AllZip (IsPairIn by_uri) by_pair (pairs layer)
   pub children : (d : Document) → Contains layer d → ChildrenStand d
+  pub normal : is_normal ≡ true → HaveNormalUris layer
 
 -- an entry is that of the place that was found
 abbrev pub IsFoundAt : Layer → Entry → Option (List ℕ × Place) → Type 0

@@ -5,6 +5,7 @@ pub mod Document
 pub mod Found
 pub mod Queue
 pub mod Visits
+pub mod NormalUris
 pub mod Index
 pub mod Listing
 pub mod Retrieval

@@ -1,7 +1,8 @@
 //! The documents of a registry with the index of their places.
-ghost use Rattle.std.specs.Prelude.{◌≡◌, ℕ, List, map, length, MatchOption, IfOk, IfSome, option_map, option_copied, slice_get, Some, None, Ok};
+ghost use Rattle.std.specs.Prelude.{◌≡◌, ℕ, List, map, length, MatchOption, IfOk, IfSome, option_map, option_copied, is_some, slice_get, true, Some, None, Ok};
 ghost use Rattle.std.specs.List.{Contains};
 ghost use Rattle.serde_json.specs.View.{view};
+ghost use Rattle.ref_uri.specs.Components.{scheme};
 ghost use Rattle.ref_uri.specs.Targets.{uri_against};
 ghost use Rattle.ref_definitions.specs.World.{Document as WorldDocument};
 ghost use Rattle.ref_definitions.specs.Agreement.{ChildrenStand};
@@ -12,6 +13,7 @@ ghost use Rattle.ref_definitions.specs.Cached.{pairs};
 ghost use Rattle.ref_definitions.specs.Wants.{Want};
 ghost use Rattle.ref_index.specs.Document.{document_of};
 ghost use Rattle.ref_index.specs.Found.{Holds, IsEntryOf};
+ghost use Rattle.ref_index.specs.NormalUris.{IsNormalUri, HaveNormalUris};
 ghost use Rattle.ref_index.specs.Index.{IsFoundAt, IsFoundWhere, IsNamedAt, numbered_uri};
 
 use crate::document::Document;
@@ -19,7 +21,8 @@ use crate::entry::{Entry, FoundName, FoundUri, NamedEntry};
 use crate::found::{Found, ResolvedUri};
 use crate::path::value_at;
 use ref_parts::SortedTable;
-use ref_uri::Uri;
+use ref_uri::uri::from_str;
+use ref_uri::{Uri, UriFault};
 use serde_json::Value;
 use std::alloc::{AllocError, Global};
 use std::marker::Model;
@@ -34,6 +37,8 @@ pub struct Index<'a> {
     by_uri: SortedTable<usize>,
     by_name: SortedTable<NamedEntry>,
     by_pair: SortedTable<ResolvedUri>,
+    // Whether the documents' URIs are known to be in normal form.
+    is_normal: bool,
 }
 
 impl<'a> Model for Index<'a> {
@@ -50,12 +55,12 @@ impl<'a> Model for Index<'a> {
 
     ghost view = { λ i. map document_of i.documents.items };
 
-    ghost invariant = { λ i. IsIndexOf (map document_of i.documents.items) i.entries.items i.by_uri i.by_name i.by_pair };
+    ghost invariant = { λ i. IsIndexOf (map document_of i.documents.items) i.entries.items i.by_uri i.by_name i.by_pair i.is_normal };
 }
 
 impl<'a> Index<'a> {
     /// The index of documents that were walked. Takes memory for the three tables, which are sorted once, and a look-up for each URI
-    /// that was resolved.
+    /// that was resolved; and puts each document's URI in normal form, to compare the two.
     pub fn new(
         alloc: Global,
         documents: Vec<Document<'a>>,
@@ -73,12 +78,14 @@ impl<'a> Index<'a> {
         let mut resolved = found.resolved;
         set_entries(&by_uri, resolved.as_mut_slice());
         let by_pair = SortedTable::from_entries(alloc, resolved)?;
+        let is_normal = are_normal(alloc, documents.as_slice())?;
         Ok(Index {
             documents,
             entries: found.entries,
             by_uri,
             by_name,
             by_pair,
+            is_normal,
         })
     }
 
@@ -122,6 +129,24 @@ impl<'a> Index<'a> {
         self.entries.get(*number)
     }
 
+    /// The place that a URI means in these documents, where its base is that very URI, in normal form: then the URI means itself against
+    /// any base, and needn't be resolved. `None` too where a document has a URI in no normal form. A look-up; takes no memory.
+    pub fn identified(&self, uri: &str) -> Option<&Entry<'a>>
+        ensures value { IfSome result (λ e. IsFoundAt self.now e.now (last_under uri.now (resources self.now))) }
+        ensures base { IfSome result (λ e. e.now.base.value ≡ uri.now) }
+        ensures itself { IfSome result (λ e. (base : List ℕ) → is_some (scheme base) ≡ true → uri_against base uri.now ≡ Ok uri.now) }
+    {
+        if !self.is_normal {
+            return None;
+        }
+        let entry = self.resource(uri)?;
+        if entry.base.as_str() == uri {
+            Some(entry)
+        } else {
+            None
+        }
+    }
+
     /// The place that an anchor names under a URI in these documents. A look-up; takes no memory.
     pub fn named(&self, uri: &str, name: &str) -> Option<FoundName<'_, 'a>>
         ensures value { MatchOption result (last_named uri.now name.now (names self.now) ≡ None)
@@ -158,6 +183,29 @@ impl<'a> Index<'a> {
             }
         }
     }
+}
+
+// Whether a URI is in normal form.
+fn is_normal(alloc: Global, uri: &Uri) -> Result<bool, AllocError>
+    ensures { IfOk result (λ is. is ≡ true → IsNormalUri uri.now) }
+{
+    match from_str(alloc, uri.as_str()) {
+        Ok(normal) => Ok(uri.has_scheme() && normal.as_str() == uri.as_str()),
+        Err(UriFault::Invalid(_)) => Ok(false),
+        Err(UriFault::Memory(error)) => Err(error),
+    }
+}
+
+// Whether the URI of each document is in normal form.
+fn are_normal(alloc: Global, documents: &[Document<'_>]) -> Result<bool, AllocError>
+    ensures { IfOk result (λ are. are ≡ true → HaveNormalUris (map document_of documents.now)) }
+{
+    for document in documents {
+        if !is_normal(alloc, &document.uri)? {
+            return Ok(false);
+        }
+    }
+    Ok(true)
 }
 
 // Puts beside each URI that was resolved the number of the entry that a table of resources has for it, where it has one.

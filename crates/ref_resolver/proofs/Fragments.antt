@@ -14,7 +14,7 @@ use Rattle.ref_resolver.specs.Names.{is_name}
 use Rattle.ref_resolver.specs.Resolving.{at_pointer}
 
 -- one that begins with `/` is a pointer
-pub pointer_there : (w : World) (r : Resolver) (p : Place) (l : Located) (fragment text : List ℕ) → IsLocated w l p → fragment ≡ 47 ∷ text
+pub pointer_there : (w : World) (r : Resolver) (p : Place) (l : Located) (fragment text : List ℕ) → IsLocated l p → fragment ≡ 47 ∷ text
     → at_fragment w r p fragment ≡ at_pointer r l.entry.now.draft fragment (view l.value.now) text
 pointer_there w r p l fragment text at is =
     ap (at_fragment w r p) is
@@ -27,7 +27,7 @@ no_name c text true is name none = none text (ap (λ x. x ∷ text) ((Decides-eq
 no_name c text false is name none = cc
 
 -- one that neither is a name nor begins with `/` is empty, and means the resource
-pub whole_there : (w : World) (r : Resolver) (p : Place) (l : Located) (fragment : List ℕ) → IsLocated w l p → is_name fragment ≡ false → ((rest : List ℕ) → fragment ≡ 47 ∷ rest → ⊥)
+pub whole_there : (w : World) (r : Resolver) (p : Place) (l : Located) (fragment : List ℕ) → IsLocated l p → is_name fragment ≡ false → ((rest : List ℕ) → fragment ≡ 47 ∷ rest → ⊥)
     → at_fragment w r p fragment ≡ Ok (record { value = view l.value.now; draft = l.entry.now.draft; resolver = r })
 whole_there w r p l [] at name none =
     ap (λ v. Ok (record { value = v; draft = p.draft; resolver = r })) (sym at.value) ∙ ap (λ d. Ok (record { value = view l.value.now; draft = d; resolver = r })) (sym at.draft)

@@ -1,5 +1,5 @@
 -- What a name means has that name.
-use Rattle.std.proofs.Common.{◌≡◌, ℕ, Bool, true, false, ◌&&◌, List, [], ◌∷◌, Option, Some, None, option_and_then, Result, Ok, Err, ap, bytes_eq}
+use Rattle.std.proofs.Common.{◌≡◌, ℕ, Bool, true, false, ◌&&◌, List, [], ◌∷◌, Option, Some, None, option_and_then, Result, Ok, Err, ap, ◌∙◌, bytes_eq}
 use Rattle.std.specs.Option.{option_or, ok_or}
 use Rattle.std.specs.Result.{result_ok}
 use Rattle.std.proofs.lemmas.Slice.Eq.{bytes_eq-Decides}
@@ -7,6 +7,7 @@ use Rattle.ref_definitions.specs.World.{World}
 use Rattle.ref_definitions.specs.Resources.{own_uri, meant_place}
 use Rattle.ref_definitions.specs.Fault.{Fault}
 use Rattle.ref_definitions.specs.Anchors.{Named, last_named, names, named_entry, named_by_identifier, not_named, anchor}
+use Rattle.ref_definitions.specs.Lookup.{Resolver}
 use Rattle.ref_index.proofs.Looking.{last_passes}
 
 second : (a b : Bool) → (a && b) ≡ true → b ≡ true
@@ -43,3 +44,16 @@ anchor_has world uri name n is =
 pub answered : {A : Type 0} (answer : Result A Fault) (a : A) → result_ok answer ≡ Some a → answer ≡ Ok a
 answered (Ok b) a is = (let same : b ≡ a = cc in ap (λ x. Ok x) same)
 answered (Err fault) a is = cc
+
+-- what the first name means stands under the base of a resolver that moved there
+pub moved_anchor : (v w : World) (s r : Resolver) (name : List ℕ) (n : Named) → v ≡ w → s ≡ r → anchor w r.base name ≡ Ok n → anchor v s.base name ≡ Ok n
+moved_anchor v w s r name n world at is = ap (λ x. anchor x s.base name) world ∙ ap (λ (x : Resolver). anchor w x.base name) at ∙ is
+
+-- what a name means is one thing
+pub only_one : {A : Type 0} (answer : Result A Fault) (k m : A) → result_ok answer ≡ Some k → answer ≡ Ok m → k ≡ m
+only_one (Ok a) k m found is = cc
+only_one (Err fault) k m found is = cc
+
+pub fault_ok : {A : Type 0} (answer : Result A Fault) (fault : Fault) (a : A) → answer ≡ Err fault → answer ≡ Ok a → ⊥
+fault_ok (Ok b) fault a none is = cc
+fault_ok (Err f) fault a none is = cc

@@ -1,9 +1,8 @@
 -- A dynamic anchor, URI by URI of the dynamic scope.
-use Rattle.std.proofs.Common.{◌≡◌, ℕ, Bool, List, [], ◌∷◌, ◌++◌, filter, flat_map, Some, None, Result, Ok, Err, refl, sym, ap, ◌∙◌}
+use Rattle.std.proofs.Common.{◌≡◌, ℕ, Bool, true, false, List, [], ◌∷◌, ◌++◌, cond, filter, flat_map, Some, None, Result, Ok, Err, refl, sym, ap, ◌∙◌}
 use Rattle.std.specs.List.{last_or}
 use Rattle.std.specs.Option.{unwrap_or}
 use Rattle.std.proofs.lemmas.List.Elements.{filter-append}
-use Rattle.ref_definitions.specs.World.{World}
 use Rattle.ref_definitions.specs.Fault.{Fault}
 use Rattle.ref_definitions.specs.Anchors.{Named}
 use Rattle.ref_definitions.specs.Lookup.{Resolver, Found, fault_of, entry_of, is_dynamic, unless_fault, entry_found, outermost}
@@ -59,5 +58,24 @@ ended r e m more fault is =
     first_fault (fault_of m) (flat_map fault_of more) (filter dynamic (entry_of m)) (entry_found r (outermost e (entry_of m ++ flat_map entry_of more))) fault is
 
 -- the entry's place, as the code has it
-pub found_under : (w : World) (r : Resolver) (uri : List ℕ) (n : Named) (l : Located) → IsLocated w l n.place → entry_found r (uri, n) ≡ under_uri r uri l.entry.now.draft (view l.value.now)
-found_under w r uri n l at = ap (λ d. under_uri r uri d n.place.value) (sym at.draft) ∙ ap (λ v. under_uri r uri l.entry.now.draft v) (sym at.value)
+pub found_under : (r : Resolver) (uri : List ℕ) (n : Named) (l : Located) → IsLocated l n.place → entry_found r (uri, n) ≡ under_uri r uri l.entry.now.draft (view l.value.now)
+found_under r uri n l at = ap (λ d. under_uri r uri d n.place.value) (sym at.draft) ∙ ap (λ v. under_uri r uri l.entry.now.draft v) (sym at.value)
+
+no_list : {A : Type 0} (x : A) (xs : List A) → [] ≡ x ∷ xs → ⊥
+no_list x xs is = cc
+
+-- a dynamic entry is what the name means
+pub dynamic_means : (uri : List ℕ) (meaning : Result Named Fault) (n : Named) → dynamic_of (uri, meaning) ≡ Ok ((uri, n) ∷ []) → meaning ≡ Ok n
+dynamic_means uri meaning n is = by_answer meaning n is
+  where
+    first : Named → List (List ℕ × Named) → Named
+    first n [] = n
+    first n (e ∷ es) = e.1
+
+    by_kind : (b : Bool) (m n : Named) → cond {A = List (List ℕ × Named)} b ((uri, m) ∷ []) [] ≡ (uri, n) ∷ [] → m ≡ n
+    by_kind true m n is = ap (first n) is
+    by_kind false m n is = cc
+
+    by_answer : (meaning : Result Named Fault) (n : Named) → dynamic_of (uri, meaning) ≡ Ok ((uri, n) ∷ []) → meaning ≡ Ok n
+    by_answer (Ok m) n is = ap (λ k. Ok k) (by_kind (is_dynamic m.kind) m n (no_fault [] (filter dynamic ((uri, m) ∷ [])) ((uri, n) ∷ []) is).1)
+    by_answer (Err fault) n is = absurd (no_list (uri, n) [] (no_fault (fault_of (uri, Err fault)) [] ((uri, n) ∷ []) is).1)

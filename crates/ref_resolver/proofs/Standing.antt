@@ -7,7 +7,7 @@ use Rattle.ref_parts.specs.Path.{Part, Key, Index, value_at}
 use Rattle.ref_parts.specs.Pointer.{unescape}
 use Rattle.ref_draft.specs.declared.draft.Draft.{Draft}
 use Rattle.ref_definitions.specs.Results.{◌>>=◌}
-use Rattle.ref_definitions.specs.World.{World}
+use Rattle.ref_definitions.specs.World.{Layer}
 use Rattle.ref_definitions.specs.Places.{Place}
 use Rattle.ref_definitions.specs.Fault.{PointerToNowhere, InvalidArrayIndex, as_invalid_uri}
 use Rattle.ref_definitions.specs.Bases.{Along, along_part}
@@ -16,7 +16,7 @@ use Rattle.ref_definitions.specs.Lookup.{Resolver, Found, in_subresource}
 use Rattle.ref_definitions.proofs.Changes.{first_answers, there_or, step_leads, part_more}
 use Rattle.ref_index.specs.Parts.{part_of as owned_part}
 use Rattle.ref_resolver.specs.declared.located.Located.{Located}
-use Rattle.ref_resolver.specs.Located.{IsLocated}
+use Rattle.ref_resolver.specs.Located.{IsLocatedIn}
 use Rattle.ref_resolver.specs.Resolving.{under_uri}
 use Rattle.ref_resolver.specs.Walking.{stepped_along}
 
@@ -75,8 +75,8 @@ one_step_on draft pointer along value start token before after at pushed here is
 -- ---- a place
 
 -- the document of a place leads along the entry's path to its value
-pub place_there : (w : World) (l : Located) (p : Place) (path : List Part) (at : IsLocated w l p) → path ≡ map owned_part l.entry.now.path.items → value_at at.path.document.tree path ≡ Some p.value
-place_there w l p path at is = ap (value_at at.path.document.tree) (is ∙ at.path.path) ∙ at.path.value
+pub place_there : (layer : Layer) (l : Located) (p : Place) (path : List Part) (at : IsLocatedIn layer l p) → path ≡ map owned_part l.entry.now.path.items → value_at at.path.document.tree path ≡ Some p.value
+place_there layer l p path at is = ap (value_at at.path.document.tree) (is ∙ at.path.path) ∙ at.path.value
 
 -- what is found under a URI is the value that is given
 pub under_value : (r : Resolver) (uri : List ℕ) (draft : Draft) (value : Data) (f : Found) → under_uri r uri draft value ≡ Ok f → value ≡ f.value

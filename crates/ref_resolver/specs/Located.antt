@@ -7,20 +7,58 @@ use Rattle.ref_definitions.specs.Anchors.{Named}
 use Rattle.ref_index.specs.Found.{IsPathOf, kind_of}
 use Rattle.ref_resolver.specs.declared.located.Located.{Located}
 use Rattle.ref_resolver.specs.declared.located.LocatedName.{LocatedName}
+use Rattle.ref_resolver.specs.declared.located.Numbered.{Numbered}
+use Rattle.ref_resolver.specs.declared.located.NumberedName.{NumberedName}
 
--- the value, draft and base of a place, and a path in one of the documents of a world that leads to it
-pub record IsLocated (w : World) (l : Located) (p : Place) : Type 0 where
+-- the value, draft and base of a place
+pub record IsLocated (l : Located) (p : Place) : Type 0 where
   pub value : view l.value.now ≡ p.value
   pub draft : l.entry.now.draft ≡ p.draft
   pub base : p.base ≡ Ok l.entry.now.base.value
-  pub layer : Layer
-  pub numbered : slice_get w l.layer ≡ Some layer
+
+-- and a path in one of the documents of a layer that leads to it
+pub record IsLocatedIn (layer : Layer) (l : Located) (p : Place) : Type 0 where
+  pub place : IsLocated l p
   pub path : IsPathOf layer l.entry.now.document l.entry.now.path.items p
 
--- of the place that a URI means
-abbrev pub IsMeant : World → Option Place → Located → Type 0
-IsMeant w found l = (p : Place) × (found ≡ Some p) × IsLocated w l p
+-- the same in the layer of a world with this number
+pub record IsLocatedAt (w : World) (l : Numbered) (p : Place) : Type 0 where
+  pub layer : Layer
+  pub numbered : slice_get w l.layer ≡ Some layer
+  pub there : IsLocatedIn layer l.place p
 
--- of the place that an anchor names, and the anchor's kind
-abbrev pub IsNamed : World → Option Named → LocatedName → Type 0
-IsNamed w found l = (n : Named) × (found ≡ Some n) × (kind_of l.named.now.is_dynamic ≡ n.kind) × IsLocated w l.place n.place
+-- of the place that a URI means
+abbrev pub IsMeant : Option Place → Located → Type 0
+IsMeant found l = (p : Place) × (found ≡ Some p) × IsLocated l p
+
+-- of the place that a URI means in a layer
+abbrev pub IsMeantIn : Layer → Option Place → Located → Type 0
+IsMeantIn layer found l = (p : Place) × (found ≡ Some p) × IsLocatedIn layer l p
+
+-- of the place that a URI means in a world
+abbrev pub IsMeantAt : World → Option Place → Numbered → Type 0
+IsMeantAt w found l = (p : Place) × (found ≡ Some p) × IsLocatedAt w l p
+
+-- the kind of an anchor, and the place that it names
+abbrev pub IsNameOf : LocatedName → Named → Type 0
+IsNameOf l n = (kind_of l.named.now.is_dynamic ≡ n.kind) × IsLocated l.place n.place
+
+-- in a layer
+abbrev pub IsNameIn : Layer → LocatedName → Named → Type 0
+IsNameIn layer l n = (kind_of l.named.now.is_dynamic ≡ n.kind) × IsLocatedIn layer l.place n.place
+
+-- in a world
+abbrev pub IsNameAt : World → NumberedName → Named → Type 0
+IsNameAt w l n = (kind_of l.named.now.is_dynamic ≡ n.kind) × IsLocatedAt w l.place n.place
+
+-- of what a name means
+abbrev pub IsNamed : Option Named → LocatedName → Type 0
+IsNamed found l = (n : Named) × (found ≡ Some n) × IsNameOf l n
+
+-- of what a name means in a layer
+abbrev pub IsNamedIn : Layer → Option Named → LocatedName → Type 0
+IsNamedIn layer found l = (n : Named) × (found ≡ Some n) × IsNameIn layer l n
+
+-- of what a name means in a world
+abbrev pub IsNamedAt : World → Option Named → NumberedName → Type 0
+IsNamedAt w found l = (n : Named) × (found ≡ Some n) × IsNameAt w l n

@@ -18,9 +18,10 @@ dynamic_under world uri name = dynamic_of (uri, anchor world uri name)
 -- a place is that of the dynamic entry, and none is there without one
 abbrev pub IsDynamicUnder : World → List ℕ → List ℕ → Option Located → Type 0
 IsDynamicUnder world uri name found =
-    MatchOption found (dynamic_under world uri name ≡ Ok []) (λ l. (n : Named) × (dynamic_under world uri name ≡ Ok ((uri, n) ∷ [])) × IsLocated world l n.place)
+    MatchOption found (dynamic_under world uri name ≡ Ok []) (λ l. (n : Named) × (dynamic_under world uri name ≡ Ok ((uri, n) ∷ [])) × IsLocated l n.place)
 
--- what a dynamic anchor leads to by the scope is a place, with its identifier against a URI
+-- what a dynamic anchor leads to by the scope is a place, with its identifier against a URI, under which the anchor means it where the first
+-- entry is what it means under the base
 abbrev pub IsOutermost : World → Resolver → Named → List ℕ → List ℕ → Located → Type 0
 IsOutermost world r first name uri l =
-    (n : Named) × (by_scope r first (in_scope world name r.scope) ≡ entry_found r (uri, n)) × IsLocated world l n.place
+    (n : Named) × (by_scope r first (in_scope world name r.scope) ≡ entry_found r (uri, n)) × IsLocated l n.place × (anchor world r.base name ≡ Ok first → anchor world uri name ≡ Ok n)

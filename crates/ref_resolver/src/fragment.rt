@@ -4,7 +4,7 @@ ghost use Rattle.std.specs.Result.{result_ok};
 ghost use Rattle.serde_json.specs.View.{view};
 ghost use Rattle.ref_draft.specs.Anchors.{Plain};
 ghost use Rattle.ref_definitions.specs.World.{World};
-ghost use Rattle.ref_definitions.specs.Anchors.{Named, anchor, named_by_identifier, not_named};
+ghost use Rattle.ref_definitions.specs.Anchors.{Named, anchor, named_by_identifier, named_entry, not_named};
 ghost use Rattle.ref_definitions.specs.Fault.{not_retrieved};
 ghost use Rattle.ref_definitions.specs.Lookup.{by_scope, in_scope, named_found};
 ghost use Rattle.ref_retrieve.specs.Errors.{IsFaultOf, IsForReason};
@@ -43,9 +43,10 @@ pub(crate) fn not_named(alloc: Global, name: &str) -> Error
     }
 }
 
-// The entry of a name under the base of the place that a URI means, where that place has an identifier.
-fn named_by_identifier<'r>(layers: &Layers<'r>, uri: &str, name: &str) -> Option<LocatedName<'r>>
-    ensures { MatchOption result (named_by_identifier (world_in layers.now) uri.now name.now ≡ None) (IsNamed (world_in layers.now) (named_by_identifier (world_in layers.now) uri.now name.now)) }
+// The base of the place that a URI means, where that place has an identifier.
+pub(crate) fn identified_base<'r>(layers: &Layers<'r>, uri: &str) -> Option<&'r str>
+    ensures { (name : List ℕ) → MatchOption result (named_by_identifier (world_in layers.now) uri.now name ≡ None)
+        (λ base. named_by_identifier (world_in layers.now) uri.now name ≡ named_entry (world_in layers.now) base.now name) }
 {
     let place = layers.resource(uri)?;
     if ResourceRef::new(place.value, place.entry.draft)
@@ -54,13 +55,20 @@ fn named_by_identifier<'r>(layers: &Layers<'r>, uri: &str, name: &str) -> Option
     {
         return None;
     }
-    layers.named(place.entry.base.as_str(), name)
+    Some(place.entry.base.as_str())
+}
+
+// The entry of a name under the base of the place that a URI means, where that place has an identifier.
+fn named_by_identifier<'r>(layers: &Layers<'r>, uri: &str, name: &str) -> Option<LocatedName<'r>>
+    ensures { MatchOption result (named_by_identifier (world_in layers.now) uri.now name.now ≡ None) (IsNamed (named_by_identifier (world_in layers.now) uri.now name.now)) }
+{
+    layers.named(identified_base(layers, uri)?, name)
 }
 
 // The entry that a name under a URI means: the one there, or else the one under the base of the place there.
 #[inline(always)]
 pub(crate) fn meaning<'r>(layers: &Layers<'r>, uri: &str, name: &str) -> Option<LocatedName<'r>>
-    ensures { MatchOption result (anchor (world_in layers.now) uri.now name.now ≡ Err (not_named name.now)) (IsNamed (world_in layers.now) (result_ok (anchor (world_in layers.now) uri.now name.now))) }
+    ensures { MatchOption result (anchor (world_in layers.now) uri.now name.now ≡ Err (not_named name.now)) (IsNamed (result_ok (anchor (world_in layers.now) uri.now name.now))) }
 {
     match layers.named(uri, name) {
         Some(found) => Some(found),
@@ -125,9 +133,9 @@ pub(crate) fn outermost<'s, 'r>(
     name: &str,
     first: Located<'r>,
 ) -> Result<(&'s Uri, Located<'r>), Error>
-    ensures ok { (n : Named) → IsLocated (world_of resolver.now) first.entry n.place
+    ensures ok { (n : Named) → IsLocated first.entry n.place
         → IfOk result (λ found. IsOutermost (world_of resolver.now) (resolver_of resolver.now) n name.now found.0.now found.1) }
-    ensures fault { (n : Named) → IsLocated (world_of resolver.now) first.entry n.place
+    ensures fault { (n : Named) → IsLocated first.entry n.place
         → IfErr result (IsFaultOf (by_scope (resolver_of resolver.now) n (in_scope (world_of resolver.now) name.now (resolver_of resolver.now).scope))) }
 {
     let mut uri: &Uri = &resolver.base;
@@ -144,7 +152,7 @@ pub(crate) fn outermost<'s, 'r>(
 // What a plain anchor's name leads to: its place.
 #[inline(always)]
 pub(crate) fn plain_found<'r>(resolver: Resolver<'r>, place: Located<'r>) -> Resolved<'r>
-    ensures found { (world : World) (n : Named) → n.kind ≡ Plain → IsLocated world place.entry n.place → named_found world (resolver_of resolver.entry) n n.kind ≡ Ok (found_of result) }
+    ensures found { (world : World) (n : Named) → n.kind ≡ Plain → IsLocated place.entry n.place → named_found world (resolver_of resolver.entry) n n.kind ≡ Ok (found_of result) }
     ensures world { world_found result ≡ world_of resolver.entry }
 {
     at_value(place.value, place.entry.draft, resolver)

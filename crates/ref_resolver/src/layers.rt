@@ -5,12 +5,12 @@ ghost use Rattle.ref_definitions.specs.Resources.{meant_place};
 ghost use Rattle.ref_definitions.specs.Anchors.{named_entry};
 ghost use Rattle.ref_definitions.specs.Fault.{as_invalid_uri};
 ghost use Rattle.ref_retrieve.specs.Errors.{IsFaultOf};
-ghost use Rattle.ref_resolver.specs.Located.{IsMeant, IsNamed};
+ghost use Rattle.ref_resolver.specs.Located.{IsMeant, IsMeantAt, IsNamed, IsNamedAt};
 ghost use Rattle.ref_resolver.specs.Layered.{world_in, IsHeld};
 
 use crate::located::{
-    Located, LocatedName, is_resource_above, named_above, named_in, place_of, resolved_above,
-    resource_above, resource_in,
+    Located, LocatedName, Numbered, NumberedName, is_resource_above, named_above, named_in,
+    place_of, resolved_above, resource_above, resource_in, with_layer,
 };
 use ref_index::Index;
 use ref_index::reference::shared;
@@ -38,20 +38,34 @@ impl<'r> Layers<'r> {
     /// The place that a URI means. A look-up for each layer, up to the first that has it; takes no memory.
     #[inline(always)]
     pub(crate) fn resource(&self, uri: &str) -> Option<Located<'r>>
-        ensures value { MatchOption result (meant_place (world_in self.now) uri.now ≡ None) (IsMeant (world_in self.now) (meant_place (world_in self.now) uri.now)) }
+        ensures value { MatchOption result (meant_place (world_in self.now) uri.now ≡ None) (IsMeant (meant_place (world_in self.now) uri.now)) }
     {
-        match resource_in(self.own, 0, uri) {
+        match resource_in(self.own, uri) {
             Some(place) => Some(place),
-            None => resource_above(self.parents, uri),
+            None => {
+                let found = resource_above(self.parents, uri)?;
+                Some(found.place)
+            }
         }
+    }
+
+    /// The place that a URI means, with the number of its layer: 0 for the own documents, and parents counted from 1. A look-up for each
+    /// layer, up to the first that has it; takes no memory.
+    pub(crate) fn numbered_resource(&self, uri: &str) -> Option<Numbered<'r>>
+        ensures value { MatchOption result (meant_place (world_in self.now) uri.now ≡ None) (IsMeantAt (world_in self.now) (meant_place (world_in self.now) uri.now)) }
+    {
+        let Some(place) = resource_in(self.own, uri) else {
+            return resource_above(self.parents, uri);
+        };
+        Some(Numbered { layer: 0, place })
     }
 
     /// The place that a URI means. Where a place is given, it is that one; else there is a look-up for each layer, up to the first that has
     /// it. Takes no memory.
     #[inline(always)]
     pub(crate) fn resource_or(&self, known: Option<Located<'r>>, uri: &str) -> Option<Located<'r>>
-        requires known { IfSome known (IsMeant (world_in self.now) (meant_place (world_in self.now) uri.now)) }
-        ensures value { MatchOption result (meant_place (world_in self.now) uri.now ≡ None) (IsMeant (world_in self.now) (meant_place (world_in self.now) uri.now)) }
+        requires known { IfSome known (IsMeant (meant_place (world_in self.now) uri.now)) }
+        ensures value { MatchOption result (meant_place (world_in self.now) uri.now ≡ None) (IsMeant (meant_place (world_in self.now) uri.now)) }
     {
         match known {
             Some(place) => Some(place),
@@ -69,12 +83,29 @@ impl<'r> Layers<'r> {
     /// The place that an anchor names under a URI. A look-up for each layer, up to the first that has it; takes no memory.
     #[inline(always)]
     pub(crate) fn named(&self, uri: &str, name: &str) -> Option<LocatedName<'r>>
-        ensures value { MatchOption result (named_entry (world_in self.now) uri.now name.now ≡ None) (IsNamed (world_in self.now) (named_entry (world_in self.now) uri.now name.now)) }
+        ensures value { MatchOption result (named_entry (world_in self.now) uri.now name.now ≡ None) (IsNamed (named_entry (world_in self.now) uri.now name.now)) }
     {
-        match named_in(self.own, 0, uri, name) {
+        match named_in(self.own, uri, name) {
             Some(place) => Some(place),
-            None => named_above(self.parents, uri, name),
+            None => {
+                let found = named_above(self.parents, uri, name)?;
+                Some(LocatedName {
+                    named: found.named,
+                    place: found.place.place,
+                })
+            }
         }
+    }
+
+    /// The place that an anchor names under a URI, with the number of its layer, counted so. A look-up for each layer, up to the first
+    /// that has it; takes no memory.
+    pub(crate) fn numbered_name(&self, uri: &str, name: &str) -> Option<NumberedName<'r>>
+        ensures value { MatchOption result (named_entry (world_in self.now) uri.now name.now ≡ None) (IsNamedAt (world_in self.now) (named_entry (world_in self.now) uri.now name.now)) }
+    {
+        let Some(found) = named_in(self.own, uri, name) else {
+            return named_above(self.parents, uri, name);
+        };
+        Some(with_layer(0, found))
     }
 
     /// The URI that a text means against a base, where that was resolved when the documents were prepared. A look-up for each
@@ -103,7 +134,7 @@ impl<'r> Layers<'r> {
     }
 
     /// The URI that a text means against a base, as `resolve_uri` gives it, and the place that it means, where the index of the own
-    /// documents has that beside the URI.
+    /// documents has that beside the URI, or finds it under the text.
     #[inline(always)]
     pub(crate) fn resolve_place(
         &self,
@@ -112,17 +143,38 @@ impl<'r> Layers<'r> {
         uri: &str,
     ) -> Result<(Rc<Uri>, Option<Located<'r>>), Error>
         ensures ok { IfOk result (λ t. uri_against base.entry uri.now ≡ Ok t.0.value) }
-        ensures place { IfOk result (λ t. IfSome t.1 (IsMeant (world_in self.now) (meant_place (world_in self.now) t.0.value))) }
+        ensures place { IfOk result (λ t. IfSome t.1 (IsMeant (meant_place (world_in self.now) t.0.value))) }
         ensures fault { IfErr result (IsFaultOf (as_invalid_uri (uri_against base.entry uri.now))) }
     {
         if let Some(found) = self.own.resolved(base.as_str(), uri) {
-            let place = place_of(self.own, 0, found.entry);
+            let place = place_of(self.own, found.entry);
             return Ok((found.uri.clone()?, place));
         }
-        match resolved_above(self.parents, base.as_str(), uri) {
-            Some(uri) => Ok((uri.clone()?, None)),
-            None => Ok((anew(alloc, base, uri)?, None)),
+        if let Some(uri) = resolved_above(self.parents, base.as_str(), uri) {
+            return Ok((uri.clone()?, None));
         }
+        self.resolve_anew(alloc, base, uri)
+    }
+
+    // The same where no layer has resolved the text: a URI that identifies a place of the own documents, in normal form, needn't be resolved.
+    #[inline(never)]
+    fn resolve_anew(
+        &self,
+        alloc: Global,
+        base: UriRef<'_>,
+        uri: &str,
+    ) -> Result<(Rc<Uri>, Option<Located<'r>>), Error>
+        ensures ok { IfOk result (λ t. uri_against base.entry uri.now ≡ Ok t.0.value) }
+        ensures place { IfOk result (λ t. IfSome t.1 (IsMeant (meant_place (world_in self.now) t.0.value))) }
+        ensures fault { IfErr result (IsFaultOf (as_invalid_uri (uri_against base.entry uri.now))) }
+    {
+        if base.has_scheme() {
+            if let Some(entry) = self.own.identified(uri) {
+                let place = place_of(self.own, Some(entry));
+                return Ok((entry.base.clone()?, place));
+            }
+        }
+        Ok((anew(alloc, base, uri)?, None))
     }
 }
 

@@ -1,25 +1,24 @@
 //! Places that were looked up, with their values.
-ghost use Rattle.std.specs.Prelude.{◌≡◌, ℕ, List, ◌∷◌, Option, map, option_map, slice_get, MatchOption, IfSome, IsSome, is_some, Some, None, Ok};
+ghost use Rattle.std.specs.Prelude.{◌≡◌, ℕ, List, ◌∷◌, Option, map, option_map, MatchOption, IfSome, IsSome, is_some, None, Ok};
 ghost use Rattle.ref_uri.specs.Targets.{uri_against};
-ghost use Rattle.ref_definitions.specs.World.{Layer, World};
+ghost use Rattle.ref_definitions.specs.World.{Layer};
 ghost use Rattle.ref_definitions.specs.Places.{Place};
 ghost use Rattle.ref_definitions.specs.Resources.{last_under, resources, meant_place};
 ghost use Rattle.ref_definitions.specs.Anchors.{last_named, names, named_entry};
 ghost use Rattle.ref_index.specs.Found.{IsEntryOf};
 ghost use Rattle.ref_index.specs.Index.{IsFoundWhere};
 ghost use Rattle.ref_resolver.specs.Layered.{IsHeld};
-ghost use Rattle.ref_resolver.specs.Located.{IsLocated, IsMeant, IsNamed};
+ghost use Rattle.ref_resolver.specs.Located.{IsLocatedIn, IsMeantIn, IsMeantAt, IsNamedIn, IsNamedAt};
 
 use ref_index::{Entry, Index, NamedEntry};
 use ref_uri::Uri;
 use serde_json::Value;
 use std::rc::Rc;
 
-/// A place: its value, the number of its layer, and its entry there.
+/// A place: its value, and its entry in the index of its layer.
 #[derive(Clone, Copy, Drop)]
 pub struct Located<'r> {
     pub value: &'r Value,
-    pub layer: usize,
     pub entry: &'r Entry<'r>,
 }
 
@@ -30,53 +29,61 @@ pub struct LocatedName<'r> {
     pub place: Located<'r>,
 }
 
-// The place of an entry of the layer with a number.
+/// A place with the number of its layer, which only `location` asks for.
+#[derive(Clone, Copy, Drop)]
+pub struct Numbered<'r> {
+    pub layer: usize,
+    pub place: Located<'r>,
+}
+
+/// A place that an anchor names, with the number of its layer.
+#[derive(Clone, Copy, Drop)]
+pub struct NumberedName<'r> {
+    pub named: &'r NamedEntry,
+    pub place: Numbered<'r>,
+}
+
+// The place of an entry.
 #[inline(always)]
-fn place_at<'r>(index: &'r Index<'r>, layer: usize, entry: &'r Entry<'r>) -> Option<Located<'r>>
-    ensures { (w : World) (p : Place) → slice_get w layer ≡ Some index.now → IsEntryOf index.now entry.now p
-        → MatchOption result ⊥ (λ l. IsLocated w l p) }
+fn place_at<'r>(index: &'r Index<'r>, entry: &'r Entry<'r>) -> Option<Located<'r>>
+    ensures { (p : Place) → IsEntryOf index.now entry.now p → MatchOption result ⊥ (λ l. IsLocatedIn index.now l p) }
 {
     let value = index.value(entry)?;
-    Some(Located {
-        value,
-        layer,
-        entry,
-    })
+    Some(Located { value, entry })
 }
 
 // The place of an entry that was found, or none.
 #[inline(always)]
 pub(crate) fn place_of<'r>(
     index: &'r Index<'r>,
-    layer: usize,
     entry: Option<&'r Entry<'r>>,
 ) -> Option<Located<'r>>
-    ensures { (w : World) (found : Option (List ℕ × Place)) → slice_get w layer ≡ Some index.now → IsFoundWhere index.now entry.entry found
-        → MatchOption result (found ≡ None) (IsMeant w (option_map (λ e. e.1) found)) }
+    ensures { (found : Option (List ℕ × Place)) → IsFoundWhere index.now entry.entry found
+        → MatchOption result (found ≡ None) (IsMeantIn index.now (option_map (λ e. e.1) found)) }
 {
-    place_at(index, layer, entry?)
+    place_at(index, entry?)
 }
 
-/// The place that a URI means in the documents of the layer with a number. A look-up; takes no memory.
+/// The place that a URI means in the documents of a layer. A look-up; takes no memory.
 #[inline(always)]
-pub(crate) fn resource_in<'r>(index: &'r Index<'r>, layer: usize, uri: &str) -> Option<Located<'r>>
-    ensures value { (w : World) → slice_get w layer ≡ Some index.now
-        → MatchOption result (last_under uri.now (resources index.now) ≡ None)
-        (IsMeant w (option_map (λ e. e.1) (last_under uri.now (resources index.now)))) }
+pub(crate) fn resource_in<'r>(index: &'r Index<'r>, uri: &str) -> Option<Located<'r>>
+    ensures value { MatchOption result (last_under uri.now (resources index.now) ≡ None)
+        (IsMeantIn index.now (option_map (λ e. e.1) (last_under uri.now (resources index.now)))) }
 {
-    place_of(index, layer, index.resource(uri))
+    place_of(index, index.resource(uri))
 }
 
 /// The place that a URI means in the documents of parents, nearest first, whose layers are counted from 1. A look-up for each;
 /// takes no memory.
-pub(crate) fn resource_above<'r>(parents: &'r [&'r Index<'r>], uri: &str) -> Option<Located<'r>>
+pub(crate) fn resource_above<'r>(parents: &'r [&'r Index<'r>], uri: &str) -> Option<Numbered<'r>>
     ensures value { (own : Layer) → MatchOption result (meant_place (map (λ p. p.now) parents.now) uri.now ≡ None)
-        (IsMeant (own ∷ map (λ p. p.now) parents.now) (meant_place (map (λ p. p.now) parents.now) uri.now)) }
+        (IsMeantAt (own ∷ map (λ p. p.now) parents.now) (meant_place (map (λ p. p.now) parents.now) uri.now)) }
 {
     let mut number = 0;
     while number < parents.len() {
-        if let Some(place) = resource_in(parents[number], number + 1, uri) {
-            return Some(place);
+        if let Some(place) = resource_in(parents[number], uri) {
+            let layer = number + 1;
+            return Some(Numbered { layer, place });
         }
         number += 1;
     }
@@ -95,20 +102,14 @@ pub(crate) fn is_resource_above(parents: &[&Index<'_>], uri: &str) -> bool
     false
 }
 
-/// The place that an anchor names under a URI in the documents of the layer with a number. A look-up; takes no memory.
+/// The place that an anchor names under a URI in the documents of a layer. A look-up; takes no memory.
 #[inline(always)]
-pub(crate) fn named_in<'r>(
-    index: &'r Index<'r>,
-    layer: usize,
-    uri: &str,
-    name: &str,
-) -> Option<LocatedName<'r>>
-    ensures value { (w : World) → slice_get w layer ≡ Some index.now
-        → MatchOption result (last_named uri.now name.now (names index.now) ≡ None)
-        (IsNamed w (last_named uri.now name.now (names index.now))) }
+pub(crate) fn named_in<'r>(index: &'r Index<'r>, uri: &str, name: &str) -> Option<LocatedName<'r>>
+    ensures value { MatchOption result (last_named uri.now name.now (names index.now) ≡ None)
+        (IsNamedIn index.now (last_named uri.now name.now (names index.now))) }
 {
     let found = index.named(uri, name)?;
-    let place = place_at(index, layer, found.entry)?;
+    let place = place_at(index, found.entry)?;
     Some(LocatedName {
         named: found.named,
         place,
@@ -121,18 +122,31 @@ pub(crate) fn named_above<'r>(
     parents: &'r [&'r Index<'r>],
     uri: &str,
     name: &str,
-) -> Option<LocatedName<'r>>
+) -> Option<NumberedName<'r>>
     ensures value { (own : Layer) → MatchOption result (named_entry (map (λ p. p.now) parents.now) uri.now name.now ≡ None)
-        (IsNamed (own ∷ map (λ p. p.now) parents.now) (named_entry (map (λ p. p.now) parents.now) uri.now name.now)) }
+        (IsNamedAt (own ∷ map (λ p. p.now) parents.now) (named_entry (map (λ p. p.now) parents.now) uri.now name.now)) }
 {
     let mut number = 0;
     while number < parents.len() {
-        if let Some(place) = named_in(parents[number], number + 1, uri, name) {
-            return Some(place);
+        if let Some(found) = named_in(parents[number], uri, name) {
+            return Some(with_layer(number + 1, found));
         }
         number += 1;
     }
     None
+}
+
+// What was found in the layer with a number.
+pub(crate) fn with_layer<'r>(layer: usize, found: LocatedName<'r>) -> NumberedName<'r>
+    ensures { result ≡ record { named = found.entry.named; place = record { layer = layer; place = found.entry.place } } }
+{
+    NumberedName {
+        named: found.named,
+        place: Numbered {
+            layer,
+            place: found.place,
+        },
+    }
 }
 
 /// The URI that a text means against a base, where that was resolved in the documents of parents. A look-up for each; takes no

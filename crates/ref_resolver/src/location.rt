@@ -1,5 +1,6 @@
 //! Where the value is that a reference leads to, so that a user who keeps the documents finds it there.
-ghost use Rattle.std.specs.Prelude.{◌≡◌, ℕ, List, [], ◌∷◌, ◌++◌, true, map, string_bytes, Some, Ok, IfOk, IfErr, OnOk};
+ghost use Rattle.std.specs.Prelude.{◌≡◌, ℕ, List, [], ◌∷◌, ◌++◌, true, map, string_bytes, MatchOption, None, Some, Ok, Err, IfOk, IfErr, OnOk};
+ghost use Rattle.std.specs.Result.{result_ok};
 ghost use Rattle.serde_json.specs.View.{view};
 ghost use Rattle.serde_json.specs.Data.{Data};
 ghost use Rattle.ref_parts.specs.Path.{Part, Key, value_at};
@@ -9,22 +10,22 @@ ghost use Rattle.ref_uri.specs.Targets.{target, fragment_part};
 ghost use Rattle.ref_definitions.specs.World.{World};
 ghost use Rattle.ref_definitions.specs.Places.{Place};
 ghost use Rattle.ref_definitions.specs.Pointers.{step_into, walked_along, pointed_value};
-ghost use Rattle.ref_definitions.specs.Anchors.{Named};
+ghost use Rattle.ref_definitions.specs.Anchors.{Named, anchor, not_named};
 ghost use Rattle.ref_draft.specs.Anchors.{Dynamic};
 ghost use Rattle.ref_definitions.specs.Lookup.{Resolver as Start, lookup, moved_resolver, named_found};
 ghost use Rattle.ref_definitions.specs.Recursive.{lookup_recursive};
 ghost use Rattle.ref_retrieve.specs.Errors.{IsFaultOf};
 ghost use Rattle.ref_index.specs.Parts.{part_of as owned_part};
 ghost use Rattle.ref_resolver.specs.Layered.{world_in};
-ghost use Rattle.ref_resolver.specs.Located.{IsLocated};
+ghost use Rattle.ref_resolver.specs.Located.{IsLocated, IsLocatedAt, IsNamedAt};
 ghost use Rattle.ref_resolver.specs.Locations.{StandsAt, IsWhere, EndsAt};
 ghost use Rattle.ref_resolver.specs.Names.{is_name};
 ghost use Rattle.ref_resolver.specs.Resolving.{resolver_of, world_of, at_pointer};
 ghost use Rattle.ref_resolver.specs.Walking.{along_of, stepped_along};
 
-use crate::fragment::{is_name, meaning, not_retrieved, outermost, under_uri};
+use crate::fragment::{identified_base, is_name, not_named, not_retrieved, outermost, under_uri};
 use crate::layers::Layers;
-use crate::located::Located;
+use crate::located::{Located, Numbered, NumberedName};
 use crate::pointed::{Along, Walk, cut_at_slash, index_of, no_utf8, step};
 use crate::resolver::{Resolver, Target};
 use crate::written::pointer_of;
@@ -74,15 +75,26 @@ fn lent<'p>(alloc: Global, path: &'p [PathPart]) -> Result<Vec<JsonPointerSegmen
 }
 
 // Where a place is.
-fn location_of<'r>(alloc: Global, place: Located<'r>) -> Result<Location<'r>, AllocError>
-    ensures { (w : World) (p : Place) → IsLocated w place.entry p → IfOk result (λ l. StandsAt w l p.value) }
+fn location_of<'r>(alloc: Global, found: Numbered<'r>) -> Result<Location<'r>, AllocError>
+    ensures { (w : World) (p : Place) → IsLocatedAt w found.entry p → IfOk result (λ l. StandsAt w l p.value) }
 {
-    let path = lent(alloc, place.entry.path.as_slice())?;
+    let entry = found.place.entry;
+    let path = lent(alloc, entry.path.as_slice())?;
     Ok(Location {
-        layer: place.layer,
-        document: place.entry.document,
+        layer: found.layer,
+        document: entry.document,
         path,
     })
+}
+
+// The entry that a name under a URI means, as `meaning` has it, with the number of its layer.
+fn numbered_meaning<'r>(layers: &Layers<'r>, uri: &str, name: &str) -> Option<NumberedName<'r>>
+    ensures { MatchOption result (anchor (world_in layers.now) uri.now name.now ≡ Err (not_named name.now)) (IsNamedAt (world_in layers.now) (result_ok (anchor (world_in layers.now) uri.now name.now))) }
+{
+    match layers.numbered_name(uri, name) {
+        Some(found) => Some(found),
+        None => layers.numbered_name(identified_base(layers, uri)?, name),
+    }
 }
 
 // The key that a token is, copied.
@@ -195,25 +207,26 @@ fn location_along<'r>(
     alloc: Global,
     layers: Layers<'r>,
     base: Rc<Uri>,
-    place: Located<'r>,
+    found: Numbered<'r>,
     pointer: &str,
     text: &str,
 ) -> Result<Location<'r>, Error>
-    ensures ok { (r : Start) (p : Place) → r.base ≡ base.value → IsLocated (world_in layers.entry) place.entry p
-        → IfOk result (IsWhere (world_in layers.entry) (at_pointer r place.entry.entry.now.draft pointer.now (view place.entry.value.now) text.now)) }
+    ensures ok { (r : Start) (p : Place) → r.base ≡ base.value → IsLocatedAt (world_in layers.entry) found.entry p
+        → IfOk result (IsWhere (world_in layers.entry) (at_pointer r found.entry.place.entry.now.draft pointer.now (view found.entry.place.value.now) text.now)) }
     ensures fault { (r : Start) → r.base ≡ base.value
-        → IfErr result (IsFaultOf (at_pointer r place.entry.entry.now.draft pointer.now (view place.entry.value.now) text.now)) }
+        → IfErr result (IsFaultOf (at_pointer r found.entry.place.entry.now.draft pointer.now (view found.entry.place.value.now) text.now)) }
 {
-    let mut path = lent(alloc, place.entry.path.as_slice())?;
+    let Located { value, entry } = found.place;
+    let mut path = lent(alloc, entry.path.as_slice())?;
     let walk = Walk {
         layers,
-        draft: place.entry.draft,
+        draft: entry.draft,
         pointer,
     };
-    follow_on(alloc, walk, base, place.value, &mut path, text)?;
+    follow_on(alloc, walk, base, value, &mut path, text)?;
     Ok(Location {
-        layer: place.layer,
-        document: place.entry.document,
+        layer: found.layer,
+        document: entry.document,
         path,
     })
 }
@@ -232,21 +245,17 @@ impl<'r> Resolver<'r> {
     /// Where the value is that [`Resolver::lookup`] of a reference answers: the layer, counted from 0 for the registry's own
     /// documents, the number of the document in it, and the path there.
     ///
-    /// Refuses as [`Resolver::lookup`] does, whose cost it has. Takes memory for the path's parts and, of a pointer, for its keys; the other
+    /// Refuses as [`Resolver::lookup`] does, whose cost it has, and a look-up more. Takes memory for the path's parts and, of a pointer, for its keys; the other
     /// keys are lent.
     pub fn location(&self, alloc: Global, reference: &str) -> Result<Location<'r>, Error>
         ensures ok { IfOk result (IsWhere (world_of self.now) (lookup (world_of self.now) (resolver_of self.now) reference.now)) }
         ensures fault { IfErr result (IsFaultOf (lookup (world_of self.now) (resolver_of self.now) reference.now)) }
     {
-        let Target {
-            uri,
-            place,
-            fragment,
-        } = self.target(alloc, reference)?;
+        let Target { uri, fragment, .. } = self.target(alloc, reference)?;
         if is_name(fragment) {
             return self.location_of_name(alloc, uri, fragment);
         }
-        let Some(place) = self.layers.resource_or(place, uri.as_str()) else {
+        let Some(place) = self.layers.numbered_resource(uri.as_str()) else {
             return Err(not_retrieved(alloc, &uri));
         };
         match fragment.strip_prefix('/') {
@@ -277,11 +286,11 @@ impl<'r> Resolver<'r> {
         ensures fault { (reference : List ℕ) → target (resolver_of self.now).base reference ≡ Ok uri.value → fragment_part reference ≡ name.now → is_name name.now ≡ true
             → IfErr result (IsFaultOf (lookup (world_of self.now) (resolver_of self.now) reference)) }
     {
-        let Some(found) = meaning(&self.layers, uri.as_str(), name) else {
+        let Some(found) = numbered_meaning(&self.layers, uri.as_str(), name) else {
             return Err(self.no_name(alloc, &uri, name));
         };
         if found.named.is_dynamic {
-            return self.location_of_dynamic(alloc, uri, name, found.place);
+            return self.location_of_dynamic(alloc, uri, name, found.place.place);
         }
         Ok(location_of(alloc, found.place)?)
     }
@@ -294,14 +303,17 @@ impl<'r> Resolver<'r> {
         name: &str,
         found: Located<'r>,
     ) -> Result<Location<'r>, Error>
-        ensures ok { (n : Named) → n.name ≡ name.now → n.kind ≡ Dynamic → IsLocated (world_of self.now) found.entry n.place
+        ensures ok { (n : Named) → n.name ≡ name.now → n.kind ≡ Dynamic → IsLocated found.entry n.place → anchor (world_of self.now) uri.value name.now ≡ Ok n
             → IfOk result (IsWhere (world_of self.now) (named_found (world_of self.now) (moved_resolver (resolver_of self.now) uri.value) n n.kind)) }
-        ensures fault { (n : Named) → n.name ≡ name.now → n.kind ≡ Dynamic → IsLocated (world_of self.now) found.entry n.place
+        ensures fault { (n : Named) → n.name ≡ name.now → n.kind ≡ Dynamic → IsLocated found.entry n.place → anchor (world_of self.now) uri.value name.now ≡ Ok n
             → IfErr result (IsFaultOf (named_found (world_of self.now) (moved_resolver (resolver_of self.now) uri.value) n n.kind)) }
     {
         let resolver = self.moved(alloc, uri)?;
         let (uri, place) = outermost(alloc, &resolver, name, found)?;
         let _ = under_uri(alloc, &resolver, uri, place)?;
-        Ok(location_of(alloc, place)?)
+        match numbered_meaning(&self.layers, uri.as_str(), name) {
+            Some(found) => Ok(location_of(alloc, found.place)?),
+            None => Err(not_named(alloc, name)),
+        }
     }
 }

@@ -114,7 +114,7 @@ impl<'r> Resolver<'r> {
         reference: &'t str,
     ) -> Result<Target<'r, 't>, Error>
         ensures ok { IfOk result (λ t. target (resolver_of self.now).base reference.now ≡ Ok t.uri.value) }
-        ensures place { IfOk result (λ t. IfSome t.place (IsMeant (world_of self.now) (meant_place (world_of self.now) t.uri.value))) }
+        ensures place { IfOk result (λ t. IfSome t.place (IsMeant (meant_place (world_of self.now) t.uri.value))) }
         ensures fragment { IfOk result (λ t. t.fragment.now ≡ fragment_part reference.now) }
         ensures fault { IfErr result (IsFaultOf (as_invalid_uri (target (resolver_of self.now).base reference.now))) }
     {
@@ -251,9 +251,9 @@ impl<'r> Resolver<'r> {
         name: &str,
         found: Located<'r>,
     ) -> Result<Resolved<'r>, Error>
-        ensures ok { (n : Named) → n.name ≡ name.now → n.kind ≡ Dynamic → IsLocated (world_of self.now) found.entry n.place → IfOk result (λ f. named_found (world_of self.now) (moved_resolver (resolver_of self.now) uri.value) n n.kind ≡ Ok (found_of f)) }
+        ensures ok { (n : Named) → n.name ≡ name.now → n.kind ≡ Dynamic → IsLocated found.entry n.place → IfOk result (λ f. named_found (world_of self.now) (moved_resolver (resolver_of self.now) uri.value) n n.kind ≡ Ok (found_of f)) }
         ensures world { IfOk result (λ f. world_found f ≡ world_of self.now) }
-        ensures fault { (n : Named) → n.name ≡ name.now → n.kind ≡ Dynamic → IsLocated (world_of self.now) found.entry n.place → IfErr result (IsFaultOf (named_found (world_of self.now) (moved_resolver (resolver_of self.now) uri.value) n n.kind)) }
+        ensures fault { (n : Named) → n.name ≡ name.now → n.kind ≡ Dynamic → IsLocated found.entry n.place → IfErr result (IsFaultOf (named_found (world_of self.now) (moved_resolver (resolver_of self.now) uri.value) n n.kind)) }
     {
         let resolver = self.moved(alloc, uri)?;
         let (uri, place) = outermost(alloc, &resolver, name, found)?;

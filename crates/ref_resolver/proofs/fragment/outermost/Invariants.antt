@@ -1,5 +1,5 @@
-use Rattle.std.proofs.Common.{◌≡◌}
-use Rattle.ref_definitions.specs.Anchors.{Named}
+use Rattle.std.proofs.Common.{◌≡◌, Ok}
+use Rattle.ref_definitions.specs.Anchors.{Named, anchor}
 use Rattle.ref_definitions.specs.Lookup.{by_scope, in_scope}
 use Rattle.ref_resolver.specs.Located.{IsLocated}
 use Rattle.ref_resolver.specs.Resolving.{resolver_of, world_of}
@@ -8,8 +8,9 @@ use Rattle.ref_resolver.proofs.fragment.outermost.Given as goal
 
 abbrev pub invariant-loop-outer : goal.invariant-loop-outer
 invariant-loop-outer l =
-    ((n : Named) → IsLocated (world_of l.resolver) l.fn.first n.place → (m : Named)
+    ((n : Named) → IsLocated l.fn.first n.place → (m : Named)
     × (by_scope (resolver_of l.resolver) n (in_scope (world_of l.resolver) l.name (resolver_of l.resolver).scope) ≡ from_here (resolver_of l.resolver) (l.uri, m) (in_scope (world_of l.resolver) l.name l.outer-iterator))
-    × IsLocated (world_of l.resolver) l.place m.place)
+    × IsLocated l.place m.place
+    × (anchor (world_of l.resolver) (resolver_of l.resolver).base l.name ≡ Ok n → anchor (world_of l.resolver) l.uri l.name ≡ Ok m))
     × (goal.iterator-loop-outer).can_next l.outer-iterator
     × (goal.iterator-loop-outer).is_finite l.outer-iterator

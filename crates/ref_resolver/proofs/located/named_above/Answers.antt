@@ -1,6 +1,7 @@
-use Rattle.std.proofs.Common.{◌<◌, ◌∷◌, ◌+◌, [], length, map, drop, sym, subst, ◌∙◌, arith}
+use Rattle.std.proofs.Common.{◌≡◌, ◌<◌, ◌∷◌, ◌+◌, length, map, drop, sym, subst, ◌∙◌, arith}
 use Rattle.ref_definitions.specs.Anchors.{named_entry}
-use Rattle.ref_resolver.specs.Located.{IsNamed}
+use Rattle.ref_resolver.specs.declared.located.NumberedName.{NumberedName}
+use Rattle.ref_resolver.specs.Located.{IsNameAt, IsNamedAt}
 use Rattle.ref_resolver.proofs.Locating.{parent_layer, parents_step, near_name, far_name}
 use Rattle.ref_resolver.proofs.located.named_above.Goals as goal
 
@@ -12,12 +13,16 @@ returns-in-Some c = record {
       let b = c.index-parents-number.result in
       let uri = c.args.uri.now in
       let name = c.args.name.now in
-      let place = c.in-Some.place in
       let w = own ∷ map (λ p. p.now) parents in
+      let found : NumberedName = record { named = c.in-Some.found.named; place = record { layer = i + 1; place = c.in-Some.found.place } } in
       let within : i < length parents = omega arith in
       let same = c.loop-number.invariant.1 ∙ parents_step (λ l. named_entry l uri name) (λ p. p.now) parents i b within c.index-parents-number.is in
-      let there = c.in-Some.ensures.value w (parent_layer own (λ p. p.now) parents i b within c.index-parents-number.is) in
-      subst (λ o. IsNamed w o place) (sym same) (near_name w b.now (map (λ p. p.now) (drop (i + 1) parents)) uri name place there);
+      let (n, is, (kind, at)) = c.in-Some.ensures.value in
+      let numbered = parent_layer own (λ p. p.now) parents i b within c.index-parents-number.is in
+      subst (IsNamedAt w (named_entry (map (λ p. p.now) parents) uri name)) (sym c.with_layer.ensures)
+      (subst (λ o. IsNamedAt w o found) (sym same)
+      (near_name (IsNameAt w found) b.now (map (λ p. p.now) (drop (i + 1) parents)) uri name
+      (n, is, (kind, record { layer = b.now; numbered = numbered; there = at }))));
 }
 
 pub loop-number-preserved : goal.loop-number-preserved
@@ -27,10 +32,8 @@ loop-number-preserved c =
     let b = c.index-parents-number.result in
     let uri = c.args.uri.now in
     let name = c.args.name.now in
-    let w = [] ∷ map (λ p. p.now) parents in
-    let within : i < length parents = omega arith in
-    let none = c.in_default.ensures.value w (parent_layer [] (λ p. p.now) parents i b within c.index-parents-number.is) in (
+    let within : i < length parents = omega arith in (
       omega arith,
       c.loop-number.invariant.1 ∙ parents_step (λ l. named_entry l uri name) (λ p. p.now) parents i b within c.index-parents-number.is
-          ∙ far_name b.now (map (λ p. p.now) (drop (i + 1) parents)) uri name none,
+          ∙ far_name b.now (map (λ p. p.now) (drop (i + 1) parents)) uri name c.in_default.ensures.value,
     )

@@ -4,11 +4,11 @@ use Rattle.ref_resolver.proofs.Locating.{meant_of}
 use Rattle.ref_resolver.proofs.located.place_of.Goals as goal
 
 pub returns-in_err-entry : goal.returns-in_err-entry
-returns-in_err-entry c = λ w found numbered is.
+returns-in_err-entry c = λ found is.
     let none : found ≡ None = subst (λ o. IsFoundWhere c.args.index.now o found) c.in_err-entry.was is in
     search rules
 
 pub returns : goal.returns
-returns c = λ w found numbered is.
+returns c = λ found is.
     let (r, there, at) = subst (λ o. IsFoundWhere c.args.index.now o found) c.in_ok-entry.was is in
-    meant_of w c.place_at.result found r there (c.place_at.ensures w r.1 numbered at)
+    meant_of c.args.index.now c.place_at.result found r there (c.place_at.ensures r.1 at)

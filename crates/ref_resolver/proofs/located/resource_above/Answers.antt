@@ -1,6 +1,7 @@
-use Rattle.std.proofs.Common.{◌<◌, ◌∷◌, ◌+◌, [], length, map, drop, sym, subst, ◌∙◌, arith}
+use Rattle.std.proofs.Common.{◌<◌, ◌∷◌, ◌+◌, length, map, drop, sym, subst, ◌∙◌, arith}
 use Rattle.ref_definitions.specs.Resources.{meant_place}
-use Rattle.ref_resolver.specs.Located.{IsMeant}
+use Rattle.ref_resolver.specs.declared.located.Numbered.{Numbered}
+use Rattle.ref_resolver.specs.Located.{IsLocatedAt, IsMeantAt}
 use Rattle.ref_resolver.proofs.Locating.{parent_layer, parents_step, near, far}
 use Rattle.ref_resolver.proofs.located.resource_above.Goals as goal
 
@@ -11,12 +12,14 @@ returns-in-Some c = record {
       let i = c.loop-number.number in
       let b = c.index-parents-number.result in
       let uri = c.args.uri.now in
-      let place = c.in-Some.place in
       let w = own ∷ map (λ p. p.now) parents in
+      let found : Numbered = record { layer = i + 1; place = c.in-Some.place } in
       let within : i < length parents = omega arith in
       let same = c.loop-number.invariant.1 ∙ parents_step (λ l. meant_place l uri) (λ p. p.now) parents i b within c.index-parents-number.is in
-      let there = c.in-Some.ensures.value w (parent_layer own (λ p. p.now) parents i b within c.index-parents-number.is) in
-      subst (λ o. IsMeant w o place) (sym same) (near w b.now (map (λ p. p.now) (drop (i + 1) parents)) uri place there);
+      let (p, is, at) = c.in-Some.ensures.value in
+      let numbered = parent_layer own (λ p. p.now) parents i b within c.index-parents-number.is in
+      subst (λ o. IsMeantAt w o found) (sym same)
+      (near (IsLocatedAt w found) b.now (map (λ p. p.now) (drop (i + 1) parents)) uri (p, is, record { layer = b.now; numbered = numbered; there = at }));
 }
 
 pub loop-number-preserved : goal.loop-number-preserved
@@ -25,10 +28,8 @@ loop-number-preserved c =
     let i = c.loop-number.number in
     let b = c.index-parents-number.result in
     let uri = c.args.uri.now in
-    let w = [] ∷ map (λ p. p.now) parents in
-    let within : i < length parents = omega arith in
-    let none = c.in_default.ensures.value w (parent_layer [] (λ p. p.now) parents i b within c.index-parents-number.is) in (
+    let within : i < length parents = omega arith in (
       omega arith,
       c.loop-number.invariant.1 ∙ parents_step (λ l. meant_place l uri) (λ p. p.now) parents i b within c.index-parents-number.is
-          ∙ far b.now (map (λ p. p.now) (drop (i + 1) parents)) uri none,
+          ∙ far b.now (map (λ p. p.now) (drop (i + 1) parents)) uri c.in_default.ensures.value,
     )

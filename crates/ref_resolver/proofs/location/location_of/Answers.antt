@@ -6,11 +6,12 @@ use Rattle.ref_resolver.proofs.location.location_of.Goals as goal
 
 pub returns : goal.returns
 returns c = λ w p at.
-    let slice : c.as_slice.result.now ≡ c.args.place.entry.now.path.items = search rules in
+    let slice : c.as_slice.result.now ≡ c.args.found.place.entry.now.path.items = search rules in
+    let path = at.there.path in
     record {
       layer = at.layer;
       in_world = at.numbered;
-      document = at.path.document;
-      in_layer = at.path.numbered;
-      there = place_there w c.args.place p (map part_of c.in_ok-path.path.items) at (c.in_ok-path.ensures ∙ ap (map owned_part) slice);
+      document = path.document;
+      in_layer = path.numbered;
+      there = place_there at.layer c.args.found.place p (map part_of c.in_ok-path.path.items) at.there (c.in_ok-path.ensures ∙ ap (map owned_part) slice);
     }

@@ -1,4 +1,4 @@
-use Rattle.std.proofs.Common.{◌≡◌, ◌∙◌, ap, length, map, subst, sym, refl, string_bytes, rules}
+use Rattle.std.proofs.Common.{◌≡◌, ◌∙◌, ap, length, map, subst, sym, refl, string_bytes, true, rules}
 use Rattle.std.specs.List.{AllZip}
 use Rattle.std.proofs.lemmas.List.{length-map}
 use Rattle.ref_parts.specs.Table.{entries_of}
@@ -7,6 +7,7 @@ use Rattle.ref_definitions.specs.Resources.{resources}
 use Rattle.ref_definitions.specs.Anchors.{names}
 use Rattle.ref_definitions.specs.Cached.{pairs}
 use Rattle.ref_index.specs.Document.{document_of}
+use Rattle.ref_index.specs.NormalUris.{HaveNormalUris}
 use Rattle.ref_index.specs.Found.{IsResourceOf, IsNameOf, IsPairOf}
 use Rattle.ref_index.specs.Index.{IsResourceIn, IsNameIn, IsPairIn, numbered_uri}
 use Rattle.ref_index.proofs.Looking.{zip_mapped}
@@ -17,6 +18,8 @@ pub invariant_of-result : goal.invariant_of-result
 invariant_of-result c =
     let layer = map document_of c.args.documents.items in
     let held = c.requires.held.1 in
+    let slice : c.as_slice.result.now ≡ c.args.documents.items = search rules in
+    let normal = subst (λ ds. c.in_ok-is_normal.is_normal ≡ true → HaveNormalUris (map document_of ds)) slice c.in_ok-is_normal.ensures in
     let by_uri = c.in_ok-by_uri.by_uri in
     let lent : c.as_mut_slice.result.now ≡ c.args.found.resolved.items = search rules in
     let len : length c.set_entries.new.pairs ≡ c.args.found.resolved.len =
@@ -32,4 +35,5 @@ invariant_of-result c =
       pair = subst (λ l. AllZip (IsPairIn by_uri) l (pairs layer)) (sym entered)
           (zip_mapped (IsNumberedPair by_uri) (IsPairIn by_uri) (λ e. (string_bytes e.0, string_bytes e.1, e.2)) (λ t p is. is) c.set_entries.new.pairs (pairs layer) numbers);
       children = c.requires.children;
+      normal = normal;
     }

@@ -13,7 +13,7 @@ returns-in_err-number c =
     let entries = c.self.inside.entries.items in
     let uri = c.args.uri.now in
     let table = c.self.inside.by_uri in
-    let is = subst (λ l. IsIndexOf l entries table c.self.inside.by_name c.self.inside.by_pair) c.self.view_is c.self.invariant in
+    let is = subst (λ l. IsIndexOf l entries table c.self.inside.by_name c.self.inside.by_pair c.self.inside.is_normal) c.self.view_is c.self.invariant in
     let nothing : option_copied c.get.result.0 ≡ None = ap option_copied c.in_err-number.was in
     let none : last_under uri (resources layer) ≡ None = none_found (IsResourceIn layer entries) (λ e. e.2) (last_or None (filter (is_under uri []) table)) (last_under uri (resources layer)) (uri_both layer entries uri table (resources layer) is.resource) (sym c.get.ensures.value ∙ nothing) in
     search rules
@@ -24,7 +24,7 @@ returns c =
     let entries = c.self.inside.entries.items in
     let uri = c.args.uri.now in
     let table = c.self.inside.by_uri in
-    let is = subst (λ l. IsIndexOf l entries table c.self.inside.by_name c.self.inside.by_pair) c.self.view_is c.self.invariant in
+    let is = subst (λ l. IsIndexOf l entries table c.self.inside.by_name c.self.inside.by_pair c.self.inside.is_normal) c.self.view_is c.self.invariant in
     let some : option_copied c.get.result.0 ≡ Some c.in_ok-number.number.now = ap option_copied c.in_ok-number.was in
     let (r, found, at) = resource_found layer entries (last_or None (filter (is_under uri []) table)) (last_under uri (resources layer)) c.in_ok-number.number.now (uri_both layer entries uri table (resources layer) is.resource) (sym c.get.ensures.value ∙ some) in
     let number = c.in_ok-number.number.now in

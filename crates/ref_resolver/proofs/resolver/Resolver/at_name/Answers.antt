@@ -19,7 +19,7 @@ returns-then-found-clause-ok c = λ reference is fragment name.
     let w = world_of c.args.self.now in
     let uri : List ℕ = c.args.uri.value in
     let text : c.as_str.result.now ≡ uri = search rules in
-    let (n, found, kind, at) = rw text at c.in-Some.ensures in
+    let (n, found, (kind, at)) = rw text at c.in-Some.ensures in
     let dynamic : n.kind ≡ Dynamic = sym kind ∙ search rules in
     let same = lookup_found w (resolver_of c.args.self.now) reference uri c.args.name.now n is (anchor_means w uri c.args.name.now n found) fragment name (answered (anchor w uri c.args.name.now) n found) in
     subst (λ a. IfOk c.at_dynamic.result (λ f. a ≡ Ok (found_of f))) (sym same) (c.at_dynamic.ensures.ok n (anchor_has w uri c.args.name.now n found) dynamic at)
@@ -29,7 +29,7 @@ returns-then-found-clause-fault c = λ reference is fragment name.
     let w = world_of c.args.self.now in
     let uri : List ℕ = c.args.uri.value in
     let text : c.as_str.result.now ≡ uri = search rules in
-    let (n, found, kind, at) = rw text at c.in-Some.ensures in
+    let (n, found, (kind, at)) = rw text at c.in-Some.ensures in
     let dynamic : n.kind ≡ Dynamic = sym kind ∙ search rules in
     let same = lookup_found w (resolver_of c.args.self.now) reference uri c.args.name.now n is (anchor_means w uri c.args.name.now n found) fragment name (answered (anchor w uri c.args.name.now) n found) in
     subst (λ a. IfErr c.at_dynamic.result (IsFaultOf a)) (sym same) (c.at_dynamic.ensures.fault n (anchor_has w uri c.args.name.now n found) dynamic at)
@@ -40,7 +40,7 @@ returns-clause-ok c = λ reference is fragment name.
     let r = resolver_of c.args.self.now in
     let uri : List ℕ = c.args.uri.value in
     let text : c.as_str.result.now ≡ uri = search rules in
-    let (n, found, kind, at) = rw text at c.in-Some.ensures in
+    let (n, found, (kind, at)) = rw text at c.in-Some.ensures in
     let plain : n.kind ≡ Plain = sym kind ∙ search rules in
     let same = lookup_found w r reference uri c.args.name.now n is (anchor_means w uri c.args.name.now n found) fragment name (answered (anchor w uri c.args.name.now) n found) in
     same ∙ rw c.in_ok-resolver.ensures.resolver at c.plain_found.ensures.found w n plain at

@@ -37,7 +37,7 @@ returns-in-Some-strip_prefix-clause-ok c =
     let text : c.as_str.result.now ≡ uri = search rules in
     let slash = rw c.in-Some-strip_prefix.is at (strip_prefix_char 47 fragment c.strip_prefix.result c.strip_prefix.ensures.cases (lit< tt)) in
     let same = lookup_present w r c.args.reference.now uri p c.in_ok-uri.ensures.ok (ap (meant_place w) (sym text) ∙ is) ∙ ap (at_fragment w (moved_resolver r uri) p) (sym c.in_ok-uri.ensures.fragment)
-    ∙ pointer_there w (moved_resolver r uri) p c.in-Some.place fragment c.in-Some-strip_prefix.text.now at slash in
+    ∙ pointer_there w (moved_resolver r uri) p c.in-Some.place.place fragment c.in-Some-strip_prefix.text.now at.there.place slash in
     subst (λ a. IfOk c.location_along.result (IsWhere w a)) (sym same) (c.location_along.ensures.ok (moved_resolver r uri) p refl at)
 
 pub returns-in-Some-strip_prefix-clause-fault : goal.returns-in-Some-strip_prefix-clause-fault
@@ -50,7 +50,7 @@ returns-in-Some-strip_prefix-clause-fault c =
     let text : c.as_str.result.now ≡ uri = search rules in
     let slash = rw c.in-Some-strip_prefix.is at (strip_prefix_char 47 fragment c.strip_prefix.result c.strip_prefix.ensures.cases (lit< tt)) in
     let same = lookup_present w r c.args.reference.now uri p c.in_ok-uri.ensures.ok (ap (meant_place w) (sym text) ∙ is) ∙ ap (at_fragment w (moved_resolver r uri) p) (sym c.in_ok-uri.ensures.fragment)
-    ∙ pointer_there w (moved_resolver r uri) p c.in-Some.place fragment c.in-Some-strip_prefix.text.now at slash in
+    ∙ pointer_there w (moved_resolver r uri) p c.in-Some.place.place fragment c.in-Some-strip_prefix.text.now at.there.place slash in
     subst (λ a. IfErr c.location_along.result (IsFaultOf a)) (sym same) (c.location_along.ensures.fault (moved_resolver r uri) refl)
 
 pub returns-clause-ok : goal.returns-clause-ok
@@ -59,16 +59,16 @@ returns-clause-ok c =
     let r = resolver_of c.args.self.now in
     let uri : List ℕ = c.in_ok-uri.field-0.uri.value in
     let fragment = c.in_ok-uri.field-0.fragment.now in
-    let place = c.in-Some.place in
+    let place = c.in-Some.place.place in
     let (p, is, at) = c.in-Some.ensures.value in
     let text : c.as_str.result.now ≡ uri = search rules in
     let none = rw c.in-None.is at (strip_prefix_char 47 fragment c.strip_prefix.result c.strip_prefix.ensures.cases (lit< tt)) in
     let name : is_name fragment ≡ false = sym c.is_name.ensures ∙ c.if-is_name.false in
     let same = lookup_present w r c.args.reference.now uri p c.in_ok-uri.ensures.ok (ap (meant_place w) (sym text) ∙ is) ∙ ap (at_fragment w (moved_resolver r uri) p) (sym c.in_ok-uri.ensures.fragment)
-    ∙ whole_there w (moved_resolver r uri) p place fragment at name none in (
+    ∙ whole_there w (moved_resolver r uri) p place fragment at.there.place name none in (
       record { value = view place.value.now; draft = place.entry.now.draft; resolver = moved_resolver r uri },
       same,
-      subst (StandsAt w c.in_ok-location_of-in-None.field-0) (sym at.value) (c.in_ok-location_of-in-None.ensures w p at),
+      subst (StandsAt w c.in_ok-location_of-in-None.field-0) (sym at.there.place.value) (c.in_ok-location_of-in-None.ensures w p at),
     )
 
 pub returns-then-is_name-clause-ok : goal.returns-then-is_name-clause-ok

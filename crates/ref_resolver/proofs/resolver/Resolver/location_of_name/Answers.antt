@@ -22,20 +22,20 @@ returns-then-found-clause-ok c = λ reference is fragment name.
     let w = world_of c.args.self.now in
     let uri : List ℕ = c.args.uri.value in
     let text : c.as_str.result.now ≡ uri = search rules in
-    let (n, found, kind, at) = rw text at c.in-Some.ensures in
+    let (n, found, (kind, at)) = rw text at c.in-Some.ensures in
     let dynamic : n.kind ≡ Dynamic = sym kind ∙ search rules in
     let same = lookup_found w (resolver_of c.args.self.now) reference uri c.args.name.now n is (anchor_means w uri c.args.name.now n found) fragment name (answered (anchor w uri c.args.name.now) n found) in
-    subst (λ a. IfOk c.location_of_dynamic.result (IsWhere w a)) (sym same) (c.location_of_dynamic.ensures.ok n (anchor_has w uri c.args.name.now n found) dynamic at)
+    subst (λ a. IfOk c.location_of_dynamic.result (IsWhere w a)) (sym same) (c.location_of_dynamic.ensures.ok n (anchor_has w uri c.args.name.now n found) dynamic at.there.place (answered (anchor w uri c.args.name.now) n found))
 
 pub returns-then-found-clause-fault : goal.returns-then-found-clause-fault
 returns-then-found-clause-fault c = λ reference is fragment name.
     let w = world_of c.args.self.now in
     let uri : List ℕ = c.args.uri.value in
     let text : c.as_str.result.now ≡ uri = search rules in
-    let (n, found, kind, at) = rw text at c.in-Some.ensures in
+    let (n, found, (kind, at)) = rw text at c.in-Some.ensures in
     let dynamic : n.kind ≡ Dynamic = sym kind ∙ search rules in
     let same = lookup_found w (resolver_of c.args.self.now) reference uri c.args.name.now n is (anchor_means w uri c.args.name.now n found) fragment name (answered (anchor w uri c.args.name.now) n found) in
-    subst (λ a. IfErr c.location_of_dynamic.result (IsFaultOf a)) (sym same) (c.location_of_dynamic.ensures.fault n (anchor_has w uri c.args.name.now n found) dynamic at)
+    subst (λ a. IfErr c.location_of_dynamic.result (IsFaultOf a)) (sym same) (c.location_of_dynamic.ensures.fault n (anchor_has w uri c.args.name.now n found) dynamic at.there.place (answered (anchor w uri c.args.name.now) n found))
 
 pub returns-clause-ok : goal.returns-clause-ok
 returns-clause-ok c = λ reference is fragment name.
@@ -43,7 +43,7 @@ returns-clause-ok c = λ reference is fragment name.
     let r = resolver_of c.args.self.now in
     let uri : List ℕ = c.args.uri.value in
     let text : c.as_str.result.now ≡ uri = search rules in
-    let (n, found, kind, at) = rw text at c.in-Some.ensures in
+    let (n, found, (kind, at)) = rw text at c.in-Some.ensures in
     let plain : n.kind ≡ Plain = sym kind ∙ search rules in
     let same = lookup_found w r reference uri c.args.name.now n is (anchor_means w uri c.args.name.now n found) fragment name (answered (anchor w uri c.args.name.now) n found) in (
       record { value = n.place.value; draft = n.place.draft; resolver = moved_resolver r uri },
