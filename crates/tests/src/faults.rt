@@ -81,7 +81,7 @@ pub fn reason_of(alloc: Global, text: &str) -> Result<Reason, AllocError> {
 }
 
 /// Of a row of a reason: how it is displayed.
-pub fn reason(alloc: Global, row: &Value) -> Result<String, Fault> {
+fn reason(alloc: Global, row: &Value) -> Result<String, Fault> {
     let reason = reason_of(alloc, row::text(row, 1)?)?;
     made(format!(in alloc; "{reason}"))
 }
@@ -95,7 +95,17 @@ fn refusal_of(alloc: Global, row: &Value) -> Result<RetrieveError, Fault> {
 }
 
 /// Of a row of a reason, or of being out of memory: how a refusal for it is displayed, and its debug text in the next line.
-pub fn refusal(alloc: Global, row: &Value) -> Result<String, Fault> {
+fn refusal(alloc: Global, row: &Value) -> Result<String, Fault> {
     let refusal = refusal_of(alloc, row)?;
     made(format!(in alloc; "{refusal}\n{refusal:?}"))
+}
+
+/// What is found of a row of a table on faults.
+pub fn found(alloc: Global, table: &str, row: &Value) -> Result<String, Fault> {
+    match table {
+        "faults" => shown(alloc, row),
+        "reasons" => reason(alloc, row),
+        "refusals" => refusal(alloc, row),
+        _ => Err(Fault::Form("no such table")),
+    }
 }

@@ -38,7 +38,7 @@ pub fn held(alloc: Global, registry: &Registry<'_>) -> Result<String, Fault> {
 }
 
 /// What a builder holds after the documents of a row were added, as the registry that is prepared of it has them.
-pub fn added(alloc: Global, row: &Value) -> Result<String, Fault> {
+fn added(alloc: Global, row: &Value) -> Result<String, Fault> {
     let documents = row::documents(alloc, row, 1)?;
     let registry = done(alloc, prepared(Registry::new(alloc), documents))?;
     held(alloc, &registry)
@@ -116,11 +116,20 @@ fn of_lent_resource(alloc: Global, draft: Option<Draft>, row: &Value) -> Result<
 
 /// Of a document that is added as a kind of input: a row of the kind, which is a view where it is no other, the draft that is set, the document,
 /// and what is asked.
-pub fn of_kinds(alloc: Global, row: &Value) -> Result<String, Fault> {
+fn of_kinds(alloc: Global, row: &Value) -> Result<String, Fault> {
     let (kind, draft) = (row::text(row, 1)?, row::draft(row, 2)?);
     if kind == "a resource that is lent" {
         return of_lent_resource(alloc, draft, row);
     }
     let registry = done(alloc, of_kind(alloc, kind, draft, row::column(row, 3)?))?;
     asked(alloc, &registry, row)
+}
+
+/// What is found of a row of a table on what documents are added as.
+pub fn found(alloc: Global, table: &str, row: &Value) -> Result<String, Fault> {
+    match table {
+        "builders" => added(alloc, row),
+        "kinds" | "kinds with titles" => of_kinds(alloc, row),
+        _ => Err(Fault::Form("no such table")),
+    }
 }

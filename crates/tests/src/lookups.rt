@@ -131,7 +131,7 @@ fn answered(
 }
 
 /// The same of a base and the references in a row's columns after those of the registry.
-pub fn answers(alloc: Global, registry: &Registry<'_>, row: &Value) -> Result<String, Fault> {
+fn answers(alloc: Global, registry: &Registry<'_>, row: &Value) -> Result<String, Fault> {
     let (base, first, second) = (row::text(row, 4)?, row::text(row, 5)?, row::text(row, 6)?);
     answered(alloc, registry, base, [first, second])
 }
@@ -170,11 +170,27 @@ fn base_and_scope(alloc: Global, resolver: &Resolver<'_>) -> Result<String, Allo
 }
 
 /// The same of the resolver to which the steps of a row lead from the base in the column before them.
-pub fn scoped(alloc: Global, registry: &Registry<'_>, row: &Value) -> Result<String, Fault> {
+fn scoped(alloc: Global, registry: &Registry<'_>, row: &Value) -> Result<String, Fault> {
     let base = row::uri(alloc, row, 4)?;
     let steps = steps_of(alloc, row::list(row, 5)?)?;
     match follow(alloc, registry, base, steps.as_slice()) {
         Ok(followed) => made(base_and_scope(alloc, &followed.resolver)),
         Err(_) => Err(Fault::Form("a step leads nowhere")),
+    }
+}
+
+/// What is found of a registry by a row of a table on look-ups.
+pub fn found(
+    alloc: Global,
+    registry: &Registry<'_>,
+    table: &str,
+    row: &Value,
+) -> Result<String, Fault> {
+    match table {
+        "answers" => answers(alloc, registry, row),
+        "lookups" => led(alloc, registry, row),
+        "scopes" => scoped(alloc, registry, row),
+        "locations" => stands(alloc, registry, row),
+        _ => Err(Fault::Form("no such table")),
     }
 }

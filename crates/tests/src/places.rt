@@ -69,7 +69,7 @@ fn told(alloc: Global, places: &[Place<'_>]) -> Result<String, AllocError> {
 }
 
 /// The places of a registry.
-pub fn listed(alloc: Global, registry: &Registry<'_>) -> Result<String, Fault> {
+fn listed(alloc: Global, registry: &Registry<'_>) -> Result<String, Fault> {
     let places = done(alloc, registry.places(alloc))?;
     made(told(alloc, places.as_slice()))
 }
@@ -129,7 +129,7 @@ fn shown(alloc: Global, found: Resolved<'_>) -> Result<String, AllocError> {
 }
 
 /// Where a path leads: of a base and the path in a row's columns after those of the registry.
-pub fn located(alloc: Global, registry: &Registry<'_>, row: &Value) -> Result<String, Fault> {
+fn located(alloc: Global, registry: &Registry<'_>, row: &Value) -> Result<String, Fault> {
     let base = row::uri(alloc, row, 4)?;
     let path = path_of(alloc, row::text(row, 5)?)?;
     let found = done(alloc, registry.locate(alloc, &base, path.as_slice()))?;
@@ -137,11 +137,26 @@ pub fn located(alloc: Global, registry: &Registry<'_>, row: &Value) -> Result<St
 }
 
 /// The value at a path, or `none`: of a document's number and the path.
-pub fn value(alloc: Global, registry: &Registry<'_>, row: &Value) -> Result<String, Fault> {
+fn value(alloc: Global, registry: &Registry<'_>, row: &Value) -> Result<String, Fault> {
     let number = row::number(row, 4)?;
     let path = path_of(alloc, row::text(row, 5)?)?;
     match registry.value_at(number, path.as_slice()) {
         Some(value) => made(value.to_string(alloc)),
         None => made(String::from_str(alloc, "none")),
+    }
+}
+
+/// What is found of a registry by a row of a table on places.
+pub fn found(
+    alloc: Global,
+    registry: &Registry<'_>,
+    table: &str,
+    row: &Value,
+) -> Result<String, Fault> {
+    match table {
+        "places" => listed(alloc, registry),
+        "paths" => located(alloc, registry, row),
+        "values" => value(alloc, registry, row),
+        _ => Err(Fault::Form("no such table")),
     }
 }

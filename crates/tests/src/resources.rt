@@ -9,7 +9,7 @@ use serde_json::Value;
 use std::alloc::Global;
 
 /// Which URIs mean places, by a registry and by its copy.
-pub fn known_twice(alloc: Global, registry: &Registry<'_>, row: &Value) -> Result<String, Fault> {
+fn known_twice(alloc: Global, registry: &Registry<'_>, row: &Value) -> Result<String, Fault> {
     let copy = registry.clone()?;
     let first = known(alloc, registry, row, 4)?;
     let again = known(alloc, &copy, row, 4)?;
@@ -82,8 +82,23 @@ fn copied(alloc: Global, resolver: &Resolver<'_>, reference: &str) -> Result<Str
 }
 
 /// Of the resolver at a base, and of a reference.
-pub fn copies(alloc: Global, registry: &Registry<'_>, row: &Value) -> Result<String, Fault> {
+fn copies(alloc: Global, registry: &Registry<'_>, row: &Value) -> Result<String, Fault> {
     let (base, reference) = (row::text(row, 4)?, row::text(row, 5)?);
     let resolver = resolver(alloc, registry, base)?;
     copied(alloc, &resolver, reference)
+}
+
+/// What is found of a registry by a row of a table on resources and texts.
+pub fn found(
+    alloc: Global,
+    registry: &Registry<'_>,
+    table: &str,
+    row: &Value,
+) -> Result<String, Fault> {
+    match table {
+        "resources" | "retrieved drafts" => known_twice(alloc, registry, row),
+        "texts" => resolved(alloc, registry, row),
+        "copies" => copies(alloc, registry, row),
+        _ => Err(Fault::Form("no such table")),
+    }
 }

@@ -47,7 +47,7 @@ fn outcome(
 }
 
 /// How often a retriever is asked, and what comes of it: of a row of documents, what can be retrieved, how many of it may be, and URIs.
-pub fn calls(alloc: Global, row: &Value) -> Result<String, Fault> {
+fn calls(alloc: Global, row: &Value) -> Result<String, Fault> {
     let limit = row::number(row, 3)?;
     let documents = row::documents(alloc, row, 1)?;
     let retriever = Counting {
@@ -79,7 +79,7 @@ impl Retrieve for Exhausted {
 }
 
 /// Whether preparing a row's documents ends out of memory.
-pub fn is_exhausted(alloc: Global, row: &Value) -> Result<String, Fault> {
+fn is_exhausted(alloc: Global, row: &Value) -> Result<String, Fault> {
     let documents = row::documents(alloc, row, 1)?;
     let registry = prepared(Registry::new(alloc).retriever(Exhausted), documents);
     let is_exhausted = matches!(registry, Err(Error::Memory(_)));
@@ -115,7 +115,7 @@ fn told(alloc: Global, prepared: &Result<Registry<'_>, Error>) -> Result<String,
 
 /// Of a row of documents and a reason: the fault with which preparing them ends, where each retrieval is refused for that reason, and its debug
 /// text in the next line.
-pub fn refused(alloc: Global, row: &Value) -> Result<String, Fault> {
+fn refused(alloc: Global, row: &Value) -> Result<String, Fault> {
     let documents = row::documents(alloc, row, 1)?;
     let reason = row::text(row, 2)?;
     let builder = Registry::new(alloc).retriever(Refusing { reason });
@@ -157,7 +157,7 @@ fn number_in(bytes: &[u8]) -> usize {
 
 /// Of a row of documents and a limit, `null` where none is set: the fault with which preparing them ends, where each document that is
 /// retrieved wants another.
-pub fn endless(alloc: Global, row: &Value) -> Result<String, Fault> {
+fn endless(alloc: Global, row: &Value) -> Result<String, Fault> {
     let documents = row::documents(alloc, row, 1)?;
     let mut builder = Registry::new(alloc).retriever(Chain);
     if let Ok(limit) = row::number(row, 2) {
@@ -186,7 +186,7 @@ impl Retrieve for Always {
 }
 
 /// Of a row of documents, a base and a reference: the fault of the look-up, where every document that is wanted is `true`.
-pub fn any(alloc: Global, row: &Value) -> Result<String, Fault> {
+fn any(alloc: Global, row: &Value) -> Result<String, Fault> {
     let documents = row::documents(alloc, row, 1)?;
     let registry = done(
         alloc,
@@ -196,5 +196,17 @@ pub fn any(alloc: Global, row: &Value) -> Result<String, Fault> {
     match resolver.lookup(alloc, row::text(row, 3)?) {
         Ok(_) => Err(Fault::Form("nothing is refused")),
         Err(error) => made(format!(in alloc; "{error}")),
+    }
+}
+
+/// What is found of a row of a table on retrieval.
+pub fn found(alloc: Global, table: &str, row: &Value) -> Result<String, Fault> {
+    match table {
+        "calls of a retriever" => calls(alloc, row),
+        "retrievers without memory" => is_exhausted(alloc, row),
+        "refusing retrievers" => refused(alloc, row),
+        "endless retrieval" => endless(alloc, row),
+        "any document" => any(alloc, row),
+        _ => Err(Fault::Form("no such table")),
     }
 }

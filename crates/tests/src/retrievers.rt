@@ -16,7 +16,7 @@ fn retrieved<R: Retrieve + Drop>(alloc: Global, retriever: R, uri: &str) -> Resu
 }
 
 /// Of a row of a URI: whether the default retriever is equal to its copy, its debug text, and what it returns.
-pub fn by_default(alloc: Global, row: &Value) -> Result<String, Fault> {
+fn by_default(alloc: Global, row: &Value) -> Result<String, Fault> {
     let retriever = DefaultRetriever;
     let same = retriever;
     let answer = retrieved(alloc, &retriever, row::text(row, 1)?)?;
@@ -40,9 +40,18 @@ fn each_retrieved(
 
 /// Of a row of documents, URIs and one more: what a retriever of the documents answers for each, for the last of them itself and else
 /// behind a reference.
-pub fn of_documents(alloc: Global, row: &Value) -> Result<String, Fault> {
+fn of_documents(alloc: Global, row: &Value) -> Result<String, Fault> {
     let retriever = row::retriever(alloc, row, 1)?;
     let answers = each_retrieved(alloc, &retriever, row::list(row, 2)?)?;
     let last = retrieved(alloc, retriever, row::text(row, 3)?)?;
     made(format!(in alloc; "{answers}{last}"))
+}
+
+/// What is found of a row of a table on retrievers.
+pub fn found(alloc: Global, table: &str, row: &Value) -> Result<String, Fault> {
+    match table {
+        "default retriever" => by_default(alloc, row),
+        "retrievers" => of_documents(alloc, row),
+        _ => Err(Fault::Form("no such table")),
+    }
 }

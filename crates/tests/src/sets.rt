@@ -33,7 +33,7 @@ fn vocabulary(alloc: Global, row: &Value, number: usize) -> Result<Vocabulary, F
 }
 
 /// Of a row of texts: the set of the vocabularies that they name.
-pub fn of_texts(alloc: Global, row: &Value) -> Result<String, Fault> {
+fn of_texts(alloc: Global, row: &Value) -> Result<String, Fault> {
     let set = set_of(alloc, VocabularySet::new(), row, 1)?;
     made(format!(in alloc; "{set:?}"))
 }
@@ -50,14 +50,14 @@ fn of_bits_and_texts(alloc: Global, row: &Value) -> Result<VocabularySet, Fault>
 }
 
 /// Of a row of bits and texts: the set of them.
-pub fn of_bits(alloc: Global, row: &Value) -> Result<String, Fault> {
+fn of_bits(alloc: Global, row: &Value) -> Result<String, Fault> {
     let set = of_bits_and_texts(alloc, row)?;
     made(format!(in alloc; "{set:?}"))
 }
 
 /// Of a row of a bit, a text and other bits: whether the set of the bit has the vocabulary of the text, whether that of the others has it, and
 /// whether it is equal to its copy.
-pub fn of_a_bit(alloc: Global, row: &Value) -> Result<String, Fault> {
+fn of_a_bit(alloc: Global, row: &Value) -> Result<String, Fault> {
     let (bit, others) = (bits_of(row, 1)?, bits_of(row, 3)?);
     let vocabulary = vocabulary(alloc, row, 2)?;
     let is_in = VocabularySet::from_known(bit).contains(&vocabulary);
@@ -67,7 +67,7 @@ pub fn of_a_bit(alloc: Global, row: &Value) -> Result<String, Fault> {
 }
 
 /// Of a row of texts: the URIs of the custom vocabularies in the set of them, a line for each, and a copy of the set.
-pub fn custom(alloc: Global, row: &Value) -> Result<String, Fault> {
+fn custom(alloc: Global, row: &Value) -> Result<String, Fault> {
     let set = set_of(alloc, VocabularySet::new(), row, 1)?;
     let mut uris = String::new(alloc);
     for uri in set.custom() {
@@ -79,14 +79,14 @@ pub fn custom(alloc: Global, row: &Value) -> Result<String, Fault> {
 }
 
 /// Of a row of two lists of texts: whether the sets of them are equal. One begins as the default set, and one as a new one.
-pub fn are_equal(alloc: Global, row: &Value) -> Result<String, Fault> {
+fn are_equal(alloc: Global, row: &Value) -> Result<String, Fault> {
     let set = set_of(alloc, VocabularySet::default(), row, 1)?;
     let other = set_of(alloc, VocabularySet::new(), row, 2)?;
     made(format!(in alloc; "{}", set == other))
 }
 
 /// Of a row of bits, texts and one more: whether the set of them has the vocabulary of that.
-pub fn contains(alloc: Global, row: &Value) -> Result<String, Fault> {
+fn contains(alloc: Global, row: &Value) -> Result<String, Fault> {
     let set = of_bits_and_texts(alloc, row)?;
     let vocabulary = vocabulary(alloc, row, 3)?;
     made(format!(in alloc; "{}", set.contains(&vocabulary)))
@@ -112,7 +112,21 @@ fn grown_by_each(alloc: Global, set: &mut VocabularySet, texts: &[Value]) -> Res
 }
 
 /// Of a row of texts, and of others that are added to their set in turn.
-pub fn grown(alloc: Global, row: &Value) -> Result<String, Fault> {
+fn grown(alloc: Global, row: &Value) -> Result<String, Fault> {
     let mut set = set_of(alloc, VocabularySet::new(), row, 1)?;
     grown_by_each(alloc, &mut set, row::list(row, 2)?)
+}
+
+/// What is found of a row of a table on sets of vocabularies.
+pub fn found(alloc: Global, table: &str, row: &Value) -> Result<String, Fault> {
+    match table {
+        "vocabulary sets" => of_texts(alloc, row),
+        "sets of bits" => of_bits(alloc, row),
+        "single bits" => of_a_bit(alloc, row),
+        "custom vocabularies" => custom(alloc, row),
+        "equal sets" => are_equal(alloc, row),
+        "contained vocabularies" => contains(alloc, row),
+        "grown sets" => grown(alloc, row),
+        _ => Err(Fault::Form("no such table")),
+    }
 }

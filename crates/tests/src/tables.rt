@@ -1,4 +1,4 @@
-//! What is found of a row, by its table.
+//! The tables of rows, each with the module that asks its rows.
 use crate::fault::Fault;
 use crate::{
     builders, families, faults, inputs, lookups, places, registries, reports, resources, retrieval,
@@ -8,121 +8,153 @@ use referencing::Registry;
 use serde_json::Value;
 use std::alloc::Global;
 
+/// What asks the rows of a table.
+#[derive(Clone, Copy, Drop)]
+enum Group {
+    /// `families`, of registries that a `given` row describes.
+    GivenFamilies,
+    /// `families`, of registries that the row describes.
+    Families,
+    Faults,
+    Retrievers,
+    Vocabularies,
+    Sets,
+    Inputs,
+    Builders,
+    Retrieval,
+    MetaSchemas,
+    TextsByResolvers,
+    PathsOfPlaces,
+    Uses,
+    /// `places`, of the registry that the row's first columns describe: a draft, documents, and what can be retrieved, or `null` where no
+    /// retriever is given.
+    Places,
+    /// `resources`, of such a registry.
+    Resources,
+    /// `lookups`, of such a registry.
+    Lookups,
+}
+
+/// Each table, by its name.
+const TABLES: [(&str, Group); 58] = [
+    ("vocabularies", Group::GivenFamilies),
+    ("vocabularies by the parent", Group::GivenFamilies),
+    ("vocabularies at bases", Group::GivenFamilies),
+    ("children", Group::Families),
+    ("generations", Group::Families),
+    ("lookups by generations", Group::Families),
+    ("shown registries", Group::Families),
+    ("texts by children", Group::Families),
+    ("locations by children", Group::Families),
+    ("faults", Group::Faults),
+    ("reasons", Group::Faults),
+    ("refusals", Group::Faults),
+    ("default retriever", Group::Retrievers),
+    ("retrievers", Group::Retrievers),
+    ("vocabulary names", Group::Vocabularies),
+    ("declared vocabularies", Group::Vocabularies),
+    ("dialects", Group::Vocabularies),
+    ("default vocabularies", Group::Vocabularies),
+    ("declared or default vocabularies", Group::Vocabularies),
+    ("vocabularies passed on", Group::Vocabularies),
+    ("URIs of drafts", Group::Vocabularies),
+    ("vocabulary sets", Group::Sets),
+    ("sets of bits", Group::Sets),
+    ("single bits", Group::Sets),
+    ("custom vocabularies", Group::Sets),
+    ("equal sets", Group::Sets),
+    ("contained vocabularies", Group::Sets),
+    ("grown sets", Group::Sets),
+    ("builders", Group::Inputs),
+    ("kinds", Group::Inputs),
+    ("kinds with titles", Group::Inputs),
+    ("made builders", Group::Builders),
+    ("calls of a retriever", Group::Retrieval),
+    ("retrievers without memory", Group::Retrieval),
+    ("refusing retrievers", Group::Retrieval),
+    ("endless retrieval", Group::Retrieval),
+    ("any document", Group::Retrieval),
+    ("meta-schemas", Group::MetaSchemas),
+    ("texts by resolvers", Group::TextsByResolvers),
+    ("paths of places", Group::PathsOfPlaces),
+    ("validator", Group::Uses),
+    ("bundler", Group::Uses),
+    ("openapi", Group::Uses),
+    ("dialect", Group::Uses),
+    ("editor", Group::Uses),
+    ("bookmarks", Group::Uses),
+    ("shown faults", Group::Uses),
+    ("places", Group::Places),
+    ("paths", Group::Places),
+    ("values", Group::Places),
+    ("resources", Group::Resources),
+    ("retrieved drafts", Group::Resources),
+    ("texts", Group::Resources),
+    ("copies", Group::Resources),
+    ("answers", Group::Lookups),
+    ("lookups", Group::Lookups),
+    ("scopes", Group::Lookups),
+    ("locations", Group::Lookups),
+];
+
+/// What asks the rows of the table with a name.
+fn group_of(name: &str) -> Option<Group> {
+    for (table, group) in &TABLES {
+        if *table == name {
+            return Some(*group);
+        }
+    }
+    None
+}
+
 /// What is found of a row.
 pub fn found(alloc: Global, given: &Value, table: &str, row: &Value) -> Result<String, Fault> {
-    match given.as_str() {
-        Some(request) => reports::of_request(alloc, request, table, row),
-        None => of_families(alloc, given, table, row),
+    if let Some(request) = given.as_str() {
+        return reports::of_request(alloc, request, table, row);
+    }
+    match group_of(table) {
+        Some(Group::GivenFamilies) => families::of_documents(alloc, given, table, row),
+        Some(group) => of_row(alloc, group, table, row),
+        None => Err(Fault::Form("no such table")),
     }
 }
 
-/// Of the tables on registries with parents.
-fn of_families(alloc: Global, given: &Value, table: &str, row: &Value) -> Result<String, Fault> {
-    match table {
-        "vocabularies" | "vocabularies by the parent" | "vocabularies at bases" => {
-            families::of_documents(alloc, given, table, row)
-        }
-        "children"
-        | "generations"
-        | "lookups by generations"
-        | "shown registries"
-        | "texts by children"
-        | "locations by children" => families::of_documents(alloc, row, table, row),
-        _ => of_faults(alloc, table, row),
+/// Of a row that describes all that is asked.
+fn of_row(alloc: Global, group: Group, table: &str, row: &Value) -> Result<String, Fault> {
+    match group {
+        Group::GivenFamilies | Group::Families => families::of_documents(alloc, row, table, row),
+        Group::Faults => faults::found(alloc, table, row),
+        Group::Retrievers => retrievers::found(alloc, table, row),
+        Group::Vocabularies => vocabularies::found(alloc, table, row),
+        Group::Sets => sets::found(alloc, table, row),
+        Group::Inputs => inputs::found(alloc, table, row),
+        Group::Builders => builders::of_name(alloc, row),
+        Group::Retrieval => retrieval::found(alloc, table, row),
+        Group::MetaSchemas => registries::of_meta_schemas(alloc, row),
+        Group::TextsByResolvers => resources::resolved_by_resolvers(alloc, row),
+        Group::PathsOfPlaces => places::agreeing(alloc, row),
+        Group::Uses => used::found(alloc, table, row),
+        Group::Places | Group::Resources | Group::Lookups => of_registry(alloc, group, table, row),
     }
 }
 
-/// Of the tables on faults and retrievers.
-fn of_faults(alloc: Global, table: &str, row: &Value) -> Result<String, Fault> {
-    match table {
-        "faults" => faults::shown(alloc, row),
-        "reasons" => faults::reason(alloc, row),
-        "refusals" => faults::refusal(alloc, row),
-        "default retriever" => retrievers::by_default(alloc, row),
-        "retrievers" => retrievers::of_documents(alloc, row),
-        _ => of_vocabularies(alloc, table, row),
-    }
-}
-
-/// Of the tables on vocabularies.
-fn of_vocabularies(alloc: Global, table: &str, row: &Value) -> Result<String, Fault> {
-    match table {
-        "vocabulary names" => vocabularies::named(alloc, row),
-        "declared vocabularies" => vocabularies::declared(alloc, row),
-        "dialects" => vocabularies::dialect(alloc, row),
-        "default vocabularies" => vocabularies::default_of(alloc, row),
-        "declared or default vocabularies" => vocabularies::declared_or_default_of(alloc, row),
-        "vocabularies passed on" => vocabularies::passed_on(alloc, row),
-        "URIs of drafts" => vocabularies::uris_of_drafts(alloc, row),
-        _ => of_sets(alloc, table, row),
-    }
-}
-
-/// Of the tables on sets of vocabularies.
-fn of_sets(alloc: Global, table: &str, row: &Value) -> Result<String, Fault> {
-    match table {
-        "vocabulary sets" => sets::of_texts(alloc, row),
-        "sets of bits" => sets::of_bits(alloc, row),
-        "single bits" => sets::of_a_bit(alloc, row),
-        "custom vocabularies" => sets::custom(alloc, row),
-        "equal sets" => sets::are_equal(alloc, row),
-        "contained vocabularies" => sets::contains(alloc, row),
-        "grown sets" => sets::grown(alloc, row),
-        _ => of_builders(alloc, table, row),
-    }
-}
-
-/// Of the tables on builders, and on what is retrieved for their documents.
-fn of_builders(alloc: Global, table: &str, row: &Value) -> Result<String, Fault> {
-    match table {
-        "builders" => inputs::added(alloc, row),
-        "made builders" => builders::of_name(alloc, row),
-        "kinds" | "kinds with titles" => inputs::of_kinds(alloc, row),
-        "calls of a retriever" => retrieval::calls(alloc, row),
-        "retrievers without memory" => retrieval::is_exhausted(alloc, row),
-        "refusing retrievers" => retrieval::refused(alloc, row),
-        "endless retrieval" => retrieval::endless(alloc, row),
-        "any document" => retrieval::any(alloc, row),
-        "meta-schemas" => registries::of_meta_schemas(alloc, row),
-        _ => of_texts(alloc, table, row),
-    }
-}
-
-/// Of the tables on texts that are resolved by themselves, on places of a document that is lent, on uses, or on registries.
-fn of_texts(alloc: Global, table: &str, row: &Value) -> Result<String, Fault> {
-    match table {
-        "texts by resolvers" => resources::resolved_by_resolvers(alloc, row),
-        "paths of places" => places::agreeing(alloc, row),
-        "validator" | "bundler" | "openapi" | "dialect" | "editor" | "bookmarks" | "shown faults" =>
-            { used::found(alloc, table, row) }
-        _ => of_registries(alloc, table, row),
-    }
-}
-
-/// Of the tables whose rows begin with a draft, documents, and what can be retrieved, or `null` where no retriever is given.
-fn of_registries(alloc: Global, table: &str, row: &Value) -> Result<String, Fault> {
+/// Of a row whose first columns describe a registry.
+fn of_registry(alloc: Global, group: Group, table: &str, row: &Value) -> Result<String, Fault> {
     let registry = registries::registry(alloc, row)?;
-    of_registry(alloc, &registry, table, row)
+    asked(alloc, &registry, group, table, row)
 }
 
-/// What is asked of their registry.
-fn of_registry(
+/// What is asked of that registry.
+fn asked(
     alloc: Global,
     registry: &Registry<'_>,
+    group: Group,
     table: &str,
     row: &Value,
 ) -> Result<String, Fault> {
-    match table {
-        "places" => places::listed(alloc, registry),
-        "paths" => places::located(alloc, registry, row),
-        "values" => places::value(alloc, registry, row),
-        "resources" | "retrieved drafts" => resources::known_twice(alloc, registry, row),
-        "texts" => resources::resolved(alloc, registry, row),
-        "copies" => resources::copies(alloc, registry, row),
-        "answers" => lookups::answers(alloc, registry, row),
-        "lookups" => lookups::led(alloc, registry, row),
-        "scopes" => lookups::scoped(alloc, registry, row),
-        "locations" => lookups::stands(alloc, registry, row),
-        _ => Err(Fault::Form("no such table")),
+    match group {
+        Group::Places => places::found(alloc, registry, table, row),
+        Group::Resources => resources::found(alloc, registry, table, row),
+        _ => lookups::found(alloc, registry, table, row),
     }
 }

@@ -16,23 +16,23 @@ fn vocabulary_of(alloc: Global, text: &str) -> Result<String, Fault> {
 }
 
 /// Of a row of a text: the vocabulary that it names.
-pub fn named(alloc: Global, row: &Value) -> Result<String, Fault> {
+fn named(alloc: Global, row: &Value) -> Result<String, Fault> {
     vocabulary_of(alloc, row::text(row, 1)?)
 }
 
 /// What a meta-schema declares.
-fn found(alloc: Global, meta_schema: &Value) -> Result<String, Fault> {
+fn declared_by(alloc: Global, meta_schema: &Value) -> Result<String, Fault> {
     let found = done(alloc, find(alloc, meta_schema))?;
     made(format!(in alloc; "{found:?}"))
 }
 
 /// Of a row of a meta-schema: what it declares.
-pub fn declared(alloc: Global, row: &Value) -> Result<String, Fault> {
-    found(alloc, row::column(row, 1)?)
+fn declared(alloc: Global, row: &Value) -> Result<String, Fault> {
+    declared_by(alloc, row::column(row, 1)?)
 }
 
 /// Of a row of a draft and a schema: where the schema's vocabularies are given, their set or the URI of the meta-schema.
-pub fn dialect(alloc: Global, row: &Value) -> Result<String, Fault> {
+fn dialect(alloc: Global, row: &Value) -> Result<String, Fault> {
     match Dialect::of(alloc, row::named_draft(row, 1)?, row::column(row, 2)?)? {
         Dialect::Known(set) => made(format!(in alloc; "{set:?}")),
         Dialect::MetaSchema(uri) => made(format!(in alloc; "{uri}")),
@@ -40,13 +40,13 @@ pub fn dialect(alloc: Global, row: &Value) -> Result<String, Fault> {
 }
 
 /// Of a row of a draft: the vocabularies that its schemas have where none are given.
-pub fn default_of(alloc: Global, row: &Value) -> Result<String, Fault> {
+fn default_of(alloc: Global, row: &Value) -> Result<String, Fault> {
     let set = default_vocabularies(row::named_draft(row, 1)?);
     made(format!(in alloc; "{set:?}"))
 }
 
 /// Of a row of a list of a document or of none: what it declares, or the default set.
-pub fn declared_or_default_of(alloc: Global, row: &Value) -> Result<String, Fault> {
+fn declared_or_default_of(alloc: Global, row: &Value) -> Result<String, Fault> {
     let set = declared_or_default(alloc, row::list(row, 1)?.first())?;
     made(format!(in alloc; "{set:?}"))
 }
@@ -87,14 +87,14 @@ fn passed(alloc: Global, meta_schema: &Value) -> Result<String, Fault> {
 }
 
 /// What a meta-schema declares, and the vocabulary that a text names, under the names of `referencing`.
-pub fn passed_on(alloc: Global, row: &Value) -> Result<String, Fault> {
+fn passed_on(alloc: Global, row: &Value) -> Result<String, Fault> {
     let set = passed(alloc, row::column(row, 1)?)?;
     let vocabulary = vocabulary_of(alloc, row::text(row, 2)?)?;
     made(format!(in alloc; "{set} {vocabulary}"))
 }
 
 /// How many URIs of meta-schemas a draft has, and the first of them; where no draft is named, how many all have.
-pub fn uris_of_drafts(alloc: Global, row: &Value) -> Result<String, Fault> {
+fn uris_of_drafts(alloc: Global, row: &Value) -> Result<String, Fault> {
     let Some(draft) = row::draft(row, 1)? else {
         let count = URIS.len();
         return made(format!(in alloc; "{count}"));
@@ -102,4 +102,18 @@ pub fn uris_of_drafts(alloc: Global, row: &Value) -> Result<String, Fault> {
     let uris = uris_for_draft(draft);
     let (count, first) = (uris.len(), uris.first().copied().unwrap_or("none"));
     made(format!(in alloc; "{count} {first}"))
+}
+
+/// What is found of a row of a table on vocabularies.
+pub fn found(alloc: Global, table: &str, row: &Value) -> Result<String, Fault> {
+    match table {
+        "vocabulary names" => named(alloc, row),
+        "declared vocabularies" => declared(alloc, row),
+        "dialects" => dialect(alloc, row),
+        "default vocabularies" => default_of(alloc, row),
+        "declared or default vocabularies" => declared_or_default_of(alloc, row),
+        "vocabularies passed on" => passed_on(alloc, row),
+        "URIs of drafts" => uris_of_drafts(alloc, row),
+        _ => Err(Fault::Form("no such table")),
+    }
 }
