@@ -2,8 +2,7 @@
 ghost use Rattle.std.specs.Prelude.{◌≡◌, ℕ, drop, slice_get, Some, Ok};
 ghost use Rattle.serde_json.specs.View.{view};
 ghost use Rattle.ref_draft.specs.Children.{InKeyOrder};
-ghost use Rattle.ref_definitions.specs.World.{Document};
-ghost use Rattle.ref_resolver.specs.Layered.{own_layer};
+ghost use Rattle.ref_definitions.specs.World.{Document, own_layer};
 ghost use Rattle.ref_bundle.specs.Bundle.{Bundle, bundle_at};
 ghost use Rattle.ref_bundle.specs.Kept.{IsBundle};
 

@@ -2,13 +2,12 @@
 ghost use Rattle.std.specs.Prelude.{◌≡◌, [], ◌∷◌, ◌++◌, map, option_map, slice_get, IfOk, OnOk, MatchOption, Some};
 ghost use Rattle.std.specs.List.{AllByRecursion, Contains};
 ghost use Rattle.std.specs.Option.{option_to_list};
-ghost use Rattle.ref_definitions.specs.World.{Document as WorldDocument};
+ghost use Rattle.ref_definitions.specs.World.{Document as WorldDocument, own_layer};
 ghost use Rattle.ref_index.specs.Document.{document_of};
 ghost use Rattle.ref_definitions.specs.Places.{Place as WorldPlace, places};
 ghost use Rattle.ref_definitions.specs.Listing.{own_places};
 ghost use Rattle.ref_parts.specs.Path.{value_at};
 ghost use Rattle.ref_index.specs.Listing.{listed_of};
-ghost use Rattle.ref_resolver.specs.Layered.{own_layer};
 ghost use Rattle.ref_bundle.specs.Needed.{counted_documents};
 ghost use Rattle.ref_bundle.specs.declared.own.Own.{Own};
 ghost use Rattle.ref_bundle.specs.inner.Seen.{seen_spot, seen_in, see_listed, put_last, put_place, gathered_places, numbered_document, HasPlaces};

@@ -9,9 +9,8 @@ use Rattle.ref_definitions.specs.Lookup.{lookup}
 use Rattle.ref_definitions.specs.Recursive.{lookup_recursive}
 use Rattle.ref_definitions.specs.Follow.{followed_steps}
 use Rattle.ref_definitions.specs.Pending.{with_pending}
-use Rattle.ref_definitions.specs.Vocabularies.{find_in, find_vocabularies}
 
 -- what a proof unfolds to compute this crate's definitions on a literal
 unfoldable pub world_on_literals : ⊤
-unfolding is_utf8 chars encode percent_encoding_on_literals ref_uri_on_literals anchor index_of lookup lookup_recursive followed_steps find_in find_vocabularies with_pending
+unfolding is_utf8 chars encode percent_encoding_on_literals ref_uri_on_literals anchor index_of lookup lookup_recursive followed_steps with_pending
 world_on_literals = tt

@@ -23,6 +23,5 @@ pub mod Recursive
 pub mod Follow
 pub mod Agreement
 pub mod Listing
-pub mod Vocabularies
 pub mod MetaSchemas
 pub mod Rows

@@ -1,5 +1,5 @@
 -- The documents that references are resolved among.
-use Rattle.std.specs.Prelude.{ℕ, List}
+use Rattle.std.specs.Prelude.{ℕ, List, [], ◌∷◌}
 use Rattle.serde_json.specs.Data.{Data}
 use Rattle.ref_draft.specs.declared.draft.Draft.{Draft}
 use Rattle.ref_draft.specs.Schema.{detect}
@@ -21,3 +21,8 @@ World = List Layer
 -- a tree under a URI as a document, where the registry's draft detects that of the root
 abbrev pub document : Draft → List ℕ → Data → Document
 document draft uri tree = record { uri = uri; tree = tree; draft = detect draft tree }
+
+-- the local documents: those of the first layer
+abbrev pub own_layer : World → Layer
+own_layer [] = []
+own_layer (layer ∷ parents) = layer

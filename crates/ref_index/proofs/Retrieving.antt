@@ -9,14 +9,14 @@ use Rattle.ref_uri.specs.declared.error.UriFault.{UriFault}
 use Rattle.ref_uri.specs.declared.error.UriFault.TheVariants.{Invalid, Memory}
 use Rattle.ref_retrieve.specs.declared.error.Error.{Error}
 use Rattle.ref_retrieve.specs.declared.error.Error.TheVariants as error
-use Rattle.ref_retrieve.specs.Errors.{of_uri_fault}
+use Rattle.ref_retrieve.specs.Errors.{of_uri_fault, UnlessMemory}
 use Rattle.ref_definitions.specs.World.{Document, Layer, World}
 use Rattle.ref_definitions.specs.Places.{places}
 use Rattle.ref_definitions.specs.Fault.{InvalidUri, RetrievalLimit}
 use Rattle.ref_definitions.specs.Wants.{Want, wants_at, wants, faults_at, faults, is_open, open_wants}
 use Rattle.ref_definitions.specs.Preparing.{Given, IsRun, begun, retrieved, IsOutcome, faulty, limited, refused, ready, refusal_fault}
 use Rattle.ref_definitions.proofs.Appending.{met_wants_stay}
-use Rattle.ref_index.specs.Retrieval.{UnlessMemory, IsFaultyOutcome, IsAnswerFor}
+use Rattle.ref_index.specs.Retrieval.{IsFaultyOutcome, IsAnswerFor}
 use Rattle.ref_index.specs.Visits.{IsFirstFault}
 use Rattle.ref_index.proofs.Walking.{first_in_front}
 use Rattle.ref_index.proofs.Opening.{first_passes, none_passes}

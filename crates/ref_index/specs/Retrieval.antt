@@ -1,5 +1,5 @@
 -- What preparing answers, by what is given.
-use Rattle.std.specs.Prelude.{◌≡◌, ℕ, List, ⊤, Err}
+use Rattle.std.specs.Prelude.{◌≡◌, ℕ, List, Err}
 use Rattle.serde_json.specs.Data.{Data}
 use Rattle.ref_draft.specs.declared.draft.Draft.{Draft}
 use Rattle.ref_definitions.specs.World as world
@@ -8,8 +8,7 @@ use Rattle.ref_definitions.specs.Fault.{Fault}
 use Rattle.ref_definitions.specs.Wants.{Want}
 use Rattle.ref_definitions.specs.Preparing.{Given, IsOutcome, refusal_fault}
 use Rattle.ref_retrieve.specs.declared.error.Error.{Error}
-use Rattle.ref_retrieve.specs.declared.error.Error.TheVariants as error
-use Rattle.ref_retrieve.specs.Errors.{SaysFault}
+use Rattle.ref_retrieve.specs.Errors.{SaysFault, UnlessMemory}
 
 -- what is given: what the retriever may return and refuse, the limit, the draft, the parents and the documents
 abbrev pub given_with : (List ℕ → Data → Type 0) → (List ℕ → List ℕ → Type 0) → ℕ → Draft → World → Layer → Given
@@ -21,18 +20,9 @@ given_with may_answer may_refuse limit draft parents documents = record {
   documents = documents;
 }
 
--- what holds of an error that is no out of memory
-abbrev pub UnlessMemory : Type 0 → Error → Type 0
-UnlessMemory P (error.Memory memory) = ⊤
-UnlessMemory P other = P
-
 -- the error says a fault that is an outcome; out of memory says none, and may come at any time
 abbrev pub IsFaultyOutcome : Given → Error → Type 0
 IsFaultyOutcome given_with error = UnlessMemory ((fault : Fault) × IsOutcome given_with (Err fault) × SaysFault error fault) error
-
--- the error says the fault, or is out of memory
-abbrev pub SaysOrMemory : Fault → Error → Type 0
-SaysOrMemory fault error = UnlessMemory (SaysFault error fault) error
 
 -- a document that was retrieved for a URI: a tree that may be answered for it, under it
 abbrev pub IsAnswerFor : (List ℕ → Data → Type 0) → Draft → List ℕ → Document → Type 0

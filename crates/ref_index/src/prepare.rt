@@ -3,11 +3,11 @@ ghost use Rattle.std.specs.Prelude.{◌≡◌, map, IfOk, IfErr, Ok};
 ghost use Rattle.ref_definitions.specs.Fault.{RetrievalLimit};
 ghost use Rattle.ref_definitions.specs.Wants.{faults};
 ghost use Rattle.ref_definitions.specs.Preparing.{IsOutcome, refusal_fault};
-ghost use Rattle.ref_retrieve.specs.Errors.{reason_text, IsForReason};
+ghost use Rattle.ref_retrieve.specs.Errors.{reason_text, IsForReason, SaysOrMemory};
 ghost use Rattle.ref_index.specs.Document.{document_of};
 ghost use Rattle.ref_index.specs.Found.{cause_of, want_of};
 ghost use Rattle.ref_index.specs.Visits.{IsFirstFault};
-ghost use Rattle.ref_index.specs.Retrieval.{given_with, IsFaultyOutcome, SaysOrMemory, IsAnswerFor, IsRefusalOf};
+ghost use Rattle.ref_index.specs.Retrieval.{given_with, IsFaultyOutcome, IsAnswerFor, IsRefusalOf};
 
 use crate::document::{Contents, Document};
 use crate::found::{Cause, Want};

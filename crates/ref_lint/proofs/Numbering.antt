@@ -7,12 +7,11 @@ use Rattle.std.proofs.lemmas.Slice.Zip.{all_zipped_more}
 use Rattle.std.proofs.lemmas.List.Concat.{flat_map-append}
 use Rattle.ref_parts.specs.Path.{value_at}
 use Rattle.ref_draft.specs.Schema.{text_under}
-use Rattle.ref_definitions.specs.World.{Document, Layer, World}
+use Rattle.ref_definitions.specs.World.{Document, Layer, World, own_layer}
 use Rattle.ref_definitions.specs.Places.{Place, places}
 use Rattle.ref_definitions.specs.Listing.{listed_place, listed_from, own_places}
 use Rattle.ref_index.specs.declared.places.Place.{Place as Listing}
 use Rattle.ref_index.specs.Listing.{listed_of}
-use Rattle.ref_resolver.specs.Layered.{own_layer}
 use Rattle.ref_lint.specs.declared.entry.Dangling.{Dangling}
 use Rattle.ref_lint.specs.Dangling.{dangling_from, dangling_at, numbered_from, dangling}
 use Rattle.ref_lint.specs.Entries.{IsEntryOf}

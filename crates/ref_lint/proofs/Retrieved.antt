@@ -5,11 +5,10 @@ use Rattle.std.proofs.lemmas.List.Elements.{All-from_recursion, Contains-append_
 use Rattle.ref_parts.specs.Path.{Part}
 use Rattle.ref_draft.specs.Schema.{text_under}
 use Rattle.ref_uri.specs.Targets.{Refusal}
-use Rattle.ref_definitions.specs.World.{Document, Layer, World}
+use Rattle.ref_definitions.specs.World.{Document, Layer, World, own_layer}
 use Rattle.ref_definitions.specs.Places.{Place, places}
 use Rattle.ref_definitions.specs.Fault.{Fault, Unretrievable}
 use Rattle.ref_definitions.specs.Lookup.{Resolver, Found, lookup}
-use Rattle.ref_resolver.specs.Layered.{own_layer}
 use Rattle.ref_lint.specs.declared.entry.Dangling.{Dangling}
 use Rattle.ref_lint.specs.Dangling.{DanglingReference, where_fault, dangling_from, dangling_at, numbered_from, dangling}
 use Rattle.ref_lint.specs.Entries.{IsEntryOf, IsUnretrievable}

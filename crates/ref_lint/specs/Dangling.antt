@@ -3,11 +3,10 @@ use Rattle.std.specs.Prelude.{ℕ, suc, List, [], ◌∷◌, ◌++◌, map, flat
 use Rattle.ref_parts.specs.Path.{Part}
 use Rattle.ref_draft.specs.Schema.{text_under}
 use Rattle.ref_uri.specs.Targets.{Refusal}
-use Rattle.ref_definitions.specs.World.{Layer, World}
+use Rattle.ref_definitions.specs.World.{Layer, World, own_layer}
 use Rattle.ref_definitions.specs.Places.{Place, places}
 use Rattle.ref_definitions.specs.Fault.{Fault}
 use Rattle.ref_definitions.specs.Lookup.{Found, lookup}
-use Rattle.ref_resolver.specs.Layered.{own_layer}
 
 -- an unresolvable reference: the number of its document, the path of its place there, its text, and the fault
 pub record DanglingReference : Type 0 where

@@ -9,8 +9,8 @@ use Rattle.ref_definitions.specs.Pending.{Pending}
 use Rattle.ref_definitions.specs.Follow.{Followed}
 use Rattle.ref_retrieve.specs.declared.error.Error.{Error}
 use Rattle.ref_retrieve.specs.declared.error.Error.TheVariants as error
-use Rattle.ref_retrieve.specs.Errors.{SaysFault, IsFaultOf}
-use Rattle.ref_index.specs.Retrieval.{UnlessMemory, IsFaultyOutcome}
+use Rattle.ref_retrieve.specs.Errors.{SaysFault, IsFaultOf, UnlessMemory}
+use Rattle.ref_index.specs.Retrieval.{IsFaultyOutcome}
 use Rattle.ref_index.proofs.Retrieving.{unless_memory}
 use Rattle.referencing.specs.Prepared.{IsPreparedOf}
 use Rattle.referencing.specs.Following.{SaysStepFault}

@@ -2,7 +2,7 @@
 ghost use Rattle.std.specs.Prelude.{◌≡◌, IfOk, option_map};
 ghost use Rattle.serde_json.specs.View.{view};
 ghost use Rattle.ref_definitions.specs.Resources.{meant_place};
-ghost use Rattle.ref_definitions.specs.Vocabularies.{find_vocabularies, find_vocabularies_at};
+ghost use Rattle.ref_vocabularies.specs.Vocabularies.{find_vocabularies, find_vocabularies_at};
 ghost use Rattle.ref_resolver.specs.Layered.{world_in};
 ghost use Rattle.ref_resolver.specs.Resolving.{resolver_of, world_of};
 

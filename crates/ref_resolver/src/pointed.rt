@@ -9,8 +9,7 @@ ghost use Rattle.ref_draft.specs.ScanSteps.{scan};
 ghost use Rattle.ref_definitions.specs.Places.{base_within};
 ghost use Rattle.ref_definitions.specs.Pointers as world;
 ghost use Rattle.ref_definitions.specs.Fault.{PointerToNowhere, InvalidArrayIndex, InvalidPercentEncoding, as_invalid_uri};
-ghost use Rattle.ref_retrieve.specs.Errors.{IsFaultOf};
-ghost use Rattle.ref_index.specs.Retrieval.{SaysOrMemory};
+ghost use Rattle.ref_retrieve.specs.Errors.{IsFaultOf, SaysOrMemory};
 ghost use Rattle.ref_resolver.specs.Walking.{along_of, stepped_along, leads_to, pointed_to};
 
 use crate::layers::Layers;

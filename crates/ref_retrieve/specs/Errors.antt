@@ -76,3 +76,17 @@ IsFaultOf meaning error = (fault : Fault) × (meaning ≡ Err fault) × SaysFaul
 abbrev pub of_uri_fault : UriFault → Error
 of_uri_fault (uri_fault.Invalid refused) = error.InvalidUri refused
 of_uri_fault (uri_fault.Memory memory) = error.Memory memory
+
+-- an error is out of memory
+abbrev pub IsMemory : Error → Type 0
+IsMemory (error.Memory memory) = ⊤
+IsMemory other = ⊥
+
+-- what holds of an error that is no out of memory
+abbrev pub UnlessMemory : Type 0 → Error → Type 0
+UnlessMemory P (error.Memory memory) = ⊤
+UnlessMemory P other = P
+
+-- the error says the fault, or is out of memory
+abbrev pub SaysOrMemory : Fault → Error → Type 0
+SaysOrMemory fault error = UnlessMemory (SaysFault error fault) error

@@ -20,9 +20,9 @@ use Rattle.ref_definitions.specs.Pending.{Addition, Pending, with_addition, with
 use Rattle.ref_definitions.specs.Retrievers.{map_retriever}
 use Rattle.ref_retrieve.specs.declared.error.Error.{Error}
 use Rattle.ref_retrieve.specs.declared.error.Error.TheVariants as error
-use Rattle.ref_retrieve.specs.Errors.{SaysFault, IsFaultOf}
+use Rattle.ref_retrieve.specs.Errors.{SaysFault, IsFaultOf, UnlessMemory}
 use Rattle.ref_retrieve.specs.Retrieving.{trees_of}
-use Rattle.ref_index.specs.Retrieval.{UnlessMemory, IsFaultyOutcome}
+use Rattle.ref_index.specs.Retrieval.{IsFaultyOutcome}
 use Rattle.ref_index.proofs.Retrieving.{unless_memory}
 use Rattle.ref_calls.specs.inner.Given.{given_of}
 use Rattle.referencing.specs.Builder.{Builder, new_builder, holding_pending, setting_draft, limited_to, retrieving_from, addition, Adds}

@@ -4,13 +4,12 @@ use Rattle.serde_json.specs.Data.{Data}
 use Rattle.serde_json.specs.Find.{get}
 use Rattle.ref_uri.specs.Targets.{Refusal}
 use Rattle.ref_draft.specs.declared.draft.Draft.{Draft}
-use Rattle.ref_definitions.specs.World.{Layer, World}
+use Rattle.ref_definitions.specs.World.{Layer, World, own_layer}
 use Rattle.ref_definitions.specs.Results.{◌>>=◌}
 use Rattle.ref_definitions.specs.Fault.{Fault, InvalidUri}
 use Rattle.ref_definitions.specs.Preparing.{Given, IsOutcome}
 use Rattle.ref_definitions.specs.Pending.{Addition, Pending, with_additions, given_of_builder}
 use Rattle.ref_definitions.specs.Retrievers.{map_retriever}
-use Rattle.ref_resolver.specs.Layered.{own_layer}
 use Rattle.ref_calls.specs.Objects.{object_of, texts, whole}
 use Rattle.ref_calls.specs.Errors.{fault_error}
 use Rattle.ref_calls.specs.Calls.{number_in, draft_of, documents_at, needed_documents, under_uris}

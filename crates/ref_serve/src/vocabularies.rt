@@ -3,7 +3,7 @@ ghost use Rattle.std.specs.Prelude.{◌≡◌, ◌++◌, ◌∷◌, [], map, Ok,
 ghost use Rattle.std.specs.List.{AllZip};
 ghost use Rattle.serde_json.specs.Data.{string};
 ghost use Rattle.serde_json.specs.View.{view};
-ghost use Rattle.ref_definitions.specs.Vocabularies.{Known, Standard, all_known, contains, from_text};
+ghost use Rattle.ref_vocabularies.specs.Vocabularies.{Known, Standard, all_known, contains, from_text};
 ghost use Rattle.ref_calls.specs.Objects.{texts};
 ghost use Rattle.ref_calls.specs.Outcome.{Answers};
 ghost use Rattle.ref_serve.specs.Listings as spec;

@@ -7,7 +7,7 @@ use Rattle.std.proofs.lemmas.Bool.{and_parts, false≢true}
 use Rattle.std.proofs.lemmas.Bool.Decides.{nat_tests}
 use Rattle.std.proofs.lemmas.Nat.Bits.{bit_at_or, bit_at_and, bit_at-pow_same, bit_at-pow_other, and_pow, bit_at-lt, same_from_bits_below}
 use Rattle.std.proofs.lemmas.Map.Views.{any-filter_same}
-use Rattle.ref_definitions.specs.Vocabularies.{Vocabulary, Standard, Custom, Known, Core, Applicator, Unevaluated, Validation, Metadata, Format, FormatAnnotation, Content, FormatAssertion, all_known, bit, known_eq, has_known, VocabularySet, set_eq}
+use Rattle.ref_vocabularies.specs.Vocabularies.{Vocabulary, Standard, Custom, Known, Core, Applicator, Unevaluated, Validation, Metadata, Format, FormatAnnotation, Content, FormatAssertion, all_known, bit, known_eq, has_known, VocabularySet, set_eq}
 use Rattle.ref_vocabularies.specs.inner.Alike.{known_equivalence}
 use Rattle.ref_vocabularies.specs.inner.Kept.{known_of, mask}
 

@@ -7,7 +7,7 @@ use Rattle.ref_draft.specs.Schema.{text_under}
 use Rattle.ref_uri.specs.Targets.{Refusal}
 use Rattle.ref_definitions.specs.Results.{◌>>=◌}
 use Rattle.ref_definitions.specs.Fault.{Fault, InvalidUri, as_invalid_uri}
-use Rattle.ref_definitions.specs.Vocabularies.{VocabularySet, from_text, with_member, collected_set, known_set, set_of_members, find_in}
+use Rattle.ref_vocabularies.specs.Vocabularies.{VocabularySet, from_text, with_member, collected_set, known_set, set_of_members, find_in}
 use Rattle.ref_retrieve.specs.declared.error.Error.{Error}
 use Rattle.ref_retrieve.specs.declared.error.Error.TheVariants as error
 use Rattle.ref_retrieve.specs.Errors.{IsFaultOf}

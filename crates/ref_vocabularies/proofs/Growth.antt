@@ -6,7 +6,7 @@ use Rattle.std.specs.Cmp.{tied_itself}
 use Rattle.std.specs.Cmp.Lexicographic.{pointwise, nat_list_cmp_total}
 use Rattle.std.proofs.lemmas.Bool.{and_parts, false≢true}
 use Rattle.std.proofs.lemmas.Slice.Eq.{bytes_eq-Decides}
-use Rattle.ref_definitions.specs.Vocabularies.{Known, all_known, known_eq, has_known, Vocabulary, Standard, Custom, vocabulary_eq, VocabularySet, set_eq, with_uri, has_uri, contains, with_vocabulary}
+use Rattle.ref_vocabularies.specs.Vocabularies.{Known, all_known, known_eq, has_known, Vocabulary, Standard, Custom, vocabulary_eq, VocabularySet, set_eq, with_uri, has_uri, contains, with_vocabulary}
 use Rattle.ref_vocabularies.proofs.Bits.{known_eq-is, has_known-filter, filter-same, same_lists}
 use Rattle.ref_vocabularies.proofs.Sorted.{order, after, before, same, equal, put-less, put-equal, put-greater}
 

@@ -1,3 +1,4 @@
+pub mod OnLiterals
 mod Bits
 mod Sorted
 mod Variants

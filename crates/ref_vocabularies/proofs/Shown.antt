@@ -9,7 +9,7 @@ use Rattle.std.proofs.lemmas.Grind.{flat_map-append, put_two}
 use Rattle.std.proofs.lemmas.List.{map-append}
 use Rattle.std.proofs.lemmas.List.Elements.{filter_more}
 use Rattle.std.proofs.lemmas.Nat.Bits.{shr_and_one}
-use Rattle.ref_definitions.specs.Vocabularies.{Core, all_known, bit, name, quoted_text}
+use Rattle.ref_vocabularies.specs.Vocabularies.{Core, all_known, bit, name, quoted_text}
 use Rattle.ref_vocabularies.specs.inner.Shown.{item, names_before, opened_text, is_nil}
 
 regroup : (a b c d : List ℕ) → (a ++ (b ++ c)) ++ d ≡ a ++ (b ++ (c ++ d))

@@ -8,7 +8,7 @@ use Rattle.std.specs.declared.cmp.Ordering.{Ordering}
 use Rattle.std.specs.declared.cmp.Ordering.TheVariants.{Less, Equal, Greater}
 use Rattle.std.specs.Cmp.Lexicographic.{slice_cmp, nat_list_cmp_total, texts_ties}
 use Rattle.std.proofs.lemmas.List.Sorted.{searchable_from_sorted}
-use Rattle.ref_definitions.specs.Vocabularies.{with_uri, has_uri}
+use Rattle.ref_vocabularies.specs.Vocabularies.{with_uri, has_uri}
 use Rattle.ref_vocabularies.specs.Views.{AreInByteOrder}
 
 abbrev pub order : List ℕ → List ℕ → Ordering

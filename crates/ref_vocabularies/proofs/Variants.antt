@@ -1,8 +1,8 @@
 -- The variants that are known vocabularies, and the sets that they are added to.
 use Rattle.std.proofs.Common.{◌≡◌, ℕ, not, List, nat_eq, bit_and, sym, refl, ap, ◌∙◌}
 use Rattle.std.specs.Int.RustNames.{bit_or}
-use Rattle.ref_definitions.specs.Vocabularies as known
-use Rattle.ref_definitions.specs.Vocabularies.{Known, Standard, contains, with_vocabulary}
+use Rattle.ref_vocabularies.specs.Vocabularies as known
+use Rattle.ref_vocabularies.specs.Vocabularies.{Known, Standard, contains, with_vocabulary}
 use Rattle.ref_vocabularies.specs.declared.vocabulary.Vocabulary.{Vocabulary}
 use Rattle.ref_vocabularies.specs.declared.vocabulary.Vocabulary.TheVariants.{Core, Applicator, Unevaluated, Validation, Metadata, Format, FormatAnnotation, Content, FormatAssertion, Custom}
 use Rattle.ref_vocabularies.specs.Views.{vocabulary_of}

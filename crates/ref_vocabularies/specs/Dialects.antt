@@ -3,7 +3,7 @@ use Rattle.std.specs.Option.{option_map_or}
 use Rattle.ref_draft.specs.declared.draft.Draft.TheVariants.{Unknown}
 use Rattle.ref_definitions.specs.World.{World}
 use Rattle.ref_definitions.specs.Resources.{meant_place}
-use Rattle.ref_definitions.specs.Vocabularies.{VocabularySet, find_in, set_or_default, default_set}
+use Rattle.ref_vocabularies.specs.Vocabularies.{VocabularySet, find_in, set_or_default, default_set}
 use Rattle.ref_vocabularies.specs.declared.dialect.Dialect.{Dialect}
 use Rattle.ref_vocabularies.specs.declared.dialect.Dialect.TheVariants.{Known, MetaSchema}
 

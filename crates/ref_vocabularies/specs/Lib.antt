@@ -1,3 +1,4 @@
+pub mod Vocabularies
 pub mod Views
 pub mod Dialects
 pub mod inner

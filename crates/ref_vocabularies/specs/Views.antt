@@ -3,7 +3,7 @@ use Rattle.std.specs.Prelude.{ℕ, List}
 use Rattle.std.specs.Ordering.{nat_cmp}
 use Rattle.std.specs.Cmp.Lexicographic.{slice_cmp}
 use Rattle.std.specs.List.Sorted.{IsStrictlySortedBy}
-use Rattle.ref_definitions.specs.Vocabularies as known
+use Rattle.ref_vocabularies.specs.Vocabularies as known
 use Rattle.ref_vocabularies.specs.declared.vocabulary.Vocabulary.{Vocabulary}
 use Rattle.ref_vocabularies.specs.declared.vocabulary.Vocabulary.TheVariants.{Core, Applicator, Unevaluated, Validation, Metadata, Format, FormatAnnotation, Content, FormatAssertion, Custom}
 

@@ -8,7 +8,7 @@ ghost use Rattle.ref_draft.specs.Schema.{text_under};
 ghost use Rattle.ref_draft.specs.declared.draft.Draft.TheVariants.{Unknown};
 ghost use Rattle.ref_definitions.specs.World.{World};
 ghost use Rattle.ref_definitions.specs.Fault.{as_invalid_uri};
-ghost use Rattle.ref_definitions.specs.Vocabularies.{VocabularySet as SetOfVocabularies, default_set, find_in, set_or_default, set_at, find_vocabularies};
+ghost use Rattle.ref_vocabularies.specs.Vocabularies.{VocabularySet as SetOfVocabularies, default_set, find_in, set_or_default, set_at, find_vocabularies};
 ghost use Rattle.ref_retrieve.specs.Errors.{IsFaultOf};
 ghost use Rattle.ref_vocabularies.specs.Dialects.{set_of_dialect};
 

@@ -1,7 +1,7 @@
 //! Laws of vocabularies and their sets. Each function is empty: its contract states the law, and the check proves it.
 ghost use Rattle.std.specs.Prelude.{◌≡◌, ◌||◌, ℕ, List, true, Ok};
 ghost use Rattle.ref_uri.specs.Targets.{uri_of};
-ghost use Rattle.ref_definitions.specs.Vocabularies.{Vocabulary as Defined, VocabularySet as DefinedSet, vocabulary_eq, set_eq, contains, with_vocabulary, from_text, Custom};
+ghost use Rattle.ref_vocabularies.specs.Vocabularies.{Vocabulary as Defined, VocabularySet as DefinedSet, vocabulary_eq, set_eq, contains, with_vocabulary, from_text, Custom};
 ghost use Rattle.ref_vocabularies.specs.declared.vocabulary.Vocabulary.{Vocabulary};
 ghost use Rattle.ref_vocabularies.specs.Views.{vocabulary_of};
 

@@ -4,7 +4,7 @@ ghost use Rattle.serde_json.specs.Find.{get, as_object};
 ghost use Rattle.serde_json.specs.View.{view, members_view};
 ghost use Rattle.ref_draft.specs.Schema.{text_under};
 ghost use Rattle.ref_definitions.specs.Fault.{as_invalid_uri};
-ghost use Rattle.ref_definitions.specs.Vocabularies.{of_known, default_set, from_text, collected_set, known_set, set_of_members, find_in};
+ghost use Rattle.ref_vocabularies.specs.Vocabularies.{of_known, default_set, from_text, collected_set, known_set, set_of_members, find_in};
 ghost use Rattle.ref_retrieve.specs.Errors.{IsFaultOf};
 ghost use Rattle.ref_vocabularies.specs.inner.Adding.{AddsMember};
 

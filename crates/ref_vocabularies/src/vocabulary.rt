@@ -2,7 +2,7 @@
 ghost use Rattle.std.specs.Prelude.{◌≡◌, Ok, IsOk, IfOk, IfErr, option_map};
 ghost use Rattle.std.specs.List.{find};
 ghost use Rattle.ref_definitions.specs.Fault.{as_invalid_uri};
-ghost use Rattle.ref_definitions.specs.Vocabularies.{Known, Standard, all_known, is_uri_of, from_text};
+ghost use Rattle.ref_vocabularies.specs.Vocabularies.{Known, Standard, all_known, is_uri_of, from_text};
 ghost use Rattle.ref_retrieve.specs.Errors.{IsFaultOf};
 ghost use Rattle.ref_vocabularies.specs.Views.{vocabulary_of};
 ghost use Rattle.ref_vocabularies.specs.inner.Kept.{mask};
@@ -104,7 +104,7 @@ fn known(text: &str) -> Option<Vocabulary>
 /// no memory.
 impl PartialEq for Vocabulary {
     ghost use Rattle.std.specs.Cmp.{on_per, partial_equiv_from_equiv};
-    ghost use Rattle.ref_definitions.specs.Vocabularies.{vocabulary_eq};
+    ghost use Rattle.ref_vocabularies.specs.Vocabularies.{vocabulary_eq};
     ghost use Rattle.ref_vocabularies.specs.inner.Alike.{vocabulary_equivalence};
     ghost use Rattle.ref_vocabularies.specs.Views.{vocabulary_of};
 
@@ -132,7 +132,7 @@ impl Eq for Vocabulary {
 /// there is no memory for its text.
 impl Clone for Vocabulary {
     ghost use Rattle.std.specs.Prelude.{◌≡◌};
-    ghost use Rattle.ref_definitions.specs.Vocabularies.{Known, Standard};
+    ghost use Rattle.ref_vocabularies.specs.Vocabularies.{Known, Standard};
     ghost use Rattle.ref_vocabularies.specs.Views.{vocabulary_of};
 
     ghost is_clone = { λ vocabulary copy. copy ≡ vocabulary };

@@ -1,7 +1,7 @@
 //! Sets of vocabularies.
 ghost use Rattle.std.specs.Prelude.{◌≡◌, ◌<◌, ℕ, true, [], IsOk, OnOk, OnErr, slice_index_or as get_or};
 ghost use Rattle.std.specs.Int.RustNames.{bit_or};
-ghost use Rattle.ref_definitions.specs.Vocabularies.{Known, Core, Standard, all_known, name, has_uri, with_uri, contains, with_vocabulary, of_known, of_bits};
+ghost use Rattle.ref_vocabularies.specs.Vocabularies.{Known, Core, Standard, all_known, name, has_uri, with_uri, contains, with_vocabulary, of_known, of_bits};
 ghost use Rattle.ref_vocabularies.specs.Views.{vocabulary_of, AreInByteOrder};
 ghost use Rattle.std.specs.Fmt.{WritesOnOk};
 ghost use Rattle.ref_vocabularies.specs.inner.Shown.{item};
@@ -32,7 +32,7 @@ pub struct VocabularySet {
 impl Model for VocabularySet {
     ghost use Rattle.std.specs.Prelude.{◌<◌, ◌^◌, []};
     ghost use Rattle.std.specs.Option.{option_map_or};
-    ghost use Rattle.ref_definitions.specs.Vocabularies.{VocabularySet as SetOfVocabularies};
+    ghost use Rattle.ref_vocabularies.specs.Vocabularies.{VocabularySet as SetOfVocabularies};
 
     ghost Value = { SetOfVocabularies };
 
@@ -125,7 +125,7 @@ impl VocabularySet {
 /// The empty set.
 impl Default for VocabularySet {
     ghost use Rattle.std.specs.Prelude.{◌≡◌, []};
-    ghost use Rattle.ref_definitions.specs.Vocabularies.{of_known};
+    ghost use Rattle.ref_vocabularies.specs.Vocabularies.{of_known};
 
     ghost is_default = { λ set. set ≡ of_known [] };
 
@@ -164,7 +164,7 @@ impl Clone for VocabularySet {
 /// Two are equal where the same vocabularies are in both, in whatever order they were added. Takes no memory.
 impl PartialEq for VocabularySet {
     ghost use Rattle.std.specs.Cmp.{partial_equiv_from_equiv};
-    ghost use Rattle.ref_definitions.specs.Vocabularies.{set_eq};
+    ghost use Rattle.ref_vocabularies.specs.Vocabularies.{set_eq};
     ghost use Rattle.ref_vocabularies.specs.inner.Alike.{set_equivalence};
 
     ghost eq = { set_eq };
@@ -186,7 +186,7 @@ impl Eq for VocabularySet {
 /// in quotes, joined by `, `, in brackets.
 impl fmt::Debug for VocabularySet {
     ghost use Rattle.std.specs.Prelude.{Some};
-    ghost use Rattle.ref_definitions.specs.Vocabularies.{set_text};
+    ghost use Rattle.ref_vocabularies.specs.Vocabularies.{set_text};
 
     ghost debug_output = { λ set. Some (set_text set) };
 

@@ -3,7 +3,7 @@ use Rattle.std.proofs.Common.{◌≡◌, ◌∙◌, ℕ, List, [], ◌∷◌, �
 use Rattle.std.specs.List.{Contains}
 use Rattle.std.proofs.lemmas.List.Elements.{All-contains, All-from_recursion}
 use Rattle.ref_parts.specs.Path.{Part, value_at}
-use Rattle.ref_definitions.specs.World.{Document, World}
+use Rattle.ref_definitions.specs.World.{Document, World, own_layer}
 use Rattle.ref_definitions.specs.Places.{Place, places}
 use Rattle.ref_definitions.specs.Wants.{faults}
 use Rattle.ref_definitions.specs.Fault.{Fault}
@@ -15,11 +15,10 @@ use Rattle.ref_definitions.proofs.Located.{leads_to}
 use Rattle.ref_definitions.proofs.Standing.{StandsAt, all_stand_where}
 use Rattle.ref_retrieve.specs.declared.error.Error.{Error}
 use Rattle.ref_retrieve.specs.declared.error.Error.TheVariants as error
-use Rattle.ref_retrieve.specs.Errors.{IsFaultOf}
+use Rattle.ref_retrieve.specs.Errors.{IsFaultOf, IsMemory}
 use Rattle.ref_resolver.specs.declared.resolver.Resolved.{Resolved}
-use Rattle.ref_resolver.specs.Layered.{own_layer}
 use Rattle.ref_resolver.specs.Resolving.{found_of}
-use Rattle.referencing.specs.Listed.{IsMemory, AnswersPlace}
+use Rattle.referencing.specs.Listed.{AnswersPlace}
 
 -- a place's value is at its path, where the children of the document's places do
 pub value_there : (d : Document) (p : Place) → ChildrenStand d → Contains (places d) p → value_at d.tree p.path ≡ Some p.value

@@ -25,7 +25,7 @@ pub use Rattle.ref_definitions.specs.Recursive
 pub use Rattle.ref_definitions.specs.Follow
 pub use Rattle.ref_definitions.specs.Agreement
 pub use Rattle.ref_definitions.specs.Listing
-pub use Rattle.ref_definitions.specs.Vocabularies
+pub use Rattle.ref_vocabularies.specs.Vocabularies
 pub use Rattle.ref_definitions.specs.Fault
 pub use Rattle.ref_definitions.specs.Results
 pub use Rattle.ref_definitions.specs.Closure

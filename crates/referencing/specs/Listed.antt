@@ -1,18 +1,13 @@
 -- What the calls on places answer.
-use Rattle.std.specs.Prelude.{◌≡◌, ℕ, List, [], ◌∷◌, ◌++◌, Result, Ok, Err, ⊤}
+use Rattle.std.specs.Prelude.{◌≡◌, ℕ, List, [], ◌∷◌, ◌++◌, Result, Ok, Err}
 use Rattle.ref_parts.specs.Path.{Part}
 use Rattle.ref_definitions.specs.World.{Document, Layer}
 use Rattle.ref_definitions.specs.Places.{Place}
 use Rattle.ref_definitions.specs.Agreement.{IsAtOrBelow, IsReadAlike}
 use Rattle.ref_retrieve.specs.declared.error.Error.{Error}
-use Rattle.ref_retrieve.specs.declared.error.Error.TheVariants as error
+use Rattle.ref_retrieve.specs.Errors.{IsMemory}
 use Rattle.ref_resolver.specs.declared.resolver.Resolved.{Resolved}
 use Rattle.ref_resolver.specs.Resolving.{found_of}
-
--- an error is out of memory
-abbrev pub IsMemory : Error → Type 0
-IsMemory (error.Memory memory) = ⊤
-IsMemory other = ⊥
 
 -- what a call returns is this place's value, its draft and its base, with the URI that it was asked at as the scope; or
 -- memory was refused

@@ -6,7 +6,7 @@ use Rattle.std.specs.Option.{option_map_or}
 use Rattle.std.specs.Result.{result_ok}
 use Rattle.ref_uri.specs.Targets.{uri_of}
 use Rattle.ref_draft.specs.Schema.{text_under}
-use Rattle.ref_definitions.specs.World.{Document, Layer, World}
+use Rattle.ref_definitions.specs.World.{Document, Layer, World, own_layer}
 use Rattle.ref_definitions.specs.Places.{Place, places}
 use Rattle.ref_definitions.specs.Fault.{Unretrievable}
 use Rattle.ref_definitions.specs.Lookup.{Resolver, lookup}
@@ -18,7 +18,6 @@ use Rattle.ref_definitions.specs.Pending.{given_of_builder}
 use Rattle.ref_retrieve.specs.declared.error.Error.{Error}
 use Rattle.ref_retrieve.specs.declared.error.Error.TheVariants as error
 use Rattle.ref_retrieve.specs.Retrieving.{retriever_of}
-use Rattle.ref_resolver.specs.Layered.{own_layer}
 use Rattle.referencing.specs.Builder.{Builder}
 
 -- its own documents have no fault and no open want

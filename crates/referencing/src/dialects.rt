@@ -1,7 +1,7 @@
 //! The vocabularies of schemas, by what their meta-schemas declare (2020-12 Core, 8.1.1 and 8.1.2).
 ghost use Rattle.std.specs.Prelude.{◌≡◌, IfOk};
 ghost use Rattle.serde_json.specs.View.{view};
-ghost use Rattle.ref_definitions.specs.Vocabularies.{find_vocabularies};
+ghost use Rattle.ref_vocabularies.specs.Vocabularies.{find_vocabularies};
 
 use crate::registry::Registry;
 use ref_draft::Draft;

@@ -4,7 +4,7 @@ ghost use Rattle.ref_definitions.specs.Pending as world;
 ghost use Rattle.ref_index.specs.Document.{document_of};
 ghost use Rattle.ref_index.specs.Retrieval.{IsFaultyOutcome};
 ghost use Rattle.referencing.specs.Builder.{pending_under, builder_of};
-ghost use Rattle.referencing.specs.Listed.{IsMemory};
+ghost use Rattle.ref_retrieve.specs.Errors.{IsMemory};
 ghost use Rattle.referencing.specs.Prepared.{given_of, IsPreparedOf, LimitIsUsedUp, AreComplete};
 
 use crate::builder::RegistryBuilder;

@@ -4,7 +4,7 @@ ghost use Rattle.std.specs.Iterator.{Drains, Yields, IsFinite};
 ghost use Rattle.std.specs.List.{Contains};
 ghost use Rattle.serde_json.specs.View.{view};
 ghost use Rattle.ref_uri.specs.Targets.{uri_against};
-ghost use Rattle.ref_definitions.specs.World.{Document as WorldDocument};
+ghost use Rattle.ref_definitions.specs.World.{Document as WorldDocument, own_layer};
 ghost use Rattle.ref_definitions.specs.Agreement.{ChildrenStand};
 ghost use Rattle.ref_definitions.specs.Places.{Place, places};
 ghost use Rattle.ref_definitions.specs.Fault.{as_invalid_uri};
@@ -12,7 +12,7 @@ ghost use Rattle.ref_definitions.specs.Wants.{faults, open_wants};
 ghost use Rattle.ref_retrieve.specs.Errors.{IsFaultOf};
 ghost use Rattle.ref_definitions.specs.Pending.{with_addition, with_additions};
 ghost use Rattle.referencing.specs.Builder.{builder_of, addition, Adds, new_builder};
-ghost use Rattle.ref_resolver.specs.Layered.{world_in, own_layer, IsHeld};
+ghost use Rattle.ref_resolver.specs.Layered.{world_in, IsHeld};
 ghost use Rattle.referencing.specs.Prepared.{contains_resource, ReferencesAreRetrieved};
 
 use crate::builder::{RegistryBuilder, above};

@@ -2,11 +2,10 @@
 ghost use Rattle.std.specs.Prelude.{◌≡◌, ◌++◌, map, Ok, IfOk, IfErr, IfSome};
 ghost use Rattle.serde_json.specs.View.{view};
 ghost use Rattle.referencing.specs.Segment.{part_of};
-ghost use Rattle.referencing.specs.World.{Document};
+ghost use Rattle.referencing.specs.World.{Document, own_layer};
 ghost use Rattle.referencing.specs.Places.{Place as WorldPlace};
 ghost use Rattle.referencing.specs.Agreement.{IsAtOrBelow, IsReadAlike};
-ghost use Rattle.referencing.specs.Layered.{own_layer};
-ghost use Rattle.referencing.specs.Listed.{IsMemory};
+ghost use Rattle.referencing.specs.Errors.{IsMemory};
 
 use referencing::{Draft, Error, JsonPointerSegment, Place, Registry, Uri};
 use serde_json::Value;

@@ -2,8 +2,8 @@
 ghost use Rattle.std.specs.Prelude.{◌≡◌, ◌++◌, ◌∷◌, [], None, IfOk, IfErr, OnOk};
 ghost use Rattle.referencing.specs.Reference.{with_fragment};
 ghost use Rattle.referencing.specs.ListedPlaces.{listed_of};
-ghost use Rattle.referencing.specs.Listed.{IsMemory};
-ghost use Rattle.referencing.specs.Layered.{own_layer};
+ghost use Rattle.referencing.specs.Errors.{IsMemory};
+ghost use Rattle.referencing.specs.World.{own_layer};
 ghost use Rattle.uses.specs.Bundling.{refers_to, refers_from, referred_by};
 
 use referencing::{Error, Place, Registry, Uri};

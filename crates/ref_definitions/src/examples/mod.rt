@@ -15,5 +15,4 @@ pub mod places;
 pub mod pointers;
 pub mod recursive;
 pub mod resources;
-pub mod vocabularies;
 pub mod wants;

@@ -2,13 +2,12 @@
 use Rattle.std.specs.Prelude.{◌≡◌, ℕ, List, [], ◌∷◌, codes, Option, Some, None, option_and_then, slice_get, Result, Ok, Err}
 use Rattle.ref_parts.specs.Path.{value_at}
 use Rattle.ref_draft.specs.Schema.{text_under}
-use Rattle.ref_definitions.specs.World.{World}
+use Rattle.ref_definitions.specs.World.{World, own_layer}
 use Rattle.ref_definitions.specs.Fault.{Fault}
 use Rattle.ref_definitions.specs.Lookup.{Found}
 use Rattle.ref_definitions.specs.Listing.{Listed}
 use Rattle.ref_retrieve.specs.declared.error.Error.{Error}
 use Rattle.ref_retrieve.specs.Errors.{SaysFault}
-use Rattle.ref_resolver.specs.Layered.{own_layer}
 use Rattle.ref_lint.specs.declared.entry.Dangling.{Dangling}
 use Rattle.ref_lint.specs.Dangling.{DanglingReference, dangling_from}
 use Rattle.ref_lint.specs.Entries.{IsEntryOf}

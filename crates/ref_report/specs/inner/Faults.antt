@@ -4,8 +4,7 @@ use Rattle.std.specs.declared.alloc.AllocError.{AllocError}
 use Rattle.ref_definitions.specs.Fault.{Fault}
 use Rattle.ref_retrieve.specs.declared.error.Error.{Error}
 use Rattle.ref_retrieve.specs.declared.error.Error.TheVariants as error
-use Rattle.ref_retrieve.specs.Errors.{SaysFault}
-use Rattle.ref_index.specs.Retrieval.{UnlessMemory}
+use Rattle.ref_retrieve.specs.Errors.{SaysFault, UnlessMemory}
 use Rattle.ref_report.specs.Report.{Report, fault_report}
 
 -- a fault that may be the answer, unless memory ran out

@@ -6,9 +6,8 @@ use Rattle.serde_json.specs.declared.value.Value.{Value}
 use Rattle.ref_definitions.specs.World.{World}
 use Rattle.ref_definitions.specs.Fault.{Fault}
 use Rattle.ref_retrieve.specs.declared.error.Error.{Error}
-use Rattle.ref_retrieve.specs.Errors.{SaysFault}
+use Rattle.ref_retrieve.specs.Errors.{SaysFault, UnlessMemory}
 use Rattle.ref_retrieve.specs.Retrieving.{trees_of}
-use Rattle.ref_index.specs.Retrieval.{UnlessMemory}
 use Rattle.ref_calls.specs.declared.stop.Stop.{Stop}
 use Rattle.ref_calls.specs.declared.stop.Stop.TheVariants.{Memory, Because}
 use Rattle.ref_calls.specs.Errors.{fault_error}

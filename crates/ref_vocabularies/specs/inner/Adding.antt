@@ -2,7 +2,7 @@
 use Rattle.std.specs.Prelude.{◌≡◌, ℕ, List, Ok}
 use Rattle.serde_json.specs.Data.{Data}
 use Rattle.ref_definitions.specs.Results.{◌>>=◌}
-use Rattle.ref_definitions.specs.Vocabularies.{VocabularySet, from_text, with_member}
+use Rattle.ref_vocabularies.specs.Vocabularies.{VocabularySet, from_text, with_member}
 
 -- the new set is the old one with what the member declares, and its key names a vocabulary
 abbrev pub AddsMember : VocabularySet → List ℕ → Data → VocabularySet → Type 0

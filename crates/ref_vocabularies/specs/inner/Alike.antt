@@ -3,7 +3,7 @@ use Rattle.std.specs.Prelude.{◌≡◌, true, refl}
 use Rattle.std.specs.Cmp.{IsEquivalence, nat_eq_equiv, on_equiv, and_equiv}
 use Rattle.std.specs.Cmp.Lexicographic.{nat_list_eq_equiv, lists_equiv}
 use Rattle.std.proofs.lemmas.Bool.{false≢true}
-use Rattle.ref_definitions.specs.Vocabularies.{bit, known_eq, Vocabulary, Standard, Custom, vocabulary_eq, VocabularySet, set_eq}
+use Rattle.ref_vocabularies.specs.Vocabularies.{bit, known_eq, Vocabulary, Standard, Custom, vocabulary_eq, VocabularySet, set_eq}
 
 pub known_equivalence : IsEquivalence known_eq
 known_equivalence = on_equiv bit nat_eq_equiv

@@ -2,7 +2,7 @@
 use Rattle.std.specs.Prelude.{ℕ, ◌==◌, ◌++◌, Bool, true, false, List, [], ◌∷◌, map, filter, take, codes, if◌then◌else◌}
 use Rattle.std.specs.Int.{bit_at}
 use Rattle.std.specs.List.{join_by}
-use Rattle.ref_definitions.specs.Vocabularies.{all_known, bit, name, quoted_text}
+use Rattle.ref_vocabularies.specs.Vocabularies.{all_known, bit, name, quoted_text}
 
 -- a text in quotes, after a separator where it is not the first
 abbrev pub item : Bool → List ℕ → List ℕ

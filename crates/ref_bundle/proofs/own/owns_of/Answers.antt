@@ -2,7 +2,7 @@ use Rattle.std.specs.Prelude.{slice_get, MatchOption}
 use Rattle.std.proofs.Common.{◌≡◌, ◌∷◌, ◌++◌, [], map, length, refl, sym, subst, ◌∙◌, rules}
 use Rattle.std.specs.Vec.Iter.{into_iter_items}
 use Rattle.std.proofs.lemmas.List.{nil_from_length}
-use Rattle.ref_resolver.specs.Layered.{own_layer}
+use Rattle.ref_definitions.specs.World.{own_layer}
 use Rattle.ref_bundle.specs.declared.own.Own.{Own}
 use Rattle.ref_bundle.specs.inner.Seen.{numbered_document}
 use Rattle.ref_bundle.proofs.Gathering.{IsPartly, Adds, items, partly_more, partly_all}

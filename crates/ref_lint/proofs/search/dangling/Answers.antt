@@ -5,7 +5,7 @@ use Rattle.std.specs.Vec.Iter.{into_iter_items}
 use Rattle.std.proofs.lemmas.List.{nil_from_length}
 use Rattle.ref_definitions.specs.Listing.{own_places}
 use Rattle.ref_index.specs.Listing.{listed_of}
-use Rattle.ref_resolver.specs.Layered.{own_layer}
+use Rattle.ref_definitions.specs.World.{own_layer}
 use Rattle.ref_lint.specs.Entries.{IsEntryOf}
 use Rattle.ref_lint.specs.inner.Listed.{dangling_listed}
 use Rattle.ref_lint.proofs.Numbering.{entry_of_one_more, entries_of_all}

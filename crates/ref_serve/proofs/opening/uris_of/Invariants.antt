@@ -2,7 +2,7 @@ use Rattle.std.proofs.Common.{◌≡◌, ◌++◌, drop, map}
 use Rattle.serde_json.specs.Data.{string}
 use Rattle.serde_json.specs.View.{view}
 use Rattle.ref_index.specs.Document.{document_of}
-use Rattle.ref_resolver.specs.Layered.{own_layer}
+use Rattle.ref_definitions.specs.World.{own_layer}
 use Rattle.ref_serve.proofs.opening.uris_of.Given as goal
 
 abbrev pub invariant-loop-document : goal.invariant-loop-document

@@ -1,7 +1,7 @@
 use Rattle.std.proofs.Common.{◌≡◌, ◌++◌, map}
 use Rattle.serde_json.specs.Data.{string}
 use Rattle.serde_json.specs.View.{view}
-use Rattle.ref_definitions.specs.Vocabularies.{all_known}
+use Rattle.ref_vocabularies.specs.Vocabularies.{all_known}
 use Rattle.ref_serve.specs.Listings.{known_uris}
 use Rattle.ref_serve.proofs.vocabularies.uris_of.Given as goal
 

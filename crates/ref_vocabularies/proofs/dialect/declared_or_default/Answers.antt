@@ -1,5 +1,5 @@
 use Rattle.serde_json.specs.View.{view}
-use Rattle.ref_definitions.specs.Vocabularies.{find_in}
+use Rattle.ref_vocabularies.specs.Vocabularies.{find_in}
 use Rattle.ref_vocabularies.proofs.dialect.declared_or_default.Goals as goal
 
 pub returns : goal.returns

@@ -1,6 +1,6 @@
 use Rattle.std.proofs.Common.{◌≡◌, []}
 use Rattle.serde_json.specs.View.{members_view}
-use Rattle.ref_definitions.specs.Vocabularies.{of_known, collected_set}
+use Rattle.ref_vocabularies.specs.Vocabularies.{of_known, collected_set}
 use Rattle.ref_vocabularies.proofs.meta_schema.collected.Given as goal
 
 abbrev pub invariant-loop-key : goal.invariant-loop-key

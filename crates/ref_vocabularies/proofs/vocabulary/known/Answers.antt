@@ -1,5 +1,5 @@
 use Rattle.std.proofs.Common.{◌≡◌, false, sym, ap, option_map, ap}
-use Rattle.ref_definitions.specs.Vocabularies.{Known, Standard, Core, Applicator, Unevaluated, Validation, Metadata, Format, FormatAnnotation, Content, FormatAssertion, is_uri_of}
+use Rattle.ref_vocabularies.specs.Vocabularies.{Known, Standard, Core, Applicator, Unevaluated, Validation, Metadata, Format, FormatAnnotation, Content, FormatAssertion, is_uri_of}
 use Rattle.ref_vocabularies.proofs.Texts.{no_uri, none_known}
 use Rattle.ref_vocabularies.proofs.vocabulary.known.Goals as goal
 

@@ -1,5 +1,5 @@
 use Rattle.std.proofs.Common.{◌≡◌, false, sym, ◌∙◌}
-use Rattle.ref_definitions.specs.Vocabularies.{has_uri}
+use Rattle.ref_vocabularies.specs.Vocabularies.{has_uri}
 use Rattle.ref_vocabularies.specs.Views.{AreInByteOrder}
 use Rattle.ref_vocabularies.proofs.Sorted.{put-searched, searchable, missing, put-there, there-found, in_order-put}
 use Rattle.ref_vocabularies.proofs.vocabulary_set.insert.Goals as goal

@@ -3,7 +3,7 @@ use Rattle.std.proofs.lemmas.List.{take_more}
 use Rattle.std.specs.List.{filter, filter_map}
 use Rattle.std.specs.Option.{option_to_list}
 use Rattle.referencing.specs.ListedPlaces.{listed_of}
-use Rattle.referencing.specs.Layered.{own_layer}
+use Rattle.referencing.specs.World.{own_layer}
 use Rattle.uses.specs.Bundling.{refers_to, refers_from, is_of}
 use Rattle.uses.proofs.Bundling.{one_more}
 use Rattle.uses.proofs.bundler.referred_documents.Goals as goal

@@ -1,7 +1,7 @@
 use Rattle.std.proofs.Common.{◌≡◌, map, take}
 use Rattle.std.specs.List.{filter, filter_map}
 use Rattle.referencing.specs.ListedPlaces.{listed_of}
-use Rattle.referencing.specs.Layered.{own_layer}
+use Rattle.referencing.specs.World.{own_layer}
 use Rattle.uses.specs.Bundling.{refers_to, is_of}
 use Rattle.uses.proofs.bundler.referred_documents.Given as goal
 

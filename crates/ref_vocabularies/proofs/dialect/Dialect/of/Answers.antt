@@ -2,7 +2,7 @@ use Rattle.std.proofs.Common.{◌∙◌, sym, ap}
 use Rattle.serde_json.specs.View.{view}
 use Rattle.ref_draft.specs.Keywords.{is_unknown}
 use Rattle.ref_draft.specs.Schema.{detect}
-use Rattle.ref_definitions.specs.Vocabularies.{find_vocabularies}
+use Rattle.ref_vocabularies.specs.Vocabularies.{find_vocabularies}
 use Rattle.ref_vocabularies.proofs.Drafts.{known_draft}
 use Rattle.ref_vocabularies.proofs.dialect.Dialect.of.Goals as goal
 

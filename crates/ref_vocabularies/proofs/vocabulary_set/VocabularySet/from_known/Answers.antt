@@ -1,7 +1,7 @@
 use Rattle.std.proofs.Common.{◌<◌, bit_and, ap, arith}
 use Rattle.std.proofs.lemmas.Nat.{and_le_r}
 use Rattle.std.specs.List.Sorted.{IsStrictlySortedBy}
-use Rattle.ref_definitions.specs.Vocabularies.{of_known}
+use Rattle.ref_vocabularies.specs.Vocabularies.{of_known}
 use Rattle.ref_vocabularies.proofs.Bits.{known_of-and}
 use Rattle.ref_vocabularies.proofs.vocabulary_set.VocabularySet.from_known.Goals as goal
 

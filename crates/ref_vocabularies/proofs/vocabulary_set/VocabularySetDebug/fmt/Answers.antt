@@ -1,6 +1,6 @@
 use Rattle.std.proofs.Common.{◌≡◌, ◌+◌, ◌++◌, ◌∷◌, [], get_or, take, refl, sym, ◌∙◌, ap, append_assoc}
 use Rattle.std.proofs.lemmas.List.{take_more}
-use Rattle.ref_definitions.specs.Vocabularies.{Core, all_known, name}
+use Rattle.ref_vocabularies.specs.Vocabularies.{Core, all_known, name}
 use Rattle.ref_vocabularies.specs.inner.Shown.{names_before, is_nil}
 use Rattle.ref_vocabularies.proofs.Shown.{is_nil_more, names_with, names_without, bit_is_set, bit_is_clear, item_written}
 use Rattle.ref_vocabularies.proofs.vocabulary_set.VocabularySetDebug.fmt.Goals as goal

@@ -1,8 +1,7 @@
 use Rattle.std.proofs.Common.{◌∙◌, ap, subst}
 use Rattle.std.specs.List.{Contains}
-use Rattle.ref_definitions.specs.World.{Document}
+use Rattle.ref_definitions.specs.World.{Document, own_layer}
 use Rattle.ref_definitions.specs.Agreement.{ChildrenStand}
-use Rattle.ref_resolver.specs.Layered.{own_layer}
 use Rattle.referencing.proofs.registry.Registry.own_index.Goals as goal
 
 pub returns-clause-children : goal.returns-clause-children

@@ -1,6 +1,6 @@
 use Rattle.std.proofs.Common.{subst}
 use Rattle.ref_definitions.proofs.AtOrBelow.{place_has_base}
-use Rattle.ref_resolver.specs.Layered.{own_layer}
+use Rattle.ref_definitions.specs.World.{own_layer}
 use Rattle.referencing.specs.Prepared.{IsPrepared}
 use Rattle.referencing.proofs.Retrieved.{retrieved_of}
 use Rattle.referencing.proofs.registry.Registry.references_are_retrieved.Goals as goal

@@ -1,9 +1,9 @@
 use Rattle.std.proofs.Common.{refl}
-use Rattle.ref_definitions.proofs.OnLiterals.{world_on_literals}
-use Rattle.ref_definitions.proofs.examples.vocabularies.declared_vocabularies.Goals as goal
+use Rattle.ref_vocabularies.proofs.OnLiterals.{vocabularies_on_literals}
+use Rattle.ref_vocabularies.proofs.examples.vocabularies.declared_vocabularies.Goals as goal
 
 pub returns : goal.returns
-unfolding world_on_literals
+unfolding vocabularies_on_literals
 returns c = record {
   declared = refl;
   declared_twice = refl;

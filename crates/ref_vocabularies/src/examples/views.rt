@@ -1,9 +1,9 @@
-//! Rows that compute: each function is empty, and its contract states them.
+//! Rows of what values and dialects mean.
 ghost use Rattle.std.specs.Prelude.{◌≡◌, [], ◌∷◌, codes};
 ghost use Rattle.ref_draft.specs.declared.draft.Draft.TheVariants.{Draft202012};
 ghost use Rattle.ref_definitions.specs.Rows.{world, at, one, yes};
-ghost use Rattle.ref_definitions.specs.Vocabularies as defined;
-ghost use Rattle.ref_definitions.specs.Vocabularies.{of_known, set_of_2020};
+ghost use Rattle.ref_vocabularies.specs.Vocabularies as defined;
+ghost use Rattle.ref_vocabularies.specs.Vocabularies.{of_known, set_of_2020};
 ghost use Rattle.ref_vocabularies.specs.declared.vocabulary.Vocabulary.TheVariants.{Metadata, Custom};
 ghost use Rattle.ref_vocabularies.specs.declared.dialect.Dialect.TheVariants.{Known, MetaSchema};
 ghost use Rattle.ref_vocabularies.specs.Views.{vocabulary_of};

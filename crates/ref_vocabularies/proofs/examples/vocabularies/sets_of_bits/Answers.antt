@@ -1,9 +1,9 @@
 use Rattle.std.proofs.Common.{refl}
-use Rattle.ref_definitions.proofs.OnLiterals.{world_on_literals}
-use Rattle.ref_definitions.proofs.examples.vocabularies.sets_of_bits.Goals as goal
+use Rattle.ref_vocabularies.proofs.OnLiterals.{vocabularies_on_literals}
+use Rattle.ref_vocabularies.proofs.examples.vocabularies.sets_of_bits.Goals as goal
 
 pub returns : goal.returns
-unfolding world_on_literals
+unfolding vocabularies_on_literals
 returns c = record {
   none = refl;
   lowest = refl;

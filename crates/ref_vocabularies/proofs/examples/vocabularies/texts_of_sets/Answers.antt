@@ -1,9 +1,9 @@
 use Rattle.std.proofs.Common.{refl}
-use Rattle.ref_definitions.proofs.OnLiterals.{world_on_literals}
-use Rattle.ref_definitions.proofs.examples.vocabularies.texts_of_sets.Goals as goal
+use Rattle.ref_vocabularies.proofs.OnLiterals.{vocabularies_on_literals}
+use Rattle.ref_vocabularies.proofs.examples.vocabularies.texts_of_sets.Goals as goal
 
 pub returns : goal.returns
-unfolding world_on_literals
+unfolding vocabularies_on_literals
 returns c = record {
   known_and_custom = refl;
   none = refl;

@@ -3,7 +3,7 @@ ghost use Rattle.std.specs.Prelude.{◌≡◌, true, false, [], ◌∷◌, map, 
 ghost use Rattle.serde_json.specs.Data.{boolean, no_members, member};
 ghost use Rattle.ref_draft.specs.declared.draft.Draft.TheVariants.{Draft4, Draft7, Draft201909, Draft202012, Unknown};
 ghost use Rattle.ref_uri.specs.Targets.{parse_refusal};
-ghost use Rattle.ref_definitions.specs.Vocabularies.{Core, Applicator, Unevaluated, Validation, Metadata, Format, FormatAnnotation, Content, FormatAssertion, Standard, Custom, all_known, bit, name, is_in_2019, known_eq, vocabulary_eq, set_eq, is_uri_of, from_text, has_known, has_uri, contains, with_uri, with_vocabulary, of_bits, of_known, set_of_2020, default_set, quoted_text, set_text, is_format_assertion, with_member, collected_set, known_set, set_of_members, find_in, set_or_default, set_at, find_vocabularies, dialect_contents, find_vocabularies_at};
+ghost use Rattle.ref_vocabularies.specs.Vocabularies.{Core, Applicator, Unevaluated, Validation, Metadata, Format, FormatAnnotation, Content, FormatAssertion, Standard, Custom, all_known, bit, name, is_in_2019, known_eq, vocabulary_eq, set_eq, is_uri_of, from_text, has_known, has_uri, contains, with_uri, with_vocabulary, of_bits, of_known, set_of_2020, default_set, quoted_text, set_text, is_format_assertion, with_member, collected_set, known_set, set_of_members, find_in, set_or_default, set_at, find_vocabularies, dialect_contents, find_vocabularies_at};
 ghost use Rattle.ref_definitions.specs.Rows.{world, at, yes, empty, text, one, two, three};
 
 /// The vocabulary that a text names.
