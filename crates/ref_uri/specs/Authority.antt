@@ -4,6 +4,7 @@ use Rattle.std.specs.List.{list_any, list_all, position_or_len, before_first, af
 use Rattle.std.specs.Option.{option_map_or}
 use Rattle.std.specs.Char.{is_ascii_digit, is_ascii_hexdigit}
 use Rattle.ref_uri.specs.Characters.{is_one_of, is_encoded, is_name_character, is_userinfo_character}
+use Rattle.ref_uri.specs.Bytes.{dot, colon, at_sign, opening_bracket, closing_bracket}
 
 -- what is before the first such character, where there is one
 abbrev pub part_before : ℕ → List ℕ → Option (List ℕ)
@@ -15,17 +16,17 @@ part_after c text = if list_any (λ x. x == c) text then after_first (λ x. x ==
 
 -- what is before the `@` (3.2.1)
 abbrev pub userinfo : List ℕ → Option (List ℕ)
-userinfo authority = part_before 64 authority
+userinfo authority = part_before at_sign authority
 
 -- the host and the port
 abbrev pub host_and_port : List ℕ → List ℕ
-host_and_port authority = part_after 64 authority
+host_and_port authority = part_after at_sign authority
 
 -- how long the host is: through `]` where it begins with `[`, else up to `:`
 abbrev pub host_len : List ℕ → ℕ
 host_len text =
-    if slice_index text 0 == 91 then min (position_or_len (λ c. c == 93) text + 1) (length text)
-    else position_or_len (λ c. c == 58) text
+    if slice_index text 0 == opening_bracket then min (position_or_len (λ c. c == closing_bracket) text + 1) (length text)
+    else position_or_len (λ c. c == colon) text
 
 -- a name or an address, in its brackets where it has any (3.2.2)
 abbrev pub host : List ℕ → List ℕ
@@ -46,9 +47,9 @@ is_address text = nat_lt 0 (length text) && list_all is_address_character text
 -- hex digits, `.`, and unreserved, sub-delims or `:`, each at least once (IPvFuture after its `v`, 3.2.2)
 abbrev pub is_version_and_address : List ℕ → Bool
 is_version_and_address text =
-    nat_lt 0 (length (before_first (λ c. c == 46) text)) && nat_lt 0 (length (after_first (λ c. c == 46) text))
-    && list_all is_ascii_hexdigit (before_first (λ c. c == 46) text)
-    && list_all is_userinfo_character (after_first (λ c. c == 46) text)
+    nat_lt 0 (length (before_first (λ c. c == dot) text)) && nat_lt 0 (length (after_first (λ c. c == dot) text))
+    && list_all is_ascii_hexdigit (before_first (λ c. c == dot) text)
+    && list_all is_userinfo_character (after_first (λ c. c == dot) text)
 
 -- an address of a later version begins with `v`
 abbrev pub is_future_address : List ℕ → Bool
@@ -62,12 +63,12 @@ is_either_address text = is_address text || is_future_address text
 -- The first `]` ends the text, and an address is before it.
 abbrev pub is_address_and_bracket : List ℕ → Bool
 is_address_and_bracket text =
-    (position_or_len (λ c. c == 93) text + 1 == length text) && is_either_address (before_first (λ c. c == 93) text)
+    (position_or_len (λ c. c == closing_bracket) text + 1 == length text) && is_either_address (before_first (λ c. c == closing_bracket) text)
 
 -- `[`, an address, `]` (IP-literal, 3.2.2)
 abbrev pub is_bracketed : List ℕ → Bool
 is_bracketed [] = false
-is_bracketed (first ∷ rest) = (first == 91) && is_address_and_bracket rest
+is_bracketed (first ∷ rest) = (first == opening_bracket) && is_address_and_bracket rest
 
 -- an address in brackets, or a name that may be empty
 abbrev pub is_host : List ℕ → Bool
@@ -76,7 +77,7 @@ is_host text = is_bracketed text || is_encoded is_name_character text
 -- nothing, or `:` and digits, of which there may be none
 abbrev pub is_port_part : List ℕ → Bool
 is_port_part [] = true
-is_port_part (c ∷ digits) = (c == 58) && list_all is_ascii_digit digits
+is_port_part (c ∷ digits) = (c == colon) && list_all is_ascii_digit digits
 
 -- a host and a port
 abbrev pub is_host_and_port : List ℕ → Bool

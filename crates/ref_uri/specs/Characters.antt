@@ -2,8 +2,7 @@
 use Rattle.std.specs.Prelude.{ℕ, Bool, true, false, ◌||◌, ◌&&◌, List, [], ◌∷◌, codes, ◌==◌, if◌then◌else◌}
 use Rattle.std.specs.List.{list_all, list_any}
 use Rattle.std.specs.Char.{is_ascii_alphanumeric, is_ascii_hexdigit}
-
--- In these definitions 35 is `#`, 37 `%`, 47 `/`, 58 `:`, 63 `?`, 64 `@`, 91 `[` and 93 `]`.
+use Rattle.ref_uri.specs.Bytes.{percent}
 
 -- the character is one of these
 abbrev pub is_one_of : List ℕ → ℕ → Bool
@@ -50,8 +49,8 @@ begins_with_hex_digits (high ∷ low ∷ rest) = is_ascii_hexdigit high && is_as
 -- each `%` is followed by two hex digits (2.1)
 abbrev pub has_whole_triples : List ℕ → Bool
 has_whole_triples [] = true
-has_whole_triples (c ∷ rest) = (if c == 37 then begins_with_hex_digits rest else true) && has_whole_triples rest
+has_whole_triples (c ∷ rest) = (if c == percent then begins_with_hex_digits rest else true) && has_whole_triples rest
 
 -- a text of characters that are allowed, hex digits among them, and of triples
 abbrev pub is_encoded : (ℕ → Bool) → List ℕ → Bool
-is_encoded allowed text = list_all (λ c. allowed c || (c == 37)) text && has_whole_triples text
+is_encoded allowed text = list_all (λ c. allowed c || (c == percent)) text && has_whole_triples text

@@ -5,6 +5,7 @@ use Rattle.std.specs.Option.{option_map_or}
 use Rattle.std.specs.Char.{is_ascii_alphabetic}
 use Rattle.ref_uri.specs.Characters.{is_one_of, is_encoded, is_scheme_character, is_path_character, is_query_character}
 use Rattle.ref_uri.specs.Authority.{is_authority}
+use Rattle.ref_uri.specs.Bytes.{hash, slash, colon, question_mark}
 
 -- `[scheme ":"] ["//" authority] path ["?" query] ["#" fragment]`: a component that is empty differs from one that is absent
 pub record Components : Type 0 where
@@ -39,13 +40,13 @@ ends_path c = is_one_of (codes "?#") c
 
 -- `#`, which ends a query
 abbrev pub ends_query : ℕ → Bool
-ends_query c = c == 35
+ends_query c = c == hash
 
 -- what is before the first of `:/?#`, where that is a `:` and something is before it
 unfoldable pub scheme : List ℕ → Option (List ℕ)
 scheme text =
     let name = before_first ends_scheme text in
-    if nat_lt 0 (length name) && (slice_index text (length name) == 58) then Some name else None
+    if nat_lt 0 (length name) && (slice_index text (length name) == colon) then Some name else None
 
 -- what follows a component of this length and its marks, if it is there
 abbrev pub text_after : Option ℕ → ℕ → List ℕ → List ℕ
@@ -57,7 +58,7 @@ after_scheme text = text_after (option_map length (scheme text)) 1 text
 
 -- two slashes, after which an authority stands
 abbrev pub begins_with_slashes : List ℕ → Bool
-begins_with_slashes text = (slice_index text 0 == 47) && (slice_index text 1 == 47)
+begins_with_slashes text = (slice_index text 0 == slash) && (slice_index text 1 == slash)
 
 -- what is after `//`, up to the next of `/?#`
 abbrev pub authority_in_front : List ℕ → Option (List ℕ)
@@ -81,7 +82,7 @@ after_path text = drop (position_or_len ends_path (after_authority text)) (after
 
 -- what is after `?`, up to `#`
 abbrev pub query_in_front : List ℕ → Option (List ℕ)
-query_in_front text = if slice_index text 0 == 63 then Some (before_first ends_query (drop 1 text)) else None
+query_in_front text = if slice_index text 0 == question_mark then Some (before_first ends_query (drop 1 text)) else None
 
 -- the query, where there is one (3.4)
 unfoldable pub query : List ℕ → Option (List ℕ)
@@ -93,7 +94,7 @@ after_query text = text_after (option_map length (query text)) 1 (after_path tex
 
 -- what is after `#`
 abbrev pub fragment_in_front : List ℕ → Option (List ℕ)
-fragment_in_front text = if slice_index text 0 == 35 then Some (drop 1 text) else None
+fragment_in_front text = if slice_index text 0 == hash then Some (drop 1 text) else None
 
 -- the fragment, where there is one (3.5)
 unfoldable pub fragment : List ℕ → Option (List ℕ)
@@ -124,9 +125,9 @@ if_there test component = option_map_or test component true
 -- Which path may follow what (3.3): after an authority it is empty or begins with `/`; with no authority it doesn't begin
 -- with `//`; with no scheme either, no `:` is in its first segment.
 abbrev pub is_path_after : Option (List ℕ) → Option (List ℕ) → List ℕ → Bool
-is_path_after scheme (Some authority) path = (length path == 0) || (slice_index path 0 == 47)
+is_path_after scheme (Some authority) path = (length path == 0) || (slice_index path 0 == slash)
 is_path_after (Some scheme) None path = not (begins_with_slashes path)
-is_path_after None None path = not (begins_with_slashes path) && not (list_any (λ c. c == 58) (before_first (λ c. c == 47) path))
+is_path_after None None path = not (begins_with_slashes path) && not (list_any (λ c. c == colon) (before_first (λ c. c == slash) path))
 
 -- each component holds what it may (3)
 unfoldable pub are_components : Components → Bool

@@ -1,15 +1,16 @@
 -- The removal of dot segments (RFC 3986, 5.2.4), given by the segments of a path.
 use Rattle.std.specs.Prelude.{ℕ, Bool, false, ◌||◌, ◌&&◌, List, [], ◌∷◌, ◌++◌, codes, reverse, drop, length, bytes_eq, ◌==◌, if◌then◌else◌}
 use Rattle.std.specs.List.{slice_split, prefix_len}
+use Rattle.ref_uri.specs.Bytes.{slash}
 
 -- what is between the slashes: a path that begins with `/` has an empty first segment
 abbrev pub segments : List ℕ → List (List ℕ)
-segments path = slice_split (λ c. c == 47) path
+segments path = slice_split (λ c. c == slash) path
 
 -- segments, each after a slash
 abbrev pub behind_slashes : List (List ℕ) → List ℕ
 behind_slashes [] = []
-behind_slashes (segment ∷ rest) = 47 ∷ (segment ++ behind_slashes rest)
+behind_slashes (segment ∷ rest) = slash ∷ (segment ++ behind_slashes rest)
 
 -- segments with a slash between
 abbrev pub joined_segments : List (List ℕ) → List ℕ

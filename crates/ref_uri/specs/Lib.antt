@@ -1,3 +1,4 @@
+pub mod Bytes
 pub mod Characters
 pub mod Components
 pub mod Authority

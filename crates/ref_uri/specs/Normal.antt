@@ -5,6 +5,7 @@ use Rattle.ref_uri.specs.Characters.{is_unreserved}
 use Rattle.ref_uri.specs.Authority.{userinfo, host, port_part}
 use Rattle.ref_uri.specs.Components.{Components, components, text_of, framed_component, begins_with_slashes}
 use Rattle.ref_uri.specs.DotSegments.{remove_dot_segments}
+use Rattle.ref_uri.specs.Bytes.{percent}
 
 -- the value of a hex digit
 abbrev pub hex_value : ℕ → ℕ
@@ -14,13 +15,13 @@ hex_value c = if nat_lt c 58 then c - 48 else to_ascii_lowercase c - 87
 abbrev pub normal_triple : (ℕ → ℕ) → ℕ → ℕ → List ℕ
 normal_triple fold high low =
     if is_unreserved (16 * hex_value high + hex_value low) then fold (16 * hex_value high + hex_value low) ∷ []
-    else 37 ∷ to_ascii_uppercase high ∷ to_ascii_uppercase low ∷ []
+    else percent ∷ to_ascii_uppercase high ∷ to_ascii_uppercase low ∷ []
 
 -- An encoded text in normal form, where fold is what case a character gets: `%` and two digits are a normal triple.
 unfoldable pub normal_encoded : (ℕ → ℕ) → List ℕ → List ℕ
 normal_encoded fold [] = []
 normal_encoded fold (c ∷ high ∷ low ∷ rest) =
-    elim (c == 37) [
+    elim (c == percent) [
       | true ↦ normal_triple fold high low ++ normal_encoded fold rest
       | false ↦ fold c ∷ normal_encoded fold (high ∷ low ∷ rest)
     ]

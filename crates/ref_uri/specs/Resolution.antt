@@ -5,18 +5,19 @@ use Rattle.std.specs.Option.{option_or}
 use Rattle.ref_uri.specs.Components.{Components, components, text_of}
 use Rattle.ref_uri.specs.DotSegments.{remove_dot_segments}
 use Rattle.ref_uri.specs.Normal.{guarded_path}
+use Rattle.ref_uri.specs.Bytes.{slash}
 
 -- up to and with the last slash, or nothing
 abbrev pub through_last_slash : List ℕ → List ℕ
-through_last_slash path = take (length path - suffix_len (λ c. not (c == 47)) path) path
+through_last_slash path = take (length path - suffix_len (λ c. not (c == slash)) path) path
 
 -- a relative path after the base's (5.2.3)
 abbrev pub merged_path : Components → List ℕ → List ℕ
-merged_path base path = if is_some base.authority && (length base.path == 0) then 47 ∷ path else through_last_slash base.path ++ path
+merged_path base path = if is_some base.authority && (length base.path == 0) then slash ∷ path else through_last_slash base.path ++ path
 
 -- the path of the target of a reference that has one (5.2.2)
 abbrev pub target_path : Components → List ℕ → List ℕ
-target_path base path = if slice_index path 0 == 47 then remove_dot_segments path else remove_dot_segments (merged_path base path)
+target_path base path = if slice_index path 0 == slash then remove_dot_segments path else remove_dot_segments (merged_path base path)
 
 -- the reference's query, or the base's where it has none
 abbrev pub query_or : Option (List ℕ) → Option (List ℕ) → Option (List ℕ)

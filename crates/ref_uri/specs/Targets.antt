@@ -5,6 +5,7 @@ use Rattle.ref_uri.specs.Components.{scheme}
 use Rattle.ref_uri.specs.Reference.{is_uri_reference, with_fragment}
 use Rattle.ref_uri.specs.Normal.{normal_form}
 use Rattle.ref_uri.specs.Resolution.{target_text}
+use Rattle.ref_uri.specs.Bytes.{hash}
 
 -- why a text means no URI
 pub data Refusal : Type 0 where
@@ -34,20 +35,20 @@ uri_of text =
 unfoldable pub uri_against : List ℕ → List ℕ → Result (List ℕ) Refusal
 uri_against base text =
     if is_some (scheme base) then
-    (if (slice_index text 0 == 35) && ends_with nat_eq base text then Ok base
+    (if (slice_index text 0 == hash) && ends_with nat_eq base text then Ok base
     else (if is_uri_reference text then Ok (normal_form (target_text (with_fragment base None) text)) else Err (parse_refusal text)))
     else Err (resolve_refusal text base)
 
 -- the URI part of a reference that doesn't begin with `#`: what is before its last `#`
 abbrev pub uri_part : List ℕ → List ℕ
-uri_part reference = if list_any (λ c. c == 35) reference then before_last (λ c. c == 35) reference else reference
+uri_part reference = if list_any (λ c. c == hash) reference then before_last (λ c. c == hash) reference else reference
 
 -- the fragment: what follows a `#` in front, or else the last `#`
 abbrev pub fragment_part : List ℕ → List ℕ
 fragment_part reference =
-    if slice_index reference 0 == 35 then drop 1 reference
-    else (if list_any (λ c. c == 35) reference then after_last (λ c. c == 35) reference else [])
+    if slice_index reference 0 == hash then drop 1 reference
+    else (if list_any (λ c. c == hash) reference then after_last (λ c. c == hash) reference else [])
 
 -- the URI that a reference points into: a reference that begins with `#` points into the base
 abbrev pub target : List ℕ → List ℕ → Result (List ℕ) Refusal
-target base reference = if slice_index reference 0 == 35 then Ok base else uri_against base (uri_part reference)
+target base reference = if slice_index reference 0 == hash then Ok base else uri_against base (uri_part reference)
