@@ -57,7 +57,7 @@ fn remote_of(alloc: Global, members: &mut Members) -> Result<MapRetriever, Stop<
     ensures { Answers (λ m. trees_of m) result (spec.remote_of (get_member (codes "remote") (members_view members.old.entries))) }
 {
     let pairs = match documents_under(alloc, members, "remote")? {
-        Some(documents) => under_uris(alloc, documents)?,
+        Some(documents) => under_uris(alloc, documents, "remote")?,
         None => Vec::new(alloc),
     };
     Ok(MapRetriever::from_pairs(alloc, pairs)?)
