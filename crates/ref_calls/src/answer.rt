@@ -24,8 +24,8 @@ fn offset_of(line: &[u8], error: &Error) -> usize
 
 /// The tree that a line is.
 ///
-/// `Because` where it is no JSON, with a place in the line, in bytes from its beginning: at or just past what can't be read, or its length where more
-/// would have to follow. `Memory` where memory is refused. Linear in the line.
+/// `Because` where it is no JSON, with a place in the line, in bytes from its beginning: at or just past what can't be read,
+/// or its length where more would have to follow. `Memory` where memory is refused. Linear in the line.
 pub fn tree_of(alloc: Global, line: &[u8]) -> Result<Value, Stop<usize>>
     ensures tree { IfOk result (λ v. spec.tree_of line.now ≡ Some (view v)) }
     ensures not_json { IfErr result (spec.IsNotJson line.now) }
@@ -54,7 +54,8 @@ pub fn id_of(tree: &Value) -> Result<Option<Value>, AllocError>
 
 // Puts the value that the answer gives back.
 fn put_id(alloc: Global, members: &mut Members, id: Option<Value>) -> Result<(), AllocError>
-    ensures { OnOk result (members_view members.new.entries ≡ with_all (id_member (option_map view id)) (members_view members.old.entries)) }
+    ensures { OnOk result (members_view members.new.entries
+        ≡ with_all (id_member (option_map view id)) (members_view members.old.entries)) }
 {
     match id {
         Some(id) => put(members, alloc, "id", id),
@@ -92,7 +93,8 @@ pub fn error_text(
     id: Option<Value>,
     error: Stop<Value>,
 ) -> Result<Vec<u8>, AllocError>
-    ensures { (object : Data) → IsStop error object → IfOk result (λ text. IsLineOf (answer_of (option_map view id) (codes "error") object) text.items) }
+    ensures { (object : Data) → IsStop error object
+        → IfOk result (λ text. IsLineOf (answer_of (option_map view id) (codes "error") object) text.items) }
 {
     match error {
         Stop::Because(error) => text_of(alloc, id, "error", error),

@@ -80,7 +80,8 @@ fn documents_of(alloc: Global, value: Value, field: &str) -> Result<Vec<Document
 // The member under a key, which is taken out.
 fn taken(members: &mut Members, key: &str) -> Option<Value>
     ensures value { option_map view result ≡ get_member key.now (members_view members.old.entries) }
-    ensures others { (other : List ℕ) → other ≢ key.now → get_member other (members_view members.new.entries) ≡ get_member other (members_view members.old.entries) }
+    ensures others { (other : List ℕ) → other ≢ key.now → get_member other (members_view members.new.entries)
+        ≡ get_member other (members_view members.old.entries) }
 {
     members.remove(key)
 }
@@ -91,8 +92,10 @@ pub fn documents_under(
     members: &mut Members,
     field: &str,
 ) -> Result<Option<Vec<Document>>, Stop<Value>>
-    ensures value { Answers (option_map (λ v. map given_of v.items)) result (spec.documents_at field.now (get_member field.now (members_view members.old.entries))) }
-    ensures others { (other : List ℕ) → other ≢ field.now → get_member other (members_view members.new.entries) ≡ get_member other (members_view members.old.entries) }
+    ensures value { Answers (option_map (λ v. map given_of v.items)) result (spec.documents_at field.now (get_member field.now
+        (members_view members.old.entries))) }
+    ensures others { (other : List ℕ) → other ≢ field.now → get_member other (members_view members.new.entries)
+        ≡ get_member other (members_view members.old.entries) }
 {
     let Some(value) = taken(members, field) else {
         return Ok(None);
@@ -103,8 +106,10 @@ pub fn documents_under(
 
 /// The documents under `documents`, which are needed.
 pub fn needed_documents(alloc: Global, members: &mut Members) -> Result<Vec<Document>, Stop<Value>>
-    ensures value { Answers (λ v. map given_of v.items) result (spec.needed_documents (get_member (codes "documents") (members_view members.old.entries))) }
-    ensures others { (other : List ℕ) → other ≢ codes "documents" → get_member other (members_view members.new.entries) ≡ get_member other (members_view members.old.entries) }
+    ensures value { Answers (λ v. map given_of v.items) result (spec.needed_documents (get_member (codes "documents")
+        (members_view members.old.entries))) }
+    ensures others { (other : List ℕ) → other ≢ codes "documents" → get_member other (members_view members.new.entries)
+        ≡ get_member other (members_view members.old.entries) }
 {
     match documents_under(alloc, members, "documents")? {
         Some(documents) => Ok(documents),

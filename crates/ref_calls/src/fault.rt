@@ -189,7 +189,8 @@ fn wanted_of(error: &Error) -> Option<(&str, &'static str)>
 
 // Puts the document that is wanted and isn't there.
 fn put_wanted(alloc: Global, members: &mut Members, error: &Error) -> Result<(), AllocError>
-    ensures { (fault : Fault) → SaysFault error.now fault → OnOk result (members_view members.new.entries ≡ with_all (spec.wanted_members (spec.wanted fault)) (members_view members.old.entries)) }
+    ensures { (fault : Fault) → SaysFault error.now fault → OnOk result (members_view members.new.entries
+        ≡ with_all (spec.wanted_members (spec.wanted fault)) (members_view members.old.entries)) }
 {
     match wanted_of(error) {
         Some((uri, kind)) => {
@@ -202,7 +203,8 @@ fn put_wanted(alloc: Global, members: &mut Members, error: &Error) -> Result<(),
 
 /// The members of a fault's error. Running out of memory is none.
 pub fn fault_members(alloc: Global, error: &Error) -> Result<Members, AllocError>
-    ensures members { (fault : Fault) → SaysFault error.now fault → IfOk result (λ m. members_view m.entries ≡ with_all (spec.fault_members fault) no_members) }
+    ensures members { (fault : Fault) → SaysFault error.now fault → IfOk result (λ m. members_view m.entries
+        ≡ with_all (spec.fault_members fault) no_members) }
     ensures memory { is_memory error.now ≡ true → IsErr result }
 {
     if error.is_memory() {

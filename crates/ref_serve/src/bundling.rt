@@ -67,7 +67,8 @@ fn refusal_object(alloc: Global, refusal: &Refusal<'_>) -> Result<Value, AllocEr
 
 // The same of an error, which may be that memory ran out.
 fn bundle_error(alloc: Global, error: &BundleError<'_>) -> Result<Value, AllocError>
-    ensures { (answer : Result WorldBundle BundleRefusal) → IsRefusalOf answer error.now → IfOk result (λ d. spec.bundled_result answer ≡ Err (view d)) }
+    ensures { (answer : Result WorldBundle BundleRefusal) → IsRefusalOf answer error.now
+        → IfOk result (λ d. spec.bundled_result answer ≡ Err (view d)) }
 {
     match error {
         BundleError::Refused(refusal) => refusal_object(alloc, refusal),

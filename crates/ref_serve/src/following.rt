@@ -93,10 +93,12 @@ fn looked_up<'s>(
     resolver: &Resolver<'s>,
     reference: Option<&str>,
 ) -> Result<Followed<'s>, Error>
-    ensures ok { IfOk result (λ f. IsLookedUpTo (answer_at (world_of resolver.now) (resolver_view resolver.now) (option_map (λ r. r.now) reference.entry)) (followed_view f)) }
+    ensures ok { IfOk result (λ f. IsLookedUpTo (answer_at (world_of resolver.now) (resolver_view resolver.now) (option_map
+        (λ r. r.now) reference.entry)) (followed_view f)) }
     ensures placed { IfOk result (λ f. IsPlaced (world_of resolver.now) f) }
     ensures world { IfOk result (λ f. world_of f.resolver ≡ world_of resolver.now) }
-    ensures fault { IfErr result (IsFaultOf (answer_at (world_of resolver.now) (resolver_view resolver.now) (option_map (λ r. r.now) reference.entry))) }
+    ensures fault { IfErr result (IsFaultOf (answer_at (world_of resolver.now) (resolver_view resolver.now) (option_map
+        (λ r. r.now) reference.entry))) }
 {
     let (found, resolver) = found_at(alloc, resolver, reference)?;
     Ok(Followed {
@@ -112,10 +114,12 @@ fn stepped<'s>(
     step: &Step<'_>,
 ) -> Result<Followed<'s>, Error>
     requires { IsPlaced (world_of followed.resolver) followed }
-    ensures ok { IfOk result (λ f. after_step (world_of followed.entry.resolver) (followed_view followed.entry) (step_of step.now) ≡ Ok (followed_view f)) }
+    ensures ok { IfOk result (λ f. after_step (world_of followed.entry.resolver) (followed_view followed.entry)
+        (step_of step.now) ≡ Ok (followed_view f)) }
     ensures placed { IfOk result (λ f. IsPlaced (world_of followed.entry.resolver) f) }
     ensures world { IfOk result (λ f. world_of f.resolver ≡ world_of followed.entry.resolver) }
-    ensures fault { IfErr result (IsFaultOf (after_step (world_of followed.entry.resolver) (followed_view followed.entry) (step_of step.now))) }
+    ensures fault { IfErr result (IsFaultOf (after_step (world_of followed.entry.resolver) (followed_view followed.entry)
+        (step_of step.now))) }
 {
     match step {
         Step::Lookup(reference) => looked_up(alloc, &followed.resolver, Some(reference)),
@@ -132,7 +136,8 @@ fn stepped<'s>(
 
 // The error of a step.
 fn step_error(alloc: Global, number: usize, error: &Error) -> Result<Value, AllocError>
-    ensures error { (fault : Fault) → SaysFault error.now fault → IfOk result (λ d. view d ≡ object_of (spec.step_members number fault)) }
+    ensures error { (fault : Fault) → SaysFault error.now fault → IfOk result (λ d. view d
+        ≡ object_of (spec.step_members number fault)) }
     ensures memory { is_memory error.now ≡ true → IsErr result }
 {
     let mut members = fault_members(alloc, error)?;
@@ -146,9 +151,11 @@ fn all_followed<'s>(
     start: Resolver<'s>,
     steps: &[Step<'_>],
 ) -> Result<Followed<'s>, Stop<Value>>
-    ensures ok { IfOk result (λ f. followed_from (world_of start.entry) 0 (spec.start_at (resolver_view start.entry)) (map step_of steps.now) ≡ Ok (followed_view f)) }
+    ensures ok { IfOk result (λ f. followed_from (world_of start.entry) 0 (spec.start_at (resolver_view start.entry))
+        (map step_of steps.now) ≡ Ok (followed_view f)) }
     ensures placed { IfOk result (λ f. IsPlaced (world_of start.entry) f) }
-    ensures error { IfErr result (IsStepError (followed_from (world_of start.entry) 0 (spec.start_at (resolver_view start.entry)) (map step_of steps.now))) }
+    ensures error { IfErr result (IsStepError (followed_from (world_of start.entry) 0 (spec.start_at
+        (resolver_view start.entry)) (map step_of steps.now))) }
 {
     let mut followed = Followed {
         last: None,
@@ -170,7 +177,9 @@ fn located_object(
     found: &Found<'_>,
     resolver: &Resolver<'_>,
 ) -> Result<Value, AllocError>
-    ensures { IfOk result (λ d. view d ≡ object_of (results.found_members (asked_view asked.now) found.now.location (view found.now.value.now) found.now.draft
+    ensures { IfOk result (λ d. view d
+        ≡ object_of (results.found_members (asked_view asked.now) found.now.location
+        (view found.now.value.now) found.now.draft
         ++ results.resolver_members (resolver_view resolver.now))) }
 {
     let mut members = Map::new(alloc);
@@ -186,7 +195,8 @@ fn followed_object(
     followed: &Followed<'_>,
 ) -> Result<Value, AllocError>
     requires { IsPlaced asked.now.registry.now.0 followed.now }
-    ensures { IfOk result (λ d. spec.IsFollowedTo (asked_view asked.now) (followed_view followed.now).last (resolver_view followed.now.resolver) (view d)) }
+    ensures { IfOk result (λ d. spec.IsFollowedTo (asked_view asked.now) (followed_view followed.now).last
+        (resolver_view followed.now.resolver) (view d)) }
 {
     match &followed.last {
         Some(found) => located_object(alloc, asked, found, &followed.resolver),
