@@ -49,9 +49,7 @@ export class Patchsard {
 }
 
 class Registry {
-    constructor(patchsard, number, documents, parent) {
-        Object.assign(this, { patchsard, number, documents, parent });
-    }
+    constructor(patchsard, number, documents, parent) { Object.assign(this, { patchsard, number, documents, parent }); }
     async lookup(base, reference, scope = []) {
         return this.#found(await this.patchsard.call("lookup", { registry: this.number, base, scope, reference }));
     }
@@ -60,9 +58,7 @@ class Registry {
         const all = await this.patchsard.call("lookup", { registry: this.number, base, scope, reference });
         return all.map((it) => (it.error ? it : this.#found(it)));
     }
-    close() {
-        return this.patchsard.call("close", { registry: this.number });
-    }
+    close() { return this.patchsard.call("close", { registry: this.number }); }
     #found(answer) {
         let owner = this;
         while (owner.number !== answer.registry) owner = owner.parent;

@@ -42,7 +42,10 @@ class InvalidAnchor(Unresolvable):
 
 
 class InvalidUri(Unresolvable):
-    """The reference is no URI reference."""
+    """The reference is no URI reference. `field` is the member of the call whose text is none, and `index` the number of the item there, where the program says them."""
+
+    field: Optional[str] = None
+    index: Optional[int] = None
 
 
 class Unretrievable(Unresolvable):
@@ -90,7 +93,13 @@ class ProgramNotFound(RuntimeError):
 
 
 class CallRefused(ValueError):
-    """The program takes a call, or a document in it, for malformed. `name` is the name of the error in the protocol."""
+    """The program takes a call, or a document in it, for malformed. `name` is the name of the error in the protocol; `field` is the member of the call that it is about,
+    `index` the number of the item there, and `offset` the byte of the line, where the program says them.
+    """
+
+    field: Optional[str] = None
+    index: Optional[int] = None
+    offset: Optional[int] = None
 
     def __init__(self, name: str, message: str) -> None:
         super().__init__(f"{name}: {message}")
@@ -110,6 +119,8 @@ def from_answer(error: Dict[str, Any], ref: str) -> Exception:
         found = _OF_REFERENCES[name](ref, message)
         if isinstance(found, Unretrievable):
             found.uri = error.get("uri")
+        if isinstance(found, InvalidUri):
+            found.field, found.index = error.get("field"), error.get("index")
         return found
     if name == "RetrievalLimit":
         return RetrievalLimit(message)
@@ -119,4 +130,6 @@ def from_answer(error: Dict[str, Any], ref: str) -> Exception:
         return refused
     if name == "OutOfMemory":
         return MemoryError(message)
-    return CallRefused(name, message)
+    malformed = CallRefused(name, message)
+    malformed.field, malformed.index, malformed.offset = error.get("field"), error.get("index"), error.get("offset")
+    return malformed

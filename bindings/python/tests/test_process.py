@@ -12,6 +12,7 @@ from unittest import mock
 
 import patchsard
 from patchsard import Registry, _process
+from patchsard.exceptions import from_answer
 
 SCHEMA = {"$defs": {str(number): {"const": number} for number in range(50)}}
 
@@ -26,6 +27,21 @@ class OneProcess(unittest.TestCase):
         pid = _process.shared().pid
         registry().crawl()
         self.assertEqual(_process.shared().pid, pid)
+
+    def test_where_an_error_is(self):
+        opened = _process.shared().ask(b'{"call":"open","documents":[]}\n')["result"]["registry"]
+        follow = '{"call":"follow","registry":%d,"base":"a","steps":[null,1]}\n' % opened
+        cases = [
+            ("{\n", patchsard.CallRefused, None, None, 1),
+            ('{"call":"lookup","steps":[]}\n', patchsard.CallRefused, "steps", None, None),
+            (follow, patchsard.CallRefused, "steps", 1, None),
+            ('{"call":"open","documents":[["a",{}],["b c",{}]]}\n', patchsard.InvalidUri, "documents", 1, None),
+        ]
+        for line, kind, field, index, offset in cases:
+            error = from_answer(_process.shared().ask(line.encode("utf-8"))["error"], "")
+            self.assertIs(type(error), kind)
+            self.assertEqual((error.field, error.index, getattr(error, "offset", None)), (field, index, offset))
+        _process.shared().close_later(opened)
 
     def test_threads(self):
         resolver = registry().resolver("https://example.com/a")

@@ -1,11 +1,11 @@
 -- Where pointers lead in a bundle.
-use Rattle.std.proofs.Common.{◌≡◌, ℕ, Bool, true, false, cond, List, [], ◌∷◌, map, codes, Option, Some, None, is_some, option_and_then, Result, Ok, Err, bytes_eq, ◌⊎◌, inl, inr, ⊎_elim, refl, sym, ap, subst, ◌∙◌, true≢false, arith}
+use Rattle.std.proofs.Common.{◌≡◌, ◌≢◌, ℕ, Bool, true, false, cond, List, [], ◌∷◌, map, codes, Option, Some, None, is_some, option_and_then, Result, Ok, Err, bytes_eq, ◌⊎◌, inl, inr, ⊎_elim, refl, sym, ap, subst, ◌∙◌, true≢false, arith}
 use Rattle.std.specs.List.{AllByRecursion, Contains}
 use Rattle.std.specs.Str.{is_utf8}
 use Rattle.std.proofs.lemmas.Slice.Eq.{bytes_eq-Decides}
 use Rattle.std.proofs.lemmas.List.Elements.{Contains-append_right}
 use Rattle.percent_encoding.specs.Percent.{percent_decode}
-use Rattle.serde_json.specs.Data.{Data, object, Members, put}
+use Rattle.serde_json.specs.Data.{Data, null, boolean, number, string, array, object, Members, put}
 use Rattle.serde_json.specs.Find.{get, get_member, as_object}
 use Rattle.serde_json.proofs.Views.{get_member-put_other}
 use Rattle.ref_parts.specs.Path.{Key}
@@ -30,7 +30,7 @@ use Rattle.ref_bundle.specs.Embedding.{base_uri, added_schema, embedded_tree}
 use Rattle.ref_bundle.specs.Bundle.{Bundle, definitions_keyword, definitions_of, members_or_none, with_all, member_of, tree_with, bundle_of, to_embed}
 use Rattle.ref_bundle.specs.Kept.{IsValueNow, the_same, an_embedded, the_root, the_definitions, IsAnswerNow, BeginsWith, GoesIntoAdded, into_definitions, to_identifier, to_schema, to_definitions, to_embedded}
 use Rattle.ref_bundle.proofs.LawEmbedded.{given_back}
-use Rattle.ref_bundle.proofs.LawPut.{apart, IsEmbeddable, get_embedded, object_embedded, schema_text_same, get_with}
+use Rattle.ref_bundle.proofs.LawPut.{apart, IsEmbeddable, get_embedded, id_embedded, object_embedded, schema_text_same, get_with}
 use Rattle.ref_bundle.proofs.LawPlaces.{HasRoom, HasRoomFor}
 use Rattle.ref_bundle.proofs.LawTop.{get_top, object_top, identifier_alike}
 use Rattle.ref_bundle.proofs.LawWalk.{walk_alike, walk_through, walk_there, goes_on, along_alike}
@@ -106,12 +106,32 @@ begins_two : (text : List ℕ) (token second : List ℕ) (more : List (List ℕ)
 begins_two text token second more key other is same also =
     record { text = text; rest = map unescape more; is = refl; first = ap (map unescape) is ∙ ap (λ k. k ∷ unescape second ∷ map unescape more) same ∙ ap (λ k. key ∷ k ∷ map unescape more) also }
 
+-- what is found is a text, or something else
+text_or_other : (found : Option Data) (text : List ℕ) → (found ≡ Some (string text)) ⊎ (found ≢ Some (string text))
+text_or_other None text = inr (λ is. absurd (let e : None ≡ Some (string text) = is in cc))
+text_or_other (Some null) text = inr (λ is. absurd (let e : Some null ≡ Some (string text) = is in cc))
+text_or_other (Some (boolean b)) text = inr (λ is. absurd (let e : Some (boolean b) ≡ Some (string text) = is in cc))
+text_or_other (Some (number n)) text = inr (λ is. absurd (let e : Some (number n) ≡ Some (string text) = is in cc))
+text_or_other (Some (array ds)) text = inr (λ is. absurd (let e : Some (array ds) ≡ Some (string text) = is in cc))
+text_or_other (Some (object ms)) text = inr (λ is. absurd (let e : Some (object ms) ≡ Some (string text) = is in cc))
+text_or_other (Some (string own)) text = by_text (bytes_eq own text) refl
+  where
+    by_text : (b : Bool) → bytes_eq own text ≡ b → (Some (string own) ≡ Some (string text)) ⊎ (Some (string own) ≢ Some (string text))
+    by_text true same = inl (ap (λ t. Some (string t)) ((bytes_eq-Decides own text).0 same))
+    by_text false same = inr (λ is. apart own text same (let e : Some (string own) ≡ Some (string text) = is in cc))
+
 embedded_step : (layer : Layer) (n : ℕ) (top : Document) (bundle : Bundle) (e : ℕ × Document) → Contains (to_embed layer n) e → IsEmbeddable top e.1 → (r : Resolver) (pointer : List ℕ) (along : Along) (text token : List ℕ) (more : List (List ℕ))
     → tokens (percent_decode text) ≡ token ∷ more → (b c : Bool) → bytes_eq (unescape token) (id_keyword e.1.draft) ≡ b → bytes_eq (unescape token) (codes "$schema") ≡ c → (o : Option (List ℕ)) → added_schema top.draft e.1 ≡ o
     → IsAnswerNow layer n top bundle (AnswerOf r e.1.draft (walked_along e.1.draft pointer along (embedded_tree top.draft e.1) (token ∷ more))) (AnswerOf r e.1.draft (walked_along e.1.draft pointer along e.1.tree (token ∷ more)))
     ⊎ GoesIntoAdded layer n top (root e.1) (47 ∷ text)
 embedded_step layer n top bundle e there able r pointer along text token more is true c same also o added =
-    inr (to_identifier e there refl (begins text token more (id_keyword e.1.draft) is ((bytes_eq-Decides (unescape token) (id_keyword e.1.draft)).0 same)))
+    let key : unescape token ≡ id_keyword e.1.draft = (bytes_eq-Decides (unescape token) (id_keyword e.1.draft)).0 same in
+    ⊎_elim
+    (λ own. inl (equal_answer layer n top bundle _ _
+    (ap (AnswerOf r e.1.draft) (walk_alike e.1.draft pointer along (embedded_tree top.draft e.1) e.1.tree token more (object_embedded top.draft e.1 ∙ able.object) able.object
+    (subst (λ k. get k (embedded_tree top.draft e.1) ≡ get k e.1.tree) (sym key) (id_embedded top.draft e.1 able.object ∙ sym own))))))
+    (λ other. inr (to_identifier e there refl other (begins text token more (id_keyword e.1.draft) is key)))
+    (text_or_other (get (id_keyword e.1.draft) e.1.tree) (base_uri e.1))
 embedded_step layer n top bundle e there able r pointer along text token more is false true same also (Some schema) added =
     inr (to_schema e there refl (ap is_some added) (begins text token more (codes "$schema") is ((bytes_eq-Decides (unescape token) (codes "$schema")).0 also)))
 embedded_step layer n top bundle e there able r pointer along text token more is false true same also None added =

@@ -36,3 +36,4 @@ pub mod Pairs
 pub mod Gathering
 pub mod Firsts
 pub mod Whole
+pub mod Texts

@@ -75,7 +75,7 @@ pub data Obstacle : Type 0 where
   -- an identifier doesn't give this base URI back, below the root or against itself: the `#` characters at the end of a text don't
   -- count
   NotKept : List ℕ → Obstacle
-  -- no `$schema` that could be added tells this draft
+  -- no `$schema` could be added by which this draft is detected
   UntoldDraft : Draft → Obstacle
   -- its root has a dynamic anchor, whose look-up resolves the identifier once more, against the base URI that it gave, and gets
   -- another URI, which an absolute identifier wouldn't give

@@ -1,9 +1,9 @@
 -- What a bundle keeps of the documents that it is made of.
-use Rattle.std.specs.Prelude.{◌≡◌, ℕ, List, [], ◌∷◌, ◌++◌, map, filter, drop, not, ◌==◌, slice_get, codes, is_some, Some, None, Result, Ok, Err, IsTrue, ◌⊎◌}
+use Rattle.std.specs.Prelude.{◌≡◌, ◌≢◌, ℕ, List, [], ◌∷◌, ◌++◌, map, filter, drop, not, ◌==◌, slice_get, codes, is_some, Some, None, Result, Ok, Err, IsTrue, ◌⊎◌}
 use Rattle.std.specs.List.{AllByRecursion, Contains}
 use Rattle.std.specs.List.Sorted.{IsStrictlyIncreasing}
 use Rattle.percent_encoding.specs.Percent.{percent_decode}
-use Rattle.serde_json.specs.Data.{Data}
+use Rattle.serde_json.specs.Data.{Data, string}
 use Rattle.serde_json.specs.Find.{get}
 use Rattle.ref_parts.specs.Path.{Part, Key}
 use Rattle.ref_parts.specs.Pointer.{unescape, tokens}
@@ -106,11 +106,15 @@ pub data GoesIntoDefinitions (layer : Layer) (number : ℕ) (top : Document) (p 
   to_definitions : (e : ℕ × Document) → Contains (to_embed layer number) e → p ≡ root top → get (definitions_keyword top.draft) top.tree ≡ None → BeginsWith fragment (definitions_keyword top.draft ∷ []) → GoesIntoDefinitions layer number top p fragment
   to_embedded : (e : ℕ × Document) → Contains (to_embed layer number) e → p ≡ root top → BeginsWith fragment (definitions_keyword top.draft ∷ base_uri e.1 ∷ []) → GoesIntoDefinitions layer number top p fragment
 
--- A pointer from a place that goes into what was added: such a one, or one from an embedded document's root to its identifier or
--- its `$schema`.
+-- the bundle has another identifier for a document than its own: one was added, or its text is another
+abbrev pub HasOtherIdentifier : Document → Type 0
+HasOtherIdentifier d = get (id_keyword d.draft) d.tree ≢ Some (string (base_uri d))
+
+-- A pointer from a place that goes into what was added: such a one, or one from an embedded document's root to an identifier that is
+-- another, or to the `$schema` that was added.
 pub data GoesIntoAdded (layer : Layer) (number : ℕ) (top : Document) (p : Place) (fragment : List ℕ) : Type 0 where
   into_definitions : GoesIntoDefinitions layer number top p fragment → GoesIntoAdded layer number top p fragment
-  to_identifier : (e : ℕ × Document) → Contains (to_embed layer number) e → p ≡ root e.1 → BeginsWith fragment (id_keyword e.1.draft ∷ []) → GoesIntoAdded layer number top p fragment
+  to_identifier : (e : ℕ × Document) → Contains (to_embed layer number) e → p ≡ root e.1 → HasOtherIdentifier e.1 → BeginsWith fragment (id_keyword e.1.draft ∷ []) → GoesIntoAdded layer number top p fragment
   to_schema : (e : ℕ × Document) → Contains (to_embed layer number) e → p ≡ root e.1 → IsTrue (is_some (added_schema top.draft e.1)) → BeginsWith fragment (codes "$schema" ∷ []) → GoesIntoAdded layer number top p fragment
 
 -- a text that a value has under `$ref` or `$dynamicRef`

@@ -1,5 +1,5 @@
--- What the program's bundles and errors say.
-use Rattle.std.specs.Prelude.{◌≡◌, map, option_map, Result, Err, ⊤}
+-- What the program's bundles and errors say, and how refusals are displayed.
+use Rattle.std.specs.Prelude.{◌≡◌, ℕ, List, ◌++◌, codes, decimal, map, option_map, Result, Err, ⊤}
 use Rattle.serde_json.specs.View.{view}
 use Rattle.ref_parts.specs.Segment.{part_of}
 use Rattle.ref_bundle.specs.Embedding as embedding
@@ -50,3 +50,32 @@ bundle_said b = record { value = view b.value; embedded = map embedded_said b.em
 abbrev pub IsRefusalOf : Result Bundle BundleRefusal → rust_error.BundleError → Type 0
 IsRefusalOf answer (errors.Refused refusal) = answer ≡ Err (refusal_said refusal)
 IsRefusalOf answer (errors.Memory error) = ⊤
+
+-- ---- texts
+
+-- what is displayed of what keeps a document out of a bundle
+abbrev pub obstacle_text : Obstacle → List ℕ
+obstacle_text embedding.NotAnObject = codes "it is no object"
+obstacle_text embedding.IdentifierBesideRef = codes "an identifier doesn't count beside the `$ref` at its root"
+obstacle_text embedding.NotAnIdentifier = codes "the keyword of its identifier holds what is no identifier"
+obstacle_text (embedding.NotKept uri) = codes "its URI '" ++ uri ++ codes "' can't be an identifier"
+obstacle_text (embedding.UntoldDraft draft) = codes "no `$schema` names its draft"
+obstacle_text embedding.ResolvedAgain = codes "its identifier is relative, and its root has a dynamic anchor"
+
+-- of a problem
+abbrev pub problem_text : Problem → List ℕ
+problem_text bundle.NoDocument = codes "there is no such document"
+problem_text (bundle.NotEmbedded obstacle) = codes "the document can't be part of a bundle: " ++ obstacle_text obstacle
+problem_text bundle.NoMap = codes "the value of the definitions keyword is no object"
+problem_text (bundle.KeyTaken uri) = codes "there is a definition '" ++ uri ++ codes "' already"
+problem_text (bundle.SharedUri uri document path) = codes "a subschema of document " ++ decimal document ++ codes " has the URI '" ++ uri ++ codes "' too"
+problem_text (bundle.ReplacedUri uri base) = codes "the identifier of the document '" ++ uri ++ codes "' replaces that URI by '" ++ base ++ codes "'"
+
+-- of a refusal
+abbrev pub refusal_text : BundleRefusal → List ℕ
+refusal_text r = codes "Document " ++ decimal r.document ++ codes ": " ++ problem_text r.problem
+
+-- of an error
+abbrev pub error_text : rust_error.BundleError → List ℕ
+error_text (errors.Refused refusal) = refusal_text (refusal_said refusal)
+error_text (errors.Memory error) = codes "Out of memory"

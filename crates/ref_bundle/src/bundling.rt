@@ -5,7 +5,8 @@ ghost use Rattle.ref_definitions.specs.World.{own_layer};
 ghost use Rattle.ref_bundle.specs.Bundle.{embedded_document, bundle_at, bundle_of, to_embed};
 ghost use Rattle.ref_bundle.specs.Saying.{embedded_said, bundle_said, IsRefusalOf};
 ghost use Rattle.ref_bundle.specs.inner.Reach.{is_marked, IsReach};
-ghost use Rattle.ref_bundle.specs.inner.Seen.{numbered_document, layer_in, part_document, numbered_part, HasPlaces, AreOwn, HasBase};
+ghost use Rattle.ref_bundle.specs.inner.Seen.{numbered_document, layer_in, part_document, numbered_part, HasPlaces, AreOwn};
+ghost use Rattle.ref_bundle.specs.inner.Seen.{HasBase};
 ghost use Rattle.ref_bundle.specs.inner.Tables.{AreTables};
 ghost use Rattle.ref_bundle.specs.Needed.{referred_in};
 
@@ -36,7 +37,8 @@ fn push<'r>(
     own: &Own<'r>,
 ) -> Result<(), AllocError>
     requires { HasPlaces own.now }
-    ensures parts { OnOk result (map numbered_part parts.new.items ≡ map numbered_part parts.old.items ++ filter (λ e. not (e.0 == top) && is_marked needed.now e.0) (numbered_document own.now ∷ [])) }
+    ensures parts { OnOk result (map numbered_part parts.new.items ≡ map numbered_part parts.old.items
+        ++ filter (λ e. not (e.0 == top) && is_marked needed.now e.0) (numbered_document own.now ∷ [])) }
     ensures bases { AllByRecursion HasBase parts.old.items → OnOk result (AllByRecursion HasBase parts.new.items) }
 {
     if is_embedded(needed, top, own.number) {
@@ -54,7 +56,8 @@ fn parts_of<'r>(
     top: usize,
 ) -> Result<Vec<Part<'r>>, AllocError>
     requires { AllByRecursion HasPlaces owns.now }
-    ensures parts { IfOk result (λ parts. map numbered_part parts.items ≡ filter (λ e. not (e.0 == top) && is_marked needed.now e.0) (map numbered_document owns.now)) }
+    ensures parts { IfOk result (λ parts. map numbered_part parts.items
+        ≡ filter (λ e. not (e.0 == top) && is_marked needed.now e.0) (map numbered_document owns.now)) }
     ensures bases { IfOk result (λ parts. AllByRecursion HasBase parts.items) }
 {
     let mut parts = Vec::new(alloc);
@@ -143,17 +146,19 @@ fn bundle_among<'r>(
     bundle_with(alloc, &bearers, owns, needed.as_slice(), top)
 }
 
-/// One document in place of those that an own document of a registry needs, which is counted from 0 in the order in which their URIs
-/// were first added, and after them those retrieved (2020-12 Core, 9.3).
+/// One document in place of those that an own document of a registry needs, which is counted from 0 in the order in which
+/// their URIs were first added, and after them those retrieved (2020-12 Core, 9.3).
 ///
 /// Needed are the root, and again and again the own documents that a needed place means by the text under its `$ref` or
-/// `$dynamicRef`, or by the URI of a custom meta-schema under its `$schema`; the documents of parents stay outside. The bundle is the
-/// root's tree with each other needed document as a member of its `$defs` (`definitions` where the root is of Draft 4, 6 or 7), under
-/// the document's base URI, which it also has as its identifier, and with the `$schema` of its draft where the root's draft wouldn't
-/// be detected as it and it has none. Nothing else changes; a document that needs no other is its own bundle.
+/// `$dynamicRef`, or by the URI of a custom meta-schema under its `$schema`; the documents of parents stay outside. The
+/// bundle is the root's tree with each other needed document as a member of its `$defs` (`definitions` where the root is of
+/// Draft 4, 6 or 7), under the document's base URI, which it also has as its identifier, and with the `$schema` of its draft
+/// where the root's draft wouldn't be detected as it and it has none. Nothing else changes; a document that needs no other is
+/// its own bundle.
 ///
 /// Refuses by what [`Problem`] names, the first in the order of documents and places, and as `Memory`. The trees of the
-/// documents in the bundle are copied. Each place of the registry is visited once, with look-ups in sorted tables for the URIs that it has and refers to.
+/// documents in the bundle are copied. Each place of the registry is visited once, with look-ups in sorted tables for the
+/// URIs that it has and refers to.
 pub fn bundle<'r>(
     alloc: Global,
     registry: &'r Registry<'_>,

@@ -7,7 +7,9 @@ ghost use Rattle.serde_json.specs.View.{view, members_view};
 ghost use Rattle.ref_draft.specs.Keywords.{is_before_2019};
 ghost use Rattle.ref_draft.specs.Schema.{identifier};
 ghost use Rattle.ref_uri.specs.Targets.{uri_against};
-ghost use Rattle.ref_bundle.specs.Embedding.{base_uri, schema_text, is_detected, added_schema, is_uri_of, is_kept, is_beside_ref, has_no_identifier, loses_draft, has_dynamic_anchor, is_resolved_again, obstacle, with_member, embedded_tree};
+ghost use Rattle.ref_bundle.specs.Embedding.{base_uri, schema_text, is_detected, added_schema, is_uri_of, is_kept};
+ghost use Rattle.ref_bundle.specs.Embedding.{is_beside_ref, has_no_identifier, loses_draft, has_dynamic_anchor};
+ghost use Rattle.ref_bundle.specs.Embedding.{is_resolved_again, obstacle, with_member, embedded_tree};
 ghost use Rattle.ref_bundle.specs.Bundle.{definitions_keyword, definitions_of, members_or_none, member_of, with_all, tree_with};
 ghost use Rattle.ref_bundle.specs.Saying.{obstacle_said};
 ghost use Rattle.ref_bundle.specs.inner.Seen.{numbered_document, part_document, numbered_part, HasBase, HasPlaces};
@@ -121,7 +123,9 @@ fn is_kept(alloc: Global, outer: &Rc<Uri>, uri: &Rc<Uri>) -> Result<bool, AllocE
 fn keeps_uri(alloc: Global, top: &Part<'_>, part: &Part<'_>) -> Result<bool, AllocError>
     requires top { HasBase top.now }
     requires part { HasBase part.now }
-    ensures { IfOk result (λ is. is ≡ (is_kept (base_uri (part_document top.now)) (base_uri (part_document part.now)) && is_kept (base_uri (part_document part.now)) (base_uri (part_document part.now)))) }
+    ensures { IfOk result (λ is. is
+        ≡ (is_kept (base_uri (part_document top.now)) (base_uri (part_document part.now)) && is_kept (base_uri
+        (part_document part.now)) (base_uri (part_document part.now)))) }
 {
     Ok(is_kept(alloc, &top.base, &part.base)? && is_kept(alloc, &part.base, &part.base)?)
 }
@@ -296,7 +300,8 @@ fn put(
     part: &Part<'_>,
 ) -> Result<(), AllocError>
     requires { HasBase part.now }
-    ensures { OnOk result (members_view map.new.entries ≡ with_all (member_of draft (numbered_part part.now) ∷ []) (members_view map.old.entries)) }
+    ensures { OnOk result (members_view map.new.entries ≡ with_all (member_of draft (numbered_part part.now)
+        ∷ []) (members_view map.old.entries)) }
 {
     let tree = embedded_tree(alloc, draft, part)?;
     map.insert(String::from_str(alloc, part.base.as_str())?, tree)?;
@@ -310,7 +315,9 @@ fn definitions_with(
     parts: &[Part<'_>],
 ) -> Result<Map<String, Value>, AllocError>
     requires { AllByRecursion HasBase parts.now }
-    ensures { IfOk result (λ m. members_view m.entries ≡ with_all (map (λ p. member_of top.now.draft (numbered_part p)) parts.now) (definitions_of (part_document top.now))) }
+    ensures { IfOk result (λ m. members_view m.entries
+        ≡ with_all (map (λ p. member_of top.now.draft (numbered_part p)) parts.now) (definitions_of
+        (part_document top.now))) }
 {
     let mut map = definitions_of(alloc, top)?;
     for part in parts {

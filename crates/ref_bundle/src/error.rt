@@ -6,23 +6,23 @@ use std::alloc::AllocError;
 use std::fmt;
 use std::rc::Rc;
 
-/// Why a document can't are in a bundle.
+/// Why a document can't be part of a bundle.
 #[derive(Debug, Drop)]
 pub enum Obstacle {
     /// It is no object, so it can't have an identifier. Make it an object: `{}` for `true`, `{"not": {}}` for `false`.
     NotAnObject,
-    /// It is of Draft 4, 6 or 7 and has a `$ref` at its root, beside which an identifier doesn't count. Put the reference into an
-    /// `allOf`.
+    /// It is of Draft 4, 6 or 7 and has a `$ref` at its root, beside which an identifier doesn't count. Put the reference
+    /// into an `allOf`.
     IdentifierBesideRef,
     /// The keyword of its identifier holds what is no identifier: no text, or before 2019-09 an anchor. Move it elsewhere.
     NotAnIdentifier,
     /// Its base URI, which ends in `#`, can't be an identifier. Refer to it without the `#`.
     NotKept(Rc<Uri>),
-    /// No `$schema` that could be added tells its draft: it has another one, or the draft is that of a custom meta-schema. Give it the
-    /// `$schema` of its draft.
+    /// No `$schema` could be added by which its draft is detected: it has another one, or the draft is that of a custom
+    /// meta-schema. Give it the `$schema` of its draft.
     UntoldDraft(Draft),
-    /// Its root has a dynamic anchor and an identifier that, against the base URI that it gave, gives another one, as the look-up of
-    /// such an anchor resolves it. Make the identifier absolute.
+    /// Its root has a dynamic anchor and an identifier that, against the base URI that it gave, gives another one, as the
+    /// look-up of such an anchor resolves it. Make the identifier absolute.
     ResolvedAgain,
 }
 
@@ -31,7 +31,7 @@ pub enum Obstacle {
 pub enum Problem<'r> {
     /// There is no document with the root's number.
     NoDocument,
-    /// The document, which is needed, can't are in a bundle.
+    /// The document, which is needed, can't be part of a bundle.
     NotEmbedded(Obstacle),
     /// What the root has here, under the keyword of definitions, is no object.
     NoMap,
@@ -40,7 +40,8 @@ pub enum Problem<'r> {
         /// The key.
         uri: Rc<Uri>,
     },
-    /// The place has a URI that another place has too, so it may mean another in the bundle. Give one of them another identifier.
+    /// The place has a URI that another place has too, so it may mean another in the bundle. Give one of them another
+    /// identifier.
     SharedUri {
         /// The URI.
         uri: Rc<Uri>,
@@ -49,8 +50,8 @@ pub enum Problem<'r> {
         /// The other place's path there.
         path: Vec<JsonPointerSegment<'r>>,
     },
-    /// The place refers to a document by the URI that it was added or retrieved under, in place of which its root's identifier gives
-    /// another. Refer to it by that one.
+    /// The place refers to a document by the URI that it was added or retrieved under, in place of which its root's
+    /// identifier gives another. Refer to it by that one.
     ReplacedUri {
         /// The URI that the place refers to.
         uri: Rc<Uri>,
@@ -80,6 +81,11 @@ pub enum BundleError<'r> {
 }
 
 impl fmt::Display for Obstacle {
+    ghost use Rattle.std.specs.Prelude.{Some};
+    ghost use Rattle.ref_bundle.specs.Saying.{obstacle_said, obstacle_text};
+
+    ghost output = { λ o. Some (obstacle_text (obstacle_said o)) };
+
     fn fmt<W: fmt::Write>(&self, f: &mut fmt::Formatter<W>) -> fmt::Result {
         match self {
             Obstacle::NotAnObject => f.write_str("it is no object"),
@@ -99,6 +105,11 @@ impl fmt::Display for Obstacle {
 }
 
 impl fmt::Display for Problem<'_> {
+    ghost use Rattle.std.specs.Prelude.{Some};
+    ghost use Rattle.ref_bundle.specs.Saying.{problem_said, problem_text};
+
+    ghost output = { λ p. Some (problem_text (problem_said p)) };
+
     fn fmt<W: fmt::Write>(&self, f: &mut fmt::Formatter<W>) -> fmt::Result {
         match self {
             Problem::NoDocument => f.write_str("there is no such document"),
@@ -124,6 +135,11 @@ impl fmt::Display for Problem<'_> {
 }
 
 impl fmt::Display for Refusal<'_> {
+    ghost use Rattle.std.specs.Prelude.{Some};
+    ghost use Rattle.ref_bundle.specs.Saying.{refusal_said, refusal_text};
+
+    ghost output = { λ r. Some (refusal_text (refusal_said r)) };
+
     fn fmt<W: fmt::Write>(&self, f: &mut fmt::Formatter<W>) -> fmt::Result {
         let (document, problem) = (self.document, &self.problem);
         write!(f, "Document {document}: {problem}")
@@ -131,6 +147,11 @@ impl fmt::Display for Refusal<'_> {
 }
 
 impl fmt::Display for BundleError<'_> {
+    ghost use Rattle.std.specs.Prelude.{Some};
+    ghost use Rattle.ref_bundle.specs.Saying.{error_text};
+
+    ghost output = { λ e. Some (error_text e) };
+
     fn fmt<W: fmt::Write>(&self, f: &mut fmt::Formatter<W>) -> fmt::Result {
         match self {
             BundleError::Refused(refusal) => write!(f, "{refusal}"),

@@ -38,9 +38,9 @@ pub fn bundles_embed_what_is_needed()
     ensures law { EmbedWhatIsNeeded }
 {}
 
-/// A bundle of two documents, and look-ups in bundles, beside those among the documents: below an embedded root and of it as a
-/// whole, by an anchor below a relative identifier, by a dynamic anchor, of the root's definitions, of definitions that it didn't
-/// have, and of nothing.
+/// A bundle of two documents, and look-ups in bundles, beside those among the documents: below an embedded root and of it as
+/// a whole, by an anchor below a relative identifier, by a dynamic anchor, of the root's definitions, of definitions that it
+/// didn't have, and of nothing.
 pub fn look_ups_in_bundles()
     ensures a_bundle { IsBundle (refers_to_s ∷ new "http://a/s" empty ∷ []) [] 0 refers_to_s (record {
       value = with_definition "http://a/s" (one "$id" (text "http://a/s"));

@@ -1,7 +1,8 @@
-//! Bundles: one self-contained document in place of several of a registry. It stands on the public calls of `referencing` alone.
+//! Bundles: one self-contained document in place of several of a registry. It uses the public calls of `referencing`
+//! alone.
 //!
-//! Read `specs/Needed.antt`, `specs/Embedding.antt` and `specs/Bundle.antt` first: which documents a bundle needs, how they are in
-//! it, and what refuses one is said there over the plain documents.
+//! Read `specs/Needed.antt`, `specs/Embedding.antt` and `specs/Bundle.antt` first: which documents a bundle needs, how they
+//! are in it, and what refuses one is said there over the plain documents.
 #![tactic(auto)]
 
 mod bundled;

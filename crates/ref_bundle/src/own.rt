@@ -10,7 +10,8 @@ ghost use Rattle.ref_parts.specs.Path.{value_at};
 ghost use Rattle.ref_index.specs.Listing.{listed_of};
 ghost use Rattle.ref_bundle.specs.Needed.{counted_documents};
 ghost use Rattle.ref_bundle.specs.declared.own.Own.{Own};
-ghost use Rattle.ref_bundle.specs.inner.Seen.{seen_spot, seen_in, see_listed, put_last, put_place, gathered_places, numbered_document, HasPlaces};
+ghost use Rattle.ref_bundle.specs.inner.Seen.{seen_spot, seen_in, see_listed, put_last, put_place, gathered_places};
+ghost use Rattle.ref_bundle.specs.inner.Seen.{numbered_document, HasPlaces};
 
 use ref_draft::Draft;
 use ref_index::Document;
@@ -21,7 +22,7 @@ use serde_json::Value;
 use std::alloc::{AllocError, Global};
 use std::rc::Rc;
 
-/// A place where a schema stands, with its value.
+/// A place of a schema, with its value.
 #[derive(Drop)]
 pub(crate) struct Spot<'r> {
     pub document: usize,
@@ -57,7 +58,8 @@ fn spot_of<'r>(registry: &'r Registry<'_>, place: Place<'r>) -> Option<Spot<'r>>
 
 // Adds a place to the last of groups.
 fn put_last<'r>(groups: &mut Vec<Vec<Spot<'r>>>, spot: Spot<'r>) -> Result<(), AllocError>
-    ensures { OnOk result (map (λ g. map seen_spot g.items) groups.new.items ≡ put_last (map (λ g. map seen_spot g.items) groups.old.items) (seen_spot spot.entry)) }
+    ensures { OnOk result (map (λ g. map seen_spot g.items) groups.new.items
+        ≡ put_last (map (λ g. map seen_spot g.items) groups.old.items) (seen_spot spot.entry)) }
 {
     if let Some(mut group) = groups.pop() {
         group.push(spot)?;
@@ -68,7 +70,8 @@ fn put_last<'r>(groups: &mut Vec<Vec<Spot<'r>>>, spot: Spot<'r>) -> Result<(), A
 
 // Adds a place to its document's, which are the last or begin with it.
 fn put<'r>(alloc: Global, groups: &mut Vec<Vec<Spot<'r>>>, spot: Spot<'r>) -> Result<(), AllocError>
-    ensures { OnOk result (map (λ g. map seen_spot g.items) groups.new.items ≡ put_place (map (λ g. map seen_spot g.items) groups.old.items) (seen_spot spot.entry)) }
+    ensures { OnOk result (map (λ g. map seen_spot g.items) groups.new.items
+        ≡ put_place (map (λ g. map seen_spot g.items) groups.old.items) (seen_spot spot.entry)) }
 {
     if spot.document < groups.len() {
         return put_last(groups, spot);
@@ -85,7 +88,9 @@ fn put_some<'r>(
     groups: &mut Vec<Vec<Spot<'r>>>,
     spot: Option<Spot<'r>>,
 ) -> Result<(), AllocError>
-    ensures { OnOk result (map (λ g. map seen_spot g.items) groups.new.items ≡ gathered_places (map (λ g. map seen_spot g.items) groups.old.items) (option_to_list (option_map seen_spot spot.entry))) }
+    ensures { OnOk result (map (λ g. map seen_spot g.items) groups.new.items
+        ≡ gathered_places (map (λ g. map seen_spot g.items) groups.old.items) (option_to_list
+        (option_map seen_spot spot.entry))) }
 {
     match spot {
         Some(spot) => put(alloc, groups, spot),
@@ -96,7 +101,8 @@ fn put_some<'r>(
 // The places of a registry.
 fn listed<'r>(alloc: Global, registry: &'r Registry<'_>) -> Result<Vec<Place<'r>>, AllocError>
     ensures value { IfOk result (λ places. map listed_of places.items ≡ own_places (own_layer registry.now)) }
-    ensures stand { (d : WorldDocument) (p : WorldPlace) → Contains (own_layer registry.now) d → Contains (places d) p → value_at d.tree p.path ≡ Some p.value }
+    ensures there { (d : WorldDocument) (p : WorldPlace) → Contains (own_layer registry.now) d → Contains (places d) p
+        → value_at d.tree p.path ≡ Some p.value }
 {
     match registry.places(alloc) {
         Ok(places) => Ok(places),
@@ -110,7 +116,8 @@ fn groups_of<'r>(
     alloc: Global,
     registry: &'r Registry<'_>,
 ) -> Result<Vec<Vec<Spot<'r>>>, AllocError>
-    ensures { IfOk result (λ groups. map (λ g. map seen_spot g.items) groups.items ≡ map seen_in (counted_documents 0 (own_layer registry.now))) }
+    ensures { IfOk result (λ groups. map (λ g. map seen_spot g.items) groups.items
+        ≡ map seen_in (counted_documents 0 (own_layer registry.now))) }
 {
     let places = listed(alloc, registry)?;
     let mut groups = Vec::new(alloc);
@@ -142,7 +149,8 @@ fn push<'r>(
     places: Vec<Spot<'r>>,
 ) -> Result<(), AllocError>
     ensures { OnOk result (MatchOption (slice_get (own_layer registry.now) number) (owns.new.items ≡ owns.old.items)
-        (λ d. (o : Own) × (owns.new.items ≡ owns.old.items ++ o ∷ []) × (numbered_document o ≡ (number, d)) × (o.places ≡ places.entry))) }
+        (λ d. (o : Own) × (owns.new.items ≡ owns.old.items ++ o ∷ []) × (numbered_document o ≡ (number, d)) × (o.places
+        ≡ places.entry))) }
 {
     if let Some(document) = registry.documents().get(number) {
         owns.push(own_of(number, document, places))?;

@@ -20,7 +20,8 @@ fn push_meant(
     bearers: &Bearers<'_>,
     uris: &[Rc<Uri>],
 ) -> Result<(), AllocError>
-    ensures { (layer : Layer) → AreTables layer bearers.now → OnOk result (numbers.new.items ≡ numbers.old.items ++ flat_map (λ uri. option_to_list (document_under layer uri)) (map (λ u. u.value) uris.now)) }
+    ensures { (layer : Layer) → AreTables layer bearers.now → OnOk result (numbers.new.items ≡ numbers.old.items
+        ++ flat_map (λ uri. option_to_list (document_under layer uri)) (map (λ u. u.value) uris.now)) }
 {
     for uri in uris {
         if let Some(number) = bearers.document_under(uri.as_str()) {
@@ -36,7 +37,9 @@ fn referred(
     bearers: &Bearers<'_>,
     places: &[Spot<'_>],
 ) -> Result<Vec<usize>, AllocError>
-    ensures { (layer : Layer) → AreTables layer bearers.now → IfOk result (λ numbers. numbers.items ≡ flat_map (λ uri. option_to_list (document_under layer uri)) (flat_map (λ s. targets_from s.base s.value) (map seen_spot places.now))) }
+    ensures { (layer : Layer) → AreTables layer bearers.now → IfOk result (λ numbers. numbers.items
+        ≡ flat_map (λ uri. option_to_list (document_under layer uri)) (flat_map (λ s. targets_from s.base s.value)
+        (map seen_spot places.now))) }
 {
     let mut numbers = Vec::new(alloc);
     for spot in places {
@@ -54,7 +57,8 @@ pub(crate) fn all_referred(
 ) -> Result<Vec<Vec<usize>>, AllocError>
     requires own { AreOwn owns.now }
     requires tables { AreTables (layer_in owns.now) bearers.now }
-    ensures value { IfOk result (λ lists. map (λ l. l.items) lists.items ≡ map (referred_in (layer_in owns.now)) (layer_in owns.now)) }
+    ensures value { IfOk result (λ lists. map (λ l. l.items) lists.items
+        ≡ map (referred_in (layer_in owns.now)) (layer_in owns.now)) }
 {
     let mut lists = Vec::with_capacity(alloc, owns.len())?;
     for own in owns {

@@ -8,10 +8,12 @@ ghost use Rattle.ref_parts.specs.Segment.{part_of};
 ghost use Rattle.ref_definitions.specs.World.{Layer};
 ghost use Rattle.ref_bundle.specs.Embedding.{obstacle};
 ghost use Rattle.ref_bundle.specs.Bundle as bundle;
-ghost use Rattle.ref_bundle.specs.Bundle.{at_path, sites_of_uris, shared_uri, replaced_uris, replaced_in, place_refusals, map_refusals, root_refusals, refusals_in};
+ghost use Rattle.ref_bundle.specs.Bundle.{at_path, sites_of_uris, shared_uri, replaced_uris, replaced_in, place_refusals};
+ghost use Rattle.ref_bundle.specs.Bundle.{map_refusals, root_refusals, refusals_in};
 ghost use Rattle.ref_bundle.specs.Saying.{problem_said, refusal_said};
 ghost use Rattle.ref_bundle.specs.inner.Reach.{is_marked};
-ghost use Rattle.ref_bundle.specs.inner.Seen.{seen_spot, own_uri_of, numbered_document, document_in, layer_in, part_document, numbered_part, HasPlaces, AreOwn, HasBase};
+ghost use Rattle.ref_bundle.specs.inner.Seen.{seen_spot, own_uri_of, numbered_document, document_in, layer_in, part_document};
+ghost use Rattle.ref_bundle.specs.inner.Seen.{numbered_part, HasPlaces, AreOwn, HasBase};
 ghost use Rattle.ref_bundle.specs.inner.Tables.{AreTables};
 ghost use Rattle.ref_bundle.specs.inner.First.{first, shared_seen, replaced_seen, refusals_seen, taken_in, whole_refusals};
 
@@ -68,7 +70,8 @@ fn shared_uri<'r>(
     uri: Option<&Uri>,
 ) -> Result<Option<Problem<'r>>, AllocError>
     ensures { (layer : Layer) → AreTables layer bearers.now → IfOk result (λ o. option_map problem_said o
-        ≡ first (flat_map (shared_uri (sites_of_uris layer) ((seen_spot spot.now).document, (seen_spot spot.now).path)) (option_to_list (option_map (λ u. u.now) uri.entry)))) }
+        ≡ first (flat_map (shared_uri (sites_of_uris layer) ((seen_spot spot.now).document, (seen_spot spot.now).path))
+        (option_to_list (option_map (λ u. u.now) uri.entry)))) }
 {
     let Some(uri) = uri else {
         return Ok(None);
@@ -90,7 +93,8 @@ fn shared_uris<'r>(
     own: &Own<'r>,
     spot: &Spot<'r>,
 ) -> Result<Option<Problem<'r>>, AllocError>
-    ensures { (layer : Layer) → AreTables layer bearers.now → IfOk result (λ o. option_map problem_said o ≡ first (shared_seen layer own.now.uri.now (seen_spot spot.now))) }
+    ensures { (layer : Layer) → AreTables layer bearers.now → IfOk result (λ o. option_map problem_said o
+        ≡ first (shared_seen layer own.now.uri.now (seen_spot spot.now))) }
 {
     match shared_uri(alloc, bearers, spot, root_uri(own.uri, spot))? {
         Some(problem) => Ok(Some(problem)),
@@ -151,7 +155,8 @@ fn replaced_uris<'r>(
 ) -> Result<Option<Problem<'r>>, AllocError>
     requires own { AreOwn owns.now }
     requires tables { AreTables (layer_in owns.now) bearers.now }
-    ensures { IfOk result (λ o. option_map problem_said o ≡ first (replaced_seen (layer_in owns.now) top (seen_spot spot.now))) }
+    ensures { IfOk result (λ o. option_map problem_said o
+        ≡ first (replaced_seen (layer_in owns.now) top (seen_spot spot.now))) }
 {
     let uris = targets(alloc, spot)?;
     for uri in &uris {
@@ -173,7 +178,9 @@ fn place_problem<'r>(
 ) -> Result<Option<Problem<'r>>, AllocError>
     requires own { AreOwn owns.now }
     requires tables { AreTables (layer_in owns.now) bearers.now }
-    ensures { IfOk result (λ o. option_map problem_said o ≡ first (shared_seen (layer_in owns.now) own.now.uri.now (seen_spot spot.now) ++ replaced_seen (layer_in owns.now) top (seen_spot spot.now))) }
+    ensures { IfOk result (λ o. option_map problem_said o
+        ≡ first (shared_seen (layer_in owns.now) own.now.uri.now (seen_spot spot.now)
+        ++ replaced_seen (layer_in owns.now) top (seen_spot spot.now))) }
 {
     match shared_uris(alloc, bearers, own, spot)? {
         Some(problem) => Ok(Some(problem)),
@@ -187,7 +194,8 @@ fn at_place<'r>(
     spot: &Spot<'r>,
     problem: Problem<'r>,
 ) -> Result<Refusal<'r>, AllocError>
-    ensures { IfOk result (λ r. refusal_said r ≡ at_path (seen_spot spot.now).document (seen_spot spot.now).path (problem_said problem.entry)) }
+    ensures { IfOk result (λ r. refusal_said r
+        ≡ at_path (seen_spot spot.now).document (seen_spot spot.now).path (problem_said problem.entry)) }
 {
     Ok(Refusal {
         document: spot.document,
@@ -207,7 +215,8 @@ fn place_refusal<'r>(
 ) -> Result<Option<Refusal<'r>>, AllocError>
     requires own { AreOwn owns.now }
     requires tables { AreTables (layer_in owns.now) bearers.now }
-    ensures { IfOk result (λ o. option_map refusal_said o ≡ first (refusals_seen (layer_in owns.now) top own.now.uri.now (seen_spot spot.now))) }
+    ensures { IfOk result (λ o. option_map refusal_said o
+        ≡ first (refusals_seen (layer_in owns.now) top own.now.uri.now (seen_spot spot.now))) }
 {
     match place_problem(alloc, bearers, owns, top, own, spot)? {
         Some(problem) => Ok(Some(at_place(alloc, spot, problem)?)),
@@ -226,7 +235,8 @@ fn places_refusal<'r>(
     requires own { AreOwn owns.now }
     requires tables { AreTables (layer_in owns.now) bearers.now }
     requires places { HasPlaces own.now }
-    ensures { IfOk result (λ o. option_map refusal_said o ≡ first (place_refusals (layer_in owns.now) top (numbered_document own.now))) }
+    ensures { IfOk result (λ o. option_map refusal_said o
+        ≡ first (place_refusals (layer_in owns.now) top (numbered_document own.now))) }
 {
     for spot in &own.places {
         if let Some(refusal) = place_refusal(alloc, bearers, owns, top, own, spot)? {
@@ -270,7 +280,8 @@ fn key_taken<'r>(
     keyword: &'static str,
     part: &Part<'_>,
 ) -> Result<Refusal<'r>, AllocError>
-    ensures { IfOk result (λ r. refusal_said r ≡ at_path top (Key keyword.now ∷ Key part.now.base.value ∷ []) (bundle.KeyTaken part.now.base.value)) }
+    ensures { IfOk result (λ r. refusal_said r ≡ at_path top (Key keyword.now ∷ Key part.now.base.value
+        ∷ []) (bundle.KeyTaken part.now.base.value)) }
 {
     Ok(Refusal {
         document: top,
@@ -290,7 +301,8 @@ fn taken_by<'r>(
     part: &Part<'_>,
 ) -> Result<Option<Refusal<'r>>, AllocError>
     requires { HasBase part.now }
-    ensures { IfOk result (λ o. option_map refusal_said o ≡ first (taken_in top keyword.now (view value.now) (numbered_part part.now))) }
+    ensures { IfOk result (λ o. option_map refusal_said o
+        ≡ first (taken_in top keyword.now (view value.now) (numbered_part part.now))) }
 {
     if value.get(part.base.as_str()).is_some() {
         return Ok(Some(key_taken(alloc, top, keyword, part)?));
@@ -307,7 +319,8 @@ fn taken<'r>(
     parts: &[Part<'_>],
 ) -> Result<Option<Refusal<'r>>, AllocError>
     requires { AllByRecursion HasBase parts.now }
-    ensures { IfOk result (λ o. option_map refusal_said o ≡ first (flat_map (taken_in top keyword.now (view value.now)) (map numbered_part parts.now))) }
+    ensures { IfOk result (λ o. option_map refusal_said o
+        ≡ first (flat_map (taken_in top keyword.now (view value.now)) (map numbered_part parts.now))) }
 {
     for part in parts {
         if let Some(refusal) = taken_by(alloc, top, keyword, value, part)? {
@@ -326,7 +339,8 @@ fn map_refusal<'r>(
     parts: &[Part<'_>],
 ) -> Result<Option<Refusal<'r>>, AllocError>
     requires { AllByRecursion HasBase parts.now }
-    ensures { IfOk result (λ o. option_map refusal_said o ≡ first (map_refusals top keyword.now (option_map (λ v. view v.now) value.entry) (map numbered_part parts.now))) }
+    ensures { IfOk result (λ o. option_map refusal_said o
+        ≡ first (map_refusals top keyword.now (option_map (λ v. view v.now) value.entry) (map numbered_part parts.now))) }
 {
     let Some(value) = value else {
         return Ok(None);
@@ -344,7 +358,8 @@ fn root_refusal<'r>(
     parts: &[Part<'_>],
 ) -> Result<Option<Refusal<'r>>, AllocError>
     requires { AllByRecursion HasBase parts.now }
-    ensures { IfOk result (λ o. option_map refusal_said o ≡ first (root_refusals (numbered_part top.now) (map numbered_part parts.now))) }
+    ensures { IfOk result (λ o. option_map refusal_said o
+        ≡ first (root_refusals (numbered_part top.now) (map numbered_part parts.now))) }
 {
     if parts.is_empty() {
         return Ok(None);
@@ -361,7 +376,9 @@ fn own_refusal<'r>(
 ) -> Result<Option<Refusal<'r>>, AllocError>
     requires top { HasBase top.now }
     requires places { HasPlaces own.now }
-    ensures { IfOk result (λ o. option_map refusal_said o ≡ first (map (λ o. at_path own.now.number [] (bundle.NotEmbedded o)) (option_to_list (obstacle (part_document top.now) (document_in own.now))))) }
+    ensures { IfOk result (λ o. option_map refusal_said o
+        ≡ first (map (λ o. at_path own.now.number [] (bundle.NotEmbedded o)) (option_to_list (obstacle (part_document top.now)
+        (document_in own.now))))) }
 {
     let part = part_of(alloc, own)?;
     match obstacle(alloc, top, &part)? {
@@ -380,7 +397,8 @@ fn whole_refusal<'r>(
     requires top { HasBase top.now }
     requires parts { AllByRecursion HasBase parts.now }
     requires places { HasPlaces own.now }
-    ensures { IfOk result (λ o. option_map refusal_said o ≡ first (whole_refusals (numbered_part top.now) (map numbered_part parts.now) (numbered_document own.now))) }
+    ensures { IfOk result (λ o. option_map refusal_said o
+        ≡ first (whole_refusals (numbered_part top.now) (map numbered_part parts.now) (numbered_document own.now))) }
 {
     if own.number == top.number {
         root_refusal(alloc, top, parts)
@@ -403,7 +421,9 @@ fn refusal_in<'r>(
     requires top { HasBase top.now }
     requires parts { AllByRecursion HasBase parts.now }
     requires places { HasPlaces own.now }
-    ensures { IfOk result (λ o. option_map refusal_said o ≡ first (refusals_in (layer_in owns.now) (numbered_part top.now) (map numbered_part parts.now) (numbered_document own.now))) }
+    ensures { IfOk result (λ o. option_map refusal_said o
+        ≡ first (refusals_in (layer_in owns.now) (numbered_part top.now) (map numbered_part parts.now)
+        (numbered_document own.now))) }
 {
     match whole_refusal(alloc, top, parts, own)? {
         Some(refusal) => Ok(Some(refusal)),
@@ -436,7 +456,9 @@ fn refusal_if_needed<'r>(
     requires top { HasBase top.now }
     requires parts { AllByRecursion HasBase parts.now }
     requires places { HasPlaces own.now }
-    ensures { IfOk result (λ o. option_map refusal_said o ≡ first (if is_marked needed.now own.now.number then refusals_in (layer_in owns.now) (numbered_part top.now) (map numbered_part parts.now) (numbered_document own.now) else [])) }
+    ensures { IfOk result (λ o. option_map refusal_said o
+        ≡ first (if is_marked needed.now own.now.number then refusals_in (layer_in owns.now) (numbered_part top.now)
+        (map numbered_part parts.now) (numbered_document own.now) else [])) }
 {
     if is_marked(needed, own.number) {
         return refusal_in(alloc, bearers, owns, top, parts, own);
@@ -458,7 +480,8 @@ pub(crate) fn first_refusal<'r>(
     requires top { HasBase top.now }
     requires parts { AllByRecursion HasBase parts.now }
     ensures value { IfOk result (λ o. option_map refusal_said o
-        ≡ first (flat_map (λ e. if is_marked needed.now e.0 then refusals_in (layer_in owns.now) (numbered_part top.now) (map numbered_part parts.now) e else []) (map numbered_document owns.now))) }
+        ≡ first (flat_map (λ e. if is_marked needed.now e.0 then refusals_in (layer_in owns.now) (numbered_part top.now)
+        (map numbered_part parts.now) e else []) (map numbered_document owns.now))) }
 {
     for own in owns {
         if let Some(refusal) = refusal_if_needed(alloc, bearers, owns, needed, top, parts, own)? {

@@ -7,7 +7,8 @@ ghost use Rattle.ref_definitions.specs.World.{Layer};
 ghost use Rattle.ref_bundle.specs.Needed.{document_under};
 ghost use Rattle.ref_bundle.specs.Bundle.{is_site, sites_of_uris, borne_in, other_bearer};
 ghost use Rattle.ref_bundle.specs.inner.Seen.{seen_spot, own_uri_of, numbered_document, layer_in, HasPlaces, AreOwn};
-ghost use Rattle.ref_bundle.specs.inner.Tables.{site_of, table_entries_of, table_of, entry_under, is_other, is_other_in, AreTables, borne_at};
+ghost use Rattle.ref_bundle.specs.inner.Tables.{site_of, table_entries_of, table_of, entry_under, is_other, is_other_in};
+ghost use Rattle.ref_bundle.specs.inner.Tables.{AreTables, borne_at};
 
 use crate::own::{Own, Spot};
 use crate::uris::own_uri;
@@ -69,7 +70,8 @@ fn push<'r>(
     document: usize,
     path: &[JsonPointerSegment<'r>],
 ) -> Result<(), AllocError>
-    ensures { OnOk result (table_entries_of entries.new.items ≡ table_entries_of entries.old.items ++ entry_under (uri.now, (document, map part_of path.now)) ∷ []) }
+    ensures { OnOk result (table_entries_of entries.new.items ≡ table_entries_of entries.old.items
+        ++ entry_under (uri.now, (document, map part_of path.now)) ∷ []) }
 {
     let uri = String::from_str(alloc, uri)?;
     let second = String::from_str(alloc, "")?;
@@ -118,7 +120,10 @@ fn push_other<'r>(
     path: &[JsonPointerSegment<'r>],
 ) -> Result<(), AllocError>
     ensures { OnOk result (table_entries_of entries.new.items ≡ table_entries_of entries.old.items
-        ++ map entry_under (filter (is_other (option_map (λ t. table_of t.now) last.entry)) ((uri.now, (document, map part_of path.now)) ∷ []))) }
+        ++ map entry_under (filter (is_other (option_map (λ t. table_of t.now) last.entry)) ((
+          uri.now,
+          (document, map part_of path.now),
+        ) ∷ []))) }
 {
     if is_other(last, uri, document, path) {
         return push(alloc, entries, uri, document, path);
@@ -157,7 +162,8 @@ fn push_places<'r>(
     places: &[Spot<'r>],
 ) -> Result<(), AllocError>
     ensures { OnOk result (table_entries_of entries.new.items ≡ table_entries_of entries.old.items
-        ++ flat_map (λ s. map entry_under (filter (is_other (option_map (λ t. table_of t.now) last.entry)) (borne_at s))) (map seen_spot places.now)) }
+        ++ flat_map (λ s. map entry_under (filter (is_other (option_map (λ t. table_of t.now) last.entry)) (borne_at s)))
+        (map seen_spot places.now)) }
 {
     for spot in places {
         push_place(alloc, entries, last, spot)?;
@@ -174,7 +180,8 @@ fn push_own<'r>(
 ) -> Result<(), AllocError>
     requires { HasPlaces own.now }
     ensures { OnOk result (table_entries_of entries.new.items ≡ table_entries_of entries.old.items
-        ++ map entry_under (filter (is_other (option_map (λ t. table_of t.now) last.entry)) (borne_in (numbered_document own.now)))) }
+        ++ map entry_under (filter (is_other (option_map (λ t. table_of t.now) last.entry)) (borne_in
+        (numbered_document own.now)))) }
 {
     push_other(alloc, entries, last, own.uri.as_str(), own.number, &[])?;
     push_places(alloc, entries, last, own.places.as_slice())
@@ -187,7 +194,9 @@ fn table_of<'r>(
     last: Option<&SortedTable<Site<'r>>>,
 ) -> Result<SortedTable<Site<'r>>, AllocError>
     requires { AllByRecursion HasPlaces owns.now }
-    ensures { IfOk result (λ t. table_of t ≡ flat_map (λ e. map entry_under (filter (is_other (option_map (λ t. table_of t.now) last.entry)) (borne_in e))) (map numbered_document owns.now)) }
+    ensures { IfOk result (λ t. table_of t
+        ≡ flat_map (λ e. map entry_under (filter (is_other (option_map (λ t. table_of t.now) last.entry)) (borne_in e)))
+        (map numbered_document owns.now)) }
 {
     let mut entries = Vec::new(alloc);
     for own in owns {
@@ -223,7 +232,8 @@ impl<'r> Bearers<'r> {
         document: usize,
         path: &[JsonPointerSegment<'_>],
     ) -> Option<&Site<'r>>
-        ensures value { (layer : Layer) → AreTables layer self.now → option_map (λ s. site_of s.now) result ≡ other_bearer (sites_of_uris layer) uri.now (document, map part_of path.now) }
+        ensures value { (layer : Layer) → AreTables layer self.now → option_map (λ s. site_of s.now) result
+            ≡ other_bearer (sites_of_uris layer) uri.now (document, map part_of path.now) }
     {
         let site = self.last.get(uri, "").0?;
         if is_at(site, document, path) {

@@ -1,5 +1,6 @@
 //! The URIs that places have and refer to.
-ghost use Rattle.std.specs.Prelude.{◌≡◌, [], ◌++◌, map, codes, None, Some, option_map, option_and_then, if◌then◌else◌, IfOk, OnOk};
+ghost use Rattle.std.specs.Prelude.{◌≡◌, [], ◌++◌, map, codes, None, Some, option_map, option_and_then, if◌then◌else◌, IfOk};
+ghost use Rattle.std.specs.Prelude.{OnOk};
 ghost use Rattle.std.specs.Option.{option_to_list};
 ghost use Rattle.std.specs.Result.{result_ok};
 ghost use Rattle.serde_json.specs.View.{view};
@@ -55,7 +56,8 @@ fn without_fragment(alloc: Global, uri: Uri) -> Result<Rc<Uri>, AllocError>
 
 // The URI that a text names a meta-schema by, where it means one.
 fn meta_schema(alloc: Global, text: &str) -> Result<Option<Rc<Uri>>, AllocError>
-    ensures { IfOk result (λ o. option_map (λ u. u.value) o ≡ option_map (λ uri. with_fragment uri None) (result_ok (uri_of text.now))) }
+    ensures { IfOk result (λ o. option_map (λ u. u.value) o
+        ≡ option_map (λ uri. with_fragment uri None) (result_ok (uri_of text.now))) }
 {
     match from_str(alloc, text) {
         Ok(uri) => Ok(Some(without_fragment(alloc, uri)?)),
@@ -78,7 +80,8 @@ fn reference(
     value: &Value,
     key: &str,
 ) -> Result<Option<Rc<Uri>>, AllocError>
-    ensures { IfOk result (λ o. option_map (λ u. u.value) o ≡ option_and_then (λ text. result_ok (target base.now.value text)) (text_under key.now (view value.now))) }
+    ensures { IfOk result (λ o. option_map (λ u. u.value) o
+        ≡ option_and_then (λ text. result_ok (target base.now.value text)) (text_under key.now (view value.now))) }
 {
     match text_under(value, key) {
         Some(text) => target(alloc, base, text),
@@ -88,7 +91,8 @@ fn reference(
 
 // The URI of the custom meta-schema that a value names, where it names one.
 fn dialect(alloc: Global, value: &Value) -> Result<Option<Rc<Uri>>, AllocError>
-    ensures { IfOk result (λ o. option_map (λ u. u.value) o ≡ option_and_then (λ uri. result_ok uri) (schema_at (view value.now))) }
+    ensures { IfOk result (λ o. option_map (λ u. u.value) o
+        ≡ option_and_then (λ uri. result_ok uri) (schema_at (view value.now))) }
 {
     match text_under(value, "$schema") {
         Some(text) if matches!(Draft::from_schema_uri(text), Draft::Unknown) => {
@@ -110,7 +114,8 @@ fn push(uris: &mut Vec<Rc<Uri>>, uri: Option<Rc<Uri>>) -> Result<(), AllocError>
 
 /// The URIs that the texts of a place mean: under `$ref`, `$dynamicRef`, and under `$schema` that of a custom meta-schema.
 pub(crate) fn targets(alloc: Global, spot: &Spot<'_>) -> Result<Vec<Rc<Uri>>, AllocError>
-    ensures value { IfOk result (λ uris. map (λ u. u.value) uris.items ≡ targets_from (seen_spot spot.now).base (seen_spot spot.now).value) }
+    ensures value { IfOk result (λ uris. map (λ u. u.value) uris.items
+        ≡ targets_from (seen_spot spot.now).base (seen_spot spot.now).value) }
 {
     let mut uris = Vec::new(alloc);
     push(&mut uris, reference(alloc, &spot.base, spot.value, "$ref")?)?;

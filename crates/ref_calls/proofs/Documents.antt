@@ -1,5 +1,5 @@
 -- Documents that are taken out of a call.
-use Rattle.std.proofs.Common.{◌≡◌, ◌≢◌, ℕ, Bool, true, false, cond, List, [], ◌∷◌, ◌++◌, Option, Some, None, option_map, option_and_then, length, map, refl, sym, ap, ◌∙◌, append_assoc, String, Global, string_bytes, nat_cmp, is_eq, bytes_eq}
+use Rattle.std.proofs.Common.{◌≡◌, ◌≢◌, ℕ, Bool, true, false, cond, List, [], ◌∷◌, ◌++◌, Some, None, length, suc, ◌+◌, Ok, add-one, map, refl, sym, ap, ◌∙◌, String, Global, string_bytes, nat_cmp, is_eq}
 use Rattle.std.proofs.lemmas.List.{map-append}
 use Rattle.std.proofs.lemmas.Map.Text.{is_eq-slice_cmp}
 use Rattle.std.proofs.lemmas.Slice.Eq.{bytes_eq-Decides}
@@ -7,12 +7,13 @@ use Rattle.std.specs.Ordering.{match_ordering}
 use Rattle.std.specs.Cmp.Lexicographic.{slice_cmp}
 use Rattle.std.specs.Map.{remove_entry}
 use Rattle.std.specs.BTreeMap.{is_at}
-use Rattle.serde_json.specs.Data.{Data}
 use Rattle.serde_json.specs.Find.{get_member}
 use Rattle.serde_json.specs.View.{view, items_view, members_view}
 use Rattle.serde_json.specs.declared.value.Value.{Value}
 use Rattle.serde_json.proofs.Views.{Entry, member_later}
-use Rattle.ref_calls.specs.Calls.{pair_of, document_of, every}
+use Rattle.ref_calls.specs.Calls.{pair_of, document_in, each_item}
+use Rattle.ref_calls.proofs.Further.{in_front, in_front_push, first_read}
+use Rattle.ref_definitions.specs.Results.{◌>>=◌}
 use Rattle.ref_calls.specs.inner.Given.{given_of}
 
 pub not_pair : (vs : List Value) → length vs ≢ 2 → None ≡ pair_of (items_view vs)
@@ -21,20 +22,16 @@ not_pair (a ∷ []) other = refl
 not_pair (a ∷ b ∷ []) other = absurd (other refl)
 not_pair (a ∷ b ∷ c ∷ vs) other = refl
 
--- what is read so far, before what is left to read
-abbrev pub before : {B : Type 0} → List B → Option (List B) → Option (List B)
-before done left = option_map (λ ys. done ++ ys) left
-
-pub before_push : {B : Type 0} (done : List B) (y : B) (left : Option (List B)) → before (done ++ y ∷ []) left ≡ before done (option_map (λ ys. y ∷ ys) left)
-before_push done y None = refl
-before_push done y (Some ys) = ap Some (append_assoc done (y ∷ []) ys)
-
-pub documents_next : (done : List (String Global × Value)) (d : String Global × Value) (item : Value) (rest : List Value) → Some (given_of d) ≡ document_of (view item)
-    → before (map given_of (done ++ d ∷ [])) (every document_of (items_view rest)) ≡ before (map given_of done) (every document_of (items_view (item ∷ rest)))
-documents_next done d item rest read =
-    let left = every document_of (items_view rest) in
-    ap (λ xs. before xs left) (map-append given_of done (d ∷ [])) ∙ before_push (map given_of done) (given_of d) left
-    ∙ ap (λ o. before (map given_of done) (option_and_then (λ y. option_map (λ ys. y ∷ ys) left) o)) read
+pub documents_next : (field : List ℕ) (n m : ℕ) (done : List (String Global × Value)) (d : String Global × Value) (item : Value) (rest : List Value)
+    → m ≡ n + 1 → document_in field n (view item) ≡ Ok (given_of d)
+    → in_front (map given_of (done ++ d ∷ [])) (each_item (document_in field) m (items_view rest))
+    ≡ in_front (map given_of done) (each_item (document_in field) n (items_view (item ∷ rest)))
+documents_next field n m done d item rest next read =
+    let f = document_in field in
+    let left = each_item f (suc n) (items_view rest) in
+    ap (λ k. in_front (map given_of (done ++ d ∷ [])) (each_item f k (items_view rest))) (next ∙ add-one n)
+    ∙ ap (λ xs. in_front xs left) (map-append given_of done (d ∷ [])) ∙ in_front_push (map given_of done) (given_of d) left
+    ∙ ap (in_front (map given_of done)) (sym (first_read (given_of d) left) ∙ ap (λ r. r >>= λ x. left >>= λ xs. Ok (x ∷ xs)) (sym read))
 
 -- ---- a member that is taken out
 

@@ -1,8 +1,8 @@
 -- A call: which one an object is, and its members.
-use Rattle.std.specs.Prelude.{ℕ, Bool, true, false, ◌&&◌, ◌||◌, List, [], ◌∷◌, codes, map, Option, Some, None, option_map, option_and_then, Result, Ok, Err, ok_or, is_some, bytes_eq, if◌then◌else◌}
+use Rattle.std.specs.Prelude.{◌≡◌, ◌≤◌, length, ℕ, suc, Bool, false, ◌||◌, List, [], ◌∷◌, codes, Option, Some, None, option_map, option_and_then, Result, Ok, Err, ok_or, is_some, bytes_eq, if◌then◌else◌}
 use Rattle.std.specs.List.{list_any}
 use Rattle.std.specs.Str.{is_utf8}
-use Rattle.serde_json.specs.Data.{Data, null, boolean, number, string, array, object, Items, no_items, item, Members, no_members, member}
+use Rattle.serde_json.specs.Data.{Data, Items, no_items, item, Members, no_members, member}
 use Rattle.serde_json.specs.Find.{get, as_bool, as_str, as_array, as_object, as_number, as_u64}
 use Rattle.serde_json.specs.Read.{read}
 use Rattle.ref_uri.specs.Targets.{uri_of}
@@ -12,14 +12,21 @@ use Rattle.ref_definitions.specs.Results.{◌>>=◌}
 use Rattle.ref_definitions.specs.Fault.{as_invalid_uri}
 use Rattle.ref_calls.specs.declared.call.Call.{Call}
 use Rattle.ref_calls.specs.declared.call.Call.TheVariants.{Open, Lookup, Recursive, Enter, Follow, Places, Dangling, Vocabularies, Bundle, Close}
+use Rattle.ref_calls.specs.declared.stop.Stop.{Stop}
+use Rattle.ref_calls.specs.declared.stop.Stop.TheVariants.{Memory, Because}
 use Rattle.ref_calls.specs.declared.fault.Wrong.TheVariants.{UnknownField, MissingField, InvalidField}
-use Rattle.ref_calls.specs.Errors.{plain_error, field_error, as_error}
+use Rattle.ref_calls.specs.Errors.{plain_error, field_error, as_error, in_field, at_index}
 
 -- ---- the whole
 
 -- the tree that serde_json reads; bytes that are no UTF-8 are no JSON (RFC 8259, section 8.1)
 abbrev pub tree_of : List ℕ → Option Data
 tree_of bytes = if is_utf8 bytes then read bytes else None
+
+-- a line is no JSON, which is seen at a byte of it or at its end; or memory ran out
+abbrev pub IsNotJson : List ℕ → Stop ℕ → Type 0
+IsNotJson line Memory = Unit {0}
+IsNotJson line (Because offset) = (tree_of line ≡ None) × (offset ≤ length line)
 
 -- the call that a name means
 abbrev pub call_named : List ℕ → Option Call
@@ -68,9 +75,6 @@ not_an_object = plain_error (codes "NotAnObject") (codes "The line is no JSON ob
 abbrev pub unknown_call : Data
 unknown_call = plain_error (codes "UnknownCall") (codes "The member 'call' names no call")
 
-abbrev pub not_json : Data
-not_json = plain_error (codes "NotJson") (codes "The line is no JSON")
-
 -- the call that an object is, each of whose members it knows
 unfoldable pub call_of : Data → Result Call Data
 call_of d = do
@@ -94,9 +98,21 @@ number_in field d = ok_or (option_and_then as_u64 (as_number d)) (field_error In
 abbrev pub items_in : List ℕ → Data → Result Items Data
 items_in field d = ok_or (as_array d) (field_error InvalidField field)
 
--- the URI that a text means
-abbrev pub uri_of_text : List ℕ → Result (List ℕ) Data
-uri_of_text text = as_error (as_invalid_uri (uri_of text))
+-- the URI that a text under a member means
+abbrev pub uri_in : List ℕ → List ℕ → Result (List ℕ) Data
+uri_in field text = in_field field (as_error (as_invalid_uri (uri_of text)))
+
+-- the URI that a value means, which is to be a text
+abbrev pub uri_at : List ℕ → Data → Result (List ℕ) Data
+uri_at field d = text_in field d >>= uri_in field
+
+-- what f gives of each item, to which it is given with its number, counted from this one on; the first error is the whole's
+abbrev pub each_item : {B : Type 0} → (ℕ → Data → Result B Data) → ℕ → Items → Result (List B) Data
+each_item f n no_items = Ok []
+each_item f n (item d ds) = do
+  x ← f n d
+  xs ← each_item f (suc n) ds
+  Ok (x ∷ xs)
 
 -- whether a member is `true`; it isn't where it is missing
 abbrev pub is_set_at : List ℕ → Option Data → Result Bool Data
@@ -141,24 +157,16 @@ schema_of d = required (codes "schema") d >>= schema_in
 
 -- the URI under `base`
 unfoldable pub base_of : Data → Result (List ℕ) Data
-base_of d = do
-  value ← required (codes "base") d
-  text ← text_in (codes "base") value
-  uri_of_text text
+base_of d = required (codes "base") d >>= uri_at (codes "base")
 
--- the URIs that texts mean
-abbrev pub uris_in : Items → Result (List (List ℕ)) Data
-uris_in no_items = Ok []
-uris_in (item d ds) = do
-  text ← text_in (codes "scope") d
-  uri ← uri_of_text text
-  uris ← uris_in ds
-  Ok (uri ∷ uris)
+-- the URI that an item of a scope means
+abbrev pub scope_uri : ℕ → Data → Result (List ℕ) Data
+scope_uri n d = at_index n (uri_at (codes "scope") d)
 
 -- the dynamic scope under `scope`, the innermost first, or else the empty one
 abbrev pub scope_at : Option Data → Result (List (List ℕ)) Data
 scope_at None = Ok []
-scope_at (Some d) = items_in (codes "scope") d >>= uris_in
+scope_at (Some d) = items_in (codes "scope") d >>= each_item scope_uri 0
 
 unfoldable pub scope_of : Data → Result (List (List ℕ)) Data
 scope_of d = scope_at (get (codes "scope") d)
@@ -173,28 +181,33 @@ pair_of other = None
 abbrev pub document_of : Data → Option (List ℕ × Data)
 document_of d = option_and_then pair_of (as_array d)
 
--- what f gives of each item, if it gives something of each
-abbrev pub every : {B : Type 0} → (Data → Option B) → Items → Option (List B)
-every f no_items = Some []
-every f (item d ds) = option_and_then (λ y. option_map (λ ys. y ∷ ys) (every f ds)) (f d)
+-- one whose text means a URI
+abbrev pub sound_document : List ℕ → Data → Result (List ℕ × Data) Data
+sound_document field d = do
+  document ← ok_or (document_of d) (field_error InvalidField field)
+  uri ← uri_in field document.0
+  Ok document
+
+abbrev pub document_in : List ℕ → ℕ → Data → Result (List ℕ × Data) Data
+document_in field n d = at_index n (sound_document field d)
 
 -- a list of such
-unfoldable pub documents_of : Data → Option (List (List ℕ × Data))
-documents_of d = option_and_then (every document_of) (as_array d)
+unfoldable pub documents_of : List ℕ → Data → Result (List (List ℕ × Data)) Data
+documents_of field d = items_in field d >>= each_item (document_in field) 0
 
 -- the documents under a member, where it is there
 abbrev pub documents_at : List ℕ → Option Data → Result (Option (List (List ℕ × Data))) Data
 documents_at field None = Ok None
-documents_at field (Some d) = ok_or (option_map Some (documents_of d)) (field_error InvalidField field)
+documents_at field (Some d) = documents_of field d >>= λ documents. Ok (Some documents)
 
 -- the documents under `documents`, which are needed
 abbrev pub needed_documents : Option Data → Result (List (List ℕ × Data)) Data
 needed_documents found = documents_at (codes "documents") found >>= λ documents. ok_or documents (field_error MissingField (codes "documents"))
 
 -- documents under the URIs that their texts mean
-abbrev pub under_uris : List (List ℕ × Data) → Result (List (List ℕ × Data)) Data
-under_uris [] = Ok []
-under_uris (e ∷ es) = do
-  uri ← uri_of_text e.0
-  more ← under_uris es
+abbrev pub under_uris : List ℕ → List (List ℕ × Data) → Result (List (List ℕ × Data)) Data
+under_uris field [] = Ok []
+under_uris field (e ∷ es) = do
+  uri ← uri_in field e.0
+  more ← under_uris field es
   Ok ((uri, e.1) ∷ more)

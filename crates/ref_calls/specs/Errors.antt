@@ -1,8 +1,7 @@
 -- The error objects of answers.
 use Rattle.std.specs.Prelude.{◌≡◌, ℕ, List, [], ◌∷◌, ◌++◌, codes, Result, Ok, Err, Option, Some, None}
-use Rattle.serde_json.specs.Data.{Data, string}
+use Rattle.serde_json.specs.Data.{Data, string, object, put}
 use Rattle.serde_json.specs.declared.value.Value.{Value}
-use Rattle.ref_uri.specs.Targets.{Refusal}
 use Rattle.ref_definitions.specs.Fault.{Fault, fault_text, Unretrievable, PointerToNowhere, InvalidPercentEncoding, InvalidArrayIndex, NoSuchAnchor, InvalidAnchor, InvalidUri, UnknownSpecification, CircularMetaschema, RetrievalLimit}
 use Rattle.ref_retrieve.specs.declared.error.Error.{Error}
 use Rattle.ref_retrieve.specs.declared.error.Error.TheVariants as error
@@ -12,7 +11,7 @@ use Rattle.ref_calls.specs.declared.fault.Wrong.TheVariants.{UnknownField, Missi
 use Rattle.ref_calls.specs.declared.stop.Stop.{Stop}
 use Rattle.ref_calls.specs.declared.stop.Stop.TheVariants.{Memory}
 use Rattle.ref_calls.specs.Outcome.{IsStop}
-use Rattle.ref_calls.specs.Objects.{object_of}
+use Rattle.ref_calls.specs.Objects.{object_of, whole}
 
 -- an error's name and message
 abbrev pub error_members : List ℕ → List ℕ → List (List ℕ × Data)
@@ -21,6 +20,36 @@ error_members name message = (codes "name", string name) ∷ (codes "message", s
 -- an error without further members
 abbrev pub plain_error : List ℕ → List ℕ → Data
 plain_error name message = object_of (error_members name message)
+
+-- the error of a line that is no JSON, with the place where it can't be read, in bytes
+abbrev pub not_json_members : ℕ → List (List ℕ × Data)
+not_json_members offset = error_members (codes "NotJson") (codes "The line is no JSON") ++ (codes "offset", whole offset) ∷ []
+
+unfoldable pub not_json : ℕ → Data
+not_json offset = object_of (not_json_members offset)
+
+-- ---- where it is in a call
+
+-- an error with one more member
+abbrev pub with_member : List ℕ → Data → Data → Data
+with_member key value (object ms) = object (put key value ms)
+with_member key value other = other
+
+-- with the member of the call that it is about
+abbrev pub with_field : List ℕ → Data → Data
+with_field field error = with_member (codes "field") (string field) error
+
+abbrev pub in_field : {A : Type 0} → List ℕ → Result A Data → Result A Data
+in_field field (Ok x) = Ok x
+in_field field (Err error) = Err (with_field field error)
+
+-- with the number of the item that it is about, in the list that the member is, counted from 0
+abbrev pub with_index : ℕ → Data → Data
+with_index n error = with_member (codes "index") (whole n) error
+
+abbrev pub at_index : {A : Type 0} → ℕ → Result A Data → Result A Data
+at_index n (Ok x) = Ok x
+at_index n (Err error) = Err (with_index n error)
 
 -- ---- what is wrong with a member
 

@@ -20,3 +20,8 @@ Stops (Because value) defined = defined ≡ Err (view value)
 abbrev pub Answers : {X Y : Type 0} → (X → Y) → Result X (Stop Value) → Result Y Data → Type 0
 Answers seen (Ok x) defined = defined ≡ Ok (seen x)
 Answers seen (Err stop) defined = Stops stop defined
+
+-- a stop that is changed: its error object so, and out of memory stays
+abbrev pub IsChanged : (Data → Data) → Stop Value → Stop Value → Type 0
+IsChanged change Memory result = result ≡ Memory
+IsChanged change (Because value) result = IsStop result (change (view value))

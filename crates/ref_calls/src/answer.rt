@@ -1,5 +1,5 @@
 //! The tree that a line is, and the line that an answer is.
-ghost use Rattle.std.specs.Prelude.{◌≡◌, option_map, codes, IfOk, OnOk};
+ghost use Rattle.std.specs.Prelude.{◌≡◌, ◌≤◌, length, Some, option_map, codes, IfOk, IfErr, OnOk};
 ghost use Rattle.serde_json.specs.View.{view, members_view};
 ghost use Rattle.serde_json.specs.Find.{get};
 ghost use Rattle.serde_json.specs.Data.{Data};
@@ -9,20 +9,34 @@ ghost use Rattle.ref_calls.specs.Outcome.{IsStop};
 
 use crate::members::Members;
 use crate::stop::Stop;
-use serde_json::{Map, Value, put};
+use serde_json::{Error, Map, Value, put};
 use std::alloc::{AllocError, Global};
 
-/// The tree that a line is, unless it is no JSON.
-pub fn tree_of(alloc: Global, line: &[u8]) -> Result<Option<Value>, AllocError>
-    ensures { IfOk result (λ o. option_map view o ≡ spec.tree_of line.now) }
+// Where in a line it can't be read as JSON, in bytes: its length where more would have to follow.
+fn offset_of(line: &[u8], error: &Error) -> usize
+    ensures { result ≤ length line.now }
+{
+    if error.is_eof() {
+        return line.len();
+    }
+    error.column().saturating_sub(1).min(line.len())
+}
+
+/// The tree that a line is.
+///
+/// `Because` where it is no JSON, with a place in the line, in bytes from its beginning: at or just past what can't be read,
+/// or its length where more would have to follow. `Memory` where memory is refused. Linear in the line.
+pub fn tree_of(alloc: Global, line: &[u8]) -> Result<Value, Stop<usize>>
+    ensures tree { IfOk result (λ v. spec.tree_of line.now ≡ Some (view v)) }
+    ensures not_json { IfErr result (spec.IsNotJson line.now) }
 {
     match Value::from_slice(alloc, line) {
-        Ok(tree) => Ok(Some(tree)),
+        Ok(tree) => Ok(tree),
         Err(e) => {
             if e.is_memory() {
-                Err(AllocError)
+                Err(Stop::Memory)
             } else {
-                Ok(None)
+                Err(Stop::Because(offset_of(line, &e)))
             }
         }
     }
@@ -40,7 +54,8 @@ pub fn id_of(tree: &Value) -> Result<Option<Value>, AllocError>
 
 // Puts the value that the answer gives back.
 fn put_id(alloc: Global, members: &mut Members, id: Option<Value>) -> Result<(), AllocError>
-    ensures { OnOk result (members_view members.new.entries ≡ with_all (id_member (option_map view id)) (members_view members.old.entries)) }
+    ensures { OnOk result (members_view members.new.entries
+        ≡ with_all (id_member (option_map view id)) (members_view members.old.entries)) }
 {
     match id {
         Some(id) => put(members, alloc, "id", id),
@@ -78,7 +93,8 @@ pub fn error_text(
     id: Option<Value>,
     error: Stop<Value>,
 ) -> Result<Vec<u8>, AllocError>
-    ensures { (object : Data) → IsStop error object → IfOk result (λ text. IsLineOf (answer_of (option_map view id) (codes "error") object) text.items) }
+    ensures { (object : Data) → IsStop error object
+        → IfOk result (λ text. IsLineOf (answer_of (option_map view id) (codes "error") object) text.items) }
 {
     match error {
         Stop::Because(error) => text_of(alloc, id, "error", error),

@@ -7,8 +7,8 @@ ghost use Rattle.ref_calls.specs.Calls as spec;
 ghost use Rattle.ref_calls.specs.Outcome.{Answers};
 ghost use Rattle.ref_calls.specs.inner.Given.{given_of};
 
-use crate::fault::{Wrong, field_error};
-use crate::field::uri_of;
+use crate::fault::{Wrong, at_index, field_error};
+use crate::field::uri_in;
 use crate::members::Members;
 use crate::stop::Stop;
 use ref_uri::Uri;
@@ -35,28 +35,53 @@ fn document_of(item: Value) -> Option<Document>
     }
 }
 
-// The pairs that a list has, unless an item is none.
+// The pair that an item is, whose text means a URI.
+fn sound_document(alloc: Global, item: Value, field: &str) -> Result<Document, Stop<Value>>
+    ensures { Answers given_of result (spec.sound_document field.now (view item)) }
+{
+    let Some(document) = document_of(item) else {
+        return Err(field_error(alloc, Wrong::InvalidField, field));
+    };
+    let _uri = uri_in(alloc, document.0.as_str(), field)?;
+    Ok(document)
+}
+
+fn document_in(
+    alloc: Global,
+    item: Value,
+    field: &str,
+    index: usize,
+) -> Result<Document, Stop<Value>>
+    ensures { Answers given_of result (spec.document_in field.now index (view item)) }
+{
+    match sound_document(alloc, item, field) {
+        Ok(document) => Ok(document),
+        Err(stop) => Err(at_index(alloc, stop, index)),
+    }
+}
+
+// The pairs that a list has.
 #[tactic(auto, unfolding(crate::specs::Calls::documents_of))]
-fn documents_of(alloc: Global, value: Value) -> Result<Option<Vec<Document>>, AllocError>
-    ensures { IfOk result (λ o. option_map (λ v. map given_of v.items) o ≡ spec.documents_of (view value)) }
+fn documents_of(alloc: Global, value: Value, field: &str) -> Result<Vec<Document>, Stop<Value>>
+    ensures { Answers (λ v. map given_of v.items) result (spec.documents_of field.now (view value)) }
 {
     let Value::Array(items) = value else {
-        return Ok(None);
+        return Err(field_error(alloc, Wrong::InvalidField, field));
     };
     let mut documents = Vec::with_capacity(alloc, items.len())?;
     for item in items {
-        let Some(document) = document_of(item) else {
-            return Ok(None);
-        };
+        let number = documents.len();
+        let document = document_in(alloc, item, field, number)?;
         documents.push(document)?;
     }
-    Ok(Some(documents))
+    Ok(documents)
 }
 
 // The member under a key, which is taken out.
 fn taken(members: &mut Members, key: &str) -> Option<Value>
     ensures value { option_map view result ≡ get_member key.now (members_view members.old.entries) }
-    ensures others { (other : List ℕ) → other ≢ key.now → get_member other (members_view members.new.entries) ≡ get_member other (members_view members.old.entries) }
+    ensures others { (other : List ℕ) → other ≢ key.now → get_member other (members_view members.new.entries)
+        ≡ get_member other (members_view members.old.entries) }
 {
     members.remove(key)
 }
@@ -67,22 +92,24 @@ pub fn documents_under(
     members: &mut Members,
     field: &str,
 ) -> Result<Option<Vec<Document>>, Stop<Value>>
-    ensures value { Answers (option_map (λ v. map given_of v.items)) result (spec.documents_at field.now (get_member field.now (members_view members.old.entries))) }
-    ensures others { (other : List ℕ) → other ≢ field.now → get_member other (members_view members.new.entries) ≡ get_member other (members_view members.old.entries) }
+    ensures value { Answers (option_map (λ v. map given_of v.items)) result (spec.documents_at field.now (get_member field.now
+        (members_view members.old.entries))) }
+    ensures others { (other : List ℕ) → other ≢ field.now → get_member other (members_view members.new.entries)
+        ≡ get_member other (members_view members.old.entries) }
 {
     let Some(value) = taken(members, field) else {
         return Ok(None);
     };
-    match documents_of(alloc, value)? {
-        Some(documents) => Ok(Some(documents)),
-        None => Err(field_error(alloc, Wrong::InvalidField, field)),
-    }
+    let documents = documents_of(alloc, value, field)?;
+    Ok(Some(documents))
 }
 
 /// The documents under `documents`, which are needed.
 pub fn needed_documents(alloc: Global, members: &mut Members) -> Result<Vec<Document>, Stop<Value>>
-    ensures value { Answers (λ v. map given_of v.items) result (spec.needed_documents (get_member (codes "documents") (members_view members.old.entries))) }
-    ensures others { (other : List ℕ) → other ≢ codes "documents" → get_member other (members_view members.new.entries) ≡ get_member other (members_view members.old.entries) }
+    ensures value { Answers (λ v. map given_of v.items) result (spec.needed_documents (get_member (codes "documents")
+        (members_view members.old.entries))) }
+    ensures others { (other : List ℕ) → other ≢ codes "documents" → get_member other (members_view members.new.entries)
+        ≡ get_member other (members_view members.old.entries) }
 {
     match documents_under(alloc, members, "documents")? {
         Some(documents) => Ok(documents),
@@ -91,12 +118,16 @@ pub fn needed_documents(alloc: Global, members: &mut Members) -> Result<Vec<Docu
 }
 
 /// Documents under the URIs that their texts mean.
-pub fn under_uris(alloc: Global, documents: Vec<Document>) -> Result<Vec<(Uri, Value)>, Stop<Value>>
-    ensures { Answers (λ v. trees_of v.items) result (spec.under_uris (map given_of documents.items)) }
+pub fn under_uris(
+    alloc: Global,
+    documents: Vec<Document>,
+    field: &str,
+) -> Result<Vec<(Uri, Value)>, Stop<Value>>
+    ensures { Answers (λ v. trees_of v.items) result (spec.under_uris field.now (map given_of documents.items)) }
 {
     let mut pairs = Vec::with_capacity(alloc, documents.len())?;
     for (text, tree) in documents {
-        let uri = uri_of(alloc, text.as_str())?;
+        let uri = uri_in(alloc, text.as_str(), field)?;
         pairs.push((uri, tree))?;
     }
     Ok(pairs)

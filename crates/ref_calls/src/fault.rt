@@ -6,13 +6,13 @@ ghost use Rattle.ref_definitions.specs.Fault.{Fault};
 ghost use Rattle.ref_retrieve.specs.Errors.{is_memory, SaysFault};
 ghost use Rattle.ref_calls.specs.Objects.{with_all};
 ghost use Rattle.ref_calls.specs.Errors as spec;
-ghost use Rattle.ref_calls.specs.Outcome.{IsStop};
+ghost use Rattle.ref_calls.specs.Outcome.{IsStop, IsChanged};
 
-use crate::members::{Members, put_text};
+use crate::members::{Members, put_number, put_text};
 use crate::stop::Stop;
 use ref_retrieve::Error;
 use ref_retrieve::laws::errors_say_faults;
-use serde_json::{Map, Value};
+use serde_json::{Map, Value, put};
 use std::alloc::{AllocError, Global};
 
 /// What is wrong with a member of a call.
@@ -72,6 +72,68 @@ pub fn plain_error(alloc: Global, name: &str, message: &str) -> Stop<Value>
     }
 }
 
+fn not_json_members(alloc: Global, offset: usize) -> Result<Members, AllocError>
+    ensures { IfOk result (λ m. members_view m.entries ≡ with_all (spec.not_json_members offset) no_members) }
+{
+    let mut members = error_members(alloc, "NotJson", "The line is no JSON")?;
+    put_number(alloc, &mut members, "offset", offset)?;
+    Ok(members)
+}
+
+/// The error of a line that is no JSON, with the place where it can't be read, in bytes.
+#[tactic(auto, unfolding(crate::specs::Errors::not_json))]
+pub fn not_json(alloc: Global, offset: usize) -> Stop<Value>
+    ensures { IsStop result (spec.not_json offset) }
+{
+    match not_json_members(alloc, offset) {
+        Ok(members) => Stop::Because(Value::Object(members)),
+        Err(_) => Stop::Memory,
+    }
+}
+
+// Puts one more member into an error.
+fn put_member(alloc: Global, error: Value, key: &str, value: Value) -> Result<Value, AllocError>
+    ensures { IfOk result (λ d. view d ≡ spec.with_member key.now (view value) (view error)) }
+{
+    match error {
+        Value::Object(members) => {
+            let mut members = members;
+            put(&mut members, alloc, key, value)?;
+            Ok(Value::Object(members))
+        }
+        other => Ok(other),
+    }
+}
+
+fn with_member(alloc: Global, stop: Stop<Value>, key: &str, value: Value) -> Stop<Value>
+    ensures { IsChanged (λ error. spec.with_member key.now (view value) error) stop result }
+{
+    let Stop::Because(error) = stop else {
+        return Stop::Memory;
+    };
+    match put_member(alloc, error, key, value) {
+        Ok(error) => Stop::Because(error),
+        Err(_) => Stop::Memory,
+    }
+}
+
+/// An error with the member of the call that it is about.
+pub fn in_field(alloc: Global, stop: Stop<Value>, field: &str) -> Stop<Value>
+    ensures { IsChanged (spec.with_field field.now) stop result }
+{
+    match Value::try_from_str(alloc, field) {
+        Ok(text) => with_member(alloc, stop, "field", text),
+        Err(_) => Stop::Memory,
+    }
+}
+
+/// An error with the number of the item of a list that it is about.
+pub fn at_index(alloc: Global, stop: Stop<Value>, index: usize) -> Stop<Value>
+    ensures { IsChanged (spec.with_index index) stop result }
+{
+    with_member(alloc, stop, "index", Value::from(index))
+}
+
 fn field_members(alloc: Global, wrong: Wrong, field: &str) -> Result<Members, AllocError>
     ensures { IfOk result (λ m. members_view m.entries ≡ with_all (spec.field_members wrong field.now) no_members) }
 {
@@ -127,7 +189,8 @@ fn wanted_of(error: &Error) -> Option<(&str, &'static str)>
 
 // Puts the document that is wanted and isn't there.
 fn put_wanted(alloc: Global, members: &mut Members, error: &Error) -> Result<(), AllocError>
-    ensures { (fault : Fault) → SaysFault error.now fault → OnOk result (members_view members.new.entries ≡ with_all (spec.wanted_members (spec.wanted fault)) (members_view members.old.entries)) }
+    ensures { (fault : Fault) → SaysFault error.now fault → OnOk result (members_view members.new.entries
+        ≡ with_all (spec.wanted_members (spec.wanted fault)) (members_view members.old.entries)) }
 {
     match wanted_of(error) {
         Some((uri, kind)) => {
@@ -140,7 +203,8 @@ fn put_wanted(alloc: Global, members: &mut Members, error: &Error) -> Result<(),
 
 /// The members of a fault's error. Running out of memory is none.
 pub fn fault_members(alloc: Global, error: &Error) -> Result<Members, AllocError>
-    ensures members { (fault : Fault) → SaysFault error.now fault → IfOk result (λ m. members_view m.entries ≡ with_all (spec.fault_members fault) no_members) }
+    ensures members { (fault : Fault) → SaysFault error.now fault → IfOk result (λ m. members_view m.entries
+        ≡ with_all (spec.fault_members fault) no_members) }
     ensures memory { is_memory error.now ≡ true → IsErr result }
 {
     if error.is_memory() {

@@ -1,10 +1,13 @@
 //! The members of calls.
 ghost use Rattle.std.specs.Prelude.{◌≡◌, IfOk};
 ghost use Rattle.serde_json.specs.View.{view, items_view};
+ghost use Rattle.ref_uri.specs.Targets.{uri_of};
+ghost use Rattle.ref_definitions.specs.Fault.{as_invalid_uri};
+ghost use Rattle.ref_calls.specs.Errors.{as_error};
 ghost use Rattle.ref_calls.specs.Calls as spec;
 ghost use Rattle.ref_calls.specs.Outcome.{Answers};
 
-use crate::fault::{Wrong, fault_error, field_error};
+use crate::fault::{Wrong, at_index, fault_error, field_error, in_field};
 use crate::stop::Stop;
 use ref_draft::Draft;
 use ref_parts::list::List;
@@ -59,14 +62,32 @@ pub fn items_in<'t>(
     }
 }
 
-/// The URI that a text means.
-pub fn uri_of(alloc: Global, text: &str) -> Result<Uri, Stop<Value>>
-    ensures { Answers (λ u. u) result (spec.uri_of_text text.now) }
+// The URI that a text means.
+fn uri_of_text(alloc: Global, text: &str) -> Result<Uri, Stop<Value>>
+    ensures { Answers (λ u. u) result (as_error (as_invalid_uri (uri_of text.now))) }
 {
     match from_str(alloc, text) {
         Ok(uri) => Ok(uri),
         Err(fault) => Err(fault_error(alloc, &Error::from(fault))),
     }
+}
+
+/// The URI that a text under a member means.
+pub fn uri_in(alloc: Global, text: &str, field: &str) -> Result<Uri, Stop<Value>>
+    ensures { Answers (λ u. u) result (spec.uri_in field.now text.now) }
+{
+    match uri_of_text(alloc, text) {
+        Ok(uri) => Ok(uri),
+        Err(stop) => Err(in_field(alloc, stop, field)),
+    }
+}
+
+/// The URI that a value means, which is to be a text.
+pub fn uri_at(alloc: Global, value: &Value, field: &str) -> Result<Uri, Stop<Value>>
+    ensures { Answers (λ u. u) result (spec.uri_at field.now (view value.now)) }
+{
+    let text = text_in(alloc, value, field)?;
+    uri_in(alloc, text, field)
 }
 
 /// Whether a member is `true`; it isn't where it is missing.
@@ -142,18 +163,26 @@ pub fn base_of(alloc: Global, tree: &Value) -> Result<Uri, Stop<Value>>
     ensures { Answers (λ u. u) result (spec.base_of (view tree.now)) }
 {
     let value = required(alloc, tree, "base")?;
-    let text = text_in(alloc, value, "base")?;
-    uri_of(alloc, text)
+    uri_at(alloc, value, "base")
 }
 
-// The URIs that texts mean.
+// The URI that an item of a scope means.
+fn scope_uri(alloc: Global, item: &Value, index: usize) -> Result<Uri, Stop<Value>>
+    ensures { Answers (λ u. u) result (spec.scope_uri index (view item.now)) }
+{
+    match uri_at(alloc, item, "scope") {
+        Ok(uri) => Ok(uri),
+        Err(stop) => Err(at_index(alloc, stop, index)),
+    }
+}
+
+// The URIs that the items of a scope mean.
 fn uris_in(alloc: Global, items: &[Value]) -> Result<Vec<Uri>, Stop<Value>>
-    ensures { Answers (λ v. v.items) result (spec.uris_in (items_view items.now)) }
+    ensures { Answers (λ v. v.items) result (spec.each_item spec.scope_uri 0 (items_view items.now)) }
 {
     let mut uris = Vec::with_capacity(alloc, items.len())?;
-    for item in items {
-        let text = text_in(alloc, item, "scope")?;
-        let uri = uri_of(alloc, text)?;
+    for (index, item) in items.iter().enumerate() {
+        let uri = scope_uri(alloc, item, index)?;
         uris.push(uri)?;
     }
     Ok(uris)

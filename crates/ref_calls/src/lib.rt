@@ -1,4 +1,5 @@
-//! Calls that are JSON objects, and the objects that answer them: which call an object is, what its members are, and why a call has no result.
+//! Calls that are JSON objects, and the objects that answer them: which call an object is, what its members are, and why a
+//! call has no result.
 //!
 //! `docs/PROTOCOL.md` describes them. Read `specs/Calls.antt` first, and then `specs/Errors.antt`.
 #![tactic(auto)]

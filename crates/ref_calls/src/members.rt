@@ -19,7 +19,8 @@ pub fn put_text(
     key: &str,
     text: &str,
 ) -> Result<(), AllocError>
-    ensures { OnOk result (members_view members.new.entries ≡ with_member key.now (string text.now) (members_view members.old.entries)) }
+    ensures { OnOk result (members_view members.new.entries
+        ≡ with_member key.now (string text.now) (members_view members.old.entries)) }
 {
     let value = Value::try_from_str(alloc, text)?;
     put(members, alloc, key, value)
@@ -32,7 +33,8 @@ pub fn put_number(
     key: &str,
     number: usize,
 ) -> Result<(), AllocError>
-    ensures { OnOk result (members_view members.new.entries ≡ with_member key.now (whole number) (members_view members.old.entries)) }
+    ensures { OnOk result (members_view members.new.entries
+        ≡ with_member key.now (whole number) (members_view members.old.entries)) }
 {
     put(members, alloc, key, Value::from(number))
 }

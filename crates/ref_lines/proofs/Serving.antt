@@ -1,13 +1,18 @@
 -- Answers that are written one after another.
-use Rattle.std.proofs.Common.{◌≡◌, ℕ, Bool, true, List, [], ◌∷◌, ◌++◌, Option, Some, None, Result, Vec, refl, sym, ap, ◌∙◌, subst, append_assoc, append-nil}
+use Rattle.std.proofs.Common.{◌≡◌, ℕ, Bool, true, List, [], ◌∷◌, ◌++◌, Option, Some, None, Result, Vec, Ok, Err, IfErr, refl, sym, ap, ◌∙◌, subst, append_assoc, append-nil}
 use Rattle.std.specs.declared.alloc.AllocError.{AllocError}
 use Rattle.std.specs.declared.alloc.Global.{Global}
 use Rattle.std.proofs.KnownBytes.{Consumes-nil, Consumes-trans, Appends-nil, Appends-trans}
 use Rattle.std.specs.Io.KnownBytes.{Appends}
 use Rattle.ref_lines.specs.Lines.{lines}
-use Rattle.ref_lines.specs.Serving.{Answers, AnswersLine, Serves, ServedSoFar}
+use Rattle.ref_lines.specs.Serving.{Answers, AnswersLine, Serves, ServedSoFar, AnsweredSoFar}
+use Rattle.ref_lines.specs.inner.Held.{Gave}
 use Rattle.ref_lines.specs.inner.Answering.{answer_text, Served, GotAnswer}
 use Rattle.ref_lines.proofs.Cutting.{cut_lines, no_lines}
+
+pub err_always : {X E : Type 0} (r : Result X E) (P : E → Type 0) → ((e : E) → P e) → IfErr r P
+err_always (Ok x) P all = tt
+err_always (Err e) P all = all e
 
 module _ {S : Type 0} (may_answer : S → List ℕ → S → List ℕ → Type 0) where
   -- one answer more
@@ -53,7 +58,21 @@ module _ {S : Type 0} (may_answer : S → List ℕ → S → List ℕ → Type 0
       subst (λ ls. Answers may_answer s ls next text) (sym all) (subst (λ x. Answers may_answer s front x text) (sym same) answers) in
       (bytes ++ more, text, Consumes-trans left left' left'' bytes more consumes consumed, given, appends)
 
-  pub served_so_far : (s t next : S) (left left' taken taken' : Option (List ℕ)) (held : List ℕ) (ended : Bool)
-      → Served may_answer s t left left' taken taken' held ended → next ≡ t → ServedSoFar may_answer s next taken taken'
-  served_so_far s t next left left' taken taken' held ended (bytes, text, front, consumes, appends, answers, are) same =
-      (front, text, subst (λ x. Answers may_answer s front x text) (sym same) answers, appends)
+  -- the answers up to an error, before which more bytes may have been read
+  pub served_so_far : (s t next : S) (left left' left'' taken taken' : Option (List ℕ)) (held : List ℕ) (ended : Bool)
+      → Served may_answer s t left left' taken taken' held ended → Gave left' left'' ended → next ≡ t → ServedSoFar may_answer s next left left'' taken taken'
+  served_so_far s t next left left' left'' taken taken' held ended (bytes, text, front, consumes, appends, answers, are) (more, gave, none) same =
+      (text, (bytes ++ more, front, lines (held ++ more), Consumes-trans left left' left'' bytes more consumes gave, are more none, subst (λ x. Answers may_answer s front x text) (sym same) answers), appends)
+
+  pub answered_so_far : (s t : S) (left left' taken taken' : Option (List ℕ)) → ServedSoFar may_answer s t left left' taken taken' → AnsweredSoFar may_answer s t left left'
+  answered_so_far s t left left' taken taken' (text, answers, appends) = (text, answers)
+
+  -- the same where the last answer couldn't be written
+  pub unwritten : (s t next : S) (left left' left'' taken taken' : Option (List ℕ)) (held after : List ℕ) (ended ended' : Bool) (answer : Result (Vec ℕ Global) AllocError)
+      → Served may_answer s t left left' taken taken' held ended → GotAnswer may_answer t next left' left'' (Some answer) held after ended ended'
+      → AnsweredSoFar may_answer s next left left''
+  unwritten s t next left left' left'' taken taken' held after ended ended' answer (bytes, text, front, consumes, appends, answers, are) got =
+      answered_so_far s next left left'' None None
+      (served_so_far s next next left left'' left'' None None after ended'
+      (served_more s t next left left' left'' None None None held after ended ended' answer (bytes, text, front, consumes, tt, answers, are) got tt)
+      ([], Consumes-nil left'', λ _. refl) refl)

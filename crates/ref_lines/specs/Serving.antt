@@ -24,7 +24,16 @@ abbrev pub Serves : {S : Type 0} → (S → List ℕ → S → List ℕ → Type
 Serves may_answer service end left left' taken taken' =
     (bytes text : List ℕ) × Consumes left left' bytes × Answers may_answer service (lines bytes) end text × Appends taken taken' text
 
--- The sink took the answers to some lines.
-abbrev pub ServedSoFar : {S : Type 0} → (S → List ℕ → S → List ℕ → Type 0) → S → S → Option (List ℕ) → Option (List ℕ) → Type 0
-ServedSoFar may_answer service end taken taken' =
-    (lines : List (List ℕ)) × (text : List ℕ) × Answers may_answer service lines end text × Appends taken taken' text
+-- The source gave some bytes, and the text is the answers to the first lines of these.
+abbrev pub AnswersSoFar : {S : Type 0} → (S → List ℕ → S → List ℕ → Type 0) → S → S → Option (List ℕ) → Option (List ℕ) → List ℕ → Type 0
+AnswersSoFar may_answer service end left left' text =
+    (bytes : List ℕ) × (answered others : List (List ℕ)) × Consumes left left' bytes × (lines bytes ≡ answered ++ others) × Answers may_answer service answered end text
+
+-- The sink took the answers to the first lines of what the source gave.
+abbrev pub ServedSoFar : {S : Type 0} → (S → List ℕ → S → List ℕ → Type 0) → S → S → Option (List ℕ) → Option (List ℕ) → Option (List ℕ) → Option (List ℕ) → Type 0
+ServedSoFar may_answer service end left left' taken taken' =
+    (text : List ℕ) × AnswersSoFar may_answer service end left left' text × Appends taken taken' text
+
+-- The service is as the answers to the first lines of what the source gave leave it.
+abbrev pub AnsweredSoFar : {S : Type 0} → (S → List ℕ → S → List ℕ → Type 0) → S → S → Option (List ℕ) → Option (List ℕ) → Type 0
+AnsweredSoFar may_answer service end left left' = (text : List ℕ) × AnswersSoFar may_answer service end left left' text

@@ -1,6 +1,6 @@
 //! Bytes that were read and not passed yet.
-ghost use Rattle.std.specs.Prelude.{◌≡◌, ◌≤◌, true, false, [], IfOk, IsTrue};
-ghost use Rattle.std.specs.Io.KnownBytes.{Consumes, IsAtEnd};
+ghost use Rattle.std.specs.Prelude.{◌≡◌, ◌≤◌, true, false, [], IfOk, OnErr, IsTrue};
+ghost use Rattle.std.specs.Io.KnownBytes.{Consumes, Keeps, IsAtEnd};
 ghost use Rattle.ref_streams.specs.Bytes.{count_after};
 
 use ref_streams::{Failed, Source};
@@ -44,7 +44,9 @@ impl Chunk {
     /// Reads the next bytes in place of those there.
     pub fn fill<R: Source>(&mut self, source: &mut R) -> Result<(), Failed>
         ensures bytes { IfOk result (λ _. Consumes (R.remaining source.old) (R.remaining source.new) (held self.new)) }
-        ensures end { IfOk result (λ _. self.new.has_ended ≡ true → (held self.new ≡ []) × IsTrue (R.ended source.new) × IsAtEnd (R.remaining source.new)) }
+        ensures end { IfOk result (λ _. self.new.has_ended ≡ true → (held self.new ≡ []) × IsTrue (R.ended source.new)
+            × IsAtEnd (R.remaining source.new)) }
+        ensures kept { OnErr result (Keeps (R.remaining source.old) (R.remaining source.new)) }
         ensures count { R.failures source.new ≡ count_after result (R.failures source.old) }
     {
         let count = source.read(&mut self.bytes)?;

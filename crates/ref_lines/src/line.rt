@@ -1,8 +1,8 @@
 //! The lines of a source.
-ghost use Rattle.std.specs.Prelude.{◌≡◌, ◌≢◌, true, Bool, List, [], ℕ, ◌++◌, Err, IfOk, IfErr, IsTrue};
+ghost use Rattle.std.specs.Prelude.{◌≡◌, ◌≢◌, true, Bool, List, [], ℕ, ◌++◌, Err, IfOk, IfErr, OnErr, IsTrue};
 ghost use Rattle.std.specs.Io.KnownBytes.{IsAtEnd};
 ghost use Rattle.ref_streams.specs.Bytes.{HasFailed};
-ghost use Rattle.ref_lines.specs.inner.Held.{held, IsFree, Keeps, Passes, Cuts, IsNext, GotNext};
+ghost use Rattle.ref_lines.specs.inner.Held.{held, IsFree, Keeps, Passes, Cuts, IsNext, GotNext, Gave};
 
 use crate::chunk::Chunk;
 use memchr::memchr;
@@ -51,7 +51,8 @@ impl Part {
 
     // The line, which ends here.
     fn into_line(self) -> Line
-        ensures value { (line before after : List ℕ) (ended : Bool) → Keeps self line → Cuts before line after ended → IsNext result before after ended }
+        ensures value { (line before after : List ℕ) (ended : Bool) → Keeps self line → Cuts before line after ended
+            → IsNext result before after ended }
     {
         if self.is_lost {
             Line::Lost
@@ -62,7 +63,8 @@ impl Part {
 
     // The line, where the source ends here.
     fn into_last(self) -> Line
-        ensures value { (line before after : List ℕ) → Keeps self line → IsFree line → before ≡ line → after ≡ [] → IsNext result before after true }
+        ensures value { (line before after : List ℕ) → Keeps self line → IsFree line → before ≡ line → after ≡ []
+            → IsNext result before after true }
     {
         if self.is_lost {
             Line::Lost
@@ -103,9 +105,11 @@ pub fn read_line<R: Source>(
     source: &mut R,
     chunk: &mut Chunk,
 ) -> Result<Line, RunError>
-    ensures next { IfOk result (λ line. GotNext (R.remaining source.old) (R.remaining source.new) (held chunk.old) (held chunk.new) line chunk.old.has_ended chunk.new.has_ended) }
+    ensures next { IfOk result (λ line. GotNext (R.remaining source.old) (R.remaining source.new) (held chunk.old)
+        (held chunk.new) line chunk.old.has_ended chunk.new.has_ended) }
     ensures end { (chunk.old.has_ended ≡ true → IsTrue (R.ended source.old) × IsAtEnd (R.remaining source.old))
         → IfOk result (λ _. chunk.new.has_ended ≡ true → IsTrue (R.ended source.new) × IsAtEnd (R.remaining source.new)) }
+    ensures gave { OnErr result (Gave (R.remaining source.old) (R.remaining source.new) chunk.old.has_ended) }
     ensures error { IfErr result (λ e. e ≢ RunError.Write) }
     ensures read { result ≡ Err RunError.Read → HasFailed (R.failures source.old) (R.failures source.new) }
     ensures no_read_failed { result ≢ Err RunError.Read → R.failures source.new ≡ R.failures source.old }

@@ -2,8 +2,8 @@
 ghost use Rattle.std.specs.Prelude.{◌≡◌, ◌≢◌, ◌++◌, ℕ, List, Err, true, IfOk, IfErr, OnOk, OnErr, IsTrue};
 ghost use Rattle.std.specs.Io.KnownBytes.{Appends, IsAtEnd};
 ghost use Rattle.ref_streams.specs.Bytes.{HasFailed};
-ghost use Rattle.ref_lines.specs.Serving.{Serves, ServedSoFar};
-ghost use Rattle.ref_lines.specs.inner.Held.{held};
+ghost use Rattle.ref_lines.specs.Serving.{Serves, ServedSoFar, AnsweredSoFar};
+ghost use Rattle.ref_lines.specs.inner.Held.{held, Gave};
 ghost use Rattle.ref_lines.specs.inner.Answering.{answer_text, GotAnswer};
 
 use crate::chunk::Chunk;
@@ -33,8 +33,10 @@ fn next_answer<R: Source, S: Service>(
     chunk: &mut Chunk,
     service: &mut S,
 ) -> Result<Option<Result<Vec<u8>, AllocError>>, RunError>
-    ensures next { IfOk result (λ answer. GotAnswer S.may_answer service.old service.new (R.remaining reader.old) (R.remaining reader.new) answer (held chunk.old) (held chunk.new) chunk.old.has_ended chunk.new.has_ended) }
+    ensures next { IfOk result (λ answer. GotAnswer S.may_answer service.old service.new (R.remaining reader.old)
+        (R.remaining reader.new) answer (held chunk.old) (held chunk.new) chunk.old.has_ended chunk.new.has_ended) }
     ensures stays { OnErr result (service.new ≡ service.old) }
+    ensures gave { OnErr result (Gave (R.remaining reader.old) (R.remaining reader.new) chunk.old.has_ended) }
     ensures count { OnOk result (R.failures reader.new ≡ R.failures reader.old) }
     ensures end { (chunk.old.has_ended ≡ true → IsTrue (R.ended reader.old) × IsAtEnd (R.remaining reader.old))
         → IfOk result (λ _. chunk.new.has_ended ≡ true → IsTrue (R.ended reader.new) × IsAtEnd (R.remaining reader.new)) }
@@ -66,9 +68,10 @@ fn write<W: Sink>(writer: &mut W, answer: &Result<Vec<u8>, AllocError>) -> Resul
 
 /// Reads lines to the end, and writes the answer to each before the next is read.
 ///
-/// `Read` exactly where a read failed, `Write` only where a write did; `Memory` where a count of 64 bits runs out, of lines or of the
-/// reads for one. What was written before a failed read are the answers to the lines before. Where memory is refused for a line, the answer
-/// says so, and the next line is answered. Linear in the bytes, but for the answers.
+/// `Read` exactly where a read failed, `Write` exactly where a write did; `Memory` where a count of 64 bits runs out, of
+/// lines or of the reads for one. Before an error the service answered the first lines of what was read, and all those
+/// answers were written, but for a failed write: of the last answer then nothing is said. Where memory is refused for a line,
+/// the answer says so, and the next line is answered. Linear in the bytes, but for the answers.
 pub fn serve<R: Source, W: Sink, S: Service>(
     alloc: Global,
     reader: &mut R,
@@ -77,12 +80,19 @@ pub fn serve<R: Source, W: Sink, S: Service>(
 ) -> Result<(), RunError>
     // What was written are the answers to the lines of what was read, to the end of the source.
     ensures served { IfOk result (λ _. (IsTrue (R.ended reader.new) × IsAtEnd (R.remaining reader.new))
-        × Serves S.may_answer service.old service.new (R.remaining reader.old) (R.remaining reader.new) (W.taken writer.old) (W.taken writer.new)) }
+        × Serves S.may_answer service.old service.new (R.remaining reader.old) (R.remaining reader.new) (W.taken writer.old)
+        (W.taken writer.new)) }
     ensures read { result ≡ Err RunError.Read → HasFailed (R.failures reader.old) (R.failures reader.new) }
     ensures no_read_failed { result ≢ Err RunError.Read → R.failures reader.new ≡ R.failures reader.old }
     ensures write { result ≡ Err RunError.Write → HasFailed (W.failures writer.old) (W.failures writer.new) }
-    // Without a failed write, what was written are the answers to lines that stood before what was read.
-    ensures so_far { IfErr result (λ e. e ≢ RunError.Write → ServedSoFar S.may_answer service.old service.new (W.taken writer.old) (W.taken writer.new)) }
+    ensures no_write_failed { result ≢ Err RunError.Write → W.failures writer.new ≡ W.failures writer.old }
+    // Without a failed write, what was written are the answers to the first lines of what was read.
+    ensures so_far { IfErr result (λ e. e ≢ RunError.Write
+        → ServedSoFar S.may_answer service.old service.new (R.remaining reader.old) (R.remaining reader.new)
+        (W.taken writer.old) (W.taken writer.new)) }
+    // After any error the service is as its answers to the first lines of what was read leave it.
+    ensures answered { OnErr result (AnsweredSoFar S.may_answer service.old service.new (R.remaining reader.old)
+        (R.remaining reader.new)) }
 {
     let mut chunk = Chunk::new();
     for _ in 0..u64::MAX {

@@ -4,5 +4,6 @@ pub mod ListOfReferences
 pub mod DanglingList
 pub mod KnownVocabularies
 pub mod Replying
+pub mod Steps
 pub mod OpeningReads
 pub mod OpeningWorlds

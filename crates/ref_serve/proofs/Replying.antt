@@ -47,11 +47,11 @@ pub ok_map : {X E : Type 0} (result : Result X E) (P Q : X → Type 0) → ((x :
 ok_map (Ok x) P Q more given = more x given
 ok_map (Err e) P Q more given = tt
 
-pub answered : (state next : Registries) (line text : List ℕ) (tree : Option Data) → tree ≡ tree_of line → IsAnswerTo state tree next text → IsAnswer state line next text
+pub answered : (state next : Registries) (line text : List ℕ) (tree : Option Data) → tree ≡ tree_of line → IsAnswerTo state line tree next text → IsAnswer state line next text
 unfolding IsAnswer
-answered state next line text tree is given = subst (λ t. IsAnswerTo state t next text) is given
+answered state next line text tree is given = subst (λ t. IsAnswerTo state line t next text) is given
 
-pub failed : (state next : Registries) (d : Data) (id : Option Data) (error : Data) (text : List ℕ) → id ≡ get (codes "id") d → next ≡ state
-    → IsReplyTo (call_of d) state d state (Err error) → IsLineOf (answer_of id (codes "error") error) text → IsAnswerTo state (Some d) next text
-failed state next d id error text is same reply written =
+pub failed : (state next : Registries) (line : List ℕ) (d : Data) (id : Option Data) (error : Data) (text : List ℕ) → id ≡ get (codes "id") d → next ≡ state
+    → IsReplyTo (call_of d) state d state (Err error) → IsLineOf (answer_of id (codes "error") error) text → IsAnswerTo state line (Some d) next text
+failed state next line d id error text is same reply written =
     (Err error, subst (λ n. IsReplyTo (call_of d) state d n (Err error)) (sym same) reply, subst (λ i. IsLineOf (answer_of i (codes "error") error) text) is written)

@@ -1,26 +1,30 @@
 -- The answer to a line, and what becomes of the open registries.
-use Rattle.std.specs.Prelude.{◌≡◌, ℕ, List, [], codes, Option, None, Some, Result, Ok, Err}
+use Rattle.std.specs.Prelude.{◌≡◌, ◌≤◌, length, ℕ, List, [], codes, Option, None, Some, Result, Ok, Err}
 use Rattle.serde_json.specs.Data.{Data}
 use Rattle.serde_json.specs.Find.{get}
 use Rattle.ref_calls.specs.declared.call.Call.{Call}
-use Rattle.ref_calls.specs.declared.call.Call.TheVariants.{Open, Lookup, Recursive, Enter, Places, Dangling, Vocabularies, Bundle, Close}
+use Rattle.ref_calls.specs.declared.call.Call.TheVariants.{Open, Lookup, Recursive, Enter, Follow, Places, Dangling, Vocabularies, Bundle, Close}
 use Rattle.ref_calls.specs.Objects.{object_of, answer_of, IsLineOf}
-use Rattle.ref_calls.specs.Calls.{tree_of, call_of, not_json}
+use Rattle.ref_calls.specs.Errors.{not_json}
+use Rattle.ref_calls.specs.Calls.{tree_of, call_of}
 use Rattle.ref_serve.specs.State.{OpenRegistry, Registries, registry_under, without_registry}
 use Rattle.ref_serve.specs.Opening.{opening_of, IsOpenedAs}
 use Rattle.ref_serve.specs.Results.{IsLookup, IsRecursiveCall, enter_result}
-use Rattle.ref_serve.specs.Listings.{places_result, dangling_result, vocabularies_result, IsBundle}
+use Rattle.ref_serve.specs.Following.{IsFollow}
+use Rattle.ref_serve.specs.Listings.{places_result, dangling_result, vocabularies_result, bundle_result}
 
--- the result of a call that changes no registry, or its error; of the calls without a definition here any
+-- the result of a call that changes no registry, or its error; of `open` and `close` see `IsReply`
 abbrev pub IsResult : Call → Registries → Data → Result Data Data → Type 0
 IsResult Lookup state d outcome = IsLookup state d outcome
 IsResult Recursive state d outcome = IsRecursiveCall state d outcome
 IsResult Enter state d outcome = outcome ≡ enter_result state d
+IsResult Follow state d outcome = IsFollow state d outcome
 IsResult Places state d outcome = outcome ≡ places_result state d
 IsResult Dangling state d outcome = outcome ≡ dangling_result state d
 IsResult Vocabularies state d outcome = outcome ≡ vocabularies_result state d
-IsResult Bundle state d outcome = IsBundle state d outcome
-IsResult other state d outcome = Unit {0}
+IsResult Bundle state d outcome = outcome ≡ bundle_result state d
+IsResult Open state d outcome = Unit {0}
+IsResult Close state d outcome = Unit {0}
 
 -- a registry is opened after the others, or there is an error, and nothing changes
 unfoldable pub IsOpened : Registries → Data → Registries → Result Data Data → Type 0
@@ -45,16 +49,20 @@ abbrev pub IsReplyTo : Result Call Data → Registries → Data → Registries �
 IsReplyTo (Ok call) state d next outcome = IsReply call state d next outcome
 IsReplyTo (Err error) state d next outcome = (outcome ≡ Err error) × (next ≡ state)
 
+-- the line of the error of a line that is no JSON, with a byte of it or its end as the place
+abbrev pub IsNotJsonLine : List ℕ → List ℕ → Type 0
+IsNotJsonLine line text = (offset : ℕ) × (offset ≤ length line) × IsLineOf (answer_of None (codes "error") (not_json offset)) text
+
 -- the answer to a call
 abbrev pub outcome_object : Option Data → Result Data Data → Data
 outcome_object id (Ok result) = answer_of id (codes "result") result
 outcome_object id (Err error) = answer_of id (codes "error") error
 
-abbrev pub IsAnswerTo : Registries → Option Data → Registries → List ℕ → Type 0
-IsAnswerTo state None next text = IsLineOf (answer_of None (codes "error") not_json) text × (next ≡ state)
-IsAnswerTo state (Some d) next text =
+abbrev pub IsAnswerTo : Registries → List ℕ → Option Data → Registries → List ℕ → Type 0
+IsAnswerTo state line None next text = IsNotJsonLine line text × (next ≡ state)
+IsAnswerTo state line (Some d) next text =
     (outcome : Result Data Data) × IsReplyTo (call_of d) state d next outcome × IsLineOf (outcome_object (get (codes "id") d) outcome) text
 
 -- The answer to a line, and the registries after it. An error leaves them as they were.
 unfoldable pub IsAnswer : Registries → List ℕ → Registries → List ℕ → Type 0
-IsAnswer state line next text = IsAnswerTo state (tree_of line) next text
+IsAnswer state line next text = IsAnswerTo state line (tree_of line) next text

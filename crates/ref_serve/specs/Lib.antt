@@ -3,5 +3,6 @@ pub mod State
 pub mod Results
 pub mod Opening
 pub mod Listings
+pub mod Following
 pub mod Answering
 pub mod inner

@@ -1,5 +1,5 @@
 -- The results of calls on the documents of a registry as wholes.
-use Rattle.std.specs.Prelude.{◌≡◌, ℕ, List, [], ◌∷◌, ◌++◌, map, filter, codes, Result, Ok, Err}
+use Rattle.std.specs.Prelude.{ℕ, List, [], ◌∷◌, ◌++◌, map, filter, codes, Result, Ok, Err}
 use Rattle.serde_json.specs.Data.{Data, string}
 use Rattle.ref_parts.specs.Path.{Part}
 use Rattle.ref_parts.specs.Pointer.{pointer_text}
@@ -11,11 +11,11 @@ use Rattle.ref_vocabularies.specs.Vocabularies.{Known, Core, Applicator, Unevalu
 use Rattle.ref_lint.specs.Dangling.{DanglingReference, dangling}
 use Rattle.ref_bundle.specs.Embedding.{Obstacle, NotAnObject, IdentifierBesideRef, NotAnIdentifier, NotKept, UntoldDraft, ResolvedAgain}
 use Rattle.ref_bundle.specs.Bundle.{Bundle, BundleRefusal, Problem, NoDocument, NotEmbedded, NoMap, KeyTaken, SharedUri, ReplacedUri, bundle_at}
+use Rattle.ref_bundle.specs.Saying.{refusal_text}
 use Rattle.ref_calls.specs.Objects.{object_of, list_of, texts, whole}
 use Rattle.ref_calls.specs.Errors.{error_members, fault_members}
 use Rattle.ref_calls.specs.Calls.{required, number_in, draft_name, draft_of, schema_of}
-use Rattle.ref_serve.specs.State.{OpenRegistry, Registries, registry_under}
-use Rattle.ref_serve.specs.Results.{Then}
+use Rattle.ref_serve.specs.State.{Registries, registry_under}
 
 -- the members of a place in one of a registry's own documents
 abbrev pub site_members : ℕ → List Part → List (List ℕ × Data)
@@ -23,7 +23,7 @@ site_members document path = (codes "document", whole document) ∷ (codes "poin
 
 -- ---- places
 
--- a base; in a registry each own place has one
+-- a base; each own place of a registry has one, so the empty text of a refused one is in no answer
 abbrev pub base_text : Result (List ℕ) Refusal → List ℕ
 base_text (Ok base) = base
 base_text (Err refusal) = []
@@ -108,16 +108,13 @@ problem_name (SharedUri uri document path) = codes "SharedUri"
 problem_name (ReplacedUri uri base) = codes "ReplacedUri"
 
 -- the members of a refusal's error
-abbrev pub refusal_members : List ℕ → BundleRefusal → List (List ℕ × Data)
-refusal_members message r = error_members (codes "NotBundled") message ++ (codes "reason", string (problem_name r.problem)) ∷ site_members r.document r.path
+abbrev pub refusal_members : BundleRefusal → List (List ℕ × Data)
+refusal_members r = error_members (codes "NotBundled") (refusal_text r) ++ (codes "reason", string (problem_name r.problem)) ∷ site_members r.document r.path
 
--- the object with a bundle's tree, or the error of the refusal with some message
-abbrev pub IsBundled : Result Bundle BundleRefusal → Result Data Data → Type 0
-IsBundled (Ok bundle) outcome = outcome ≡ Ok (object_of ((codes "bundle", bundle.value) ∷ []))
-IsBundled (Err refusal) outcome = (message : List ℕ) × (outcome ≡ Err (object_of (refusal_members message refusal)))
-
-abbrev pub IsBundleOf : OpenRegistry → ℕ → Result Data Data → Type 0
-IsBundleOf registry document outcome = IsBundled (bundle_at (own_layer registry.0) document) outcome
+-- the object with a bundle's tree, or the error of the refusal
+abbrev pub bundled_result : Result Bundle BundleRefusal → Result Data Data
+bundled_result (Ok bundle) = Ok (object_of ((codes "bundle", bundle.value) ∷ []))
+bundled_result (Err refusal) = Err (object_of (refusal_members refusal))
 
 -- the number under `document`
 unfoldable pub document_number : Data → Result ℕ Data
@@ -126,5 +123,8 @@ document_number d = do
   number_in (codes "document") value
 
 -- `bundle`
-unfoldable pub IsBundle : Registries → Data → Result Data Data → Type 0
-IsBundle state d outcome = Then (registry_under state d (codes "registry")) (λ r. Then (document_number d) (IsBundleOf r.1)) outcome
+unfoldable pub bundle_result : Registries → Data → Result Data Data
+bundle_result state d = do
+  registry ← registry_under state d (codes "registry")
+  document ← document_number d
+  bundled_result (bundle_at (own_layer registry.1.0) document)

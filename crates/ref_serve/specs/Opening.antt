@@ -45,7 +45,7 @@ parent_of state d = parent_at state d (get (codes "parent") d)
 
 -- the documents under `remote`, or else none, under the URIs that their texts mean
 unfoldable pub remote_of : Option Data → Result (List (List ℕ × Data)) Data
-remote_of found = documents_at (codes "remote") found >>= λ documents. under_uris (unwrap_or documents [])
+remote_of found = documents_at (codes "remote") found >>= λ documents. under_uris (codes "remote") (unwrap_or documents [])
 
 unfoldable pub opening_of : Registries → Data → Result Opening Data
 opening_of state d = do

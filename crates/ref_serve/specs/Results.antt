@@ -1,6 +1,6 @@
 -- The results of calls that change no registry.
 use Rattle.std.specs.Prelude.{◌≡◌, ℕ, Bool, List, [], ◌∷◌, ◌++◌, map, codes, Option, None, Some, Result, Ok, Err, if◌then◌else◌}
-use Rattle.serde_json.specs.Data.{Data, string, Items, no_items, item}
+use Rattle.serde_json.specs.Data.{Data, string, Items}
 use Rattle.serde_json.specs.Find.{as_str, as_array}
 use Rattle.serde_json.specs.View.{view}
 use Rattle.serde_json.specs.declared.value.Value.{Value}
@@ -19,8 +19,8 @@ use Rattle.ref_calls.specs.declared.fault.Wrong.TheVariants.{InvalidField}
 use Rattle.ref_calls.specs.declared.stop.Stop.{Stop}
 use Rattle.ref_calls.specs.declared.stop.Stop.TheVariants.{Memory, Because}
 use Rattle.ref_calls.specs.Objects.{object_of, list_of, texts, whole}
-use Rattle.ref_calls.specs.Errors.{field_error, fault_error, as_error}
-use Rattle.ref_calls.specs.Calls.{required, text_in, is_set, base_of, scope_of, draft_of, draft_name, schema_of}
+use Rattle.ref_calls.specs.Errors.{field_error, fault_error, as_error, at_index}
+use Rattle.ref_calls.specs.Calls.{required, text_in, each_item, is_set, base_of, scope_of, draft_of, draft_name, schema_of}
 use Rattle.ref_serve.specs.State.{OpenRegistry, Registries, registry_under, layer_number}
 
 -- a call gives what it may, unless memory ran out: its result or its error object
@@ -109,8 +109,8 @@ IsListedAs asked r reference (Ok d) = IsListed asked r reference d
 IsListedAs asked r reference (Err e) = ⊥
 
 -- the text that an item is
-abbrev pub reference_in : Data → Result (List ℕ) Data
-reference_in d = text_in (codes "reference") d
+abbrev pub reference_in : ℕ → Data → Result (List ℕ) Data
+reference_in n d = at_index n (text_in (codes "reference") d)
 
 -- each of them, in order
 abbrev pub AreListed : Asked → Resolver → List (List ℕ) → List Data → Type 0
@@ -119,21 +119,13 @@ AreListed asked r [] (d ∷ ds) = ⊥
 AreListed asked r (reference ∷ more) [] = ⊥
 AreListed asked r (reference ∷ more) (d ∷ ds) = IsListed asked r reference d × AreListed asked r more ds
 
--- the texts of a list of references
-abbrev pub references_in : Items → Result (List (List ℕ)) Data
-references_in no_items = Ok []
-references_in (item d ds) = do
-  reference ← reference_in d
-  more ← references_in ds
-  Ok (reference ∷ more)
-
 abbrev pub IsList : Asked → Resolver → List (List ℕ) → Result Data Data → Type 0
 IsList asked r references outcome = (ds : List Data) × AreListed asked r references ds × (outcome ≡ Ok (list_of ds))
 
 -- a text is looked up, and each of a list of texts
 abbrev pub IsReferenceAs : Asked → Resolver → Option (List ℕ) → Option Items → Result Data Data → Type 0
 IsReferenceAs asked r (Some reference) items outcome = IsLookedUp asked r reference outcome
-IsReferenceAs asked r None (Some items) outcome = Then (references_in items) (IsList asked r) outcome
+IsReferenceAs asked r None (Some items) outcome = Then (each_item reference_in 0 items) (IsList asked r) outcome
 IsReferenceAs asked r None None outcome = outcome ≡ Err (field_error InvalidField (codes "reference"))
 
 abbrev pub IsReference : Asked → Resolver → Data → Result Data Data → Type 0

@@ -2,3 +2,4 @@
 pub mod Seen
 pub mod Replies
 pub mod Openings
+pub mod Steps

@@ -2,7 +2,8 @@
 ghost use Rattle.std.specs.Prelude.{◌≡◌, codes, None, Some, IfOk, OnOk, OnErr};
 ghost use Rattle.serde_json.specs.View.{view};
 ghost use Rattle.ref_calls.specs.Objects.{answer_of, IsLineOf};
-ghost use Rattle.ref_calls.specs.Calls.{call_of, not_json};
+ghost use Rattle.ref_calls.specs.Errors.{not_json as error_of};
+ghost use Rattle.ref_calls.specs.Calls.{call_of};
 ghost use Rattle.ref_serve.specs.Answering as spec;
 ghost use Rattle.ref_serve.specs.Results.{Gives};
 ghost use Rattle.ref_serve.specs.inner.Replies.{changed, Replies, IsUnchanged};
@@ -18,7 +19,7 @@ use crate::state::{Open, State};
 use crate::vocabularies::vocabularies;
 use ref_calls::answer::{error_text, id_of, text_of, tree_of};
 use ref_calls::call::{Call, call_of};
-use ref_calls::fault::plain_error;
+use ref_calls::fault::{not_json, plain_error};
 use ref_calls::stop::Stop;
 use ref_lines::Service;
 use serde_json::{Map, Value};
@@ -48,22 +49,28 @@ fn answer_line(alloc: Global, state: &mut State, line: &[u8]) -> Result<Vec<u8>,
     ensures answer { IfOk result (λ text. spec.IsAnswer state.old line.now state.new text.items) }
     ensures refused { OnErr result (state.new ≡ state.old) }
 {
-    match tree_of(alloc, line)? {
-        Some(tree) => answer_tree(alloc, state, tree),
-        None => not_json_line(alloc),
+    match tree_of(alloc, line) {
+        Ok(tree) => answer_tree(alloc, state, line, tree),
+        Err(Stop::Because(offset)) => not_json_line(alloc, offset),
+        Err(Stop::Memory) => Err(AllocError),
     }
 }
 
 // The line of the answer to a line that is no JSON.
-fn not_json_line(alloc: Global) -> Result<Vec<u8>, AllocError>
-    ensures { IfOk result (λ text. IsLineOf (answer_of None (codes "error") not_json) text.items) }
+fn not_json_line(alloc: Global, offset: usize) -> Result<Vec<u8>, AllocError>
+    ensures { IfOk result (λ text. IsLineOf (answer_of None (codes "error") (error_of offset)) text.items) }
 {
-    let error = plain_error(alloc, "NotJson", "The line is no JSON");
-    error_text(alloc, None, error)
+    error_text(alloc, None, not_json(alloc, offset))
 }
 
-fn answer_tree(alloc: Global, state: &mut State, tree: Value) -> Result<Vec<u8>, AllocError>
-    ensures answer { IfOk result (λ text. spec.IsAnswerTo state.old (Some (view tree)) state.new text.items) }
+// The answer to the tree that a line is.
+fn answer_tree(
+    alloc: Global,
+    state: &mut State,
+    line: &[u8],
+    tree: Value,
+) -> Result<Vec<u8>, AllocError>
+    ensures answer { IfOk result (λ text. spec.IsAnswerTo state.old line.now (Some (view tree)) state.new text.items) }
     ensures refused { OnErr result (state.new ≡ state.old) }
 {
     let id = id_of(&tree)?;

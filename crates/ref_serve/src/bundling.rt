@@ -1,11 +1,11 @@
 //! `bundle`.
-ghost use Rattle.std.specs.Prelude.{◌≡◌, ℕ, List, Result, Err, IfOk};
+ghost use Rattle.std.specs.Prelude.{◌≡◌, Result, Err, IfOk};
 ghost use Rattle.serde_json.specs.View.{view};
 ghost use Rattle.ref_bundle.specs.Saying.{obstacle_said, problem_said, refusal_said, IsRefusalOf};
 ghost use Rattle.ref_bundle.specs.Bundle.{Bundle as WorldBundle, BundleRefusal};
 ghost use Rattle.ref_calls.specs.Objects.{object_of};
+ghost use Rattle.ref_calls.specs.Outcome.{Answers};
 ghost use Rattle.ref_serve.specs.Listings as spec;
-ghost use Rattle.ref_serve.specs.Results.{Gives};
 
 use crate::place::put_site;
 use crate::registry::registry_of;
@@ -46,7 +46,7 @@ fn problem_name(problem: &Problem<'_>) -> &'static str
 
 // The error object of a refusal.
 fn refusal_object(alloc: Global, refusal: &Refusal<'_>) -> Result<Value, AllocError>
-    ensures { IfOk result (λ d. (message : List ℕ) × (view d ≡ object_of (spec.refusal_members message (refusal_said refusal.now)))) }
+    ensures { IfOk result (λ d. view d ≡ object_of (spec.refusal_members (refusal_said refusal.now))) }
 {
     let message = format!(in alloc; "{refusal}")?;
     let mut members = error_members(alloc, "NotBundled", message.as_str())?;
@@ -67,7 +67,8 @@ fn refusal_object(alloc: Global, refusal: &Refusal<'_>) -> Result<Value, AllocEr
 
 // The same of an error, which may be that memory ran out.
 fn bundle_error(alloc: Global, error: &BundleError<'_>) -> Result<Value, AllocError>
-    ensures { (answer : Result WorldBundle BundleRefusal) → IsRefusalOf answer error.now → IfOk result (λ d. spec.IsBundled answer (Err (view d))) }
+    ensures { (answer : Result WorldBundle BundleRefusal) → IsRefusalOf answer error.now
+        → IfOk result (λ d. spec.bundled_result answer ≡ Err (view d)) }
 {
     match error {
         BundleError::Refused(refusal) => refusal_object(alloc, refusal),
@@ -76,9 +77,9 @@ fn bundle_error(alloc: Global, error: &BundleError<'_>) -> Result<Value, AllocEr
 }
 
 /// One document in place of those that it needs.
-#[tactic(auto, unfolding(crate::specs::Listings::IsBundle, crate::specs::Listings::document_number))]
+#[tactic(auto, unfolding(crate::specs::Listings::bundle_result, crate::specs::Listings::document_number))]
 pub fn bundle_document(alloc: Global, state: &State, tree: &Value) -> Result<Value, Stop<Value>>
-    ensures { Gives (spec.IsBundle state.now (view tree.now)) result }
+    ensures { Answers view result (spec.bundle_result state.now (view tree.now)) }
 {
     let (_number, open) = registry_of(alloc, state, tree)?;
     let value = required(alloc, tree, "document")?;

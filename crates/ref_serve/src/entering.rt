@@ -28,9 +28,11 @@ pub fn entered<'s>(
     draft: Draft,
     schema: &Value,
 ) -> Result<Resolver<'s>, Error>
-    ensures ok { IfOk result (λ r. in_subresource (resolver_view resolver.now) (detect draft (view schema.now)) (view schema.now) ≡ Ok (resolver_view r)) }
+    ensures ok { IfOk result (λ r. in_subresource (resolver_view resolver.now) (detect draft (view schema.now))
+        (view schema.now) ≡ Ok (resolver_view r)) }
     ensures world { IfOk result (λ r. world_of r ≡ world_of resolver.now) }
-    ensures fault { IfErr result (IsFaultOf (as_invalid_uri (in_subresource (resolver_view resolver.now) (detect draft (view schema.now)) (view schema.now)))) }
+    ensures fault { IfErr result (IsFaultOf (as_invalid_uri (in_subresource (resolver_view resolver.now) (detect draft
+        (view schema.now)) (view schema.now)))) }
 {
     let resource = draft.detect(schema).create_resource_ref(schema);
     resolver.in_subresource(alloc, resource)

@@ -1,7 +1,7 @@
 //! A server of reference resolution: a call a line in, an answer a line out, from a source to a sink of `ref_streams`.
 //!
-//! `docs/PROTOCOL.md` describes the calls. The registries that are open are a [`State`], which is the service that `ref_lines` asks for the answer to
-//! each line.
+//! `docs/PROTOCOL.md` describes the calls. The registries that are open are a [`State`], which is the service that
+//! `ref_lines` asks for the answer to each line.
 #![tactic(auto)]
 
 mod answer;

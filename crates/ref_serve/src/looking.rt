@@ -3,6 +3,8 @@ ghost use Rattle.std.specs.Prelude.{◌≡◌, Ok, IfOk, IfErr, Option, option_m
 ghost use Rattle.serde_json.specs.View.{view, items_view};
 ghost use Rattle.ref_retrieve.specs.Errors.{IsFaultOf};
 ghost use Rattle.ref_resolver.specs.Resolving.{resolver_of as resolver_view, world_of};
+ghost use Rattle.ref_calls.specs.Calls.{each_item};
+ghost use Rattle.ref_calls.specs.Outcome.{Answers};
 ghost use Rattle.ref_serve.specs.Results as results;
 ghost use Rattle.ref_serve.specs.Results.{Gives, Then};
 ghost use Rattle.ref_serve.specs.inner.Seen.{asked_view, answer_at};
@@ -10,7 +12,7 @@ ghost use Rattle.ref_serve.specs.inner.Seen.{asked_view, answer_at};
 use crate::asked::{Asked, asked_of, resolver_of};
 use crate::place::{found_at, put_found, put_resolver};
 use crate::state::State;
-use ref_calls::fault::{Wrong, fault_error, field_error};
+use ref_calls::fault::{Wrong, at_index, fault_error, field_error};
 use ref_calls::field::{required, text_in};
 use ref_calls::members::object_of;
 use ref_calls::stop::Stop;
@@ -26,8 +28,10 @@ fn found_object(
     reference: Option<&str>,
 ) -> Result<Value, Error>
     requires { world_of resolver.now ≡ asked.now.registry.now.0 }
-    ensures ok { IfOk result (λ d. results.IsFound (asked_view asked.now) (answer_at asked.now.registry.now.0 (resolver_view resolver.now) (option_map (λ r. r.now) reference.entry)) (Ok (view d))) }
-    ensures fault { IfErr result (IsFaultOf (answer_at asked.now.registry.now.0 (resolver_view resolver.now) (option_map (λ r. r.now) reference.entry))) }
+    ensures ok { IfOk result (λ d. results.IsFound (asked_view asked.now) (answer_at asked.now.registry.now.0
+        (resolver_view resolver.now) (option_map (λ r. r.now) reference.entry)) (Ok (view d))) }
+    ensures fault { IfErr result (IsFaultOf (answer_at asked.now.registry.now.0 (resolver_view resolver.now) (option_map
+        (λ r. r.now) reference.entry))) }
 {
     let (found, next) = found_at(alloc, resolver, reference)?;
     let mut members = Map::new(alloc);
@@ -44,11 +48,22 @@ fn found_or_stop(
     reference: Option<&str>,
 ) -> Result<Value, Stop<Value>>
     requires { world_of resolver.now ≡ asked.now.registry.now.0 }
-    ensures { Gives (results.IsFound (asked_view asked.now) (answer_at asked.now.registry.now.0 (resolver_view resolver.now) (option_map (λ r. r.now) reference.entry))) result }
+    ensures { Gives (results.IsFound (asked_view asked.now) (answer_at asked.now.registry.now.0 (resolver_view resolver.now)
+        (option_map (λ r. r.now) reference.entry))) result }
 {
     match found_object(alloc, asked, resolver, reference) {
         Ok(object) => Ok(object),
         Err(error) => Err(fault_error(alloc, &error)),
+    }
+}
+
+// The text that an item of a list of references is.
+fn reference_in<'t>(alloc: Global, item: &'t Value, index: usize) -> Result<&'t str, Stop<Value>>
+    ensures { Answers (λ s. s.now) result (results.reference_in index (view item.now)) }
+{
+    match text_in(alloc, item, "reference") {
+        Ok(text) => Ok(text),
+        Err(stop) => Err(at_index(alloc, stop, index)),
     }
 }
 
@@ -58,11 +73,13 @@ fn found_item(
     asked: &Asked<'_>,
     resolver: &Resolver<'_>,
     item: &Value,
+    index: usize,
 ) -> Result<Value, Stop<Value>>
     requires { world_of resolver.now ≡ asked.now.registry.now.0 }
-    ensures { Gives (Then (results.reference_in (view item.now)) (results.IsListedAs (asked_view asked.now) (resolver_view resolver.now))) result }
+    ensures { Gives (Then (results.reference_in index (view item.now)) (results.IsListedAs (asked_view asked.now)
+        (resolver_view resolver.now))) result }
 {
-    let reference = text_in(alloc, item, "reference")?;
+    let reference = reference_in(alloc, item, index)?;
     match found_or_stop(alloc, asked, resolver, Some(reference)) {
         Ok(object) => Ok(object),
         Err(Stop::Because(error)) => Ok(object_of(alloc, "error", error)?),
@@ -78,11 +95,12 @@ fn found_items(
     items: &[Value],
 ) -> Result<Value, Stop<Value>>
     requires { world_of resolver.now ≡ asked.now.registry.now.0 }
-    ensures { Gives (Then (results.references_in (items_view items.now)) (results.IsList (asked_view asked.now) (resolver_view resolver.now))) result }
+    ensures { Gives (Then (each_item results.reference_in 0 (items_view items.now)) (results.IsList (asked_view asked.now)
+        (resolver_view resolver.now))) result }
 {
     let mut list = Vec::with_capacity(alloc, items.len())?;
-    for item in items {
-        let object = found_item(alloc, asked, resolver, item)?;
+    for (index, item) in items.iter().enumerate() {
+        let object = found_item(alloc, asked, resolver, item, index)?;
         list.push(object)?;
     }
     Ok(Value::Array(list))

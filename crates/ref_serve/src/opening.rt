@@ -54,10 +54,11 @@ struct Wanted {
 // The documents that are used where they are wanted.
 #[tactic(auto, unfolding(crate::specs::Opening::remote_of))]
 fn remote_of(alloc: Global, members: &mut Members) -> Result<MapRetriever, Stop<Value>>
-    ensures { Answers (λ m. trees_of m) result (spec.remote_of (get_member (codes "remote") (members_view members.old.entries))) }
+    ensures { Answers (λ m. trees_of m) result (spec.remote_of (get_member (codes "remote")
+        (members_view members.old.entries))) }
 {
     let pairs = match documents_under(alloc, members, "remote")? {
-        Some(documents) => under_uris(alloc, documents)?,
+        Some(documents) => under_uris(alloc, documents, "remote")?,
         None => Vec::new(alloc),
     };
     Ok(MapRetriever::from_pairs(alloc, pairs)?)
@@ -127,8 +128,10 @@ fn builder_of(
     above: Option<&'static Registry<'static>>,
     documents: Vec<Document>,
 ) -> Result<RegistryBuilder<'static>, Error>
-    ensures ok { IfOk result (λ b. Holds (unwrap_or (option_map (λ r. r.now) above.entry) []) (map given_of documents.items) (builder_of b)) }
-    ensures fault { IfErr result (IsErrorOf (λ answer. as_invalid_uri (spec.pending_of (map given_of documents.items)) ≡ answer)) }
+    ensures ok { IfOk result (λ b. Holds (unwrap_or (option_map (λ r. r.now) above.entry) []) (map given_of documents.items)
+        (builder_of b)) }
+    ensures fault { IfErr result (IsErrorOf (λ answer. as_invalid_uri (spec.pending_of (map given_of documents.items))
+        ≡ answer)) }
 {
     match above {
         Some(registry) => registry.extend(alloc, documents),
@@ -145,8 +148,11 @@ fn prepared(
     limit: usize,
     remote: MapRetriever,
 ) -> Result<Registry<'static>, Error>
-    ensures ok { IfOk result (λ world. spec.IsWorld (given_of_builder (map_retriever (trees_of remote)) limit (Some draft) (unwrap_or (option_map (λ r. r.now) above.entry) [])) (spec.pending_of (map given_of documents.items)) (Ok world)) }
-    ensures fault { IfErr result (IsErrorOf (spec.IsWorld (given_of_builder (map_retriever (trees_of remote)) limit (Some draft) (unwrap_or (option_map (λ r. r.now) above.entry) [])) (spec.pending_of (map given_of documents.items)))) }
+    ensures ok { IfOk result (λ world. spec.IsWorld (given_of_builder (map_retriever (trees_of remote)) limit (Some draft)
+        (unwrap_or (option_map (λ r. r.now) above.entry) [])) (spec.pending_of (map given_of documents.items)) (Ok world)) }
+    ensures fault { IfErr result (IsErrorOf (spec.IsWorld (given_of_builder (map_retriever (trees_of remote)) limit
+        (Some draft) (unwrap_or (option_map (λ r. r.now) above.entry) [])) (spec.pending_of
+        (map given_of documents.items)))) }
 {
     let builder = builder_of(alloc, above, documents)?;
     builder
@@ -195,7 +201,8 @@ fn put_opened(
     number: usize,
     added: &Open,
 ) -> Result<(), AllocError>
-    ensures { OnOk result (members_view members.new.entries ≡ with_all (spec.opened_members number added.now.0) (members_view members.old.entries)) }
+    ensures { OnOk result (members_view members.new.entries
+        ≡ with_all (spec.opened_members number added.now.0) (members_view members.old.entries)) }
 {
     put_number(alloc, members, "registry", number)?;
     let uris = uris_of(alloc, added.registry())?;

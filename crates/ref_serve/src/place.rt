@@ -1,5 +1,6 @@
 //! Where a value is found.
-ghost use Rattle.std.specs.Prelude.{◌≡◌, ◌∷◌, ◌++◌, [], codes, map, Some, None, IfOk, IfErr, OnOk, IfSome, Option, option_map, string_bytes};
+ghost use Rattle.std.specs.Prelude.{◌≡◌, ◌∷◌, ◌++◌, [], codes, map, Some, None, IfOk, IfErr, OnOk, IfSome, Option};
+ghost use Rattle.std.specs.Prelude.{option_map, string_bytes};
 ghost use Rattle.serde_json.specs.Data.{Data, string};
 ghost use Rattle.serde_json.specs.View.{view, members_view};
 ghost use Rattle.ref_parts.specs.Pointer.{slash, part_text, pointer_text};
@@ -26,8 +27,10 @@ fn location_of<'s>(
     resolver: &Resolver<'s>,
     reference: Option<&str>,
 ) -> Result<Location<'s>, Error>
-    ensures ok { IfOk result (IsWhere (world_of resolver.now) (answer_at (world_of resolver.now) (resolver_of resolver.now) (option_map (λ r. r.now) reference.entry))) }
-    ensures fault { IfErr result (IsFaultOf (answer_at (world_of resolver.now) (resolver_of resolver.now) (option_map (λ r. r.now) reference.entry))) }
+    ensures ok { IfOk result (IsWhere (world_of resolver.now) (answer_at (world_of resolver.now) (resolver_of resolver.now)
+        (option_map (λ r. r.now) reference.entry))) }
+    ensures fault { IfErr result (IsFaultOf (answer_at (world_of resolver.now) (resolver_of resolver.now) (option_map
+        (λ r. r.now) reference.entry))) }
 {
     match reference {
         Some(reference) => resolver.location(alloc, reference),
@@ -63,7 +66,8 @@ pub fn put_site(
     document: usize,
     path: &[JsonPointerSegment<'_>],
 ) -> Result<(), AllocError>
-    ensures { OnOk result (members_view members.new.entries ≡ with_all ((codes "document", whole document) ∷ (codes "pointer", string (pointer_text (map part_of path.now))) ∷ []) (members_view members.old.entries)) }
+    ensures { OnOk result (members_view members.new.entries ≡ with_all ((codes "document", whole document)
+        ∷ (codes "pointer", string (pointer_text (map part_of path.now))) ∷ []) (members_view members.old.entries)) }
 {
     put_number(alloc, members, "document", document)?;
     let pointer = pointer_of(alloc, path)?;
@@ -76,7 +80,8 @@ pub fn put_resolver(
     members: &mut Members,
     resolver: &Resolver<'_>,
 ) -> Result<(), AllocError>
-    ensures { OnOk result (members_view members.new.entries ≡ with_all (results.resolver_members (resolver_of resolver.now)) (members_view members.old.entries)) }
+    ensures { OnOk result (members_view members.new.entries
+        ≡ with_all (results.resolver_members (resolver_of resolver.now)) (members_view members.old.entries)) }
 {
     put_text(alloc, members, "base", resolver.base_uri().as_str())?;
     let scope = uris_of(alloc, resolver.dynamic_scope())?;
@@ -97,9 +102,11 @@ pub fn found_at<'s>(
     resolver: &Resolver<'s>,
     reference: Option<&str>,
 ) -> Result<(Found<'s>, Resolver<'s>), Error>
-    ensures ok { IfOk result (λ f. IsFoundBy (world_of resolver.now) (answer_at (world_of resolver.now) (resolver_of resolver.now) (option_map (λ r. r.now) reference.entry)) f.0 (resolver_of f.1)) }
+    ensures ok { IfOk result (λ f. IsFoundBy (world_of resolver.now) (answer_at (world_of resolver.now)
+        (resolver_of resolver.now) (option_map (λ r. r.now) reference.entry)) f.0 (resolver_of f.1)) }
     ensures world { IfOk result (λ f. world_of f.1 ≡ world_of resolver.now) }
-    ensures fault { IfErr result (IsFaultOf (answer_at (world_of resolver.now) (resolver_of resolver.now) (option_map (λ r. r.now) reference.entry))) }
+    ensures fault { IfErr result (IsFaultOf (answer_at (world_of resolver.now) (resolver_of resolver.now) (option_map
+        (λ r. r.now) reference.entry))) }
 {
     let resolved = match reference {
         Some(reference) => resolver.lookup(alloc, reference)?,
@@ -122,7 +129,8 @@ fn put_value(
     values: bool,
     value: &Value,
 ) -> Result<(), AllocError>
-    ensures { OnOk result (members_view members.new.entries ≡ with_all (results.value_member values (view value.now)) (members_view members.old.entries)) }
+    ensures { OnOk result (members_view members.new.entries
+        ≡ with_all (results.value_member values (view value.now)) (members_view members.old.entries)) }
 {
     if !values {
         return Ok(());
@@ -137,7 +145,9 @@ pub fn put_found(
     asked: &Asked<'_>,
     found: &Found<'_>,
 ) -> Result<(), AllocError>
-    ensures { OnOk result (members_view members.new.entries ≡ with_all (results.found_members (asked_view asked.now) found.now.location (view found.now.value.now) found.now.draft) (members_view members.old.entries)) }
+    ensures { OnOk result (members_view members.new.entries
+        ≡ with_all (results.found_members (asked_view asked.now) found.now.location
+        (view found.now.value.now) found.now.draft) (members_view members.old.entries)) }
 {
     let location = &found.location;
     put_number(alloc, members, "registry", asked.layer(location.layer))?;

@@ -56,8 +56,8 @@ impl Open {
         self.parents.as_slice()
     }
 
-    /// The registry, for the rest of the program: its documents, which are shared, aren't given back then. Takes memory for handles, the
-    /// first time.
+    /// The registry, for the rest of the program: its documents, which are shared, aren't given back then. Takes memory for
+    /// handles, the first time.
     pub fn lend(&mut self, alloc: Global) -> Result<&'static Registry<'static>, AllocError>
         ensures value { IfOk result (λ r. r.now ≡ self.old.0) }
         ensures same { self.new ≡ self.old }
@@ -123,7 +123,8 @@ impl State {
         alloc: Global,
         number: usize,
     ) -> Result<Option<&'static Registry<'static>>, AllocError>
-        ensures value { IfOk result (λ lent. option_map (λ r. r.now) lent ≡ option_map (λ o. o.0) (spec.open_at self.old number)) }
+        ensures value { IfOk result (λ lent. option_map (λ r. r.now) lent
+            ≡ option_map (λ o. o.0) (spec.open_at self.old number)) }
         ensures same { self.new ≡ self.old }
     {
         if number >= self.slots.len() {

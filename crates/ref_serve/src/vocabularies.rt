@@ -47,7 +47,9 @@ fn push_known(
     set: &VocabularySet,
     uri: &str,
 ) -> Result<(), AllocError>
-    ensures { (k : Known) → from_text uri.now ≡ Ok (Standard k) → uri.now ≡ spec.known_uri k → OnOk result (map view list.new.items ≡ map view list.old.items ++ map (λ t. string t) (spec.known_uris set.now (k ∷ []))) }
+    ensures { (k : Known) → from_text uri.now ≡ Ok (Standard k) → uri.now ≡ spec.known_uri k
+        → OnOk result (map view list.new.items ≡ map view list.old.items ++ map (λ t. string t) (spec.known_uris set.now (k
+        ∷ []))) }
 {
     if has(alloc, set, uri) {
         push_text(alloc, list, uri)?;
@@ -63,7 +65,8 @@ fn push_all_known(
     uris: &[&str],
 ) -> Result<(), AllocError>
     requires { AllZip (λ uri k. uri ≡ spec.known_uri k) (map (λ t. t.now) uris.now) all_known }
-    ensures { OnOk result (map view list.new.items ≡ map view list.old.items ++ map (λ t. string t) (spec.known_uris set.now all_known)) }
+    ensures { OnOk result (map view list.new.items ≡ map view list.old.items
+        ++ map (λ t. string t) (spec.known_uris set.now all_known)) }
 {
     for uri in uris {
         push_known(alloc, list, set, uri)?;

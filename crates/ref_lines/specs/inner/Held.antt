@@ -49,3 +49,7 @@ Got left left' before after part ended ended' =
 abbrev pub GotNext : Option (List ℕ) → Option (List ℕ) → List ℕ → List ℕ → Line → Bool → Bool → Type 0
 GotNext left left' before after line ended ended' =
     (bytes : List ℕ) × Consumes left left' bytes × IsNext line (before ++ bytes) after ended' × StaysEnded ended ended' bytes
+
+-- some bytes were read, and none where the end was reached before
+abbrev pub Gave : Option (List ℕ) → Option (List ℕ) → Bool → Type 0
+Gave left left' ended = (bytes : List ℕ) × Consumes left left' bytes × (ended ≡ true → bytes ≡ [])

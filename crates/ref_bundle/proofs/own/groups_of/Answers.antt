@@ -36,4 +36,4 @@ pub returns : goal.returns
 returns c =
     let layer = own_layer c.args.registry.now in
     let none : into_iter_items c.loop-place.place-iterator ≡ [] = nil_from_length (into_iter_items c.loop-place.place-iterator) (sym c.loop-place.invariant.1 ∙ c.in-None.ensures.steps.0) in
-    ap (λ l. gathered_places (map items c.loop-place.groups.items) (all_seen layer (map listed_of l))) (sym none) ∙ c.loop-place.invariant.0 ∙ all_gathered layer c.in_ok-places.ensures.stand
+    ap (λ l. gathered_places (map items c.loop-place.groups.items) (all_seen layer (map listed_of l))) (sym none) ∙ c.loop-place.invariant.0 ∙ all_gathered layer c.in_ok-places.ensures.there

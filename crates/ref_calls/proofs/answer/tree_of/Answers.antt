@@ -1,9 +1,10 @@
+use Rattle.std.proofs.Common.{sym}
 use Rattle.std.proofs.lemmas.Bool.{false≢true}
 use Rattle.ref_calls.proofs.Texts.{tree_of-text, tree_of-none}
 use Rattle.ref_calls.proofs.answer.tree_of.Goals as goal
 
-pub returns-in-Ok : goal.returns-in-Ok
-returns-in-Ok c = tree_of-text _ _ c.in-Ok.ensures.ok.0 c.in-Ok.ensures.ok.1
+pub returns-in-Ok-clause-tree : goal.returns-in-Ok-clause-tree
+returns-in-Ok-clause-tree c = sym (tree_of-text _ _ c.in-Ok.ensures.ok.0 c.in-Ok.ensures.ok.1)
 
-pub returns-else-is_memory : goal.returns-else-is_memory
-returns-else-is_memory c = tree_of-none _ (c.in-Err.ensures.err (λ m. false≢true (c.if-is_memory.ensures.1 m)))
+pub returns-else-is_memory-clause-not_json : goal.returns-else-is_memory-clause-not_json
+returns-else-is_memory-clause-not_json c = (sym (tree_of-none _ (c.in-Err.ensures.err (λ m. false≢true (c.if-is_memory.ensures.1 m)))), c.offset_of.ensures)

@@ -8,5 +8,5 @@ use Rattle.ref_calls.proofs.document.under_uris.Given as goal
 
 abbrev pub invariant-loop-text : goal.invariant-loop-text
 invariant-loop-text l =
-    (in_front (trees_of l.pairs.items) (under_uris (map given_of (into_iter_items l.text-iterator))) ≡ under_uris (map given_of l.fn.documents.items))
+    (in_front (trees_of l.pairs.items) (under_uris l.field (map given_of (into_iter_items l.text-iterator))) ≡ under_uris l.field (map given_of l.fn.documents.items))
     × (into_iter_len l.text-iterator ≡ length (into_iter_items l.text-iterator))

@@ -1,7 +1,8 @@
-use Rattle.std.proofs.Common.{sym, ◌∙◌, refl}
+use Rattle.std.proofs.Common.{[], sym, ◌∙◌, refl}
+use Rattle.std.proofs.KnownBytes.{Consumes-nil}
 use Rattle.std.proofs.lemmas.Bool.{false≢true}
 use Rattle.ref_lines.specs.inner.Held.{held}
-use Rattle.ref_lines.proofs.Serving.{served_none, served_more, served_all}
+use Rattle.ref_lines.proofs.Serving.{err_always, served_none, served_more, served_all, served_so_far, answered_so_far, unwritten}
 use Rattle.ref_lines.proofs.service.serve.Goals as goal
 
 pub loop-init : goal.loop-init
@@ -31,3 +32,30 @@ loop-preserved g c =
       reads = c.in_ok-answer.ensures.count ∙ c.loop.invariant.reads;
       writes = c.in_ok-write-in-Some.ensures.kept ∙ c.loop.invariant.writes;
     }
+
+pub returns-in_err-answer-clause-so_far : goal.returns-in_err-answer-clause-so_far
+returns-in_err-answer-clause-so_far g c =
+    err_always c.from_residual.result _ (λ _ _.
+    served_so_far g.S.Service.may_answer c.args.service.now c.loop.service c.next_answer.new.service _ _ _ _ _ (held c.loop.chunk) c.loop.chunk.has_ended c.loop.invariant.served c.in_err-answer.ensures.gave c.in_err-answer.ensures.stays)
+
+pub returns-in_err-answer-clause-answered : goal.returns-in_err-answer-clause-answered
+returns-in_err-answer-clause-answered g c =
+    err_always c.from_residual.result _ (λ _.
+    answered_so_far g.S.Service.may_answer c.args.service.now c.next_answer.new.service _ _ _ _
+    (served_so_far g.S.Service.may_answer c.args.service.now c.loop.service c.next_answer.new.service _ _ _ _ _ (held c.loop.chunk) c.loop.chunk.has_ended c.loop.invariant.served c.in_err-answer.ensures.gave c.in_err-answer.ensures.stays))
+
+pub returns-in_err-write-in-Some-clause-answered : goal.returns-in_err-write-in-Some-clause-answered
+returns-in_err-write-in-Some-clause-answered g c =
+    let next = rw c.in-Some.is at c.in_ok-answer.ensures.next in
+    err_always c.from_residual-in_err-write-in-Some.result _ (λ _.
+    unwritten g.S.Service.may_answer c.args.service.now c.loop.service c.next_answer.new.service _ _ _ _ _ (held c.loop.chunk) (held c.next_answer.new.chunk) c.loop.chunk.has_ended c.next_answer.new.chunk.has_ended
+    c.in-Some.answer c.loop.invariant.served next)
+
+pub returns-clause-so_far : goal.returns-clause-so_far
+returns-clause-so_far g c _ =
+    served_so_far g.S.Service.may_answer c.args.service.now c.loop.service c.loop.service _ _ _ _ _ (held c.loop.chunk) c.loop.chunk.has_ended c.loop.invariant.served ([], Consumes-nil _, λ _. refl) refl
+
+pub returns-clause-answered : goal.returns-clause-answered
+returns-clause-answered g c =
+    answered_so_far g.S.Service.may_answer c.args.service.now c.loop.service _ _ _ _
+    (served_so_far g.S.Service.may_answer c.args.service.now c.loop.service c.loop.service _ _ _ _ _ (held c.loop.chunk) c.loop.chunk.has_ended c.loop.invariant.served ([], Consumes-nil _, λ _. refl) refl)

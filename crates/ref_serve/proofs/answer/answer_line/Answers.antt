@@ -1,12 +1,13 @@
-use Rattle.std.proofs.Common.{None, Some, refl, ap, sym, ◌∙◌, option_map}
+use Rattle.std.proofs.Common.{None, Some, refl, sym}
 use Rattle.serde_json.specs.View.{view}
 use Rattle.ref_serve.proofs.Replying.{ok_map, answered}
 use Rattle.ref_serve.proofs.answer.answer_line.Goals as goal
 
-pub returns-in-Some-clause-answer : goal.returns-in-Some-clause-answer
-returns-in-Some-clause-answer c =
-    ok_map c.answer_tree.result _ _ (λ text given. answered _ _ _ _ (Some (view c.in-Some.tree)) (ap (option_map view) (sym c.in-Some.is) ∙ c.in_ok-tree.ensures) given) c.answer_tree.ensures.answer
+pub returns-in-Ok-clause-answer : goal.returns-in-Ok-clause-answer
+returns-in-Ok-clause-answer c =
+    ok_map c.answer_tree.result _ _ (λ text given. answered _ _ _ _ (Some (view c.in-Ok.tree)) (sym c.in-Ok.ensures.tree) given) c.answer_tree.ensures.answer
 
-pub returns-in-None-clause-answer : goal.returns-in-None-clause-answer
-returns-in-None-clause-answer c =
-    ok_map c.not_json_line.result _ _ (λ text given. answered _ _ _ _ None (ap (option_map view) (sym c.in-None.is) ∙ c.in_ok-tree.ensures) (given, refl)) c.not_json_line.ensures
+pub returns-in-Err-Because-clause-answer : goal.returns-in-Err-Because-clause-answer
+returns-in-Err-Because-clause-answer c =
+    let place = rw c.in-Err-Because.field-0-is at c.in-Err-Because.ensures.not_json in
+    ok_map c.not_json_line.result _ _ (λ text written. answered _ _ _ _ None (sym place.0) ((c.in-Err-Because.offset, place.1, written), refl)) c.not_json_line.ensures

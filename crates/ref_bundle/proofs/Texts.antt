@@ -1,0 +1,17 @@
+-- The texts of problems with two parts in them, as they are written from the front.
+use Rattle.std.proofs.Common.{◌≡◌, ℕ, List, ◌++◌, codes, decimal, append_assoc}
+use Rattle.ref_parts.specs.Path.{Part}
+use Rattle.ref_bundle.specs.Bundle.{SharedUri, ReplacedUri}
+use Rattle.ref_bundle.specs.Saying.{problem_text}
+
+abbrev has : List ℕ
+has = codes " has the URI '"
+
+pub shared : (document : ℕ) (uri : List ℕ) (path : List Part) → codes "a subschema of document " ++ (decimal document ++ (has ++ (uri ++ codes "' too"))) ≡ problem_text (SharedUri uri document path)
+shared document uri path = simp append_assoc
+
+abbrev replaces : List ℕ
+replaces = codes "' replaces that URI by '"
+
+pub replaced : (uri base : List ℕ) → codes "the identifier of the document '" ++ (uri ++ (replaces ++ (base ++ codes "'"))) ≡ problem_text (ReplacedUri uri base)
+replaced uri base = simp append_assoc

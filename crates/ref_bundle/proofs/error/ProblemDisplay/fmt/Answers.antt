@@ -1,0 +1,13 @@
+use Rattle.std.proofs.Common.{map}
+use Rattle.std.proofs.Output.{has_written_of_eq}
+use Rattle.ref_parts.specs.Segment.{part_of}
+use Rattle.ref_bundle.proofs.Texts.{shared, replaced}
+use Rattle.ref_bundle.proofs.error.ProblemDisplay.fmt.Goals as goal
+
+pub returns-in-SharedUri-clause-writes : goal.returns-in-SharedUri-clause-writes
+returns-in-SharedUri-clause-writes g c plain ok =
+    rw c.in-SharedUri.is (has_written_of_eq _ _ _ _ _ (shared _ _ (map part_of c.in-SharedUri.path.items)) (c.write-in-SharedUri.ensures.writes plain ok))
+
+pub returns-in-ReplacedUri-clause-writes : goal.returns-in-ReplacedUri-clause-writes
+returns-in-ReplacedUri-clause-writes g c plain ok =
+    rw c.in-ReplacedUri.is (has_written_of_eq _ _ _ _ _ (replaced _ _) (c.write-in-ReplacedUri.ensures.writes plain ok))

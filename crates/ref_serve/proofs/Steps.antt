@@ -1,0 +1,97 @@
+-- Steps that are read, and followed one after another.
+use Rattle.std.proofs.Common.{◌≡◌, ℕ, suc, ◌+◌, add-one, true, List, [], ◌∷◌, ◌++◌, map, Option, Some, None, option_map, IfSome, Result, Ok, Err, IfOk, IfErr, refl, sym, ap, ◌∙◌, subst}
+use Rattle.std.proofs.lemmas.List.{map-append}
+use Rattle.std.specs.declared.alloc.AllocError.{AllocError}
+use Rattle.serde_json.specs.Data.{Data}
+use Rattle.serde_json.specs.View.{view, items_view}
+use Rattle.serde_json.specs.declared.value.Value.{Value}
+use Rattle.ref_draft.specs.declared.draft.Draft.{Draft}
+use Rattle.ref_definitions.specs.Results.{◌>>=◌}
+use Rattle.ref_definitions.specs.World.{World}
+use Rattle.ref_definitions.specs.Fault.{Fault}
+use Rattle.ref_definitions.specs.Lookup.{Resolver, Found as WorldFound, in_subresource}
+use Rattle.ref_definitions.specs.Follow as world
+use Rattle.ref_retrieve.specs.declared.error.Error.{Error}
+use Rattle.ref_retrieve.specs.declared.error.Error.TheVariants as error
+use Rattle.ref_retrieve.specs.Errors.{IsFaultOf, SaysFault, is_memory}
+use Rattle.ref_resolver.specs.Locations.{StandsAt}
+use Rattle.ref_resolver.proofs.Faults.{fault_ends}
+use Rattle.referencing.specs.declared.steps.Step.{Step}
+use Rattle.referencing.specs.Following.{step_of, SaysStepFault}
+use Rattle.ref_calls.specs.declared.stop.Stop.{Stop}
+use Rattle.ref_calls.specs.declared.stop.Stop.TheVariants.{Memory, Because}
+use Rattle.ref_calls.specs.Objects.{object_of}
+use Rattle.ref_calls.specs.Calls.{each_item}
+use Rattle.ref_calls.proofs.Further.{in_front, in_front_push, first_read}
+use Rattle.ref_serve.specs.declared.place.Found.{Found}
+use Rattle.ref_serve.specs.Results.{Asked, Gives, found_members, resolver_members}
+use Rattle.ref_serve.specs.Following.{step_in, step_members, IsFollowed, IsFollowedTo}
+use Rattle.ref_serve.specs.inner.Seen.{IsFoundBy}
+use Rattle.ref_serve.specs.inner.Steps.{IsLookedUpTo, IsStepError}
+
+-- ---- what is read
+
+-- one step more is read
+pub steps_next : (draft : Draft) (n : ℕ) (done : List Step) (s : Step) (item : Value) (rest : List Value) → step_in draft n (view item) ≡ Ok (step_of s)
+    → in_front (map step_of (done ++ s ∷ [])) (each_item (step_in draft) (n + 1) (items_view rest)) ≡ in_front (map step_of done) (each_item (step_in draft) n (items_view (item ∷ rest)))
+steps_next draft n done s item rest read =
+    let f = step_in draft in
+    let left = each_item f (suc n) (items_view rest) in
+    ap (λ k. in_front (map step_of (done ++ s ∷ [])) (each_item f k (items_view rest))) (add-one n)
+    ∙ ap (λ xs. in_front xs left) (map-append step_of done (s ∷ [])) ∙ in_front_push (map step_of done) (step_of s) left
+    ∙ ap (in_front (map step_of done)) (sym (first_read (step_of s) left) ∙ ap (λ r. r >>= λ x. left >>= λ xs. Ok (x ∷ xs)) (sym read))
+
+-- ---- one step
+
+-- what is looked up is where the step leads
+pub looked_up_to : (answer : Result WorldFound Fault) (f : world.Followed) → IsLookedUpTo answer f → (answer >>= λ found. Ok (world.after_lookup found)) ≡ Ok f
+looked_up_to answer f (found, is, same) = ap (λ a. a >>= λ x. Ok (world.after_lookup x)) is ∙ ap Ok (sym same)
+
+pub look_up_stops : {X : Type 0} (result : Result X Error) (answer : Result WorldFound Fault) → IfErr result (IsFaultOf answer) → IfErr result (IsFaultOf (answer >>= λ found. Ok (world.after_lookup found)))
+look_up_stops (Ok x) answer is = tt
+look_up_stops (Err e) answer is = fault_ends answer (λ found. Ok (world.after_lookup found)) e is
+
+pub entered : (w : World) (f : world.Followed) (draft : Draft) (value : Data) (r : Resolver) → in_subresource f.resolver draft value ≡ Ok r → world.after_step w f (world.Enter draft value) ≡ Ok (record { last = f.last; resolver = r })
+entered w f draft value r at = rw at refl
+
+-- ---- the error of a step
+
+pub step_error_is : (whole : Result world.Followed (ℕ × Fault)) (n : ℕ) (e : Error) (value : Value) → SaysStepFault whole n e → (is_memory e ≡ true → ⊥)
+    → ((fault : Fault) → SaysFault e fault → view value ≡ object_of (step_members n fault)) → IsStepError whole (Because value)
+step_error_is whole n (error.Unretrievable uri source) value (fault, is, says) never gives = (n, fault, is, gives fault says)
+step_error_is whole n (error.PointerToNowhere pointer) value (fault, is, says) never gives = (n, fault, is, gives fault says)
+step_error_is whole n (error.InvalidPercentEncoding pointer) value (fault, is, says) never gives = (n, fault, is, gives fault says)
+step_error_is whole n (error.InvalidArrayIndex pointer index) value (fault, is, says) never gives = (n, fault, is, gives fault says)
+step_error_is whole n (error.NoSuchAnchor anchor) value (fault, is, says) never gives = (n, fault, is, gives fault says)
+step_error_is whole n (error.InvalidAnchor anchor) value (fault, is, says) never gives = (n, fault, is, gives fault says)
+step_error_is whole n (error.InvalidUri uri) value (fault, is, says) never gives = (n, fault, is, gives fault says)
+step_error_is whole n (error.UnknownSpecification specification) value (fault, is, says) never gives = (n, fault, is, gives fault says)
+step_error_is whole n (error.CircularMetaschema uri) value (fault, is, says) never gives = (n, fault, is, gives fault says)
+step_error_is whole n (error.RetrievalLimit uri limit) value (fault, is, says) never gives = (n, fault, is, gives fault says)
+step_error_is whole n (error.Memory memory) value said never gives = absurd (never refl)
+
+-- ---- the whole
+
+pub found_to : (w : World) (answer : Result WorldFound Fault) (x : Found) (r : Resolver) (f : world.Followed) → IsFoundBy w answer x r
+    → f ≡ record { last = Some (view x.value.now, x.draft); resolver = r } → IsLookedUpTo answer f
+found_to w answer x r f (is, stands) same = (record { value = view x.value.now; draft = x.draft; resolver = r }, is, same)
+
+pub result_stopped : (asked : Asked) (answer : Result world.Followed (ℕ × Fault)) (stop : Stop Value) → IsStepError answer stop → Gives (IsFollowed asked answer) (Err stop)
+result_stopped asked answer Memory is = tt
+result_stopped asked answer (Because value) (n, fault, is, says) = subst (λ a. IsFollowed asked a (Err (view value))) (sym is) says
+
+pub result_found : (asked : Asked) (answer : Result world.Followed (ℕ × Fault)) (f : world.Followed) (d : Data) → answer ≡ Ok f → IsFollowedTo asked f.last f.resolver d → IsFollowed asked answer (Ok d)
+result_found asked answer f d is given = subst (λ a. IsFollowed asked a (Ok d)) (sym is) given
+
+pub object_at : (asked : Asked) (last : Option Found) (x : Found) (r : Resolver) (result : Result Value AllocError) → last ≡ Some x → IfSome last (λ y. StandsAt asked.world y.location (view y.value.now))
+    → IfOk result (λ d. view d ≡ object_of (found_members asked x.location (view x.value.now) x.draft ++ resolver_members r))
+    → IfOk result (λ d. IsFollowedTo asked (option_map (λ y. (view y.value.now, y.draft)) last) r (view d))
+object_at asked last x r (Ok d) is placed given =
+    subst (λ o. IsFollowedTo asked (option_map (λ y. (view y.value.now, y.draft)) o) r (view d)) (sym is)
+    (x.location, subst (λ o. IfSome o (λ y. StandsAt asked.world y.location (view y.value.now))) is placed, given)
+object_at asked last x r (Err e) is placed given = tt
+
+pub object_without : (asked : Asked) (last : Option Found) (r : Resolver) (result : Result Value AllocError) → last ≡ None → IfOk result (λ d. view d ≡ object_of (resolver_members r))
+    → IfOk result (λ d. IsFollowedTo asked (option_map (λ y. (view y.value.now, y.draft)) last) r (view d))
+object_without asked last r (Ok d) is given = subst (λ o. IsFollowedTo asked (option_map (λ y. (view y.value.now, y.draft)) o) r (view d)) (sym is) given
+object_without asked last r (Err e) is given = tt

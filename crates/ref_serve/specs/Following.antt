@@ -1,0 +1,72 @@
+-- The result of `follow`.
+use Rattle.std.specs.Prelude.{◌≡◌, ℕ, List, [], ◌∷◌, ◌++◌, codes, Option, None, Some, Result, Ok, Err}
+use Rattle.serde_json.specs.Data.{Data, null, boolean, number, string, array, object}
+use Rattle.ref_draft.specs.declared.draft.Draft.{Draft}
+use Rattle.ref_draft.specs.Schema.{detect}
+use Rattle.ref_definitions.specs.Results.{◌>>=◌}
+use Rattle.ref_definitions.specs.Fault.{Fault}
+use Rattle.ref_definitions.specs.Lookup.{Resolver}
+use Rattle.ref_definitions.specs.Follow.{Step, Lookup, Recursive, Enter, Followed, followed_from}
+use Rattle.ref_calls.specs.declared.fault.Wrong.TheVariants.{InvalidField}
+use Rattle.ref_calls.specs.Objects.{object_of, whole}
+use Rattle.ref_calls.specs.Errors.{field_error, fault_members, at_index}
+use Rattle.ref_calls.specs.Calls.{required, items_in, each_item, draft_of}
+use Rattle.ref_serve.specs.State.{Registries}
+use Rattle.ref_serve.specs.Results.{Then, Asked, asked_of, resolver_of, resolver_members, IsFoundAt}
+
+-- ---- what is asked
+
+-- a step: a text is looked up, null is a recursive reference, and an object, whose draft is detected, is entered
+abbrev pub step_at : Draft → Data → Result Step Data
+step_at draft (string text) = Ok (Lookup text)
+step_at draft null = Ok Recursive
+step_at draft (object ms) = Ok (Enter (detect draft (object ms)) (object ms))
+step_at draft (boolean b) = Err (field_error InvalidField (codes "steps"))
+step_at draft (number n) = Err (field_error InvalidField (codes "steps"))
+step_at draft (array ds) = Err (field_error InvalidField (codes "steps"))
+
+-- the step that an item is
+abbrev pub step_in : Draft → ℕ → Data → Result Step Data
+step_in draft n d = at_index n (step_at draft d)
+
+-- the steps of a call
+unfoldable pub steps_of : Draft → Data → Result (List Step) Data
+steps_of draft d = do
+  value ← required (codes "steps") d
+  items ← items_in (codes "steps") value
+  each_item (step_in draft) 0 items
+
+-- ---- what is answered
+
+-- before the first step: no value was found
+abbrev pub start_at : Resolver → Followed
+start_at r = record { last = None; resolver = r }
+
+-- the object of where steps lead: that of the value that was found last, with any location where it is, and the base and the scope; without a
+-- value these alone
+abbrev pub IsFollowedTo : Asked → Option (Data × Draft) → Resolver → Data → Type 0
+IsFollowedTo asked None r d = d ≡ object_of (resolver_members r)
+IsFollowedTo asked (Some last) r d = IsFoundAt asked (record { value = last.0; draft = last.1; resolver = r }) d
+
+-- the members of the error of a step: those of its fault, and its number
+abbrev pub step_members : ℕ → Fault → List (List ℕ × Data)
+step_members n fault = fault_members fault ++ (codes "step", whole n) ∷ []
+
+-- the object of where steps lead, or the error of the first that is faulty
+abbrev pub IsFollowed : Asked → Result Followed (ℕ × Fault) → Result Data Data → Type 0
+IsFollowed asked (Ok f) (Ok d) = IsFollowedTo asked f.last f.resolver d
+IsFollowed asked (Ok f) (Err e) = ⊥
+IsFollowed asked (Err fault) (Ok d) = ⊥
+IsFollowed asked (Err fault) (Err e) = e ≡ object_of (step_members fault.0 fault.1)
+
+-- the steps one after another, from the base and the scope of the call
+abbrev pub IsFollowedFrom : Asked → Resolver → List Step → Result Data Data → Type 0
+IsFollowedFrom asked r steps outcome = IsFollowed asked (followed_from asked.world 0 (start_at r) steps) outcome
+
+-- the same of a call whose draft may not be readable, nor its steps
+abbrev pub IsFollowedBy : Data → Asked → Resolver → Result Data Data → Type 0
+IsFollowedBy d asked r outcome = Then (draft_of d) (λ draft. Then (steps_of draft d) (IsFollowedFrom asked r)) outcome
+
+-- `follow`
+unfoldable pub IsFollow : Registries → Data → Result Data Data → Type 0
+IsFollow state d outcome = Then (asked_of state d) (λ asked. Then (resolver_of d) (IsFollowedBy d asked)) outcome
