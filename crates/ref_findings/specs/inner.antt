@@ -3,3 +3,4 @@ pub mod Keywords
 pub mod Meanings
 pub mod Seen
 pub mod Queue
+pub mod Wanted
