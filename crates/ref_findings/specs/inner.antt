@@ -4,3 +4,4 @@ pub mod Meanings
 pub mod Seen
 pub mod Queue
 pub mod Wanted
+pub mod Plain

@@ -15,8 +15,7 @@ ghost use Rattle.ref_findings.specs.inner.Wanted.{AreMet, Grows, wanted_of, uris
 
 use crate::base::{meta_schema_uri, nearest_base, target_of};
 use crate::bearers::own_uri;
-use crate::finding::text_under;
-use crate::site::Place;
+use crate::place::Place;
 use crate::source::Source;
 use crate::survey::{Survey, surveys_of};
 use crate::walk::places_of;
@@ -118,7 +117,7 @@ impl Wants {
 fn referred(alloc: Global, place: &Place<'_>) -> Result<Option<Rc<Uri>>, AllocError>
     ensures { IfOk result (λ uri. option_map (λ u. u.value) uri ≡ referred_uri (place_of place.now)) }
 {
-    let Some(reference) = text_under(place.value, "$ref") else {
+    let Some(reference) = place.reference() else {
         return Ok(None);
     };
     let base = nearest_base(alloc, &place.outer, place.id())?;
@@ -130,7 +129,7 @@ fn referred(alloc: Global, place: &Place<'_>) -> Result<Option<Rc<Uri>>, AllocEr
 fn dialect(alloc: Global, place: &Place<'_>) -> Result<Option<Rc<Uri>>, AllocError>
     ensures { IfOk result (λ uri. option_map (λ u. u.value) uri ≡ dialect_uri (place_of place.now)) }
 {
-    let Some(text) = text_under(place.value, "$schema") else {
+    let Some(text) = place.schema() else {
         return Ok(None);
     };
     if Draft::from_schema_uri(text) != Draft::Unknown {
