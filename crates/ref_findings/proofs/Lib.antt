@@ -10,3 +10,4 @@ pub mod Knowing
 pub mod Dialects
 pub mod Missing
 pub mod Duplicates
+pub mod Retrieving

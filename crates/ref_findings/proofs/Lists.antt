@@ -89,6 +89,10 @@ any_more test v xs i d within =
 
 -- ---- the steps of loops
 
+pub joined_at : {X Y A : Type 0} (f : Y → List A) (v : X → Y) (xs : List X) (i : ℕ) (x : X) → i < length xs → x ≡ get_or xs i x
+    → flat_map f (map v (take (i + 1) xs)) ≡ flat_map f (map v (take i xs)) ++ f (v x)
+joined_at f v xs i x within is = joined_more f v xs i x within ∙ ap (λ y. flat_map f (map v (take i xs)) ++ f (v y)) (sym is)
+
 pub joined_step : {X Y A : Type 0} (f : ℕ × Y → List A) (v : X → Y) (xs : List X) (i : ℕ) (x : X) → i < length xs → x ≡ get_or xs i x
     → flat_map f (enumerate_from 0 (map v (take (i + 1) xs))) ≡ flat_map f (enumerate_from 0 (map v (take i xs))) ++ f (i, v x)
 joined_step f v xs i x within is =

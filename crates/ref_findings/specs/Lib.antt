@@ -3,6 +3,7 @@ pub mod Places
 pub mod Bearers
 pub mod Findings
 pub mod Entries
+pub mod Gathered
 pub mod Held
 pub mod Rows
 pub mod inner

@@ -39,9 +39,13 @@ world_of draft sources held = flat_map (sound_document draft) (sources ++ held) 
 abbrev pub under_uri : ℕ → List ℕ → Entry ℕ
 under_uri number uri = (uri, [], number)
 
--- the URI of a source that isn't sound, and those that its places have by their identifiers
+-- the URI of a source, and those that its places have by their identifiers
+abbrev pub uris_in : Draft → Source → List (List ℕ)
+uris_in draft s = s.uri ∷ flat_map (λ p. option_to_list (own_uri p)) (places_in draft s)
+
+-- those of a source that isn't sound
 abbrev pub unsound_uris : Draft → Source → List (Entry ℕ)
-unsound_uris draft s = if is_sound draft s then [] else map (under_uri 0) (s.uri ∷ flat_map (λ p. option_to_list (own_uri p)) (places_in draft s))
+unsound_uris draft s = if is_sound draft s then [] else map (under_uri 0) (uris_in draft s)
 
 -- those of all sources that aren't
 abbrev pub unsound_sources : Draft → List Source → List Source → List (Entry ℕ)

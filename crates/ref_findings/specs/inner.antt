@@ -3,3 +3,5 @@ pub mod Keywords
 pub mod Meanings
 pub mod Seen
 pub mod Queue
+pub mod Wanted
+pub mod Plain

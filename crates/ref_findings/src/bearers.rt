@@ -9,7 +9,8 @@ ghost use Rattle.ref_findings.specs.Bearers.{source_uri, uris_of, name_at, names
 ghost use Rattle.ref_findings.specs.inner.Seen.{place_of, site_of, seen_survey, unsound_in};
 
 use crate::base::{base_of, nearest_base};
-use crate::site::{Place, Site};
+use crate::place::Place;
+use crate::site::Site;
 use crate::survey::Survey;
 use ref_draft::{Anchor, AnchorIter};
 use ref_parts::SortedTable;
@@ -117,8 +118,12 @@ fn push_names(
     ensures { OnOk result (entries_of entries.new.items ≡ entries_of entries.old.items
         ++ names_at number (place_of place.now)) }
 {
+    let anchors = place.anchors();
+    if matches!(anchors, AnchorIter::Empty) {
+        return Ok(());
+    }
     let base = nearest_base(alloc, &place.outer, place.id())?;
-    match place.draft.anchors(place.value) {
+    match anchors {
         AnchorIter::Empty => Ok(()),
         AnchorIter::One(anchor) => push_name(alloc, entries, &base, anchor, number),
         AnchorIter::Two(plain, dynamic) => {

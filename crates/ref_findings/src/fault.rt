@@ -9,7 +9,7 @@ ghost use Rattle.ref_findings.specs.inner.Seen.{place_of};
 
 use crate::base::{base_of, meta_schema_uri, nearest_base, target_of};
 use crate::finding::text_under;
-use crate::site::Place;
+use crate::place::Place;
 use ref_draft::Draft;
 use ref_uri::Uri;
 use serde_json::Value;
@@ -57,6 +57,9 @@ fn is_schema_faulty(alloc: Global, value: &Value) -> Result<bool, AllocError>
 fn is_faulty(alloc: Global, place: &Place<'_>) -> Result<bool, AllocError>
     ensures { IfOk result (λ faulty. faulty ≡ is_faulty (place_of place.now)) }
 {
+    if place.is_plain() {
+        return Ok(false);
+    }
     let id = place.id();
     let of_identifier = is_identifier_faulty(alloc, &place.outer, id)?;
     let base = nearest_base(alloc, &place.outer, id)?;

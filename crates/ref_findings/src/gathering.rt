@@ -1,16 +1,23 @@
 //! The documents that sources want and that are retrieved.
-ghost use Rattle.std.specs.Prelude.{◌≡◌, ◌≤◌, length, map, IfOk, IfSome, OnOk};
+ghost use Rattle.std.specs.Prelude.{◌≡◌, ◌+◌, ◌≤◌, ◌<◌, List, [], ◌∷◌, ◌++◌, length, map, flat_map, option_map, IfOk, IfSome, IfNone, OnOk};
+ghost use Rattle.std.specs.Option.{option_to_list};
 ghost use Rattle.std.specs.List.{AllByRecursion};
 ghost use Rattle.serde_json.specs.View.{view};
+ghost use Rattle.ref_definitions.specs.Resources.{own_uri};
+ghost use Rattle.ref_retrieve.specs.Retrieving.{retriever_of};
+ghost use Rattle.ref_findings.specs.Sources as spec;
+ghost use Rattle.ref_findings.specs.Sources.{uris_in};
+ghost use Rattle.ref_findings.specs.Gathered.{referred_uri, dialect_uri, wanted_at, wanted_by, MayReturn, IsGathered};
 ghost use Rattle.ref_findings.specs.Entries.{source_of};
 ghost use Rattle.ref_findings.specs.Held.{held_source};
+ghost use Rattle.ref_findings.specs.inner.Seen.{place_of, seen_survey};
+ghost use Rattle.ref_findings.specs.inner.Wanted.{AreMet, Grows, wanted_of, uris_seen, wanted_seen, source_asked, IsGoing};
 
 use crate::base::{meta_schema_uri, nearest_base, target_of};
 use crate::bearers::own_uri;
-use crate::finding::text_under;
-use crate::site::Place;
+use crate::place::Place;
 use crate::source::Source;
-use crate::survey::surveys_of;
+use crate::survey::{Survey, surveys_of};
 use crate::walk::places_of;
 use ref_draft::Draft;
 use ref_retrieve::{Retrieve, RetrieveError};
@@ -29,29 +36,41 @@ pub struct Held {
     pub value: Value,
 }
 
-// What documents want, and which URIs were met: those that documents and their places have, and those that were asked for.
+// What documents want, and which URIs are known: those that documents and their places have, and those that were refused.
 #[derive(Drop)]
 struct Wants {
     wanted: Vec<Rc<Uri>>,
-    // How many of them were asked for.
+    // How many of them were gone through.
     next: usize,
-    met: HashMap<String, ()>,
+    met: HashMap<Uri, ()>,
 }
 
 impl Wants {
-    // Adds that a URI is met.
-    fn meet(&mut self, alloc: Global, uri: &str) -> Result<(), AllocError>
+    // Adds that a URI is known.
+    fn meet(&mut self, uri: &Uri) -> Result<(), AllocError>
+        ensures grows { OnOk result (Grows self.old self.new (uri.now ∷ []) []) }
         ensures wanted { self.new.wanted.items ≡ self.old.wanted.items }
-        ensures next { self.new.next ≡ self.old.next }
     {
         if !self.met.contains_key(uri) {
-            self.met.insert(String::from_str(alloc, uri)?, ())?;
+            self.met.insert(uri.clone()?, ())?;
         }
         Ok(())
     }
 
-    // Adds that a URI is wanted.
-    fn want(&mut self, uri: Option<Rc<Uri>>) -> Result<(), AllocError> {
+    // Adds that a URI is known, where there is one.
+    fn meet_own(&mut self, uri: Option<Rc<Uri>>) -> Result<(), AllocError>
+        ensures { OnOk result (Grows self.old self.new (option_to_list (option_map (λ u. u.value) uri)) []) }
+    {
+        match uri {
+            Some(uri) => self.meet(&uri),
+            None => Ok(()),
+        }
+    }
+
+    // Adds that a URI is wanted, where there is one.
+    fn want(&mut self, uri: Option<Rc<Uri>>) -> Result<(), AllocError>
+        ensures { OnOk result (Grows self.old self.new [] (option_to_list (option_map (λ u. u.value) uri))) }
+    {
         match uri {
             Some(uri) => Ok(self.wanted.push(uri)?),
             None => Ok(()),
@@ -59,56 +78,74 @@ impl Wants {
     }
 
     // Adds what a place has and wants.
-    fn add(&mut self, alloc: Global, place: &Place<'_>) -> Result<(), AllocError> {
-        if let Some(own) = own_uri(alloc, place)? {
-            self.meet(alloc, own.as_str())?;
-        }
-        self.want(referred(alloc, place)?)?;
-        self.want(dialect(alloc, place)?)
+    fn add(&mut self, alloc: Global, place: &Place<'_>) -> Result<(), AllocError>
+        ensures { OnOk result (Grows self.old self.new (option_to_list (own_uri (place_of place.now))) (wanted_at (place_of place.now))) }
+    {
+        let own = own_uri(alloc, place)?;
+        self.meet_own(own)?;
+        let referred = referred(alloc, place)?;
+        self.want(referred)?;
+        let dialect = dialect(alloc, place)?;
+        self.want(dialect)
     }
 
-    // Adds what the places of a document have and want, and its URI.
-    fn add_document(
-        &mut self,
-        alloc: Global,
-        uri: &str,
-        places: &[Place<'_>],
-    ) -> Result<(), AllocError> {
-        self.meet(alloc, uri)?;
+    // Adds what places have and want.
+    fn add_places(&mut self, alloc: Global, places: &[Place<'_>]) -> Result<(), AllocError>
+        ensures { OnOk result (Grows self.old self.new (flat_map (λ p. option_to_list (own_uri p)) (map place_of places.now)) (flat_map wanted_at (map place_of places.now))) }
+    {
         for place in places {
             self.add(alloc, place)?;
         }
         Ok(())
     }
+
+    // Adds the URI of a document, and what its places have and want.
+    fn add_document(
+        &mut self,
+        alloc: Global,
+        uri: &Uri,
+        places: &[Place<'_>],
+    ) -> Result<(), AllocError>
+        ensures { OnOk result (Grows self.old self.new (uri.now ∷ flat_map (λ p. option_to_list (own_uri p)) (map place_of places.now)) (flat_map wanted_at (map place_of places.now))) }
+    {
+        self.meet(uri)?;
+        self.add_places(alloc, places)
+    }
 }
 
 // The URI that the reference of a place points into, where it has one that means a URI.
-fn referred(alloc: Global, place: &Place<'_>) -> Result<Option<Rc<Uri>>, AllocError> {
-    let Some(reference) = text_under(place.value, "$ref") else {
+fn referred(alloc: Global, place: &Place<'_>) -> Result<Option<Rc<Uri>>, AllocError>
+    ensures { IfOk result (λ uri. option_map (λ u. u.value) uri ≡ referred_uri (place_of place.now)) }
+{
+    let Some(reference) = place.reference() else {
         return Ok(None);
     };
     let base = nearest_base(alloc, &place.outer, place.id())?;
-    Ok(target_of(alloc, &base, reference)?.ok())
+    let target = target_of(alloc, &base, reference)?;
+    Ok(target.ok())
 }
 
 // The URI that the `$schema` of a place names, where it names no known draft and means a URI.
-fn dialect(alloc: Global, place: &Place<'_>) -> Result<Option<Rc<Uri>>, AllocError> {
-    let Some(text) = text_under(place.value, "$schema") else {
+fn dialect(alloc: Global, place: &Place<'_>) -> Result<Option<Rc<Uri>>, AllocError>
+    ensures { IfOk result (λ uri. option_map (λ u. u.value) uri ≡ dialect_uri (place_of place.now)) }
+{
+    let Some(text) = place.schema() else {
         return Ok(None);
     };
     if Draft::from_schema_uri(text) != Draft::Unknown {
         return Ok(None);
     }
-    Ok(meta_schema_uri(alloc, text)?.ok())
+    let uri = meta_schema_uri(alloc, text)?;
+    Ok(uri.ok())
 }
 
-// The document under a URI, where the retriever gives one.
+// The document under a URI, where the retriever returns one.
 fn retrieved<R: Retrieve>(
     alloc: Global,
     retriever: &R,
     uri: &Uri,
 ) -> Result<Option<Value>, AllocError>
-    ensures { IfOk result (λ o. IfSome o (λ value. R.may_answer retriever.now uri.now (view value))) }
+    ensures { IfOk result (λ value. MayReturn (retriever_of (R.may_answer retriever.now) (R.may_refuse retriever.now)) uri.now (option_map view value)) }
 {
     match retriever.retrieve(alloc, uri) {
         Ok(value) => Ok(Some(value)),
@@ -117,68 +154,118 @@ fn retrieved<R: Retrieve>(
     }
 }
 
-// The document under a URI that is wanted, where it isn't met and the retriever gives one. From then on it is met.
-fn retrieve<R: Retrieve>(
+// Adds what a document that was retrieved has and wants.
+fn add_held(alloc: Global, draft: Draft, wants: &mut Wants, held: &Held) -> Result<(), AllocError>
+    ensures { OnOk result (Grows wants.old wants.new (uris_in draft (held_source held.now)) (wanted_by draft (held_source held.now))) }
+{
+    let places = places_of(alloc, &held.uri, &held.value, draft.detect(&held.value))?;
+    wants.add_document(alloc, &held.uri, places.as_slice())
+}
+
+// Asks for a URI, and adds what the retriever returns for it, or that it is known from then on.
+fn ask<R: Retrieve>(
     alloc: Global,
+    draft: Draft,
     retriever: &R,
     wants: &mut Wants,
     uri: &Uri,
 ) -> Result<Option<Held>, AllocError>
-    ensures answer { IfOk result (λ o. IfSome o (λ held. R.may_answer retriever.now held.uri (view held.value))) }
-    ensures wanted { OnOk result (wants.new.wanted.items ≡ wants.old.wanted.items) }
-    ensures next { OnOk result (wants.new.next ≡ wants.old.next) }
+    ensures answer { IfOk result (λ held. MayReturn (retriever_of (R.may_answer retriever.now) (R.may_refuse retriever.now)) uri.now (source_asked uri.now held).tree) }
+    ensures uri { IfOk result (λ o. IfSome o (λ held. held.uri ≡ uri.now)) }
+    ensures grows { IfOk result (λ held. Grows wants.old wants.new (uris_in draft (source_asked uri.now held)) (wanted_by draft (source_asked uri.now held))) }
+    ensures refused { IfOk result (λ held. IfNone held (wants.new.wanted.items ≡ wants.old.wanted.items)) }
 {
-    if wants.met.contains_key(uri.as_str()) {
-        return Ok(None);
-    }
-    wants.meet(alloc, uri.as_str())?;
     let Some(value) = retrieved(alloc, retriever, uri)? else {
+        wants.meet(uri)?;
         return Ok(None);
     };
     let uri = uri.clone()?;
-    Ok(Some(Held { uri, value }))
+    let held = Held { uri, value };
+    add_held(alloc, draft, wants, &held)?;
+    Ok(Some(held))
 }
 
-// The first document that the retriever gives for what is wanted and wasn't asked for.
-fn retrieve_next<R: Retrieve>(
+// Goes through the next URI that is wanted: where it isn't known, the retriever is asked for it.
+fn retrieve<R: Retrieve>(
     alloc: Global,
+    draft: Draft,
     retriever: &R,
     wants: &mut Wants,
 ) -> Result<Option<Held>, AllocError>
+    requires { wants.old.next < length wants.old.wanted.items }
+    ensures going { (sources gathered : List spec.Source) → IsGoing (retriever_of (R.may_answer retriever.now) (R.may_refuse retriever.now)) draft sources wants.old gathered
+        → IfOk result (λ held. IsGoing (retriever_of (R.may_answer retriever.now) (R.may_refuse retriever.now)) draft sources wants.new (gathered ++ option_to_list (option_map held_source held))) }
     ensures answer { IfOk result (λ o. IfSome o (λ held. R.may_answer retriever.now held.uri (view held.value))) }
+    ensures passed { IfOk result (λ held. wants.new.next ≡ wants.old.next + 1) }
+    ensures refused { IfOk result (λ held. IfNone held (wants.new.wanted.items ≡ wants.old.wanted.items)) }
+{
+    let uri = wants.wanted[wants.next].clone()?;
+    wants.next += 1;
+    if wants.met.contains_key(&*uri) {
+        return Ok(None);
+    }
+    ask(alloc, draft, retriever, wants, &uri)
+}
+
+// The first document that the retriever returns for what is wanted and wasn't asked for.
+fn retrieve_next<R: Retrieve>(
+    alloc: Global,
+    draft: Draft,
+    retriever: &R,
+    wants: &mut Wants,
+) -> Result<Option<Held>, AllocError>
+    ensures going { (sources gathered : List spec.Source) → IsGoing (retriever_of (R.may_answer retriever.now) (R.may_refuse retriever.now)) draft sources wants.old gathered
+        → IfOk result (λ held. IsGoing (retriever_of (R.may_answer retriever.now) (R.may_refuse retriever.now)) draft sources wants.new (gathered ++ option_to_list (option_map held_source held))) }
+    ensures answer { IfOk result (λ o. IfSome o (λ held. R.may_answer retriever.now held.uri (view held.value))) }
+    ensures ended { IfOk result (λ held. IfNone held (length wants.new.wanted.items ≤ wants.new.next)) }
 {
     while wants.next < wants.wanted.len() {
-        let uri = wants.wanted[wants.next].clone()?;
-        wants.next += 1;
-        if let Some(held) = retrieve(alloc, retriever, wants, &uri)? {
+        if let Some(held) = retrieve(alloc, draft, retriever, wants)? {
             return Ok(Some(held));
         }
     }
     Ok(None)
 }
 
-// Adds what a document that was retrieved has and wants.
-fn add_held(alloc: Global, draft: Draft, wants: &mut Wants, held: &Held) -> Result<(), AllocError> {
-    let places = places_of(alloc, &held.uri, &held.value, draft.detect(&held.value))?;
-    wants.add_document(alloc, held.uri.as_str(), places.as_slice())
+// Adds what the places of a source have and want.
+fn add_survey(alloc: Global, wants: &mut Wants, survey: &Survey<'_, '_>) -> Result<(), AllocError>
+    ensures { OnOk result (Grows wants.old wants.new (uris_seen (seen_survey survey.now)) (wanted_seen (seen_survey survey.now))) }
+{
+    wants.add_document(alloc, &survey.source.uri, survey.places.as_slice())
 }
 
 // Adds what the places of sources have and want.
-fn wants_of(alloc: Global, draft: Draft, sources: &[Source<'_>]) -> Result<Wants, AllocError> {
+fn add_surveys(
+    alloc: Global,
+    wants: &mut Wants,
+    surveys: &[Survey<'_, '_>],
+) -> Result<(), AllocError>
+    ensures { OnOk result (Grows wants.old wants.new (flat_map uris_seen (map seen_survey surveys.now)) (flat_map wanted_seen (map seen_survey surveys.now))) }
+{
+    for survey in surveys {
+        add_survey(alloc, wants, survey)?;
+    }
+    Ok(())
+}
+
+// What sources have and want.
+fn wants_of(alloc: Global, draft: Draft, sources: &[Source<'_>]) -> Result<Wants, AllocError>
+    ensures met { IfOk result (λ wants. AreMet wants (flat_map (uris_in draft) (map source_of sources.now))) }
+    ensures wanted { IfOk result (λ wants. wanted_of wants ≡ flat_map (wanted_by draft) (map source_of sources.now)) }
+    ensures next { IfOk result (λ wants. wants.next ≡ 0) }
+{
     let surveys = surveys_of(alloc, draft, sources)?;
     let mut wants = Wants {
         wanted: Vec::new(alloc),
         next: 0,
         met: HashMap::new(alloc),
     };
-    for survey in &surveys {
-        wants.add_document(alloc, survey.source.uri.as_str(), survey.places.as_slice())?;
-    }
+    add_surveys(alloc, &mut wants, surveys.as_slice())?;
     Ok(wants)
 }
 
-/// The documents that sources want, and that those want in turn, as far as a retriever gives them: for each URI that a `$ref`
-/// points into or an unknown `$schema` names and that no document or place has, the retriever is asked once, and what it gives is
+/// The documents that sources want, and that those want in turn, as far as a retriever returns them: for each URI that a `$ref`
+/// points into or an unknown `$schema` names and that no document or place has, the retriever is asked once, and what it returns is
 /// read before the next. At most `limit` documents are retrieved. A document that the retriever refuses is left out.
 ///
 /// Fails only if out of memory, here or in the retriever. Each place is visited once, with a look-up in a hashed map for each URI
@@ -190,6 +277,7 @@ pub fn gather<R: Retrieve>(
     retriever: &R,
     limit: usize,
 ) -> Result<Vec<Held>, AllocError>
+    ensures gathered { IfOk result (λ list. IsGathered (retriever_of (R.may_answer retriever.now) (R.may_refuse retriever.now)) draft (map source_of sources.now) limit (map held_source list.items)) }
     ensures answers { IfOk result (λ list. AllByRecursion (λ held. R.may_answer retriever.now held.uri (view held.value)) list.items) }
     ensures limit { IfOk result (λ list. length list.items ≤ limit) }
 {
@@ -197,10 +285,9 @@ pub fn gather<R: Retrieve>(
     let mut list = Vec::new(alloc);
     for count in 0..limit {
         let _ = count;
-        let Some(held) = retrieve_next(alloc, retriever, &mut wants)? else {
+        let Some(held) = retrieve_next(alloc, draft, retriever, &mut wants)? else {
             return Ok(list);
         };
-        add_held(alloc, draft, &mut wants, &held)?;
         list.push(held)?;
     }
     Ok(list)

@@ -11,6 +11,7 @@ mod finding;
 mod gathering;
 mod keyword;
 mod list;
+mod place;
 mod problem;
 mod site;
 mod source;

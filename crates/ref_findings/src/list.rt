@@ -13,7 +13,7 @@ ghost use Rattle.ref_findings.specs.inner.Seen.{site_of, known_in, known_among};
 
 use crate::base::nearest_base;
 use crate::bearers::{names_of, own_uri, source_uri, unsound_of, uris_of};
-use crate::finding::{Finding, Problem, Report, text_under};
+use crate::finding::{Finding, Problem, Report};
 use crate::keyword::{Keyword, keyword_at};
 use crate::problem::Known;
 use crate::site::{Site, segments_of};
@@ -111,7 +111,7 @@ fn add_reference<'v>(
 ) -> Result<(), AllocError>
     ensures { (fs : List spec.Finding) → AllZip IsFindingOf list.old.items fs → OnOk result (AllZip IsFindingOf list.new.items (fs ++ reference_findings (known_in known.now) (site_of site.now))) }
 {
-    let Some(reference) = text_under(site.place.value, "$ref") else {
+    let Some(reference) = site.place.reference() else {
         return Ok(());
     };
     let base = nearest_base(alloc, &site.place.outer, site.place.id())?;
@@ -128,7 +128,7 @@ fn add_schema<'v>(
 ) -> Result<(), AllocError>
     ensures { (fs : List spec.Finding) → AllZip IsFindingOf list.old.items fs → OnOk result (AllZip IsFindingOf list.new.items (fs ++ schema_findings (known_in known.now) (site_of site.now))) }
 {
-    let Some(text) = text_under(site.place.value, "$schema") else {
+    let Some(text) = site.place.schema() else {
         return Ok(());
     };
     let problem = known.of_schema(alloc, text)?;
@@ -163,8 +163,12 @@ fn add_anchors<'v>(
 ) -> Result<(), AllocError>
     ensures { (fs : List spec.Finding) → AllZip IsFindingOf list.old.items fs → OnOk result (AllZip IsFindingOf list.new.items (fs ++ anchor_findings (known_in known.now) number (site_of site.now))) }
 {
+    let anchors = site.place.anchors();
+    if matches!(anchors, AnchorIter::Empty) {
+        return Ok(());
+    }
     let base = nearest_base(alloc, &site.place.outer, site.place.id())?;
-    match site.place.draft.anchors(site.place.value) {
+    match anchors {
         AnchorIter::Empty => Ok(()),
         AnchorIter::One(anchor) => add_anchor(alloc, list, known, number, site, &base, anchor),
         AnchorIter::Two(plain, dynamic) => {
@@ -267,7 +271,7 @@ fn count_references(sites: &[Site<'_, '_>]) -> usize
 {
     let mut count = 0;
     for site in sites {
-        if text_under(site.place.value, "$ref").is_some() {
+        if site.place.reference().is_some() {
             count += 1;
         }
     }

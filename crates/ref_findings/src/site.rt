@@ -1,48 +1,17 @@
-//! The places of sources where schemas stand.
-ghost use Rattle.std.specs.Prelude.{◌≡◌, ◌++◌, ◌∷◌, [], map, option_map, IfOk, MatchOption};
+//! Places with the numbers of their sources, and their paths.
+ghost use Rattle.std.specs.Prelude.{◌≡◌, ◌++◌, ◌∷◌, [], map, IfOk, MatchOption};
 ghost use Rattle.ref_parts.specs.Segment.{part_of};
 ghost use Rattle.ref_parts.specs.declared.path.JsonPointerSegment.{JsonPointerSegment};
-ghost use Rattle.ref_definitions.specs.Places.{identifier_of};
-ghost use Rattle.ref_findings.specs.Bearers.{is_root};
-ghost use Rattle.ref_findings.specs.inner.Seen.{place_of};
 
-use ref_draft::{Draft, ResourceRef};
+use crate::place::Place;
 use ref_parts::path::{JsonPointerNode, JsonPointerSegment};
-use ref_uri::Uri;
-use serde_json::Value;
 use std::alloc::{AllocError, Global};
-use std::rc::Rc;
-
-/// A place where a schema stands: its path, value and draft, and the base URI around it.
-#[derive(Drop)]
-pub(crate) struct Place<'v> {
-    pub path: JsonPointerNode<'v>,
-    pub value: &'v Value,
-    pub draft: Draft,
-    pub outer: Rc<Uri>,
-}
 
 /// A place, and the number of its source.
 #[derive(Clone, Copy)]
 pub(crate) struct Site<'p, 'v> {
     pub source: usize,
     pub place: &'p Place<'v>,
-}
-
-impl<'v> Place<'v> {
-    /// The identifier of its value. Takes no memory.
-    pub fn id(&self) -> Option<&'v str>
-        ensures value { option_map (λ text. text.now) result ≡ identifier_of (place_of self.now) }
-    {
-        ResourceRef::new(self.value, self.draft).id()
-    }
-
-    /// Whether it is the root of its source. Takes no memory.
-    pub fn is_root(&self) -> bool
-        ensures value { result ≡ is_root (place_of self.now) }
-    {
-        self.path.parent().is_none()
-    }
 }
 
 // Adds a copy of the last segment of the path, and returns the path before it, where there is one.

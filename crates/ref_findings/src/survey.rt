@@ -9,7 +9,8 @@ ghost use Rattle.ref_findings.specs.Entries.{source_of};
 ghost use Rattle.ref_findings.specs.inner.Seen.{place_of, site_of, seen_survey, survey_in, sound_in, AreSurveys};
 
 use crate::fault::is_any_faulty;
-use crate::site::{Place, Site};
+use crate::place::Place;
+use crate::site::Site;
 use crate::source::Source;
 use crate::walk::places_of;
 use ref_draft::Draft;

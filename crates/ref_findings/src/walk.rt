@@ -6,11 +6,11 @@ ghost use Rattle.ref_draft.specs.Children.{walked_children};
 ghost use Rattle.ref_draft.specs.Views.{segment_parts, walked_child};
 ghost use Rattle.ref_definitions.specs.Places.{child_place, root};
 ghost use Rattle.ref_findings.specs.Places.{children_near, places_near};
-ghost use Rattle.ref_findings.specs.declared.site.Place.{Place};
+ghost use Rattle.ref_findings.specs.declared.place.Place.{Place};
 ghost use Rattle.ref_findings.specs.inner.Seen.{place_of};
 
 use crate::base::nearest_base;
-use crate::site::Place;
+use crate::place::Place;
 use ref_draft::{Child, Draft};
 use ref_index::reference::shared;
 use ref_parts::path::{JsonPointerNode, JsonPointerSegment};
@@ -61,15 +61,8 @@ fn push_child<'v>(
     } = child;
     let outer = base.clone()?;
     let path = path_below(alloc, path, keyword, segment)?;
-    push(
-        places,
-        Place {
-            path,
-            value,
-            draft,
-            outer,
-        },
-    )
+    let place = Place::new(path, value, draft, outer);
+    push(places, place)
 }
 
 // Adds the children of a value after the others.
@@ -117,12 +110,7 @@ fn root_of<'v>(
 {
     let uri = uri.clone()?;
     let outer = shared(alloc, uri)?;
-    Ok(Place {
-        path: JsonPointerNode::new(),
-        value,
-        draft,
-        outer,
-    })
+    Ok(Place::new(JsonPointerNode::new(), value, draft, outer))
 }
 
 /// The places of a source: the root, then its children by the keywords that hold subschemas, and so on level by level. Each is

@@ -3,6 +3,8 @@ use Rattle.std.specs.Prelude.{◌≡◌, ℕ, Bool, List, [], ◌∷◌, map, fl
 use Rattle.std.specs.List.{AllByRecursion}
 use Rattle.std.specs.Option.{option_to_list}
 use Rattle.ref_parts.specs.Table.{Entry}
+use Rattle.ref_parts.specs.Path.{Part}
+use Rattle.serde_json.specs.Data.{Data}
 use Rattle.ref_definitions.specs.World.{Document, Layer}
 use Rattle.ref_definitions.specs.Resources.{own_uri}
 use Rattle.serde_json.specs.View.{view}
@@ -10,7 +12,7 @@ use Rattle.ref_draft.specs.Schema.{identifier}
 use Rattle.ref_draft.specs.declared.draft.Draft.{Draft}
 use Rattle.ref_definitions.specs.Places.{Place, base_within}
 use Rattle.ref_resolver.specs.Layered.{world_in}
-use Rattle.ref_findings.specs.declared.site.Place as rust
+use Rattle.ref_findings.specs.declared.place.Place as rust
 use Rattle.ref_findings.specs.declared.site.Site as rust_site
 use Rattle.ref_findings.specs.declared.survey.Survey as rust_survey
 use Rattle.ref_findings.specs.declared.problem.Known as rust_known
@@ -19,15 +21,13 @@ use Rattle.ref_findings.specs.Bearers.{Site, uris_borne, names_borne}
 use Rattle.ref_findings.specs.Findings.{Known}
 use Rattle.ref_findings.specs.Entries.{source_of}
 
--- a place
+-- a place, by its path, value, draft and the base around it
+abbrev pub place_with : List Part → Data → Draft → List ℕ → Place
+place_with path value draft outer = record { path = path; value = value; draft = draft; outer = outer; base = base_within outer (identifier draft value) }
+
+-- that of the program
 abbrev pub place_of : rust.Place → Place
-place_of p = record {
-  path = p.path;
-  value = view p.value.now;
-  draft = p.draft;
-  outer = p.outer.value;
-  base = base_within p.outer.value (identifier p.draft (view p.value.now));
-}
+place_of p = place_with p.path (view p.value.now) p.draft p.outer.value
 
 -- a place with the number of its source
 abbrev pub site_of : rust_site.Site → Site

@@ -1,8 +1,8 @@
-use Rattle.std.proofs.Common.{◌≡◌, ◌∙◌, ◌∷◌, ◌++◌, [], map, filter, length, reverse, ap, refl, subst, rules}
+use Rattle.std.proofs.Common.{◌≡◌, ◌∷◌, ◌++◌, [], map, reverse, subst, rules}
 use Rattle.std.specs.List.{AllZip}
 use Rattle.ref_resolver.specs.Layered.{world_in}
 use Rattle.ref_findings.specs.Bearers.{uris_borne, names_borne}
-use Rattle.ref_findings.specs.Findings.{Known, unread_sources, place_findings, has_reference}
+use Rattle.ref_findings.specs.Findings.{Known, unread_sources, place_findings}
 use Rattle.ref_findings.specs.Entries.{source_of, IsFindingOf}
 use Rattle.ref_findings.specs.inner.Seen.{site_of}
 use Rattle.ref_findings.proofs.Knowing.{known_with, same_known}

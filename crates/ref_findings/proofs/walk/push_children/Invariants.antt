@@ -1,7 +1,7 @@
 use Rattle.std.proofs.Common.{◌≡◌, List, ◌++◌, map}
 use Rattle.ref_draft.specs.Views.{walked_child}
 use Rattle.ref_definitions.specs.Places.{child_place}
-use Rattle.ref_findings.specs.declared.site.Place.{Place}
+use Rattle.ref_findings.specs.declared.place.Place.{Place}
 use Rattle.ref_findings.specs.inner.Seen.{place_of}
 use Rattle.ref_findings.proofs.walk.push_children.Given as goal
 
