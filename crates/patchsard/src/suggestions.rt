@@ -6,7 +6,8 @@ use referencing::{unescape_segment, write_escaped_str};
 use serde_json::{Map, Value};
 use std::alloc::{AllocError, Global};
 
-/// What may be meant by an unresolvable reference into a resource: a pointer with another key, or another anchor.
+/// What may be meant by an unresolvable reference into a resource: a pointer with another key, one that lacks its first slash, or another
+/// anchor.
 pub fn suggestion(
     alloc: Global,
     suggester: &mut Suggester,
@@ -21,7 +22,18 @@ pub fn suggestion(
         Error::NoSuchAnchor { anchor } => {
             close_anchor(alloc, suggester, resource.names.as_slice(), anchor.as_str())
         }
+        Error::InvalidAnchor { anchor } => with_slash(alloc, resource.root, anchor.as_str()),
         _ => Ok(None),
+    }
+}
+
+// The pointer that lacks its first slash, where a value stands at it.
+fn with_slash(alloc: Global, root: &Value, text: &str) -> Result<Option<String>, AllocError> {
+    let meant = format!(in alloc; "/{text}")?;
+    if root.pointer(meant.as_str()).is_some() {
+        Ok(Some(meant))
+    } else {
+        Ok(None)
     }
 }
 
