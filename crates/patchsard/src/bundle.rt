@@ -24,8 +24,8 @@ use referencing::Registry;
 use serde_json::Value;
 use std::alloc::{AllocError, Global};
 
-/// Writes one document in place of several. The status is 0 where it is written, 1 where there is no bundle, 2 where a path can't be read or
-/// written, and 3 where the text that was made isn't that of the bundle.
+/// Writes one document in place of several. The status is 0 where it is written, 1 where there is no bundle, 2 where a
+/// path can't be read or written, and 3 where the text that was made isn't that of the bundle.
 pub fn bundle(
     rt: &HostRuntime,
     console: &mut Console<'_>,
@@ -116,8 +116,8 @@ impl<'d, 'l, 'w, 'o> Sources<'d, 'l, 'w, 'o> {
         }
     }
 
-    // Prints what is wrong with the documents that are needed, and answers whether that keeps them from being bundled: an unresolvable pointer or
-    // anchor doesn't.
+    // Prints what is wrong with the documents that are needed, and answers whether that keeps them from being bundled:
+    // an unresolvable pointer or anchor doesn't.
     fn has_faults(&self, rt: &HostRuntime, needed: &[bool]) -> Result<bool, Stop> {
         let alloc = rt.alloc();
         let mut out = String::new(alloc);
@@ -138,7 +138,8 @@ impl<'d, 'l, 'w, 'o> Sources<'d, 'l, 'w, 'o> {
         Ok(is_faulty)
     }
 
-    // Whether a needed document isn't there, or a needed place refers to none, or to the root by a URI that its identifier replaces.
+    // Whether a needed document isn't there, or a needed place refers to none, or to the root by a URI that its
+    // identifier replaces.
     fn is_incomplete(
         &self,
         rt: &HostRuntime,

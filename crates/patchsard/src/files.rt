@@ -231,8 +231,8 @@ pub fn list_given(listing: &mut Listing<'_>, given: &ArgMatches<'_>) -> Result<(
     Ok(())
 }
 
-/// The file that a command line names, and after it those of `--with` without a file that is to be written. Where it is among these, it has its path
-/// below their folder.
+/// The file that a command line names, and after it those of `--with` without a file that is to be written. Where it is
+/// among these, it has its path below their folder.
 pub fn list_file(
     rt: &HostRuntime,
     given: &ArgMatches<'_>,

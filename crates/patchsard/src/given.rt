@@ -39,7 +39,8 @@ pub fn read_given(rt: &HostRuntime, given: &ArgMatches<'_>) -> Result<Given, Sto
     with_held(rt, given, reading.draft, documents, has_failed)
 }
 
-/// Reads the file that a command line names, and after it those of `--with`. A file that is to be written isn't read among these.
+/// Reads the file that a command line names, and after it those of `--with`. A file that is to be written isn't read
+/// among these.
 pub fn read_file(
     rt: &HostRuntime,
     given: &ArgMatches<'_>,
@@ -108,7 +109,8 @@ impl Given {
         Ok(report.findings)
     }
 
-    /// Keeps the files to the end of the program, which is faster than to free their values one by one, and answers how many there are.
+    /// Keeps the files to the end of the program, which is faster than to free their values one by one, and answers how
+    /// many there are.
     pub fn keep(self) -> usize {
         let kept = self.documents.leak();
         kept.len()

@@ -1,4 +1,5 @@
-//! Lints, follows, bundles, lists and draws the references of folders of JSON Schema files. What is found is `ref_findings`, where it stands in a file
+//! Lints, follows, bundles, lists and draws the references of folders of JSON Schema files. What is found is
+//! `ref_findings`, where it stands in a file
 //! `ref_positions`, and how it is printed `ref_messages`; here is what reads files, asks these, and writes.
 #![tactic(auto)]
 

@@ -14,8 +14,8 @@ use ref_positions::{Places, Position};
 use serde_json::Value;
 use std::alloc::{AllocError, Global};
 
-/// Lists each subschema of files. The status is 0, 1 where a file has no places for a fault of its own, and 2 where a path couldn't be
-/// read.
+/// Lists each subschema of files. The status is 0, 1 where a file has no places for a fault of its own, and 2 where a
+/// path couldn't be read.
 pub fn places(
     rt: &HostRuntime,
     console: &mut Console<'_>,

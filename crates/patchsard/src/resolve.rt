@@ -14,8 +14,8 @@ use referencing::Resolved;
 use std::alloc::{AllocError, Global};
 use std::rc::Rc;
 
-/// Follows a reference from a place of a file. The status is 0 where it resolves, 1 where it is unresolvable, and 2 where a path couldn't be
-/// read.
+/// Follows a reference from a place of a file. The status is 0 where it resolves, 1 where it is unresolvable, and 2
+/// where a path couldn't be read.
 pub fn resolve(
     rt: &HostRuntime,
     console: &mut Console<'_>,

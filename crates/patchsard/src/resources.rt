@@ -116,7 +116,8 @@ impl<'d> Resources<'d> {
         Ok(())
     }
 
-    // The number of the resource of a schema that has a URI: a root's is that of its document, unless another resource has the URI.
+    // The number of the resource of a schema that has a URI: a root's is that of its document, unless another resource
+    // has the URI.
     fn identified(&mut self, step: &Step<'d>, uri: &str) -> Result<usize, AllocError> {
         let uri = without_fragment(uri);
         if !step.is_root || self.numbers.contains_key(uri) {

@@ -10,7 +10,8 @@ use ref_index::Place;
 use ref_positions::Places;
 use std::alloc::{AllocError, Global};
 
-/// Adds the value that was found, and where it stands: its file, line, column and pointer, its draft, its base URI and the dynamic scope.
+/// Adds the value that was found, and where it stands: its file, line, column and pointer, its draft, its base URI and
+/// the dynamic scope.
 pub fn push_found(
     alloc: Global,
     out: &mut String,

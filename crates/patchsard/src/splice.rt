@@ -1,4 +1,5 @@
-//! Objects in the text of a JSON document, and members that are added to them. What isn't added or replaced stays as it is in the text.
+//! Objects in the text of a JSON document, and members that are added to them. What isn't added or replaced stays as it
+//! is in the text.
 use json::{Reader, Scratch, Token};
 use serde_json::Value;
 use std::alloc::{AllocError, Global};
@@ -102,7 +103,8 @@ fn end_of_scalar(text: &str, offset: usize) -> usize {
     text.len()
 }
 
-/// Where the object is that a text begins with, and the last of its members with a key. `None` where the text begins with no object.
+/// Where the object is that a text begins with, and the last of its members with a key. `None` where the text begins
+/// with no object.
 pub fn object_in(
     alloc: Global,
     text: &str,

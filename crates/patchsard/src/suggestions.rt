@@ -6,8 +6,8 @@ use referencing::{unescape_segment, write_escaped_str};
 use serde_json::{Map, Value};
 use std::alloc::{AllocError, Global};
 
-/// What may be meant by an unresolvable reference into a resource: a pointer with another key, one that lacks its first slash, or another
-/// anchor.
+/// What may be meant by an unresolvable reference into a resource: a pointer with another key, one that lacks its first
+/// slash, or another anchor.
 pub fn suggestion(
     alloc: Global,
     suggester: &mut Suggester,

@@ -36,8 +36,8 @@ pub struct World<'d> {
     pub sources: Vec<usize>,
 }
 
-/// The registry of what was read. A document that is no JSON or has a text that means no URI counts as an empty one; of those under one URI the
-/// first is taken. Refuses with a text on standard error.
+/// The registry of what was read. A document that is no JSON or has a text that means no URI counts as an empty one; of
+/// those under one URI the first is taken. Refuses with a text on standard error.
 pub fn world_of<'d>(
     rt: &HostRuntime,
     given: &'d Given,
@@ -133,8 +133,8 @@ fn with_copies<'d>(
 // No documents.
 const NONE: [(&str, Value); 0] = [];
 
-/// A registry of empty documents under the URIs of the drafts' meta-schemas, and of others that findings name and that aren't there: what a bundle
-/// leaves outside.
+/// A registry of empty documents under the URIs of the drafts' meta-schemas, and of others that findings name and that
+/// aren't there: what a bundle leaves outside.
 pub fn outside_of(rt: &HostRuntime, findings: &[Finding<'_>]) -> Result<Registry<'static>, Stop> {
     match outside(rt.alloc(), findings) {
         Ok(registry) => Ok(registry),
@@ -201,7 +201,8 @@ pub fn faulty_of(
     Ok(faulty)
 }
 
-/// The number of the document that has each URI: its own, and those of the places in it. Those in place of what isn't there are left out.
+/// The number of the document that has each URI: its own, and those of the places in it. Those in place of what isn't
+/// there are left out.
 pub fn bearers(alloc: Global, world: &World<'_>) -> Result<BTreeMap<String, usize>, AllocError> {
     let mut bearers = BTreeMap::new(alloc);
     for place in world.places(alloc)? {

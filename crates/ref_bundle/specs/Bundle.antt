@@ -13,8 +13,8 @@ use Rattle.ref_definitions.specs.Resources.{own_uri, resources_in}
 use Rattle.ref_bundle.specs.Needed.{counted_documents, document_under, targets, needed_documents}
 use Rattle.ref_bundle.specs.Embedding.{Obstacle, base_uri, added_schema, embedded_tree, with_member, obstacle}
 
--- a document that a bundle has under its definitions: its number, its base URI, whether a member for it was added or the one there
--- replaced, and the `$schema` that was added
+-- a document that a bundle has under its definitions: its number, its base URI, whether a member for it was added or
+-- the one there replaced, and the `$schema` that was added
 pub record Embedded : Type 0 where
   pub document : ℕ
   pub uri : List ℕ
@@ -69,12 +69,15 @@ members_or_none (Some ms) = ms
 
 -- the definitions that a root has
 abbrev pub definitions_of : Document → Members
-definitions_of top = members_or_none (option_and_then as_object (get (definitions_keyword top.draft) top.tree))
+definitions_of top =
+    members_or_none (option_and_then as_object (get (definitions_keyword top.draft) top.tree))
 
 -- the tree of a root with documents under its definitions: its own where there are none
 abbrev pub tree_with : Document → List (ℕ × Document) → Data
 tree_with top [] = top.tree
-tree_with top (e ∷ es) = with_member (definitions_keyword top.draft) (object (with_all (map (member_of top.draft) (e ∷ es)) (definitions_of top))) top.tree
+tree_with top (e ∷ es) =
+    with_member (definitions_keyword top.draft)
+    (object (with_all (map (member_of top.draft) (e ∷ es)) (definitions_of top))) top.tree
 
 -- what is listed of a document
 abbrev pub embedded_document : Draft → ℕ × Document → Embedded
@@ -105,31 +108,39 @@ sites_of_uris layer = flat_map borne_in (counted_documents 0 layer)
 
 -- the last of the other places that have a URI
 abbrev pub other_bearer : List (List ℕ × Site) → List ℕ → Site → Option Site
-other_bearer entries uri site = option_map_or (λ e. Some e.1) (last_or None (filter (λ e. bytes_eq e.0 uri && not (is_site e.1 site)) entries)) None
+other_bearer entries uri site =
+    option_map_or (λ e. Some e.1)
+    (last_or None (filter (λ e. bytes_eq e.0 uri && not (is_site e.1 site)) entries)) None
 
 -- the problem of a URI that a place has, where another has it too
 abbrev pub shared_uri : List (List ℕ × Site) → Site → List ℕ → List Problem
-shared_uri entries site uri = option_map_or (λ other. SharedUri uri other.0 other.1 ∷ []) (other_bearer entries uri site) []
+shared_uri entries site uri =
+    option_map_or (λ other. SharedUri uri other.0 other.1 ∷ []) (other_bearer entries uri site) []
 
 -- the URIs that a place has: at the root that of the document, and by its own identifier its base
 abbrev pub uris_of : Document → Place → List (List ℕ)
 uris_of d p = (if path_eq p.path [] then d.uri ∷ [] else []) ++ option_to_list (own_uri p)
 
--- the problem of a URI that a place refers to, where it is that of an embedded document, in place of which its root's identifier
--- gives another
+-- the problem of a URI that a place refers to, where it is that of an embedded document, in place of which its root's
+-- identifier gives another
 abbrev pub replaced_in : List ℕ → Document → List Problem
-replaced_in uri d = if bytes_eq d.uri uri && not (bytes_eq (base_uri d) uri) then ReplacedUri uri (base_uri d) ∷ [] else []
+replaced_in uri d =
+    if bytes_eq d.uri uri && not (bytes_eq (base_uri d) uri) then ReplacedUri uri (base_uri d) ∷ []
+    else []
 
 abbrev pub replaced_at : Layer → ℕ → List ℕ → Option ℕ → List Problem
 replaced_at layer top uri None = []
-replaced_at layer top uri (Some n) = if n == top then [] else option_map_or (replaced_in uri) (slice_get layer n) []
+replaced_at layer top uri (Some n) =
+    if n == top then [] else option_map_or (replaced_in uri) (slice_get layer n) []
 
 abbrev pub replaced_uris : Layer → ℕ → List ℕ → List Problem
 replaced_uris layer top uri = replaced_at layer top uri (document_under layer uri)
 
 -- the problems of a place of a needed document: of the URIs that it has, then of those that it refers to
 abbrev pub place_problems : Layer → ℕ → ℕ × Document → Place → List Problem
-place_problems layer top e p = flat_map (shared_uri (sites_of_uris layer) (e.0, p.path)) (uris_of e.1 p) ++ flat_map (replaced_uris layer top) (targets p)
+place_problems layer top e p =
+    flat_map (shared_uri (sites_of_uris layer) (e.0, p.path)) (uris_of e.1 p)
+    ++ flat_map (replaced_uris layer top) (targets p)
 
 -- a problem at a path of a document
 abbrev pub at_path : ℕ → List Part → Problem → BundleRefusal
@@ -137,28 +148,37 @@ at_path number path problem = record { document = number; path = path; problem =
 
 -- the refusals of the places of a needed document
 abbrev pub place_refusals : Layer → ℕ → ℕ × Document → List BundleRefusal
-place_refusals layer top e = flat_map (λ p. map (at_path e.0 p.path) (place_problems layer top e p)) (places e.1)
+place_refusals layer top e =
+    flat_map (λ p. map (at_path e.0 p.path) (place_problems layer top e p)) (places e.1)
 
 -- a key that the definitions have already
 abbrev pub taken_key : ℕ → List ℕ → Members → ℕ × Document → List BundleRefusal
-taken_key top keyword ms e = if is_some (get_member (base_uri e.1) ms) then at_path top (Key keyword ∷ Key (base_uri e.1) ∷ []) (KeyTaken (base_uri e.1)) ∷ [] else []
+taken_key top keyword ms e =
+    if is_some (get_member (base_uri e.1) ms) then
+    at_path top (Key keyword ∷ Key (base_uri e.1) ∷ []) (KeyTaken (base_uri e.1)) ∷ []
+    else []
 
 -- the refusals of what a root has under the keyword of definitions, where documents have to be there
 abbrev pub map_refusals : ℕ → List ℕ → Option Data → List (ℕ × Document) → List BundleRefusal
 map_refusals top keyword None es = []
 map_refusals top keyword (Some value) es =
-    option_map_or (λ ms. flat_map (taken_key top keyword ms) es) (as_object value) (at_path top (Key keyword ∷ []) NoMap ∷ [])
+    option_map_or (λ ms. flat_map (taken_key top keyword ms) es) (as_object value)
+    (at_path top (Key keyword ∷ []) NoMap ∷ [])
 
 -- those of a root: none where no document has to be there
 abbrev pub root_refusals : ℕ × Document → List (ℕ × Document) → List BundleRefusal
 root_refusals top [] = []
 root_refusals top (e ∷ es) =
-    let keyword = definitions_keyword top.1.draft in map_refusals top.0 keyword (get keyword top.1.tree) (e ∷ es)
+    let keyword =
+    definitions_keyword top.1.draft in map_refusals top.0 keyword (get keyword top.1.tree)
+    (e ∷ es)
 
 -- the refusals of a needed document: as a whole, then of its places
-abbrev pub refusals_in : Layer → ℕ × Document → List (ℕ × Document) → ℕ × Document → List BundleRefusal
+abbrev pub refusals_in : Layer → ℕ × Document → List (ℕ × Document) → ℕ × Document
+    → List BundleRefusal
 refusals_in layer top es e =
-    (if e.0 == top.0 then root_refusals top es else map (λ o. at_path e.0 [] (NotEmbedded o)) (option_to_list (obstacle top.1 e.1)))
+    (if e.0 == top.0 then root_refusals top es
+    else map (λ o. at_path e.0 [] (NotEmbedded o)) (option_to_list (obstacle top.1 e.1)))
     ++ place_refusals layer top.0 e
 
 -- all of them, in the order of documents and places
@@ -178,12 +198,14 @@ unless_refused (refusal ∷ more) bundle = Err refusal
 
 -- the bundle of a root with the documents that it needs
 abbrev pub bundle_of : Document → List (ℕ × Document) → Bundle
-bundle_of top es = record { value = tree_with top es; embedded = map (embedded_document top.draft) es }
+bundle_of top es =
+    record { value = tree_with top es; embedded = map (embedded_document top.draft) es }
 
 -- the bundle of the document with a number, or why there is none
 abbrev pub bundle_at : Layer → ℕ → Result Bundle BundleRefusal
 bundle_at layer number =
     option_map_or
-    (λ top. let es = to_embed layer number in unless_refused (refusals layer (number, top) es) (bundle_of top es))
+    (λ top. let es = to_embed layer number in unless_refused (refusals layer (number, top) es)
+    (bundle_of top es))
     (slice_get layer number)
     (Err (at_path number [] NoDocument))

@@ -39,7 +39,8 @@ schema_text Unknown = None
 abbrev pub is_detected : Draft → Document → Bool
 is_detected draft d = is_draft (detect draft d.tree) d.draft
 
--- the `$schema` that a document has to get below a root of this draft: none where its draft is detected, or where it has that key
+-- the `$schema` that a document has to get below a root of this draft: none where its draft is detected, or where it
+-- has that key
 abbrev pub added_schema : Draft → Document → Option (List ℕ)
 added_schema draft d =
     if is_detected draft d then None
@@ -62,7 +63,9 @@ with_schema (Some text) tree = with_member (codes "$schema") (string text) tree
 
 -- the tree of a document below a root of this draft
 abbrev pub embedded_tree : Draft → Document → Data
-embedded_tree draft d = with_schema (added_schema draft d) (with_member (id_keyword d.draft) (string (base_uri d)) d.tree)
+embedded_tree draft d =
+    with_schema (added_schema draft d)
+    (with_member (id_keyword d.draft) (string (base_uri d)) d.tree)
 
 -- why a document can't be embedded
 pub data Obstacle : Type 0 where
@@ -72,8 +75,8 @@ pub data Obstacle : Type 0 where
   IdentifierBesideRef : Obstacle
   -- the key of its identifier holds what is no identifier: no text, or before 2019-09 an anchor
   NotAnIdentifier : Obstacle
-  -- an identifier doesn't give this base URI back, below the root or against itself: the `#` characters at the end of a text don't
-  -- count
+  -- an identifier doesn't give this base URI back, below the root or against itself: the `#` characters at the end of a
+  -- text don't count
   NotKept : List ℕ → Obstacle
   -- no `$schema` could be added by which this draft is detected
   UntoldDraft : Draft → Obstacle
@@ -87,7 +90,8 @@ is_uri_of (Ok given) uri = bytes_eq given uri
 is_uri_of (Err refusal) uri = false
 
 abbrev pub is_kept : List ℕ → List ℕ → Bool
-is_kept outer uri = not (begins_with_hash uri) && is_uri_of (uri_against outer (trimmed_text uri)) uri
+is_kept outer uri =
+    not (begins_with_hash uri) && is_uri_of (uri_against outer (trimmed_text uri)) uri
 
 -- whether an identifier of the document would not count beside its `$ref`
 abbrev pub is_beside_ref : Document → Bool
@@ -95,7 +99,8 @@ is_beside_ref d = is_before_2019 d.draft && is_some (get (codes "$ref") d.tree)
 
 -- whether something is under the identifier's keyword that is none
 abbrev pub has_no_identifier : Document → Bool
-has_no_identifier d = is_some (get (id_keyword d.draft) d.tree) && not (is_some (identifier d.draft d.tree))
+has_no_identifier d =
+    is_some (get (id_keyword d.draft) d.tree) && not (is_some (identifier d.draft d.tree))
 
 -- whether the document's draft would be another one, also with what is added
 abbrev pub loses_draft : Draft → Document → Bool
@@ -107,7 +112,9 @@ has_dynamic_anchor d = list_any (λ a. is_dynamic a.1) (anchors d.draft d.tree)
 
 -- whether it has one, and its identifier against the base URI that it gave gives another
 abbrev pub is_resolved_again : Document → Bool
-is_resolved_again d = has_dynamic_anchor d && not (is_uri_of (base_within (base_uri d) (identifier d.draft d.tree)) (base_uri d))
+is_resolved_again d =
+    has_dynamic_anchor d
+    && not (is_uri_of (base_within (base_uri d) (identifier d.draft d.tree)) (base_uri d))
 
 -- why a document can't be embedded below a root: the first reason
 abbrev pub obstacle : Document → Document → Option Obstacle
@@ -115,7 +122,8 @@ obstacle top d =
     if not (is_object d.tree) then Some NotAnObject
     else (if is_beside_ref d then Some IdentifierBesideRef
     else (if has_no_identifier d then Some NotAnIdentifier
-    else (if not (is_kept (base_uri top) (base_uri d) && is_kept (base_uri d) (base_uri d)) then Some (NotKept (base_uri d))
+    else (if not (is_kept (base_uri top) (base_uri d) && is_kept (base_uri d) (base_uri d)) then
+    Some (NotKept (base_uri d))
     else (if loses_draft top.draft d then Some (UntoldDraft d.draft)
     else (if is_resolved_again d then Some ResolvedAgain
     else None)))))

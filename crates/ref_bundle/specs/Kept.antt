@@ -33,7 +33,8 @@ world_of_bundle top bundle parents = (document_of_bundle top bundle ∷ []) ∷ 
 
 -- A bundle of the document with a number, among the documents of a registry: they have no fault and no open want, and the
 -- members of the root are in byte order of their keys, as those of each value of `serde_json` are.
-pub record IsBundle (layer : Layer) (parents : World) (number : ℕ) (top : Document) (bundle : Bundle) : Type 0 where
+pub record IsBundle (layer : Layer) (parents : World) (number : ℕ) (top : Document)
+    (bundle : Bundle) : Type 0 where
   pub no_fault : faults layer ≡ []
   pub no_want : open_wants (layer ∷ parents) layer ≡ []
   pub root : slice_get layer number ≡ Some top
@@ -46,11 +47,13 @@ path_in top d = Key (definitions_keyword top.draft) ∷ Key (base_uri d) ∷ []
 
 -- its place there
 abbrev pub place_in : Document → Document → Place
-place_in top d = child_place [] (base_uri top) (with_draft top.draft (path_in top d, embedded_tree top.draft d))
+place_in top d =
+    child_place [] (base_uri top) (with_draft top.draft (path_in top d, embedded_tree top.draft d))
 
 -- what the places of an embedded document are in the bundle: its root with what was added, and the others below its path
 abbrev pub places_of_embedded : Document → ℕ × Document → List Place
-places_of_embedded top e = place_in top e.1 ∷ map (below_path (path_in top e.1)) (drop 1 (places e.1))
+places_of_embedded top e =
+    place_in top e.1 ∷ map (below_path (path_in top e.1)) (drop 1 (places e.1))
 
 -- and those of the root: the root with what was added, and the others as they are
 abbrev pub places_of_root : Document → Bundle → List Place
@@ -59,37 +62,47 @@ places_of_root top bundle = root (document_of_bundle top bundle) ∷ drop 1 (pla
 -- The places of a bundle are those of its documents, merged, each document's in their order.
 abbrev pub HaveMergedPlaces : Type 0
 HaveMergedPlaces =
-    (layer : Layer) (parents : World) (number : ℕ) (top : Document) (bundle : Bundle) → IsBundle layer parents number top bundle
+    (layer : Layer) (parents : World) (number : ℕ) (top : Document) (bundle : Bundle)
+    → IsBundle layer parents number top bundle
     → IsMergeOf Place (places (document_of_bundle top bundle))
     (places_of_root top bundle ∷ map (places_of_embedded top) (to_embed layer number))
 
 -- a bundle has no fault
 abbrev pub HaveNoFault : Type 0
 HaveNoFault =
-    (layer : Layer) (parents : World) (number : ℕ) (top : Document) (bundle : Bundle) → IsBundle layer parents number top bundle
+    (layer : Layer) (parents : World) (number : ℕ) (top : Document) (bundle : Bundle)
+    → IsBundle layer parents number top bundle
     → faults (document_of_bundle top bundle ∷ []) ≡ []
 
 -- nor an open want
 abbrev pub HaveNoOpenWant : Type 0
 HaveNoOpenWant =
-    (layer : Layer) (parents : World) (number : ℕ) (top : Document) (bundle : Bundle) → IsBundle layer parents number top bundle
+    (layer : Layer) (parents : World) (number : ℕ) (top : Document) (bundle : Bundle)
+    → IsBundle layer parents number top bundle
     → open_wants (world_of_bundle top bundle parents) (document_of_bundle top bundle ∷ []) ≡ []
 
 -- ---- look-ups
 
 -- What a value is in the bundle: the same; an embedded document as a whole has what was added; and so has the root, and what
 -- the root has under the keyword of definitions.
-pub data IsValueNow (layer : Layer) (number : ℕ) (top : Document) (bundle : Bundle) (now before : Data) : Type 0 where
+pub data IsValueNow (layer : Layer) (number : ℕ) (top : Document) (bundle : Bundle)
+    (now before : Data) : Type 0 where
   the_same : now ≡ before → IsValueNow layer number top bundle now before
-  an_embedded : (e : ℕ × Document) → Contains (to_embed layer number) e → now ≡ embedded_tree top.draft e.1 → before ≡ e.1.tree → IsValueNow layer number top bundle now before
+  an_embedded : (e : ℕ × Document) → Contains (to_embed layer number) e
+      → now ≡ embedded_tree top.draft e.1 → before ≡ e.1.tree
+      → IsValueNow layer number top bundle now before
   the_root : now ≡ bundle.value → before ≡ top.tree → IsValueNow layer number top bundle now before
-  the_definitions : get (definitions_keyword top.draft) bundle.value ≡ Some now → get (definitions_keyword top.draft) top.tree ≡ Some before → IsValueNow layer number top bundle now before
+  the_definitions : get (definitions_keyword top.draft) bundle.value ≡ Some now
+      → get (definitions_keyword top.draft) top.tree ≡ Some before
+      → IsValueNow layer number top bundle now before
 
 -- What a look-up returns in the bundle, and what it answered: such a value, with the same draft, base and scope, or the same
 -- fault.
-abbrev pub IsAnswerNow : Layer → ℕ → Document → Bundle → Result Found Fault → Result Found Fault → Type 0
+abbrev pub IsAnswerNow : Layer → ℕ → Document → Bundle → Result Found Fault → Result Found Fault
+    → Type 0
 IsAnswerNow layer number top bundle (Ok now) (Ok before) =
-    IsValueNow layer number top bundle now.value before.value × (now.draft ≡ before.draft) × (now.resolver ≡ before.resolver)
+    IsValueNow layer number top bundle now.value before.value × (now.draft ≡ before.draft)
+    × (now.resolver ≡ before.resolver)
 IsAnswerNow layer number top bundle (Err now) (Err before) = now ≡ before
 IsAnswerNow layer number top bundle (Ok now) (Err before) = ⊥
 IsAnswerNow layer number top bundle (Err now) (Ok before) = ⊥
@@ -101,26 +114,40 @@ pub record BeginsWith (fragment : List ℕ) (keys : List (List ℕ)) : Type 0 wh
   pub is : fragment ≡ 47 ∷ text
   pub first : map unescape (tokens (percent_decode text)) ≡ keys ++ rest
 
--- A pointer from the root, where documents are embedded: to definitions that it didn't have, or to an embedded document among them.
-pub data GoesIntoDefinitions (layer : Layer) (number : ℕ) (top : Document) (p : Place) (fragment : List ℕ) : Type 0 where
-  to_definitions : (e : ℕ × Document) → Contains (to_embed layer number) e → p ≡ root top → get (definitions_keyword top.draft) top.tree ≡ None → BeginsWith fragment (definitions_keyword top.draft ∷ []) → GoesIntoDefinitions layer number top p fragment
-  to_embedded : (e : ℕ × Document) → Contains (to_embed layer number) e → p ≡ root top → BeginsWith fragment (definitions_keyword top.draft ∷ base_uri e.1 ∷ []) → GoesIntoDefinitions layer number top p fragment
+-- A pointer from the root, where documents are embedded: to definitions that it didn't have, or to an embedded document
+-- among them.
+pub data GoesIntoDefinitions (layer : Layer) (number : ℕ) (top : Document) (p : Place)
+    (fragment : List ℕ) : Type 0 where
+  to_definitions : (e : ℕ × Document) → Contains (to_embed layer number) e → p ≡ root top
+      → get (definitions_keyword top.draft) top.tree ≡ None
+      → BeginsWith fragment (definitions_keyword top.draft ∷ [])
+      → GoesIntoDefinitions layer number top p fragment
+  to_embedded : (e : ℕ × Document) → Contains (to_embed layer number) e → p ≡ root top
+      → BeginsWith fragment (definitions_keyword top.draft ∷ base_uri e.1 ∷ [])
+      → GoesIntoDefinitions layer number top p fragment
 
 -- the bundle has another identifier for a document than its own: one was added, or its text is another
 abbrev pub HasOtherIdentifier : Document → Type 0
 HasOtherIdentifier d = get (id_keyword d.draft) d.tree ≢ Some (string (base_uri d))
 
--- A pointer from a place that goes into what was added: such a one, or one from an embedded document's root to an identifier that is
--- another, or to the `$schema` that was added.
-pub data GoesIntoAdded (layer : Layer) (number : ℕ) (top : Document) (p : Place) (fragment : List ℕ) : Type 0 where
-  into_definitions : GoesIntoDefinitions layer number top p fragment → GoesIntoAdded layer number top p fragment
-  to_identifier : (e : ℕ × Document) → Contains (to_embed layer number) e → p ≡ root e.1 → HasOtherIdentifier e.1 → BeginsWith fragment (id_keyword e.1.draft ∷ []) → GoesIntoAdded layer number top p fragment
-  to_schema : (e : ℕ × Document) → Contains (to_embed layer number) e → p ≡ root e.1 → IsTrue (is_some (added_schema top.draft e.1)) → BeginsWith fragment (codes "$schema" ∷ []) → GoesIntoAdded layer number top p fragment
+-- A pointer from a place that goes into what was added: such a one, or one from an embedded document's root to an
+-- identifier that is another, or to the `$schema` that was added.
+pub data GoesIntoAdded (layer : Layer) (number : ℕ) (top : Document) (p : Place)
+    (fragment : List ℕ) : Type 0 where
+  into_definitions : GoesIntoDefinitions layer number top p fragment
+      → GoesIntoAdded layer number top p fragment
+  to_identifier : (e : ℕ × Document) → Contains (to_embed layer number) e → p ≡ root e.1
+      → HasOtherIdentifier e.1 → BeginsWith fragment (id_keyword e.1.draft ∷ [])
+      → GoesIntoAdded layer number top p fragment
+  to_schema : (e : ℕ × Document) → Contains (to_embed layer number) e → p ≡ root e.1
+      → IsTrue (is_some (added_schema top.draft e.1)) → BeginsWith fragment (codes "$schema" ∷ [])
+      → GoesIntoAdded layer number top p fragment
 
 -- a text that a value has under `$ref` or `$dynamicRef`
 abbrev pub RefersBy : Data → List ℕ → Type 0
 RefersBy value reference =
-    (text_under (codes "$ref") value ≡ Some reference) ⊎ (text_under (codes "$dynamicRef") value ≡ Some reference)
+    (text_under (codes "$ref") value ≡ Some reference)
+    ⊎ (text_under (codes "$dynamicRef") value ≡ Some reference)
 
 -- a URI that a place of a needed document has, and that its root's identifier doesn't replace by another
 pub record IsBorneByNeeded (layer : Layer) (number : ℕ) (uri : List ℕ) : Type 0 where
@@ -135,10 +162,13 @@ pub record IsBorneByNeeded (layer : Layer) (number : ℕ) (uri : List ℕ) : Typ
 -- this always holds.
 abbrev pub HasNoOtherName : Layer → World → List ℕ → Type 0
 HasNoOtherName layer parents uri =
-    (p : Place) (other : List ℕ) → meant_place (layer ∷ []) uri ≡ None → meant_place parents uri ≡ Some p → own_uri p ≡ Some other → meant_place (layer ∷ []) other ≡ None
+    (p : Place) (other : List ℕ) → meant_place (layer ∷ []) uri ≡ None
+    → meant_place parents uri ≡ Some p → own_uri p ≡ Some other
+    → meant_place (layer ∷ []) other ≡ None
 
 -- a reference from a base whose pointer goes into what was added
-pub record PointsIntoAdded (layer : Layer) (parents : World) (number : ℕ) (top : Document) (base reference : List ℕ) : Type 0 where
+pub record PointsIntoAdded (layer : Layer) (parents : World) (number : ℕ) (top : Document)
+    (base reference : List ℕ) : Type 0 where
   pub uri : List ℕ
   pub to : target base reference ≡ Ok uri
   pub place : Place
@@ -149,9 +179,11 @@ pub record PointsIntoAdded (layer : Layer) (parents : World) (number : ℕ) (top
 -- bundle answers what it answered, unless its pointer goes into what was added.
 abbrev pub KeepsReferences : Type 0
 KeepsReferences =
-    (layer : Layer) (parents : World) (number : ℕ) (top : Document) (bundle : Bundle) → IsBundle layer parents number top bundle
+    (layer : Layer) (parents : World) (number : ℕ) (top : Document) (bundle : Bundle)
+    → IsBundle layer parents number top bundle
     → (e : ℕ × Document) (p : Place) (base reference : List ℕ) (scope : List (List ℕ))
-    → Contains (needed_documents layer number) e → Contains (places e.1) p → p.base ≡ Ok base → RefersBy p.value reference
+    → Contains (needed_documents layer number) e → Contains (places e.1) p → p.base ≡ Ok base
+    → RefersBy p.value reference
     → AllByRecursion (IsBorneByNeeded layer number) scope
     → ((uri : List ℕ) → target base reference ≡ Ok uri → HasNoOtherName layer parents uri)
     → let r : Resolver = record { base = base; scope = scope } in
@@ -162,8 +194,10 @@ KeepsReferences =
 -- Among the documents, a pointer into definitions that were added was a fault.
 abbrev pub AddedDefinitionsWereFaults : Type 0
 AddedDefinitionsWereFaults =
-    (layer : Layer) (parents : World) (number : ℕ) (top : Document) (bundle : Bundle) → IsBundle layer parents number top bundle
-    → (r : Resolver) (p : Place) (fragment : List ℕ) → GoesIntoDefinitions layer number top p fragment
+    (layer : Layer) (parents : World) (number : ℕ) (top : Document) (bundle : Bundle)
+    → IsBundle layer parents number top bundle
+    → (r : Resolver) (p : Place) (fragment : List ℕ)
+    → GoesIntoDefinitions layer number top p fragment
     → (fault : Fault) × (at_fragment (layer ∷ parents) r p fragment ≡ Err fault)
 
 -- ---- what is embedded
@@ -171,7 +205,8 @@ AddedDefinitionsWereFaults =
 -- a document is needed: the root, or one that a needed one refers to
 pub data IsNeeded (layer : Layer) (number : ℕ) : ℕ → Type 0 where
   root_is : IsNeeded layer number number
-  referred_by : (by next : ℕ) → IsNeeded layer number by → Contains (referred_from layer by) next → IsNeeded layer number next
+  referred_by : (by next : ℕ) → IsNeeded layer number by → Contains (referred_from layer by) next
+      → IsNeeded layer number next
 
 -- The numbers of what is needed are in the order of documents, each once, and are those of the root and of what needed
 -- documents refer to.
@@ -181,13 +216,16 @@ pub record AreNeeded (layer : Layer) (number : ℕ) (numbers : List ℕ) : Type 
   pub only : (n : ℕ) → Contains numbers n → IsNeeded layer number n
 
 -- A bundle embeds what is needed but the root. One that embeds nothing is its document as it is.
-pub record EmbedsNeeded (layer : Layer) (number : ℕ) (top : Document) (bundle : Bundle) : Type 0 where
+pub record EmbedsNeeded (layer : Layer) (number : ℕ) (top : Document)
+    (bundle : Bundle) : Type 0 where
   pub needed_numbers : AreNeeded layer number (numbers_of_needed layer number)
-  pub embeds : map (λ e. e.document) bundle.embedded ≡ filter (λ n. not (n == number)) (numbers_of_needed layer number)
+  pub embeds : map (λ e. e.document) bundle.embedded
+      ≡ filter (λ n. not (n == number)) (numbers_of_needed layer number)
   pub alone : bundle.embedded ≡ [] → bundle.value ≡ top.tree
 
 -- so does each bundle
 abbrev pub EmbedWhatIsNeeded : Type 0
 EmbedWhatIsNeeded =
-    (layer : Layer) (parents : World) (number : ℕ) (top : Document) (bundle : Bundle) → IsBundle layer parents number top bundle
+    (layer : Layer) (parents : World) (number : ℕ) (top : Document) (bundle : Bundle)
+    → IsBundle layer parents number top bundle
     → EmbedsNeeded layer number top bundle

@@ -23,11 +23,16 @@ seen_answer (Ok found) = value found.value found.resolver.base
 seen_answer (Err f) = fault f
 
 abbrev looked_up : World → Literal → Literal → Seen
-looked_up world base reference = seen_answer (lookup world (record { base = codes base; scope = [] }) (codes reference))
+looked_up world base reference =
+    seen_answer (lookup world (record { base = codes base; scope = [] }) (codes reference))
 
 -- a look-up from a base: in the bundle, and among the documents
 abbrev pub both : Document → Layer → Literal → Literal → Seen × Seen
-both top others base reference = (looked_up (world_of top (bundle_at (top ∷ others) 0)) base reference, looked_up ((top ∷ others) ∷ []) base reference)
+both top others base reference = (
+  looked_up (world_of top (bundle_at (top ∷ others) 0)) base reference,
+  looked_up
+      ((top ∷ others) ∷ []) base reference,
+)
 
 -- the same value with the same base in both
 abbrev pub alike : Literal → Data → Seen × Seen

@@ -21,7 +21,8 @@ numbered_uris e = map (λ r. (r.0, e.0)) (resources_in e.1)
 
 -- the number of the document that a URI means: that of the place which is last under it
 abbrev pub document_under : Layer → List ℕ → Option ℕ
-document_under layer uri = option_map (λ e. e.1) (last_under uri (flat_map numbered_uris (counted_documents 0 layer)))
+document_under layer uri =
+    option_map (λ e. e.1) (last_under uri (flat_map numbered_uris (counted_documents 0 layer)))
 
 -- what the text under `$dynamicRef` of a place refers to (2020-12 Core, 8.2.3.2)
 abbrev pub dynamic_reference_at : List ℕ → Data → Option (Result (List ℕ) Refusal)
@@ -33,9 +34,12 @@ meant_uris None = []
 meant_uris (Some (Ok uri)) = uri ∷ []
 meant_uris (Some (Err refusal)) = []
 
--- the URIs that the texts of a place with this base mean: under `$ref`, `$dynamicRef`, and under `$schema` that of a custom meta-schema
+-- the URIs that the texts of a place with this base mean: under `$ref`, `$dynamicRef`, and under `$schema` that of a
+-- custom meta-schema
 abbrev pub targets_from : Result (List ℕ) Refusal → Data → List (List ℕ)
-targets_from (Ok base) value = meant_uris (reference_at base value) ++ meant_uris (dynamic_reference_at base value) ++ meant_uris (schema_at value)
+targets_from (Ok base) value =
+    meant_uris (reference_at base value) ++ meant_uris (dynamic_reference_at base value)
+    ++ meant_uris (schema_at value)
 targets_from (Err refusal) value = []
 
 -- those of a place
@@ -44,7 +48,8 @@ targets p = targets_from p.base p.value
 
 -- the documents that the places of a document refer to
 abbrev pub referred_in : Layer → Document → List ℕ
-referred_in layer d = flat_map (λ uri. option_to_list (document_under layer uri)) (flat_map targets (places d))
+referred_in layer d =
+    flat_map (λ uri. option_to_list (document_under layer uri)) (flat_map targets (places d))
 
 -- the same of the document with a number
 abbrev pub referred_from : Layer → ℕ → List ℕ
@@ -60,18 +65,24 @@ numbers layer = map (λ e. e.0) (counted_documents 0 layer)
 
 -- some documents, and those that they refer to, in the order of documents
 abbrev pub with_referred : Layer → List ℕ → List ℕ
-with_referred layer some = let more = flat_map (referred_from layer) some in filter (λ n. is_among some n || is_among more n) (numbers layer)
+with_referred layer some =
+    let more = flat_map (referred_from layer) some in filter
+    (λ n. is_among some n || is_among more n) (numbers layer)
 
 -- the same again and again
 abbrev pub reached_documents : Layer → ℕ → List ℕ → List ℕ
 reached_documents layer zero some = some
-reached_documents layer (suc rounds) some = reached_documents layer rounds (with_referred layer some)
+reached_documents layer (suc rounds) some =
+    reached_documents layer rounds (with_referred layer some)
 
 -- The documents that a bundle of a root needs, in the order of documents: the root, and again and again those that needed ones
 -- refer to. As many rounds as there are documents reach all of them.
 abbrev pub numbers_of_needed : Layer → ℕ → List ℕ
-numbers_of_needed layer root = reached_documents layer (length layer) (filter (λ n. n == root) (numbers layer))
+numbers_of_needed layer root =
+    reached_documents layer (length layer) (filter (λ n. n == root) (numbers layer))
 
 -- those documents with their numbers
 abbrev pub needed_documents : Layer → ℕ → List (ℕ × Document)
-needed_documents layer root = let some = numbers_of_needed layer root in filter (λ e. is_among some e.0) (counted_documents 0 layer)
+needed_documents layer root =
+    let some = numbers_of_needed layer root in filter (λ e. is_among some e.0)
+    (counted_documents 0 layer)

@@ -34,10 +34,16 @@ with_definition key d = two "$defs" (one key d) "$ref" (text "s")
 
 -- what is listed of a document
 abbrev pub listed_as : ℕ → Literal → Bool → Option Literal → Embedded
-listed_as number uri adds_id None = record { document = number; uri = codes uri; adds_id = adds_id; schema = None }
-listed_as number uri adds_id (Some schema) = record { document = number; uri = codes uri; adds_id = adds_id; schema = Some (codes schema) }
+listed_as number uri adds_id None =
+    record { document = number; uri = codes uri; adds_id = adds_id; schema = None }
+listed_as number uri adds_id (Some schema) =
+    record { document = number; uri = codes uri; adds_id = adds_id; schema = Some (codes schema) }
 
 -- the bundle of a root whose identifier gives another URI than its own
 abbrev pub renamed_root : Data
-renamed_root = object (member (codes "$defs") (one "http://a/s" (one "$id" (text "http://a/s"))) (member (codes "$id") (text "http://b/t")
-    (member (codes "$ref") (text "http://a/s") (member (codes "not") (one "$ref" (text "http://a/r")) no_members))))
+renamed_root =
+    object
+    (member (codes "$defs") (one "http://a/s" (one "$id" (text "http://a/s")))
+    (member (codes "$id") (text "http://b/t")
+    (member (codes "$ref") (text "http://a/s")
+    (member (codes "not") (one "$ref" (text "http://a/r")) no_members))))

@@ -31,16 +31,28 @@ problem_said problems.NoDocument = bundle.NoDocument
 problem_said (problems.NotEmbedded obstacle) = bundle.NotEmbedded (obstacle_said obstacle)
 problem_said problems.NoMap = bundle.NoMap
 problem_said (problems.KeyTaken uri) = bundle.KeyTaken uri.value
-problem_said (problems.SharedUri uri document path) = bundle.SharedUri uri.value document (map part_of path.items)
+problem_said (problems.SharedUri uri document path) =
+    bundle.SharedUri uri.value document (map part_of path.items)
 problem_said (problems.ReplacedUri uri base) = bundle.ReplacedUri uri.value base.value
 
 -- a refusal
 abbrev pub refusal_said : rust_refusal.Refusal → BundleRefusal
-refusal_said r = record { document = r.document; path = map part_of r.path.items; problem = problem_said r.problem }
+refusal_said r =
+    record {
+      document = r.document;
+      path = map part_of r.path.items;
+      problem = problem_said r.problem;
+    }
 
 -- what is listed of a document
 abbrev pub embedded_said : rust_embedded.Embedded → Embedded
-embedded_said e = record { document = e.document; uri = e.uri.value; adds_id = e.adds_id; schema = option_map (λ s. s.now) e.schema }
+embedded_said e =
+    record {
+      document = e.document;
+      uri = e.uri.value;
+      adds_id = e.adds_id;
+      schema = option_map (λ s. s.now) e.schema;
+    }
 
 -- a bundle
 abbrev pub bundle_said : rust_bundle.Bundle → Bundle
@@ -56,20 +68,28 @@ IsRefusalOf answer (errors.Memory error) = ⊤
 -- what is displayed of what keeps a document out of a bundle
 abbrev pub obstacle_text : Obstacle → List ℕ
 obstacle_text embedding.NotAnObject = codes "it is no object"
-obstacle_text embedding.IdentifierBesideRef = codes "an identifier doesn't count beside the `$ref` at its root"
-obstacle_text embedding.NotAnIdentifier = codes "the keyword of its identifier holds what is no identifier"
+obstacle_text embedding.IdentifierBesideRef =
+    codes "an identifier doesn't count beside the `$ref` at its root"
+obstacle_text embedding.NotAnIdentifier =
+    codes "the keyword of its identifier holds what is no identifier"
 obstacle_text (embedding.NotKept uri) = codes "its URI '" ++ uri ++ codes "' can't be an identifier"
 obstacle_text (embedding.UntoldDraft draft) = codes "no `$schema` names its draft"
-obstacle_text embedding.ResolvedAgain = codes "its identifier is relative, and its root has a dynamic anchor"
+obstacle_text embedding.ResolvedAgain =
+    codes "its identifier is relative, and its root has a dynamic anchor"
 
 -- of a problem
 abbrev pub problem_text : Problem → List ℕ
 problem_text bundle.NoDocument = codes "there is no such document"
-problem_text (bundle.NotEmbedded obstacle) = codes "the document can't be part of a bundle: " ++ obstacle_text obstacle
+problem_text (bundle.NotEmbedded obstacle) =
+    codes "the document can't be part of a bundle: " ++ obstacle_text obstacle
 problem_text bundle.NoMap = codes "the value of the definitions keyword is no object"
 problem_text (bundle.KeyTaken uri) = codes "there is a definition '" ++ uri ++ codes "' already"
-problem_text (bundle.SharedUri uri document path) = codes "a subschema of document " ++ decimal document ++ codes " has the URI '" ++ uri ++ codes "' too"
-problem_text (bundle.ReplacedUri uri base) = codes "the identifier of the document '" ++ uri ++ codes "' replaces that URI by '" ++ base ++ codes "'"
+problem_text (bundle.SharedUri uri document path) =
+    codes "a subschema of document " ++ decimal document ++ codes " has the URI '" ++ uri
+    ++ codes "' too"
+problem_text (bundle.ReplacedUri uri base) =
+    codes "the identifier of the document '" ++ uri ++ codes "' replaces that URI by '" ++ base
+    ++ codes "'"
 
 -- of a refusal
 abbrev pub refusal_text : BundleRefusal → List ℕ

@@ -37,9 +37,12 @@ fn push<'r>(
     own: &Own<'r>,
 ) -> Result<(), AllocError>
     requires { HasPlaces own.now }
-    ensures parts { OnOk result (map numbered_part parts.new.items ≡ map numbered_part parts.old.items
-        ++ filter (λ e. not (e.0 == top) && is_marked needed.now e.0) (numbered_document own.now ∷ [])) }
-    ensures bases { AllByRecursion HasBase parts.old.items → OnOk result (AllByRecursion HasBase parts.new.items) }
+    ensures parts { OnOk result
+        (map numbered_part parts.new.items ≡ map numbered_part parts.old.items
+        ++ filter (λ e. not (e.0 == top) && is_marked needed.now e.0)
+        (numbered_document own.now ∷ [])) }
+    ensures bases { AllByRecursion HasBase parts.old.items
+        → OnOk result (AllByRecursion HasBase parts.new.items) }
 {
     if is_embedded(needed, top, own.number) {
         let part = part_of(alloc, own)?;
@@ -57,7 +60,8 @@ fn parts_of<'r>(
 ) -> Result<Vec<Part<'r>>, AllocError>
     requires { AllByRecursion HasPlaces owns.now }
     ensures parts { IfOk result (λ parts. map numbered_part parts.items
-        ≡ filter (λ e. not (e.0 == top) && is_marked needed.now e.0) (map numbered_document owns.now)) }
+        ≡ filter (λ e. not (e.0 == top) && is_marked needed.now e.0)
+        (map numbered_document owns.now)) }
     ensures bases { IfOk result (λ parts. AllByRecursion HasBase parts.items) }
 {
     let mut parts = Vec::new(alloc);
@@ -70,7 +74,8 @@ fn parts_of<'r>(
 // What is listed of a document.
 fn embedded(draft: Draft, part: &Part<'_>) -> Result<Embedded, AllocError>
     requires { HasBase part.now }
-    ensures { IfOk result (λ e. embedded_said e ≡ embedded_document draft (numbered_part part.now)) }
+    ensures { IfOk result
+        (λ e. embedded_said e ≡ embedded_document draft (numbered_part part.now)) }
 {
     Ok(Embedded {
         document: part.number,
@@ -87,7 +92,9 @@ fn all_embedded(
     parts: &[Part<'_>],
 ) -> Result<Vec<Embedded>, AllocError>
     requires { AllByRecursion HasBase parts.now }
-    ensures { IfOk result (λ list. map embedded_said list.items ≡ map (embedded_document draft) (map numbered_part parts.now)) }
+    ensures { IfOk result
+        (λ list. map embedded_said list.items
+        ≡ map (embedded_document draft) (map numbered_part parts.now)) }
 {
     let mut list = Vec::with_capacity(alloc, parts.len())?;
     for part in parts {
@@ -99,7 +106,8 @@ fn all_embedded(
 // The bundle of a root with documents.
 fn bundle_of(alloc: Global, top: &Part<'_>, parts: &[Part<'_>]) -> Result<Bundle, AllocError>
     requires { AllByRecursion HasBase parts.now }
-    ensures { IfOk result (λ b. bundle_said b ≡ bundle_of (part_document top.now) (map numbered_part parts.now)) }
+    ensures { IfOk result
+        (λ b. bundle_said b ≡ bundle_of (part_document top.now) (map numbered_part parts.now)) }
 {
     let value = tree_with(alloc, top, parts)?;
     let embedded = all_embedded(alloc, top.draft, parts)?;
@@ -117,8 +125,10 @@ fn bundle_with<'r>(
     requires own { AreOwn owns.now }
     requires tables { AreTables (layer_in owns.now) bearers.now }
     requires top { slice_get owns.now top.now.number ≡ Some top.now }
-    requires needed { IsReach (map (referred_in (layer_in owns.now)) (layer_in owns.now)) top.now.number needed.now }
-    ensures value { IfOk result (λ b. bundle_at (layer_in owns.now) top.now.number ≡ Ok (bundle_said b)) }
+    requires needed { IsReach
+        (map (referred_in (layer_in owns.now)) (layer_in owns.now)) top.now.number needed.now }
+    ensures value { IfOk result
+        (λ b. bundle_at (layer_in owns.now) top.now.number ≡ Ok (bundle_said b)) }
     ensures fault { IfErr result (IsRefusalOf (bundle_at (layer_in owns.now) top.now.number)) }
 {
     let parts = parts_of(alloc, owns, needed, top.number)?;
@@ -137,7 +147,8 @@ fn bundle_among<'r>(
 ) -> Result<Bundle, BundleError<'r>>
     requires own { AreOwn owns.now }
     requires top { slice_get owns.now top.now.number ≡ Some top.now }
-    ensures value { IfOk result (λ b. bundle_at (layer_in owns.now) top.now.number ≡ Ok (bundle_said b)) }
+    ensures value { IfOk result
+        (λ b. bundle_at (layer_in owns.now) top.now.number ≡ Ok (bundle_said b)) }
     ensures fault { IfErr result (IsRefusalOf (bundle_at (layer_in owns.now) top.now.number)) }
 {
     let bearers = bearers_of(alloc, owns)?;
@@ -164,7 +175,8 @@ pub fn bundle<'r>(
     registry: &'r Registry<'_>,
     root: usize,
 ) -> Result<Bundle, BundleError<'r>>
-    ensures value { IfOk result (λ b. bundle_at (own_layer registry.now) root ≡ Ok (bundle_said b)) }
+    ensures value { IfOk result
+        (λ b. bundle_at (own_layer registry.now) root ≡ Ok (bundle_said b)) }
     ensures fault { IfErr result (IsRefusalOf (bundle_at (own_layer registry.now) root)) }
 {
     let owns = owns_of(alloc, registry)?;

@@ -100,7 +100,8 @@ pub(crate) fn added_schema(draft: Draft, part: &Part<'_>) -> Option<&'static str
 
 // Whether a text means a URI against a base.
 fn is_given(alloc: Global, outer: &Rc<Uri>, text: &str, uri: &Rc<Uri>) -> Result<bool, AllocError>
-    ensures { IfOk result (λ is. is ≡ is_uri_of (uri_against outer.now.value text.now) uri.now.value) }
+    ensures { IfOk result
+        (λ is. is ≡ is_uri_of (uri_against outer.now.value text.now) uri.now.value) }
 {
     match resolve_against(alloc, outer.borrow(), text) {
         Ok(given) => Ok(given.as_str() == uri.as_str()),
@@ -124,7 +125,8 @@ fn keeps_uri(alloc: Global, top: &Part<'_>, part: &Part<'_>) -> Result<bool, All
     requires top { HasBase top.now }
     requires part { HasBase part.now }
     ensures { IfOk result (λ is. is
-        ≡ (is_kept (base_uri (part_document top.now)) (base_uri (part_document part.now)) && is_kept (base_uri
+        ≡ (is_kept (base_uri (part_document top.now)) (base_uri (part_document part.now))
+        && is_kept (base_uri
         (part_document part.now)) (base_uri (part_document part.now)))) }
 {
     Ok(is_kept(alloc, &top.base, &part.base)? && is_kept(alloc, &part.base, &part.base)?)
@@ -205,7 +207,9 @@ fn obstacle_of_uri(
 ) -> Result<Option<Obstacle>, AllocError>
     requires top { HasBase top.now }
     requires part { HasBase part.now }
-    ensures { IfOk result (λ o. option_map obstacle_said o ≡ uri_obstacle (part_document top.now) (part_document part.now)) }
+    ensures { IfOk result
+        (λ o. option_map obstacle_said o
+        ≡ uri_obstacle (part_document top.now) (part_document part.now)) }
 {
     if !keeps_uri(alloc, top, part)? {
         return Ok(Some(Obstacle::NotKept(part.base.clone()?)));
@@ -227,7 +231,9 @@ pub(crate) fn obstacle(
 ) -> Result<Option<Obstacle>, AllocError>
     requires top { HasBase top.now }
     requires part { HasBase part.now }
-    ensures value { IfOk result (λ o. option_map obstacle_said o ≡ obstacle (part_document top.now) (part_document part.now)) }
+    ensures value { IfOk result
+        (λ o. option_map obstacle_said o
+        ≡ obstacle (part_document top.now) (part_document part.now)) }
 {
     match obstacle_of_tree(part) {
         Some(obstacle) => Ok(Some(obstacle)),
@@ -300,7 +306,8 @@ fn put(
     part: &Part<'_>,
 ) -> Result<(), AllocError>
     requires { HasBase part.now }
-    ensures { OnOk result (members_view map.new.entries ≡ with_all (member_of draft (numbered_part part.now)
+    ensures { OnOk result
+        (members_view map.new.entries ≡ with_all (member_of draft (numbered_part part.now)
         ∷ []) (members_view map.old.entries)) }
 {
     let tree = embedded_tree(alloc, draft, part)?;
@@ -333,7 +340,8 @@ pub(crate) fn tree_with(
     parts: &[Part<'_>],
 ) -> Result<Value, AllocError>
     requires { AllByRecursion HasBase parts.now }
-    ensures value { IfOk result (λ v. view v ≡ tree_with (part_document top.now) (map numbered_part parts.now)) }
+    ensures value { IfOk result
+        (λ v. view v ≡ tree_with (part_document top.now) (map numbered_part parts.now)) }
 {
     if parts.is_empty() {
         return top.tree.clone();

@@ -13,30 +13,50 @@ ghost use Rattle.ref_bundle.specs.Rows.{renamed_root, listed_as};
 
 /// Bundles of documents of 2020-12.
 pub fn bundles()
-    ensures alone { bundle_of_first (new "http://a/r" (one "$defs" yes) ∷ new "http://a/s" empty ∷ [])
+    ensures alone { bundle_of_first
+        (new "http://a/r" (one "$defs" yes) ∷ new "http://a/s" empty ∷ [])
         ≡ bundle (one "$defs" yes) [] }
     ensures of_two { bundle_of_first (refers_to_s ∷ new "http://a/s" (one "type" (text "x")) ∷ [])
-        ≡ bundle (with_definition "http://a/s" (two "$id" (text "http://a/s") "type" (text "x"))) (1 ∷ []) }
-    ensures by_a_dynamic_reference { bundle_of_first (new "http://a/r" (one "$dynamicRef" (text "s")) ∷ new "http://a/s" empty
-        ∷ []) ≡ bundle (two "$defs" (one "http://a/s" (one "$id" (text "http://a/s"))) "$dynamicRef" (text "s")) (1 ∷ []) }
+        ≡ bundle (with_definition "http://a/s" (two "$id" (text "http://a/s") "type" (text "x")))
+        (1 ∷ []) }
+    ensures by_a_dynamic_reference { bundle_of_first
+        (new "http://a/r" (one "$dynamicRef" (text "s")) ∷ new "http://a/s" empty
+        ∷ [])
+        ≡ bundle
+        (two "$defs" (one "http://a/s" (one "$id" (text "http://a/s"))) "$dynamicRef"
+        (text "s"))
+        (1 ∷ []) }
     ensures relative_identifier { bundle_of_first (new "http://a/r" (one "$ref" (text "k/s"))
         ∷ new "http://a/q" (one "$id" (text "k/s")) ∷ [])
-        ≡ bundle (two "$defs" (one "http://a/k/s" (one "$id" (text "http://a/k/s"))) "$ref" (text "k/s")) (1 ∷ []) }
-    ensures among_others { bundle_of_first (new "http://a/r" (with_definition "z" yes) ∷ new "http://a/s" empty ∷ [])
-        ≡ bundle (two "$defs" (two "http://a/s" (one "$id" (text "http://a/s")) "z" yes) "$ref" (text "s")) (1 ∷ []) }
+        ≡ bundle
+        (two "$defs" (one "http://a/k/s" (one "$id" (text "http://a/k/s"))) "$ref" (text "k/s"))
+        (1 ∷ []) }
+    ensures among_others { bundle_of_first
+        (new "http://a/r" (with_definition "z" yes) ∷ new "http://a/s" empty ∷ [])
+        ≡ bundle
+        (two "$defs" (two "http://a/s" (one "$id" (text "http://a/s")) "z" yes) "$ref"
+        (text "s"))
+        (1 ∷ []) }
     ensures a_part_of_another { bundle_of_first (new "http://a/r" (one "$ref" (text "t#/x"))
         ∷ new "http://a/s" (one "not" (one "$id" (text "t"))) ∷ [])
-        ≡ bundle (two "$defs" (one "http://a/s" (two "$id" (text "http://a/s") "not" (one "$id" (text "t")))) "$ref"
+        ≡ bundle
+        (two "$defs"
+        (one "http://a/s"
+        (two "$id" (text "http://a/s") "not" (one "$id" (text "t")))) "$ref"
         (text "t#/x")) (1 ∷ []) }
     ensures outside { bundle_of_first (refers_to_s ∷ []) ≡ bundle (one "$ref" (text "s")) [] }
 {}
 
 /// Which documents are needed, whatever refers to them.
 pub fn needed_documents()
-    ensures in_a_ring { numbers_of_needed (new "http://a/t" (one "$ref" (text "s")) ∷ new "http://a/u" empty
-        ∷ new "http://a/s" (one "$ref" (text "r")) ∷ new "http://a/r" (one "not" (one "$ref" (text "t"))) ∷ []) 2 ≡ 0 ∷ 2 ∷ 3
+    ensures in_a_ring { numbers_of_needed
+        (new "http://a/t" (one "$ref" (text "s")) ∷ new "http://a/u" empty
+        ∷ new "http://a/s" (one "$ref" (text "r"))
+        ∷ new "http://a/r" (one "not" (one "$ref" (text "t"))) ∷ []) 2
+        ≡ 0 ∷ 2 ∷ 3
         ∷ [] }
-    ensures custom_meta_schema { numbers_of_needed (new "http://a/r" (one "$schema" (text "http://v/d#"))
+    ensures custom_meta_schema { numbers_of_needed
+        (new "http://a/r" (one "$schema" (text "http://v/d#"))
         ∷ new "http://v/d" empty ∷ []) 0 ≡ 0 ∷ 1 ∷ [] }
     ensures known_meta_schema { numbers_of_needed (new "http://a/r" (one "$schema"
         (text "http://json-schema.org/draft-07/schema#")) ∷ new "http://json-schema.org/draft-07/schema" empty ∷ []) 0 ≡ 0
@@ -47,34 +67,50 @@ pub fn needed_documents()
 /// How documents of one draft are embedded below a root of another.
 pub fn drafts()
     ensures draft_4 { embedded_tree Draft202012 (at Draft4 "http://a/s" (one "type" (text "x")))
-        ≡ three "$schema" (text "http://json-schema.org/draft-04/schema#") "id" (text "http://a/s") "type" (text "x") }
+        ≡ three "$schema" (text "http://json-schema.org/draft-04/schema#") "id"
+        (text "http://a/s") "type" (text "x") }
     ensures told_by_itself { embedded_tree Draft202012 (at Draft7 "http://a/s" (one "$schema"
         (text "http://json-schema.org/draft-07/schema#")))
         ≡ two "$id" (text "http://a/s") "$schema" (text "http://json-schema.org/draft-07/schema#") }
-    ensures below_draft_7 { bundle_of_first (at Draft7 "http://a/r" (one "$ref" (text "s")) ∷ at Draft7 "http://a/s" empty
-        ∷ []) ≡ bundle (two "$ref" (text "s") "definitions" (one "http://a/s" (one "$id" (text "http://a/s")))) (1 ∷ []) }
-    ensures listed_with_schema { embedded_document Draft202012 (3, at Draft201909 "http://a/s" (one "$id" (text "t")))
+    ensures below_draft_7 { bundle_of_first
+        (at Draft7 "http://a/r" (one "$ref" (text "s")) ∷ at Draft7 "http://a/s" empty
+        ∷ [])
+        ≡ bundle
+        (two "$ref" (text "s") "definitions"
+        (one "http://a/s" (one "$id" (text "http://a/s"))))
+        (1 ∷ []) }
+    ensures listed_with_schema { embedded_document Draft202012
+        (3, at Draft201909 "http://a/s" (one "$id" (text "t")))
         ≡ listed_as 3 "http://a/t" false (Some "https://json-schema.org/draft/2019-09/schema") }
-    ensures listed_without { embedded_document Draft7 (1, at Draft7 "http://a/s" empty) ≡ listed_as 1 "http://a/s" true None }
+    ensures listed_without { embedded_document Draft7 (1, at Draft7 "http://a/s" empty)
+        ≡ listed_as 1 "http://a/s" true None }
 {}
 
 /// Documents that can't be embedded.
 pub fn obstacles()
     ensures no_object { bundle_of_first (refers_to_s ∷ new "http://a/s" yes ∷ [])
         ≡ refused_bundle 1 [] (NotEmbedded NotAnObject) }
-    ensures beside_ref { bundle_of_first (refers_to_s ∷ at Draft7 "http://a/s" (one "$ref" (text "#")) ∷ [])
+    ensures beside_ref { bundle_of_first
+        (refers_to_s ∷ at Draft7 "http://a/s" (one "$ref" (text "#")) ∷ [])
         ≡ refused_bundle 1 [] (NotEmbedded IdentifierBesideRef) }
-    ensures number_as_identifier { bundle_of_first (refers_to_s ∷ new "http://a/s" (one "$id" (whole_number 1)) ∷ [])
+    ensures number_as_identifier { bundle_of_first
+        (refers_to_s ∷ new "http://a/s" (one "$id" (whole_number 1)) ∷ [])
         ≡ refused_bundle 1 [] (NotEmbedded NotAnIdentifier) }
-    ensures anchor_as_identifier { bundle_of_first (refers_to_s ∷ at Draft7 "http://a/s" (one "$id" (text "#n")) ∷ [])
+    ensures anchor_as_identifier { bundle_of_first
+        (refers_to_s ∷ at Draft7 "http://a/s" (one "$id" (text "#n")) ∷ [])
         ≡ refused_bundle 1 [] (NotEmbedded NotAnIdentifier) }
-    ensures hash_at_the_end { bundle_of_first (new "http://a/r" (one "$ref" (text "s##")) ∷ new "http://a/s#" empty ∷ [])
+    ensures hash_at_the_end { bundle_of_first
+        (new "http://a/r" (one "$ref" (text "s##")) ∷ new "http://a/s#" empty ∷ [])
         ≡ refused_bundle 1 [] (NotEmbedded (NotKept (codes "http://a/s#"))) }
-    ensures untold { bundle_of_first (refers_to_s ∷ record { uri = codes "http://a/s"; tree = empty; draft = Unknown } ∷ [])
+    ensures untold { bundle_of_first
+        (refers_to_s ∷ record { uri = codes "http://a/s"; tree = empty; draft = Unknown } ∷ [])
         ≡ refused_bundle 1 [] (NotEmbedded (UntoldDraft Unknown)) }
     ensures resolved_again { bundle_of_first (new "http://a/r" (one "$ref" (text "x/s"))
         ∷ new "http://a/x/q" (two "$dynamicAnchor" (text "m") "$id" (text "s")) ∷ [])
-        ≡ bundle (two "$defs" (one "http://a/x/s" (two "$dynamicAnchor" (text "m") "$id" (text "http://a/x/s"))) "$ref"
+        ≡ bundle
+        (two "$defs"
+        (one "http://a/x/s"
+        (two "$dynamicAnchor" (text "m") "$id" (text "http://a/x/s"))) "$ref"
         (text "x/s")) (1 ∷ []) }
     ensures resolved_again_elsewhere { bundle_of_first (new "http://a/r" (one "$ref" (text "x/s"))
         ∷ new "http://a/q" (two "$dynamicAnchor" (text "m") "$id" (text "x/s")) ∷ [])
@@ -92,20 +128,29 @@ pub fn obstacles()
 /// Roots that can't have definitions, and places that would mean others.
 pub fn refusals()
     ensures no_document { bundle_of_first [] ≡ refused_bundle 0 [] NoDocument }
-    ensures no_map { bundle_of_first (new "http://a/r" (two "$defs" yes "$ref" (text "s")) ∷ new "http://a/s" empty ∷ [])
+    ensures no_map { bundle_of_first
+        (new "http://a/r" (two "$defs" yes "$ref" (text "s")) ∷ new "http://a/s" empty ∷ [])
         ≡ refused_bundle 0 (Key (codes "$defs") ∷ []) NoMap }
-    ensures key_taken { bundle_of_first (new "http://a/r" (with_definition "http://a/s" yes) ∷ new "http://a/s" empty ∷ [])
-        ≡ refused_bundle 0 (Key (codes "$defs") ∷ Key (codes "http://a/s") ∷ []) (KeyTaken (codes "http://a/s")) }
-    ensures shared_by_another { bundle_of_first (new "http://a/r" (two "$ref" (text "s") "not" (one "$id" (text "k")))
-        ∷ new "http://a/s" empty ∷ new "http://a/k" empty ∷ []) ≡ refused_bundle 0 (Key (codes "not")
+    ensures key_taken { bundle_of_first
+        (new "http://a/r" (with_definition "http://a/s" yes) ∷ new "http://a/s" empty ∷ [])
+        ≡ refused_bundle 0 (Key (codes "$defs") ∷ Key (codes "http://a/s") ∷ [])
+        (KeyTaken (codes "http://a/s")) }
+    ensures shared_by_another { bundle_of_first
+        (new "http://a/r" (two "$ref" (text "s") "not" (one "$id" (text "k")))
+        ∷ new "http://a/s" empty ∷ new "http://a/k" empty ∷ [])
+        ≡ refused_bundle 0 (Key (codes "not")
         ∷ []) (SharedUri (codes "http://a/k") 2 []) }
-    ensures shared_in_one { bundle_of_first (new "http://a/r" (one "allOf" (pair (one "$id" (text "k")) (one "$id"
+    ensures shared_in_one { bundle_of_first
+        (new "http://a/r" (one "allOf" (pair (one "$id" (text "k")) (one "$id"
         (text "k")))) ∷ []) ≡ refused_bundle 0 (Key (codes "allOf") ∷ Index 0
         ∷ []) (SharedUri (codes "http://a/k") 0 (Key (codes "allOf") ∷ Index 1 ∷ [])) }
-    ensures replaced { bundle_of_first (refers_to_s ∷ new "http://a/s" (one "$id" (text "http://b/t")) ∷ [])
+    ensures replaced { bundle_of_first
+        (refers_to_s ∷ new "http://a/s" (one "$id" (text "http://b/t")) ∷ [])
         ≡ refused_bundle 0 [] (ReplacedUri (codes "http://a/s") (codes "http://b/t")) }
-    ensures of_the_root { bundle_of_first (new "http://a/r" (three "$id" (text "http://b/t") "$ref" (text "http://a/s") "not"
+    ensures of_the_root { bundle_of_first
+        (new "http://a/r" (three "$id" (text "http://b/t") "$ref" (text "http://a/s") "not"
         (one "$ref" (text "http://a/r"))) ∷ new "http://a/s" empty ∷ []) ≡ bundle renamed_root (1 ∷ []) }
-    ensures in_order { bundle_of_first (refers_to_s ∷ new "http://a/s" (two "$id" (whole_number 1) "$ref" (text "t"))
+    ensures in_order { bundle_of_first
+        (refers_to_s ∷ new "http://a/s" (two "$id" (whole_number 1) "$ref" (text "t"))
         ∷ new "http://a/t" yes ∷ []) ≡ refused_bundle 1 [] (NotEmbedded NotAnIdentifier) }
 {}

@@ -23,7 +23,8 @@ fn members_are_ordered(value: &Value)
 /// document has a fault or an open want, and the members of its values are in byte order of their keys. A law; a look-up,
 /// which takes no memory.
 pub fn bundle_is_lawful(registry: &Registry<'_>, root: usize)
-    ensures law { (top : Document) (bundle : Bundle) → slice_get (own_layer registry.now) root ≡ Some top
+    ensures law { (top : Document) (bundle : Bundle)
+        → slice_get (own_layer registry.now) root ≡ Some top
         → bundle_at (own_layer registry.now) root ≡ Ok bundle
         → IsBundle (own_layer registry.now) (drop 1 registry.now) root top bundle }
 {

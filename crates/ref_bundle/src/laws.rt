@@ -42,13 +42,16 @@ pub fn bundles_embed_what_is_needed()
 /// a whole, by an anchor below a relative identifier, by a dynamic anchor, of the root's definitions, of definitions that it
 /// didn't have, and of nothing.
 pub fn look_ups_in_bundles()
-    ensures a_bundle { IsBundle (refers_to_s ∷ new "http://a/s" empty ∷ []) [] 0 refers_to_s (record {
-      value = with_definition "http://a/s" (one "$id" (text "http://a/s"));
-      embedded = listed_as 1 "http://a/s" true None ∷ [];
-    }) }
-    ensures below_a_root { both refers_to_s (new "http://a/s" (one "not" yes) ∷ []) "http://a/r" "s#/not"
+    ensures a_bundle { IsBundle (refers_to_s ∷ new "http://a/s" empty ∷ []) [] 0 refers_to_s
+        (record {
+          value = with_definition "http://a/s" (one "$id" (text "http://a/s"));
+          embedded = listed_as 1 "http://a/s" true None ∷ [];
+        }) }
+    ensures below_a_root { both refers_to_s
+        (new "http://a/s" (one "not" yes) ∷ []) "http://a/r" "s#/not"
         ≡ alike "http://a/s" yes }
-    ensures a_whole_document { both refers_to_s (new "http://a/s" (one "type" (text "x")) ∷ []) "http://a/r" "s"
+    ensures a_whole_document { both refers_to_s
+        (new "http://a/s" (one "type" (text "x")) ∷ []) "http://a/r" "s"
         ≡ (
           value (two "$id" (text "http://a/s") "type" (text "x")) (codes "http://a/s"),
           value (one "type" (text "x")) (codes "http://a/s"),
@@ -56,10 +59,12 @@ pub fn look_ups_in_bundles()
     ensures relative_identifier { both (new "http://a/r" (one "$ref" (text "k/s")))
         (new "http://a/q" (two "$id" (text "k/s") "not" (one "$anchor" (text "n"))) ∷ []) "http://a/r" "k/s#n"
         ≡ alike "http://a/k/s" (one "$anchor" (text "n")) }
-    ensures dynamic_anchor { both refers_to_s (new "http://a/s" (one "not" (one "$dynamicAnchor" (text "n"))) ∷ [])
+    ensures dynamic_anchor { both refers_to_s
+        (new "http://a/s" (one "not" (one "$dynamicAnchor" (text "n"))) ∷ [])
         "http://a/s" "#n"
         ≡ alike "http://a/s" (one "$dynamicAnchor" (text "n")) }
-    ensures the_definitions { both (new "http://a/r" (with_definition "z" yes)) (new "http://a/s" empty ∷ [])
+    ensures the_definitions { both (new "http://a/r" (with_definition "z" yes))
+        (new "http://a/s" empty ∷ [])
         "http://a/r" "#/$defs"
         ≡ (
           value (two "http://a/s" (one "$id" (text "http://a/s")) "z" yes) (codes "http://a/r"),

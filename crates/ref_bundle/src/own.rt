@@ -44,7 +44,8 @@ pub(crate) struct Own<'r> {
 
 // A place with its value, where that is in its document.
 fn spot_of<'r>(registry: &'r Registry<'_>, place: Place<'r>) -> Option<Spot<'r>>
-    ensures { option_map seen_spot result ≡ see_listed (own_layer registry.now) (listed_of place.entry) }
+    ensures { option_map seen_spot result
+        ≡ see_listed (own_layer registry.now) (listed_of place.entry) }
 {
     let value = registry.value_at(place.document, place.path.as_slice())?;
     Some(Spot {
@@ -100,8 +101,10 @@ fn put_some<'r>(
 
 // The places of a registry.
 fn listed<'r>(alloc: Global, registry: &'r Registry<'_>) -> Result<Vec<Place<'r>>, AllocError>
-    ensures value { IfOk result (λ places. map listed_of places.items ≡ own_places (own_layer registry.now)) }
-    ensures there { (d : WorldDocument) (p : WorldPlace) → Contains (own_layer registry.now) d → Contains (places d) p
+    ensures value { IfOk result
+        (λ places. map listed_of places.items ≡ own_places (own_layer registry.now)) }
+    ensures there { (d : WorldDocument) (p : WorldPlace) → Contains (own_layer registry.now) d
+        → Contains (places d) p
         → value_at d.tree p.path ≡ Some p.value }
 {
     match registry.places(alloc) {
@@ -148,8 +151,10 @@ fn push<'r>(
     number: usize,
     places: Vec<Spot<'r>>,
 ) -> Result<(), AllocError>
-    ensures { OnOk result (MatchOption (slice_get (own_layer registry.now) number) (owns.new.items ≡ owns.old.items)
-        (λ d. (o : Own) × (owns.new.items ≡ owns.old.items ++ o ∷ []) × (numbered_document o ≡ (number, d)) × (o.places
+    ensures { OnOk result
+        (MatchOption (slice_get (own_layer registry.now) number) (owns.new.items ≡ owns.old.items)
+        (λ d. (o : Own) × (owns.new.items ≡ owns.old.items ++ o ∷ [])
+        × (numbered_document o ≡ (number, d)) × (o.places
         ≡ places.entry))) }
 {
     if let Some(document) = registry.documents().get(number) {
@@ -163,7 +168,8 @@ pub(crate) fn owns_of<'r>(
     alloc: Global,
     registry: &'r Registry<'_>,
 ) -> Result<Vec<Own<'r>>, AllocError>
-    ensures order { IfOk result (λ owns. map numbered_document owns.items ≡ counted_documents 0 (own_layer registry.now)) }
+    ensures order { IfOk result
+        (λ owns. map numbered_document owns.items ≡ counted_documents 0 (own_layer registry.now)) }
     ensures places { IfOk result (λ owns. AllByRecursion HasPlaces owns.items) }
 {
     let groups = groups_of(alloc, registry)?;

@@ -20,8 +20,10 @@ fn push_meant(
     bearers: &Bearers<'_>,
     uris: &[Rc<Uri>],
 ) -> Result<(), AllocError>
-    ensures { (layer : Layer) → AreTables layer bearers.now → OnOk result (numbers.new.items ≡ numbers.old.items
-        ++ flat_map (λ uri. option_to_list (document_under layer uri)) (map (λ u. u.value) uris.now)) }
+    ensures { (layer : Layer) → AreTables layer bearers.now
+        → OnOk result (numbers.new.items ≡ numbers.old.items
+        ++ flat_map (λ uri. option_to_list (document_under layer uri))
+        (map (λ u. u.value) uris.now)) }
 {
     for uri in uris {
         if let Some(number) = bearers.document_under(uri.as_str()) {
@@ -38,7 +40,8 @@ fn referred(
     places: &[Spot<'_>],
 ) -> Result<Vec<usize>, AllocError>
     ensures { (layer : Layer) → AreTables layer bearers.now → IfOk result (λ numbers. numbers.items
-        ≡ flat_map (λ uri. option_to_list (document_under layer uri)) (flat_map (λ s. targets_from s.base s.value)
+        ≡ flat_map (λ uri. option_to_list (document_under layer uri))
+        (flat_map (λ s. targets_from s.base s.value)
         (map seen_spot places.now))) }
 {
     let mut numbers = Vec::new(alloc);
@@ -115,7 +118,9 @@ impl Reached {
 
     // Adds the numbers that the list of a number has.
     fn follow(&mut self, lists: &[Vec<usize>], number: usize) -> Result<(), AllocError>
-        ensures { OnOk result (state self.new ≡ all_added (state self.old) (list_at (map (λ l. l.items) lists.now) number)) }
+        ensures { OnOk result
+            (state self.new
+            ≡ all_added (state self.old) (list_at (map (λ l. l.items) lists.now) number)) }
     {
         match lists.get(number) {
             Some(list) => self.add_all(list.as_slice()),

@@ -69,8 +69,12 @@ fn shared_uri<'r>(
     spot: &Spot<'r>,
     uri: Option<&Uri>,
 ) -> Result<Option<Problem<'r>>, AllocError>
-    ensures { (layer : Layer) → AreTables layer bearers.now → IfOk result (λ o. option_map problem_said o
-        ≡ first (flat_map (shared_uri (sites_of_uris layer) ((seen_spot spot.now).document, (seen_spot spot.now).path))
+    ensures { (layer : Layer) → AreTables layer bearers.now
+        → IfOk result (λ o. option_map problem_said o
+        ≡ first
+        (flat_map
+        (shared_uri (sites_of_uris layer)
+        ((seen_spot spot.now).document, (seen_spot spot.now).path))
         (option_to_list (option_map (λ u. u.now) uri.entry)))) }
 {
     let Some(uri) = uri else {
@@ -93,7 +97,8 @@ fn shared_uris<'r>(
     own: &Own<'r>,
     spot: &Spot<'r>,
 ) -> Result<Option<Problem<'r>>, AllocError>
-    ensures { (layer : Layer) → AreTables layer bearers.now → IfOk result (λ o. option_map problem_said o
+    ensures { (layer : Layer) → AreTables layer bearers.now
+        → IfOk result (λ o. option_map problem_said o
         ≡ first (shared_seen layer own.now.uri.now (seen_spot spot.now))) }
 {
     match shared_uri(alloc, bearers, spot, root_uri(own.uri, spot))? {
@@ -109,7 +114,8 @@ fn replaced_in<'r>(
     uri: &Rc<Uri>,
 ) -> Result<Option<Problem<'r>>, AllocError>
     requires { HasPlaces own.now }
-    ensures { IfOk result (λ o. option_map problem_said o ≡ first (replaced_in uri.now.value (document_in own.now))) }
+    ensures { IfOk result
+        (λ o. option_map problem_said o ≡ first (replaced_in uri.now.value (document_in own.now))) }
 {
     if own.uri.as_str() != uri.as_str() {
         return Ok(None);
@@ -134,7 +140,9 @@ fn replaced<'r>(
 ) -> Result<Option<Problem<'r>>, AllocError>
     requires own { AreOwn owns.now }
     requires tables { AreTables (layer_in owns.now) bearers.now }
-    ensures { IfOk result (λ o. option_map problem_said o ≡ first (replaced_uris (layer_in owns.now) top uri.now.value)) }
+    ensures { IfOk result
+        (λ o. option_map problem_said o
+        ≡ first (replaced_uris (layer_in owns.now) top uri.now.value)) }
 {
     match bearers.document_under(uri.as_str()) {
         Some(number) if number != top => match owns.get(number) {
@@ -195,7 +203,8 @@ fn at_place<'r>(
     problem: Problem<'r>,
 ) -> Result<Refusal<'r>, AllocError>
     ensures { IfOk result (λ r. refusal_said r
-        ≡ at_path (seen_spot spot.now).document (seen_spot spot.now).path (problem_said problem.entry)) }
+        ≡ at_path (seen_spot spot.now).document (seen_spot spot.now).path
+        (problem_said problem.entry)) }
 {
     Ok(Refusal {
         document: spot.document,
@@ -280,7 +289,8 @@ fn key_taken<'r>(
     keyword: &'static str,
     part: &Part<'_>,
 ) -> Result<Refusal<'r>, AllocError>
-    ensures { IfOk result (λ r. refusal_said r ≡ at_path top (Key keyword.now ∷ Key part.now.base.value
+    ensures { IfOk result
+        (λ r. refusal_said r ≡ at_path top (Key keyword.now ∷ Key part.now.base.value
         ∷ []) (bundle.KeyTaken part.now.base.value)) }
 {
     Ok(Refusal {
@@ -320,7 +330,8 @@ fn taken<'r>(
 ) -> Result<Option<Refusal<'r>>, AllocError>
     requires { AllByRecursion HasBase parts.now }
     ensures { IfOk result (λ o. option_map refusal_said o
-        ≡ first (flat_map (taken_in top keyword.now (view value.now)) (map numbered_part parts.now))) }
+        ≡ first
+        (flat_map (taken_in top keyword.now (view value.now)) (map numbered_part parts.now))) }
 {
     for part in parts {
         if let Some(refusal) = taken_by(alloc, top, keyword, value, part)? {
@@ -340,7 +351,9 @@ fn map_refusal<'r>(
 ) -> Result<Option<Refusal<'r>>, AllocError>
     requires { AllByRecursion HasBase parts.now }
     ensures { IfOk result (λ o. option_map refusal_said o
-        ≡ first (map_refusals top keyword.now (option_map (λ v. view v.now) value.entry) (map numbered_part parts.now))) }
+        ≡ first
+        (map_refusals top keyword.now (option_map (λ v. view v.now) value.entry)
+        (map numbered_part parts.now))) }
 {
     let Some(value) = value else {
         return Ok(None);
@@ -377,7 +390,9 @@ fn own_refusal<'r>(
     requires top { HasBase top.now }
     requires places { HasPlaces own.now }
     ensures { IfOk result (λ o. option_map refusal_said o
-        ≡ first (map (λ o. at_path own.now.number [] (bundle.NotEmbedded o)) (option_to_list (obstacle (part_document top.now)
+        ≡ first
+        (map (λ o. at_path own.now.number [] (bundle.NotEmbedded o))
+        (option_to_list (obstacle (part_document top.now)
         (document_in own.now))))) }
 {
     let part = part_of(alloc, own)?;
@@ -398,7 +413,9 @@ fn whole_refusal<'r>(
     requires parts { AllByRecursion HasBase parts.now }
     requires places { HasPlaces own.now }
     ensures { IfOk result (λ o. option_map refusal_said o
-        ≡ first (whole_refusals (numbered_part top.now) (map numbered_part parts.now) (numbered_document own.now))) }
+        ≡ first
+        (whole_refusals (numbered_part top.now) (map numbered_part parts.now)
+        (numbered_document own.now))) }
 {
     if own.number == top.number {
         root_refusal(alloc, top, parts)
@@ -422,7 +439,8 @@ fn refusal_in<'r>(
     requires parts { AllByRecursion HasBase parts.now }
     requires places { HasPlaces own.now }
     ensures { IfOk result (λ o. option_map refusal_said o
-        ≡ first (refusals_in (layer_in owns.now) (numbered_part top.now) (map numbered_part parts.now)
+        ≡ first
+        (refusals_in (layer_in owns.now) (numbered_part top.now) (map numbered_part parts.now)
         (numbered_document own.now))) }
 {
     match whole_refusal(alloc, top, parts, own)? {
@@ -457,7 +475,9 @@ fn refusal_if_needed<'r>(
     requires parts { AllByRecursion HasBase parts.now }
     requires places { HasPlaces own.now }
     ensures { IfOk result (λ o. option_map refusal_said o
-        ≡ first (if is_marked needed.now own.now.number then refusals_in (layer_in owns.now) (numbered_part top.now)
+        ≡ first
+        (if is_marked needed.now own.now.number then
+        refusals_in (layer_in owns.now) (numbered_part top.now)
         (map numbered_part parts.now) (numbered_document own.now) else [])) }
 {
     if is_marked(needed, own.number) {
@@ -480,7 +500,10 @@ pub(crate) fn first_refusal<'r>(
     requires top { HasBase top.now }
     requires parts { AllByRecursion HasBase parts.now }
     ensures value { IfOk result (λ o. option_map refusal_said o
-        ≡ first (flat_map (λ e. if is_marked needed.now e.0 then refusals_in (layer_in owns.now) (numbered_part top.now)
+        ≡ first
+        (flat_map
+        (λ e. if is_marked needed.now e.0 then
+        refusals_in (layer_in owns.now) (numbered_part top.now)
         (map numbered_part parts.now) e else []) (map numbered_document owns.now))) }
 {
     for own in owns {

@@ -102,7 +102,9 @@ fn is_other(
     document: usize,
     path: &[JsonPointerSegment<'_>],
 ) -> bool
-    ensures { result ≡ is_other (option_map (λ t. table_of t.now) table.entry) (uri.now, (document, map part_of path.now)) }
+    ensures { result
+        ≡ is_other (option_map (λ t. table_of t.now) table.entry)
+        (uri.now, (document, map part_of path.now)) }
 {
     match table {
         Some(table) => is_other_in(table, uri, document, path),
@@ -139,7 +141,9 @@ fn push_place<'r>(
     spot: &Spot<'r>,
 ) -> Result<(), AllocError>
     ensures { OnOk result (table_entries_of entries.new.items ≡ table_entries_of entries.old.items
-        ++ map entry_under (filter (is_other (option_map (λ t. table_of t.now) last.entry)) (borne_at (seen_spot spot.now)))) }
+        ++ map entry_under
+        (filter (is_other (option_map (λ t. table_of t.now) last.entry))
+        (borne_at (seen_spot spot.now)))) }
 {
     match own_uri(spot) {
         Some(uri) => push_other(
@@ -162,7 +166,9 @@ fn push_places<'r>(
     places: &[Spot<'r>],
 ) -> Result<(), AllocError>
     ensures { OnOk result (table_entries_of entries.new.items ≡ table_entries_of entries.old.items
-        ++ flat_map (λ s. map entry_under (filter (is_other (option_map (λ t. table_of t.now) last.entry)) (borne_at s)))
+        ++ flat_map
+        (λ s. map entry_under
+        (filter (is_other (option_map (λ t. table_of t.now) last.entry)) (borne_at s)))
         (map seen_spot places.now)) }
 {
     for spot in places {
@@ -180,7 +186,8 @@ fn push_own<'r>(
 ) -> Result<(), AllocError>
     requires { HasPlaces own.now }
     ensures { OnOk result (table_entries_of entries.new.items ≡ table_entries_of entries.old.items
-        ++ map entry_under (filter (is_other (option_map (λ t. table_of t.now) last.entry)) (borne_in
+        ++ map entry_under
+        (filter (is_other (option_map (λ t. table_of t.now) last.entry)) (borne_in
         (numbered_document own.now)))) }
 {
     push_other(alloc, entries, last, own.uri.as_str(), own.number, &[])?;
@@ -195,7 +202,9 @@ fn table_of<'r>(
 ) -> Result<SortedTable<Site<'r>>, AllocError>
     requires { AllByRecursion HasPlaces owns.now }
     ensures { IfOk result (λ t. table_of t
-        ≡ flat_map (λ e. map entry_under (filter (is_other (option_map (λ t. table_of t.now) last.entry)) (borne_in e)))
+        ≡ flat_map
+        (λ e. map entry_under
+        (filter (is_other (option_map (λ t. table_of t.now) last.entry)) (borne_in e)))
         (map numbered_document owns.now)) }
 {
     let mut entries = Vec::new(alloc);
@@ -219,7 +228,8 @@ pub(crate) fn bearers_of<'r>(alloc: Global, owns: &[Own<'r>]) -> Result<Bearers<
 impl<'r> Bearers<'r> {
     /// The number of the document that a URI means.
     pub fn document_under(&self, uri: &str) -> Option<usize>
-        ensures value { (layer : Layer) → AreTables layer self.now → result ≡ document_under layer uri.now }
+        ensures value { (layer : Layer) → AreTables layer self.now
+            → result ≡ document_under layer uri.now }
     {
         let site = self.last.get(uri, "").0?;
         Some(site.document)
@@ -232,7 +242,8 @@ impl<'r> Bearers<'r> {
         document: usize,
         path: &[JsonPointerSegment<'_>],
     ) -> Option<&Site<'r>>
-        ensures value { (layer : Layer) → AreTables layer self.now → option_map (λ s. site_of s.now) result
+        ensures value { (layer : Layer) → AreTables layer self.now
+            → option_map (λ s. site_of s.now) result
             ≡ other_bearer (sites_of_uris layer) uri.now (document, map part_of path.now) }
     {
         let site = self.last.get(uri, "").0?;

@@ -24,7 +24,8 @@ use std::rc::Rc;
 
 // The URI that a text means against a base, where it means one.
 fn resolved(alloc: Global, base: &Rc<Uri>, text: &str) -> Result<Option<Rc<Uri>>, AllocError>
-    ensures { IfOk result (λ o. option_map (λ u. u.value) o ≡ result_ok (uri_against base.now.value text.now)) }
+    ensures { IfOk result
+        (λ o. option_map (λ u. u.value) o ≡ result_ok (uri_against base.now.value text.now)) }
 {
     match resolve_against(alloc, base.borrow(), text) {
         Ok(uri) => Ok(Some(shared(alloc, uri)?)),
@@ -35,7 +36,8 @@ fn resolved(alloc: Global, base: &Rc<Uri>, text: &str) -> Result<Option<Rc<Uri>>
 
 // The URI that a reference points into, where it means one.
 fn target(alloc: Global, base: &Rc<Uri>, reference: &str) -> Result<Option<Rc<Uri>>, AllocError>
-    ensures { IfOk result (λ o. option_map (λ u. u.value) o ≡ result_ok (target base.now.value reference.now)) }
+    ensures { IfOk result
+        (λ o. option_map (λ u. u.value) o ≡ result_ok (target base.now.value reference.now)) }
 {
     if reference.starts_with('#') {
         return Ok(Some(base.clone()?));
@@ -81,7 +83,8 @@ fn reference(
     key: &str,
 ) -> Result<Option<Rc<Uri>>, AllocError>
     ensures { IfOk result (λ o. option_map (λ u. u.value) o
-        ≡ option_and_then (λ text. result_ok (target base.now.value text)) (text_under key.now (view value.now))) }
+        ≡ option_and_then (λ text. result_ok (target base.now.value text))
+        (text_under key.now (view value.now))) }
 {
     match text_under(value, key) {
         Some(text) => target(alloc, base, text),
@@ -137,7 +140,8 @@ pub(crate) fn own_uri<'s>(spot: &'s Spot<'_>) -> Option<&'s Rc<Uri>>
 
 /// The URI of its document, where the place is the root.
 pub(crate) fn root_uri<'s>(uri: &'s Uri, spot: &Spot<'_>) -> Option<&'s Uri>
-    ensures value { option_map (λ u. u.now) result ≡ (if path_eq (seen_spot spot.now).path [] then Some uri.now else None) }
+    ensures value { option_map (λ u. u.now) result
+        ≡ (if path_eq (seen_spot spot.now).path [] then Some uri.now else None) }
 {
     if spot.path.is_empty() {
         Some(uri)

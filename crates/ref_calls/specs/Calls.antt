@@ -44,11 +44,16 @@ call_named s =
 
 -- the members that a call knows besides `call` and `id`
 abbrev pub fields_of : Call → List (List ℕ)
-fields_of Open = codes "documents" ∷ codes "remote" ∷ codes "parent" ∷ codes "draft" ∷ codes "limit" ∷ []
-fields_of Lookup = codes "registry" ∷ codes "base" ∷ codes "scope" ∷ codes "reference" ∷ codes "values" ∷ []
+fields_of Open =
+    codes "documents" ∷ codes "remote" ∷ codes "parent" ∷ codes "draft" ∷ codes "limit" ∷ []
+fields_of Lookup =
+    codes "registry" ∷ codes "base" ∷ codes "scope" ∷ codes "reference" ∷ codes "values" ∷ []
 fields_of Recursive = codes "registry" ∷ codes "base" ∷ codes "scope" ∷ codes "values" ∷ []
-fields_of Enter = codes "registry" ∷ codes "base" ∷ codes "scope" ∷ codes "schema" ∷ codes "draft" ∷ []
-fields_of Follow = codes "registry" ∷ codes "base" ∷ codes "scope" ∷ codes "values" ∷ codes "draft" ∷ codes "steps" ∷ []
+fields_of Enter =
+    codes "registry" ∷ codes "base" ∷ codes "scope" ∷ codes "schema" ∷ codes "draft" ∷ []
+fields_of Follow =
+    codes "registry" ∷ codes "base" ∷ codes "scope" ∷ codes "values" ∷ codes "draft" ∷ codes "steps"
+    ∷ []
 fields_of Places = codes "registry" ∷ []
 fields_of Dangling = codes "registry" ∷ []
 fields_of Vocabularies = codes "registry" ∷ codes "schema" ∷ codes "draft" ∷ []
@@ -57,7 +62,9 @@ fields_of Close = codes "registry" ∷ []
 
 -- whether a call knows a member
 abbrev pub is_known : Call → List ℕ → Bool
-is_known call field = bytes_eq field (codes "call") || bytes_eq field (codes "id") || list_any (λ known. bytes_eq known field) (fields_of call)
+is_known call field =
+    bytes_eq field (codes "call") || bytes_eq field (codes "id")
+    || list_any (λ known. bytes_eq known field) (fields_of call)
 
 -- the first member, in byte order, that a call doesn't know
 abbrev pub unknown_in : Call → Members → Option (List ℕ)
@@ -79,7 +86,8 @@ unknown_call = plain_error (codes "UnknownCall") (codes "The member 'call' names
 unfoldable pub call_of : Data → Result Call Data
 call_of d = do
   members ← ok_or (as_object d) not_an_object
-  call ← ok_or (option_and_then call_named (option_and_then as_str (get (codes "call") d))) unknown_call
+  call ← ok_or
+      (option_and_then call_named (option_and_then as_str (get (codes "call") d))) unknown_call
   unless_unknown call (unknown_in call members)
 
 -- ---- members
@@ -143,14 +151,17 @@ draft_name draft.Unknown = codes "unknown"
 -- the draft under `draft`, or else 2020-12
 abbrev pub draft_at : Option Data → Result Draft Data
 draft_at None = Ok draft.Draft202012
-draft_at (Some d) = ok_or (option_and_then draft_named (as_str d)) (field_error InvalidField (codes "draft"))
+draft_at (Some d) =
+    ok_or (option_and_then draft_named (as_str d)) (field_error InvalidField (codes "draft"))
 
 unfoldable pub draft_of : Data → Result Draft Data
 draft_of d = draft_at (get (codes "draft") d)
 
 -- an object or a boolean
 abbrev pub schema_in : Data → Result Data Data
-schema_in d = if is_some (as_object d) || is_some (as_bool d) then Ok d else Err (field_error InvalidField (codes "schema"))
+schema_in d =
+    if is_some (as_object d) || is_some (as_bool d) then Ok d
+    else Err (field_error InvalidField (codes "schema"))
 
 unfoldable pub schema_of : Data → Result Data Data
 schema_of d = required (codes "schema") d >>= schema_in
@@ -202,7 +213,9 @@ documents_at field (Some d) = documents_of field d >>= λ documents. Ok (Some do
 
 -- the documents under `documents`, which are needed
 abbrev pub needed_documents : Option Data → Result (List (List ℕ × Data)) Data
-needed_documents found = documents_at (codes "documents") found >>= λ documents. ok_or documents (field_error MissingField (codes "documents"))
+needed_documents found =
+    documents_at (codes "documents") found
+    >>= λ documents. ok_or documents (field_error MissingField (codes "documents"))
 
 -- documents under the URIs that their texts mean
 abbrev pub under_uris : List ℕ → List (List ℕ × Data) → Result (List (List ℕ × Data)) Data

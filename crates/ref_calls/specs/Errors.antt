@@ -23,7 +23,9 @@ plain_error name message = object_of (error_members name message)
 
 -- the error of a line that is no JSON, with the place where it can't be read, in bytes
 abbrev pub not_json_members : ℕ → List (List ℕ × Data)
-not_json_members offset = error_members (codes "NotJson") (codes "The line is no JSON") ++ (codes "offset", whole offset) ∷ []
+not_json_members offset =
+    error_members (codes "NotJson") (codes "The line is no JSON") ++ (codes "offset", whole offset)
+    ∷ []
 
 unfoldable pub not_json : ℕ → Data
 not_json offset = object_of (not_json_members offset)
@@ -68,7 +70,9 @@ wrong_text UnknownRegistry = codes "No open registry has the number under"
 -- the members of its error
 abbrev pub field_members : Wrong → List ℕ → List (List ℕ × Data)
 field_members wrong field =
-    (codes "name", string (wrong_name wrong)) ∷ (codes "message", string (wrong_text wrong ++ codes " '" ++ field ++ codes "'")) ∷ (codes "field", string field) ∷ []
+    (codes "name", string (wrong_name wrong))
+    ∷ (codes "message", string (wrong_text wrong ++ codes " '" ++ field ++ codes "'"))
+    ∷ (codes "field", string field) ∷ []
 
 -- its error
 unfoldable pub field_error : Wrong → List ℕ → Data
@@ -100,7 +104,8 @@ wanted_members (Some w) = (codes "uri", string w.0) ∷ (codes "kind", string w.
 
 -- the members of a fault's error
 abbrev pub fault_members : Fault → List (List ℕ × Data)
-fault_members fault = error_members (fault_name fault) (fault_text fault) ++ wanted_members (wanted fault)
+fault_members fault =
+    error_members (fault_name fault) (fault_text fault) ++ wanted_members (wanted fault)
 
 -- a fault's error
 unfoldable pub fault_error : Fault → Data

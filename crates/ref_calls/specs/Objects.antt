@@ -35,8 +35,9 @@ id_member (Some id) = (codes "id", id) ∷ []
 abbrev pub answer_of : Option Data → List ℕ → Data → Data
 answer_of id key value = object_of ((key, value) ∷ id_member id)
 
--- The line of a value: its compact text and a line feed, where it holds no float. With a float the text has each item and member once and in
--- order and each whole number in decimal; where the value nests no deeper than 127, the text reads back as it.
+-- The line of a value: its compact text and a line feed, where it holds no float. With a float the text has each item
+-- and member once and in order and each whole number in decimal; where the value nests no deeper than 127, the text
+-- reads back as it.
 pub record IsLine (d : Data) (json : List ℕ) : Type 0 where
   pub text : has_float d ≡ false → json ≡ compact_text d
   pub order : IsInOrder json d

@@ -79,7 +79,8 @@ pub fn text_of(
     key: &str,
     value: Value,
 ) -> Result<Vec<u8>, AllocError>
-    ensures { IfOk result (λ text. IsLineOf (answer_of (option_map view id) key.now (view value)) text.items) }
+    ensures { IfOk result
+        (λ text. IsLineOf (answer_of (option_map view id) key.now (view value)) text.items) }
 {
     let mut members = Map::new(alloc);
     put(&mut members, alloc, key, value)?;
@@ -94,7 +95,8 @@ pub fn error_text(
     error: Stop<Value>,
 ) -> Result<Vec<u8>, AllocError>
     ensures { (object : Data) → IsStop error object
-        → IfOk result (λ text. IsLineOf (answer_of (option_map view id) (codes "error") object) text.items) }
+        → IfOk result
+        (λ text. IsLineOf (answer_of (option_map view id) (codes "error") object) text.items) }
 {
     match error {
         Stop::Because(error) => text_of(alloc, id, "error", error),

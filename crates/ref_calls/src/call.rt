@@ -74,7 +74,8 @@ fn is_known(call: Call, field: &str) -> bool
 
 // The first member, in byte order, that a call doesn't know.
 fn unknown_in(call: Call, members: &Map<String, Value>) -> Option<&str>
-    ensures { option_map (λ field. field.now) result ≡ spec.unknown_in call (members_view members.now.entries) }
+    ensures { option_map (λ field. field.now) result
+        ≡ spec.unknown_in call (members_view members.now.entries) }
 {
     for (key, _value) in members.iter() {
         if !is_known(call, key.as_str()) {

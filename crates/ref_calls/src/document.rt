@@ -63,7 +63,8 @@ fn document_in(
 // The pairs that a list has.
 #[tactic(auto, unfolding(crate::specs::Calls::documents_of))]
 fn documents_of(alloc: Global, value: Value, field: &str) -> Result<Vec<Document>, Stop<Value>>
-    ensures { Answers (λ v. map given_of v.items) result (spec.documents_of field.now (view value)) }
+    ensures { Answers (λ v. map given_of v.items) result
+        (spec.documents_of field.now (view value)) }
 {
     let Value::Array(items) = value else {
         return Err(field_error(alloc, Wrong::InvalidField, field));
@@ -80,7 +81,8 @@ fn documents_of(alloc: Global, value: Value, field: &str) -> Result<Vec<Document
 // The member under a key, which is taken out.
 fn taken(members: &mut Members, key: &str) -> Option<Value>
     ensures value { option_map view result ≡ get_member key.now (members_view members.old.entries) }
-    ensures others { (other : List ℕ) → other ≢ key.now → get_member other (members_view members.new.entries)
+    ensures others { (other : List ℕ) → other ≢ key.now
+        → get_member other (members_view members.new.entries)
         ≡ get_member other (members_view members.old.entries) }
 {
     members.remove(key)
@@ -92,9 +94,11 @@ pub fn documents_under(
     members: &mut Members,
     field: &str,
 ) -> Result<Option<Vec<Document>>, Stop<Value>>
-    ensures value { Answers (option_map (λ v. map given_of v.items)) result (spec.documents_at field.now (get_member field.now
+    ensures value { Answers (option_map (λ v. map given_of v.items)) result
+        (spec.documents_at field.now (get_member field.now
         (members_view members.old.entries))) }
-    ensures others { (other : List ℕ) → other ≢ field.now → get_member other (members_view members.new.entries)
+    ensures others { (other : List ℕ) → other ≢ field.now
+        → get_member other (members_view members.new.entries)
         ≡ get_member other (members_view members.old.entries) }
 {
     let Some(value) = taken(members, field) else {
@@ -106,9 +110,11 @@ pub fn documents_under(
 
 /// The documents under `documents`, which are needed.
 pub fn needed_documents(alloc: Global, members: &mut Members) -> Result<Vec<Document>, Stop<Value>>
-    ensures value { Answers (λ v. map given_of v.items) result (spec.needed_documents (get_member (codes "documents")
+    ensures value { Answers (λ v. map given_of v.items) result
+        (spec.needed_documents (get_member (codes "documents")
         (members_view members.old.entries))) }
-    ensures others { (other : List ℕ) → other ≢ codes "documents" → get_member other (members_view members.new.entries)
+    ensures others { (other : List ℕ) → other ≢ codes "documents"
+        → get_member other (members_view members.new.entries)
         ≡ get_member other (members_view members.old.entries) }
 {
     match documents_under(alloc, members, "documents")? {
@@ -123,7 +129,8 @@ pub fn under_uris(
     documents: Vec<Document>,
     field: &str,
 ) -> Result<Vec<(Uri, Value)>, Stop<Value>>
-    ensures { Answers (λ v. trees_of v.items) result (spec.under_uris field.now (map given_of documents.items)) }
+    ensures { Answers (λ v. trees_of v.items) result
+        (spec.under_uris field.now (map given_of documents.items)) }
 {
     let mut pairs = Vec::with_capacity(alloc, documents.len())?;
     for (text, tree) in documents {

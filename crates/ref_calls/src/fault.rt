@@ -54,7 +54,9 @@ impl Wrong {
 
 /// The members of an error: its name and its message.
 pub fn error_members(alloc: Global, name: &str, message: &str) -> Result<Members, AllocError>
-    ensures { IfOk result (λ m. members_view m.entries ≡ with_all (spec.error_members name.now message.now) no_members) }
+    ensures { IfOk result
+        (λ m. members_view m.entries
+        ≡ with_all (spec.error_members name.now message.now) no_members) }
 {
     let mut members = Map::new(alloc);
     put_text(alloc, &mut members, "name", name)?;
@@ -73,7 +75,8 @@ pub fn plain_error(alloc: Global, name: &str, message: &str) -> Stop<Value>
 }
 
 fn not_json_members(alloc: Global, offset: usize) -> Result<Members, AllocError>
-    ensures { IfOk result (λ m. members_view m.entries ≡ with_all (spec.not_json_members offset) no_members) }
+    ensures { IfOk result
+        (λ m. members_view m.entries ≡ with_all (spec.not_json_members offset) no_members) }
 {
     let mut members = error_members(alloc, "NotJson", "The line is no JSON")?;
     put_number(alloc, &mut members, "offset", offset)?;
@@ -135,7 +138,8 @@ pub fn at_index(alloc: Global, stop: Stop<Value>, index: usize) -> Stop<Value>
 }
 
 fn field_members(alloc: Global, wrong: Wrong, field: &str) -> Result<Members, AllocError>
-    ensures { IfOk result (λ m. members_view m.entries ≡ with_all (spec.field_members wrong field.now) no_members) }
+    ensures { IfOk result
+        (λ m. members_view m.entries ≡ with_all (spec.field_members wrong field.now) no_members) }
 {
     let text = wrong.text();
     let message = format!(in alloc; "{text} '{field}'")?;
@@ -176,7 +180,8 @@ fn name_of(error: &Error) -> &'static str
 
 // The document that is wanted and isn't there: its URI, and by what it is wanted.
 fn wanted_of(error: &Error) -> Option<(&str, &'static str)>
-    ensures { (fault : Fault) → SaysFault error.now fault → option_map (λ w. (w.0.now, w.1.now)) result ≡ spec.wanted fault }
+    ensures { (fault : Fault) → SaysFault error.now fault
+        → option_map (λ w. (w.0.now, w.1.now)) result ≡ spec.wanted fault }
 {
     match error {
         Error::Unretrievable { uri, .. } => Some((uri.as_str(), "reference")),
@@ -189,7 +194,8 @@ fn wanted_of(error: &Error) -> Option<(&str, &'static str)>
 
 // Puts the document that is wanted and isn't there.
 fn put_wanted(alloc: Global, members: &mut Members, error: &Error) -> Result<(), AllocError>
-    ensures { (fault : Fault) → SaysFault error.now fault → OnOk result (members_view members.new.entries
+    ensures { (fault : Fault) → SaysFault error.now fault
+        → OnOk result (members_view members.new.entries
         ≡ with_all (spec.wanted_members (spec.wanted fault)) (members_view members.old.entries)) }
 {
     match wanted_of(error) {
@@ -203,7 +209,8 @@ fn put_wanted(alloc: Global, members: &mut Members, error: &Error) -> Result<(),
 
 /// The members of a fault's error. Running out of memory is none.
 pub fn fault_members(alloc: Global, error: &Error) -> Result<Members, AllocError>
-    ensures members { (fault : Fault) → SaysFault error.now fault → IfOk result (λ m. members_view m.entries
+    ensures members { (fault : Fault) → SaysFault error.now fault
+        → IfOk result (λ m. members_view m.entries
         ≡ with_all (spec.fault_members fault) no_members) }
     ensures memory { is_memory error.now ≡ true → IsErr result }
 {

@@ -54,7 +54,8 @@ pub fn items_in<'t>(
     value: &'t Value,
     field: &str,
 ) -> Result<&'t [Value], Stop<Value>>
-    ensures { Answers (λ items. items_view items.now) result (spec.items_in field.now (view value.now)) }
+    ensures { Answers (λ items. items_view items.now) result
+        (spec.items_in field.now (view value.now)) }
 {
     match value.as_array() {
         Some(items) => Ok(items.as_slice()),
@@ -178,7 +179,8 @@ fn scope_uri(alloc: Global, item: &Value, index: usize) -> Result<Uri, Stop<Valu
 
 // The URIs that the items of a scope mean.
 fn uris_in(alloc: Global, items: &[Value]) -> Result<Vec<Uri>, Stop<Value>>
-    ensures { Answers (λ v. v.items) result (spec.each_item spec.scope_uri 0 (items_view items.now)) }
+    ensures { Answers (λ v. v.items) result
+        (spec.each_item spec.scope_uri 0 (items_view items.now)) }
 {
     let mut uris = Vec::with_capacity(alloc, items.len())?;
     for (index, item) in items.iter().enumerate() {

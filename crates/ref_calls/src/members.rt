@@ -50,7 +50,8 @@ pub fn object_of(alloc: Global, key: &str, value: Value) -> Result<Value, AllocE
 
 /// Puts a text after the items of a list.
 pub fn push_text(alloc: Global, list: &mut Vec<Value>, text: &str) -> Result<(), AllocError>
-    ensures { OnOk result (map view list.new.items ≡ map view list.old.items ++ string text.now ∷ []) }
+    ensures { OnOk result
+        (map view list.new.items ≡ map view list.old.items ++ string text.now ∷ []) }
 {
     let value = Value::try_from_str(alloc, text)?;
     list.push(value)?;

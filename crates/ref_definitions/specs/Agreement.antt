@@ -22,7 +22,8 @@ pub data IsAtOrBelow (q : Place) : Place → Type 0 where
 -- the maps of subschemas of a value hold no text under the identifier's keyword: no property is named `$id`, say
 abbrev pub HasPlainMaps : Draft → Data → Type 0
 HasPlainMaps draft value =
-    (keyword : List ℕ) (schemas : Data) → IsTrue (is_map_keyword draft keyword) → get keyword value ≡ Some schemas → text_under (id_keyword draft) schemas ≡ None
+    (keyword : List ℕ) (schemas : Data) → IsTrue (is_map_keyword draft keyword)
+    → get keyword value ≡ Some schemas → text_under (id_keyword draft) schemas ≡ None
 
 -- A resource of a layer that the pointer and the keywords read alike: it has a URI that no other place has, one draft
 -- throughout, and before 2020-12 no map of subschemas that looks like a schema with an identifier.
@@ -33,11 +34,13 @@ pub record IsReadAlike (layer : Layer) (d : Document) (r : Place) (uri : List �
   pub base : r.base ≡ Ok uri
   pub alone : (p : Place) → Contains (resources layer) (uri, p) → p ≡ r
   pub one_draft : (p : Place) → IsAtOrBelow p r → p.draft ≡ r.draft
-  pub plain_maps : IsTrue (is_before_2020 r.draft) → (p : Place) → IsAtOrBelow p r → HasPlainMaps r.draft p.value
+  pub plain_maps : IsTrue (is_before_2020 r.draft) → (p : Place) → IsAtOrBelow p r
+      → HasPlainMaps r.draft p.value
 
 -- each child of a place of the document is at its path, as it does where objects have each key once
 abbrev pub ChildrenStand : Document → Type 0
-ChildrenStand d = (p : Place) → Contains (places d) p → AllStand p.value (walked_children p.draft p.value)
+ChildrenStand d =
+    (p : Place) → Contains (places d) p → AllStand p.value (walked_children p.draft p.value)
 
 -- a path as a program holds it: its keys are text, and its indexes fit 64 bits
 pub record IsPathOfTexts (path : List Part) : Type 0 where
@@ -49,12 +52,18 @@ pub record IsPathOfTexts (path : List Part) : Type 0 where
 abbrev pub LeadsTo : World → List ℕ → List Part → Place → Type 0
 LeadsTo world uri path q =
     (base : List ℕ) → q.base ≡ Ok base
-    → located_value world uri path ≡ Ok (record { value = q.value; draft = q.draft; resolver = record { base = base; scope = uri ∷ [] } })
+    → located_value world uri path
+    ≡ Ok (record {
+      value = q.value;
+      draft = q.draft;
+      resolver = record { base = base; scope = uri ∷ [] };
+    })
 
 -- The two agree at each place at or below such a resource, by the path from there, in a document whose children are at their
 -- paths.
 abbrev pub WalksAgree : Type 0
 WalksAgree =
     (layer : Layer) (parents : World) (d : Document) (r q : Place) (uri : List ℕ) (path : List Part)
-    → ChildrenStand d → IsReadAlike layer d r uri → IsAtOrBelow q r → q.path ≡ r.path ++ path → IsPathOfTexts path
+    → ChildrenStand d → IsReadAlike layer d r uri → IsAtOrBelow q r → q.path ≡ r.path ++ path
+    → IsPathOfTexts path
     → LeadsTo (layer ∷ parents) uri path q

@@ -18,7 +18,8 @@ pub record Named : Type 0 where
 
 -- the anchors of a place under a URI
 abbrev pub named_under : List ℕ → Place → List Named
-named_under uri p = map (λ a. record { uri = uri; name = a.0; kind = a.1; place = p }) (anchors p.draft p.value)
+named_under uri p =
+    map (λ a. record { uri = uri; name = a.0; kind = a.1; place = p }) (anchors p.draft p.value)
 
 -- under its base, which it may lack
 abbrev pub named_at : Place → List Named
@@ -34,16 +35,20 @@ names layer = flat_map names_in layer
 
 -- the last entry under a URI and a name
 abbrev pub last_named : List ℕ → List ℕ → List Named → Option Named
-last_named uri name entries = last_or None (filter (λ e. bytes_eq e.uri uri && bytes_eq e.name name) entries)
+last_named uri name entries =
+    last_or None (filter (λ e. bytes_eq e.uri uri && bytes_eq e.name name) entries)
 
 -- the last entry under a URI and a name in the nearest layer that has one
 abbrev pub named_entry : World → List ℕ → List ℕ → Option Named
 named_entry [] uri name = None
-named_entry (layer ∷ world) uri name = option_or (last_named uri name (names layer)) (named_entry world uri name)
+named_entry (layer ∷ world) uri name =
+    option_or (last_named uri name (names layer)) (named_entry world uri name)
 
 -- where a URI means a place with an identifier: the entry of the name under that place's base
 abbrev pub named_by_identifier : World → List ℕ → List ℕ → Option Named
-named_by_identifier world uri name = option_and_then (λ own. named_entry world own name) (option_and_then own_uri (meant_place world uri))
+named_by_identifier world uri name =
+    option_and_then (λ own. named_entry world own name)
+    (option_and_then own_uri (meant_place world uri))
 
 -- the fault of a name that nothing has: a name with `/` in it is none
 abbrev pub not_named : List ℕ → Fault
@@ -51,4 +56,6 @@ not_named name = if list_any (λ c. c == 47) name then InvalidAnchor name else N
 
 -- The entry that a name under a URI means: the one there, or else the one under the base of the place there
 unfoldable pub anchor : World → List ℕ → List ℕ → Result Named Fault
-anchor world uri name = ok_or (option_or (named_entry world uri name) (named_by_identifier world uri name)) (not_named name)
+anchor world uri name =
+    ok_or (option_or (named_entry world uri name) (named_by_identifier world uri name))
+    (not_named name)

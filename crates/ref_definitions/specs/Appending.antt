@@ -11,11 +11,14 @@ HasMeaning world uri = IsTrue (is_some (meant_place world uri))
 -- What means a place still means one, perhaps another, after documents are appended to the own layer
 abbrev pub MeaningsStay : Type 0
 MeaningsStay =
-    (layer more : Layer) (parents : World) (uri : List ℕ) → HasMeaning (layer ∷ parents) uri → HasMeaning ((layer ++ more) ∷ parents) uri
+    (layer more : Layer) (parents : World) (uri : List ℕ) → HasMeaning (layer ∷ parents) uri
+    → HasMeaning ((layer ++ more) ∷ parents) uri
 
 -- What means a place in a registry means one in each registry that has it as a parent
 abbrev pub MeaningsStayBelow : Type 0
-MeaningsStayBelow = (layer : Layer) (parents : World) (uri : List ℕ) → HasMeaning parents uri → HasMeaning (layer ∷ parents) uri
+MeaningsStayBelow =
+    (layer : Layer) (parents : World) (uri : List ℕ) → HasMeaning parents uri
+    → HasMeaning (layer ∷ parents) uri
 
 -- a want that is met stays met
 abbrev pub MetWantsStay : Type 0
@@ -28,4 +31,5 @@ abbrev pub OpenWantsAfter : Type 0
 OpenWantsAfter =
     (layer more : Layer) (parents : World)
     → open_wants ((layer ++ more) ∷ parents) (layer ++ more)
-    ≡ filter (is_open ((layer ++ more) ∷ parents)) (open_wants (layer ∷ parents) layer) ++ open_wants ((layer ++ more) ∷ parents) more
+    ≡ filter (is_open ((layer ++ more) ∷ parents)) (open_wants (layer ∷ parents) layer)
+    ++ open_wants ((layer ++ more) ∷ parents) more

@@ -18,7 +18,8 @@ pub record Along : Type 0 where
 
 -- a URI as the base: where it is another, the parts are forgotten
 abbrev pub changed_base : Along → List ℕ → Along
-changed_base along uri = if bytes_eq uri along.base then along else record { base = uri; since = [] }
+changed_base along uri =
+    if bytes_eq uri along.base then along else record { base = uri; since = [] }
 
 -- The base after one more part, which leads to a value of a resource of a draft: the value's identifier counts where the parts
 -- since the last change are accepted at it. That the scan is what `Scan.IsAccepted` says is the law `scan_is_accepted` of
@@ -26,5 +27,6 @@ changed_base along uri = if bytes_eq uri along.base then along else record { bas
 abbrev pub along_part : Draft → Along → Part → Data → Result Along Refusal
 along_part draft along part value =
     let since = along.since ++ part ∷ [] in
-    base_within along.base (if scan draft (is_object value) since then identifier draft value else None)
+    base_within along.base
+    (if scan draft (is_object value) since then identifier draft value else None)
     >>= λ uri. Ok (changed_base (record along { since = since }) uri)

@@ -18,15 +18,19 @@ pairs_of_identifier outer id = option_map_or (λ text. (outer, text) ∷ []) id 
 
 -- the URI part of a reference, with a base: one that begins with `#` has none to resolve
 abbrev pub pairs_of_reference : List ℕ → List ℕ → List Pair
-pairs_of_reference base reference = if slice_index reference 0 == 35 then [] else (base, uri_part reference) ∷ []
+pairs_of_reference base reference =
+    if slice_index reference 0 == 35 then [] else (base, uri_part reference) ∷ []
 
 -- that of the text under `$ref`, with the base of its place
 abbrev pub reference_pairs : List ℕ → Data → List Pair
-reference_pairs base value = option_map_or (pairs_of_reference base) (text_under (codes "$ref") value) []
+reference_pairs base value =
+    option_map_or (pairs_of_reference base) (text_under (codes "$ref") value) []
 
 -- those of a place: of its identifier, and of its reference where it has a base
 abbrev pub pairs_at : Place → List Pair
-pairs_at p = pairs_of_identifier p.outer (identifier_of p) ++ option_map_or (λ base. reference_pairs base p.value) (result_ok p.base) []
+pairs_at p =
+    pairs_of_identifier p.outer (identifier_of p)
+    ++ option_map_or (λ base. reference_pairs base p.value) (result_ok p.base) []
 
 -- those of a layer, by documents and places
 abbrev pub pairs : Layer → List Pair

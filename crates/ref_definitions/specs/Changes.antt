@@ -9,7 +9,8 @@ use Rattle.ref_uri.specs.Targets.{uri_against}
 use Rattle.ref_definitions.specs.Bases.{Along}
 
 -- An identifier changes the base: the parts since the last change are accepted at a value whose identifier means another URI.
-pub record IsChange (draft : Draft) (base : List ℕ) (since : List Part) (value : Data) (uri : List ℕ) : Type 0 where
+pub record IsChange (draft : Draft) (base : List ℕ) (since : List Part) (value : Data)
+    (uri : List ℕ) : Type 0 where
   pub accepted : IsAccepted draft since value
   pub id : List ℕ
   pub is : identifier draft value ≡ Some id
@@ -18,17 +19,28 @@ pub record IsChange (draft : Draft) (base : List ℕ) (since : List Part) (value
 
 -- nothing changes the base: an identifier that counts means it
 abbrev pub Stays : Draft → List ℕ → List Part → Data → Type 0
-Stays draft base since value = (id : List ℕ) → IsAccepted draft since value → identifier draft value ≡ Some id → uri_against base id ≡ Ok base
+Stays draft base since value =
+    (id : List ℕ) → IsAccepted draft since value → identifier draft value ≡ Some id
+    → uri_against base id ≡ Ok base
 
 -- The base at a path of a value is that of the last change along it, or the base at its start; and what is after that
 -- change are the parts since.
-pub data IsBaseAlong (draft : Draft) (start : List ℕ) (value : Data) : List Part → Along → Type 0 where
+pub data IsBaseAlong (draft : Draft) (start : List ℕ) (value : Data) : List Part → Along
+    → Type 0 where
   begun : IsBaseAlong draft start value [] (record { base = start; since = [] })
-  stayed : (path : List Part) (part : Part) (along : Along) (there : Data) → IsBaseAlong draft start value path along → value_at value (path ++ part ∷ []) ≡ Some there → Stays draft along.base (along.since ++ part ∷ []) there → IsBaseAlong draft start value (path ++ part ∷ []) (record { base = along.base; since = along.since ++ part ∷ [] })
-  changed : (path : List Part) (part : Part) (along : Along) (there : Data) (uri : List ℕ) → IsBaseAlong draft start value path along → value_at value (path ++ part ∷ []) ≡ Some there → IsChange draft along.base (along.since ++ part ∷ []) there uri → IsBaseAlong draft start value (path ++ part ∷ []) (record { base = uri; since = [] })
+  stayed : (path : List Part) (part : Part) (along : Along) (there : Data)
+      → IsBaseAlong draft start value path along → value_at value (path ++ part ∷ []) ≡ Some there
+      → Stays draft along.base (along.since ++ part ∷ []) there
+      → IsBaseAlong draft start value (path ++ part ∷ [])
+      (record { base = along.base; since = along.since ++ part ∷ [] })
+  changed : (path : List Part) (part : Part) (along : Along) (there : Data) (uri : List ℕ)
+      → IsBaseAlong draft start value path along → value_at value (path ++ part ∷ []) ≡ Some there
+      → IsChange draft along.base (along.since ++ part ∷ []) there uri
+      → IsBaseAlong draft start value (path ++ part ∷ []) (record { base = uri; since = [] })
 
 -- a path of a value leads to what was found, with the base along it
-pub record LeadsAlong (draft : Draft) (start : List ℕ) (value found : Data) (along : Along) : Type 0 where
+pub record LeadsAlong (draft : Draft) (start : List ℕ) (value found : Data)
+    (along : Along) : Type 0 where
   pub path : List Part
   pub there : value_at value path ≡ Some found
   pub bases : IsBaseAlong draft start value path along

@@ -27,21 +27,28 @@ as_invalid_uri (Err refusal) = Err (InvalidUri refusal)
 -- what is displayed
 abbrev pub fault_text : Fault → List ℕ
 fault_text (Unretrievable uri source) =
-    codes "Resource '" ++ uri ++ codes "' is not present in a registry and retrieving it failed: " ++ source
+    codes "Resource '" ++ uri ++ codes "' is not present in a registry and retrieving it failed: "
+    ++ source
 fault_text (PointerToNowhere pointer) = codes "Pointer '" ++ pointer ++ codes "' does not exist"
 fault_text (InvalidPercentEncoding pointer) =
-    codes "Invalid percent encoding in pointer '" ++ pointer ++ codes "': the decoded bytes do not represent valid UTF-8"
+    codes "Invalid percent encoding in pointer '" ++ pointer
+    ++ codes "': the decoded bytes do not represent valid UTF-8"
 fault_text (InvalidArrayIndex pointer index) =
     codes "Failed to parse array index '" ++ index ++ codes "' in pointer '" ++ pointer ++ codes "'"
 fault_text (NoSuchAnchor anchor) = codes "Anchor '" ++ anchor ++ codes "' does not exist"
 fault_text (InvalidAnchor anchor) = codes "Anchor '" ++ anchor ++ codes "' is invalid"
 fault_text (InvalidUri refusal) = refusal_text refusal
 fault_text (UnknownSpecification specification) =
-    codes "Unknown meta-schema: '" ++ specification ++ codes "'. Custom meta-schemas must be registered in the registry before use"
-fault_text (CircularMetaschema uri) = codes "Circular meta-schema reference detected at '" ++ uri ++ codes "'"
+    codes "Unknown meta-schema: '" ++ specification
+    ++ codes "'. Custom meta-schemas must be registered in the registry before use"
+fault_text (CircularMetaschema uri) =
+    codes "Circular meta-schema reference detected at '" ++ uri ++ codes "'"
 fault_text (RetrievalLimit uri limit) =
-    codes "Retrieval limit of " ++ decimal limit ++ codes " documents reached before '" ++ uri ++ codes "'"
+    codes "Retrieval limit of " ++ decimal limit ++ codes " documents reached before '" ++ uri
+    ++ codes "'"
 
 -- nothing is retrieved once a registry stands
 abbrev pub not_retrieved : List ℕ → Fault
-not_retrieved uri = Unretrievable uri (codes "Retrieving external resources is not supported once the registry is populated")
+not_retrieved uri =
+    Unretrievable uri
+    (codes "Retrieving external resources is not supported once the registry is populated")

@@ -34,12 +34,14 @@ pub record Found : Type 0 where
 abbrev pub moved_resolver : Resolver → List ℕ → Resolver
 moved_resolver r uri = record {
   base = uri;
-  scope = (if (length r.scope == 0) || not (bytes_eq uri r.base) then r.base ∷ r.scope else r.scope);
+  scope =
+      (if (length r.scope == 0) || not (bytes_eq uri r.base) then r.base ∷ r.scope else r.scope);
 }
 
 -- the resolver in a value: its identifier, where it has one, changes the base and nothing else (2020-12 Core, 8.2.1)
 abbrev pub in_subresource : Resolver → Draft → Data → Result Resolver Refusal
-in_subresource r draft value = base_within r.base (identifier draft value) >>= λ base. Ok (record r { base = base })
+in_subresource r draft value =
+    base_within r.base (identifier draft value) >>= λ base. Ok (record r { base = base })
 
 -- what a name means under each URI of the scope, inner to outer
 abbrev pub in_scope : World → List ℕ → List (List ℕ) → List (List ℕ × Result Named Fault)
@@ -70,7 +72,8 @@ unless_fault (fault ∷ more) answer = Err fault
 abbrev pub entry_found : Resolver → List ℕ × Named → Result Found Fault
 entry_found r (uri, n) =
     as_invalid_uri (in_subresource (record r { base = uri }) n.place.draft n.place.value)
-    >>= λ moved_resolver. Ok (record { value = n.place.value; draft = n.place.draft; resolver = moved_resolver })
+    >>= λ moved_resolver. Ok
+    (record { value = n.place.value; draft = n.place.draft; resolver = moved_resolver })
 
 -- of the entries filtered to the dynamic ones the last, or what was found first (2020-12 Core, 8.2.3.2)
 abbrev pub outermost : List ℕ × Named → List (List ℕ × Named) → List ℕ × Named
@@ -79,7 +82,8 @@ outermost first entries = unwrap_or (last_or None (filter (λ e. is_dynamic e.1.
 -- a dynamic anchor, by what its name means in the scope: the first fault, or else the outermost
 abbrev pub by_scope : Resolver → Named → List (List ℕ × Result Named Fault) → Result Found Fault
 by_scope r first meanings =
-    unless_fault (flat_map fault_of meanings) (entry_found r (outermost (r.base, first) (flat_map entry_of meanings)))
+    unless_fault (flat_map fault_of meanings)
+    (entry_found r (outermost (r.base, first) (flat_map entry_of meanings)))
 
 -- a dynamic anchor, by the scope of the resolver that asks
 abbrev pub dynamically : World → Resolver → Named → Result Found Fault
@@ -87,18 +91,22 @@ dynamically world r first = by_scope r first (in_scope world first.name r.scope)
 
 -- a plain anchor returns its place
 abbrev pub named_found : World → Resolver → Named → Kind → Result Found Fault
-named_found world r n Plain = Ok (record { value = n.place.value; draft = n.place.draft; resolver = r })
+named_found world r n Plain =
+    Ok (record { value = n.place.value; draft = n.place.draft; resolver = r })
 named_found world r n Dynamic = dynamically world r n
 
 -- a value that a pointer leads to in a resource of a draft, with the base there
 abbrev pub pointer_found : Resolver → Draft → Data × Along → Found
-pointer_found r draft (value, along) = record { value = value; draft = draft; resolver = record r { base = along.base } }
+pointer_found r draft (value, along) =
+    record { value = value; draft = draft; resolver = record r { base = along.base } }
 
 -- what a fragment means in the resource at a place: the resource, what a pointer leads to, or what an anchor names
 abbrev pub at_fragment : World → Resolver → Place → List ℕ → Result Found Fault
 at_fragment world r p [] = Ok (record { value = p.value; draft = p.draft; resolver = r })
 at_fragment world r p (c ∷ text) =
-    if c == 47 then (pointed_value p.draft (c ∷ text) r.base p.value text >>= λ to. Ok (pointer_found r p.draft to))
+    if c == 47 then
+    (pointed_value p.draft (c ∷ text) r.base p.value text
+    >>= λ to. Ok (pointer_found r p.draft to))
     else (anchor world r.base (c ∷ text) >>= λ n. named_found world r n n.kind)
 
 -- where a reference leads from a resolver
@@ -110,8 +118,11 @@ lookup world r reference =
 
 -- where a path leads from a base: the lookup, with an empty scope, of `#` and the path's pointer text as a fragment holds it
 abbrev pub located_value : World → List ℕ → List Part → Result Found Fault
-located_value world base path = lookup world (record { base = base; scope = [] }) (35 ∷ encoded_text (pointer_text path))
+located_value world base path =
+    lookup world (record { base = base; scope = [] }) (35 ∷ encoded_text (pointer_text path))
 
 -- a resolver as it is displayed: its base, and its scope from inner to outer
 abbrev pub resolver_text : Resolver → List ℕ
-resolver_text r = codes "Resolver { base_uri: \"" ++ r.base ++ codes "\", scopes: \"[" ++ join_by (λ uri. uri) (codes ", ") r.scope ++ codes "]\" }"
+resolver_text r =
+    codes "Resolver { base_uri: \"" ++ r.base ++ codes "\", scopes: \"["
+    ++ join_by (λ uri. uri) (codes ", ") r.scope ++ codes "]\" }"

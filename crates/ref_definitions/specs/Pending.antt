@@ -25,12 +25,15 @@ pub record Pending : Type 0 where
 
 -- the URI of an addition: what its text means by itself, the `#` characters at its end dropped
 abbrev pub pending_of : Addition → Result Pending Refusal
-pending_of a = uri_of (trimmed_text a.text) >>= λ uri. Ok (record { uri = uri; tree = a.tree; draft = a.draft })
+pending_of a =
+    uri_of (trimmed_text a.text)
+    >>= λ uri. Ok (record { uri = uri; tree = a.tree; draft = a.draft })
 
 -- Pending documents are in order of first addition: a later one under the same URI takes the earlier one's place.
 unfoldable pub with_pending : List Pending → Pending → List Pending
 with_pending ps p =
-    if list_any (λ e. bytes_eq e.uri p.uri) ps then map (λ e. if bytes_eq e.uri p.uri then p else e) ps
+    if list_any (λ e. bytes_eq e.uri p.uri) ps then
+    map (λ e. if bytes_eq e.uri p.uri then p else e) ps
     else ps ++ p ∷ []
 
 -- the pending documents after one more addition, or why its URI means nothing
@@ -48,7 +51,8 @@ builder_draft set = unwrap_or set Draft202012
 
 -- a pending document's draft: the given one, or what the builder's detects on its tree
 abbrev pub document_of : Draft → Pending → Document
-document_of draft p = record { uri = p.uri; tree = p.tree; draft = unwrap_or p.draft (detect draft p.tree) }
+document_of draft p =
+    record { uri = p.uri; tree = p.tree; draft = unwrap_or p.draft (detect draft p.tree) }
 
 -- the documents that preparing begins with, where the builder's draft was set or not
 abbrev pub documents_of : Option Draft → List Pending → Layer

@@ -28,12 +28,26 @@ base_within outer (Some id) = uri_against outer id
 
 -- level 0: the root, whose identifier resolves against the document's URI
 abbrev pub root : Document → Place
-root d = record { path = []; value = d.tree; draft = d.draft; outer = d.uri; base = base_within d.uri (identifier d.draft d.tree) }
+root d =
+    record {
+      path = [];
+      value = d.tree;
+      draft = d.draft;
+      outer = d.uri;
+      base = base_within d.uri (identifier d.draft d.tree);
+    }
 
 -- a child of a place
 abbrev pub child_place : List Part → List ℕ → Walked → Place
 child_place path base child =
-    record { path = path ++ child.path; value = child.value; draft = child.draft; outer = base; base = base_within base (identifier child.draft child.value) }
+    record {
+      path = path
+          ++ child.path;
+      value = child.value;
+      draft = child.draft;
+      outer = base;
+      base = base_within base (identifier child.draft child.value);
+    }
 
 -- the children of a place: none where its identifier doesn't resolve
 abbrev pub children_with : Result (List ℕ) Refusal → Place → List Place
@@ -47,7 +61,8 @@ children_of p = children_with p.base p
 -- n levels below places, each the joined children of the one above
 abbrev pub levels_below : ℕ → List Place → List Place
 levels_below zero places = []
-levels_below (suc n) places = flat_map children_of places ++ levels_below n (flat_map children_of places)
+levels_below (suc n) places =
+    flat_map children_of places ++ levels_below n (flat_map children_of places)
 
 -- The places of a document: its levels joined. No level stands below the depth of the tree.
 abbrev pub places : Document → List Place

@@ -24,7 +24,11 @@ pub record Given : Type 1 where
 -- retriever may return for it.
 pub data IsRun (given : Given) : ℕ → Layer → Type 0 where
   begun : IsRun given 0 given.documents
-  retrieved : (n : ℕ) (layer : Layer) (want : Want) (more : List Want) (tree : Data) → IsRun given n layer → faults layer ≡ [] → open_wants (layer ∷ given.parents) layer ≡ want ∷ more → given.retriever.may_answer want.uri tree → IsRun given (suc n) (layer ++ document given.draft want.uri tree ∷ [])
+  retrieved : (n : ℕ) (layer : Layer) (want : Want) (more : List Want) (tree : Data)
+      → IsRun given n layer → faults layer ≡ []
+      → open_wants (layer ∷ given.parents) layer ≡ want ∷ more
+      → given.retriever.may_answer want.uri tree
+      → IsRun given (suc n) (layer ++ document given.draft want.uri tree ∷ [])
 
 -- the fault of a want that the retriever refuses with a text
 abbrev pub refusal_fault : Cause → List ℕ → List ℕ → Fault
@@ -34,7 +38,15 @@ refusal_fault MetaSchema uri text = UnknownSpecification uri
 -- An outcome of a run of at most the limit: its first fault; the limit, or a refusal that the retriever may give, where a
 -- want is open; or the layer, where none is. Nothing else is one.
 pub data IsOutcome (given : Given) : Result Layer Fault → Type 0 where
-  faulty : (n : ℕ) (layer : Layer) (refusal : Refusal) (more : List Refusal) → IsRun given n layer → n ≤ given.limit → faults layer ≡ refusal ∷ more → IsOutcome given (Err (InvalidUri refusal))
-  limited : (layer : Layer) (want : Want) (more : List Want) → IsRun given given.limit layer → faults layer ≡ [] → open_wants (layer ∷ given.parents) layer ≡ want ∷ more → IsOutcome given (Err (RetrievalLimit want.uri given.limit))
-  refused : (n : ℕ) (layer : Layer) (want : Want) (more : List Want) (text : List ℕ) → IsRun given n layer → n < given.limit → faults layer ≡ [] → open_wants (layer ∷ given.parents) layer ≡ want ∷ more → given.retriever.may_refuse want.uri text → IsOutcome given (Err (refusal_fault want.cause want.uri text))
-  ready : (n : ℕ) (layer : Layer) → IsRun given n layer → n ≤ given.limit → faults layer ≡ [] → open_wants (layer ∷ given.parents) layer ≡ [] → IsOutcome given (Ok layer)
+  faulty : (n : ℕ) (layer : Layer) (refusal : Refusal) (more : List Refusal) → IsRun given n layer
+      → n ≤ given.limit → faults layer ≡ refusal ∷ more → IsOutcome given (Err (InvalidUri refusal))
+  limited : (layer : Layer) (want : Want) (more : List Want) → IsRun given given.limit layer
+      → faults layer ≡ [] → open_wants (layer ∷ given.parents) layer ≡ want ∷ more
+      → IsOutcome given (Err (RetrievalLimit want.uri given.limit))
+  refused : (n : ℕ) (layer : Layer) (want : Want) (more : List Want) (text : List ℕ)
+      → IsRun given n layer → n < given.limit → faults layer ≡ []
+      → open_wants (layer ∷ given.parents) layer ≡ want ∷ more
+      → given.retriever.may_refuse want.uri text
+      → IsOutcome given (Err (refusal_fault want.cause want.uri text))
+  ready : (n : ℕ) (layer : Layer) → IsRun given n layer → n ≤ given.limit → faults layer ≡ []
+      → open_wants (layer ∷ given.parents) layer ≡ [] → IsOutcome given (Ok layer)

@@ -24,18 +24,30 @@ abbrev pub IsReadAs : Data → List (List ℕ) → List Part → Type 0
 IsReadAs value [] [] = ⊤
 IsReadAs value [] (part ∷ path) = ⊥
 IsReadAs value (token ∷ tokens) [] = ⊥
-IsReadAs value (token ∷ tokens) (part ∷ path) = IsReadAsPart value token part × ((there : Data) × (child_at value part ≡ Some there) × IsReadAs there tokens path)
+IsReadAs value (token ∷ tokens) (part ∷ path) =
+    IsReadAsPart value token part
+    × ((there : Data) × (child_at value part ≡ Some there) × IsReadAs there tokens path)
 
 -- A token is faulty at a value with a base: it is no index of an array; nothing is at its part; the value has no parts; or
 -- what is at its part has an identifier that counts and doesn't resolve.
-pub data IsFaultAt (draft : Draft) (pointer : List ℕ) (along : Along) (value : Data) (token : List ℕ) : Fault → Type 0 where
-  no_index : IsTrue (is_array value) → index_of token ≡ None → IsFaultAt draft pointer along value token (InvalidArrayIndex pointer token)
-  nothing_there : (part : Part) → IsReadAsPart value token part → child_at value part ≡ None → IsFaultAt draft pointer along value token (PointerToNowhere pointer)
-  no_parts : IsFalse (is_array value) → IsFalse (is_object value) → IsFaultAt draft pointer along value token (PointerToNowhere pointer)
-  no_base : (part : Part) (there : Data) (id : List ℕ) (refusal : Refusal) → IsReadAsPart value token part → child_at value part ≡ Some there → IsAccepted draft (along.since ++ part ∷ []) there → identifier draft there ≡ Some id → uri_against along.base id ≡ Err refusal → IsFaultAt draft pointer along value token (InvalidUri refusal)
+pub data IsFaultAt (draft : Draft) (pointer : List ℕ) (along : Along) (value : Data)
+    (token : List ℕ) : Fault
+    → Type 0 where
+  no_index : IsTrue (is_array value) → index_of token ≡ None
+      → IsFaultAt draft pointer along value token (InvalidArrayIndex pointer token)
+  nothing_there : (part : Part) → IsReadAsPart value token part → child_at value part ≡ None
+      → IsFaultAt draft pointer along value token (PointerToNowhere pointer)
+  no_parts : IsFalse (is_array value) → IsFalse (is_object value)
+      → IsFaultAt draft pointer along value token (PointerToNowhere pointer)
+  no_base : (part : Part) (there : Data) (id : List ℕ) (refusal : Refusal)
+      → IsReadAsPart value token part → child_at value part ≡ Some there
+      → IsAccepted draft (along.since ++ part ∷ []) there → identifier draft there ≡ Some id
+      → uri_against along.base id ≡ Err refusal
+      → IsFaultAt draft pointer along value token (InvalidUri refusal)
 
 -- The first fault along tokens: those before the faulty one are read as a path, with a value and a base there.
-pub record IsFaultAlong (draft : Draft) (pointer start : List ℕ) (value : Data) (tokens : List (List ℕ)) (fault : Fault) : Type 0 where
+pub record IsFaultAlong (draft : Draft) (pointer start : List ℕ) (value : Data)
+    (tokens : List (List ℕ)) (fault : Fault) : Type 0 where
   pub before : List (List ℕ)
   pub token : List ℕ
   pub after : List (List ℕ)

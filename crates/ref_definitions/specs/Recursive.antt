@@ -40,10 +40,12 @@ unless_fault_behind (Err fault ∷ rest) answer = Err fault
 -- The last of the longest beginning, or the first lookup where that is empty; a fault right after the beginning is the answer.
 abbrev pub outermost_marked : Result Found Fault → List (Result Found Fault) → Result Found Fault
 outermost_marked first answers =
-    unless_fault_behind (behind_beginning answers) (unwrap_or (last_or None (marked_beginning answers)) first)
+    unless_fault_behind (behind_beginning answers)
+    (unwrap_or (last_or None (marked_beginning answers)) first)
 
 -- where `$recursiveRef` leads
 unfoldable pub lookup_recursive : World → Resolver → Result Found Fault
 lookup_recursive world r =
     lookup world r (codes "#")
-    >>= λ first. if is_marked first.value then outermost_marked (Ok first) (looked_up world r) else Ok first
+    >>= λ first. if is_marked first.value then outermost_marked (Ok first) (looked_up world r)
+    else Ok first

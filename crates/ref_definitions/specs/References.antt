@@ -12,7 +12,10 @@ use Rattle.ref_definitions.specs.Lookup.{Resolver, lookup}
 -- unretrievable. A pointer or an anchor in it may still be unresolvable.
 abbrev pub ReferencesAreRetrieved : Type 0
 ReferencesAreRetrieved =
-    (layer : Layer) (parents : World) (d : Document) (place : Place) (resolver : Resolver) (reference : List ℕ)
+    (layer : Layer) (parents : World) (d : Document) (place : Place) (resolver : Resolver)
+    (reference : List ℕ)
     → open_wants (layer ∷ parents) layer ≡ []
-    → Contains layer d → Contains (places d) place → place.base ≡ Ok resolver.base → text_under (codes "$ref") place.value ≡ Some reference
-    → (uri source : List ℕ) → ¬ (lookup (layer ∷ parents) resolver reference ≡ Err (Unretrievable uri source))
+    → Contains layer d → Contains (places d) place → place.base ≡ Ok resolver.base
+    → text_under (codes "$ref") place.value ≡ Some reference
+    → (uri source : List ℕ)
+    → ¬ (lookup (layer ∷ parents) resolver reference ≡ Err (Unretrievable uri source))

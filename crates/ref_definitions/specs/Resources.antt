@@ -29,4 +29,5 @@ last_under uri entries = last_or None (filter (λ e. bytes_eq e.0 uri) entries)
 -- the last entry under a URI in the nearest layer that has one
 abbrev pub meant_place : World → List ℕ → Option Place
 meant_place [] uri = None
-meant_place (layer ∷ world) uri = option_map_or (λ e. Some e.1) (last_under uri (resources layer)) (meant_place world uri)
+meant_place (layer ∷ world) uri =
+    option_map_or (λ e. Some e.1) (last_under uri (resources layer)) (meant_place world uri)

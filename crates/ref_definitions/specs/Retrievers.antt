@@ -17,7 +17,8 @@ default_retriever = record {
 abbrev pub map_retriever : List (List ℕ × Data) → Retriever
 map_retriever pairs = record {
   may_answer = λ uri tree. option_map (λ e. e.1) (last_under uri pairs) ≡ Some tree;
-  may_refuse = λ uri text. (last_under uri pairs ≡ None) × (text ≡ codes "no document under this URI");
+  may_refuse =
+      λ uri text. (last_under uri pairs ≡ None) × (text ≡ codes "no document under this URI");
 }
 
 -- it returns a URI with a tree or refuses it with a text, as a function says
@@ -29,4 +30,5 @@ function_retriever answers = record {
 
 -- there is one outcome at most
 abbrev pub HasOneOutcome : Given → Type 0
-HasOneOutcome given = (one other : Result Layer Fault) → IsOutcome given one → IsOutcome given other → one ≡ other
+HasOneOutcome given =
+    (one other : Result Layer Fault) → IsOutcome given one → IsOutcome given other → one ≡ other

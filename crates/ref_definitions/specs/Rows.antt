@@ -41,7 +41,8 @@ abbrev pub two : Literal → Data → Literal → Data → Data
 two key d other e = object (member (codes key) d (member (codes other) e no_members))
 
 abbrev pub three : Literal → Data → Literal → Data → Literal → Data → Data
-three key d other e third f = object (member (codes key) d (member (codes other) e (member (codes third) f no_members)))
+three key d other e third f =
+    object (member (codes key) d (member (codes other) e (member (codes third) f no_members)))
 
 -- an array of one element, of two
 abbrev pub list : Data → Data
@@ -56,8 +57,15 @@ at draft uri tree = document draft (codes uri) tree
 
 -- {"":4,"a":{"b":3},"a%zz":1,"l":[],"~/":5,"~2":2}
 abbrev pub odd_keys : Document
-odd_keys = at Draft202012 "http://a/r" (object (member [] (whole_number 4) (member (codes "a") (one "b" (whole_number 3)) (member (codes "a%zz") (whole_number 1)
-    (member (codes "l") (array no_items) (member (codes "~/") (whole_number 5) (member (codes "~2") (whole_number 2) no_members)))))))
+odd_keys =
+    at Draft202012 "http://a/r"
+    (object
+    (member [] (whole_number 4)
+    (member (codes "a") (one "b" (whole_number 3))
+    (member (codes "a%zz") (whole_number 1)
+    (member (codes "l") (array no_items)
+    (member (codes "~/") (whole_number 5)
+    (member (codes "~2") (whole_number 2) no_members)))))))
 
 -- what is added: a value, or a resource of a draft
 abbrev pub value_under : Literal → Data → Addition
@@ -85,7 +93,14 @@ c_is_true = at Draft202012 "http://a/c" yes
 
 -- documents of 2020-12 with a retriever and a limit, and without a parent
 abbrev pub given_documents : Retriever → ℕ → Layer → Given
-given_documents retriever limit documents = record { retriever = retriever; limit = limit; draft = Draft202012; parents = []; documents = documents }
+given_documents retriever limit documents =
+    record {
+      retriever = retriever;
+      limit = limit;
+      draft = Draft202012;
+      parents = [];
+      documents = documents;
+    }
 
 -- a document that refers to `b`, and a retriever that has `b`, which refers to `c`
 abbrev pub has_b : Retriever
@@ -96,7 +111,8 @@ given_with limit = given_documents has_b limit (refers_to_b ∷ [])
 
 -- the same, where the retriever has `c` too
 abbrev pub has_b_and_c : Retriever
-has_b_and_c = map_retriever ((codes "http://a/b", one "$ref" (text "c")) ∷ (codes "http://a/c", yes) ∷ [])
+has_b_and_c =
+    map_retriever ((codes "http://a/b", one "$ref" (text "c")) ∷ (codes "http://a/c", yes) ∷ [])
 
 -- documents alone: nothing is retrieved
 abbrev pub given_alone : Layer → Given
@@ -142,7 +158,8 @@ found_value value draft r = record { value = value; draft = draft; resolver = r 
 
 -- a name of the root of a document
 abbrev pub name_at : Literal → Literal → Kind → Draft → Data → Named
-name_at uri name kind draft tree = record { uri = codes uri; name = codes name; kind = kind; place = root (at draft uri tree) }
+name_at uri name kind draft tree =
+    record { uri = codes uri; name = codes name; kind = kind; place = root (at draft uri tree) }
 
 -- what is shown of places, and of what is under URIs and names
 abbrev pub paths_and_bases : List Place → List (List Part × Result (List ℕ) Refusal)
@@ -163,27 +180,49 @@ value_of_answer (refusal n fault) = None
 
 -- a schema within each kind of keyword that holds schemas before 2020-12, with an identifier under this keyword, and its path
 abbrev pub nested_schema : Literal → Data
-nested_schema id = one "not" (one "allOf" (list (one "properties" (one "p" (one "items" (list (one "dependencies" (one "d" (one "additionalItems" (one id (text "s")))))))))))
+nested_schema id =
+    one "not"
+    (one "allOf"
+    (list
+    (one "properties"
+    (one "p"
+    (one "items"
+    (list
+    (one "dependencies"
+    (one "d" (one "additionalItems" (one id (text "s")))))))))))
 
 abbrev pub nested_path : List Part
-nested_path = Key (codes "not") ∷ Key (codes "allOf") ∷ Index 0 ∷ Key (codes "properties") ∷ Key (codes "p") ∷ Key (codes "items") ∷ Index 0 ∷ Key (codes "dependencies") ∷ Key (codes "d") ∷ Key (codes "additionalItems") ∷ []
+nested_path =
+    Key (codes "not") ∷ Key (codes "allOf") ∷ Index 0 ∷ Key (codes "properties") ∷ Key (codes "p")
+    ∷ Key (codes "items") ∷ Index 0 ∷ Key (codes "dependencies") ∷ Key (codes "d")
+    ∷ Key (codes "additionalItems") ∷ []
 
 -- the same of 2020-12
 abbrev pub nested_2020 : Data
-nested_2020 = one "not" (one "prefixItems" (list (one "$defs" (one "p" (one "items" (one "$id" (text "s")))))))
+nested_2020 =
+    one "not"
+    (one "prefixItems" (list (one "$defs" (one "p" (one "items" (one "$id" (text "s")))))))
 
 abbrev pub nested_path_2020 : List Part
-nested_path_2020 = Key (codes "not") ∷ Key (codes "prefixItems") ∷ Index 0 ∷ Key (codes "$defs") ∷ Key (codes "p") ∷ Key (codes "items") ∷ []
+nested_path_2020 =
+    Key (codes "not") ∷ Key (codes "prefixItems") ∷ Index 0 ∷ Key (codes "$defs") ∷ Key (codes "p")
+    ∷ Key (codes "items") ∷ []
 
 -- a schema with an identifier, a definition that has one, and a property, of Draft 4, of Drafts 6 and 7, and since 2019-09
 abbrev pub identified_4 : Data
-identified_4 = three "definitions" (one "a" (one "id" (text "s"))) "id" (text "r") "properties" (one "x" (one "items" empty))
+identified_4 =
+    three "definitions" (one "a" (one "id" (text "s"))) "id" (text "r") "properties"
+    (one "x" (one "items" empty))
 
 abbrev pub identified_schema : Data
-identified_schema = three "$id" (text "r") "definitions" (one "a" (one "$id" (text "s"))) "properties" (one "x" (one "items" empty))
+identified_schema =
+    three "$id" (text "r") "definitions" (one "a" (one "$id" (text "s"))) "properties"
+    (one "x" (one "items" empty))
 
 abbrev pub identified_2020 : Data
-identified_2020 = three "$defs" (one "a" (one "$id" (text "s"))) "$id" (text "r") "properties" (one "x" (one "items" empty))
+identified_2020 =
+    three "$defs" (one "a" (one "$id" (text "s"))) "$id" (text "r") "properties"
+    (one "x" (one "items" empty))
 
 -- two schemas with one identifier
 abbrev pub equal_identifiers : Data
@@ -191,7 +230,15 @@ equal_identifiers = two "if" (one "$id" (text "k")) "then" (one "$id" (text "k")
 
 -- a place of 2020-12 under a keyword of a root, with the base around it and its own
 abbrev pub place_below : Literal → Data → Literal → Literal → Place
-place_below keyword value outer base = record { path = Key (codes keyword) ∷ []; value = value; draft = Draft202012; outer = codes outer; base = Ok (codes base) }
+place_below keyword value outer base =
+    record {
+      path = Key (codes keyword)
+          ∷ [];
+      value = value;
+      draft = Draft202012;
+      outer = codes outer;
+      base = Ok (codes base);
+    }
 
 -- the last place of a document, with its path, base and draft
 abbrev pub last_place : Document → Option (List Part × Result (List ℕ) Refusal × Draft)

@@ -22,7 +22,10 @@ pub record Want : Type 0 where
 
 -- the URI of a text that names a meta-schema of no known draft: its fragment takes no part
 abbrev pub schema_uri : List ℕ → Option (Result (List ℕ) Refusal)
-schema_uri text = if is_unknown (from_schema_uri text) then Some (uri_of text >>= λ uri. Ok (with_fragment uri None)) else None
+schema_uri text =
+    if is_unknown (from_schema_uri text) then
+    Some (uri_of text >>= λ uri. Ok (with_fragment uri None))
+    else None
 
 -- what a place's text under `$ref` refers to, where its base is known
 abbrev pub reference_at : List ℕ → Data → Option (Result (List ℕ) Refusal)
@@ -46,7 +49,8 @@ refusals_of (Some (Err refusal)) = refusal ∷ []
 
 -- a place wants what it refers to, which needs a base, then its meta-schema
 abbrev pub wants_at : Result (List ℕ) Refusal → Data → List Want
-wants_at (Ok base) value = wants_of_text Reference (reference_at base value) ++ wants_of_text MetaSchema (schema_at value)
+wants_at (Ok base) value =
+    wants_of_text Reference (reference_at base value) ++ wants_of_text MetaSchema (schema_at value)
 wants_at (Err refusal) value = wants_of_text MetaSchema (schema_at value)
 
 -- a place's faults: its identifier, or its reference where it has a base, then its meta-schema

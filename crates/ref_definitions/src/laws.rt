@@ -30,22 +30,27 @@ ghost use Rattle.ref_definitions.specs.Appending.{MeaningsStay, MeaningsStayBelo
 
 /// Pending documents are under URIs that differ, whatever was added.
 pub fn pending_documents_differ()
-    ensures law { (additions : List Addition) (ps : List Pending) → with_additions [] additions ≡ Ok ps
+    ensures law { (additions : List Addition) (ps : List Pending)
+        → with_additions [] additions ≡ Ok ps
         → AllPairs (λ u v. ¬ (u ≡ v)) (map (λ p. p.uri) ps) }
 {}
 
 /// The levels of a document end at the depth of its tree: however many more are joined, they are its places.
 pub fn levels_end_at_the_depth()
-    ensures law { (d : Document) (n : ℕ) → depth d.tree ≤ n → root d ∷ levels_below n (root d ∷ []) ≡ places d }
+    ensures law { (d : Document) (n : ℕ) → depth d.tree ≤ n
+        → root d ∷ levels_below n (root d ∷ []) ≡ places d }
 {}
 
 /// Where each object of a document has each key once, each place of it has its value at its path, the paths of places differ,
 /// and each child of a place is at its path there. Where the children do, so do the places.
 pub fn places_stand_at_their_paths()
-    ensures values { (d : Document) → HasUniqueKeys d.tree → AllByRecursion (λ p. value_at d.tree p.path ≡ Some p.value) (places d) }
+    ensures values { (d : Document) → HasUniqueKeys d.tree
+        → AllByRecursion (λ p. value_at d.tree p.path ≡ Some p.value) (places d) }
     ensures children { (d : Document) → HasUniqueKeys d.tree → ChildrenStand d }
-    ensures standing { (d : Document) → ChildrenStand d → AllByRecursion (λ p. value_at d.tree p.path ≡ Some p.value) (places d) }
-    ensures paths { (d : Document) → HasUniqueKeys d.tree → AllPairs (λ p q. ¬ (p ≡ q)) (map (λ p. p.path) (places d)) }
+    ensures standing { (d : Document) → ChildrenStand d
+        → AllByRecursion (λ p. value_at d.tree p.path ≡ Some p.value) (places d) }
+    ensures paths { (d : Document) → HasUniqueKeys d.tree
+        → AllPairs (λ p q. ¬ (p ≡ q)) (map (λ p. p.path) (places d)) }
 {}
 
 /// Each place of a document but its root is a child of one that is before it.
@@ -56,7 +61,8 @@ pub fn places_descend_from_the_root()
 /// The places below a place whose children are those of another, with a path before theirs, are those below the other,
 /// with that path in front.
 pub fn places_move_with_their_tree()
-    ensures law { (n : ℕ) (front : List Part) (e r : Place) → children_of e ≡ map (below_path front) (children_of r)
+    ensures law { (n : ℕ) (front : List Part) (e r : Place)
+        → children_of e ≡ map (below_path front) (children_of r)
         → levels_below n (e ∷ []) ≡ map (below_path front) (levels_below n (r ∷ [])) }
 {}
 
@@ -64,35 +70,50 @@ pub fn places_move_with_their_tree()
 /// those that were added, or else the last of those that were there.
 pub fn later_entries_count()
     ensures under_a_uri { (uri : List ℕ) (entries more : List (List ℕ × Place))
-        → last_under uri (entries ++ more) ≡ option_or (last_under uri more) (last_under uri entries) }
+        → last_under uri (entries ++ more)
+        ≡ option_or (last_under uri more) (last_under uri entries) }
     ensures under_a_name { (uri name : List ℕ) (entries more : List Named)
-        → last_named uri name (entries ++ more) ≡ option_or (last_named uri name more) (last_named uri name entries) }
+        → last_named uri name (entries ++ more)
+        ≡ option_or (last_named uri name more) (last_named uri name entries) }
 {}
 
-/// What follows a pointer's first `/` is percent-decoded, and is a fault where it's no UTF-8. The pointer succeeds just where its
-/// tokens are read as a path at which a value stands, and along which there is a base: the answer is this value with this base,
-/// that of the last change along the path. There is one such path, and one base along it. Otherwise the fault is that of the
-/// first faulty token, or of the first identifier that counts along the path and doesn't resolve.
+/// What follows a pointer's first `/` is percent-decoded, and is a fault where it's no UTF-8. The pointer succeeds just
+/// where its tokens are read as a path at which a value stands, and along which there is a base: the answer is this
+/// value with this base, that of the last change along the path. There is one such path, and one base along it.
+/// Otherwise the fault is that of the first faulty token, or of the first identifier that counts along the path and
+/// doesn't resolve.
 pub fn pointers_lead_along_paths()
-    ensures one_base { (draft : Draft) (start : List ℕ) (value : Data) (path : List Part) (along other : Along)
-        → IsBaseAlong draft start value path along → IsBaseAlong draft start value path other → along ≡ other }
+    ensures one_base { (draft : Draft) (start : List ℕ) (value : Data) (path : List Part)
+        (along other : Along)
+        → IsBaseAlong draft start value path along → IsBaseAlong draft start value path other
+        → along ≡ other }
     ensures one_path { (value : Data) (list : List (List ℕ)) (path other : List Part)
         → IsReadAs value list path → IsReadAs value list other → path ≡ other }
     ensures law { (draft : Draft) (pointer start text : List ℕ) (value found : Data) (along : Along)
-        → pointed_value draft pointer start value text ≡ Ok (found, along) → LeadsAlong draft start value found along }
-    ensures path { (draft : Draft) (pointer start text : List ℕ) (value found : Data) (along : Along)
         → pointed_value draft pointer start value text ≡ Ok (found, along)
-        → (path : List Part) × IsReadAs value (tokens (percent_decode text)) path × (value_at value path ≡ Some found) × IsBaseAlong draft start value path along }
-    ensures only { (draft : Draft) (pointer start text : List ℕ) (value found : Data) (path : List Part) (along : Along)
-        → IsTrue (is_utf8 (percent_decode text)) → IsReadAs value (tokens (percent_decode text)) path → value_at value path ≡ Some found
-        → IsBaseAlong draft start value path along → pointed_value draft pointer start value text ≡ Ok (found, along) }
+        → LeadsAlong draft start value found along }
+    ensures path { (draft : Draft) (pointer start text : List ℕ) (value found : Data)
+        (along : Along)
+        → pointed_value draft pointer start value text ≡ Ok (found, along)
+        → (path : List Part) × IsReadAs value (tokens (percent_decode text)) path
+        × (value_at value path ≡ Some found) × IsBaseAlong draft start value path along }
+    ensures only { (draft : Draft) (pointer start text : List ℕ) (value found : Data)
+        (path : List Part) (along : Along)
+        → IsTrue (is_utf8 (percent_decode text))
+        → IsReadAs value (tokens (percent_decode text)) path → value_at value path ≡ Some found
+        → IsBaseAlong draft start value path along
+        → pointed_value draft pointer start value text ≡ Ok (found, along) }
     ensures no_text { (draft : Draft) (pointer start text : List ℕ) (value : Data)
-        → IsFalse (is_utf8 (percent_decode text)) → pointed_value draft pointer start value text ≡ Err (InvalidPercentEncoding pointer) }
+        → IsFalse (is_utf8 (percent_decode text))
+        → pointed_value draft pointer start value text ≡ Err (InvalidPercentEncoding pointer) }
     ensures fault { (draft : Draft) (pointer start text : List ℕ) (value : Data) (fault : Fault)
-        → IsTrue (is_utf8 (percent_decode text)) → pointed_value draft pointer start value text ≡ Err fault
+        → IsTrue (is_utf8 (percent_decode text))
+        → pointed_value draft pointer start value text ≡ Err fault
         → IsFaultAlong draft pointer start value (tokens (percent_decode text)) fault }
-    ensures fault_only { (draft : Draft) (pointer start text : List ℕ) (value : Data) (fault : Fault)
-        → IsTrue (is_utf8 (percent_decode text)) → IsFaultAlong draft pointer start value (tokens (percent_decode text)) fault
+    ensures fault_only { (draft : Draft) (pointer start text : List ℕ) (value : Data)
+        (fault : Fault)
+        → IsTrue (is_utf8 (percent_decode text))
+        → IsFaultAlong draft pointer start value (tokens (percent_decode text)) fault
         → pointed_value draft pointer start value text ≡ Err fault }
 {}
 
@@ -100,13 +121,17 @@ pub fn pointers_lead_along_paths()
 /// the parents' layers answer.
 pub fn nearest_layer_decides()
     ensures near { (layer : Layer) (parents : World) (uri found : List ℕ) (place : Place)
-        → last_under uri (resources layer) ≡ Some (found, place) → meant_place (layer ∷ parents) uri ≡ Some place }
+        → last_under uri (resources layer) ≡ Some (found, place)
+        → meant_place (layer ∷ parents) uri ≡ Some place }
     ensures far { (layer : Layer) (parents : World) (uri : List ℕ)
-        → last_under uri (resources layer) ≡ None → meant_place (layer ∷ parents) uri ≡ meant_place parents uri }
+        → last_under uri (resources layer) ≡ None
+        → meant_place (layer ∷ parents) uri ≡ meant_place parents uri }
     ensures near_name { (layer : Layer) (parents : World) (uri name : List ℕ) (entry : Named)
-        → last_named uri name (names layer) ≡ Some entry → named_entry (layer ∷ parents) uri name ≡ Some entry }
+        → last_named uri name (names layer) ≡ Some entry
+        → named_entry (layer ∷ parents) uri name ≡ Some entry }
     ensures far_name { (layer : Layer) (parents : World) (uri name : List ℕ)
-        → last_named uri name (names layer) ≡ None → named_entry (layer ∷ parents) uri name ≡ named_entry parents uri name }
+        → last_named uri name (names layer) ≡ None
+        → named_entry (layer ∷ parents) uri name ≡ named_entry parents uri name }
 {}
 
 /// Documents that are appended to a layer leave each want met that was met, and so does a parent: a URI that means a place
@@ -127,16 +152,39 @@ pub fn outcomes_of_retrieval()
     ensures law { OutcomesOfRetrieval }
 {}
 
-/// Where it is known for each URI what the retriever returns, or with which text it refuses, preparing has one outcome at most.
-/// An outcome speaks of URIs, trees and drafts, and not of who owns a document: so documents that are alike, borrowed, shared or
-/// owned, give registries that answer alike.
+/// Where it is known for each URI what the retriever returns, or with which text it refuses, preparing has one outcome
+/// at most. An outcome speaks of URIs, trees and drafts, and not of who owns a document: so documents that are alike,
+/// borrowed, shared or owned, give registries that answer alike.
 pub fn known_answers_have_one_outcome()
-    ensures of_a_function { (answers : List ℕ → Result Data (List ℕ)) (limit : ℕ) (draft : Draft) (parents : World) (documents : Layer)
-        → HasOneOutcome (record { retriever = function_retriever answers; limit = limit; draft = draft; parents = parents; documents = documents }) }
-    ensures of_a_map { (pairs : List (List ℕ × Data)) (limit : ℕ) (draft : Draft) (parents : World) (documents : Layer)
-        → HasOneOutcome (record { retriever = map_retriever pairs; limit = limit; draft = draft; parents = parents; documents = documents }) }
+    ensures of_a_function { (answers : List ℕ → Result Data (List ℕ)) (limit : ℕ) (draft : Draft)
+        (parents : World) (documents : Layer)
+        → HasOneOutcome
+        (record {
+          retriever = function_retriever answers;
+          limit = limit;
+          draft = draft;
+          parents = parents;
+          documents = documents;
+        }) }
+    ensures of_a_map { (pairs : List (List ℕ × Data)) (limit : ℕ) (draft : Draft) (parents : World)
+        (documents : Layer)
+        → HasOneOutcome
+        (record {
+          retriever = map_retriever pairs;
+          limit = limit;
+          draft = draft;
+          parents = parents;
+          documents = documents;
+        }) }
     ensures of_the_default { (limit : ℕ) (draft : Draft) (parents : World) (documents : Layer)
-        → HasOneOutcome (record { retriever = default_retriever; limit = limit; draft = draft; parents = parents; documents = documents }) }
+        → HasOneOutcome
+        (record {
+          retriever = default_retriever;
+          limit = limit;
+          draft = draft;
+          parents = parents;
+          documents = documents;
+        }) }
 {}
 
 /// Where no want is open, a reference at a place of the layer never leads to a URI that is not present.
@@ -155,10 +203,14 @@ pub fn walks_agree()
 /// The places at or below a place of a document are those places of it whose paths go on from its path; this needs each object
 /// to have each key once. In a layer without a fault each of them has a base.
 pub fn places_below_go_on_by_their_paths()
-    ensures places { (d : Document) (p q : Place) → Contains (places d) p → IsAtOrBelow q p → Contains (places d) q }
-    ensures paths { (p q : Place) → IsAtOrBelow q p → (path : List Part) × (q.path ≡ p.path ++ path) }
-    ensures below { (d : Document) (p q : Place) (path : List Part) → HasUniqueKeys d.tree → Contains (places d) p → Contains (places d) q
+    ensures places { (d : Document) (p q : Place) → Contains (places d) p → IsAtOrBelow q p
+        → Contains (places d) q }
+    ensures paths { (p q : Place) → IsAtOrBelow q p
+        → (path : List Part) × (q.path ≡ p.path ++ path) }
+    ensures below { (d : Document) (p q : Place) (path : List Part) → HasUniqueKeys d.tree
+        → Contains (places d) p → Contains (places d) q
         → q.path ≡ p.path ++ path → IsAtOrBelow q p }
-    ensures bases { (layer : Layer) (d : Document) (p : Place) → faults layer ≡ [] → Contains layer d → Contains (places d) p
+    ensures bases { (layer : Layer) (d : Document) (p : Place) → faults layer ≡ []
+        → Contains layer d → Contains (places d) p
         → (base : List ℕ) × (p.base ≡ Ok base) }
 {}

@@ -20,7 +20,8 @@ pub record IsMapOfSchemas (d : Draft) (keyword : List ℕ) (value : Data) : Type
 
 -- A beginning of a child's path leads to an array or to a map of subschemas, and since 2020-12 it isn't accepted after
 -- accepted parts.
-pub record EndsWithin (d : Draft) (parts : List Part) (value : Data) (beginning : List Part) : Type 0 where
+pub record EndsWithin (d : Draft) (parts : List Part) (value : Data)
+    (beginning : List Part) : Type 0 where
   pub within : Data
   pub there : value_at value beginning ≡ Some within
   pub between : IsTrue (is_array within) ⊎ IsMapOfSchemas d (keyword_of beginning) within
@@ -29,4 +30,6 @@ pub record EndsWithin (d : Draft) (parts : List Part) (value : Data) (beginning 
 -- each nonempty proper beginning of the paths of children
 abbrev pub AllEndWithin : Draft → List Part → Data → List Child → Type 0
 AllEndWithin d parts value cs =
-    AllByRecursion (λ child. (beginning rest : List Part) → child.0 ≡ beginning ++ rest → beginning ≢ [] → rest ≢ [] → EndsWithin d parts value beginning) cs
+    AllByRecursion
+    (λ child. (beginning rest : List Part) → child.0 ≡ beginning ++ rest → beginning ≢ []
+    → rest ≢ [] → EndsWithin d parts value beginning) cs

@@ -26,7 +26,8 @@ whole_child keyword value = (Key keyword ∷ [], value) ∷ []
 -- each element, under the keyword and its index, counted from i on
 abbrev pub elements_from : List ℕ → ℕ → Items → List Child
 elements_from keyword i no_items = []
-elements_from keyword i (item d ds) = (Key keyword ∷ Index i ∷ [], d) ∷ elements_from keyword (suc i) ds
+elements_from keyword i (item d ds) =
+    (Key keyword ∷ Index i ∷ [], d) ∷ elements_from keyword (suc i) ds
 
 -- each member, under the keyword and its key
 abbrev pub each_member : List ℕ → Members → List Child
@@ -55,14 +56,16 @@ held_children Whole keyword value = whole_child keyword value
 held_children WholeObject keyword value = filter has_object (whole_child keyword value)
 held_children Elements keyword value = elements keyword value
 held_children EachMember keyword value = members keyword value
-held_children ElementsOrWhole keyword value = option_map_or (elements_from keyword 0) (as_array value) (whole_child keyword value)
+held_children ElementsOrWhole keyword value =
+    option_map_or (elements_from keyword 0) (as_array value) (whole_child keyword value)
 held_children ObjectMembers keyword value = filter has_object (members keyword value)
 held_children Nothing keyword value = []
 
 -- the children under each of an object's keywords, in the order of the members
 abbrev pub children_below : Draft → Members → List Child
 children_below d no_members = []
-children_below d (member keyword value ms) = held_children (holding_of d keyword) keyword value ++ children_below d ms
+children_below d (member keyword value ms) =
+    held_children (holding_of d keyword) keyword value ++ children_below d ms
 
 -- The children of a value, in the order of its members: none where it is no object. The members of a value of `serde_json`
 -- come in byte order of their keys (`InKeyOrder`), since its map keeps them so.
@@ -76,7 +79,8 @@ keys_of (member key d ms) = key ∷ keys_of ms
 
 -- where a value is an object, its members come in byte order of their keys, each key once
 abbrev pub InKeyOrder : Data → Type 0
-InKeyOrder value = IsStrictlySortedBy (slice_cmp nat_cmp) (option_map_or keys_of (as_object value) [])
+InKeyOrder value =
+    IsStrictlySortedBy (slice_cmp nat_cmp) (option_map_or keys_of (as_object value) [])
 
 -- a child with the draft that is detected on it
 pub record Walked : Type 0 where
@@ -94,7 +98,8 @@ walked_children d value = map (with_draft d) (children d value)
 
 -- each child is at its path
 abbrev pub AllStand : Data → List Walked → Type 0
-AllStand value children = AllByRecursion (λ child. value_at value child.path ≡ Some child.value) children
+AllStand value children =
+    AllByRecursion (λ child. value_at value child.path ≡ Some child.value) children
 
 -- the keyword at the front of a path
 abbrev pub keyword_of : List Part → List ℕ

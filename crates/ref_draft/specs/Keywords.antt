@@ -23,15 +23,23 @@ pub record Row : Type 0 where
 -- Draft 4
 abbrev pub row_4 : Row
 row_4 = record {
-  values = map codes ("additionalItems" ∷ "additionalProperties" ∷ "contains" ∷ "contentSchema" ∷ "else" ∷ "if" ∷ "not" ∷ "propertyNames" ∷ "then" ∷ "unevaluatedItems" ∷ "unevaluatedProperties" ∷ []);
+  values =
+      map codes
+      ("additionalItems" ∷ "additionalProperties" ∷ "contains" ∷ "contentSchema" ∷ "else" ∷ "if"
+      ∷ "not" ∷ "propertyNames" ∷ "then" ∷ "unevaluatedItems" ∷ "unevaluatedProperties"
+      ∷ []);
   arrays = map codes ("allOf" ∷ "anyOf" ∷ "oneOf" ∷ "prefixItems" ∷ []);
-  maps = map codes ("$defs" ∷ "definitions" ∷ "dependentSchemas" ∷ "patternProperties" ∷ "properties" ∷ []);
+  maps =
+      map codes
+      ("$defs" ∷ "definitions" ∷ "dependentSchemas" ∷ "patternProperties" ∷ "properties" ∷ []);
 }
 
 -- Draft 6
 abbrev pub row_6 : Row
 row_6 = record {
-  values = map codes ("additionalItems" ∷ "additionalProperties" ∷ "contains" ∷ "not" ∷ "propertyNames" ∷ []);
+  values =
+      map codes
+      ("additionalItems" ∷ "additionalProperties" ∷ "contains" ∷ "not" ∷ "propertyNames" ∷ []);
   arrays = map codes ("allOf" ∷ "anyOf" ∷ "oneOf" ∷ []);
   maps = map codes ("definitions" ∷ "patternProperties" ∷ "properties" ∷ []);
 }
@@ -39,7 +47,10 @@ row_6 = record {
 -- Draft 7
 abbrev pub row_7 : Row
 row_7 = record {
-  values = map codes ("additionalItems" ∷ "additionalProperties" ∷ "contains" ∷ "else" ∷ "if" ∷ "not" ∷ "propertyNames" ∷ "then" ∷ []);
+  values =
+      map codes
+      ("additionalItems" ∷ "additionalProperties" ∷ "contains" ∷ "else" ∷ "if" ∷ "not"
+      ∷ "propertyNames" ∷ "then" ∷ []);
   arrays = map codes ("allOf" ∷ "anyOf" ∷ "oneOf" ∷ []);
   maps = map codes ("definitions" ∷ "patternProperties" ∷ "properties" ∷ []);
 }
@@ -47,17 +58,28 @@ row_7 = record {
 -- 2019-09
 abbrev pub row_2019 : Row
 row_2019 = record {
-  values = map codes ("additionalItems" ∷ "additionalProperties" ∷ "contains" ∷ "contentSchema" ∷ "else" ∷ "if" ∷ "not" ∷ "propertyNames" ∷ "then" ∷ "unevaluatedItems" ∷ "unevaluatedProperties" ∷ []);
+  values =
+      map codes
+      ("additionalItems" ∷ "additionalProperties" ∷ "contains" ∷ "contentSchema" ∷ "else" ∷ "if"
+      ∷ "not" ∷ "propertyNames" ∷ "then" ∷ "unevaluatedItems" ∷ "unevaluatedProperties"
+      ∷ []);
   arrays = map codes ("allOf" ∷ "anyOf" ∷ "oneOf" ∷ []);
-  maps = map codes ("$defs" ∷ "definitions" ∷ "dependentSchemas" ∷ "patternProperties" ∷ "properties" ∷ []);
+  maps =
+      map codes
+      ("$defs" ∷ "definitions" ∷ "dependentSchemas" ∷ "patternProperties" ∷ "properties" ∷ []);
 }
 
 -- 2020-12
 abbrev pub row_2020 : Row
 row_2020 = record {
-  values = map codes ("additionalProperties" ∷ "contains" ∷ "contentSchema" ∷ "else" ∷ "if" ∷ "items" ∷ "not" ∷ "propertyNames" ∷ "then" ∷ "unevaluatedItems" ∷ "unevaluatedProperties" ∷ []);
+  values =
+      map codes
+      ("additionalProperties" ∷ "contains" ∷ "contentSchema" ∷ "else" ∷ "if" ∷ "items" ∷ "not"
+      ∷ "propertyNames" ∷ "then" ∷ "unevaluatedItems" ∷ "unevaluatedProperties" ∷ []);
   arrays = map codes ("allOf" ∷ "anyOf" ∷ "oneOf" ∷ "prefixItems" ∷ []);
-  maps = map codes ("$defs" ∷ "definitions" ∷ "dependentSchemas" ∷ "patternProperties" ∷ "properties" ∷ []);
+  maps =
+      map codes
+      ("$defs" ∷ "definitions" ∷ "dependentSchemas" ∷ "patternProperties" ∷ "properties" ∷ []);
 }
 
 -- The row of each draft. A custom meta-schema has that of 2020-12.
@@ -98,7 +120,8 @@ holding_of d keyword =
 
 -- whether the members of a keyword's object are schemas
 abbrev pub is_map_keyword : Draft → List ℕ → Bool
-is_map_keyword d keyword = is_one_of keyword (row d).maps || is_before_2020 d && bytes_eq keyword (codes "dependencies")
+is_map_keyword d keyword =
+    is_one_of keyword (row d).maps || is_before_2020 d && bytes_eq keyword (codes "dependencies")
 
 -- What `subresources_of` leaves out: in 2019-09 what is under `dependencies`
 abbrev pub is_left_out : Draft → List ℕ → Bool
@@ -126,7 +149,14 @@ is_unknown _ = false
 
 -- keywords of every draft
 abbrev pub known_in_all : List (List ℕ)
-known_in_all = map codes ("$ref" ∷ "$schema" ∷ "additionalItems" ∷ "additionalProperties" ∷ "allOf" ∷ "anyOf" ∷ "definitions" ∷ "dependencies" ∷ "enum" ∷ "exclusiveMaximum" ∷ "exclusiveMinimum" ∷ "format" ∷ "items" ∷ "maxItems" ∷ "maxLength" ∷ "maxProperties" ∷ "maximum" ∷ "minItems" ∷ "minLength" ∷ "minProperties" ∷ "minimum" ∷ "multipleOf" ∷ "not" ∷ "oneOf" ∷ "pattern" ∷ "patternProperties" ∷ "properties" ∷ "required" ∷ "type" ∷ "uniqueItems" ∷ [])
+known_in_all =
+    map codes
+    ("$ref" ∷ "$schema" ∷ "additionalItems" ∷ "additionalProperties" ∷ "allOf" ∷ "anyOf"
+    ∷ "definitions" ∷ "dependencies" ∷ "enum" ∷ "exclusiveMaximum" ∷ "exclusiveMinimum"
+    ∷ "format" ∷ "items" ∷ "maxItems" ∷ "maxLength" ∷ "maxProperties" ∷ "maximum"
+    ∷ "minItems" ∷ "minLength" ∷ "minProperties" ∷ "minimum" ∷ "multipleOf" ∷ "not"
+    ∷ "oneOf" ∷ "pattern" ∷ "patternProperties" ∷ "properties" ∷ "required" ∷ "type"
+    ∷ "uniqueItems" ∷ [])
 
 -- of Draft 4 alone
 abbrev pub known_in_4 : List (List ℕ)
@@ -134,7 +164,10 @@ known_in_4 = codes "id" ∷ []
 
 -- since Draft 6
 abbrev pub known_since_6 : List (List ℕ)
-known_since_6 = map codes ("$id" ∷ "const" ∷ "contains" ∷ "propertyNames" ∷ "contentEncoding" ∷ "contentMediaType" ∷ [])
+known_since_6 =
+    map codes
+    ("$id" ∷ "const" ∷ "contains" ∷ "propertyNames" ∷ "contentEncoding" ∷ "contentMediaType"
+    ∷ [])
 
 -- since Draft 7
 abbrev pub known_since_7 : List (List ℕ)
@@ -142,11 +175,17 @@ known_since_7 = map codes ("else" ∷ "if" ∷ "then" ∷ [])
 
 -- since 2019-09
 abbrev pub known_since_2019 : List (List ℕ)
-known_since_2019 = map codes ("contentSchema" ∷ "$anchor" ∷ "$defs" ∷ "$recursiveAnchor" ∷ "$recursiveRef" ∷ "dependentRequired" ∷ "dependentSchemas" ∷ "maxContains" ∷ "minContains" ∷ "unevaluatedItems" ∷ "unevaluatedProperties" ∷ [])
+known_since_2019 =
+    map codes
+    ("contentSchema" ∷ "$anchor" ∷ "$defs" ∷ "$recursiveAnchor" ∷ "$recursiveRef"
+    ∷ "dependentRequired" ∷ "dependentSchemas" ∷ "maxContains" ∷ "minContains"
+    ∷ "unevaluatedItems" ∷ "unevaluatedProperties" ∷ [])
 
 -- whether 2019-09 knows a keyword
 abbrev pub is_known_in_2019 : List ℕ → Bool
-is_known_in_2019 k = is_one_of k known_in_all || is_one_of k known_since_6 || is_one_of k known_since_7 || is_one_of k known_since_2019
+is_known_in_2019 k =
+    is_one_of k known_in_all || is_one_of k known_since_6 || is_one_of k known_since_7
+    || is_one_of k known_since_2019
 
 -- since 2020-12
 abbrev pub known_since_2020 : List (List ℕ)
@@ -156,6 +195,7 @@ known_since_2020 = map codes ("$dynamicAnchor" ∷ "$dynamicRef" ∷ "prefixItem
 abbrev pub is_known : Draft → List ℕ → Bool
 is_known Draft4 k = is_one_of k known_in_all || is_one_of k known_in_4
 is_known Draft6 k = is_one_of k known_in_all || is_one_of k known_since_6
-is_known Draft7 k = is_one_of k known_in_all || is_one_of k known_since_6 || is_one_of k known_since_7
+is_known Draft7 k =
+    is_one_of k known_in_all || is_one_of k known_since_6 || is_one_of k known_since_7
 is_known Draft201909 k = is_known_in_2019 k
 is_known _ k = is_known_in_2019 k || is_one_of k known_since_2020

@@ -38,9 +38,14 @@ schema uri = one "$schema" (text uri)
 
 -- a schema with keywords that the drafts read differently
 abbrev pub sample : Data
-sample = object (member (codes "$defs") (one "a" yes) (member (codes "additionalItems") yes (member (codes "contains") yes
-    (member (codes "dependencies") (two "b" empty "c" (list yes)) (member (codes "if") yes (member (codes "items") (list empty)
-    (member (codes "prefixItems") (list yes) (member (codes "properties") (one "d" yes) no_members))))))))
+sample =
+    object
+    (member (codes "$defs") (one "a" yes)
+    (member (codes "additionalItems") yes (member (codes "contains") yes
+    (member (codes "dependencies") (two "b" empty "c" (list yes))
+    (member (codes "if") yes (member (codes "items") (list empty)
+    (member (codes "prefixItems") (list yes)
+    (member (codes "properties") (one "d" yes) no_members))))))))
 
 -- the paths of its children
 abbrev pub paths : Draft → List (List Part)

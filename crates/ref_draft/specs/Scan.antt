@@ -66,4 +66,6 @@ IsAccepted d parts value = SpellsWord d parts ⊎ PassesItems d parts value
 
 -- the parts followed by a child's path are accepted at the child, where that is an object
 abbrev pub AcceptsChildren : Draft → List Part → List Child → Type 0
-AcceptsChildren d parts cs = AllByRecursion (λ child. IsTrue (is_object child.1) → IsAccepted d (parts ++ child.0) child.1) cs
+AcceptsChildren d parts cs =
+    AllByRecursion
+    (λ child. IsTrue (is_object child.1) → IsAccepted d (parts ++ child.0) child.1) cs

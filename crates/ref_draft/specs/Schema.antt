@@ -55,8 +55,11 @@ begins_with_hash (c ∷ text) = c == 35
 
 -- whether a value's identifier doesn't count: before 2019-09 beside a `$ref` of any kind, or where it begins with `#`
 abbrev pub is_hidden : Draft → Data → List ℕ → Bool
-is_hidden d value text = is_before_2019 d && (is_some (get (codes "$ref") value) || begins_with_hash text)
+is_hidden d value text =
+    is_before_2019 d && (is_some (get (codes "$ref") value) || begins_with_hash text)
 
 -- the identifier of a value, without the `#` characters at its end
 abbrev pub identifier : Draft → Data → Option (List ℕ)
-identifier d value = option_and_then (λ text. if is_hidden d value text then None else Some (trimmed_text text)) (text_under (id_keyword d) value)
+identifier d value =
+    option_and_then (λ text. if is_hidden d value text then None else Some (trimmed_text text))
+    (text_under (id_keyword d) value)

@@ -80,7 +80,13 @@ segment_parts (Some s) = pointer.part_of s ∷ []
 
 -- a child of the walk: its path, value and draft
 abbrev pub walked_child : Child → Walked
-walked_child child = record { path = path.Key child.keyword.now ∷ segment_parts child.segment; value = view child.value.now; draft = child.draft }
+walked_child child =
+    record {
+      path = path.Key child.keyword.now
+          ∷ segment_parts child.segment;
+      value = view child.value.now;
+      draft = child.draft;
+    }
 
 -- of some values, those that are objects
 abbrev pub objects_of : List Value → List Data
@@ -96,4 +102,7 @@ inner_left inner.Empty = []
 
 -- the values that an iterator has left: those under the keyword that it is at, then those under the keywords after it
 abbrev pub values_left : ChildIter → List Data
-values_left it = inner_left it.current ++ option_map_or (λ members. subresources it.draft (object (members_view members))) it.members []
+values_left it =
+    inner_left it.current
+    ++ option_map_or
+    (λ members. subresources it.draft (object (members_view members))) it.members []

@@ -77,7 +77,8 @@ impl<'a> Iterator for AnchorIter<'a> {
 
 // The anchor that is in the identifier, after a `#` (Draft 7 Core, 8.2.3).
 pub(crate) fn in_identifier<'a>(draft: Draft, contents: &'a Value) -> AnchorIter<'a>
-    ensures names { map anchor_name (anchors_left result) ≡ in_identifier draft (view contents.now) }
+    ensures names { map anchor_name (anchors_left result)
+        ≡ in_identifier draft (view contents.now) }
     ensures resources { AllName (tagged_value draft (view contents.now)) (anchors_left result) }
 {
     match text_under(contents, draft.id_keyword()).and_then(after_hash) {
@@ -91,7 +92,8 @@ pub(crate) fn in_identifier<'a>(draft: Draft, contents: &'a Value) -> AnchorIter
 
 // The plain anchor that `$anchor` names (2019-09 Core, 8.2.3).
 pub(crate) fn plain<'a>(draft: Draft, contents: &'a Value) -> AnchorIter<'a>
-    ensures names { map anchor_name (anchors_left result) ≡ named_by (codes "$anchor") Plain (view contents.now) }
+    ensures names { map anchor_name (anchors_left result)
+        ≡ named_by (codes "$anchor") Plain (view contents.now) }
     ensures resources { AllName (tagged_value draft (view contents.now)) (anchors_left result) }
 {
     match text_under(contents, "$anchor") {

@@ -122,7 +122,8 @@ impl Draft {
         alloc: Global,
         contents: &'a Value,
     ) -> Result<Vec<Child<'a>>, AllocError>
-        ensures children { IfOk result (λ v. map walked_child v.items ≡ walked_children self (view contents.now)) }
+        ensures children { IfOk result
+            (λ v. map walked_child v.items ≡ walked_children self (view contents.now)) }
         ensures order { OnOk result (InKeyOrder (view contents.now)) }
         ensures found { IfOk result (λ v. AllStand (view contents.now) (map walked_child v.items)) }
     {

@@ -30,18 +30,22 @@ pub fn default_is_2020()
 /// Segments are equal where their parts are: keys where their texts are, borrowed or owned, and indexes where they are one
 /// number. A copy has the part of what it copies.
 pub fn segments_are_parts()
-    ensures equality { (a b : PointerSegment) → ⟦<Segment<'static> as PartialEq>⟧.eq a b ≡ part_eq (part_of a) (part_of b) }
-    ensures copy { (segment copy : PointerSegment) → ⟦<Segment<'static> as Clone>⟧.is_clone segment copy → part_of copy ≡ part_of segment }
+    ensures equality { (a b : PointerSegment)
+        → ⟦<Segment<'static> as PartialEq>⟧.eq a b ≡ part_eq (part_of a) (part_of b) }
+    ensures copy { (segment copy : PointerSegment)
+        → ⟦<Segment<'static> as Clone>⟧.is_clone segment copy → part_of copy ≡ part_of segment }
 {}
 
 /// A child nests less deeply than the value that it is a child of, so that the levels of children end.
 pub fn children_are_shallower()
-    ensures law { (d : Version) (value : Data) → AllByRecursion (λ child. depth child.1 < depth value) (children d value) }
+    ensures law { (d : Version) (value : Data)
+        → AllByRecursion (λ child. depth child.1 < depth value) (children d value) }
 {}
 
 /// Each child of a value whose objects have each key once is at its path.
 pub fn children_stand_at_their_paths()
-    ensures law { (d : Version) (value : Data) → HasUniqueKeys value → AllStand value (walked_children d value) }
+    ensures law { (d : Version) (value : Data) → HasUniqueKeys value
+        → AllStand value (walked_children d value) }
 {}
 
 /// Where the parts that lead to a value are accepted, those that lead on to each of its children that is an object are
@@ -55,16 +59,19 @@ pub fn scan_goes_on_to_children()
 /// 2020-12 nothing there is accepted. The children are to be at their paths, as `children_stand_at_their_paths` says.
 pub fn paths_of_children_end_within()
     ensures law { (d : Version) (parts : List Part) (value : Data)
-        → IsAccepted d parts value → AllStand value (walked_children d value) → AllEndWithin d parts value (children d value) }
+        → IsAccepted d parts value → AllStand value (walked_children d value)
+        → AllEndWithin d parts value (children d value) }
 {}
 
 /// The scan, which reads the parts from the left, accepts exactly those that are accepted.
 pub fn scan_is_accepted()
-    ensures law { (d : Version) (value : Data) (parts : List Part) → (scan d (is_object value) parts ≡ true) ↔ IsAccepted d parts value }
+    ensures law { (d : Version) (value : Data) (parts : List Part)
+        → (scan d (is_object value) parts ≡ true) ↔ IsAccepted d parts value }
 {}
 
 /// A word followed by a child keyword alone isn't accepted: the parts end at an array or object of schemas.
 pub fn scan_stops_at_a_child_keyword()
-    ensures law { (d : Version) (value : Data) (parts : List Part) (keyword : List ℕ) → SpellsWord d parts
+    ensures law { (d : Version) (value : Data) (parts : List Part) (keyword : List ℕ)
+        → SpellsWord d parts
         → IsTrue (is_child_keyword d keyword) → ¬ (IsAccepted d (parts ++ Key keyword ∷ []) value) }
 {}

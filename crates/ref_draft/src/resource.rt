@@ -47,7 +47,8 @@ impl Resource {
 
     /// The document as a resource of the draft that 2020-12 detects on it. It takes no memory.
     pub fn from_contents(contents: Value) -> Resource
-        ensures value { let tree = view contents in resource result ≡ tagged_value (detect Draft.Draft202012 tree) tree }
+        ensures value { let tree = view contents in resource result
+            ≡ tagged_value (detect Draft.Draft202012 tree) tree }
     {
         Draft::Draft202012
             .detect(&contents)

@@ -71,7 +71,8 @@ impl<'a> Segments<'a> {
 
     /// Adds a segment at the end. fails only where memory is refused, and then leaves the segments as they were.
     pub fn push<T: Into<Segment<'a>>>(&mut self, segment: T) -> Result<(), AllocError>
-        ensures added { OnOk result ((s : _) × T.converts segment s × (self.new ≡ self.old ++ part_of s ∷ [])) }
+        ensures added { OnOk result
+            ((s : _) × T.converts segment s × (self.new ≡ self.old ++ part_of s ∷ [])) }
         ensures refused { OnErr result (self.new ≡ self.old) }
     {
         self.items.push(segment.into())?;

@@ -4,9 +4,11 @@ use Rattle.std.specs.Char.{is_ascii, is_ascii_alphanumeric}
 use Rattle.std.specs.List.{list_any}
 use Rattle.percent_encoding.specs.Percent.{percent_encode_byte}
 
--- what a path of a URI has as it is: letters and digits, the other unreserved characters, sub-delims, `:`, `@` and the slash (3.3)
+-- what a path of a URI has as it is: letters and digits, the other unreserved characters, sub-delims, `:`, `@` and the
+-- slash (3.3)
 abbrev pub is_kept : ℕ → Bool
-is_kept b = is_ascii b && (is_ascii_alphanumeric b || list_any (λ c. c == b) (codes "-._~!$&'()*+,;=:@/"))
+is_kept b =
+    is_ascii b && (is_ascii_alphanumeric b || list_any (λ c. c == b) (codes "-._~!$&'()*+,;=:@/"))
 
 -- in the first segment of a relative path there is no colon (4.2)
 abbrev pub is_kept_first : ℕ → Bool

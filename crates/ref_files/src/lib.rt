@@ -1,7 +1,7 @@
 //! Files and URIs: the URI that a file is under, and the file that a URI means below a folder.
 //!
-//! Nothing here reads a file. A [`Name`] is one that leads into the folder that it is looked up in and nowhere else, so a path of names stays below
-//! the folder that it begins at, links aside.
+//! Nothing here reads a file. A [`Name`] is one that leads into the folder that it is looked up in and nowhere else, so
+//! a path of names stays below the folder that it begins at, links aside.
 #![tactic(auto)]
 
 mod name;

@@ -5,8 +5,8 @@ ghost use Rattle.ref_files.specs.Plain.{IsPlain, Lacks};
 use percent_encoding::percent_decode_str;
 use std::alloc::{AllocError, Global};
 
-/// The name of a file or a folder: not empty, neither `.` nor `..`, and without a slash and a NUL. So it means something that stands right in the
-/// folder that it is looked up in.
+/// The name of a file or a folder: not empty, neither `.` nor `..`, and without a slash and a NUL. So it means
+/// something that stands right in the folder that it is looked up in.
 #[derive(Debug, Drop)]
 pub struct Name {
     text: String,
@@ -50,8 +50,8 @@ fn lacks(text: &[u8], byte: u8) -> bool
     text.iter().all(|b| *b != byte)
 }
 
-/// The names that a URI's path means, each segment decoded (RFC 3986, 2.1). Nothing where a segment is no [`Name`], as `..` or one with an encoded
-/// slash, or its bytes are no UTF-8.
+/// The names that a URI's path means, each segment decoded (RFC 3986, 2.1). Nothing where a segment is no [`Name`], as
+/// `..` or one with an encoded slash, or its bytes are no UTF-8.
 pub fn names_of(alloc: Global, path: &str) -> Result<Option<Vec<Name>>, AllocError> {
     let mut names = Vec::new(alloc);
     for segment in path.split('/') {

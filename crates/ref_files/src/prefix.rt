@@ -5,8 +5,9 @@ ghost use Rattle.ref_files.specs.Plain.{path_in, path_of};
 use crate::name::Name;
 use std::alloc::{AllocError, Global};
 
-/// What follows a prefix in a URI, where the URI begins so and the prefix ends at a slash: the prefix `http://a/b`, with a slash at its end or
-/// without, has `http://a/b/c` below it and not `http://a/bc`. Nothing where it has a query or a fragment.
+/// What follows a prefix in a URI, where the URI begins so and the prefix ends at a slash: the prefix `http://a/b`,
+/// with a slash at its end or without, has `http://a/b/c` below it and not `http://a/bc`. Nothing where it has a query
+/// or a fragment.
 pub fn below_prefix<'u>(prefix: &str, uri: &'u str) -> Option<&'u str> {
     let rest = uri.strip_prefix(prefix.trim_end_matches('/'))?;
     let path = rest.strip_prefix('/')?;
@@ -18,7 +19,9 @@ pub fn below_prefix<'u>(prefix: &str, uri: &'u str) -> Option<&'u str> {
 
 /// The path of what these names mean from a folder: each is a plain name, so the path is below the folder, links aside.
 pub fn path_below(alloc: Global, folder: &str, names: &[Name]) -> Result<String, AllocError>
-    ensures value { IfOk result (λ path. string_bytes path ≡ path_of folder.now (map (λ name. string_bytes name.text) names.now)) }
+    ensures value { IfOk result
+        (λ path. string_bytes path
+        ≡ path_of folder.now (map (λ name. string_bytes name.text) names.now)) }
 {
     let mut path = String::from_str(alloc, folder)?;
     for name in names {

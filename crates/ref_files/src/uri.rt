@@ -6,7 +6,8 @@ ghost use Rattle.ref_files.specs.Uris.{is_kept, is_kept_first, path_text, relati
 use percent_encoding::{AsciiSet, CONTROLS, ascii_set, utf8_percent_encode};
 use std::alloc::{AllocError, Global};
 
-// What a path of a URI can't have as it is (RFC 3986, 3.3), and what has another meaning there. Bytes from 128 on are always encoded.
+// What a path of a URI can't have as it is (RFC 3986, 3.3), and what has another meaning there. Bytes from 128 on are
+// always encoded.
 const ENCODED: AsciiSet = ascii_set!(
     CONTROLS
         .add(b' ')
@@ -60,7 +61,8 @@ pub fn uri_below(alloc: Global, base: &str, path: &str) -> Result<String, AllocE
     Ok(uri)
 }
 
-/// A relative path as a relative URI, percent-encoded. A colon in its first segment is encoded too, since it would end a scheme (RFC 3986, 4.2).
+/// A relative path as a relative URI, percent-encoded. A colon in its first segment is encoded too, since it would end
+/// a scheme (RFC 3986, 4.2).
 pub fn relative_uri(alloc: Global, path: &str) -> Result<String, AllocError>
     ensures value { IfOk result (λ uri. string_bytes uri ≡ relative_text path.now) }
 {
@@ -70,7 +72,8 @@ pub fn relative_uri(alloc: Global, path: &str) -> Result<String, AllocError>
 }
 
 fn push_path(uri: &mut String, path: &str) -> Result<(), AllocError>
-    ensures value { OnOk result (string_bytes uri.new ≡ string_bytes uri.old ++ path_text path.now) }
+    ensures value { OnOk result
+        (string_bytes uri.new ≡ string_bytes uri.old ++ path_text path.now) }
 {
     utf8_percent_encode(path, encoded()).append_to(uri)
 }

@@ -32,9 +32,13 @@ is_empty_path (part ∷ path) = false
 abbrev pub is_root : Place → Bool
 is_root p = is_empty_path p.path
 
--- the URI of the source, which its root has too, where its own is another one or it has none; the base around a root is that URI
+-- the URI of the source, which its root has too, where its own is another one or it has none; the base around a root is
+-- that URI
 abbrev pub source_uri : Place → Option (List ℕ)
-source_uri p = if is_root p && not (option_map_or (λ own. bytes_eq own p.outer) (own_uri p) false) then Some p.outer else None
+source_uri p =
+    if is_root p && not (option_map_or (λ own. bytes_eq own p.outer) (own_uri p) false) then
+    Some p.outer
+    else None
 
 -- the URIs that a place has
 abbrev pub uris_of : Place → List (List ℕ)

@@ -27,15 +27,21 @@ abbrev pub IsProblemOf : rust_problem.Problem → Problem → Type 0
 IsProblemOf problem.NotJson findings.NotJson = ⊤
 IsProblemOf (problem.InvalidUri error) (findings.InvalidUri refusal) = SaysRefusal error refusal
 IsProblemOf (problem.MissingDocument uri) (findings.MissingDocument text) = uri.value ≡ text
-IsProblemOf (problem.LeadsNowhere uri error) (findings.LeadsNowhere text fault) = (uri.value ≡ text) × SaysFault error fault
+IsProblemOf (problem.LeadsNowhere uri error) (findings.LeadsNowhere text fault) =
+    (uri.value ≡ text) × SaysFault error fault
 IsProblemOf (problem.Unchecked uri) (findings.Unchecked text) = uri.value ≡ text
 IsProblemOf (problem.UnknownDialect uri) (findings.UnknownDialect text) = uri.value ≡ text
-IsProblemOf (problem.DuplicateIdentifier uri first) (findings.DuplicateIdentifier text source path) = (uri.value ≡ text) × (first.source ≡ source) × (map part_of first.path.items ≡ path)
-IsProblemOf (problem.DuplicateAnchor uri first) (findings.DuplicateAnchor text source path) = (uri.value ≡ text) × (first.source ≡ source) × (map part_of first.path.items ≡ path)
+IsProblemOf (problem.DuplicateIdentifier uri first)
+    (findings.DuplicateIdentifier text source path) =
+    (uri.value ≡ text) × (first.source ≡ source) × (map part_of first.path.items ≡ path)
+IsProblemOf (problem.DuplicateAnchor uri first) (findings.DuplicateAnchor text source path) =
+    (uri.value ≡ text) × (first.source ≡ source) × (map part_of first.path.items ≡ path)
 IsProblemOf other problem = ⊥
 
 -- a finding of the program says the finding
 abbrev pub IsFindingOf : rust_finding.Finding → Finding → Type 0
 IsFindingOf f g =
-    (f.source ≡ g.source) × (map part_of f.path.items ≡ g.path) × (option_map (λ k. k.now) f.keyword ≡ g.keyword) × (option_map (λ t. t.now) f.text ≡ g.text)
+    (f.source ≡ g.source) × (map part_of f.path.items ≡ g.path)
+    × (option_map (λ k. k.now) f.keyword ≡ g.keyword)
+    × (option_map (λ t. t.now) f.text ≡ g.text)
     × IsProblemOf f.problem g.problem

@@ -40,8 +40,8 @@ pub record Finding : Type 0 where
   pub text : Option (List ℕ)
   pub problem : Problem
 
--- what is known of all sources: the documents that references are looked up in, the URIs of those that aren't sound, the places, and
--- which URIs and which names these have
+-- what is known of all sources: the documents that references are looked up in, the URIs of those that aren't sound,
+-- the places, and which URIs and which names these have
 pub record Known : Type 0 where
   pub world : World
   pub unsound : List (Entry ℕ)
@@ -55,14 +55,17 @@ is_among uri entries = list_any (is_under uri []) entries
 
 -- whether a URI is that of a meta-schema of a draft
 unfoldable pub is_meta_schema : List ℕ → Bool
-is_meta_schema uri = not (is_unknown (from_schema_uri uri)) || list_any (λ known. bytes_eq (trimmed_text known) uri) meta_schemas.uris
+is_meta_schema uri =
+    not (is_unknown (from_schema_uri uri))
+    || list_any (λ known. bytes_eq (trimmed_text known) uri) meta_schemas.uris
 
 -- ---- a `$ref`
 
 -- where nothing is under its URI: a document is missing, unless it is a meta-schema, whose fragments aren't looked up
 abbrev pub missing_problem : List ℕ → List ℕ → Option Problem
 missing_problem uri reference =
-    if is_meta_schema uri then (if length (fragment_part reference) == 0 then None else Some (Unchecked uri))
+    if is_meta_schema uri then
+    (if length (fragment_part reference) == 0 then None else Some (Unchecked uri))
     else Some (MissingDocument uri)
 
 -- by the fault of its look-up
@@ -75,8 +78,8 @@ abbrev pub by_answer : List ℕ → List ℕ → Result Found Fault → Option P
 by_answer uri reference (Ok found) = None
 by_answer uri reference (Err fault) = by_fault uri reference fault
 
--- by the URI that it points into: it isn't looked up where that is a URI of a source that isn't sound, and else from its base with
--- an empty dynamic scope
+-- by the URI that it points into: it isn't looked up where that is a URI of a source that isn't sound, and else from
+-- its base with an empty dynamic scope
 abbrev pub by_target : Known → List ℕ → List ℕ → Result (List ℕ) Refusal → Option Problem
 by_target known base reference (Err refusal) = Some (InvalidUri refusal)
 by_target known base reference (Ok uri) =
@@ -91,7 +94,8 @@ reference_problem known base reference = by_target known base reference (target 
 
 -- whether a URI is that of a meta-schema, known or among the sources
 abbrev pub is_dialect : Known → List ℕ → Bool
-is_dialect known uri = is_meta_schema uri || (is_among uri known.unsound || is_some (meant_place known.world uri))
+is_dialect known uri =
+    is_meta_schema uri || (is_among uri known.unsound || is_some (meant_place known.world uri))
 
 -- by the URI that it names
 abbrev pub by_dialect : Known → Result (List ℕ) Refusal → Option Problem
@@ -106,7 +110,9 @@ schema_problem known text = option_and_then (by_dialect known) (schema_uri text)
 
 -- of a URI that the place with a number has
 abbrev pub uri_problem : Known → ℕ → List ℕ → Option Problem
-uri_problem known number uri = option_map (λ s. DuplicateIdentifier uri s.0 s.1.path) (other_bearer known.sites number (first_under uri [] known.uris))
+uri_problem known number uri =
+    option_map (λ s. DuplicateIdentifier uri s.0 s.1.path)
+    (other_bearer known.sites number (first_under uri [] known.uris))
 
 -- of its identifier, by its base
 abbrev pub by_base : Known → ℕ → Result (List ℕ) Refusal → Option Problem
@@ -115,11 +121,14 @@ by_base known number (Ok uri) = uri_problem known number uri
 
 -- of its identifier, where it has one
 abbrev pub identifier_problem : Known → ℕ → Place → Option Problem
-identifier_problem known number p = option_and_then (λ id. by_base known number p.base) (identifier_of p)
+identifier_problem known number p =
+    option_and_then (λ id. by_base known number p.base) (identifier_of p)
 
 -- of a name that it has under a base
 abbrev pub name_problem : Known → ℕ → List ℕ → List ℕ → Option Problem
-name_problem known number base name = option_map (λ s. DuplicateAnchor base s.0 s.1.path) (other_bearer known.sites number (first_under base name known.names))
+name_problem known number base name =
+    option_map (λ s. DuplicateAnchor base s.0 s.1.path)
+    (other_bearer known.sites number (first_under base name known.names))
 
 -- the keyword that an anchor of a draft is under
 abbrev pub anchor_keyword : Draft → Kind → List ℕ
@@ -141,32 +150,45 @@ finding_at s keyword problem =
 
 -- of the URI of its source, at a root
 abbrev pub source_findings : Known → ℕ → Site → List Finding
-source_findings known number s = finding_at s None (option_and_then (uri_problem known number) (source_uri s.1))
+source_findings known number s =
+    finding_at s None (option_and_then (uri_problem known number) (source_uri s.1))
 
 -- of its identifier
 abbrev pub identifier_findings : Known → ℕ → Site → List Finding
-identifier_findings known number s = finding_at s (Some (id_keyword s.1.draft)) (identifier_problem known number s.1)
+identifier_findings known number s =
+    finding_at s (Some (id_keyword s.1.draft)) (identifier_problem known number s.1)
 
 -- of its `$ref`
 abbrev pub reference_findings : Known → Site → List Finding
-reference_findings known s = finding_at s (Some (codes "$ref")) (option_and_then (reference_problem known (nearest_base s.1)) (text_under (codes "$ref") s.1.value))
+reference_findings known s =
+    finding_at s (Some (codes "$ref"))
+    (option_and_then (reference_problem known (nearest_base s.1))
+    (text_under (codes "$ref") s.1.value))
 
 -- of its `$schema`
 abbrev pub schema_findings : Known → Site → List Finding
-schema_findings known s = finding_at s (Some (codes "$schema")) (option_and_then (schema_problem known) (text_under (codes "$schema") s.1.value))
+schema_findings known s =
+    finding_at s (Some (codes "$schema"))
+    (option_and_then (schema_problem known) (text_under (codes "$schema") s.1.value))
 
 -- of one anchor
 abbrev pub anchor_finding : Known → ℕ → Site → List ℕ × Kind → List Finding
-anchor_finding known number s a = finding_at s (Some (anchor_keyword s.1.draft a.1)) (name_problem known number (nearest_base s.1) a.0)
+anchor_finding known number s a =
+    finding_at s (Some (anchor_keyword s.1.draft a.1))
+    (name_problem known number (nearest_base s.1) a.0)
 
 -- of its anchors
 abbrev pub anchor_findings : Known → ℕ → Site → List Finding
-anchor_findings known number s = flat_map (anchor_finding known number s) (anchors s.1.draft s.1.value)
+anchor_findings known number s =
+    flat_map (anchor_finding known number s) (anchors s.1.draft s.1.value)
 
 -- all at the place with a number
 abbrev pub findings_at : Known → ℕ → Site → List Finding
 findings_at known number s =
-    source_findings known number s ++ (identifier_findings known number s ++ (reference_findings known s ++ (schema_findings known s ++ anchor_findings known number s)))
+    source_findings known number s
+    ++ (identifier_findings known number s
+    ++ (reference_findings known s
+    ++ (schema_findings known s ++ anchor_findings known number s)))
 
 -- all at places
 abbrev pub place_findings : Known → List Site → List Finding
@@ -174,7 +196,8 @@ place_findings known sites = flat_map (λ e. findings_at known e.0 e.1) (enumera
 
 -- that the source with a number is no JSON
 abbrev pub no_json : ℕ → Finding
-no_json number = record { source = number; path = []; keyword = None; text = None; problem = NotJson }
+no_json number =
+    record { source = number; path = []; keyword = None; text = None; problem = NotJson }
 
 -- where it is none
 abbrev pub not_json : ℕ × Source → List Finding
@@ -204,4 +227,5 @@ known_of draft sources held = record {
 
 -- All findings: which sources are no JSON, and then those at the places of the others
 abbrev pub findings : Draft → List Source → List Source → List Finding
-findings draft sources held = unread_sources sources ++ place_findings (known_of draft sources held) (sites draft sources)
+findings draft sources held =
+    unread_sources sources ++ place_findings (known_of draft sources held) (sites draft sources)

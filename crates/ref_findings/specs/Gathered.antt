@@ -29,29 +29,37 @@ wanted_by draft s = flat_map wanted_at (places_in draft s)
 
 -- whether a URI is that of a source or of one of their places
 abbrev pub is_known : Draft → List Source → List ℕ → Bool
-is_known draft sources uri = list_any (λ known. bytes_eq known uri) (flat_map (uris_in draft) sources)
+is_known draft sources uri =
+    list_any (λ known. bytes_eq known uri) (flat_map (uris_in draft) sources)
 
 -- the first URI that sources want and that nothing in them has
 abbrev pub next_wanted : Draft → List Source → Option (List ℕ)
-next_wanted draft sources = find (λ uri. not (is_known draft sources uri)) (flat_map (wanted_by draft) sources)
+next_wanted draft sources =
+    find (λ uri. not (is_known draft sources uri)) (flat_map (wanted_by draft) sources)
 
 -- what a retriever may do for a URI: return a tree, or refuse it
 abbrev pub MayReturn : Retriever → List ℕ → Option Data → Type 0
 MayReturn retriever uri (Some tree) = retriever.may_answer uri tree
 MayReturn retriever uri None = (text : List ℕ) × retriever.may_refuse uri text
 
--- The retriever was asked for these URIs, one after another, each with the tree that it returned, or none where it refused: each was
--- the first that was wanted by then, by the sources and by what was returned. A URI that was refused is known from then on.
-pub data IsRun (retriever : Retriever) (draft : Draft) (sources : List Source) : List Source → Type 0 where
+-- The retriever was asked for these URIs, one after another, each with the tree that it returned, or none where it
+-- refused: each was the first that was wanted by then, by the sources and by what was returned. A URI that was refused
+-- is known from then on.
+pub data IsRun (retriever : Retriever) (draft : Draft) (sources : List Source) : List Source
+    → Type 0 where
   begun : IsRun retriever draft sources []
-  asked : (before : List Source) (uri : List ℕ) (tree : Option Data) → IsRun retriever draft sources before → next_wanted draft (sources ++ before) ≡ Some uri → MayReturn retriever uri tree → IsRun retriever draft sources (before ++ record { uri = uri; tree = tree } ∷ [])
+  asked : (before : List Source) (uri : List ℕ) (tree : Option Data)
+      → IsRun retriever draft sources before → next_wanted draft (sources ++ before) ≡ Some uri
+      → MayReturn retriever uri tree
+      → IsRun retriever draft sources (before ++ record { uri = uri; tree = tree } ∷ [])
 
 -- whether a source has a tree
 abbrev pub has_tree : Source → Bool
 has_tree s = is_some s.tree
 
 -- What was gathered is what was returned in such a run, and where it is less than the limit, nothing more is wanted.
-pub record IsGathered (retriever : Retriever) (draft : Draft) (sources : List Source) (limit : ℕ) (gathered : List Source) : Type 0 where
+pub record IsGathered (retriever : Retriever) (draft : Draft) (sources : List Source) (limit : ℕ)
+    (gathered : List Source) : Type 0 where
   pub asked : List Source
   pub run : IsRun retriever draft sources asked
   pub returned : filter has_tree asked ≡ gathered

@@ -1,5 +1,5 @@
--- The places of a document where schemas stand, also below identifiers that mean no URI, and which of them have a text that means
--- none.
+-- The places of a document where schemas stand, also below identifiers that mean no URI, and which of them have a text
+-- that means none.
 use Rattle.std.specs.Prelude.{ℕ, zero, suc, Bool, true, false, ◌||◌, List, [], ◌∷◌, ◌++◌, flat_map, map, Option, Some, None, Result, Ok, Err}
 use Rattle.serde_json.specs.Data.{depth}
 use Rattle.ref_draft.specs.Children.{walked_children}
@@ -24,7 +24,8 @@ children_near p = map (child_place p.path (nearest_base p)) (walked_children p.d
 -- n levels below places, each the joined children of the one above
 abbrev pub levels_near : ℕ → List Place → List Place
 levels_near zero places = []
-levels_near (suc n) places = flat_map children_near places ++ levels_near n (flat_map children_near places)
+levels_near (suc n) places =
+    flat_map children_near places ++ levels_near n (flat_map children_near places)
 
 -- the places of a document: its levels joined, which end at the depth of the tree
 abbrev pub places_near : Document → List Place
@@ -38,4 +39,6 @@ is_refused (Some (Err refusal)) = true
 
 -- whether the identifier of a place, its `$ref` or its `$schema` means no URI
 abbrev pub is_faulty : Place → Bool
-is_faulty p = is_refused (Some p.base) || (is_refused (reference_at (nearest_base p) p.value) || is_refused (schema_at p.value))
+is_faulty p =
+    is_refused (Some p.base)
+    || (is_refused (reference_at (nearest_base p) p.value) || is_refused (schema_at p.value))

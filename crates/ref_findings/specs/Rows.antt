@@ -15,8 +15,16 @@ unread_source uri = record { uri = codes uri; tree = None }
 
 -- a finding on the text under a keyword
 abbrev pub finding_on : ℕ → List Part → Literal → Literal → Problem → Finding
-finding_on number path keyword text problem = record { source = number; path = path; keyword = Some (codes keyword); text = Some (codes text); problem = problem }
+finding_on number path keyword text problem =
+    record {
+      source = number;
+      path = path;
+      keyword = Some (codes keyword);
+      text = Some (codes text);
+      problem = problem;
+    }
 
 -- a finding on a source as a whole
 abbrev pub finding_whole : ℕ → Problem → Finding
-finding_whole number problem = record { source = number; path = []; keyword = None; text = None; problem = problem }
+finding_whole number problem =
+    record { source = number; path = []; keyword = None; text = None; problem = problem }

@@ -32,7 +32,8 @@ pub(crate) fn base_of(
     outer: &Rc<Uri>,
     id: Option<&str>,
 ) -> Result<Meaning, AllocError>
-    ensures value { IfOk result (IsMeaning (base_within outer.now.value (option_map (λ text. text.now) id.entry))) }
+    ensures value { IfOk result
+        (IsMeaning (base_within outer.now.value (option_map (λ text. text.now) id.entry))) }
 {
     match id {
         Some(id) => resolved(alloc, outer, id),
@@ -46,7 +47,10 @@ pub(crate) fn nearest_base(
     outer: &Rc<Uri>,
     id: Option<&str>,
 ) -> Result<Rc<Uri>, AllocError>
-    ensures value { IfOk result (λ base. base.value ≡ nearest_of outer.now.value (base_within outer.now.value (option_map (λ text. text.now) id.entry))) }
+    ensures value { IfOk result
+        (λ base. base.value
+        ≡ nearest_of outer.now.value
+        (base_within outer.now.value (option_map (λ text. text.now) id.entry))) }
 {
     match base_of(alloc, outer, id)? {
         Ok(base) => Ok(base),

@@ -23,7 +23,8 @@ type Entries = Vec<(String, String, usize)>;
 
 /// The URI that a place has by its own identifier, where that means one.
 pub(crate) fn own_uri(alloc: Global, place: &Place<'_>) -> Result<Option<Rc<Uri>>, AllocError>
-    ensures value { IfOk result (λ own. option_map (λ u. u.value) own ≡ own_uri (place_of place.now)) }
+    ensures value { IfOk result
+        (λ own. option_map (λ u. u.value) own ≡ own_uri (place_of place.now)) }
 {
     let Some(id) = place.id() else {
         return Ok(None);
@@ -34,7 +35,8 @@ pub(crate) fn own_uri(alloc: Global, place: &Place<'_>) -> Result<Option<Rc<Uri>
 
 /// The URI of its source, which the root has too, where its own is another one.
 pub(crate) fn source_uri<'p>(place: &'p Place<'_>, own: Option<&Rc<Uri>>) -> Option<&'p Rc<Uri>>
-    ensures value { option_map (λ u. u.now.value) own.entry ≡ own_uri (place_of place.now) → option_map (λ u. u.now.value) result ≡ source_uri (place_of place.now) }
+    ensures value { option_map (λ u. u.now.value) own.entry ≡ own_uri (place_of place.now)
+        → option_map (λ u. u.now.value) result ≡ source_uri (place_of place.now) }
 {
     if !place.is_root() {
         return None;
@@ -53,7 +55,9 @@ fn push(
     second: &str,
     number: usize,
 ) -> Result<(), AllocError>
-    ensures { OnOk result (entries_of entries.new.items ≡ entries_of entries.old.items ++ (first.now, second.now, number) ∷ []) }
+    ensures { OnOk result
+        (entries_of entries.new.items
+        ≡ entries_of entries.old.items ++ (first.now, second.now, number) ∷ []) }
 {
     let first = String::from_str(alloc, first)?;
     let second = String::from_str(alloc, second)?;
@@ -68,7 +72,11 @@ fn push_uri(
     uri: Option<&Rc<Uri>>,
     number: usize,
 ) -> Result<(), AllocError>
-    ensures { OnOk result (entries_of entries.new.items ≡ entries_of entries.old.items ++ map (under_uri number) (option_to_list (option_map (λ u. u.now.value) uri.entry))) }
+    ensures { OnOk result
+        (entries_of entries.new.items
+        ≡ entries_of entries.old.items
+        ++ map (under_uri number)
+        (option_to_list (option_map (λ u. u.now.value) uri.entry))) }
 {
     match uri {
         Some(uri) => push(alloc, entries, uri.as_str(), "", number),
@@ -83,7 +91,10 @@ fn push_uris(
     place: &Place<'_>,
     number: usize,
 ) -> Result<(), AllocError>
-    ensures { OnOk result (entries_of entries.new.items ≡ entries_of entries.old.items ++ map (under_uri number) (uris_of (place_of place.now))) }
+    ensures { OnOk result
+        (entries_of entries.new.items
+        ≡ entries_of entries.old.items
+        ++ map (under_uri number) (uris_of (place_of place.now))) }
 {
     let own = own_uri(alloc, place)?;
     push_uri(alloc, entries, source_uri(place, own.as_ref()), number)?;
@@ -174,7 +185,8 @@ pub(crate) fn names_of(
 // Adds the URIs that places have by their identifiers.
 fn push_own(alloc: Global, entries: &mut Entries, places: &[Place<'_>]) -> Result<(), AllocError>
     ensures { OnOk result (entries_of entries.new.items ≡ entries_of entries.old.items
-        ++ map (under_uri 0) (flat_map (λ p. option_to_list (own_uri p)) (map place_of places.now))) }
+        ++ map (under_uri 0)
+        (flat_map (λ p. option_to_list (own_uri p)) (map place_of places.now))) }
 {
     for place in places {
         let own = own_uri(alloc, place)?;
@@ -189,7 +201,9 @@ fn push_unsound(
     entries: &mut Entries,
     survey: &Survey<'_, '_>,
 ) -> Result<(), AllocError>
-    ensures { OnOk result (entries_of entries.new.items ≡ entries_of entries.old.items ++ unsound_in (seen_survey survey.now)) }
+    ensures { OnOk result
+        (entries_of entries.new.items
+        ≡ entries_of entries.old.items ++ unsound_in (seen_survey survey.now)) }
 {
     if survey.is_sound {
         return Ok(());
@@ -204,7 +218,9 @@ fn push_all_unsound(
     entries: &mut Entries,
     surveys: &[Survey<'_, '_>],
 ) -> Result<(), AllocError>
-    ensures { OnOk result (entries_of entries.new.items ≡ entries_of entries.old.items ++ flat_map unsound_in (map seen_survey surveys.now)) }
+    ensures { OnOk result
+        (entries_of entries.new.items
+        ≡ entries_of entries.old.items ++ flat_map unsound_in (map seen_survey surveys.now)) }
 {
     for survey in surveys {
         push_unsound(alloc, entries, survey)?;
@@ -218,7 +234,10 @@ pub(crate) fn unsound_of(
     surveys: &[Survey<'_, '_>],
     others: &[Survey<'_, '_>],
 ) -> Result<SortedTable<usize>, AllocError>
-    ensures value { IfOk result (λ table. table ≡ flat_map unsound_in (map seen_survey surveys.now) ++ flat_map unsound_in (map seen_survey others.now)) }
+    ensures value { IfOk result
+        (λ table. table
+        ≡ flat_map unsound_in (map seen_survey surveys.now)
+        ++ flat_map unsound_in (map seen_survey others.now)) }
 {
     let mut entries = Vec::new(alloc);
     push_all_unsound(alloc, &mut entries, surveys)?;

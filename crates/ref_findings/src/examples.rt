@@ -10,46 +10,122 @@ ghost use Rattle.ref_findings.specs.Rows.{source, unread_source, finding_on, fin
 
 /// What is wrong with references.
 pub fn references()
-    ensures pointer { findings Draft202012 (source "http://a/r" (one "$ref" (text "#/x")) ∷ []) [] ≡ finding_on 0 [] "$ref" "#/x" (LeadsNowhere (codes "http://a/r") (PointerToNowhere (codes "/x"))) ∷ [] }
-    ensures anchor { findings Draft7 (source "http://a/r" (one "not" (one "$ref" (text "#n"))) ∷ []) [] ≡ finding_on 0 (Key (codes "not") ∷ []) "$ref" "#n" (LeadsNowhere (codes "http://a/r") (NoSuchAnchor (codes "n"))) ∷ [] }
-    ensures missing { findings Draft202012 (source "http://a/r" (one "$ref" (text "s#/x")) ∷ []) [] ≡ finding_on 0 [] "$ref" "s#/x" (MissingDocument (codes "http://a/s")) ∷ [] }
-    ensures held { findings Draft202012 (source "http://a/r" (one "$ref" (text "s")) ∷ []) (source "http://a/s" empty ∷ []) ≡ [] }
-    ensures no_uri { findings Draft202012 (source "http://a/r" (one "$ref" (text "a b")) ∷ []) [] ≡ finding_on 0 [] "$ref" "a b" (InvalidUri (parse_refusal (codes "a b"))) ∷ [] }
-    ensures meta_schema { findings Draft202012 (source "http://a/r" (one "$ref" (text "http://json-schema.org/draft-07/schema#")) ∷ []) [] ≡ [] }
-    ensures fragment_of_a_meta_schema { findings Draft202012 (source "http://a/r" (one "$ref" (text "http://json-schema.org/draft-07/schema#/x")) ∷ []) [] ≡ finding_on 0 [] "$ref" "http://json-schema.org/draft-07/schema#/x" (Unchecked (codes "http://json-schema.org/draft-07/schema")) ∷ [] }
+    ensures pointer { findings Draft202012 (source "http://a/r" (one "$ref" (text "#/x")) ∷ []) []
+        ≡ finding_on 0 [] "$ref" "#/x"
+        (LeadsNowhere (codes "http://a/r") (PointerToNowhere (codes "/x")))
+        ∷ [] }
+    ensures anchor { findings Draft7 (source "http://a/r" (one "not" (one "$ref" (text "#n"))) ∷ [])
+        []
+        ≡ finding_on 0 (Key (codes "not") ∷ []) "$ref" "#n"
+        (LeadsNowhere (codes "http://a/r") (NoSuchAnchor (codes "n")))
+        ∷ [] }
+    ensures missing { findings Draft202012 (source "http://a/r" (one "$ref" (text "s#/x")) ∷ []) []
+        ≡ finding_on 0 [] "$ref" "s#/x" (MissingDocument (codes "http://a/s")) ∷ [] }
+    ensures held { findings Draft202012 (source "http://a/r" (one "$ref" (text "s")) ∷ [])
+        (source "http://a/s" empty ∷ [])
+        ≡ [] }
+    ensures no_uri { findings Draft202012 (source "http://a/r" (one "$ref" (text "a b")) ∷ []) []
+        ≡ finding_on 0 [] "$ref" "a b" (InvalidUri (parse_refusal (codes "a b"))) ∷ [] }
+    ensures meta_schema { findings Draft202012
+        (source "http://a/r" (one "$ref" (text "http://json-schema.org/draft-07/schema#")) ∷ [])
+        []
+        ≡ [] }
+    ensures fragment_of_a_meta_schema { findings Draft202012
+        (source "http://a/r" (one "$ref" (text "http://json-schema.org/draft-07/schema#/x"))
+        ∷ [])
+        []
+        ≡ finding_on 0 [] "$ref" "http://json-schema.org/draft-07/schema#/x"
+        (Unchecked (codes "http://json-schema.org/draft-07/schema"))
+        ∷ [] }
 {}
 
 /// What counts as a reference: a text under `$ref` where a schema stands.
 pub fn counts()
-    ensures of_schemas { references Draft202012 (source "http://a/r" (two "$ref" (text "#") "not" (one "$ref" (text "#"))) ∷ unread_source "http://a/s" ∷ []) ≡ 2 }
-    ensures of_values { references Draft202012 (source "http://a/r" (one "const" (one "$ref" (text "#"))) ∷ []) ≡ 0 }
+    ensures of_schemas { references Draft202012
+        (source "http://a/r" (two "$ref" (text "#") "not" (one "$ref" (text "#")))
+        ∷ unread_source "http://a/s" ∷ [])
+        ≡ 2 }
+    ensures of_values { references Draft202012
+        (source "http://a/r" (one "const" (one "$ref" (text "#"))) ∷ [])
+        ≡ 0 }
     ensures of_no_texts { references Draft202012 (source "http://a/r" (one "$ref" empty) ∷ []) ≡ 0 }
 {}
 
 /// What hides nothing: sources that are no JSON or have a fault.
 pub fn sources_that_are_not_sound()
-    ensures no_json { findings Draft202012 (source "http://a/r" (one "$ref" (text "s#/x")) ∷ unread_source "http://a/s" ∷ []) [] ≡ finding_whole 1 NotJson ∷ [] }
-    ensures faulty { findings Draft202012 (source "http://a/r" (one "$ref" (text "s#/x")) ∷ source "http://a/s" (one "allOf" (pair (one "$ref" (text "a b")) (one "$ref" (text "t")))) ∷ []) []
-        ≡ finding_on 1 (Key (codes "allOf") ∷ Index 0 ∷ []) "$ref" "a b" (InvalidUri (parse_refusal (codes "a b"))) ∷ finding_on 1 (Key (codes "allOf") ∷ Index 1 ∷ []) "$ref" "t" (MissingDocument (codes "http://a/t")) ∷ [] }
-    ensures below_a_faulty_identifier { findings Draft202012 (source "http://a/r" (two "$id" (text "a b") "not" (one "$ref" (text "t"))) ∷ []) []
-        ≡ finding_on 0 [] "$id" "a b" (InvalidUri (parse_refusal (codes "a b"))) ∷ finding_on 0 (Key (codes "not") ∷ []) "$ref" "t" (MissingDocument (codes "http://a/t")) ∷ [] }
+    ensures no_json { findings Draft202012
+        (source "http://a/r" (one "$ref" (text "s#/x")) ∷ unread_source "http://a/s" ∷ []) []
+        ≡ finding_whole 1 NotJson ∷ [] }
+    ensures faulty { findings Draft202012
+        (source "http://a/r" (one "$ref" (text "s#/x"))
+        ∷ source "http://a/s"
+        (one "allOf" (pair (one "$ref" (text "a b")) (one "$ref" (text "t"))))
+        ∷ [])
+        []
+        ≡ finding_on 1 (Key (codes "allOf") ∷ Index 0 ∷ []) "$ref" "a b"
+        (InvalidUri (parse_refusal (codes "a b")))
+        ∷ finding_on 1 (Key (codes "allOf") ∷ Index 1 ∷ []) "$ref" "t"
+        (MissingDocument (codes "http://a/t"))
+        ∷ [] }
+    ensures below_a_faulty_identifier { findings Draft202012
+        (source "http://a/r" (two "$id" (text "a b") "not" (one "$ref" (text "t"))) ∷ []) []
+        ≡ finding_on 0 [] "$id" "a b" (InvalidUri (parse_refusal (codes "a b")))
+        ∷ finding_on 0 (Key (codes "not") ∷ []) "$ref" "t"
+        (MissingDocument (codes "http://a/t"))
+        ∷ [] }
 {}
 
 /// Names of meta-schemas.
 pub fn meta_schemas()
-    ensures unknown { findings Draft202012 (source "http://a/r" (one "$schema" (text "http://v/d#")) ∷ []) [] ≡ finding_on 0 [] "$schema" "http://v/d#" (UnknownDialect (codes "http://v/d")) ∷ [] }
-    ensures among_the_sources { findings Draft202012 (source "http://a/r" (one "$schema" (text "http://v/d#")) ∷ source "http://v/d" empty ∷ []) [] ≡ [] }
-    ensures known { findings Draft202012 (source "http://a/r" (one "$schema" (text "http://json-schema.org/draft-07/schema#")) ∷ []) [] ≡ [] }
+    ensures unknown { findings Draft202012
+        (source "http://a/r" (one "$schema" (text "http://v/d#")) ∷ []) []
+        ≡ finding_on 0 [] "$schema" "http://v/d#" (UnknownDialect (codes "http://v/d")) ∷ [] }
+    ensures among_the_sources { findings Draft202012
+        (source "http://a/r" (one "$schema" (text "http://v/d#")) ∷ source "http://v/d" empty
+        ∷ [])
+        []
+        ≡ [] }
+    ensures known { findings Draft202012
+        (source "http://a/r" (one "$schema" (text "http://json-schema.org/draft-07/schema#"))
+        ∷ [])
+        []
+        ≡ [] }
 {}
 
 /// URIs and names that two places have.
 pub fn duplicates()
-    ensures identifiers { findings Draft202012 (source "http://a/r" (one "allOf" (pair (one "$id" (text "k")) (one "$id" (text "k")))) ∷ []) []
-        ≡ finding_on 0 (Key (codes "allOf") ∷ Index 1 ∷ []) "$id" "k" (DuplicateIdentifier (codes "http://a/k") 0 (Key (codes "allOf") ∷ Index 0 ∷ [])) ∷ [] }
-    ensures uri_of_a_source { findings Draft202012 (source "http://a/r" (one "not" (one "$id" (text "s"))) ∷ source "http://a/s" yes ∷ []) [] ≡ finding_whole 1 (DuplicateIdentifier (codes "http://a/s") 0 (Key (codes "not") ∷ [])) ∷ [] }
-    ensures its_own { findings Draft202012 (source "http://a/r" (one "$id" (text "r")) ∷ []) [] ≡ [] }
-    ensures anchors { findings Draft202012 (source "http://a/r" (two "$anchor" (text "n") "not" (one "$anchor" (text "n"))) ∷ []) [] ≡ finding_on 0 (Key (codes "not") ∷ []) "$anchor" "n" (DuplicateAnchor (codes "http://a/r") 0 []) ∷ [] }
-    ensures of_two_resources { findings Draft202012 (source "http://a/r" (two "$anchor" (text "n") "not" (two "$anchor" (text "n") "$id" (text "k"))) ∷ []) [] ≡ [] }
-    ensures no_name { findings Draft7 (source "http://a/r" (one "allOf" (pair (one "$id" (text "#")) (one "$id" (text "#")))) ∷ []) [] ≡ [] }
-    ensures plain_and_dynamic { findings Draft202012 (source "http://a/r" (two "$anchor" (text "n") "$dynamicAnchor" (text "n")) ∷ []) [] ≡ [] }
+    ensures identifiers { findings Draft202012
+        (source "http://a/r" (one "allOf" (pair (one "$id" (text "k")) (one "$id" (text "k"))))
+        ∷ [])
+        []
+        ≡ finding_on 0 (Key (codes "allOf") ∷ Index 1 ∷ []) "$id" "k"
+        (DuplicateIdentifier (codes "http://a/k") 0 (Key (codes "allOf") ∷ Index 0 ∷ []))
+        ∷ [] }
+    ensures uri_of_a_source { findings Draft202012
+        (source "http://a/r" (one "not" (one "$id" (text "s"))) ∷ source "http://a/s" yes ∷ [])
+        []
+        ≡ finding_whole 1 (DuplicateIdentifier (codes "http://a/s") 0 (Key (codes "not") ∷ []))
+        ∷ [] }
+    ensures its_own { findings Draft202012 (source "http://a/r" (one "$id" (text "r")) ∷ []) []
+        ≡ [] }
+    ensures anchors { findings Draft202012
+        (source "http://a/r" (two "$anchor" (text "n") "not" (one "$anchor" (text "n"))) ∷ [])
+        []
+        ≡ finding_on 0 (Key (codes "not") ∷ []) "$anchor" "n"
+        (DuplicateAnchor (codes "http://a/r") 0 [])
+        ∷ [] }
+    ensures of_two_resources { findings Draft202012
+        (source "http://a/r"
+        (two "$anchor" (text "n") "not" (two "$anchor" (text "n") "$id" (text "k")))
+        ∷ [])
+        []
+        ≡ [] }
+    ensures no_name { findings Draft7
+        (source "http://a/r" (one "allOf" (pair (one "$id" (text "#")) (one "$id" (text "#"))))
+        ∷ [])
+        []
+        ≡ [] }
+    ensures plain_and_dynamic { findings Draft202012
+        (source "http://a/r" (two "$anchor" (text "n") "$dynamicAnchor" (text "n")) ∷ []) []
+        ≡ [] }
 {}

@@ -22,7 +22,10 @@ fn is_identifier_faulty(
     outer: &Rc<Uri>,
     id: Option<&str>,
 ) -> Result<bool, AllocError>
-    ensures { IfOk result (λ faulty. faulty ≡ is_refused (Some (base_within outer.now.value (option_map (λ text. text.now) id.entry)))) }
+    ensures { IfOk result
+        (λ faulty. faulty
+        ≡ is_refused
+        (Some (base_within outer.now.value (option_map (λ text. text.now) id.entry)))) }
 {
     let base = base_of(alloc, outer, id)?;
     Ok(base.is_err())
@@ -30,7 +33,8 @@ fn is_identifier_faulty(
 
 // Whether its reference means no URI.
 fn is_reference_faulty(alloc: Global, base: &Rc<Uri>, value: &Value) -> Result<bool, AllocError>
-    ensures { IfOk result (λ faulty. faulty ≡ is_refused (reference_at base.now.value (view value.now))) }
+    ensures { IfOk result
+        (λ faulty. faulty ≡ is_refused (reference_at base.now.value (view value.now))) }
 {
     let Some(reference) = text_under(value, "$ref") else {
         return Ok(false);

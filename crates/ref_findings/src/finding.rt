@@ -53,7 +53,8 @@ pub enum Problem<'v> {
         /// The fault of the look-up: neither `Unretrievable` nor `Memory`.
         error: Error,
     },
-    /// A note: a `$ref` points into a meta-schema of a draft that isn't among the documents, so that its fragment isn't looked up.
+    /// A note: a `$ref` points into a meta-schema of a draft that isn't among the documents, so that its fragment isn't
+    /// looked up.
     Unchecked {
         /// The URI of the meta-schema.
         uri: Rc<Uri>,

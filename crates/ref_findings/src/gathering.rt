@@ -59,7 +59,8 @@ impl Wants {
 
     // Adds that a URI is known, where there is one.
     fn meet_own(&mut self, uri: Option<Rc<Uri>>) -> Result<(), AllocError>
-        ensures { OnOk result (Grows self.old self.new (option_to_list (option_map (λ u. u.value) uri)) []) }
+        ensures { OnOk result
+            (Grows self.old self.new (option_to_list (option_map (λ u. u.value) uri)) []) }
     {
         match uri {
             Some(uri) => self.meet(&uri),
@@ -69,7 +70,8 @@ impl Wants {
 
     // Adds that a URI is wanted, where there is one.
     fn want(&mut self, uri: Option<Rc<Uri>>) -> Result<(), AllocError>
-        ensures { OnOk result (Grows self.old self.new [] (option_to_list (option_map (λ u. u.value) uri))) }
+        ensures { OnOk result
+            (Grows self.old self.new [] (option_to_list (option_map (λ u. u.value) uri))) }
     {
         match uri {
             Some(uri) => Ok(self.wanted.push(uri)?),
@@ -79,7 +81,9 @@ impl Wants {
 
     // Adds what a place has and wants.
     fn add(&mut self, alloc: Global, place: &Place<'_>) -> Result<(), AllocError>
-        ensures { OnOk result (Grows self.old self.new (option_to_list (own_uri (place_of place.now))) (wanted_at (place_of place.now))) }
+        ensures { OnOk result
+            (Grows self.old self.new (option_to_list (own_uri (place_of place.now)))
+            (wanted_at (place_of place.now))) }
     {
         let own = own_uri(alloc, place)?;
         self.meet_own(own)?;
@@ -91,7 +95,10 @@ impl Wants {
 
     // Adds what places have and want.
     fn add_places(&mut self, alloc: Global, places: &[Place<'_>]) -> Result<(), AllocError>
-        ensures { OnOk result (Grows self.old self.new (flat_map (λ p. option_to_list (own_uri p)) (map place_of places.now)) (flat_map wanted_at (map place_of places.now))) }
+        ensures { OnOk result
+            (Grows self.old self.new
+            (flat_map (λ p. option_to_list (own_uri p)) (map place_of places.now))
+            (flat_map wanted_at (map place_of places.now))) }
     {
         for place in places {
             self.add(alloc, place)?;
@@ -106,7 +113,10 @@ impl Wants {
         uri: &Uri,
         places: &[Place<'_>],
     ) -> Result<(), AllocError>
-        ensures { OnOk result (Grows self.old self.new (uri.now ∷ flat_map (λ p. option_to_list (own_uri p)) (map place_of places.now)) (flat_map wanted_at (map place_of places.now))) }
+        ensures { OnOk result
+            (Grows self.old self.new
+            (uri.now ∷ flat_map (λ p. option_to_list (own_uri p)) (map place_of places.now))
+            (flat_map wanted_at (map place_of places.now))) }
     {
         self.meet(uri)?;
         self.add_places(alloc, places)
@@ -115,7 +125,8 @@ impl Wants {
 
 // The URI that the reference of a place points into, where it has one that means a URI.
 fn referred(alloc: Global, place: &Place<'_>) -> Result<Option<Rc<Uri>>, AllocError>
-    ensures { IfOk result (λ uri. option_map (λ u. u.value) uri ≡ referred_uri (place_of place.now)) }
+    ensures { IfOk result
+        (λ uri. option_map (λ u. u.value) uri ≡ referred_uri (place_of place.now)) }
 {
     let Some(reference) = place.reference() else {
         return Ok(None);
@@ -127,7 +138,8 @@ fn referred(alloc: Global, place: &Place<'_>) -> Result<Option<Rc<Uri>>, AllocEr
 
 // The URI that the `$schema` of a place names, where it names no known draft and means a URI.
 fn dialect(alloc: Global, place: &Place<'_>) -> Result<Option<Rc<Uri>>, AllocError>
-    ensures { IfOk result (λ uri. option_map (λ u. u.value) uri ≡ dialect_uri (place_of place.now)) }
+    ensures { IfOk result
+        (λ uri. option_map (λ u. u.value) uri ≡ dialect_uri (place_of place.now)) }
 {
     let Some(text) = place.schema() else {
         return Ok(None);
@@ -145,7 +157,10 @@ fn retrieved<R: Retrieve>(
     retriever: &R,
     uri: &Uri,
 ) -> Result<Option<Value>, AllocError>
-    ensures { IfOk result (λ value. MayReturn (retriever_of (R.may_answer retriever.now) (R.may_refuse retriever.now)) uri.now (option_map view value)) }
+    ensures { IfOk result
+        (λ value. MayReturn
+        (retriever_of (R.may_answer retriever.now) (R.may_refuse retriever.now)) uri.now
+        (option_map view value)) }
 {
     match retriever.retrieve(alloc, uri) {
         Ok(value) => Ok(Some(value)),
@@ -156,7 +171,9 @@ fn retrieved<R: Retrieve>(
 
 // Adds what a document that was retrieved has and wants.
 fn add_held(alloc: Global, draft: Draft, wants: &mut Wants, held: &Held) -> Result<(), AllocError>
-    ensures { OnOk result (Grows wants.old wants.new (uris_in draft (held_source held.now)) (wanted_by draft (held_source held.now))) }
+    ensures { OnOk result
+        (Grows wants.old wants.new (uris_in draft (held_source held.now))
+        (wanted_by draft (held_source held.now))) }
 {
     let places = places_of(alloc, &held.uri, &held.value, draft.detect(&held.value))?;
     wants.add_document(alloc, &held.uri, places.as_slice())
@@ -170,10 +187,16 @@ fn ask<R: Retrieve>(
     wants: &mut Wants,
     uri: &Uri,
 ) -> Result<Option<Held>, AllocError>
-    ensures answer { IfOk result (λ held. MayReturn (retriever_of (R.may_answer retriever.now) (R.may_refuse retriever.now)) uri.now (source_asked uri.now held).tree) }
+    ensures answer { IfOk result
+        (λ held. MayReturn
+        (retriever_of (R.may_answer retriever.now) (R.may_refuse retriever.now)) uri.now
+        (source_asked uri.now held).tree) }
     ensures uri { IfOk result (λ o. IfSome o (λ held. held.uri ≡ uri.now)) }
-    ensures grows { IfOk result (λ held. Grows wants.old wants.new (uris_in draft (source_asked uri.now held)) (wanted_by draft (source_asked uri.now held))) }
-    ensures refused { IfOk result (λ held. IfNone held (wants.new.wanted.items ≡ wants.old.wanted.items)) }
+    ensures grows { IfOk result
+        (λ held. Grows wants.old wants.new (uris_in draft (source_asked uri.now held))
+        (wanted_by draft (source_asked uri.now held))) }
+    ensures refused { IfOk result
+        (λ held. IfNone held (wants.new.wanted.items ≡ wants.old.wanted.items)) }
 {
     let Some(value) = retrieved(alloc, retriever, uri)? else {
         wants.meet(uri)?;
@@ -193,11 +216,20 @@ fn retrieve<R: Retrieve>(
     wants: &mut Wants,
 ) -> Result<Option<Held>, AllocError>
     requires { wants.old.next < length wants.old.wanted.items }
-    ensures going { (sources gathered : List spec.Source) → IsGoing (retriever_of (R.may_answer retriever.now) (R.may_refuse retriever.now)) draft sources wants.old gathered
-        → IfOk result (λ held. IsGoing (retriever_of (R.may_answer retriever.now) (R.may_refuse retriever.now)) draft sources wants.new (gathered ++ option_to_list (option_map held_source held))) }
-    ensures answer { IfOk result (λ o. IfSome o (λ held. R.may_answer retriever.now held.uri (view held.value))) }
+    ensures going { (sources gathered : List spec.Source)
+        → IsGoing
+        (retriever_of (R.may_answer retriever.now)
+        (R.may_refuse retriever.now)) draft sources wants.old gathered
+        → IfOk result
+        (λ held. IsGoing
+        (retriever_of (R.may_answer retriever.now)
+        (R.may_refuse retriever.now)) draft sources wants.new
+        (gathered ++ option_to_list (option_map held_source held))) }
+    ensures answer { IfOk result
+        (λ o. IfSome o (λ held. R.may_answer retriever.now held.uri (view held.value))) }
     ensures passed { IfOk result (λ held. wants.new.next ≡ wants.old.next + 1) }
-    ensures refused { IfOk result (λ held. IfNone held (wants.new.wanted.items ≡ wants.old.wanted.items)) }
+    ensures refused { IfOk result
+        (λ held. IfNone held (wants.new.wanted.items ≡ wants.old.wanted.items)) }
 {
     let uri = wants.wanted[wants.next].clone()?;
     wants.next += 1;
@@ -214,10 +246,19 @@ fn retrieve_next<R: Retrieve>(
     retriever: &R,
     wants: &mut Wants,
 ) -> Result<Option<Held>, AllocError>
-    ensures going { (sources gathered : List spec.Source) → IsGoing (retriever_of (R.may_answer retriever.now) (R.may_refuse retriever.now)) draft sources wants.old gathered
-        → IfOk result (λ held. IsGoing (retriever_of (R.may_answer retriever.now) (R.may_refuse retriever.now)) draft sources wants.new (gathered ++ option_to_list (option_map held_source held))) }
-    ensures answer { IfOk result (λ o. IfSome o (λ held. R.may_answer retriever.now held.uri (view held.value))) }
-    ensures ended { IfOk result (λ held. IfNone held (length wants.new.wanted.items ≤ wants.new.next)) }
+    ensures going { (sources gathered : List spec.Source)
+        → IsGoing
+        (retriever_of (R.may_answer retriever.now)
+        (R.may_refuse retriever.now)) draft sources wants.old gathered
+        → IfOk result
+        (λ held. IsGoing
+        (retriever_of (R.may_answer retriever.now)
+        (R.may_refuse retriever.now)) draft sources wants.new
+        (gathered ++ option_to_list (option_map held_source held))) }
+    ensures answer { IfOk result
+        (λ o. IfSome o (λ held. R.may_answer retriever.now held.uri (view held.value))) }
+    ensures ended { IfOk result
+        (λ held. IfNone held (length wants.new.wanted.items ≤ wants.new.next)) }
 {
     while wants.next < wants.wanted.len() {
         if let Some(held) = retrieve(alloc, draft, retriever, wants)? {
@@ -229,7 +270,9 @@ fn retrieve_next<R: Retrieve>(
 
 // Adds what the places of a source have and want.
 fn add_survey(alloc: Global, wants: &mut Wants, survey: &Survey<'_, '_>) -> Result<(), AllocError>
-    ensures { OnOk result (Grows wants.old wants.new (uris_seen (seen_survey survey.now)) (wanted_seen (seen_survey survey.now))) }
+    ensures { OnOk result
+        (Grows wants.old wants.new (uris_seen (seen_survey survey.now))
+        (wanted_seen (seen_survey survey.now))) }
 {
     wants.add_document(alloc, &survey.source.uri, survey.places.as_slice())
 }
@@ -240,7 +283,9 @@ fn add_surveys(
     wants: &mut Wants,
     surveys: &[Survey<'_, '_>],
 ) -> Result<(), AllocError>
-    ensures { OnOk result (Grows wants.old wants.new (flat_map uris_seen (map seen_survey surveys.now)) (flat_map wanted_seen (map seen_survey surveys.now))) }
+    ensures { OnOk result
+        (Grows wants.old wants.new (flat_map uris_seen (map seen_survey surveys.now))
+        (flat_map wanted_seen (map seen_survey surveys.now))) }
 {
     for survey in surveys {
         add_survey(alloc, wants, survey)?;
@@ -250,8 +295,10 @@ fn add_surveys(
 
 // What sources have and want.
 fn wants_of(alloc: Global, draft: Draft, sources: &[Source<'_>]) -> Result<Wants, AllocError>
-    ensures met { IfOk result (λ wants. AreMet wants (flat_map (uris_in draft) (map source_of sources.now))) }
-    ensures wanted { IfOk result (λ wants. wanted_of wants ≡ flat_map (wanted_by draft) (map source_of sources.now)) }
+    ensures met { IfOk result
+        (λ wants. AreMet wants (flat_map (uris_in draft) (map source_of sources.now))) }
+    ensures wanted { IfOk result
+        (λ wants. wanted_of wants ≡ flat_map (wanted_by draft) (map source_of sources.now)) }
     ensures next { IfOk result (λ wants. wants.next ≡ 0) }
 {
     let surveys = surveys_of(alloc, draft, sources)?;
@@ -264,12 +311,13 @@ fn wants_of(alloc: Global, draft: Draft, sources: &[Source<'_>]) -> Result<Wants
     Ok(wants)
 }
 
-/// The documents that sources want, and that those want in turn, as far as a retriever returns them: for each URI that a `$ref`
-/// points into or an unknown `$schema` names and that no document or place has, the retriever is asked once, and what it returns is
-/// read before the next. At most `limit` documents are retrieved. A document that the retriever refuses is left out.
+/// The documents that sources want, and that those want in turn, as far as a retriever returns them: for each URI that
+/// a `$ref` points into or an unknown `$schema` names and that no document or place has, the retriever is asked once,
+/// and what it returns is read before the next. At most `limit` documents are retrieved. A document that the retriever
+/// refuses is left out.
 ///
-/// Fails only if out of memory, here or in the retriever. Each place is visited once, with a look-up in a hashed map for each URI
-/// that it has or wants.
+/// Fails only if out of memory, here or in the retriever. Each place is visited once, with a look-up in a hashed map
+/// for each URI that it has or wants.
 pub fn gather<R: Retrieve>(
     alloc: Global,
     draft: Draft,
@@ -277,8 +325,13 @@ pub fn gather<R: Retrieve>(
     retriever: &R,
     limit: usize,
 ) -> Result<Vec<Held>, AllocError>
-    ensures gathered { IfOk result (λ list. IsGathered (retriever_of (R.may_answer retriever.now) (R.may_refuse retriever.now)) draft (map source_of sources.now) limit (map held_source list.items)) }
-    ensures answers { IfOk result (λ list. AllByRecursion (λ held. R.may_answer retriever.now held.uri (view held.value)) list.items) }
+    ensures gathered { IfOk result
+        (λ list. IsGathered
+        (retriever_of (R.may_answer retriever.now) (R.may_refuse retriever.now)) draft
+        (map source_of sources.now) limit (map held_source list.items)) }
+    ensures answers { IfOk result
+        (λ list. AllByRecursion
+        (λ held. R.may_answer retriever.now held.uri (view held.value)) list.items) }
     ensures limit { IfOk result (λ list. length list.items ≤ limit) }
 {
     let mut wants = wants_of(alloc, draft, sources)?;
@@ -295,7 +348,8 @@ pub fn gather<R: Retrieve>(
 
 /// Documents that were retrieved, as sources. Their values are lent, and their URIs copied. Fails only if out of memory.
 pub fn as_sources<'h>(alloc: Global, held: &'h [Held]) -> Result<Vec<Source<'h>>, AllocError>
-    ensures value { IfOk result (λ sources. map source_of sources.items ≡ map held_source held.now) }
+    ensures value { IfOk result
+        (λ sources. map source_of sources.items ≡ map held_source held.now) }
 {
     let mut sources = Vec::with_capacity(alloc, held.len())?;
     for document in held {

@@ -69,7 +69,8 @@ pub(crate) fn keyword_at<'v>(
     keyword: Option<Keyword>,
 ) -> (Option<&'static str>, Option<&'v str>)
     ensures keyword { option_map (λ k. k.now) result.0 ≡ option_map keyword_text keyword }
-    ensures text { option_map (λ t. t.now) result.1 ≡ option_and_then (λ k. text_under k (view value.now)) (option_map keyword_text keyword) }
+    ensures text { option_map (λ t. t.now) result.1
+        ≡ option_and_then (λ k. text_under k (view value.now)) (option_map keyword_text keyword) }
 {
     match keyword {
         Some(keyword) => (Some(keyword.text()), text_under(value, keyword.text())),

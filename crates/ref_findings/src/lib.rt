@@ -1,6 +1,6 @@
-//! What is wrong with the references of JSON documents, for linters: identifiers, references and names of meta-schemas that mean
-//! no URI, documents that aren't there, unresolvable pointers and anchors, and URIs and names that two places have. No
-//! finding hides another.
+//! What is wrong with the references of JSON documents, for linters: identifiers, references and names of meta-schemas
+//! that mean no URI, documents that aren't there, unresolvable pointers and anchors, and URIs and names that two places
+//! have. No finding hides another.
 #![tactic(auto)]
 
 mod base;

@@ -34,7 +34,10 @@ fn finding<'v>(
     keyword: Option<Keyword>,
     problem: Problem<'v>,
 ) -> Result<Finding<'v>, AllocError>
-    ensures { (p : spec.Problem) → IsProblemOf problem.entry p → IfOk result (λ f. AllZip IsFindingOf (f ∷ []) (finding_at (site_of site.now) (option_map keyword_text keyword) (Some p))) }
+    ensures { (p : spec.Problem) → IsProblemOf problem.entry p
+        → IfOk result
+        (λ f. AllZip IsFindingOf (f ∷ [])
+        (finding_at (site_of site.now) (option_map keyword_text keyword) (Some p))) }
 {
     let path = segments_of(alloc, &site.place.path)?;
     let (keyword, text) = keyword_at(site.place.value, keyword);
@@ -55,8 +58,11 @@ fn add<'v>(
     keyword: Option<Keyword>,
     problem: Option<Problem<'v>>,
 ) -> Result<(), AllocError>
-    ensures { (p : Option spec.Problem) (fs : List spec.Finding) → IsMaybe p problem.entry → AllZip IsFindingOf list.old.items fs
-        → OnOk result (AllZip IsFindingOf list.new.items (fs ++ finding_at (site_of site.now) (option_map keyword_text keyword) p)) }
+    ensures { (p : Option spec.Problem) (fs : List spec.Finding) → IsMaybe p problem.entry
+        → AllZip IsFindingOf list.old.items fs
+        → OnOk result
+        (AllZip IsFindingOf list.new.items
+        (fs ++ finding_at (site_of site.now) (option_map keyword_text keyword) p)) }
 {
     let Some(problem) = problem else {
         return Ok(());
@@ -74,7 +80,10 @@ fn add_source_uri<'v>(
     number: usize,
     site: &Site<'_, 'v>,
 ) -> Result<(), AllocError>
-    ensures { (fs : List spec.Finding) → AllZip IsFindingOf list.old.items fs → OnOk result (AllZip IsFindingOf list.new.items (fs ++ source_findings (known_in known.now) number (site_of site.now))) }
+    ensures { (fs : List spec.Finding) → AllZip IsFindingOf list.old.items fs
+        → OnOk result
+        (AllZip IsFindingOf list.new.items
+        (fs ++ source_findings (known_in known.now) number (site_of site.now))) }
 {
     let own = own_uri(alloc, site.place)?;
     let Some(uri) = source_uri(site.place, own.as_ref()) else {
@@ -92,7 +101,10 @@ fn add_identifier<'v>(
     number: usize,
     site: &Site<'_, 'v>,
 ) -> Result<(), AllocError>
-    ensures { (fs : List spec.Finding) → AllZip IsFindingOf list.old.items fs → OnOk result (AllZip IsFindingOf list.new.items (fs ++ identifier_findings (known_in known.now) number (site_of site.now))) }
+    ensures { (fs : List spec.Finding) → AllZip IsFindingOf list.old.items fs
+        → OnOk result
+        (AllZip IsFindingOf list.new.items
+        (fs ++ identifier_findings (known_in known.now) number (site_of site.now))) }
 {
     let Some(id) = site.place.id() else {
         return Ok(());
@@ -109,7 +121,10 @@ fn add_reference<'v>(
     known: &Known<'_, 'v>,
     site: &Site<'_, 'v>,
 ) -> Result<(), AllocError>
-    ensures { (fs : List spec.Finding) → AllZip IsFindingOf list.old.items fs → OnOk result (AllZip IsFindingOf list.new.items (fs ++ reference_findings (known_in known.now) (site_of site.now))) }
+    ensures { (fs : List spec.Finding) → AllZip IsFindingOf list.old.items fs
+        → OnOk result
+        (AllZip IsFindingOf list.new.items
+        (fs ++ reference_findings (known_in known.now) (site_of site.now))) }
 {
     let Some(reference) = site.place.reference() else {
         return Ok(());
@@ -126,7 +141,10 @@ fn add_schema<'v>(
     known: &Known<'_, 'v>,
     site: &Site<'_, 'v>,
 ) -> Result<(), AllocError>
-    ensures { (fs : List spec.Finding) → AllZip IsFindingOf list.old.items fs → OnOk result (AllZip IsFindingOf list.new.items (fs ++ schema_findings (known_in known.now) (site_of site.now))) }
+    ensures { (fs : List spec.Finding) → AllZip IsFindingOf list.old.items fs
+        → OnOk result
+        (AllZip IsFindingOf list.new.items
+        (fs ++ schema_findings (known_in known.now) (site_of site.now))) }
 {
     let Some(text) = site.place.schema() else {
         return Ok(());
@@ -145,8 +163,13 @@ fn add_anchor<'v>(
     base: &Rc<Uri>,
     anchor: Anchor<'v>,
 ) -> Result<(), AllocError>
-    ensures { (fs : List spec.Finding) → base.now.value ≡ nearest_base (site_of site.now).1 → AllZip IsFindingOf list.old.items fs
-        → OnOk result (AllZip IsFindingOf list.new.items (fs ++ anchor_finding (known_in known.now) number (site_of site.now) (anchor_name anchor.entry))) }
+    ensures { (fs : List spec.Finding) → base.now.value ≡ nearest_base (site_of site.now).1
+        → AllZip IsFindingOf list.old.items fs
+        → OnOk result
+        (AllZip IsFindingOf list.new.items
+        (fs
+        ++ anchor_finding (known_in known.now) number (site_of site.now)
+        (anchor_name anchor.entry))) }
 {
     let problem = known.of_name(alloc, number, base, anchor.name())?;
     let keyword = Keyword::of_anchor(site.place.draft, &anchor);
@@ -161,7 +184,10 @@ fn add_anchors<'v>(
     number: usize,
     site: &Site<'_, 'v>,
 ) -> Result<(), AllocError>
-    ensures { (fs : List spec.Finding) → AllZip IsFindingOf list.old.items fs → OnOk result (AllZip IsFindingOf list.new.items (fs ++ anchor_findings (known_in known.now) number (site_of site.now))) }
+    ensures { (fs : List spec.Finding) → AllZip IsFindingOf list.old.items fs
+        → OnOk result
+        (AllZip IsFindingOf list.new.items
+        (fs ++ anchor_findings (known_in known.now) number (site_of site.now))) }
 {
     let anchors = site.place.anchors();
     if matches!(anchors, AnchorIter::Empty) {
@@ -186,7 +212,10 @@ fn add_site<'v>(
     number: usize,
     site: &Site<'_, 'v>,
 ) -> Result<(), AllocError>
-    ensures { (fs : List spec.Finding) → AllZip IsFindingOf list.old.items fs → OnOk result (AllZip IsFindingOf list.new.items (fs ++ findings_at (known_in known.now) number (site_of site.now))) }
+    ensures { (fs : List spec.Finding) → AllZip IsFindingOf list.old.items fs
+        → OnOk result
+        (AllZip IsFindingOf list.new.items
+        (fs ++ findings_at (known_in known.now) number (site_of site.now))) }
 {
     add_source_uri(alloc, list, known, number, site)?;
     add_identifier(alloc, list, known, number, site)?;
@@ -215,7 +244,9 @@ fn add_source<'v>(
     number: usize,
     source: &Source<'v>,
 ) -> Result<(), AllocError>
-    ensures { (fs : List spec.Finding) → AllZip IsFindingOf list.old.items fs → OnOk result (AllZip IsFindingOf list.new.items (fs ++ not_json (number, source_of source.now))) }
+    ensures { (fs : List spec.Finding) → AllZip IsFindingOf list.old.items fs
+        → OnOk result
+        (AllZip IsFindingOf list.new.items (fs ++ not_json (number, source_of source.now))) }
 {
     if source.value.is_some() {
         return Ok(());
@@ -227,7 +258,8 @@ fn add_source<'v>(
 
 // Which sources are no JSON.
 fn unread<'v>(alloc: Global, sources: &[Source<'v>]) -> Result<Vec<Finding<'v>>, AllocError>
-    ensures { IfOk result (λ list. AllZip IsFindingOf list.items (unread_sources (map source_of sources.now))) }
+    ensures { IfOk result
+        (λ list. AllZip IsFindingOf list.items (unread_sources (map source_of sources.now))) }
 {
     let mut list = Vec::new(alloc);
     for (number, source) in sources.iter().enumerate() {
@@ -243,7 +275,10 @@ fn add_sites<'v>(
     known: &Known<'_, 'v>,
     sites: &[Site<'_, 'v>],
 ) -> Result<(), AllocError>
-    ensures { (fs : List spec.Finding) → AllZip IsFindingOf list.old.items fs → OnOk result (AllZip IsFindingOf list.new.items (fs ++ place_findings (known_in known.now) (map site_of sites.now))) }
+    ensures { (fs : List spec.Finding) → AllZip IsFindingOf list.old.items fs
+        → OnOk result
+        (AllZip IsFindingOf list.new.items
+        (fs ++ place_findings (known_in known.now) (map site_of sites.now))) }
 {
     for (number, site) in sites.iter().enumerate() {
         add_site(alloc, list, known, number, site)?;
@@ -258,7 +293,10 @@ fn listed<'v>(
     known: &Known<'_, 'v>,
     sites: &[Site<'_, 'v>],
 ) -> Result<Vec<Finding<'v>>, AllocError>
-    ensures { IfOk result (λ list. AllZip IsFindingOf list.items (unread_sources (map source_of sources.now) ++ place_findings (known_in known.now) (map site_of sites.now))) }
+    ensures { IfOk result
+        (λ list. AllZip IsFindingOf list.items
+        (unread_sources (map source_of sources.now)
+        ++ place_findings (known_in known.now) (map site_of sites.now))) }
 {
     let mut list = unread(alloc, sources)?;
     add_sites(alloc, &mut list, known, sites)?;
@@ -286,9 +324,13 @@ fn reported<'k, 'v>(
     unsound: &'k SortedTable<usize>,
     sites: &'k [Site<'k, 'v>],
 ) -> Result<Report<'v>, AllocError>
-    ensures findings { IfOk result (λ report. AllZip IsFindingOf report.findings.items (unread_sources (map source_of sources.now)
-        ++ place_findings (known_among index.now unsound.now (map site_of sites.now)) (map site_of sites.now))) }
-    ensures references { IfOk result (λ report. report.references ≡ length (filter has_reference (map site_of sites.now))) }
+    ensures findings { IfOk result
+        (λ report. AllZip IsFindingOf report.findings.items
+        (unread_sources (map source_of sources.now)
+        ++ place_findings (known_among index.now unsound.now (map site_of sites.now))
+        (map site_of sites.now))) }
+    ensures references { IfOk result
+        (λ report. report.references ≡ length (filter has_reference (map site_of sites.now))) }
 {
     let uris = uris_of(alloc, sites)?;
     let names = names_of(alloc, sites)?;
@@ -308,15 +350,18 @@ fn reported<'k, 'v>(
     })
 }
 
-/// All that is wrong with the references of sources, and what is to be noted: first those sources that are no JSON, then source by
-/// source what is wrong at its places, level by level. `held` are other documents that references may lead to.
+/// All that is wrong with the references of sources, and what is to be noted: first those sources that are no JSON,
+/// then source by source what is wrong at its places, level by level. `held` are other documents that references may
+/// lead to.
 ///
-/// At a place these come in order: that the URI of its source is that of an earlier place, where it is the root; that its identifier
-/// means no URI, or that of an earlier place; that its `$ref` means no URI or is unresolvable; that its `$schema` means no URI, or no
-/// dialect that is known; and that each of its anchors has the name of an earlier place with the same base.
+/// At a place these come in order: that the URI of its source is that of an earlier place, where it is the root; that
+/// its identifier means no URI, or that of an earlier place; that its `$ref` means no URI or is unresolvable; that its
+/// `$schema` means no URI, or no dialect that is known; and that each of its anchors has the name of an earlier place
+/// with the same base.
 ///
-/// A document that is no JSON or has a text that means no URI is no part of what references are looked up in, and a reference to a
-/// URI of it is not listed. Below a place whose identifier means no URI the base stays that of the place around it.
+/// A document that is no JSON or has a text that means no URI is no part of what references are looked up in, and a
+/// reference to a URI of it is not listed. Below a place whose identifier means no URI the base stays that of the place
+/// around it.
 ///
 /// Fails only if out of memory. Each place is visited twice, each reference looked up once; no value is copied.
 pub fn report<'v>(
@@ -325,8 +370,11 @@ pub fn report<'v>(
     sources: &[Source<'v>],
     held: &[Source<'v>],
 ) -> Result<Report<'v>, AllocError>
-    ensures findings { IfOk result (λ report. AllZip IsFindingOf report.findings.items (findings draft (map source_of sources.now) (map source_of held.now))) }
-    ensures references { IfOk result (λ report. report.references ≡ references draft (map source_of sources.now)) }
+    ensures findings { IfOk result
+        (λ report. AllZip IsFindingOf report.findings.items
+        (findings draft (map source_of sources.now) (map source_of held.now))) }
+    ensures references { IfOk result
+        (λ report. report.references ≡ references draft (map source_of sources.now)) }
 {
     let surveys = surveys_of(alloc, draft, sources)?;
     let others = surveys_of(alloc, draft, held)?;
@@ -343,7 +391,9 @@ pub fn findings<'v>(
     sources: &[Source<'v>],
     held: &[Source<'v>],
 ) -> Result<Vec<Finding<'v>>, AllocError>
-    ensures value { IfOk result (λ list. AllZip IsFindingOf list.items (findings draft (map source_of sources.now) (map source_of held.now))) }
+    ensures value { IfOk result
+        (λ list. AllZip IsFindingOf list.items
+        (findings draft (map source_of sources.now) (map source_of held.now))) }
 {
     let report = report(alloc, draft, sources, held)?;
     Ok(report.findings)

@@ -118,7 +118,8 @@ impl<'v> Place<'v> {
 
     /// The text under `$ref`. Takes no memory.
     pub fn reference(&self) -> Option<&'v str>
-        ensures value { option_map (λ text. text.now) result ≡ text_in (codes "$ref") (place_of self.now).value }
+        ensures value { option_map (λ text. text.now) result
+            ≡ text_in (codes "$ref") (place_of self.now).value }
     {
         if self.is_plain() {
             return None;
@@ -128,7 +129,8 @@ impl<'v> Place<'v> {
 
     /// The text under `$schema`. Takes no memory.
     pub fn schema(&self) -> Option<&'v str>
-        ensures value { option_map (λ text. text.now) result ≡ text_in (codes "$schema") (place_of self.now).value }
+        ensures value { option_map (λ text. text.now) result
+            ≡ text_in (codes "$schema") (place_of self.now).value }
     {
         if self.is_plain() {
             return None;
@@ -138,7 +140,8 @@ impl<'v> Place<'v> {
 
     /// Its anchors. Takes no memory.
     pub fn anchors(&self) -> AnchorIter<'v>
-        ensures value { map anchor_name (anchors_left result) ≡ anchors_of (place_of self.now).draft (place_of self.now).value }
+        ensures value { map anchor_name (anchors_left result)
+            ≡ anchors_of (place_of self.now).draft (place_of self.now).value }
     {
         if self.is_plain() {
             return AnchorIter::Empty;

@@ -48,7 +48,8 @@ fn is_of_draft(uri: &str) -> bool
 
 // Whether a URI is one of these, the `#` characters at their ends dropped.
 fn is_one_of(uris: &[&str; 19], uri: &str) -> bool
-    ensures { result ≡ list_any (λ known. bytes_eq (trimmed_text known) uri.now) (map (λ u. u.now) uris.now) }
+    ensures { result
+        ≡ list_any (λ known. bytes_eq (trimmed_text known) uri.now) (map (λ u. u.now) uris.now) }
 {
     let mut any = false;
     for known in uris {
@@ -96,7 +97,10 @@ fn fault_at(
     base: &Uri,
     reference: &str,
 ) -> Result<Option<Error>, AllocError>
-    ensures { IfOk result (IsWhy (lookup (world_in layers.entry) (record { base = base.now; scope = [] }) reference.now)) }
+    ensures { IfOk result
+        (IsWhy
+        (lookup (world_in layers.entry)
+        (record { base = base.now; scope = [] }) reference.now)) }
 {
     let base = base.clone()?;
     let resolver = Resolver::new(alloc, layers, base)?;
@@ -122,7 +126,8 @@ fn missing<'v>(uri: Rc<Uri>, reference: &str) -> Option<Problem<'v>>
 
 // What is wrong with an unresolvable reference, by the URI that it points into and its fault.
 fn leads_nowhere<'v>(uri: Rc<Uri>, reference: &str, error: Error) -> Option<Problem<'v>>
-    ensures { (fault : Fault) → SaysFault error fault → IsMaybe (by_fault uri.value reference.now fault) result }
+    ensures { (fault : Fault) → SaysFault error fault
+        → IsMaybe (by_fault uri.value reference.now fault) result }
 {
     if is_unretrievable(&error) {
         return missing(uri, reference);
@@ -146,7 +151,8 @@ impl<'k, 'v> Known<'k, 'v> {
         reference: &str,
         uri: Rc<Uri>,
     ) -> Result<Option<Problem<'v>>, AllocError>
-        ensures { IfOk result (IsMaybe (by_target (known_in self.now) base.now.value reference.now (Ok uri.value))) }
+        ensures { IfOk result
+            (IsMaybe (by_target (known_in self.now) base.now.value reference.now (Ok uri.value))) }
     {
         if self.is_unsound(uri.as_str()) {
             return Ok(None);
@@ -164,7 +170,8 @@ impl<'k, 'v> Known<'k, 'v> {
         base: &Rc<Uri>,
         reference: &str,
     ) -> Result<Option<Problem<'v>>, AllocError>
-        ensures value { IfOk result (IsMaybe (reference_problem (known_in self.now) base.now.value reference.now)) }
+        ensures value { IfOk result
+            (IsMaybe (reference_problem (known_in self.now) base.now.value reference.now)) }
     {
         match target_of(alloc, base, reference)? {
             Ok(uri) => self.followed(alloc, base, reference, uri),
@@ -205,7 +212,8 @@ impl<'k, 'v> Known<'k, 'v> {
 
     // What is wrong with a text that names the meta-schema of no draft.
     fn of_dialect(&self, alloc: Global, text: &str) -> Result<Option<Problem<'v>>, AllocError>
-        ensures { IfOk result (IsMaybe (by_dialect (known_in self.now) (meanings.meta_schema_uri text.now))) }
+        ensures { IfOk result
+            (IsMaybe (by_dialect (known_in self.now) (meanings.meta_schema_uri text.now))) }
     {
         match meta_schema_uri(alloc, text)? {
             Ok(uri) => Ok(self.of_dialect_uri(uri)),
@@ -220,7 +228,8 @@ impl<'k, 'v> Known<'k, 'v> {
         number: usize,
         first: Option<&usize>,
     ) -> Result<Option<Bearer<'v>>, AllocError>
-        ensures { IfOk result (IsBearer (other_bearer (known_in self.now).sites number (option_copied first.entry))) }
+        ensures { IfOk result
+            (IsBearer (other_bearer (known_in self.now).sites number (option_copied first.entry))) }
     {
         let Some(first) = first else {
             return Ok(None);
@@ -245,7 +254,8 @@ impl<'k, 'v> Known<'k, 'v> {
         number: usize,
         uri: &Rc<Uri>,
     ) -> Result<Option<Problem<'v>>, AllocError>
-        ensures value { IfOk result (IsMaybe (uri_problem (known_in self.now) number uri.now.value)) }
+        ensures value { IfOk result
+            (IsMaybe (uri_problem (known_in self.now) number uri.now.value)) }
     {
         let first = self.uris.get(uri.as_str(), "").0;
         let Some(first) = self.bearer(alloc, number, first)? else {
@@ -263,7 +273,9 @@ impl<'k, 'v> Known<'k, 'v> {
         outer: &Rc<Uri>,
         id: &str,
     ) -> Result<Option<Problem<'v>>, AllocError>
-        ensures value { IfOk result (IsMaybe (by_base (known_in self.now) number (base_within outer.now.value (Some id.now)))) }
+        ensures value { IfOk result
+            (IsMaybe
+            (by_base (known_in self.now) number (base_within outer.now.value (Some id.now)))) }
     {
         match base_of(alloc, outer, Some(id))? {
             Ok(uri) => self.of_uri(alloc, number, &uri),
@@ -279,7 +291,8 @@ impl<'k, 'v> Known<'k, 'v> {
         base: &Rc<Uri>,
         name: &str,
     ) -> Result<Option<Problem<'v>>, AllocError>
-        ensures value { IfOk result (IsMaybe (name_problem (known_in self.now) number base.now.value name.now)) }
+        ensures value { IfOk result
+            (IsMaybe (name_problem (known_in self.now) number base.now.value name.now)) }
     {
         let first = self.names.get(base.as_str(), name).0;
         let Some(first) = self.bearer(alloc, number, first)? else {

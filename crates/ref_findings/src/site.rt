@@ -19,8 +19,11 @@ fn push_last<'n, 'v>(
     segments: &mut Vec<JsonPointerSegment<'v>>,
     path: &'n JsonPointerNode<'v>,
 ) -> Result<Option<&'n JsonPointerNode<'v>>, AllocError>
-    ensures { IfOk result (λ rest. MatchOption rest ((path.now ≡ []) × (segments.new.items ≡ segments.old.items))
-        (λ before. (segment : JsonPointerSegment) × (segments.new.items ≡ segments.old.items ++ segment ∷ []) × (path.now ≡ before.now ++ part_of segment ∷ []))) }
+    ensures { IfOk result
+        (λ rest. MatchOption rest ((path.now ≡ []) × (segments.new.items ≡ segments.old.items))
+        (λ before. (segment : JsonPointerSegment)
+        × (segments.new.items ≡ segments.old.items ++ segment ∷ [])
+        × (path.now ≡ before.now ++ part_of segment ∷ []))) }
 {
     let Some(before) = path.parent() else {
         return Ok(None);

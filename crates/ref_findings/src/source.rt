@@ -4,8 +4,8 @@ use serde_json::Value;
 
 /// A document that was read: the URI that it is under, and its value, or that it is no JSON.
 ///
-/// The URI is to be in normal form, as [`from_str`](ref_uri::uri::from_str) gives it, and without a fragment: it is what references
-/// are compared with.
+/// The URI is to be in normal form, as [`from_str`](ref_uri::uri::from_str) gives it, and without a fragment: it is
+/// what references are compared with.
 #[derive(Drop)]
 pub struct Source<'v> {
     /// The URI.

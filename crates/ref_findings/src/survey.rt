@@ -58,7 +58,9 @@ pub(crate) fn surveys_of<'s, 'v>(
     draft: Draft,
     sources: &'s [Source<'v>],
 ) -> Result<Vec<Survey<'s, 'v>>, AllocError>
-    ensures value { IfOk result (λ surveys. map seen_survey surveys.items ≡ map (survey_in draft) (map source_of sources.now)) }
+    ensures value { IfOk result
+        (λ surveys. map seen_survey surveys.items
+        ≡ map (survey_in draft) (map source_of sources.now)) }
 {
     let mut surveys = Vec::with_capacity(alloc, sources.len())?;
     for source in sources {
@@ -77,7 +79,8 @@ fn with_document<'v>(
     value: &'v Value,
 ) -> Result<Walked<'v>, AllocError>
     requires { faults (walked ++ document draft source.now.uri (view value.now) ∷ []) ≡ [] }
-    ensures { IfOk result (λ more. more ≡ walked.entry ++ document draft source.now.uri (view value.now) ∷ []) }
+    ensures { IfOk result
+        (λ more. more ≡ walked.entry ++ document draft source.now.uri (view value.now) ∷ []) }
 {
     let uri = source.uri.clone()?;
     let document = Document {
@@ -101,7 +104,8 @@ fn with_source<'v>(
 ) -> Result<Walked<'v>, AllocError>
     requires faultless { faults walked ≡ [] }
     requires survey { seen_survey survey.now ≡ survey_in draft (source_of survey.now.source.now) }
-    ensures value { IfOk result (λ more. more ≡ walked.entry ++ sound_in draft (seen_survey survey.now)) }
+    ensures value { IfOk result
+        (λ more. more ≡ walked.entry ++ sound_in draft (seen_survey survey.now)) }
     ensures faultless { IfOk result (λ more. faults more ≡ []) }
 {
     if !survey.is_sound {
@@ -122,7 +126,8 @@ fn with_sources<'v>(
 ) -> Result<Walked<'v>, AllocError>
     requires faultless { faults walked ≡ [] }
     requires surveys { AreSurveys draft (map seen_survey surveys.now) }
-    ensures value { IfOk result (λ more. more ≡ walked.entry ++ flat_map (sound_in draft) (map seen_survey surveys.now)) }
+    ensures value { IfOk result
+        (λ more. more ≡ walked.entry ++ flat_map (sound_in draft) (map seen_survey surveys.now)) }
     ensures faultless { IfOk result (λ more. faults more ≡ []) }
 {
     let mut walked = walked;
@@ -141,7 +146,10 @@ pub(crate) fn index_of<'v>(
 ) -> Result<Index<'v>, AllocError>
     requires surveys { AreSurveys draft (map seen_survey surveys.now) }
     requires others { AreSurveys draft (map seen_survey others.now) }
-    ensures value { IfOk result (λ index. index ≡ flat_map (sound_in draft) (map seen_survey surveys.now) ++ flat_map (sound_in draft) (map seen_survey others.now)) }
+    ensures value { IfOk result
+        (λ index. index
+        ≡ flat_map (sound_in draft) (map seen_survey surveys.now)
+        ++ flat_map (sound_in draft) (map seen_survey others.now)) }
 {
     let walked = with_sources(alloc, draft, Walked::new(alloc), surveys)?;
     let walked = with_sources(alloc, draft, walked, others)?;
@@ -154,7 +162,9 @@ fn push_sites<'p, 'v>(
     source: usize,
     places: &'p [Place<'v>],
 ) -> Result<(), AllocError>
-    ensures { OnOk result (map site_of sites.new.items ≡ map site_of sites.old.items ++ numbered_sites (source, map place_of places.now)) }
+    ensures { OnOk result
+        (map site_of sites.new.items
+        ≡ map site_of sites.old.items ++ numbered_sites (source, map place_of places.now)) }
 {
     for place in places {
         sites.push(Site { source, place })?;
@@ -167,7 +177,10 @@ pub(crate) fn sites_of<'p, 'v>(
     alloc: Global,
     surveys: &'p [Survey<'_, 'v>],
 ) -> Result<Vec<Site<'p, 'v>>, AllocError>
-    ensures value { IfOk result (λ sites. map site_of sites.items ≡ flat_map numbered_sites (enumerate_from 0 (map (λ s. (seen_survey s).places) surveys.now))) }
+    ensures value { IfOk result
+        (λ sites. map site_of sites.items
+        ≡ flat_map numbered_sites
+        (enumerate_from 0 (map (λ s. (seen_survey s).places) surveys.now))) }
 {
     let mut sites = Vec::new(alloc);
     for (number, survey) in surveys.iter().enumerate() {

@@ -26,7 +26,8 @@ fn path_below<'v>(
     keyword: &'v str,
     segment: Option<JsonPointerSegment<'v>>,
 ) -> Result<JsonPointerNode<'v>, AllocError>
-    ensures { IfOk result (λ below. below ≡ path.now ++ Key keyword.now ∷ segment_parts segment.entry) }
+    ensures { IfOk result
+        (λ below. below ≡ path.now ++ Key keyword.now ∷ segment_parts segment.entry) }
 {
     let keyword = path.push(alloc, keyword)?;
     match segment {
@@ -51,7 +52,9 @@ fn push_child<'v>(
     child: Child<'v>,
     base: &Rc<Uri>,
 ) -> Result<(), AllocError>
-    ensures { OnOk result ((p : Place) × (places.new.items ≡ places.old.items ++ p ∷ []) × (place_of p ≡ child_place path.now base.now.value (walked_child child.entry))) }
+    ensures { OnOk result
+        ((p : Place) × (places.new.items ≡ places.old.items ++ p ∷ [])
+        × (place_of p ≡ child_place path.now base.now.value (walked_child child.entry))) }
 {
     let Child {
         keyword,
@@ -74,7 +77,11 @@ fn push_children<'v>(
     draft: Draft,
     base: &Rc<Uri>,
 ) -> Result<(), AllocError>
-    ensures { OnOk result ((more : List Place) × (places.new.items ≡ places.old.items ++ more) × (map place_of more ≡ map (child_place path.now base.now.value) (walked_children draft (view value.now)))) }
+    ensures { OnOk result
+        ((more : List Place) × (places.new.items ≡ places.old.items ++ more)
+        × (map place_of more
+        ≡ map (child_place path.now base.now.value)
+        (walked_children draft (view value.now)))) }
 {
     for child in draft.walk_children(alloc, value)? {
         push_child(alloc, places, path, child, base)?;
@@ -90,7 +97,9 @@ fn push_below<'v>(
 ) -> Result<(), AllocError>
     requires { number < length places.old.items }
     ensures { (p : Place) → slice_get places.old.items number ≡ Some p
-        → OnOk result ((more : List Place) × (places.new.items ≡ places.old.items ++ more) × (map place_of more ≡ children_near (place_of p))) }
+        → OnOk result
+        ((more : List Place) × (places.new.items ≡ places.old.items ++ more)
+        × (map place_of more ≡ children_near (place_of p))) }
 {
     let place = &places[number];
     let base = nearest_base(alloc, &place.outer, place.id())?;
@@ -106,7 +115,8 @@ fn root_of<'v>(
     value: &'v Value,
     draft: Draft,
 ) -> Result<Place<'v>, AllocError>
-    ensures { IfOk result (λ p. place_of p ≡ root (record { uri = uri.now; tree = view value.now; draft = draft })) }
+    ensures { IfOk result
+        (λ p. place_of p ≡ root (record { uri = uri.now; tree = view value.now; draft = draft })) }
 {
     let uri = uri.clone()?;
     let outer = shared(alloc, uri)?;
@@ -121,7 +131,9 @@ pub(crate) fn places_of<'v>(
     value: &'v Value,
     draft: Draft,
 ) -> Result<Vec<Place<'v>>, AllocError>
-    ensures value { IfOk result (λ places. map place_of places.items ≡ places_near (record { uri = uri.now; tree = view value.now; draft = draft })) }
+    ensures value { IfOk result
+        (λ places. map place_of places.items
+        ≡ places_near (record { uri = uri.now; tree = view value.now; draft = draft })) }
 {
     let root = root_of(alloc, uri, value, draft)?;
     let mut places = Vec::new(alloc);

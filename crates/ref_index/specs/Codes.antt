@@ -48,8 +48,10 @@ first (n ∷ ns) = n
 abbrev from_parts : Parts → Mark
 from_parts p =
     cond (p.0 == 0) is_null (cond (p.0 == 1) (is_boolean true) (cond (p.0 == 2) (is_boolean false)
-    (cond (p.0 == 3) (is_number (unsigned (first p.1.0))) (cond (p.0 == 4) (is_number (negative p.1.1.0)) (cond (p.0 == 5) (is_number (float p.1.1.1))
-    (cond (p.0 == 6) (is_string p.1.0) (cond (p.0 == 7) is_array (cond (p.0 == 8) is_item (cond (p.0 == 9) ends_items
+    (cond (p.0 == 3) (is_number (unsigned (first p.1.0)))
+    (cond (p.0 == 4) (is_number (negative p.1.1.0)) (cond (p.0 == 5) (is_number (float p.1.1.1))
+    (cond (p.0 == 6) (is_string p.1.0)
+    (cond (p.0 == 7) is_array (cond (p.0 == 8) is_item (cond (p.0 == 9) ends_items
     (cond (p.0 == 10) is_object (cond (p.0 == 11) (is_member p.1.0) ends_members)))))))))))
 
 pub from_parts-to_parts : (m : Mark) → from_parts (to_parts m) ≡ m
@@ -68,7 +70,12 @@ from_parts-to_parts (is_member k) = refl
 from_parts-to_parts ends_members = refl
 
 abbrev marks_code : Coded (List Mark)
-marks_code = coded_list (code_by Parts (coded× coded_ℕ (coded× (coded_list coded_ℕ) (coded× coded_ℤ coded_float))) to_parts from_parts from_parts-to_parts)
+marks_code =
+    coded_list
+    (code_by Parts
+    (coded× coded_ℕ
+    (coded× (coded_list coded_ℕ)
+    (coded× coded_ℤ coded_float))) to_parts from_parts from_parts-to_parts)
 
 -- the marks of a tree before others
 abbrev mutual
@@ -135,20 +142,27 @@ mutual
   reads (array ds) rest = ap as_array (reads_items ds rest)
   reads (object ms) rest = ap as_object (reads_members ms rest)
 
-  reads_items : (ds : Items) (rest : List Mark) → read_all (marks_of_items ds rest) ≡ trees ds ∷ read_all rest
+  reads_items : (ds : Items) (rest : List Mark)
+      → read_all (marks_of_items ds rest) ≡ trees ds ∷ read_all rest
   reads_items no_items rest = refl
-  reads_items (item d ds) rest = ap as_item (reads d (marks_of_items ds rest) ∙ ap (λ ps. tree d ∷ ps) (reads_items ds rest))
+  reads_items (item d ds) rest =
+      ap as_item (reads d (marks_of_items ds rest) ∙ ap (λ ps. tree d ∷ ps) (reads_items ds rest))
 
-  reads_members : (ms : Members) (rest : List Mark) → read_all (marks_of_members ms rest) ≡ members ms ∷ read_all rest
+  reads_members : (ms : Members) (rest : List Mark)
+      → read_all (marks_of_members ms rest) ≡ members ms ∷ read_all rest
   reads_members no_members rest = refl
-  reads_members (member k d ms) rest = ap (as_member k) (reads d (marks_of_members ms rest) ∙ ap (λ ps. tree d ∷ ps) (reads_members ms rest))
+  reads_members (member k d ms) rest =
+      ap (as_member k)
+      (reads d (marks_of_members ms rest) ∙ ap (λ ps. tree d ∷ ps) (reads_members ms rest))
 
 abbrev tree_at_front : List Piece → Data
 tree_at_front (tree d ∷ rest) = d
 tree_at_front rest = null
 
 abbrev pub tree_code : Coded Data
-tree_code = code_by (List Mark) marks_code (λ d. marks_of d []) (λ ms. tree_at_front (read_all ms)) (λ d. ap tree_at_front (reads d []))
+tree_code =
+    code_by (List Mark) marks_code (λ d. marks_of d []) (λ ms. tree_at_front (read_all ms))
+    (λ d. ap tree_at_front (reads d []))
 
 abbrev draft_number : Draft → ℕ
 draft_number Draft4 = 0
@@ -159,7 +173,10 @@ draft_number Draft202012 = 4
 draft_number Unknown = 5
 
 abbrev draft_at : ℕ → Draft
-draft_at n = cond (n == 0) Draft4 (cond (n == 1) Draft6 (cond (n == 2) Draft7 (cond (n == 3) Draft201909 (cond (n == 4) Draft202012 Unknown))))
+draft_at n =
+    cond (n == 0) Draft4
+    (cond (n == 1) Draft6
+    (cond (n == 2) Draft7 (cond (n == 3) Draft201909 (cond (n == 4) Draft202012 Unknown))))
 
 pub draft_at-draft_number : (d : Draft) → draft_at (draft_number d) ≡ d
 draft_at-draft_number Draft4 = refl
@@ -175,7 +192,8 @@ draft_code = code_by ℕ coded_ℕ draft_number draft_at draft_at-draft_number
 abbrev pub document_code : Coded Document
 document_code =
     code_by (List ℕ × (Data × Draft)) (coded× (coded_list coded_ℕ) (coded× tree_code draft_code))
-    (λ d. (d.uri, (d.tree, d.draft))) (λ p. record { uri = p.0; tree = p.1.0; draft = p.1.1 }) (λ _. refl)
+    (λ d. (d.uri, (d.tree, d.draft))) (λ p. record { uri = p.0; tree = p.1.0; draft = p.1.1 })
+    (λ _. refl)
 
 abbrev pub layer_code : Coded (List Document)
 layer_code = coded_list document_code

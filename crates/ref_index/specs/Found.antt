@@ -44,8 +44,10 @@ abbrev pub IsNumberOf : Layer → List Entry → ℕ → Place → Type 0
 IsNumberOf layer entries n p = (e : Entry) × (slice_get entries n ≡ Some e) × IsEntryOf layer e p
 
 -- a number under a URI is that of a resource's entry
-abbrev pub IsResourceOf : Layer → List Entry → String Global × String Global × ℕ → List ℕ × Place → Type 0
-IsResourceOf layer entries t r = (string_bytes t.0 ≡ r.0) × (string_bytes t.1 ≡ []) × IsNumberOf layer entries t.2 r.1
+abbrev pub IsResourceOf : Layer → List Entry → String Global × String Global × ℕ → List ℕ × Place
+    → Type 0
+IsResourceOf layer entries t r =
+    (string_bytes t.0 ≡ r.0) × (string_bytes t.1 ≡ []) × IsNumberOf layer entries t.2 r.1
 
 -- an anchor's kind
 abbrev pub kind_of : Bool → Kind
@@ -57,8 +59,11 @@ abbrev pub name_entry : List ℕ → Place → List ℕ × Kind → Named
 name_entry uri p a = record { uri = uri; name = a.0; kind = a.1; place = p }
 
 -- an entry under a URI and a name is that of an anchor
-abbrev pub IsNameOf : Layer → List Entry → String Global × String Global × NamedEntry → Named → Type 0
-IsNameOf layer entries t n = (string_bytes t.0 ≡ n.uri) × (string_bytes t.1 ≡ n.name) × (kind_of t.2.is_dynamic ≡ n.kind) × IsNumberOf layer entries t.2.entry n.place
+abbrev pub IsNameOf : Layer → List Entry → String Global × String Global × NamedEntry → Named
+    → Type 0
+IsNameOf layer entries t n =
+    (string_bytes t.0 ≡ n.uri) × (string_bytes t.1 ≡ n.name) × (kind_of t.2.is_dynamic ≡ n.kind)
+    × IsNumberOf layer entries t.2.entry n.place
 
 -- why a URI is wanted
 abbrev pub cause_of : Cause → wants.Cause
@@ -71,7 +76,8 @@ want_of w = record { cause = cause_of w.cause; uri = w.uri.value }
 
 -- an entry under a base and a text is the URI that the text means against the base
 abbrev pub IsPairOf : String Global × String Global × ResolvedUri → Pair → Type 0
-IsPairOf t p = (string_bytes t.0 ≡ p.0) × (string_bytes t.1 ≡ p.1) × (uri_against p.0 p.1 ≡ Ok t.2.uri.value)
+IsPairOf t p =
+    (string_bytes t.0 ≡ p.0) × (string_bytes t.1 ≡ p.1) × (uri_against p.0 p.1 ≡ Ok t.2.uri.value)
 
 -- the handles are of one URI
 abbrev pub is_same : Rc (List ℕ) Global → Rc (List ℕ) Global → Bool
@@ -79,9 +85,11 @@ is_same u v = bytes_eq u.value v.value
 
 -- What was found is these resources, names and wants, and the URIs of these pairs, in their order; the set of URIs is that of
 -- the resources.
-pub record Holds (layer : Layer) (f : Found) (resources : List (List ℕ × Place)) (names : List Named) (wants : List Wanted) (pairs : List Pair) : Type 0 where
+pub record Holds (layer : Layer) (f : Found) (resources : List (List ℕ × Place))
+    (names : List Named) (wants : List Wanted) (pairs : List Pair) : Type 0 where
   pub by_uri : AllZip (IsResourceOf layer f.entries.items) f.resources.items resources
   pub by_name : AllZip (IsNameOf layer f.entries.items) f.names.items names
   pub wanted : map want_of f.wants.items ≡ wants
   pub by_pair : AllZip IsPairOf f.resolved.items pairs
-  pub known : (uri : Rc (List ℕ) Global) → contains is_same f.identified uri ≡ list_any (λ r. bytes_eq r.0 uri.value) resources
+  pub known : (uri : Rc (List ℕ) Global)
+      → contains is_same f.identified uri ≡ list_any (λ r. bytes_eq r.0 uri.value) resources

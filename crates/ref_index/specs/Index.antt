@@ -25,20 +25,28 @@ IsResourceIn layer entries e r = (e.0 ≡ r.0) × (e.1 ≡ []) × IsNumberOf lay
 
 -- an entry under a URI and a name is that of an anchor
 abbrev pub IsNameIn : Layer → List Entry → table.Entry NamedEntry → Named → Type 0
-IsNameIn layer entries e n = (e.0 ≡ n.uri) × (e.1 ≡ n.name) × (kind_of e.2.is_dynamic ≡ n.kind) × IsNumberOf layer entries e.2.entry n.place
+IsNameIn layer entries e n =
+    (e.0 ≡ n.uri) × (e.1 ≡ n.name) × (kind_of e.2.is_dynamic ≡ n.kind)
+    × IsNumberOf layer entries e.2.entry n.place
 
--- an entry under a base and a text is the URI that the text means against the base, with the number that the table of resources has
--- for the URI
+-- an entry under a base and a text is the URI that the text means against the base, with the number that the table of
+-- resources has for the URI
 abbrev pub IsPairIn : List (table.Entry ℕ) → table.Entry ResolvedUri → Pair → Type 0
-IsPairIn by_uri e p = (e.0 ≡ p.0) × (e.1 ≡ p.1) × (uri_against p.0 p.1 ≡ Ok e.2.uri.value) × (e.2.entry ≡ last_value e.2.uri.value [] by_uri)
+IsPairIn by_uri e p =
+    (e.0 ≡ p.0) × (e.1 ≡ p.1) × (uri_against p.0 p.1 ≡ Ok e.2.uri.value)
+    × (e.2.entry ≡ last_value e.2.uri.value [] by_uri)
 
 -- a resolved URI with its number in a table of resources
-abbrev pub numbered_uri : List (table.Entry ℕ) → String Global × String Global × ResolvedUri → String Global × String Global × ResolvedUri
-numbered_uri by_uri t = (t.0, t.1, record { uri = t.2.uri; entry = last_value t.2.uri.value [] by_uri })
+abbrev pub numbered_uri : List (table.Entry ℕ) → String Global × String Global × ResolvedUri
+    → String Global × String Global × ResolvedUri
+numbered_uri by_uri t =
+    (t.0, t.1, record { uri = t.2.uri; entry = last_value t.2.uri.value [] by_uri })
 
 -- the tables hold the resources and the names of the documents, and what is resolved of them, in their order; the children
 -- of the documents' places are at their paths; and where the index says so, the documents' URIs are in normal form
-pub record IsIndexOf (layer : Layer) (entries : List Entry) (by_uri : List (table.Entry ℕ)) (by_name : List (table.Entry NamedEntry)) (by_pair : List (table.Entry ResolvedUri)) (is_normal : Bool) : Type 0 where
+pub record IsIndexOf (layer : Layer) (entries : List Entry) (by_uri : List (table.Entry ℕ))
+    (by_name : List (table.Entry NamedEntry)) (by_pair : List (table.Entry ResolvedUri))
+    (is_normal : Bool) : Type 0 where
   pub resource : AllZip (IsResourceIn layer entries) by_uri (resources layer)
   pub name : AllZip (IsNameIn layer entries) by_name (names layer)
   pub pair : AllZip (IsPairIn by_uri) by_pair (pairs layer)
@@ -55,4 +63,6 @@ IsFoundWhere layer o found = MatchOption o (found ≡ None) (λ e. IsFoundAt lay
 
 -- an entry is that of the name that was found
 abbrev pub IsNamedAt : Layer → FoundName → Option Named → Type 0
-IsNamedAt layer e found = (n : Named) × (found ≡ Some n) × (kind_of e.named.now.is_dynamic ≡ n.kind) × IsEntryOf layer e.entry.now n.place
+IsNamedAt layer e found =
+    (n : Named) × (found ≡ Some n) × (kind_of e.named.now.is_dynamic ≡ n.kind)
+    × IsEntryOf layer e.entry.now n.place

@@ -6,4 +6,10 @@ use Rattle.ref_index.specs.declared.places.Place.{Place}
 
 -- the place
 abbrev pub listed_of : Place → Listed
-listed_of p = record { document = p.document; path = map part_of p.path.items; draft = p.draft; base = Ok p.base.value }
+listed_of p =
+    record {
+      document = p.document;
+      path = map part_of p.path.items;
+      draft = p.draft;
+      base = Ok p.base.value;
+    }

@@ -27,7 +27,10 @@ place_of v = record {
 
 -- the rest of a level, then the level below it, of which the beginning was found, and the m levels below that
 abbrev pub left_from : ℕ → List Place → List Place → List Place
-left_from m level next = level ++ ((next ++ flat_map children_of level) ++ levels_below m (next ++ flat_map children_of level))
+left_from m level next =
+    level
+    ++ ((next ++ flat_map children_of level)
+    ++ levels_below m (next ++ flat_map children_of level))
 
 -- Some places were visited, and some wait: the rest of a level, then what was found of the next one.
 pub record IsQueue (d : Document) (visited waiting : List Place) : Type 0 where
@@ -37,7 +40,8 @@ pub record IsQueue (d : Document) (visited waiting : List Place) : Type 0 where
   pub whole : (m : ℕ) → depth d.tree ≤ m → places d ≡ visited ++ left_from m level next
 
 -- The places before the head of the queue were listed after others.
-pub record IsListedTo (d : Document) (number : ℕ) (before after : List Listed) (queue : List Visit) (head : ℕ) : Type 0 where
+pub record IsListedTo (d : Document) (number : ℕ) (before after : List Listed) (queue : List Visit)
+    (head : ℕ) : Type 0 where
   pub within : head ≤ length queue
   pub order : IsQueue d (map place_of (take head queue)) (map place_of (drop head queue))
   pub list : after ≡ before ++ map (listed_place number) (map place_of (take head queue))

@@ -29,7 +29,9 @@ meta_schema_uri text = uri_of text >>= λ uri. Ok (with_fragment uri None)
 
 -- the first of these faults, or out of memory
 abbrev pub IsFirstFault : List Refusal → UriFault → Type 0
-IsFirstFault faults (Invalid error) = (refusal : Refusal) × (more : List Refusal) × (faults ≡ refusal ∷ more) × SaysRefusal error refusal
+IsFirstFault faults (Invalid error) =
+    (refusal : Refusal) × (more : List Refusal) × (faults ≡ refusal ∷ more)
+    × SaysRefusal error refusal
 IsFirstFault faults (Memory error) = ⊤
 
 -- the place is in the document with this number
@@ -71,12 +73,19 @@ names_of p = named_at p
 -- the children of a place with this path, value, draft and base came to the queue, and are at their paths below it
 abbrev pub ChildrenCame : List Part → Data → Draft → List ℕ → List Visit → List Visit → Type 0
 ChildrenCame path value draft base queue after =
-    (more : List Visit) × (after ≡ queue ++ more) × (map place_of more ≡ map (child_place path base) (walked_children draft value)) × AllStand value (walked_children draft value)
+    (more : List Visit) × (after ≡ queue ++ more)
+    × (map place_of more ≡ map (child_place path base) (walked_children draft value))
+    × AllStand value (walked_children draft value)
 
--- A place was visited: what it is identified by, is named and wants was added, it has no fault, and its children came to the queue.
-pub record IsVisited (number : ℕ) (under : Option (List ℕ)) (v : Visit) (old new : Found) (queue after : List Visit) : Type 0 where
-  pub added : (layer : Layer) (rs : List (List ℕ × Place)) (ns : List Named) (ws : List Want) (ps : List Pair) → Holds layer old rs ns ws ps → StandsIn layer number (place_of v)
-      → Holds layer new (rs ++ resources_at under (place_of v)) (ns ++ names_at under (place_of v)) (ws ++ wants_of (place_of v)) (ps ++ pairs_at (place_of v))
+-- A place was visited: what it is identified by, is named and wants was added, it has no fault, and its children came
+-- to the queue.
+pub record IsVisited (number : ℕ) (under : Option (List ℕ)) (v : Visit) (old new : Found)
+    (queue after : List Visit) : Type 0 where
+  pub added : (layer : Layer) (rs : List (List ℕ × Place)) (ns : List Named) (ws : List Want)
+      (ps : List Pair)
+      → Holds layer old rs ns ws ps → StandsIn layer number (place_of v)
+      → Holds layer new (rs ++ resources_at under (place_of v)) (ns ++ names_at under (place_of v))
+      (ws ++ wants_of (place_of v)) (ps ++ pairs_at (place_of v))
   pub faultless : faults_of (place_of v) ≡ []
   pub more : List Visit
   pub grown : after ≡ queue ++ more
@@ -89,9 +98,14 @@ ChildrenStandAt p = AllStand p.value (walked_children p.draft p.value)
 
 -- Places of a document were visited from the root on: what they are identified by, are named and want was added, none has a
 -- fault, and their children are at their paths.
-pub record IsWalked (d : Document) (number : ℕ) (old new : Found) (visited : List Place) : Type 0 where
-  pub added : (layer : Layer) (rs : List (List ℕ × Place)) (ns : List Named) (ws : List Want) (ps : List Pair) → slice_get layer number ≡ Some d → Holds layer old rs ns ws ps
-      → Holds layer new (rs ++ (d.uri, root d) ∷ flat_map resource_of visited) (ns ++ (named_under d.uri (root d) ++ flat_map names_of visited)) (ws ++ flat_map wants_of visited) (ps ++ flat_map pairs_at visited)
+pub record IsWalked (d : Document) (number : ℕ) (old new : Found)
+    (visited : List Place) : Type 0 where
+  pub added : (layer : Layer) (rs : List (List ℕ × Place)) (ns : List Named) (ws : List Want)
+      (ps : List Pair)
+      → slice_get layer number ≡ Some d → Holds layer old rs ns ws ps
+      → Holds layer new (rs ++ (d.uri, root d) ∷ flat_map resource_of visited)
+      (ns ++ (named_under d.uri (root d) ++ flat_map names_of visited))
+      (ws ++ flat_map wants_of visited) (ps ++ flat_map pairs_at visited)
   pub faultless : flat_map faults_of visited ≡ []
   pub children : AllByRecursion ChildrenStandAt visited
 
@@ -100,7 +114,8 @@ abbrev pub AllStandIn : Document → List Place → Type 0
 AllStandIn d ps = AllByRecursion (λ p. value_at d.tree p.path ≡ Some p.value) ps
 
 -- what holds of the queue before each visit
-pub record IsAt (d : Document) (number : ℕ) (old new : Found) (queue : List Visit) (head : ℕ) : Type 0 where
+pub record IsAt (d : Document) (number : ℕ) (old new : Found) (queue : List Visit)
+    (head : ℕ) : Type 0 where
   pub within : head ≤ length queue
   pub order : IsQueue d (map place_of (take head queue)) (map place_of (drop head queue))
   pub stand : AllStandIn d (map place_of queue)

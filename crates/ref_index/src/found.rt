@@ -36,8 +36,8 @@ pub struct Want {
     pub uri: Rc<Uri>,
 }
 
-/// A URI that a text was resolved to, and the number of the entry of the place that it means: none until the index is made, and none
-/// in it where the URI means no place of the documents.
+/// A URI that a text was resolved to, and the number of the entry of the place that it means: none until the index is
+/// made, and none in it where the URI means no place of the documents.
 #[derive(Drop)]
 pub struct ResolvedUri {
     pub uri: Rc<Uri>,
@@ -79,23 +79,27 @@ impl<'a> Found<'a> {
 
     /// Adds the entry of a place, and returns its number.
     pub fn add_entry(&mut self, entry: Entry<'a>) -> Result<usize, AllocError>
-        ensures added { (layer : Layer) (rs : List (List ℕ × Place)) (ns : List Named) (ws : List Wanted) (ps : List Pair)
+        ensures added { (layer : Layer) (rs : List (List ℕ × Place)) (ns : List Named)
+            (ws : List Wanted) (ps : List Pair)
             → Holds layer self.old rs ns ws ps → OnOk result (Holds layer self.new rs ns ws ps) }
-        ensures entry { IfOk result (λ number. slice_get self.new.entries.items number ≡ Some entry.entry) }
+        ensures entry { IfOk result
+            (λ number. slice_get self.new.entries.items number ≡ Some entry.entry) }
     {
         let number = self.entries.len();
         self.entries.push(entry)?;
         Ok(number)
     }
 
-    /// Adds that a URI identifies the place of an entry. Takes memory for the text of the URI, and is refused where there is none.
+    /// Adds that a URI identifies the place of an entry. Takes memory for the text of the URI, and is refused where
+    /// there is none.
     pub fn add_resource(
         &mut self,
         alloc: Global,
         uri: &Rc<Uri>,
         entry: usize,
     ) -> Result<(), AllocError>
-        ensures added { (layer : Layer) (rs : List (List ℕ × Place)) (ns : List Named) (ws : List Wanted) (ps : List Pair) (p : Place)
+        ensures added { (layer : Layer) (rs : List (List ℕ × Place)) (ns : List Named)
+            (ws : List Wanted) (ps : List Pair) (p : Place)
             → Holds layer self.old rs ns ws ps → IsNumberOf layer self.old.entries.items entry p
             → OnOk result (Holds layer self.new (rs ++ (uri.now.value, p) ∷ []) ns ws ps) }
         ensures entries { OnOk result (self.new.entries.items ≡ self.old.entries.items) }
@@ -114,9 +118,12 @@ impl<'a> Found<'a> {
         entry: usize,
         anchor: Anchor<'_>,
     ) -> Result<(), AllocError>
-        ensures added { (layer : Layer) (rs : List (List ℕ × Place)) (ns : List Named) (ws : List Wanted) (ps : List Pair) (p : Place)
+        ensures added { (layer : Layer) (rs : List (List ℕ × Place)) (ns : List Named)
+            (ws : List Wanted) (ps : List Pair) (p : Place)
             → Holds layer self.old rs ns ws ps → IsNumberOf layer self.old.entries.items entry p
-            → OnOk result (Holds layer self.new rs (ns ++ name_entry uri.now p (anchor_name anchor.entry) ∷ []) ws ps) }
+            → OnOk result
+            (Holds layer self.new rs
+            (ns ++ name_entry uri.now p (anchor_name anchor.entry) ∷ []) ws ps) }
         ensures entries { OnOk result (self.new.entries.items ≡ self.old.entries.items) }
     {
         let is_dynamic = is_dynamic(&anchor);
@@ -135,8 +142,10 @@ impl<'a> Found<'a> {
         entry: usize,
         resource: ResourceRef<'_>,
     ) -> Result<(), AllocError>
-        ensures added { (layer : Layer) (rs : List (List ℕ × Place)) (ns : List Named) (ws : List Wanted) (ps : List Pair) (p : Place)
-            → Holds layer self.old rs ns ws ps → IsNumberOf layer self.old.entries.items entry p → resource_ref resource.entry ≡ tagged_value p.draft p.value
+        ensures added { (layer : Layer) (rs : List (List ℕ × Place)) (ns : List Named)
+            (ws : List Wanted) (ps : List Pair) (p : Place)
+            → Holds layer self.old rs ns ws ps → IsNumberOf layer self.old.entries.items entry p
+            → resource_ref resource.entry ≡ tagged_value p.draft p.value
             → OnOk result (Holds layer self.new rs (ns ++ named_under uri.now p) ws ps) }
         ensures entries { OnOk result (self.new.entries.items ≡ self.old.entries.items) }
     {
@@ -152,9 +161,12 @@ impl<'a> Found<'a> {
 
     /// Adds a want.
     pub fn add_want(&mut self, cause: Cause, uri: Rc<Uri>) -> Result<(), AllocError>
-        ensures added { (layer : Layer) (rs : List (List ℕ × Place)) (ns : List Named) (ws : List Wanted) (ps : List Pair)
+        ensures added { (layer : Layer) (rs : List (List ℕ × Place)) (ns : List Named)
+            (ws : List Wanted) (ps : List Pair)
             → Holds layer self.old rs ns ws ps
-            → OnOk result (Holds layer self.new rs ns (ws ++ record { cause = cause_of cause; uri = uri.value } ∷ []) ps) }
+            → OnOk result
+            (Holds layer self.new rs ns
+            (ws ++ record { cause = cause_of cause; uri = uri.value } ∷ []) ps) }
     {
         self.wants.push(Want { cause, uri })?;
         Ok(())
@@ -168,7 +180,8 @@ impl<'a> Found<'a> {
         text: &str,
         uri: &Rc<Uri>,
     ) -> Result<(), AllocError>
-        ensures added { (layer : Layer) (rs : List (List ℕ × Place)) (ns : List Named) (ws : List Wanted) (ps : List Pair)
+        ensures added { (layer : Layer) (rs : List (List ℕ × Place)) (ns : List Named)
+            (ws : List Wanted) (ps : List Pair)
             → Holds layer self.old rs ns ws ps → uri_against base.now text.now ≡ Ok uri.now.value
             → OnOk result (Holds layer self.new rs ns ws (ps ++ (base.now, text.now) ∷ [])) }
     {
@@ -183,7 +196,11 @@ impl<'a> Found<'a> {
 
 // Adds a URI to those that identify places. The handle is shared; no text is copied.
 fn identify(identified: &mut HashSet<Rc<Uri>>, uri: &Rc<Uri>) -> Result<(), AllocError>
-    ensures { (u : rc.Rc (List ℕ) global.Global) → OnOk result (contains is_same identified.new u ≡ (if bytes_eq uri.now.value u.value then true else contains is_same identified.old u)) }
+    ensures { (u : rc.Rc (List ℕ) global.Global)
+        → OnOk result
+        (contains is_same identified.new u
+        ≡ (if bytes_eq uri.now.value u.value then true
+        else contains is_same identified.old u)) }
 {
     identified.insert(uri.clone()?)?;
     Ok(())

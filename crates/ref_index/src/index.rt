@@ -28,8 +28,9 @@ use std::alloc::{AllocError, Global};
 use std::marker::Model;
 use std::rc::Rc;
 
-/// Documents, and the entries of places in them, with a table of the URIs that identify their places, one of the names that anchors give them, and one of the URIs
-/// that were resolved on the way, each with the entry of the place that it means. Contracts see the documents.
+/// Documents, and the entries of places in them, with a table of the URIs that identify their places, one of the names
+/// that anchors give them, and one of the URIs that were resolved on the way, each with the entry of the place that it
+/// means. Contracts see the documents.
 #[derive(Drop)]
 pub struct Index<'a> {
     documents: Vec<Document<'a>>,
@@ -59,15 +60,20 @@ impl<'a> Model for Index<'a> {
 }
 
 impl<'a> Index<'a> {
-    /// The index of documents that were walked. Takes memory for the three tables, which are sorted once, and a look-up for each URI
-    /// that was resolved; and puts each document's URI in normal form, to compare the two.
+    /// The index of documents that were walked. Takes memory for the three tables, which are sorted once, and a look-up
+    /// for each URI that was resolved; and puts each document's URI in normal form, to compare the two.
     pub fn new(
         alloc: Global,
         documents: Vec<Document<'a>>,
         found: Found<'a>,
     ) -> Result<Index<'a>, AllocError>
-        requires held { (wants : List Want) × Holds (map document_of documents.items) found (resources (map document_of documents.items)) (names (map document_of documents.items)) wants (pairs (map document_of documents.items)) }
-        requires children { (d : WorldDocument) → Contains (map document_of documents.items) d → ChildrenStand d }
+        requires held { (wants : List Want)
+            × Holds (map document_of documents.items) found
+            (resources (map document_of documents.items))
+            (names (map document_of documents.items)) wants
+            (pairs (map document_of documents.items)) }
+        requires children { (d : WorldDocument) → Contains (map document_of documents.items) d
+            → ChildrenStand d }
         ensures value { IfOk result (λ index. index ≡ map document_of documents.entry.items) }
     {
         // (what was only for the walk is let go before the tables take memory)
@@ -113,7 +119,8 @@ impl<'a> Index<'a> {
     /// The value of the document with a number, in that order, counted from 0. A look-up;
     /// takes no memory.
     pub fn tree(&self, document: usize) -> Option<&Value>
-        ensures value { option_map (λ v. view v.now) result ≡ option_map (λ d. d.tree) (slice_get self.now document) }
+        ensures value { option_map (λ v. view v.now) result
+            ≡ option_map (λ d. d.tree) (slice_get self.now document) }
     {
         let document = self.documents.get(document)?;
         Some(document.contents.value())
@@ -129,12 +136,16 @@ impl<'a> Index<'a> {
         self.entries.get(*number)
     }
 
-    /// The place that a URI means in these documents, where its base is that very URI, in normal form: then the URI means itself against
-    /// any base, and needn't be resolved. `None` too where a document has a URI in no normal form. A look-up; takes no memory.
+    /// The place that a URI means in these documents, where its base is that very URI, in normal form: then the URI
+    /// means itself against any base, and needn't be resolved. `None` too where a document has a URI in no normal form.
+    /// A look-up; takes no memory.
     pub fn identified(&self, uri: &str) -> Option<&Entry<'a>>
-        ensures value { IfSome result (λ e. IsFoundAt self.now e.now (last_under uri.now (resources self.now))) }
+        ensures value { IfSome result
+            (λ e. IsFoundAt self.now e.now (last_under uri.now (resources self.now))) }
         ensures base { IfSome result (λ e. e.now.base.value ≡ uri.now) }
-        ensures itself { IfSome result (λ e. (base : List ℕ) → is_some (scheme base) ≡ true → uri_against base uri.now ≡ Ok uri.now) }
+        ensures itself { IfSome result
+            (λ e. (base : List ℕ) → is_some (scheme base) ≡ true
+            → uri_against base uri.now ≡ Ok uri.now) }
     {
         if !self.is_normal {
             return None;
@@ -160,8 +171,11 @@ impl<'a> Index<'a> {
     /// The URI that a text means against a base, where that was resolved while the documents were walked, and the place that it
     /// means in these documents, where there is one. A look-up; takes no memory.
     pub fn resolved(&self, base: &str, text: &str) -> Option<FoundUri<'_, 'a>>
-        ensures value { MatchOption result (¬ (Contains (pairs self.now) (base.now, text.now))) (λ found. uri_against base.now text.now ≡ Ok found.uri.now.value) }
-        ensures place { IfSome result (λ found. IsFoundWhere self.now found.entry (last_under found.uri.now.value (resources self.now))) }
+        ensures value { MatchOption result (¬ (Contains (pairs self.now) (base.now, text.now)))
+            (λ found. uri_against base.now text.now ≡ Ok found.uri.now.value) }
+        ensures place { IfSome result
+            (λ found. IsFoundWhere self.now found.entry
+            (last_under found.uri.now.value (resources self.now))) }
     {
         let resolved = self.by_pair.get(base, text).0?;
         Some(FoundUri {
@@ -170,10 +184,12 @@ impl<'a> Index<'a> {
         })
     }
 
-    /// The value of a place. At once, where its document is borrowed, and else a look-up for each part of its path; takes no memory.
+    /// The value of a place. At once, where its document is borrowed, and else a look-up for each part of its path;
+    /// takes no memory.
     #[inline(always)]
     pub fn value(&self, entry: &Entry<'a>) -> Option<&Value>
-        ensures value { (p : Place) → IsEntryOf self.now entry.now p → option_map (λ v. view v.now) result ≡ Some p.value }
+        ensures value { (p : Place) → IsEntryOf self.now entry.now p
+            → option_map (λ v. view v.now) result ≡ Some p.value }
     {
         match entry.lent {
             Some(value) => Some(value),
@@ -219,7 +235,8 @@ fn set_entries(by_uri: &SortedTable<usize>, pairs: &mut [(String, String, Resolv
 
 // The entry with a number, where there is one.
 fn entry_at<'i, 'a>(entries: &'i [Entry<'a>], number: Option<usize>) -> Option<&'i Entry<'a>>
-    ensures { MatchOption number (result ≡ None) (λ n. option_copied result ≡ slice_get entries.now n) }
+    ensures { MatchOption number (result ≡ None)
+        (λ n. option_copied result ≡ slice_get entries.now n) }
 {
     entries.get(number?)
 }

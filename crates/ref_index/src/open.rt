@@ -28,7 +28,8 @@ fn is_known_above(parents: &[&Index<'_>], uri: &str) -> bool
 /// Whether a URI means a place, in what was found so far or in a parent. A look-up in a hashed set, and then in each parent's
 /// table; takes no memory.
 pub fn has_meaning(found: &Found<'_>, parents: &[&Index<'_>], uri: &Rc<Uri>) -> bool
-    ensures value { (layer : Layer) (names : List Named) (wants : List Wanted) (ps : List Pair) → Holds layer found.now (resources layer) names wants ps
+    ensures value { (layer : Layer) (names : List Named) (wants : List Wanted) (ps : List Pair)
+        → Holds layer found.now (resources layer) names wants ps
         → result ≡ is_some (meant_place (layer ∷ map (λ p. p.now) parents.now) uri.now.value) }
 {
     found.identified.contains(uri) || is_known_above(parents, uri.as_str())
@@ -40,10 +41,15 @@ pub fn first_open(found: &Found<'_>, parents: &[&Index<'_>], from: usize) -> usi
     requires { from ≤ vec_len found.now.wants }
     ensures from { from ≤ result }
     ensures within { result ≤ vec_len found.now.wants }
-    ensures met { (layer : Layer) (names : List Named) (wants : List Wanted) (ps : List Pair) → Holds layer found.now (resources layer) names wants ps
-        → AllByRecursion (λ w. is_open (layer ∷ map (λ p. p.now) parents.now) w ≡ false) (drop from (take result wants)) }
-    ensures open { (layer : Layer) (names : List Named) (wants : List Wanted) (ps : List Pair) (w : Wanted) → Holds layer found.now (resources layer) names wants ps
-        → slice_get wants result ≡ Some w → is_open (layer ∷ map (λ p. p.now) parents.now) w ≡ true }
+    ensures met { (layer : Layer) (names : List Named) (wants : List Wanted) (ps : List Pair)
+        → Holds layer found.now (resources layer) names wants ps
+        → AllByRecursion (λ w. is_open (layer ∷ map (λ p. p.now) parents.now) w ≡ false)
+        (drop from (take result wants)) }
+    ensures open { (layer : Layer) (names : List Named) (wants : List Wanted) (ps : List Pair)
+        (w : Wanted)
+        → Holds layer found.now (resources layer) names wants ps
+        → slice_get wants result ≡ Some w
+        → is_open (layer ∷ map (λ p. p.now) parents.now) w ≡ true }
 {
     let mut number = from;
     while number < found.wants.len() {

@@ -32,8 +32,10 @@ fn push_last<'n, 'w>(
     parts: &mut Vec<PathPart>,
     path: &'n JsonPointerNode<'w>,
 ) -> Result<Option<&'n JsonPointerNode<'w>>, AllocError>
-    ensures { IfOk result (λ rest. MatchOption rest ((path.now ≡ []) × (parts.new.items ≡ parts.old.items))
-        (λ before. (part : PathPart) × (parts.new.items ≡ parts.old.items ++ part ∷ []) × (path.now ≡ before.now ++ part_of part ∷ []))) }
+    ensures { IfOk result
+        (λ rest. MatchOption rest ((path.now ≡ []) × (parts.new.items ≡ parts.old.items))
+        (λ before. (part : PathPart) × (parts.new.items ≡ parts.old.items ++ part ∷ [])
+        × (path.now ≡ before.now ++ part_of part ∷ []))) }
 {
     let Some(before) = path.parent() else {
         return Ok(None);
@@ -68,7 +70,8 @@ fn child_at<'v>(value: &'v Value, part: &PathPart) -> Option<&'v Value>
 
 /// The value at a path. A look-up for each part; takes no memory.
 pub fn value_at<'v>(value: &'v Value, path: &[PathPart]) -> Option<&'v Value>
-    ensures value { option_map (λ v. view v.now) result ≡ value_at (view value.now) (map part_of path.now) }
+    ensures value { option_map (λ v. view v.now) result
+        ≡ value_at (view value.now) (map part_of path.now) }
 {
     let mut here = value;
     for part in path {

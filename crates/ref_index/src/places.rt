@@ -42,8 +42,11 @@ fn push_last<'n, 'w>(
     segments: &mut Vec<JsonPointerSegment<'w>>,
     path: &'n JsonPointerNode<'w>,
 ) -> Result<Option<&'n JsonPointerNode<'w>>, AllocError>
-    ensures { IfOk result (λ rest. MatchOption rest ((path.now ≡ []) × (segments.new.items ≡ segments.old.items))
-        (λ before. (segment : JsonPointerSegment) × (segments.new.items ≡ segments.old.items ++ segment ∷ []) × (path.now ≡ before.now ++ part_of segment ∷ []))) }
+    ensures { IfOk result
+        (λ rest. MatchOption rest ((path.now ≡ []) × (segments.new.items ≡ segments.old.items))
+        (λ before. (segment : JsonPointerSegment)
+        × (segments.new.items ≡ segments.old.items ++ segment ∷ [])
+        × (path.now ≡ before.now ++ part_of segment ∷ []))) }
 {
     let Some(before) = path.parent() else {
         return Ok(None);
@@ -76,8 +79,11 @@ fn base_in(
     outer: &Rc<Uri>,
     id: Option<&str>,
 ) -> Result<Rc<Uri>, AllocError>
-    requires { (uri : List ℕ) × (base_within outer.now.value (option_map (λ text. text.now) id) ≡ Ok uri) }
-    ensures { IfOk result (λ base. base_within outer.now.value (option_map (λ text. text.now) id.entry) ≡ Ok base.value) }
+    requires { (uri : List ℕ)
+        × (base_within outer.now.value (option_map (λ text. text.now) id) ≡ Ok uri) }
+    ensures { IfOk result
+        (λ base. base_within outer.now.value (option_map (λ text. text.now) id.entry)
+        ≡ Ok base.value) }
 {
     let Some(id) = id else {
         return outer.clone();
@@ -99,7 +105,8 @@ fn place_at<'w>(
     visit: &Visit<'w, '_>,
     base: &Rc<Uri>,
 ) -> Result<Place<'w>, AllocError>
-    ensures { (place_of visit.now).base ≡ Ok base.now.value → IfOk result (λ place. listed_of place ≡ listed_place number (place_of visit.now)) }
+    ensures { (place_of visit.now).base ≡ Ok base.now.value
+        → IfOk result (λ place. listed_of place ≡ listed_place number (place_of visit.now)) }
 {
     let path = segments_of(alloc, &visit.path)?;
     let base = base.clone()?;
@@ -120,10 +127,14 @@ fn list_next<'w, 'a: 'w>(
     queue: &mut Vec<Visit<'w, 'a>>,
     head: usize,
 ) -> Result<(), AllocError>
-    requires { (v : Visit) × (uri : List ℕ) × (slice_get queue.old.items head ≡ Some v) × ((place_of v).base ≡ Ok uri) }
+    requires { (v : Visit) × (uri : List ℕ) × (slice_get queue.old.items head ≡ Some v)
+        × ((place_of v).base ≡ Ok uri) }
     ensures { (v : Visit) → slice_get queue.old.items head ≡ Some v
-        → OnOk result ((map listed_of places.new.items ≡ map listed_of places.old.items ++ listed_place number (place_of v) ∷ [])
-        × ((more : List Visit) × (queue.new.items ≡ queue.old.items ++ more) × (map place_of more ≡ children_of (place_of v)))) }
+        → OnOk result
+        ((map listed_of places.new.items
+        ≡ map listed_of places.old.items ++ listed_place number (place_of v) ∷ [])
+        × ((more : List Visit) × (queue.new.items ≡ queue.old.items ++ more)
+        × (map place_of more ≡ children_of (place_of v)))) }
 {
     let visit = &queue[head];
     let id = ResourceRef::new(visit.value.get(), visit.draft).id();
@@ -143,8 +154,12 @@ fn list_document<'w>(
     number: usize,
     document: &'w Document<'_>,
 ) -> Result<(), AllocError>
-    requires { (p : WorldPlace) → Contains (places (document_of document.now)) p → (uri : List ℕ) × (p.base ≡ Ok uri) }
-    ensures { OnOk result (map listed_of list.new.items ≡ map listed_of list.old.items ++ map (listed_place number) (places (document_of document.now))) }
+    requires { (p : WorldPlace) → Contains (places (document_of document.now)) p
+        → (uri : List ℕ) × (p.base ≡ Ok uri) }
+    ensures { OnOk result
+        (map listed_of list.new.items
+        ≡ map listed_of list.old.items
+        ++ map (listed_place number) (places (document_of document.now))) }
 {
     let root = root_of(alloc, document)?;
     let mut queue = Vec::new(alloc);
@@ -158,8 +173,9 @@ fn list_document<'w>(
 }
 
 impl<'a> Index<'a> {
-    /// The places of these documents, document by document, and in each level by level, as they were walked. Each place is
-    /// visited once, and its path copied; keys are lent, and URIs shared but that of each document. Refused where memory is refused.
+    /// The places of these documents, document by document, and in each level by level, as they were walked. Each place
+    /// is visited once, and its path copied; keys are lent, and URIs shared but that of each document. Refused where
+    /// memory is refused.
     pub fn places(&self, alloc: Global) -> Result<Vec<Place<'_>>, AllocError>
         requires { faults self.now ≡ [] }
         ensures value { IfOk result (λ list. map listed_of list.items ≡ own_places self.now) }

@@ -32,7 +32,8 @@ fn walk_all<'a>(alloc: Global, documents: Vec<Document<'a>>) -> Result<Walked<'a
 
 // The error of a want that is refused for a reason.
 fn refusal(alloc: Global, want: &Want, reason: Reason) -> Error
-    ensures fault { SaysOrMemory (refusal_fault (cause_of want.now.cause) want.now.uri.value (reason_text reason)) result }
+    ensures fault { SaysOrMemory
+        (refusal_fault (cause_of want.now.cause) want.now.uri.value (reason_text reason)) result }
     ensures reason { IsForReason result reason }
 {
     let uri = match String::from_str(alloc, want.uri.as_str()) {
@@ -62,7 +63,8 @@ fn retrieved<'a, R: Retrieve>(
     draft: Draft,
     want: &Want,
 ) -> Result<Document<'a>, Error>
-    ensures ok { IfOk result (λ d. IsAnswerFor (R.may_answer retriever.now) draft want.now.uri.value (document_of d)) }
+    ensures ok { IfOk result
+        (λ d. IsAnswerFor (R.may_answer retriever.now) draft want.now.uri.value (document_of d)) }
     ensures fault { IfErr result (IsRefusalOf (R.may_refuse retriever.now) (want_of want.now)) }
 {
     let value = match retriever.retrieve(alloc, &want.uri) {
@@ -96,8 +98,15 @@ pub fn prepare<'a, R: Retrieve>(
     parents: &[&Index<'_>],
     documents: Vec<Document<'a>>,
 ) -> Result<Index<'a>, Error>
-    ensures outcome { IfOk result (λ index. IsOutcome (given_with (R.may_answer retriever.now) (R.may_refuse retriever.now) limit draft (map (λ p. p.now) parents.now) (map document_of documents.entry.items)) (Ok index)) }
-    ensures fault { IfErr result (IsFaultyOutcome (given_with (R.may_answer retriever.now) (R.may_refuse retriever.now) limit draft (map (λ p. p.now) parents.now) (map document_of documents.entry.items))) }
+    ensures outcome { IfOk result
+        (λ index. IsOutcome
+        (given_with (R.may_answer retriever.now) (R.may_refuse retriever.now) limit draft
+        (map (λ p. p.now) parents.now) (map document_of documents.entry.items))
+        (Ok index)) }
+    ensures fault { IfErr result
+        (IsFaultyOutcome
+        (given_with (R.may_answer retriever.now) (R.may_refuse retriever.now) limit draft
+        (map (λ p. p.now) parents.now) (map document_of documents.entry.items))) }
 {
     let mut walked = walk_all(alloc, documents)?;
     let mut next = walked.first_open(parents, 0);

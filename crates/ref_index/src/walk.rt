@@ -36,8 +36,11 @@ use std::rc::Rc;
 
 // The base of a place: its identifier against the base around it, or that base.
 fn base_of(alloc: Global, outer: &Rc<Uri>, id: Option<&str>) -> Result<Rc<Uri>, UriFault>
-    ensures ok { IfOk result (λ base. base_within outer.now.value (option_map (λ text. text.now) id.entry) ≡ Ok base.value) }
-    ensures fault { IfErr result (IsFaultOf (base_within outer.now.value (option_map (λ text. text.now) id.entry))) }
+    ensures ok { IfOk result
+        (λ base. base_within outer.now.value (option_map (λ text. text.now) id.entry)
+        ≡ Ok base.value) }
+    ensures fault { IfErr result
+        (IsFaultOf (base_within outer.now.value (option_map (λ text. text.now) id.entry))) }
 {
     match id {
         Some(id) => {
@@ -55,7 +58,8 @@ fn entry_of<'a>(
     place: &Visit<'_, 'a>,
     base: &Rc<Uri>,
 ) -> Result<Entry<'a>, AllocError>
-    ensures { (layer : Layer) → StandsIn layer number (place_of place.now) → (place_of place.now).base ≡ Ok base.now.value
+    ensures { (layer : Layer) → StandsIn layer number (place_of place.now)
+        → (place_of place.now).base ≡ Ok base.now.value
         → IfOk result (λ entry. IsEntryOf layer entry (place_of place.now)) }
 {
     let path = owned(alloc, &place.path)?;
@@ -71,7 +75,8 @@ fn entry_of<'a>(
 
 // Whether the resource has an anchor.
 fn has_anchors(resource: ResourceRef<'_>) -> bool
-    ensures { result ≡ false → anchors (resource_ref resource.entry).draft (resource_ref resource.entry).contents ≡ [] }
+    ensures { result ≡ false
+        → anchors (resource_ref resource.entry).draft (resource_ref resource.entry).contents ≡ [] }
 {
     !matches!(
         resource.draft().anchors(resource.contents()),
@@ -87,9 +92,13 @@ fn add_under(
     entry: usize,
     resource: ResourceRef<'_>,
 ) -> Result<(), AllocError>
-    ensures added { (layer : Layer) (rs : List (List ℕ × Place)) (ns : List Named) (ws : List Wanted) (ps : List Pair) (p : Place)
-        → Holds layer found.old rs ns ws ps → IsNumberOf layer found.old.entries.items entry p → resource_ref resource.entry ≡ tagged_value p.draft p.value
-        → OnOk result (Holds layer found.new (rs ++ under_document (option_map (λ u. u.now.value) under.entry) p)
+    ensures added { (layer : Layer) (rs : List (List ℕ × Place)) (ns : List Named)
+        (ws : List Wanted) (ps : List Pair) (p : Place)
+        → Holds layer found.old rs ns ws ps → IsNumberOf layer found.old.entries.items entry p
+        → resource_ref resource.entry ≡ tagged_value p.draft p.value
+        → OnOk result
+        (Holds layer found.new
+        (rs ++ under_document (option_map (λ u. u.now.value) under.entry) p)
         (ns ++ names_under (option_map (λ u. u.now.value) under.entry) p) ws ps) }
     ensures entries { OnOk result (found.new.entries.items ≡ found.old.entries.items) }
 {
@@ -108,9 +117,11 @@ fn add_identified(
     base: &Rc<Uri>,
     entry: usize,
 ) -> Result<(), AllocError>
-    ensures added { (layer : Layer) (rs : List (List ℕ × Place)) (ns : List Named) (ws : List Wanted) (ps : List Pair) (p : Place)
+    ensures added { (layer : Layer) (rs : List (List ℕ × Place)) (ns : List Named)
+        (ws : List Wanted) (ps : List Pair) (p : Place)
         → Holds layer found.old rs ns ws ps → IsNumberOf layer found.old.entries.items entry p
-        → option_map (λ text. text.now) id.entry ≡ identifier p.draft p.value → p.base ≡ Ok base.now.value
+        → option_map (λ text. text.now) id.entry ≡ identifier p.draft p.value
+        → p.base ≡ Ok base.now.value
         → OnOk result (Holds layer found.new (rs ++ resource_of p) ns ws ps) }
     ensures entries { OnOk result (found.new.entries.items ≡ found.old.entries.items) }
 {
@@ -129,9 +140,12 @@ fn add_by_base(
     entry: usize,
     resource: ResourceRef<'_>,
 ) -> Result<(), AllocError>
-    ensures { (layer : Layer) (rs : List (List ℕ × Place)) (ns : List Named) (ws : List Wanted) (ps : List Pair) (p : Place)
-        → Holds layer found.old rs ns ws ps → IsNumberOf layer found.old.entries.items entry p → resource_ref resource.entry ≡ tagged_value p.draft p.value
-        → option_map (λ text. text.now) id.entry ≡ identifier p.draft p.value → p.base ≡ Ok base.now.value
+    ensures { (layer : Layer) (rs : List (List ℕ × Place)) (ns : List Named) (ws : List Wanted)
+        (ps : List Pair) (p : Place)
+        → Holds layer found.old rs ns ws ps → IsNumberOf layer found.old.entries.items entry p
+        → resource_ref resource.entry ≡ tagged_value p.draft p.value
+        → option_map (λ text. text.now) id.entry ≡ identifier p.draft p.value
+        → p.base ≡ Ok base.now.value
         → OnOk result (Holds layer found.new (rs ++ resource_of p) (ns ++ named_at p) ws ps) }
 {
     add_identified(alloc, found, id, base, entry)?;
@@ -148,11 +162,17 @@ fn add_place<'w, 'a: 'w>(
     id: Option<&str>,
     base: &Rc<Uri>,
 ) -> Result<(), AllocError>
-    ensures { (layer : Layer) (rs : List (List ℕ × Place)) (ns : List Named) (ws : List Wanted) (ps : List Pair)
+    ensures { (layer : Layer) (rs : List (List ℕ × Place)) (ns : List Named) (ws : List Wanted)
+        (ps : List Pair)
         → Holds layer found.old rs ns ws ps → StandsIn layer number (place_of place.now)
-        → option_map (λ text. text.now) id.entry ≡ identifier (place_of place.now).draft (place_of place.now).value
+        → option_map (λ text. text.now) id.entry
+        ≡ identifier (place_of place.now).draft (place_of place.now).value
         → (place_of place.now).base ≡ Ok base.now.value
-        → OnOk result (Holds layer found.new (rs ++ resources_at (option_map (λ u. u.now.value) under.entry) (place_of place.now))
+        → OnOk result
+        (Holds layer found.new
+        (rs
+        ++ resources_at (option_map (λ u. u.now.value) under.entry)
+        (place_of place.now))
         (ns ++ names_at (option_map (λ u. u.now.value) under.entry) (place_of place.now)) ws ps) }
 {
     let resource = ResourceRef::new(place.value.get(), place.draft);
@@ -173,9 +193,16 @@ fn add_base(
     id: Option<&str>,
     base: &Rc<Uri>,
 ) -> Result<(), AllocError>
-    ensures { (layer : Layer) (rs : List (List ℕ × Place)) (ns : List Named) (ws : List Wanted) (ps : List Pair)
-        → Holds layer found.old rs ns ws ps → base_within outer.now.value (option_map (λ text. text.now) id.entry) ≡ Ok base.now.value
-        → OnOk result (Holds layer found.new rs ns ws (ps ++ pairs_of_identifier outer.now.value (option_map (λ text. text.now) id.entry))) }
+    ensures { (layer : Layer) (rs : List (List ℕ × Place)) (ns : List Named) (ws : List Wanted)
+        (ps : List Pair)
+        → Holds layer found.old rs ns ws ps
+        → base_within outer.now.value (option_map (λ text. text.now) id.entry)
+        ≡ Ok base.now.value
+        → OnOk result
+        (Holds layer found.new rs ns ws
+        (ps
+        ++ pairs_of_identifier outer.now.value
+        (option_map (λ text. text.now) id.entry))) }
 {
     let Some(id) = id else {
         return Ok(());
@@ -191,8 +218,12 @@ fn referred(
     reference: &str,
 ) -> Result<Rc<Uri>, UriFault>
     ensures ok { IfOk result (λ uri. uri_target base.now.value reference.now ≡ Ok uri.value) }
-    ensures added { (layer : Layer) (rs : List (List ℕ × Place)) (ns : List Named) (ws : List Wanted) (ps : List Pair)
-        → Holds layer found.old rs ns ws ps → OnOk result (Holds layer found.new rs ns ws (ps ++ pairs_of_reference base.now.value reference.now)) }
+    ensures added { (layer : Layer) (rs : List (List ℕ × Place)) (ns : List Named)
+        (ws : List Wanted) (ps : List Pair)
+        → Holds layer found.old rs ns ws ps
+        → OnOk result
+        (Holds layer found.new rs ns ws
+        (ps ++ pairs_of_reference base.now.value reference.now)) }
     ensures fault { IfErr result (IsFaultOf (uri_target base.now.value reference.now)) }
 {
     if reference.starts_with('#') {
@@ -212,12 +243,17 @@ fn add_reference(
     value: &Value,
     base: &Rc<Uri>,
 ) -> Result<(), UriFault>
-    ensures added { (layer : Layer) (rs : List (List ℕ × Place)) (ns : List Named) (ws : List Wanted) (ps : List Pair)
+    ensures added { (layer : Layer) (rs : List (List ℕ × Place)) (ns : List Named)
+        (ws : List Wanted) (ps : List Pair)
         → Holds layer found.old rs ns ws ps
-        → OnOk result (Holds layer found.new rs ns (ws ++ wants_of_text Reference (reference_at base.now.value (view value.now)))
+        → OnOk result
+        (Holds layer found.new rs ns
+        (ws ++ wants_of_text Reference (reference_at base.now.value (view value.now)))
         (ps ++ reference_pairs base.now.value (view value.now))) }
-    ensures faultless { OnOk result (refusals_of (reference_at base.now.value (view value.now)) ≡ []) }
-    ensures fault { IfErr result (IsFirstFault (refusals_of (reference_at base.now.value (view value.now)))) }
+    ensures faultless { OnOk result
+        (refusals_of (reference_at base.now.value (view value.now)) ≡ []) }
+    ensures fault { IfErr result
+        (IsFirstFault (refusals_of (reference_at base.now.value (view value.now)))) }
 {
     let Some(reference) = value.get("$ref").and_then(Value::as_str) else {
         return Ok(());
@@ -241,9 +277,12 @@ fn schema_uri(alloc: Global, text: &str) -> Result<Rc<Uri>, UriFault>
 
 // Adds what a text under `$schema` names, where that is no known draft.
 fn add_meta_schema(alloc: Global, found: &mut Found<'_>, value: &Value) -> Result<(), UriFault>
-    ensures added { (layer : Layer) (rs : List (List ℕ × Place)) (ns : List Named) (ws : List Wanted) (ps : List Pair)
+    ensures added { (layer : Layer) (rs : List (List ℕ × Place)) (ns : List Named)
+        (ws : List Wanted) (ps : List Pair)
         → Holds layer found.old rs ns ws ps
-        → OnOk result (Holds layer found.new rs ns (ws ++ wants_of_text MetaSchema (schema_at (view value.now))) ps) }
+        → OnOk result
+        (Holds layer found.new rs ns
+        (ws ++ wants_of_text MetaSchema (schema_at (view value.now))) ps) }
     ensures faultless { OnOk result (refusals_of (schema_at (view value.now)) ≡ []) }
     ensures fault { IfErr result (IsFirstFault (refusals_of (schema_at (view value.now)))) }
 {
@@ -267,13 +306,20 @@ fn settle<'w, 'a: 'w>(
     under: Option<&Rc<Uri>>,
 ) -> Result<Rc<Uri>, UriFault>
     ensures base { IfOk result (λ base. (place_of place.now).base ≡ Ok base.value) }
-    ensures added { (layer : Layer) (rs : List (List ℕ × Place)) (ns : List Named) (ws : List Wanted) (ps : List Pair)
+    ensures added { (layer : Layer) (rs : List (List ℕ × Place)) (ns : List Named)
+        (ws : List Wanted) (ps : List Pair)
         → Holds layer found.old rs ns ws ps → StandsIn layer number (place_of place.now)
-        → OnOk result (Holds layer found.new (rs ++ resources_at (option_map (λ u. u.now.value) under.entry) (place_of place.now))
+        → OnOk result
+        (Holds layer found.new
+        (rs
+        ++ resources_at (option_map (λ u. u.now.value) under.entry)
+        (place_of place.now))
         (ns ++ names_at (option_map (λ u. u.now.value) under.entry) (place_of place.now))
         (ws ++ wants_at (place_of place.now).base (place_of place.now).value) (ps ++ pairs_at (place_of place.now))) }
-    ensures faultless { OnOk result (faults_at (place_of place.now).base (place_of place.now).value ≡ []) }
-    ensures fault { IfErr result (IsFirstFault (faults_at (place_of place.now).base (place_of place.now).value)) }
+    ensures faultless { OnOk result
+        (faults_at (place_of place.now).base (place_of place.now).value ≡ []) }
+    ensures fault { IfErr result
+        (IsFirstFault (faults_at (place_of place.now).base (place_of place.now).value)) }
 {
     let value = place.value.get();
     let id = ResourceRef::new(value, place.draft).id();
@@ -292,7 +338,8 @@ fn path_below<'w>(
     keyword: &'w str,
     segment: Option<JsonPointerSegment<'w>>,
 ) -> Result<JsonPointerNode<'w>, AllocError>
-    ensures { IfOk result (λ below. below ≡ path.now ++ Key keyword.now ∷ segment_parts segment.entry) }
+    ensures { IfOk result
+        (λ below. below ≡ path.now ++ Key keyword.now ∷ segment_parts segment.entry) }
 {
     let keyword = path.push(alloc, keyword)?;
     match segment {
@@ -310,7 +357,8 @@ fn push_child<'w, 'a>(
     value: ValueRef<'w, 'a>,
     base: &Rc<Uri>,
 ) -> Result<(), AllocError>
-    ensures { value_of value.entry ≡ view child.entry.value.now → OnOk result ((v : Visit) × (queue.new.items ≡ queue.old.items ++ v ∷ [])
+    ensures { value_of value.entry ≡ view child.entry.value.now
+        → OnOk result ((v : Visit) × (queue.new.items ≡ queue.old.items ++ v ∷ [])
         × (place_of v ≡ child_place path.now base.now.value (walked_child child.entry))) }
 {
     let Child {
@@ -339,7 +387,9 @@ fn push_lent<'w, 'a: 'w>(
     draft: Draft,
     base: &Rc<Uri>,
 ) -> Result<(), AllocError>
-    ensures { OnOk result (ChildrenCame path.now (view value.now) draft base.now.value queue.old.items queue.new.items) }
+    ensures { OnOk result
+        (ChildrenCame path.now
+        (view value.now) draft base.now.value queue.old.items queue.new.items) }
 {
     for child in draft.walk_children(alloc, value)? {
         let value = ValueRef::Lent(child.value);
@@ -357,7 +407,9 @@ fn push_kept<'w, 'a>(
     draft: Draft,
     base: &Rc<Uri>,
 ) -> Result<(), AllocError>
-    ensures { OnOk result (ChildrenCame path.now (view value.now) draft base.now.value queue.old.items queue.new.items) }
+    ensures { OnOk result
+        (ChildrenCame path.now
+        (view value.now) draft base.now.value queue.old.items queue.new.items) }
 {
     for child in draft.walk_children(alloc, value)? {
         let value = ValueRef::Kept(child.value);
@@ -375,7 +427,9 @@ pub(crate) fn push_children<'w, 'a: 'w>(
     draft: Draft,
     base: &Rc<Uri>,
 ) -> Result<(), AllocError>
-    ensures { OnOk result (ChildrenCame path.now (value_of value.entry) draft base.now.value queue.old.items queue.new.items) }
+    ensures { OnOk result
+        (ChildrenCame path.now
+        (value_of value.entry) draft base.now.value queue.old.items queue.new.items) }
 {
     match value {
         ValueRef::Lent(value) => push_lent(alloc, queue, path, value, draft, base),
@@ -405,8 +459,12 @@ fn visit<'w, 'a: 'w>(
 ) -> Result<(), UriFault>
     requires { head < length queue.old.items }
     ensures ok { (v : Visit) → slice_get queue.old.items head ≡ Some v
-        → OnOk result (IsVisited number (option_map (λ u. u.now.value) under.entry) v found.old found.new queue.old.items queue.new.items) }
-    ensures fault { (v : Visit) → slice_get queue.old.items head ≡ Some v → IfErr result (IsFirstFault (faults_of (place_of v))) }
+        → OnOk result
+        (IsVisited number
+        (option_map
+        (λ u. u.now.value) under.entry) v found.old found.new queue.old.items queue.new.items) }
+    ensures fault { (v : Visit) → slice_get queue.old.items head ≡ Some v
+        → IfErr result (IsFirstFault (faults_of (place_of v))) }
 {
     let place = &queue[head];
     let base = settle(alloc, found, number, place, under)?;
@@ -442,8 +500,11 @@ pub fn walk<'a>(
     number: usize,
     document: &Document<'a>,
 ) -> Result<(), UriFault>
-    ensures ok { OnOk result (IsWalked (document_of document.now) number found.old found.new (places (document_of document.now))) }
-    ensures fault { IfErr result (IsFirstFault (flat_map faults_of (places (document_of document.now)))) }
+    ensures ok { OnOk result
+        (IsWalked (document_of document.now) number found.old found.new
+        (places (document_of document.now))) }
+    ensures fault { IfErr result
+        (IsFirstFault (flat_map faults_of (places (document_of document.now)))) }
 {
     let root = root_of(alloc, document)?;
     let uri = root.outer.clone()?;

@@ -32,9 +32,13 @@ fn walk_next<'a>(
     document: Document<'a>,
 ) -> Result<(), UriFault>
     requires { IsFound (map document_of documents.old.items) found.old }
-    ensures documents { OnOk result (map document_of documents.new.items ≡ map document_of documents.old.items ++ document_of document.entry ∷ []) }
+    ensures documents { OnOk result
+        (map document_of documents.new.items
+        ≡ map document_of documents.old.items ++ document_of document.entry ∷ []) }
     ensures found { OnOk result (IsFound (map document_of documents.new.items) found.new) }
-    ensures fault { IfErr result (IsFirstFault (faults (map document_of documents.old.items ++ document_of document.entry ∷ []))) }
+    ensures fault { IfErr result
+        (IsFirstFault
+        (faults (map document_of documents.old.items ++ document_of document.entry ∷ []))) }
 {
     let number = documents.len();
     push(documents, document)?;
@@ -80,8 +84,10 @@ impl<'a> Walked<'a> {
     ///
     /// Refuses for the first fault of all these documents, which is then one of the last's; and where memory is refused.
     pub fn append(self, alloc: Global, document: Document<'a>) -> Result<Walked<'a>, UriFault>
-        ensures value { IfOk result (λ walked. walked ≡ self.entry ++ document_of document.entry ∷ []) }
-        ensures fault { IfErr result (IsFirstFault (faults (self.entry ++ document_of document.entry ∷ []))) }
+        ensures value { IfOk result
+            (λ walked. walked ≡ self.entry ++ document_of document.entry ∷ []) }
+        ensures fault { IfErr result
+            (IsFirstFault (faults (self.entry ++ document_of document.entry ∷ []))) }
     {
         let Walked {
             mut documents,
@@ -97,16 +103,21 @@ impl<'a> Walked<'a> {
         requires { from ≤ length (wants self.now) }
         ensures faultless { faults self.now ≡ [] }
         ensures within { result ≤ length (wants self.now) }
-        ensures met { AllByRecursion (λ w. is_open (self.now ∷ map (λ p. p.now) parents.now) w ≡ false) (take from (wants self.now))
-            → AllByRecursion (λ w. is_open (self.now ∷ map (λ p. p.now) parents.now) w ≡ false) (take result (wants self.now)) }
-        ensures open { (w : Wanted) → slice_get (wants self.now) result ≡ Some w → is_open (self.now ∷ map (λ p. p.now) parents.now) w ≡ true }
+        ensures met { AllByRecursion
+            (λ w. is_open (self.now ∷ map (λ p. p.now) parents.now) w ≡ false)
+            (take from (wants self.now))
+            → AllByRecursion (λ w. is_open (self.now ∷ map (λ p. p.now) parents.now) w ≡ false)
+            (take result (wants self.now)) }
+        ensures open { (w : Wanted) → slice_get (wants self.now) result ≡ Some w
+            → is_open (self.now ∷ map (λ p. p.now) parents.now) w ≡ true }
     {
         first_open(&self.found, parents, from)
     }
 
     /// The want with a number. A look-up; takes no memory.
     pub fn want(&self, number: usize) -> Option<&Want>
-        ensures value { MatchOption result (slice_get (wants self.now) number ≡ None) (λ w. slice_get (wants self.now) number ≡ Some (want_of w.now)) }
+        ensures value { MatchOption result (slice_get (wants self.now) number ≡ None)
+            (λ w. slice_get (wants self.now) number ≡ Some (want_of w.now)) }
     {
         self.found.wants.get(number)
     }

@@ -1,12 +1,13 @@
 -- The lines of bytes.
 use Rattle.std.specs.Prelude.{ℕ, ◌==◌, List, [], ◌∷◌, ◌++◌, if◌then◌else◌}
 
--- the line that began with the second bytes and goes on with the first, and the lines after it: each ends at a line feed, and the last may
--- end with the bytes
+-- the line that began with the second bytes and goes on with the first, and the lines after it: each ends at a line
+-- feed, and the last may end with the bytes
 abbrev pub lines_after : List ℕ → List ℕ → List (List ℕ)
 lines_after [] [] = []
 lines_after [] (b ∷ begun) = (b ∷ begun) ∷ []
-lines_after (x ∷ rest) begun = if x == 10 then begun ∷ lines_after rest [] else lines_after rest (begun ++ x ∷ [])
+lines_after (x ∷ rest) begun =
+    if x == 10 then begun ∷ lines_after rest [] else lines_after rest (begun ++ x ∷ [])
 
 -- the lines of bytes, without their ends
 unfoldable pub lines : List ℕ → List (List ℕ)

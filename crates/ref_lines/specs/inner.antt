@@ -1,3 +1,4 @@
--- What stands here need not be believed: no clause of a public call reaches it. These definitions say what private functions answer.
+-- What stands here need not be believed: no clause of a public call reaches it. These definitions say what private
+-- functions answer.
 pub mod Held
 pub mod Answering

@@ -43,8 +43,10 @@ impl Chunk {
 
     /// Reads the next bytes in place of those there.
     pub fn fill<R: Source>(&mut self, source: &mut R) -> Result<(), Failed>
-        ensures bytes { IfOk result (λ _. Consumes (R.remaining source.old) (R.remaining source.new) (held self.new)) }
-        ensures end { IfOk result (λ _. self.new.has_ended ≡ true → (held self.new ≡ []) × IsTrue (R.ended source.new)
+        ensures bytes { IfOk result
+            (λ _. Consumes (R.remaining source.old) (R.remaining source.new) (held self.new)) }
+        ensures end { IfOk result
+            (λ _. self.new.has_ended ≡ true → (held self.new ≡ []) × IsTrue (R.ended source.new)
             × IsAtEnd (R.remaining source.new)) }
         ensures kept { OnErr result (Keeps (R.remaining source.old) (R.remaining source.new)) }
         ensures count { R.failures source.new ≡ count_after result (R.failures source.old) }

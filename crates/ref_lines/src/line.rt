@@ -51,7 +51,8 @@ impl Part {
 
     // The line, which ends here.
     fn into_line(self) -> Line
-        ensures value { (line before after : List ℕ) (ended : Bool) → Keeps self line → Cuts before line after ended
+        ensures value { (line before after : List ℕ) (ended : Bool) → Keeps self line
+            → Cuts before line after ended
             → IsNext result before after ended }
     {
         if self.is_lost {
@@ -63,7 +64,8 @@ impl Part {
 
     // The line, where the source ends here.
     fn into_last(self) -> Line
-        ensures value { (line before after : List ℕ) → Keeps self line → IsFree line → before ≡ line → after ≡ []
+        ensures value { (line before after : List ℕ) → Keeps self line → IsFree line → before ≡ line
+            → after ≡ []
             → IsNext result before after true }
     {
         if self.is_lost {
@@ -79,7 +81,8 @@ impl Part {
 // Moves bytes of the chunk after those of the line, up to the line's end. Whether that was met.
 fn pass(alloc: Global, chunk: &mut Chunk, part: &mut Part) -> bool
     ensures passed { (line : List ℕ) → Keeps part.old line
-        → (passed : List ℕ) × Passes (held chunk.old) passed result (held chunk.new) × Keeps part.new (line ++ passed) }
+        → (passed : List ℕ) × Passes (held chunk.old) passed result (held chunk.new)
+        × Keeps part.new (line ++ passed) }
     ensures ended { chunk.new.has_ended ≡ chunk.old.has_ended }
 {
     let rest = chunk.rest();
@@ -105,14 +108,21 @@ pub fn read_line<R: Source>(
     source: &mut R,
     chunk: &mut Chunk,
 ) -> Result<Line, RunError>
-    ensures next { IfOk result (λ line. GotNext (R.remaining source.old) (R.remaining source.new) (held chunk.old)
+    ensures next { IfOk result
+        (λ line. GotNext (R.remaining source.old) (R.remaining source.new) (held chunk.old)
         (held chunk.new) line chunk.old.has_ended chunk.new.has_ended) }
-    ensures end { (chunk.old.has_ended ≡ true → IsTrue (R.ended source.old) × IsAtEnd (R.remaining source.old))
-        → IfOk result (λ _. chunk.new.has_ended ≡ true → IsTrue (R.ended source.new) × IsAtEnd (R.remaining source.new)) }
-    ensures gave { OnErr result (Gave (R.remaining source.old) (R.remaining source.new) chunk.old.has_ended) }
+    ensures end { (chunk.old.has_ended ≡ true
+        → IsTrue (R.ended source.old) × IsAtEnd (R.remaining source.old))
+        → IfOk result
+        (λ _. chunk.new.has_ended ≡ true
+        → IsTrue (R.ended source.new) × IsAtEnd (R.remaining source.new)) }
+    ensures gave { OnErr result
+        (Gave (R.remaining source.old) (R.remaining source.new) chunk.old.has_ended) }
     ensures error { IfErr result (λ e. e ≢ RunError.Write) }
-    ensures read { result ≡ Err RunError.Read → HasFailed (R.failures source.old) (R.failures source.new) }
-    ensures no_read_failed { result ≢ Err RunError.Read → R.failures source.new ≡ R.failures source.old }
+    ensures read { result ≡ Err RunError.Read
+        → HasFailed (R.failures source.old) (R.failures source.new) }
+    ensures no_read_failed { result ≢ Err RunError.Read
+        → R.failures source.new ≡ R.failures source.old }
 {
     let mut part = Part {
         bytes: Vec::new(alloc),

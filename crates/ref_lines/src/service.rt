@@ -33,16 +33,23 @@ fn next_answer<R: Source, S: Service>(
     chunk: &mut Chunk,
     service: &mut S,
 ) -> Result<Option<Result<Vec<u8>, AllocError>>, RunError>
-    ensures next { IfOk result (λ answer. GotAnswer S.may_answer service.old service.new (R.remaining reader.old)
+    ensures next { IfOk result
+        (λ answer. GotAnswer S.may_answer service.old service.new (R.remaining reader.old)
         (R.remaining reader.new) answer (held chunk.old) (held chunk.new) chunk.old.has_ended chunk.new.has_ended) }
     ensures stays { OnErr result (service.new ≡ service.old) }
-    ensures gave { OnErr result (Gave (R.remaining reader.old) (R.remaining reader.new) chunk.old.has_ended) }
+    ensures gave { OnErr result
+        (Gave (R.remaining reader.old) (R.remaining reader.new) chunk.old.has_ended) }
     ensures count { OnOk result (R.failures reader.new ≡ R.failures reader.old) }
-    ensures end { (chunk.old.has_ended ≡ true → IsTrue (R.ended reader.old) × IsAtEnd (R.remaining reader.old))
-        → IfOk result (λ _. chunk.new.has_ended ≡ true → IsTrue (R.ended reader.new) × IsAtEnd (R.remaining reader.new)) }
+    ensures end { (chunk.old.has_ended ≡ true
+        → IsTrue (R.ended reader.old) × IsAtEnd (R.remaining reader.old))
+        → IfOk result
+        (λ _. chunk.new.has_ended ≡ true
+        → IsTrue (R.ended reader.new) × IsAtEnd (R.remaining reader.new)) }
     ensures error { IfErr result (λ e. e ≢ RunError.Write) }
-    ensures read { result ≡ Err RunError.Read → HasFailed (R.failures reader.old) (R.failures reader.new) }
-    ensures no_read_failed { result ≢ Err RunError.Read → R.failures reader.new ≡ R.failures reader.old }
+    ensures read { result ≡ Err RunError.Read
+        → HasFailed (R.failures reader.old) (R.failures reader.new) }
+    ensures no_read_failed { result ≢ Err RunError.Read
+        → R.failures reader.new ≡ R.failures reader.old }
 {
     match read_line(alloc, reader, chunk)? {
         Line::Text(line) => Ok(Some(service.answer(alloc, line.as_slice()))),
@@ -52,9 +59,11 @@ fn next_answer<R: Source, S: Service>(
 }
 
 fn write<W: Sink>(writer: &mut W, answer: &Result<Vec<u8>, AllocError>) -> Result<(), RunError>
-    ensures taken { OnOk result (Appends (W.taken writer.old) (W.taken writer.new) (answer_text answer.now)) }
+    ensures taken { OnOk result
+        (Appends (W.taken writer.old) (W.taken writer.new) (answer_text answer.now)) }
     ensures kept { OnOk result (W.failures writer.new ≡ W.failures writer.old) }
-    ensures error { IfErr result (λ e. (e ≡ RunError.Write) × HasFailed (W.failures writer.old) (W.failures writer.new)) }
+    ensures error { IfErr result
+        (λ e. (e ≡ RunError.Write) × HasFailed (W.failures writer.old) (W.failures writer.new)) }
 {
     let text = match answer {
         Ok(text) => text.as_slice(),
@@ -79,19 +88,27 @@ pub fn serve<R: Source, W: Sink, S: Service>(
     service: &mut S,
 ) -> Result<(), RunError>
     // What was written are the answers to the lines of what was read, to the end of the source.
-    ensures served { IfOk result (λ _. (IsTrue (R.ended reader.new) × IsAtEnd (R.remaining reader.new))
-        × Serves S.may_answer service.old service.new (R.remaining reader.old) (R.remaining reader.new) (W.taken writer.old)
+    ensures served { IfOk result
+        (λ _. (IsTrue (R.ended reader.new) × IsAtEnd (R.remaining reader.new))
+        × Serves S.may_answer service.old service.new (R.remaining reader.old)
+        (R.remaining reader.new) (W.taken writer.old)
         (W.taken writer.new)) }
-    ensures read { result ≡ Err RunError.Read → HasFailed (R.failures reader.old) (R.failures reader.new) }
-    ensures no_read_failed { result ≢ Err RunError.Read → R.failures reader.new ≡ R.failures reader.old }
-    ensures write { result ≡ Err RunError.Write → HasFailed (W.failures writer.old) (W.failures writer.new) }
-    ensures no_write_failed { result ≢ Err RunError.Write → W.failures writer.new ≡ W.failures writer.old }
+    ensures read { result ≡ Err RunError.Read
+        → HasFailed (R.failures reader.old) (R.failures reader.new) }
+    ensures no_read_failed { result ≢ Err RunError.Read
+        → R.failures reader.new ≡ R.failures reader.old }
+    ensures write { result ≡ Err RunError.Write
+        → HasFailed (W.failures writer.old) (W.failures writer.new) }
+    ensures no_write_failed { result ≢ Err RunError.Write
+        → W.failures writer.new ≡ W.failures writer.old }
     // Without a failed write, what was written are the answers to the first lines of what was read.
     ensures so_far { IfErr result (λ e. e ≢ RunError.Write
-        → ServedSoFar S.may_answer service.old service.new (R.remaining reader.old) (R.remaining reader.new)
+        → ServedSoFar S.may_answer service.old service.new (R.remaining reader.old)
+        (R.remaining reader.new)
         (W.taken writer.old) (W.taken writer.new)) }
     // After any error the service is as its answers to the first lines of what was read leave it.
-    ensures answered { OnErr result (AnsweredSoFar S.may_answer service.old service.new (R.remaining reader.old)
+    ensures answered { OnErr result
+        (AnsweredSoFar S.may_answer service.old service.new (R.remaining reader.old)
         (R.remaining reader.new)) }
 {
     let mut chunk = Chunk::new();

@@ -18,18 +18,22 @@ pub record DanglingReference : Type 0 where
 -- a reference of a place, by where it leads
 abbrev pub where_fault : ℕ → List Part → List ℕ → Result Found Fault → List DanglingReference
 where_fault number path reference (Ok found) = []
-where_fault number path reference (Err fault) = record { document = number; path = path; reference = reference; fault = fault } ∷ []
+where_fault number path reference (Err fault) =
+    record { document = number; path = path; reference = reference; fault = fault } ∷ []
 
 -- the reference of a place, where there is one, looked up from the place's base with an empty dynamic scope; in a registry each
 -- own place has a base
-abbrev pub dangling_from : World → ℕ → List Part → Result (List ℕ) Refusal → Option (List ℕ) → List DanglingReference
-dangling_from world number path (Ok base) (Some reference) = where_fault number path reference (lookup world (record { base = base; scope = [] }) reference)
+abbrev pub dangling_from : World → ℕ → List Part → Result (List ℕ) Refusal → Option (List ℕ)
+    → List DanglingReference
+dangling_from world number path (Ok base) (Some reference) =
+    where_fault number path reference (lookup world (record { base = base; scope = [] }) reference)
 dangling_from world number path (Ok base) None = []
 dangling_from world number path (Err refusal) reference = []
 
 -- the text under `$ref` of a place of the document with this number, where it is unresolvable
 abbrev pub dangling_at : World → ℕ × Place → List DanglingReference
-dangling_at world (number, p) = dangling_from world number p.path p.base (text_under (codes "$ref") p.value)
+dangling_at world (number, p) =
+    dangling_from world number p.path p.base (text_under (codes "$ref") p.value)
 
 -- the places of documents, one document after another, with the numbers of these, which are counted from this one on
 abbrev pub numbered_from : ℕ → Layer → List (ℕ × Place)

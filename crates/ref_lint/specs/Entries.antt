@@ -10,7 +10,8 @@ use Rattle.ref_lint.specs.Dangling.{DanglingReference}
 -- the entry has the reference's document, path and text, and its error says the fault
 abbrev pub IsEntryOf : Dangling → DanglingReference → Type 0
 IsEntryOf entry r =
-    (entry.document ≡ r.document) × (map part_of entry.path.items ≡ r.path) × (entry.reference.now ≡ r.reference) × SaysFault entry.error r.fault
+    (entry.document ≡ r.document) × (map part_of entry.path.items ≡ r.path)
+    × (entry.reference.now ≡ r.reference) × SaysFault entry.error r.fault
 
 -- an error is that a document could not be retrieved
 abbrev pub IsUnretrievable : Error → Type 0

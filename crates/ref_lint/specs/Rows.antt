@@ -7,4 +7,5 @@ use Rattle.ref_lint.specs.Dangling.{DanglingReference}
 
 -- a reference at a path of a document
 abbrev pub reference : ℕ → List Part → Literal → Fault → DanglingReference
-reference number path text fault = record { document = number; path = path; reference = codes text; fault = fault }
+reference number path text fault =
+    record { document = number; path = path; reference = codes text; fault = fault }

@@ -16,7 +16,8 @@ use std::alloc::{AllocError, Global};
 
 // The text under `$ref` of the value at a place.
 fn reference_at<'r>(registry: &'r Registry<'_>, place: &Place<'_>) -> Option<&'r str>
-    ensures { option_map (λ text. text.now) result ≡ reference_of registry.now (listed_of place.now) }
+    ensures { option_map (λ text. text.now) result
+        ≡ reference_of registry.now (listed_of place.now) }
 {
     let value = registry.value_at(place.document, place.path.as_slice())?;
     value.get("$ref").and_then(Value::as_str)
@@ -29,7 +30,8 @@ fn fault_at(
     base: &Uri,
     reference: &str,
 ) -> Result<Option<Error>, Error>
-    ensures fault { IfOk result (IsWhy (lookup registry.now (record { base = base.now; scope = [] }) reference.now)) }
+    ensures fault { IfOk result
+        (IsWhy (lookup registry.now (record { base = base.now; scope = [] }) reference.now)) }
     ensures memory { IfErr result IsMemory }
 {
     let resolver = registry.resolver(alloc, base.clone()?)?;
@@ -46,7 +48,8 @@ fn entry_at<'r>(
     registry: &'r Registry<'_>,
     place: Place<'r>,
 ) -> Result<Option<Dangling<'r>>, Error>
-    ensures entry { IfOk result (AreEntries (dangling_listed registry.now (listed_of place.entry))) }
+    ensures entry { IfOk result
+        (AreEntries (dangling_listed registry.now (listed_of place.entry))) }
     ensures memory { IfErr result IsMemory }
 {
     let Some(reference) = reference_at(registry, &place) else {
@@ -73,16 +76,17 @@ fn add<'r>(list: &mut Vec<Dangling<'r>>, entry: Option<Dangling<'r>>) -> Result<
     Ok(())
 }
 
-/// The references of a registry's own documents that are unresolvable: the texts under `$ref` of the places where schemas stand,
-/// which [`Registry::places`] lists, whose look-up from the place's base with an empty dynamic scope is a fault (2020-12 Core,
-/// 8.2.3.1). They come in the order of those places, each once, with that fault; what is under `$dynamicRef` or `$recursiveRef`
-/// is none of them, and those of parents aren't listed.
+/// The references of a registry's own documents that are unresolvable: the texts under `$ref` of the places where
+/// schemas stand, which [`Registry::places`] lists, whose look-up from the place's base with an empty dynamic scope is
+/// a fault (2020-12 Core, 8.2.3.1). They come in the order of those places, each once, with that fault; what is under
+/// `$dynamicRef` or `$recursiveRef` is none of them, and those of parents aren't listed.
 ///
-/// Refuses as `Memory` alone. Costs what [`Registry::places`] does, and for each `$ref` a look-up and a copy of the base; no value
-/// is copied.
+/// Refuses as `Memory` alone. Costs what [`Registry::places`] does, and for each `$ref` a look-up and a copy of the
+/// base; no value is copied.
 pub fn dangling<'r>(alloc: Global, registry: &'r Registry<'_>) -> Result<Vec<Dangling<'r>>, Error>
     ensures value { IfOk result (λ list. AllZip IsEntryOf list.items (dangling registry.now)) }
-    ensures retrieved { IfOk result (λ list. All (λ entry. ¬ (IsUnretrievable entry.error)) list.items) }
+    ensures retrieved { IfOk result
+        (λ list. All (λ entry. ¬ (IsUnretrievable entry.error)) list.items) }
     ensures memory { IfErr result IsMemory }
 {
     registry.references_are_retrieved();

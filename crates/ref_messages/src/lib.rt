@@ -1,4 +1,5 @@
-//! Messages about places in files, and the forms in which they are printed: text for people, an object a line, SARIF, and the annotations of GitHub.
+//! Messages about places in files, and the forms in which they are printed: text for people, an object a line, SARIF,
+//! and the annotations of GitHub.
 #![tactic(auto)]
 
 mod github;

@@ -15,7 +15,8 @@ pub struct Rule {
 const HEAD: &str =
     "{\"$schema\":\"https://json.schemastore.org/sarif-2.1.0.json\",\"version\":\"2.1.0\",\"runs\":[{\"tool\":{\"driver\":{\"name\":\"patchsard\"";
 
-/// Adds a log of messages, one result a line. Files' names go into it as relative URIs, or `file:` URIs where they are absolute paths.
+/// Adds a log of messages, one result a line. Files' names go into it as relative URIs, or `file:` URIs where they are
+/// absolute paths.
 pub fn push_sarif(
     alloc: Global,
     out: &mut String,

@@ -14,9 +14,9 @@ const STEPS_OF_A_SEARCH: usize = 65_536;
 // How many steps a comparison counts as.
 const STEPS_OF_A_COMPARISON: usize = 16;
 
-/// Searches for names that are one or two letters away from another. A name that is passed is a step, and one that is compared 16. A search
-/// takes 65,536 steps at most, and all searches together a number that is given, so that many searches among many names cost no more than that:
-/// what is not reached by then is not suggested.
+/// Searches for names that are one or two letters away from another. A name that is passed is a step, and one that is
+/// compared 16. A search takes 65,536 steps at most, and all searches together a number that is given, so that many
+/// searches among many names cost no more than that: what is not reached by then is not suggested.
 #[derive(Debug, Drop)]
 pub struct Suggester {
     // How many steps all searches may take yet, and this one.
@@ -43,7 +43,8 @@ impl Suggester {
         self.take(1)
     }
 
-    /// How many edits a name is away from what is wanted: one or two. Nothing where it is more, or where the search is at its end.
+    /// How many edits a name is away from what is wanted: one or two. Nothing where it is more, or where the search is
+    /// at its end.
     pub fn distance(
         &mut self,
         alloc: Global,

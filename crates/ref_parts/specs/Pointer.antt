@@ -64,7 +64,9 @@ is_index_text (d ∷ e ∷ ds) = not (d == 48) && all_ascii_digits (d ∷ e ∷ 
 
 -- the number that an index's text stands for, if it is one and fits 64 bits
 abbrev pub parse_index : List ℕ → Option ℕ
-parse_index text = if is_index_text text && nat_lt (digits_value 10 text) (2 ^ 64) then Some (digits_value 10 text) else None
+parse_index text =
+    if is_index_text text && nat_lt (digits_value 10 text) (2 ^ 64) then Some (digits_value 10 text)
+    else None
 
 -- the reference tokens of what follows a pointer's first `/` (section 3)
 abbrev pub tokens : List ℕ → List (List ℕ)

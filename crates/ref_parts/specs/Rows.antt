@@ -12,7 +12,12 @@ use Rattle.ref_parts.specs.Encoded.{is_unreserved, is_sub_delim, is_fragment_byt
 
 -- `{"":{"a/b":[5]}}`
 abbrev pub document : Data
-document = object (member [] (object (member (codes "a/b") (array (item (number (unsigned 5)) no_items)) no_members)) no_members)
+document =
+    object
+    (member []
+    (object
+    (member (codes "a/b")
+    (array (item (number (unsigned 5)) no_items)) no_members)) no_members)
 
 pub record PointerRows : Type 0 where
   pub escape_tilde : escape (codes "abcdefg~") ≡ codes "abcdefg~0"
@@ -35,7 +40,8 @@ pub record PointerRows : Type 0 where
   pub evaluate_path : evaluate document (codes "//a~1b/0") ≡ Some (number (unsigned 5))
   pub evaluate_no_slash : evaluate document (codes "a") ≡ None
   pub text_of_path : pointer_text (Key [] ∷ Key (codes "a/b") ∷ Index 0 ∷ []) ≡ codes "//a~1b/0"
-  pub value_at_path : value_at document (Key [] ∷ Key (codes "a/b") ∷ Index 0 ∷ []) ≡ Some (number (unsigned 5))
+  pub value_at_path : value_at document (Key [] ∷ Key (codes "a/b") ∷ Index 0 ∷ [])
+      ≡ Some (number (unsigned 5))
 
 -- the parts that those are made of
 pub record TokenRows : Type 0 where

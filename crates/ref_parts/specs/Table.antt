@@ -17,7 +17,8 @@ is_under first second e = bytes_eq e.0 first && bytes_eq e.1 second
 
 -- the last value that was entered under two texts
 abbrev pub last_value : {V : Type 0} → List ℕ → List ℕ → List (Entry V) → Option V
-last_value first second entries = option_map (λ e. e.2) (last_or None (filter (is_under first second) entries))
+last_value first second entries =
+    option_map (λ e. e.2) (last_or None (filter (is_under first second) entries))
 
 -- how many different pairs of texts have a value: an entry counts where no later one is under its texts
 abbrev pub pair_count : {V : Type 0} → List (Entry V) → ℕ

@@ -31,7 +31,8 @@ pub fn first_escape(bytes: &[u8]) -> Option<usize>
 pub fn write_index(buffer: &mut String, idx: usize) -> Result<(), AllocError>
     ensures ok { OnOk result (string_bytes buffer.new ≡ string_bytes buffer.old ++ decimal idx) }
     ensures err { OnErr result (string_bytes buffer.new ≡ string_bytes buffer.old) }
-    ensures full { OnErr result (string_capacity buffer.old < string_len buffer.old + length (decimal idx)) }
+    ensures full { OnErr result
+        (string_capacity buffer.old < string_len buffer.old + length (decimal idx)) }
 {
     let mut digits = itoa::Buffer::new();
     buffer.push_str(digits.format(idx))
@@ -43,9 +44,11 @@ pub fn write_index(buffer: &mut String, idx: usize) -> Result<(), AllocError>
 /// are copied whole. Room for the key is reserved once, and the buffer grows a second time at most, where the escapes
 /// don't fit.
 pub fn write_escaped_str(buffer: &mut String, value: &str) -> Result<(), AllocError>
-    ensures ok { OnOk result (string_bytes buffer.new ≡ string_bytes buffer.old ++ escape value.now) }
+    ensures ok { OnOk result
+        (string_bytes buffer.new ≡ string_bytes buffer.old ++ escape value.now) }
     ensures err { OnErr result (string_bytes buffer.new ≡ string_bytes buffer.old) }
-    ensures full { OnErr result (string_capacity buffer.old < string_len buffer.old + length (escape value.now)) }
+    ensures full { OnErr result
+        (string_capacity buffer.old < string_len buffer.old + length (escape value.now)) }
 {
     let len = buffer.len();
     let pushed = push_escaped(buffer, value);
@@ -57,9 +60,12 @@ pub fn write_escaped_str(buffer: &mut String, value: &str) -> Result<(), AllocEr
 
 // Appends the escaped text, or a front of it where there is no memory for the whole.
 fn push_escaped(buffer: &mut String, value: &str) -> Result<(), AllocError>
-    ensures ok { OnOk result (string_bytes buffer.new ≡ string_bytes buffer.old ++ escape value.now) }
-    ensures err { OnErr result (take (string_len buffer.old) (string_bytes buffer.new) ≡ string_bytes buffer.old) }
-    ensures full { OnErr result (string_capacity buffer.old < string_len buffer.old + length (escape value.now)) }
+    ensures ok { OnOk result
+        (string_bytes buffer.new ≡ string_bytes buffer.old ++ escape value.now) }
+    ensures err { OnErr result
+        (take (string_len buffer.old) (string_bytes buffer.new) ≡ string_bytes buffer.old) }
+    ensures full { OnErr result
+        (string_capacity buffer.old < string_len buffer.old + length (escape value.now)) }
 {
     buffer.reserve(value.len())?;
     let mut rest = value;
@@ -96,7 +102,8 @@ pub fn unescape_segment(alloc: Global, segment: &str) -> Result<CowStr<'_>, Allo
 
 // Appends what a `~` and the text after it stand for.
 fn push_unescaped(key: &mut String, escaped: &str) -> Result<(), AllocError>
-    ensures { OnOk result (string_bytes key.new ≡ string_bytes key.old ++ unescape (tilde ∷ escaped.now)) }
+    ensures { OnOk result
+        (string_bytes key.new ≡ string_bytes key.old ++ unescape (tilde ∷ escaped.now)) }
 {
     let mut rest = push_escape(key, escaped)?;
     'runs: while let Some((run, after)) = rest.split_once('~') {
@@ -108,7 +115,9 @@ fn push_unescaped(key: &mut String, escaped: &str) -> Result<(), AllocError>
 
 // Appends the one byte that a `~` before this text stands for, and returns what is left of the text.
 fn push_escape<'a>(key: &mut String, after: &'a str) -> Result<&'a str, AllocError>
-    ensures byte { IfOk result (λ rest. string_bytes key.new ++ unescape rest.now ≡ string_bytes key.old ++ unescape (tilde ∷ after.now)) }
+    ensures byte { IfOk result
+        (λ rest. string_bytes key.new ++ unescape rest.now
+        ≡ string_bytes key.old ++ unescape (tilde ∷ after.now)) }
     ensures text { IfOk result (λ rest. IsUtf8 rest.now) }
     ensures shorter { IfOk result (λ rest. length rest.now ≤ length after.now) }
 {

@@ -16,7 +16,8 @@ pub fn pointer<'a>(
     document: &'a Value,
     pointer: &str,
 ) -> Result<Option<&'a Value>, AllocError>
-    ensures value { IfOk result (λ found. option_map (λ v. view v.now) found ≡ evaluate (view document.now) pointer.now) }
+    ensures value { IfOk result
+        (λ found. option_map (λ v. view v.now) found ≡ evaluate (view document.now) pointer.now) }
     ensures without_memory { All (λ b. b ≢ tilde) pointer.now → IsOk result }
 {
     if pointer.is_empty() {
@@ -34,7 +35,9 @@ fn value_along<'a>(
     document: &'a Value,
     text: &str,
 ) -> Result<Option<&'a Value>, AllocError>
-    ensures value { IfOk result (λ found. option_map (λ v. view v.now) found ≡ along (view document.now) (tokens text.now)) }
+    ensures value { IfOk result
+        (λ found. option_map (λ v. view v.now) found
+        ≡ along (view document.now) (tokens text.now)) }
     ensures without_memory { All (λ b. b ≢ tilde) text.now → IsOk result }
 {
     let mut target = document;
@@ -51,7 +54,9 @@ fn value_along<'a>(
 
 // The element or the member that a token names.
 fn step<'a>(alloc: Global, target: &'a Value, token: &str) -> Result<Option<&'a Value>, AllocError>
-    ensures value { IfOk result (λ found. option_map (λ v. view v.now) found ≡ next (view target.now) (unescape token.now)) }
+    ensures value { IfOk result
+        (λ found. option_map (λ v. view v.now) found
+        ≡ next (view target.now) (unescape token.now)) }
     ensures without_memory { All (λ b. b ≢ tilde) token.now → IsOk result }
 {
     let key = unescape_segment(alloc, token)?;

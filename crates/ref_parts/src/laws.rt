@@ -21,7 +21,8 @@ pub fn unescape_undoes_escape()
 
 /// A text is an index's exactly where it is that index's decimal text, for indexes that a `usize` holds.
 pub fn index_text_is_decimal()
-    ensures law { (text : List ℕ) (i : ℕ) → (parse_index text ≡ Some i) ↔ ((text ≡ decimal i) × (i < 2 ^ 64)) }
+    ensures law { (text : List ℕ) (i : ℕ)
+        → (parse_index text ≡ Some i) ↔ ((text ≡ decimal i) × (i < 2 ^ 64)) }
 {}
 
 /// The pointer text of a path that leads to a value means that value.
@@ -33,8 +34,12 @@ pub fn pointer_text_leads_where_its_path_does()
 /// Of a path's pointer text as a fragment holds it, what follows the first `/` is decoded to the escaped parts with a `/`
 /// between them, where the path isn't empty.
 pub fn fragment_has_the_escaped_parts()
-    ensures law { (part : Part) (path : List Part) → HasFittingIndexes (part ∷ path) → All (λ b. b < 256) (pointer_text (part ∷ path))
-        → tokens (decoded (after_first (λ b. b == slash) (encoded_text (pointer_text (part ∷ path))))) ≡ map part_text (part ∷ path) }
+    ensures law { (part : Part) (path : List Part) → HasFittingIndexes (part ∷ path)
+        → All (λ b. b < 256) (pointer_text (part ∷ path))
+        → tokens
+        (decoded
+        (after_first (λ b. b == slash) (encoded_text (pointer_text (part ∷ path)))))
+        ≡ map part_text (part ∷ path) }
 {}
 
 /// The worked rows of the definitions of pointer text.

@@ -107,8 +107,8 @@ impl<T: Drop> List<T> {
 
 /// The same items, shared: one handle more, whatever the length. By the code it takes no memory; no clause says so.
 ///
-/// It fails only where the first link has no count left for one more handle, which `std::rc::Rc` returns as out of memory. The empty
-/// list has no link, and its copy succeeds.
+/// It fails only where the first link has no count left for one more handle, which `std::rc::Rc` returns as out of
+/// memory. The empty list has no link, and its copy succeeds.
 impl<T: Drop> Clone for List<T> {
     ghost is_clone = { λ list copy. copy ≡ list };
 

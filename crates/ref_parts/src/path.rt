@@ -197,7 +197,9 @@ impl<'a> JsonPointerNode<'a> {
         alloc: Global,
         segment: S,
     ) -> Result<Self, AllocError>
-        ensures value { IfOk result (λ node. (s : JsonPointerSegment) × S.converts segment s × (node ≡ self.now ++ part_of s ∷ [])) }
+        ensures value { IfOk result
+            (λ node. (s : JsonPointerSegment) × S.converts segment s
+            × (node ≡ self.now ++ part_of s ∷ [])) }
     {
         let segment = segment.into();
         let parent = self.clone()?;
@@ -255,8 +257,8 @@ impl Default for JsonPointerNode<'_> {
 
 /// The same path, shared: one handle more, whatever the length. By the code it takes no memory; no clause says so.
 ///
-/// It fails only where the last link has no count left for one more handle, which `std::rc::Rc` returns as out of memory. The root has
-/// no link, and its copy succeeds.
+/// It fails only where the last link has no count left for one more handle, which `std::rc::Rc` returns as out of
+/// memory. The root has no link, and its copy succeeds.
 impl Clone for JsonPointerNode<'_> {
     ghost is_clone = { λ node copy. copy ≡ node };
 

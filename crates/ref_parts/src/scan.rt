@@ -72,7 +72,8 @@ fn marks(word: &[u8; 8]) -> u64
 
 // The marks of a word's bytes that are 0. The borrow of the first such byte may mark bytes above it that are 1.
 fn zero_marks(word: u64) -> u64
-    ensures { (bytes : List ℕ) → length bytes ≡ 8 → All (λ b. b < 256) bytes → word ≡ number bytes → MarksFirst (λ b. b == 0) bytes result }
+    ensures { (bytes : List ℕ) → length bytes ≡ 8 → All (λ b. b < 256) bytes → word ≡ number bytes
+        → MarksFirst (λ b. b == 0) bytes result }
 {
     word.wrapping_sub(ONES) & !word & HIGH_BITS
 }

@@ -165,7 +165,8 @@ impl<K: Eq + Hash + Drop, V: Drop, const N: usize> SmallMap<K, V, N> {
     where
         V: Default,
         ensures* writes_back { sem 𝓛 (lends_value K.row V.row N.row K.Hash self.entry key result) }
-        ensures value { IfOk result (λ value. UnwrapsOrElse (lookup (K.eq key) self.old) V.is_default value.now) }
+        ensures value { IfOk result
+            (λ value. UnwrapsOrElse (lookup (K.eq key) self.old) V.is_default value.now) }
         ensures there { IsSome (lookup (K.eq key) self.old) → IsOk result }
         ensures inline { length self.old < N → IsOk result }
     {
@@ -183,7 +184,9 @@ fn place_or_default<K: Eq + Hash + Drop, V: Default + Drop, const N: usize>(
     requires { IsFormOf K.eq N form.old }
     ensures kept { IsFormOf K.eq N form.new }
     ensures place { IfOk result (IsAt K.eq key (entries_of form.new)) }
-    ensures ok { OnOk result ((value : V) × UnwrapsOrElse (lookup (K.eq key) (entries_of form.old)) V.is_default value × (entries_of form.new ≡ insert_entry K.eq (entries_of form.old) key value)) }
+    ensures ok { OnOk result
+        ((value : V) × UnwrapsOrElse (lookup (K.eq key) (entries_of form.old)) V.is_default value
+        × (entries_of form.new ≡ insert_entry K.eq (entries_of form.old) key value)) }
     ensures err { OnErr result (entries_of form.new ≡ entries_of form.old) }
     ensures there { IsSome (lookup (K.eq key) (entries_of form.old)) → IsOk result }
     ensures inline { length (entries_of form.old) < N → IsOk result }
@@ -197,7 +200,8 @@ fn place_or_default<K: Eq + Hash + Drop, V: Default + Drop, const N: usize>(
 // The place of the pair whose key is equal.
 fn find<K: Eq + Hash, V, const N: usize>(form: &Form<K, V, N>, key: &K) -> Option<usize>
     requires { IsFormOf K.eq N form.now }
-    ensures { MatchOption result (lookup (K.eq key.now) (entries_of form.now) ≡ None) (IsAt K.eq key.now (entries_of form.now)) }
+    ensures { MatchOption result (lookup (K.eq key.now) (entries_of form.now) ≡ None)
+        (IsAt K.eq key.now (entries_of form.now)) }
 {
     match form {
         Form::Small(slots) => place_of(slots.as_slice(), key),
@@ -214,7 +218,9 @@ impl<K: Eq + Hash + Clone + Drop, V: Clone + Drop, const N: usize> SmallMap<K, V
     pub fn clone(&self) -> Result<Self, AllocError>
         requires { (x y : K) → K.is_clone x y → IsTrue (K.eq x y) }
         ensures clones { IfOk result (λ copy. IsClone K.is_clone V.is_clone self.now copy) }
-        ensures same { IfOk result (λ copy. ((x y : K) → K.is_clone x y → y ≡ x) → ((x y : V) → V.is_clone x y → y ≡ x) → copy ≡ self.now) }
+        ensures same { IfOk result
+            (λ copy. ((x y : K) → K.is_clone x y → y ≡ x) → ((x y : V) → V.is_clone x y → y ≡ x)
+            → copy ≡ self.now) }
     {
         Ok(SmallMap {
             form: copied(&self.form)?,
@@ -254,7 +260,8 @@ fn copied<K: Eq + Hash + Clone + Drop, V: Clone + Drop, const N: usize>(
     form: &Form<K, V, N>,
 ) -> Result<Form<K, V, N>, AllocError>
     requires { (x y : K) → K.is_clone x y → IsTrue (K.eq x y) }
-    ensures clones { IfOk result (λ copy. IsClone K.is_clone V.is_clone (entries_of form.now) (entries_of copy)) }
+    ensures clones { IfOk result
+        (λ copy. IsClone K.is_clone V.is_clone (entries_of form.now) (entries_of copy)) }
     ensures kept { IfOk result (λ copy. IsFormOf K.eq N form.now → IsFormOf K.eq N copy) }
 {
     match form {
@@ -319,7 +326,8 @@ fn put<K: Eq + Hash + Drop, V: Drop, const N: usize>(
     requires { IsFormOf K.eq N form.old }
     ensures kept { IsFormOf K.eq N form.new }
     ensures place { IfOk result (IsAt K.eq key (entries_of form.new)) }
-    ensures ok { OnOk result (entries_of form.new ≡ insert_entry K.eq (entries_of form.old) key value) }
+    ensures ok { OnOk result
+        (entries_of form.new ≡ insert_entry K.eq (entries_of form.old) key value) }
     ensures err { OnErr result (entries_of form.new ≡ entries_of form.old) }
     ensures there { IsSome (lookup (K.eq key) (entries_of form.old)) → IsOk result }
     ensures inline { length (entries_of form.old) < N → IsOk result }
@@ -348,7 +356,8 @@ fn put<K: Eq + Hash + Drop, V: Drop, const N: usize>(
 
 // Where the first slot is whose key is equal.
 fn place_of<K: Eq + Hash, V>(slots: &[Option<(K, V)>], key: &K) -> Option<usize>
-    ensures { MatchOption result (lookup (K.eq key.now) (pairs slots.now) ≡ None) (IsPlaceOf K.eq key.now slots.now) }
+    ensures { MatchOption result (lookup (K.eq key.now) (pairs slots.now) ≡ None)
+        (IsPlaceOf K.eq key.now slots.now) }
 {
     for (place, slot) in slots.iter().enumerate() {
         if let Some((k, _)) = slot {
@@ -365,7 +374,8 @@ fn value_at<K: Eq + Hash, V, const N: usize>(form: &mut Form<K, V, N>, place: us
     requires form { IsFormOf K.eq N form.old }
     requires within { place < length (entries_of form.old) }
     ensures* writes_back { sem 𝓛 (lends_place K.row V.row N.row K.Hash form.entry place result) }
-    ensures value { option_map (λ e. e.1) (slice_get (entries_of form.old) place) ≡ Some result.now }
+    ensures value { option_map (λ e. e.1) (slice_get (entries_of form.old) place)
+        ≡ Some result.now }
 {
     match form {
         Form::Small(slots) => slot_value(slots, place),
@@ -378,7 +388,8 @@ fn slot_value<K, V, const N: usize>(slots: &mut ArrayVec<Option<(K, V)>, N>, pla
     requires within { place < length slots.old.items }
     requires holds { IsSome (slice_index_or slots.old.items place None) }
     ensures* writes_back { sem 𝓛 (lends_slot K.row V.row N.row slots.entry place result) }
-    ensures value { option_map (λ pair. pair.1) (slice_index_or slots.old.items place None) ≡ Some result.now }
+    ensures value { option_map (λ pair. pair.1) (slice_index_or slots.old.items place None)
+        ≡ Some result.now }
 {
     match slots.get_mut(place) {
         Some(slot) => pair_value(slot),
@@ -404,7 +415,8 @@ fn hashed_value<K: Eq + Hash, V, S: BuildHasher, A: Allocator>(
     place: usize,
 ) -> &mut V
     requires { place < length map.old.entries }
-    ensures* writes_back { sem 𝓛 (lends_index K.row V.row S.row A.row S.Hasher.row K.Hash S.BuildHasher S.Hasher.Hasher A.Allocator map.entry place result) }
+    ensures* writes_back { sem 𝓛
+        (lends_index K.row V.row S.row A.row S.Hasher.row K.Hash S.BuildHasher S.Hasher.Hasher A.Allocator map.entry place result) }
     ensures value { option_map (λ e. e.1) (slice_get map.old.entries place) ≡ Some result.now }
 {
     match map.get_index_mut(place) {

@@ -49,8 +49,8 @@ impl<V> Model for SortedTable<V> {
 impl<V: Drop> SortedTable<V> {
     /// The table of these entries: under each pair of texts the value that was entered last.
     ///
-    /// Texts and values move in, and none is copied. Takes memory for the table and to sort it, and is refused where there is none.
-    /// At most about `n * log2(n)` comparisons of two entries.
+    /// Texts and values move in, and none is copied. Takes memory for the table and to sort it, and is refused where
+    /// there is none. At most about `n * log2(n)` comparisons of two entries.
     pub fn from_entries(
         alloc: Global,
         entries: Vec<(String, String, V)>,
@@ -59,8 +59,8 @@ impl<V: Drop> SortedTable<V> {
     {
         let entered = Snapshot::of(&entries);
         let shared = shared_len(entries.as_slice());
-        // Sorting keeps the order of equal pairs, and of these the first stays. Entries that came in byte order fall now, and need
-        // only be passed.
+        // Sorting keeps the order of equal pairs, and of these the first stays. Entries that came in byte order fall
+        // now, and need only be passed.
         let mut kept = slots_backwards(alloc, entries, shared)?;
         kept.as_mut_slice().sort_by(
             alloc,
@@ -84,11 +84,13 @@ impl<V> SortedTable<V> {
         self.kept.len()
     }
 
-    /// The value that was entered last under two texts, and a count, which the code raises where it compares an entry with them.
+    /// The value that was entered last under two texts, and a count, which the code raises where it compares an entry
+    /// with them.
     ///
-    /// The count is at least 1 where the table isn't empty, and at most as many as `len` has binary digits: where `len` is below
-    /// 2^n, at most n. Takes no memory. A comparison reads texts only where eight bytes of the first, after what all first texts have in common, are
-    /// equal; then each byte of a beginning that they share at most twice, and second texts only where the first are equal.
+    /// The count is at least 1 where the table isn't empty, and at most as many as `len` has binary digits: where `len`
+    /// is below 2^n, at most n. Takes no memory. A comparison reads texts only where eight bytes of the first, after
+    /// what all first texts have in common, are equal; then each byte of a beginning that they share at most twice, and
+    /// second texts only where the first are equal.
     #[inline(always)]
     pub fn get(&self, first: &str, second: &str) -> (Option<&V>, usize)
         ensures value { option_copied result.0 ≡ last_value first.now second.now self.now }
@@ -220,10 +222,10 @@ fn probe<V>(
     order(number, slot, word, first, second)
 }
 
-// Whether an entry is before two texts with the word of the first: by the words, and by the texts where those are equal, the
-// greatest first. Few comparisons read texts, so those stay out of what sorts and searches; and each answer is given by a branch of
-// its own, which takes fewer steps there than an order that is then matched. The entry's number is given, since a search reads it
-// elsewhere.
+// Whether an entry is before two texts with the word of the first: by the words, and by the texts where those are
+// equal, the greatest first. Few comparisons read texts, so those stay out of what sorts and searches; and each answer
+// is given by a branch of its own, which takes fewer steps there than an order that is then matched. The entry's number
+// is given, since a search reads it elsewhere.
 #[inline(always)]
 fn order<V>(number: u64, slot: &Slot<V>, word: u64, first: &str, second: &str) -> Ordering
     requires { number ≡ slot.now.word }

@@ -12,7 +12,8 @@ pub struct Located<'a> {
 }
 
 impl<'a> Located<'a> {
-    /// Where the value of a place begins, or nothing where the text has no such place. Of members with the same key the last one counts.
+    /// Where the value of a place begins, or nothing where the text has no such place. Of members with the same key the
+    /// last one counts.
     pub fn value(&self, place: usize) -> Option<Position<'a>> {
         self.found.get(place)?.value
     }
@@ -26,8 +27,8 @@ impl<'a> Located<'a> {
 impl Places {
     /// Where these places are in a JSON text. Of a text that is no JSON, those are found that come before the fault.
     ///
-    /// One pass over the text: it costs a step for each byte, and a look-up for each key and each item of what is asked for or has below it what is
-    /// asked for.
+    /// One pass over the text: it costs a step for each byte, and a look-up for each key and each item of what is asked
+    /// for or has below it what is asked for.
     pub fn locate<'t>(&self, alloc: Global, text: &'t str) -> Result<Located<'t>, AllocError> {
         let mut scratch = Scratch::new(alloc);
         let mut walk = Walk::new(alloc, self, text)?;

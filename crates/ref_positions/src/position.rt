@@ -62,7 +62,8 @@ impl<'a> Position<'a> {
     pub(crate) fn after_byte(self) -> Position<'a>
         ensures text { result.text.now ≡ self.entry.text.now }
         ensures offset { self.entry.offset ≤ result.offset }
-        ensures next { self.entry.offset < length self.entry.text.now → result.offset ≡ self.entry.offset + 1 }
+        ensures next { self.entry.offset < length self.entry.text.now
+            → result.offset ≡ self.entry.offset + 1 }
     {
         let bytes = self.text.as_bytes();
         if self.offset >= bytes.len() {
@@ -80,7 +81,8 @@ impl<'a> Position<'a> {
     /// The place at an offset from here on, or the end of the text. It costs a step for each byte between.
     pub(crate) fn moved_to(self, offset: usize) -> Position<'a>
         ensures text { result.text.now ≡ self.entry.text.now }
-        ensures offset { self.entry.offset ≤ offset → offset ≤ length self.entry.text.now → result.offset ≡ offset }
+        ensures offset { self.entry.offset ≤ offset → offset ≤ length self.entry.text.now
+            → result.offset ≡ offset }
     {
         let mut place = self;
         for at in self.offset..offset {

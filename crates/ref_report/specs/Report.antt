@@ -45,11 +45,16 @@ reason Lint = codes "lint"
 
 -- the report on a bad request
 abbrev pub bad_report : BadRequest → Report
-bad_report bad = record { status = status.BadRequest; text = line (codes "bad request " ++ reason bad) }
+bad_report bad =
+    record { status = status.BadRequest; text = line (codes "bad request " ++ reason bad) }
 
 -- a fault, with what it is a fault of
 abbrev pub fault_report : List ℕ → Fault → Report
-fault_report of fault = record { status = status.Fault; text = line (codes "fault " ++ of ++ codes " " ++ fault_text fault) }
+fault_report of fault =
+    record {
+      status = status.Fault;
+      text = line (codes "fault " ++ of ++ codes " " ++ fault_text fault);
+    }
 
 -- the name of a draft
 abbrev pub draft_name : Draft → List ℕ
@@ -63,7 +68,8 @@ draft_name Unknown = codes "unknown"
 -- the value found last and its draft
 abbrev pub value_lines : Option (Data × Draft) → List ℕ
 value_lines None = line (codes "no value")
-value_lines (Some (value, draft)) = line (codes "value " ++ compact_text value) ++ line (codes "draft " ++ draft_name draft)
+value_lines (Some (value, draft)) =
+    line (codes "value " ++ compact_text value) ++ line (codes "draft " ++ draft_name draft)
 
 -- the line of the scope, inner to outer
 abbrev pub scope_line : List (List ℕ) → List ℕ
@@ -73,7 +79,8 @@ scope_line scope = line (codes "scope" ++ flat_map (λ uri. codes " " ++ uri) sc
 abbrev pub done_report : Followed → Report
 done_report f = record {
   status = status.Done;
-  text = value_lines f.last ++ line (codes "base " ++ f.resolver.base) ++ scope_line f.resolver.scope;
+  text =
+      value_lines f.last ++ line (codes "base " ++ f.resolver.base) ++ scope_line f.resolver.scope;
 }
 
 -- the report on where steps lead: a fault has the number of its step
@@ -84,7 +91,8 @@ followed_report (Err (n, fault)) = fault_report (decimal n) fault
 -- the line of an unresolvable reference, with the pointer text of its place's path as a JSON string
 abbrev pub dangling_line : DanglingReference → List ℕ
 dangling_line r =
-    line (codes "dangling " ++ decimal r.document ++ codes " " ++ compact_text (string (pointer_text r.path)) ++ codes " " ++ fault_text r.fault)
+    line (codes "dangling " ++ decimal r.document ++ codes " "
+    ++ compact_text (string (pointer_text r.path)) ++ codes " " ++ fault_text r.fault)
 
 -- the lines of all of a world's own documents
 unfoldable pub dangling_lines : World → List ℕ
@@ -110,17 +118,21 @@ steps_of r = map (step_in (builder_draft r.draft)) r.steps
 
 -- the report on a request, once its documents are prepared
 abbrev pub world_report : Request → Result World Fault → Report
-world_report r (Ok world) = with_lines (lint_lines (unwrap_or r.lint false) world) (followed_report (followed_steps world r.base (steps_of r)))
+world_report r (Ok world) =
+    with_lines (lint_lines (unwrap_or r.lint false) world)
+    (followed_report (followed_steps world r.base (steps_of r)))
 world_report r (Err fault) = fault_report (codes "prepare") fault
 
 -- the report on a request, once its meta-schemas are prepared
 abbrev pub IsReportAbove : Request → Result World Fault → Report → Type 0
-IsReportAbove r (Ok parents) report = (world : Result World Fault) × IsWorldAbove r parents world × (report ≡ world_report r world)
+IsReportAbove r (Ok parents) report =
+    (world : Result World Fault) × IsWorldAbove r parents world × (report ≡ world_report r world)
 IsReportAbove r (Err fault) report = report ≡ fault_report (codes "meta") fault
 
 -- the report on a request
 abbrev pub IsRequestReport : Request → Report → Type 0
-IsRequestReport r report = (parents : Result World Fault) × AreParents r.meta parents × IsReportAbove r parents report
+IsRequestReport r report =
+    (parents : Result World Fault) × AreParents r.meta parents × IsReportAbove r parents report
 
 -- the report on a request, bad or not
 abbrev pub IsReadReport : Result Request BadRequest → Report → Type 0

@@ -52,7 +52,10 @@ list_of f d = option_and_then (every f) (as_array d)
 abbrev pub document_of : Data → Option Document
 document_of d =
     if is_some (at 2 d) then None
-    else option_and_then (λ u. option_and_then (λ s. option_map (λ t. record { uri = s; tree = t }) (at 1 d)) (as_str u)) (at 0 d)
+    else option_and_then
+    (λ u. option_and_then (λ s. option_map (λ t. record { uri = s; tree = t }) (at 1 d))
+    (as_str u))
+    (at 0 d)
 
 -- a list of `[text, schema]`
 unfoldable pub documents_of : Data → Option (List Document)
@@ -60,7 +63,9 @@ documents_of d = list_of document_of d
 
 -- a tree under the URI that its text means
 abbrev pub retrievable_of : Data → Option (List ℕ × Data)
-retrievable_of d = option_and_then (λ e. option_map (λ uri. (uri, e.tree)) (result_ok (uri_of e.uri))) (document_of d)
+retrievable_of d =
+    option_and_then (λ e. option_map (λ uri. (uri, e.tree)) (result_ok (uri_of e.uri)))
+    (document_of d)
 
 -- a list of such
 unfoldable pub remote_of : Data → Option (List (List ℕ × Data))
@@ -105,19 +110,23 @@ abbrev pub lint_of : Data → Option Bool
 lint_of d = as_bool d
 
 -- a field that must be there
-abbrev pub required : {A : Type 0} → BadRequest → (Data → Option A) → Option Data → Result A BadRequest
+abbrev pub required : {A : Type 0} → BadRequest → (Data → Option A) → Option Data
+    → Result A BadRequest
 required bad f found = ok_or (option_and_then f found) bad
 
 -- a field that may be absent
-abbrev pub optional : {A : Type 0} → BadRequest → (Data → Option A) → Option Data → Result (Option A) BadRequest
+abbrev pub optional : {A : Type 0} → BadRequest → (Data → Option A) → Option Data
+    → Result (Option A) BadRequest
 optional bad f None = Ok None
 optional bad f (Some d) = ok_or (option_map Some (f d)) bad
 
 -- whether a request may have such a field
 abbrev pub is_field : List ℕ → Bool
 is_field name =
-    bytes_eq name (codes "documents") || bytes_eq name (codes "base") || bytes_eq name (codes "steps") || bytes_eq name (codes "remote")
-    || bytes_eq name (codes "meta") || bytes_eq name (codes "draft") || bytes_eq name (codes "limit") || bytes_eq name (codes "lint")
+    bytes_eq name (codes "documents") || bytes_eq name (codes "base")
+    || bytes_eq name (codes "steps") || bytes_eq name (codes "remote")
+    || bytes_eq name (codes "meta") || bytes_eq name (codes "draft")
+    || bytes_eq name (codes "limit") || bytes_eq name (codes "lint")
 
 -- each key names a field
 abbrev pub are_fields : Members → Bool
@@ -141,13 +150,23 @@ fields_of d = do
   draft ← optional bad.Draft draft_of (get (codes "draft") d)
   limit ← optional bad.Limit limit_of (get (codes "limit") d)
   lint ← optional bad.Lint lint_of (get (codes "lint") d)
-  Ok (record { documents = documents; base = base; steps = steps; remote = remote; meta = meta; draft = draft; limit = limit; lint = lint })
+  Ok (record {
+    documents = documents;
+    base = base;
+    steps = steps;
+    remote = remote;
+    meta = meta;
+    draft = draft;
+    limit = limit;
+    lint = lint;
+  })
 
 -- the request that a tree is, or why it is none
 unfoldable pub request_of : Data → Result Request BadRequest
 request_of d = do
   members ← ok_or (as_object d) bad.NotAnObject
-  (if has_float d then Err bad.Float else (if are_fields members then fields_of d else Err bad.UnknownField))
+  (if has_float d then Err bad.Float
+      else (if are_fields members then fields_of d else Err bad.UnknownField))
 
 -- the request that bytes are, or why they are none
 unfoldable pub read_request : List ℕ → Result Request BadRequest

@@ -6,6 +6,8 @@ use Rattle.ref_report.specs.Report.{Report, IsReport}
 
 -- The source gave some bytes, the sink took the text of the report on these, and the status is the report's.
 -- Where the source tells which bytes are left, those that it gave stood before them.
-abbrev pub Reports : Option (List ℕ) → Option (List ℕ) → Option (List ℕ) → Option (List ℕ) → Status → Type 0
+abbrev pub Reports : Option (List ℕ) → Option (List ℕ) → Option (List ℕ) → Option (List ℕ) → Status
+    → Type 0
 Reports left left' taken taken' status =
-    (bytes : List ℕ) × Consumes left left' bytes × (report : Report) × IsReport bytes report × Appends taken taken' report.text × (status ≡ report.status)
+    (bytes : List ℕ) × Consumes left left' bytes × (report : Report) × IsReport bytes report
+    × Appends taken taken' report.text × (status ≡ report.status)

@@ -24,8 +24,11 @@ above_parents parents (Ok layer) = Ok (layer ∷ parents)
 above_parents parents (Err fault) = Err fault
 
 -- the fault of the first text that means no URI, or else an outcome of preparing
-abbrev pub IsWorld : (List Pending → Given) → Result (List Pending) Refusal → Result World Fault → Type 0
-IsWorld given (Ok pending) world = (outcome : Result Layer Fault) × IsOutcome (given pending) outcome × (world ≡ above_parents (given pending).parents outcome)
+abbrev pub IsWorld : (List Pending → Given) → Result (List Pending) Refusal → Result World Fault
+    → Type 0
+IsWorld given (Ok pending) world =
+    (outcome : Result Layer Fault) × IsOutcome (given pending) outcome
+    × (world ≡ above_parents (given pending).parents outcome)
 IsWorld given (Err refusal) world = world ≡ Err (InvalidUri refusal)
 
 -- the parents of a request's documents: its meta-schemas, where it has some
@@ -36,7 +39,8 @@ AreParents (Some documents) parents = IsWorld given_of_meta_schemas (pending_of 
 -- A request's documents are prepared with its draft, and what they want is retrieved from its map, up to its limit.
 abbrev pub given_of_request : Request → World → List Pending → Given
 given_of_request r parents pending =
-    given_of_builder (map_retriever (unwrap_or r.remote [])) (unwrap_or r.limit 10000) r.draft parents pending
+    given_of_builder (map_retriever (unwrap_or r.remote []))
+    (unwrap_or r.limit 10000) r.draft parents pending
 
 -- the world of a request's documents above such parents, or the fault
 abbrev pub IsWorldAbove : Request → World → Result World Fault → Type 0

@@ -90,7 +90,8 @@ fn world_report(
     lint: Option<bool>,
 ) -> Result<Report, AllocError>
     requires { WorldHoldsNoFloat registry.now }
-    ensures { IfOk result (λ r. report_view r ≡ with_lines (lint_lines (unwrap_or lint false) registry.now)
+    ensures { IfOk result
+        (λ r. report_view r ≡ with_lines (lint_lines (unwrap_or lint false) registry.now)
         (followed_report (followed_steps registry.now base (map (step_in (builder_draft draft)) (map step_view steps.now))))) }
 {
     let draft = draft.unwrap_or(Draft::Draft202012);
@@ -107,7 +108,10 @@ fn followed_report(
     steps: &[referencing::Step<'_>],
 ) -> Result<Report, AllocError>
     requires { WorldHoldsNoFloat registry.now }
-    ensures { IfOk result (λ r. report_view r ≡ followed_report (followed_steps registry.now base (map following.step_of steps.now))) }
+    ensures { IfOk result
+        (λ r. report_view r
+        ≡ followed_report
+        (followed_steps registry.now base (map following.step_of steps.now))) }
 {
     match follow(alloc, registry, base, steps) {
         Ok(followed) => done_report(alloc, &followed),
@@ -122,7 +126,8 @@ fn linted(
     report: Report,
     lint: bool,
 ) -> Result<Report, AllocError>
-    ensures { IfOk result (λ r. report_view r ≡ with_lines (lint_lines lint registry.now) (report_view report)) }
+    ensures { IfOk result
+        (λ r. report_view r ≡ with_lines (lint_lines lint registry.now) (report_view report)) }
 {
     let Report { status, mut text } = report;
     if lint {
@@ -137,7 +142,8 @@ fn entered<'a>(
     draft: Draft,
     steps: &[Step<'a>],
 ) -> Result<Vec<referencing::Step<'a>>, AllocError>
-    ensures { IfOk result (λ v. map following.step_of v.items ≡ map (step_in draft) (map step_view steps.now)) }
+    ensures { IfOk result
+        (λ v. map following.step_of v.items ≡ map (step_in draft) (map step_view steps.now)) }
 {
     let mut entered = Vec::with_capacity(alloc, steps.len())?;
     for step in steps {

@@ -5,7 +5,8 @@ ghost use Rattle.ref_report.specs.Rows.{DraftRows};
 
 /// The bytes of a request have one report alone: what can be retrieved is a map, so preparing has one outcome.
 pub fn reports_are_one()
-    ensures law { (bytes : List ℕ) (one other : Report) → IsReport bytes one → IsReport bytes other → one ≡ other }
+    ensures law { (bytes : List ℕ) (one other : Report) → IsReport bytes one → IsReport bytes other
+        → one ≡ other }
 {}
 
 /// All bytes have a report: a bad request has one, and what can be retrieved is a map, which answers or refuses each URI, so

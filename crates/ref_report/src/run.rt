@@ -24,14 +24,19 @@ pub fn run<R: Source, W: Sink>(
     reader: &mut R,
     writer: &mut W,
 ) -> Result<Status, RunError>
-    // Where there is a status, the source is at its end and has no byte left, what was written is the report of all that was read, and the
-    // status is that of the report.
-    ensures reported { IfOk result (λ status. (IsTrue (R.ended reader.new) × IsAtEnd (R.remaining reader.new))
-        × Reports (R.remaining reader.old) (R.remaining reader.new) (W.taken writer.old) (W.taken writer.new) status) }
+    // Where there is a status, the source is at its end and has no byte left, what was written is the report of all
+    // that was read, and the status is that of the report.
+    ensures reported { IfOk result
+        (λ status. (IsTrue (R.ended reader.new) × IsAtEnd (R.remaining reader.new))
+        × Reports (R.remaining reader.old) (R.remaining reader.new) (W.taken writer.old)
+        (W.taken writer.new) status) }
     // A read that failed, and a write that failed: a failed read is never passed over.
-    ensures read { result ≡ Err RunError.Read → HasFailed (R.failures reader.old) (R.failures reader.new) }
-    ensures no_read_failed { result ≢ Err RunError.Read → R.failures reader.new ≡ R.failures reader.old }
-    ensures write { result ≡ Err RunError.Write → HasFailed (W.failures writer.old) (W.failures writer.new) }
+    ensures read { result ≡ Err RunError.Read
+        → HasFailed (R.failures reader.old) (R.failures reader.new) }
+    ensures no_read_failed { result ≢ Err RunError.Read
+        → R.failures reader.new ≡ R.failures reader.old }
+    ensures write { result ≡ Err RunError.Write
+        → HasFailed (W.failures writer.old) (W.failures writer.new) }
     // Without a status and without a failed write nothing was written.
     ensures nothing_written { IfErr result (λ e. e ≢ RunError.Write → writer.new ≡ writer.old) }
 {

@@ -20,8 +20,11 @@ pub fn parent_of<'m>(
     alloc: Global,
     meta: &'m Option<Vec<Document<'m>>>,
 ) -> Result<Option<Registry<'m>>, Error>
-    ensures ok { IfOk result (λ parent. AreParents (option_map (λ v. documents_view v.items) meta.now) (Ok (unwrap_or parent []))) }
-    ensures fault { IfErr result (IsErrorOf (AreParents (option_map (λ v. documents_view v.items) meta.now))) }
+    ensures ok { IfOk result
+        (λ parent. AreParents (option_map (λ v. documents_view v.items) meta.now)
+        (Ok (unwrap_or parent []))) }
+    ensures fault { IfErr result
+        (IsErrorOf (AreParents (option_map (λ v. documents_view v.items) meta.now))) }
 {
     match meta {
         Some(documents) => {
@@ -42,8 +45,19 @@ pub fn world_of<'b>(
     draft: Option<Draft>,
     limit: Option<u64>,
 ) -> Result<Registry<'b>, Error>
-    ensures ok { IfOk result (λ world. IsWorld (given_of_builder (map_retriever (unwrap_or (option_map (λ v. trees_of v.items) remote) [])) (unwrap_or limit 10000) draft (unwrap_or parent.now [])) (pending_of (documents_view documents.entry.items)) (Ok world)) }
-    ensures fault { IfErr result (IsErrorOf (IsWorld (given_of_builder (map_retriever (unwrap_or (option_map (λ v. trees_of v.items) remote) [])) (unwrap_or limit 10000) draft (unwrap_or parent.now [])) (pending_of (documents_view documents.entry.items)))) }
+    ensures ok { IfOk result
+        (λ world. IsWorld
+        (given_of_builder
+        (map_retriever (unwrap_or (option_map (λ v. trees_of v.items) remote) []))
+        (unwrap_or limit 10000) draft (unwrap_or parent.now []))
+        (pending_of (documents_view documents.entry.items)) (Ok world)) }
+    ensures fault { IfErr result
+        (IsErrorOf
+        (IsWorld
+        (given_of_builder
+        (map_retriever (unwrap_or (option_map (λ v. trees_of v.items) remote) []))
+        (unwrap_or limit 10000) draft (unwrap_or parent.now []))
+        (pending_of (documents_view documents.entry.items)))) }
 {
     let builder = builder_of(alloc, parent, documents)?;
     let retriever = retriever_of(alloc, remote)?;
@@ -56,8 +70,13 @@ fn builder_of<'b>(
     parent: &'b Option<Registry<'_>>,
     documents: Vec<Document<'b>>,
 ) -> Result<RegistryBuilder<'b>, Error>
-    ensures ok { IfOk result (λ b. inner.Holds (unwrap_or parent.now []) (documents_view documents.entry.items) (builder_of b)) }
-    ensures fault { IfErr result (IsErrorOf (λ answer. as_invalid_uri (pending_of (documents_view documents.entry.items)) ≡ answer)) }
+    ensures ok { IfOk result
+        (λ b. inner.Holds (unwrap_or parent.now []) (documents_view documents.entry.items)
+        (builder_of b)) }
+    ensures fault { IfErr result
+        (IsErrorOf
+        (λ answer. as_invalid_uri (pending_of (documents_view documents.entry.items))
+        ≡ answer)) }
 {
     match parent {
         Some(parent) => parent.extend(alloc, documents),
@@ -70,7 +89,9 @@ fn retriever_of(
     alloc: Global,
     remote: Option<Vec<(Uri, Value)>>,
 ) -> Result<MapRetriever, AllocError>
-    ensures { IfOk result (λ retriever. trees_of retriever ≡ unwrap_or (option_map (λ v. trees_of v.items) remote) []) }
+    ensures { IfOk result
+        (λ retriever. trees_of retriever
+        ≡ unwrap_or (option_map (λ v. trees_of v.items) remote) []) }
 {
     let pairs = match remote {
         Some(pairs) => pairs,
@@ -86,7 +107,8 @@ fn retrieving<'b>(
     limit: Option<u64>,
     draft: Option<Draft>,
 ) -> RegistryBuilder<'b, MapRetriever>
-    ensures { builder_of result ≡ inner.retrieving_from_map retriever limit draft (builder_of builder.entry) }
+    ensures { builder_of result
+        ≡ inner.retrieving_from_map retriever limit draft (builder_of builder.entry) }
 {
     let builder = limited(builder.retriever(retriever), limit);
     match draft {
@@ -99,7 +121,9 @@ fn limited<'b>(
     builder: RegistryBuilder<'b, MapRetriever>,
     limit: Option<u64>,
 ) -> RegistryBuilder<'b, MapRetriever>
-    ensures { builder_of result ≡ inner.retrieving_from_map (builder_of builder.entry).retriever limit (builder_of builder.entry).draft (builder_of builder.entry) }
+    ensures { builder_of result
+        ≡ inner.retrieving_from_map (builder_of builder.entry).retriever limit
+        (builder_of builder.entry).draft (builder_of builder.entry) }
 {
     match limit {
         Some(limit) => builder.retrieval_limit(limit as usize),

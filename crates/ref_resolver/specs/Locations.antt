@@ -23,4 +23,5 @@ IsWhere w answer l = (found : Found) × (answer ≡ Ok found) × StandsAt w l fo
 
 -- a walk along a pointer ends at a value, which a path from a start leads to; for private clauses
 abbrev pub EndsAt : {A : Type 0} → Data → List JsonPointerSegment → Result (Data × A) Fault → Type 0
-EndsAt {A = A} start path answer = (at : Data × A) × (answer ≡ Ok at) × (value_at start (map part_of path) ≡ Some at.0)
+EndsAt {A = A} start path answer =
+    (at : Data × A) × (answer ≡ Ok at) × (value_at start (map part_of path) ≡ Some at.0)

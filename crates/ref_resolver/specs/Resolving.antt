@@ -22,7 +22,8 @@ world_of r = world_in r.layers
 
 -- what a lookup found: the value, its draft, and the resolver there
 abbrev pub found_of : Resolved → world.Found
-found_of r = record { value = view r.contents.now; draft = r.draft; resolver = resolver_of r.resolver }
+found_of r =
+    record { value = view r.contents.now; draft = r.draft; resolver = resolver_of r.resolver }
 
 -- the world of its registry
 abbrev pub world_found : Resolved → World
@@ -30,7 +31,8 @@ world_found r = world_of r.resolver
 
 -- where a pointer leads in a resource of a draft that a resolver is at
 abbrev pub at_pointer : world.Resolver → Draft → List ℕ → Data → List ℕ → Result world.Found Fault
-at_pointer r draft pointer value text = pointed_value draft pointer r.base value text >>= λ to. Ok (world.pointer_found r draft to)
+at_pointer r draft pointer value text =
+    pointed_value draft pointer r.base value text >>= λ to. Ok (world.pointer_found r draft to)
 
 -- a value of a draft that an anchor names under a URI: its identifier is resolved against that URI
 abbrev pub under_uri : world.Resolver → List ℕ → Draft → Data → Result world.Found Fault

@@ -16,7 +16,8 @@ use std::alloc::{AllocError, Global};
 impl<'r> Layers<'r> {
     // The value that a URI means.
     fn value_under(&self, uri: &str) -> Option<&'r Value>
-        ensures { option_map (λ v. view v.now) result ≡ option_map (λ p. p.value) (meant_place (world_in self.now) uri.now) }
+        ensures { option_map (λ v. view v.now) result
+            ≡ option_map (λ p. p.value) (meant_place (world_in self.now) uri.now) }
     {
         let place = self.resource(uri)?;
         Some(place.value)
@@ -25,21 +26,22 @@ impl<'r> Layers<'r> {
     /// The vocabularies of a schema that is read by a draft (2020-12 Core, 8.1.1 and 8.1.2). The schema's own draft is that of
     /// its text under `$schema`, or else the one that it is read by.
     ///
-    /// Where its own draft is known, they are [`default_vocabularies`](ref_vocabularies::default_vocabularies) of the draft
-    /// that it is read by. Else they are those that the value under the URI of its `$schema`, without the fragment, declares, as
-    /// [`find`](ref_vocabularies::find) has them. They are the default ones of [`Draft::Unknown`] where there is no such text,
-    /// where it is no URI reference or means no place in any layer, where the value declares none, and where one of its keys is
-    /// refused.
+    /// Where its own draft is known, they are [`default_vocabularies`](ref_vocabularies::default_vocabularies) of the
+    /// draft that it is read by. Else they are those that the value under the URI of its `$schema`, without the
+    /// fragment, declares, as [`find`](ref_vocabularies::find) has them. They are the default ones of
+    /// [`Draft::Unknown`] where there is no such text, where it is no URI reference or means no place in any layer,
+    /// where the value declares none, and where one of its keys is refused.
     ///
-    /// Fails only where memory is refused, which it takes for the URI and for custom vocabularies. A look-up for each layer, and
-    /// what `find` takes.
+    /// Fails only where memory is refused, which it takes for the URI and for custom vocabularies. A look-up for each
+    /// layer, and what `find` takes.
     pub fn find_vocabularies(
         &self,
         alloc: Global,
         draft: Draft,
         contents: &Value,
     ) -> Result<VocabularySet, AllocError>
-        ensures value { IfOk result (λ set. set ≡ find_vocabularies (world_in self.now) draft (view contents.now)) }
+        ensures value { IfOk result
+            (λ set. set ≡ find_vocabularies (world_in self.now) draft (view contents.now)) }
     {
         match Dialect::of(alloc, draft, contents)? {
             Dialect::Known(set) => Ok(set),
@@ -60,7 +62,10 @@ impl<'r> Resolver<'r> {
         draft: Draft,
         contents: &Value,
     ) -> Result<VocabularySet, AllocError>
-        ensures value { IfOk result (λ set. set ≡ find_vocabularies_at (world_of self.now) (resolver_of self.now).base draft (view contents.now)) }
+        ensures value { IfOk result
+            (λ set. set
+            ≡ find_vocabularies_at (world_of self.now) (resolver_of self.now).base draft
+            (view contents.now)) }
     {
         if contents.get("$schema").is_some() {
             return self.layers.find_vocabularies(alloc, draft, contents);

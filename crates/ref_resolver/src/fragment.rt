@@ -1,4 +1,5 @@
-//! What a fragment means in the resource at a place: what a pointer leads to, or what an anchor names, a dynamic one by the dynamic scope.
+//! What a fragment means in the resource at a place: what a pointer leads to, or what an anchor names, a dynamic one by
+//! the dynamic scope.
 ghost use Rattle.std.specs.Prelude.{◌≡◌, [], ◌∷◌, List, ℕ, IfOk, IfErr, MatchOption, None, Ok};
 ghost use Rattle.std.specs.Result.{result_ok};
 ghost use Rattle.serde_json.specs.View.{view};
@@ -44,8 +45,10 @@ pub(crate) fn not_named(alloc: Global, name: &str) -> Error
 
 // The base of the place that a URI means, where that place has an identifier.
 pub(crate) fn identified_base<'r>(layers: &Layers<'r>, uri: &str) -> Option<&'r str>
-    ensures { (name : List ℕ) → MatchOption result (named_by_identifier (world_in layers.now) uri.now name ≡ None)
-        (λ base. named_by_identifier (world_in layers.now) uri.now name ≡ named_entry (world_in layers.now) base.now name) }
+    ensures { (name : List ℕ)
+        → MatchOption result (named_by_identifier (world_in layers.now) uri.now name ≡ None)
+        (λ base. named_by_identifier (world_in layers.now) uri.now name
+        ≡ named_entry (world_in layers.now) base.now name) }
 {
     let place = layers.resource(uri)?;
     if ResourceRef::new(place.value, place.entry.draft)
@@ -59,7 +62,8 @@ pub(crate) fn identified_base<'r>(layers: &Layers<'r>, uri: &str) -> Option<&'r 
 
 // The entry of a name under the base of the place that a URI means, where that place has an identifier.
 fn named_by_identifier<'r>(layers: &Layers<'r>, uri: &str, name: &str) -> Option<LocatedName<'r>>
-    ensures { MatchOption result (named_by_identifier (world_in layers.now) uri.now name.now ≡ None) (IsNamed (named_by_identifier (world_in layers.now) uri.now name.now)) }
+    ensures { MatchOption result (named_by_identifier (world_in layers.now) uri.now name.now ≡ None)
+        (IsNamed (named_by_identifier (world_in layers.now) uri.now name.now)) }
 {
     layers.named(identified_base(layers, uri)?, name)
 }
@@ -67,7 +71,9 @@ fn named_by_identifier<'r>(layers: &Layers<'r>, uri: &str, name: &str) -> Option
 // The entry that a name under a URI means: the one there, or else the one under the base of the place there.
 #[inline(always)]
 pub(crate) fn meaning<'r>(layers: &Layers<'r>, uri: &str, name: &str) -> Option<LocatedName<'r>>
-    ensures { MatchOption result (anchor (world_in layers.now) uri.now name.now ≡ Err (not_named name.now)) (IsNamed (result_ok (anchor (world_in layers.now) uri.now name.now))) }
+    ensures { MatchOption result
+        (anchor (world_in layers.now) uri.now name.now ≡ Err (not_named name.now))
+        (IsNamed (result_ok (anchor (world_in layers.now) uri.now name.now))) }
 {
     match layers.named(uri, name) {
         Some(found) => Some(found),
@@ -85,7 +91,8 @@ fn dynamic_under<'r>(
     name: &str,
 ) -> Result<Option<Located<'r>>, Error>
     ensures ok { IfOk result (IsDynamicUnder (world_in layers.now) uri.now name.now) }
-    ensures fault { IfErr result (IsFaultOf (dynamic_under (world_in layers.now) uri.now name.now)) }
+    ensures fault { IfErr result
+        (IsFaultOf (dynamic_under (world_in layers.now) uri.now name.now)) }
 {
     match meaning(layers, uri, name) {
         Some(found) if found.named.is_dynamic => Ok(Some(found.place)),
@@ -112,9 +119,15 @@ pub(crate) fn under_uri<'r>(
     uri: &Uri,
     place: Located<'r>,
 ) -> Result<Resolved<'r>, Error>
-    ensures ok { IfOk result (λ found. under_uri (resolver_of resolver.now) uri.now place.entry.entry.now.draft (view place.entry.value.now) ≡ Ok (found_of found)) }
+    ensures ok { IfOk result
+        (λ found. under_uri (resolver_of resolver.now) uri.now place.entry.entry.now.draft
+        (view place.entry.value.now)
+        ≡ Ok (found_of found)) }
     ensures world { IfOk result (λ found. world_found found ≡ world_of resolver.now) }
-    ensures fault { IfErr result (IsFaultOf (under_uri (resolver_of resolver.now) uri.now place.entry.entry.now.draft (view place.entry.value.now))) }
+    ensures fault { IfErr result
+        (IsFaultOf
+        (under_uri (resolver_of resolver.now) uri.now place.entry.entry.now.draft
+        (view place.entry.value.now))) }
 {
     let draft = place.entry.draft;
     let base = match ResourceRef::new(place.value, draft).id() {
@@ -133,9 +146,14 @@ pub(crate) fn outermost<'s, 'r>(
     first: Located<'r>,
 ) -> Result<(&'s Uri, Located<'r>), Error>
     ensures ok { (n : Named) → IsLocated first.entry n.place
-        → IfOk result (λ found. IsOutermost (world_of resolver.now) (resolver_of resolver.now) n name.now found.0.now found.1) }
+        → IfOk result
+        (λ found. IsOutermost (world_of resolver.now)
+        (resolver_of resolver.now) n name.now found.0.now found.1) }
     ensures fault { (n : Named) → IsLocated first.entry n.place
-        → IfErr result (IsFaultOf (by_scope (resolver_of resolver.now) n (in_scope (world_of resolver.now) name.now (resolver_of resolver.now).scope))) }
+        → IfErr result
+        (IsFaultOf
+        (by_scope (resolver_of resolver.now) n
+        (in_scope (world_of resolver.now) name.now (resolver_of resolver.now).scope))) }
 {
     let mut uri: &Uri = &resolver.base;
     let mut place = first;
@@ -151,7 +169,8 @@ pub(crate) fn outermost<'s, 'r>(
 // What a plain anchor's name leads to: its place.
 #[inline(always)]
 pub(crate) fn plain_found<'r>(resolver: Resolver<'r>, place: Located<'r>) -> Resolved<'r>
-    ensures found { (world : World) (n : Named) → n.kind ≡ Plain → IsLocated place.entry n.place → named_found world (resolver_of resolver.entry) n n.kind ≡ Ok (found_of result) }
+    ensures found { (world : World) (n : Named) → n.kind ≡ Plain → IsLocated place.entry n.place
+        → named_found world (resolver_of resolver.entry) n n.kind ≡ Ok (found_of result) }
     ensures world { world_found result ≡ world_of resolver.entry }
 {
     at_value(place.value, place.entry.draft, resolver)
@@ -164,7 +183,12 @@ pub(crate) fn at_value<'r>(
     draft: Draft,
     resolver: Resolver<'r>,
 ) -> Resolved<'r>
-    ensures found { found_of result ≡ record { value = view contents.now; draft = draft; resolver = resolver_of resolver.entry } }
+    ensures found { found_of result
+        ≡ record {
+          value = view contents.now;
+          draft = draft;
+          resolver = resolver_of resolver.entry;
+        } }
     ensures world { world_found result ≡ world_of resolver.entry }
 {
     Resolved {
@@ -174,8 +198,8 @@ pub(crate) fn at_value<'r>(
     }
 }
 
-// What a pointer leads to in the resource at a place, where `text` is the fragment after its first `/`. Its many values stay out of
-// the look-up of whole resources.
+// What a pointer leads to in the resource at a place, where `text` is the fragment after its first `/`. Its many values
+// stay out of the look-up of whole resources.
 #[inline(never)]
 pub(crate) fn at_pointer<'r>(
     alloc: Global,
@@ -184,9 +208,15 @@ pub(crate) fn at_pointer<'r>(
     pointer: &str,
     text: &str,
 ) -> Result<Resolved<'r>, Error>
-    ensures ok { IfOk result (λ found. at_pointer (resolver_of resolver.entry) place.entry.entry.now.draft pointer.now (view place.entry.value.now) text.now ≡ Ok (found_of found)) }
+    ensures ok { IfOk result
+        (λ found. at_pointer (resolver_of resolver.entry) place.entry.entry.now.draft pointer.now
+        (view place.entry.value.now) text.now
+        ≡ Ok (found_of found)) }
     ensures world { IfOk result (λ found. world_found found ≡ world_of resolver.entry) }
-    ensures fault { IfErr result (IsFaultOf (at_pointer (resolver_of resolver.entry) place.entry.entry.now.draft pointer.now (view place.entry.value.now) text.now)) }
+    ensures fault { IfErr result
+        (IsFaultOf
+        (at_pointer (resolver_of resolver.entry) place.entry.entry.now.draft pointer.now
+        (view place.entry.value.now) text.now)) }
 {
     let draft = place.entry.draft;
     let Resolver {

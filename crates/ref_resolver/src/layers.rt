@@ -38,7 +38,8 @@ impl<'r> Layers<'r> {
     /// The place that a URI means. A look-up for each layer, up to the first that has it; takes no memory.
     #[inline(always)]
     pub(crate) fn resource(&self, uri: &str) -> Option<Located<'r>>
-        ensures value { MatchOption result (meant_place (world_in self.now) uri.now ≡ None) (IsMeant (meant_place (world_in self.now) uri.now)) }
+        ensures value { MatchOption result (meant_place (world_in self.now) uri.now ≡ None)
+            (IsMeant (meant_place (world_in self.now) uri.now)) }
     {
         match resource_in(self.own, uri) {
             Some(place) => Some(place),
@@ -49,10 +50,11 @@ impl<'r> Layers<'r> {
         }
     }
 
-    /// The place that a URI means, with the number of its layer: 0 for the own documents, and parents counted from 1. A look-up for each
-    /// layer, up to the first that has it; takes no memory.
+    /// The place that a URI means, with the number of its layer: 0 for the own documents, and parents counted from 1. A
+    /// look-up for each layer, up to the first that has it; takes no memory.
     pub(crate) fn numbered_resource(&self, uri: &str) -> Option<Numbered<'r>>
-        ensures value { MatchOption result (meant_place (world_in self.now) uri.now ≡ None) (IsMeantAt (world_in self.now) (meant_place (world_in self.now) uri.now)) }
+        ensures value { MatchOption result (meant_place (world_in self.now) uri.now ≡ None)
+            (IsMeantAt (world_in self.now) (meant_place (world_in self.now) uri.now)) }
     {
         let Some(place) = resource_in(self.own, uri) else {
             return resource_above(self.parents, uri);
@@ -60,12 +62,13 @@ impl<'r> Layers<'r> {
         Some(Numbered { layer: 0, place })
     }
 
-    /// The place that a URI means. Where a place is given, it is that one; else there is a look-up for each layer, up to the first that has
-    /// it. Takes no memory.
+    /// The place that a URI means. Where a place is given, it is that one; else there is a look-up for each layer, up
+    /// to the first that has it. Takes no memory.
     #[inline(always)]
     pub(crate) fn resource_or(&self, known: Option<Located<'r>>, uri: &str) -> Option<Located<'r>>
         requires known { IfSome known (IsMeant (meant_place (world_in self.now) uri.now)) }
-        ensures value { MatchOption result (meant_place (world_in self.now) uri.now ≡ None) (IsMeant (meant_place (world_in self.now) uri.now)) }
+        ensures value { MatchOption result (meant_place (world_in self.now) uri.now ≡ None)
+            (IsMeant (meant_place (world_in self.now) uri.now)) }
     {
         match known {
             Some(place) => Some(place),
@@ -83,7 +86,8 @@ impl<'r> Layers<'r> {
     /// The place that an anchor names under a URI. A look-up for each layer, up to the first that has it; takes no memory.
     #[inline(always)]
     pub(crate) fn named(&self, uri: &str, name: &str) -> Option<LocatedName<'r>>
-        ensures value { MatchOption result (named_entry (world_in self.now) uri.now name.now ≡ None) (IsNamed (named_entry (world_in self.now) uri.now name.now)) }
+        ensures value { MatchOption result (named_entry (world_in self.now) uri.now name.now ≡ None)
+            (IsNamed (named_entry (world_in self.now) uri.now name.now)) }
     {
         match named_in(self.own, uri, name) {
             Some(place) => Some(place),
@@ -97,10 +101,11 @@ impl<'r> Layers<'r> {
         }
     }
 
-    /// The place that an anchor names under a URI, with the number of its layer, counted so. A look-up for each layer, up to the first
-    /// that has it; takes no memory.
+    /// The place that an anchor names under a URI, with the number of its layer, counted so. A look-up for each layer,
+    /// up to the first that has it; takes no memory.
     pub(crate) fn numbered_name(&self, uri: &str, name: &str) -> Option<NumberedName<'r>>
-        ensures value { MatchOption result (named_entry (world_in self.now) uri.now name.now ≡ None) (IsNamedAt (world_in self.now) (named_entry (world_in self.now) uri.now name.now)) }
+        ensures value { MatchOption result (named_entry (world_in self.now) uri.now name.now ≡ None)
+            (IsNamedAt (world_in self.now) (named_entry (world_in self.now) uri.now name.now)) }
     {
         let Some(found) = named_in(self.own, uri, name) else {
             return named_above(self.parents, uri, name);
@@ -121,7 +126,8 @@ impl<'r> Layers<'r> {
     }
 
     /// The URI that a text means against a base (RFC 3986, 5.2), in normal form, whatever was resolved before. Where it
-    /// was, the code takes no memory, which no clause says. Refuses as `InvalidUri` a base without a scheme and a text that is no URI reference, and as `Memory`.
+    /// was, the code takes no memory, which no clause says. Refuses as `InvalidUri` a base without a scheme and a text
+    /// that is no URI reference, and as `Memory`.
     #[inline(always)]
     pub fn resolve_uri(&self, alloc: Global, base: UriRef<'_>, uri: &str) -> Result<Rc<Uri>, Error>
         ensures ok { IfOk result (λ u. uri_against base.entry uri.now ≡ Ok u.value) }
@@ -133,8 +139,8 @@ impl<'r> Layers<'r> {
         }
     }
 
-    /// The URI that a text means against a base, as `resolve_uri` gives it, and the place that it means, where the index of the own
-    /// documents has that beside the URI, or finds it under the text.
+    /// The URI that a text means against a base, as `resolve_uri` gives it, and the place that it means, where the
+    /// index of the own documents has that beside the URI, or finds it under the text.
     #[inline(always)]
     pub(crate) fn resolve_place(
         &self,
@@ -143,7 +149,8 @@ impl<'r> Layers<'r> {
         uri: &str,
     ) -> Result<(Rc<Uri>, Option<Located<'r>>), Error>
         ensures ok { IfOk result (λ t. uri_against base.entry uri.now ≡ Ok t.0.value) }
-        ensures place { IfOk result (λ t. IfSome t.1 (IsMeant (meant_place (world_in self.now) t.0.value))) }
+        ensures place { IfOk result
+            (λ t. IfSome t.1 (IsMeant (meant_place (world_in self.now) t.0.value))) }
         ensures fault { IfErr result (IsFaultOf (as_invalid_uri (uri_against base.entry uri.now))) }
     {
         if let Some(found) = self.own.resolved(base.as_str(), uri) {
@@ -156,7 +163,8 @@ impl<'r> Layers<'r> {
         self.resolve_anew(alloc, base, uri)
     }
 
-    // The same where no layer has resolved the text: a URI that identifies a place of the own documents, in normal form, needn't be resolved.
+    // The same where no layer has resolved the text: a URI that identifies a place of the own documents, in normal
+    // form, needn't be resolved.
     #[inline(never)]
     fn resolve_anew(
         &self,
@@ -165,7 +173,8 @@ impl<'r> Layers<'r> {
         uri: &str,
     ) -> Result<(Rc<Uri>, Option<Located<'r>>), Error>
         ensures ok { IfOk result (λ t. uri_against base.entry uri.now ≡ Ok t.0.value) }
-        ensures place { IfOk result (λ t. IfSome t.1 (IsMeant (meant_place (world_in self.now) t.0.value))) }
+        ensures place { IfOk result
+            (λ t. IfSome t.1 (IsMeant (meant_place (world_in self.now) t.0.value))) }
         ensures fault { IfErr result (IsFaultOf (as_invalid_uri (uri_against base.entry uri.now))) }
     {
         if base.has_scheme() {

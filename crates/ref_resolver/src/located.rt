@@ -46,7 +46,8 @@ pub struct NumberedName<'r> {
 // The place of an entry.
 #[inline(always)]
 fn place_at<'r>(index: &'r Index<'r>, entry: &'r Entry<'r>) -> Option<Located<'r>>
-    ensures { (p : Place) → IsEntryOf index.now entry.now p → MatchOption result ⊥ (λ l. IsLocatedIn index.now l p) }
+    ensures { (p : Place) → IsEntryOf index.now entry.now p
+        → MatchOption result ⊥ (λ l. IsLocatedIn index.now l p) }
 {
     let value = index.value(entry)?;
     Some(Located { value, entry })
@@ -76,7 +77,8 @@ pub(crate) fn resource_in<'r>(index: &'r Index<'r>, uri: &str) -> Option<Located
 /// The place that a URI means in the documents of parents, nearest first, whose layers are counted from 1. A look-up for each;
 /// takes no memory.
 pub(crate) fn resource_above<'r>(parents: &'r [&'r Index<'r>], uri: &str) -> Option<Numbered<'r>>
-    ensures value { (own : Layer) → MatchOption result (meant_place (map (λ p. p.now) parents.now) uri.now ≡ None)
+    ensures value { (own : Layer)
+        → MatchOption result (meant_place (map (λ p. p.now) parents.now) uri.now ≡ None)
         (IsMeantAt (own ∷ map (λ p. p.now) parents.now) (meant_place (map (λ p. p.now) parents.now) uri.now)) }
 {
     let mut number = 0;
@@ -123,7 +125,8 @@ pub(crate) fn named_above<'r>(
     uri: &str,
     name: &str,
 ) -> Option<NumberedName<'r>>
-    ensures value { (own : Layer) → MatchOption result (named_entry (map (λ p. p.now) parents.now) uri.now name.now ≡ None)
+    ensures value { (own : Layer)
+        → MatchOption result (named_entry (map (λ p. p.now) parents.now) uri.now name.now ≡ None)
         (IsNamedAt (own ∷ map (λ p. p.now) parents.now) (named_entry (map (λ p. p.now) parents.now) uri.now name.now)) }
 {
     let mut number = 0;
@@ -138,7 +141,11 @@ pub(crate) fn named_above<'r>(
 
 // What was found in the layer with a number.
 pub(crate) fn with_layer<'r>(layer: usize, found: LocatedName<'r>) -> NumberedName<'r>
-    ensures { result ≡ record { named = found.entry.named; place = record { layer = layer; place = found.entry.place } } }
+    ensures { result
+        ≡ record {
+          named = found.entry.named;
+          place = record { layer = layer; place = found.entry.place };
+        } }
 {
     NumberedName {
         named: found.named,

@@ -46,8 +46,8 @@ use std::rc::Rc;
 pub struct Location<'r> {
     /// The layer of its document: 0 for the registry's own documents, and then its parents, of which the nearest is 1.
     pub layer: usize,
-    /// The number of its document in that layer, counted from 0 in the order in which their URIs were first added, and after them
-    /// those retrieved.
+    /// The number of its document in that layer, counted from 0 in the order in which their URIs were first added, and
+    /// after them those retrieved.
     pub document: usize,
     /// Its path in the document.
     pub path: Vec<JsonPointerSegment<'r>>,
@@ -76,7 +76,8 @@ fn lent<'p>(alloc: Global, path: &'p [PathPart]) -> Result<Vec<JsonPointerSegmen
 
 // Where a place is.
 fn location_of<'r>(alloc: Global, found: Numbered<'r>) -> Result<Location<'r>, AllocError>
-    ensures { (w : World) (p : Place) → IsLocatedAt w found.entry p → IfOk result (λ l. StandsAt w l p.value) }
+    ensures { (w : World) (p : Place) → IsLocatedAt w found.entry p
+        → IfOk result (λ l. StandsAt w l p.value) }
 {
     let entry = found.place.entry;
     let path = lent(alloc, entry.path.as_slice())?;
@@ -89,7 +90,10 @@ fn location_of<'r>(alloc: Global, found: Numbered<'r>) -> Result<Location<'r>, A
 
 // The entry that a name under a URI means, as `meaning` has it, with the number of its layer.
 fn numbered_meaning<'r>(layers: &Layers<'r>, uri: &str, name: &str) -> Option<NumberedName<'r>>
-    ensures { MatchOption result (anchor (world_in layers.now) uri.now name.now ≡ Err (not_named name.now)) (IsNamedAt (world_in layers.now) (result_ok (anchor (world_in layers.now) uri.now name.now))) }
+    ensures { MatchOption result
+        (anchor (world_in layers.now) uri.now name.now ≡ Err (not_named name.now))
+        (IsNamedAt (world_in layers.now)
+        (result_ok (anchor (world_in layers.now) uri.now name.now))) }
 {
     match layers.numbered_name(uri, name) {
         Some(found) => Some(found),
@@ -111,7 +115,8 @@ fn segment_of<'p>(
     value: &Value,
     token: &str,
 ) -> Result<JsonPointerSegment<'p>, AllocError>
-    ensures { (pointer : List ℕ) (s : Part × Data) → step_into pointer (view value.now) token.now ≡ Ok s
+    ensures { (pointer : List ℕ) (s : Part × Data)
+        → step_into pointer (view value.now) token.now ≡ Ok s
         → IfOk result (λ segment. part_of segment ≡ s.0) }
 {
     if !value.is_array() {
@@ -130,7 +135,8 @@ fn push_part(
     value: &Value,
     token: &str,
 ) -> Result<(), AllocError>
-    ensures { (pointer : List ℕ) (s : Part × Data) → step_into pointer (view value.now) token.now ≡ Ok s
+    ensures { (pointer : List ℕ) (s : Part × Data)
+        → step_into pointer (view value.now) token.now ≡ Ok s
         → OnOk result (map part_of path.new.items ≡ map part_of path.old.items ++ s.0 ∷ []) }
 {
     let segment = segment_of(alloc, value, token)?;
@@ -146,10 +152,17 @@ fn step_on<'v, 't>(
     path: &mut Vec<JsonPointerSegment<'_>>,
     token: &'t str,
 ) -> Result<Along<'v, 't>, Error>
-    ensures ok { IfOk result (λ a. stepped_along walk.now.draft walk.now.pointer.now (along_of along.entry) (view along.entry.value.now) token.now ≡ Ok (view a.value.now, along_of a)) }
-    ensures path { (start : Data) → value_at start (map part_of path.old.items) ≡ Some (view along.entry.value.now)
+    ensures ok { IfOk result
+        (λ a. stepped_along walk.now.draft walk.now.pointer.now (along_of along.entry)
+        (view along.entry.value.now) token.now
+        ≡ Ok (view a.value.now, along_of a)) }
+    ensures path { (start : Data)
+        → value_at start (map part_of path.old.items) ≡ Some (view along.entry.value.now)
         → IfOk result (λ a. value_at start (map part_of path.new.items) ≡ Some (view a.value.now)) }
-    ensures fault { IfErr result (IsFaultOf (stepped_along walk.now.draft walk.now.pointer.now (along_of along.entry) (view along.entry.value.now) token.now)) }
+    ensures fault { IfErr result
+        (IsFaultOf
+        (stepped_along walk.now.draft walk.now.pointer.now (along_of along.entry)
+        (view along.entry.value.now) token.now)) }
 {
     push_part(alloc, path, along.value, token)?;
     step(alloc, walk, along, token)
@@ -164,9 +177,17 @@ fn walk_on(
     path: &mut Vec<JsonPointerSegment<'_>>,
     text: &str,
 ) -> Result<(), Error>
-    ensures ok { (start : Data) → value_at start (map part_of path.old.items) ≡ Some (view value.now)
-        → OnOk result (EndsAt start path.new.items (walked_along walk.entry.draft walk.entry.pointer.now (record { base = base.value; since = [] }) (view value.now) (tokens text.now))) }
-    ensures fault { IfErr result (IsFaultOf (walked_along walk.entry.draft walk.entry.pointer.now (record { base = base.value; since = [] }) (view value.now) (tokens text.now))) }
+    ensures ok { (start : Data)
+        → value_at start (map part_of path.old.items) ≡ Some (view value.now)
+        → OnOk result
+        (EndsAt start path.new.items
+        (walked_along walk.entry.draft walk.entry.pointer.now
+        (record { base = base.value; since = [] }) (view value.now)
+        (tokens text.now))) }
+    ensures fault { IfErr result
+        (IsFaultOf
+        (walked_along walk.entry.draft walk.entry.pointer.now
+        (record { base = base.value; since = [] }) (view value.now) (tokens text.now))) }
 {
     let mut along = Along {
         value,
@@ -191,9 +212,16 @@ fn follow_on(
     path: &mut Vec<JsonPointerSegment<'_>>,
     text: &str,
 ) -> Result<(), Error>
-    ensures ok { (start : Data) → value_at start (map part_of path.old.items) ≡ Some (view value.now)
-        → OnOk result (EndsAt start path.new.items (pointed_value walk.entry.draft walk.entry.pointer.now base.value (view value.now) text.now)) }
-    ensures fault { IfErr result (IsFaultOf (pointed_value walk.entry.draft walk.entry.pointer.now base.value (view value.now) text.now)) }
+    ensures ok { (start : Data)
+        → value_at start (map part_of path.old.items) ≡ Some (view value.now)
+        → OnOk result
+        (EndsAt start path.new.items
+        (pointed_value walk.entry.draft walk.entry.pointer.now base.value
+        (view value.now) text.now)) }
+    ensures fault { IfErr result
+        (IsFaultOf
+        (pointed_value walk.entry.draft walk.entry.pointer.now base.value
+        (view value.now) text.now)) }
 {
     match percent_decode(text.as_bytes()).decode_utf8(alloc) {
         Ok(decoded) => walk_on(alloc, walk, base, value, path, decoded.as_str()),
@@ -211,10 +239,17 @@ fn location_along<'r>(
     pointer: &str,
     text: &str,
 ) -> Result<Location<'r>, Error>
-    ensures ok { (r : Start) (p : Place) → r.base ≡ base.value → IsLocatedAt (world_in layers.entry) found.entry p
-        → IfOk result (IsWhere (world_in layers.entry) (at_pointer r found.entry.place.entry.now.draft pointer.now (view found.entry.place.value.now) text.now)) }
+    ensures ok { (r : Start) (p : Place) → r.base ≡ base.value
+        → IsLocatedAt (world_in layers.entry) found.entry p
+        → IfOk result
+        (IsWhere (world_in layers.entry)
+        (at_pointer r found.entry.place.entry.now.draft pointer.now
+        (view found.entry.place.value.now) text.now)) }
     ensures fault { (r : Start) → r.base ≡ base.value
-        → IfErr result (IsFaultOf (at_pointer r found.entry.place.entry.now.draft pointer.now (view found.entry.place.value.now) text.now)) }
+        → IfErr result
+        (IsFaultOf
+        (at_pointer r found.entry.place.entry.now.draft pointer.now
+        (view found.entry.place.value.now) text.now)) }
 {
     let Located { value, entry } = found.place;
     let mut path = lent(alloc, entry.path.as_slice())?;
@@ -232,10 +267,11 @@ fn location_along<'r>(
 }
 
 impl<'r> Location<'r> {
-    /// The path as a JSON Pointer: each part with a `/` before it, a key escaped, an index in decimal digits (RFC 6901, sections 3 and
-    /// 4). Linear in its keys; takes memory for the text.
+    /// The path as a JSON Pointer: each part with a `/` before it, a key escaped, an index in decimal digits (RFC 6901,
+    /// sections 3 and 4). Linear in its keys; takes memory for the text.
     pub fn pointer(&self, alloc: Global) -> Result<String, AllocError>
-        ensures value { IfOk result (λ text. string_bytes text ≡ pointer_text (map part_of self.now.path.items)) }
+        ensures value { IfOk result
+            (λ text. string_bytes text ≡ pointer_text (map part_of self.now.path.items)) }
     {
         pointer_of(alloc, self.path.as_slice())
     }
@@ -245,11 +281,14 @@ impl<'r> Resolver<'r> {
     /// Where the value is that [`Resolver::lookup`] of a reference answers: the layer, counted from 0 for the registry's own
     /// documents, the number of the document in it, and the path there.
     ///
-    /// Refuses as [`Resolver::lookup`] does, whose cost it has, and a look-up more. Takes memory for the path's parts and, of a pointer, for its keys; the other
-    /// keys are lent.
+    /// Refuses as [`Resolver::lookup`] does, whose cost it has, and a look-up more. Takes memory for the path's parts
+    /// and, of a pointer, for its keys; the other keys are lent.
     pub fn location(&self, alloc: Global, reference: &str) -> Result<Location<'r>, Error>
-        ensures ok { IfOk result (IsWhere (world_of self.now) (lookup (world_of self.now) (resolver_of self.now) reference.now)) }
-        ensures fault { IfErr result (IsFaultOf (lookup (world_of self.now) (resolver_of self.now) reference.now)) }
+        ensures ok { IfOk result
+            (IsWhere (world_of self.now)
+            (lookup (world_of self.now) (resolver_of self.now) reference.now)) }
+        ensures fault { IfErr result
+            (IsFaultOf (lookup (world_of self.now) (resolver_of self.now) reference.now)) }
     {
         let Target { uri, fragment, .. } = self.target(alloc, reference)?;
         if is_name(fragment) {
@@ -264,11 +303,14 @@ impl<'r> Resolver<'r> {
         }
     }
 
-    /// Where the value is that [`Resolver::lookup_recursive_ref`] answers, as [`Resolver::location`] says it. Refuses as that call does,
-    /// whose cost it has, and takes memory for the path's parts.
+    /// Where the value is that [`Resolver::lookup_recursive_ref`] answers, as [`Resolver::location`] says it. Refuses
+    /// as that call does, whose cost it has, and takes memory for the path's parts.
     pub fn location_recursive(&self, alloc: Global) -> Result<Location<'r>, Error>
-        ensures ok { IfOk result (IsWhere (world_of self.now) (lookup_recursive (world_of self.now) (resolver_of self.now))) }
-        ensures fault { IfErr result (IsFaultOf (lookup_recursive (world_of self.now) (resolver_of self.now))) }
+        ensures ok { IfOk result
+            (IsWhere (world_of self.now)
+            (lookup_recursive (world_of self.now) (resolver_of self.now))) }
+        ensures fault { IfErr result
+            (IsFaultOf (lookup_recursive (world_of self.now) (resolver_of self.now))) }
     {
         let (_, reference) = self.recursive(alloc)?;
         self.location(alloc, reference)
@@ -281,10 +323,17 @@ impl<'r> Resolver<'r> {
         uri: Rc<Uri>,
         name: &str,
     ) -> Result<Location<'r>, Error>
-        ensures ok { (reference : List ℕ) → target (resolver_of self.now).base reference ≡ Ok uri.value → fragment_part reference ≡ name.now → is_name name.now ≡ true
-            → IfOk result (IsWhere (world_of self.now) (lookup (world_of self.now) (resolver_of self.now) reference)) }
-        ensures fault { (reference : List ℕ) → target (resolver_of self.now).base reference ≡ Ok uri.value → fragment_part reference ≡ name.now → is_name name.now ≡ true
-            → IfErr result (IsFaultOf (lookup (world_of self.now) (resolver_of self.now) reference)) }
+        ensures ok { (reference : List ℕ)
+            → target (resolver_of self.now).base reference ≡ Ok uri.value
+            → fragment_part reference ≡ name.now → is_name name.now ≡ true
+            → IfOk result
+            (IsWhere (world_of self.now)
+            (lookup (world_of self.now) (resolver_of self.now) reference)) }
+        ensures fault { (reference : List ℕ)
+            → target (resolver_of self.now).base reference ≡ Ok uri.value
+            → fragment_part reference ≡ name.now → is_name name.now ≡ true
+            → IfErr result
+            (IsFaultOf (lookup (world_of self.now) (resolver_of self.now) reference)) }
     {
         let Some(found) = numbered_meaning(&self.layers, uri.as_str(), name) else {
             return Err(self.no_name(alloc, &uri, name));
@@ -303,10 +352,18 @@ impl<'r> Resolver<'r> {
         name: &str,
         found: Located<'r>,
     ) -> Result<Location<'r>, Error>
-        ensures ok { (n : Named) → n.name ≡ name.now → n.kind ≡ Dynamic → IsLocated found.entry n.place → anchor (world_of self.now) uri.value name.now ≡ Ok n
-            → IfOk result (IsWhere (world_of self.now) (named_found (world_of self.now) (moved_resolver (resolver_of self.now) uri.value) n n.kind)) }
-        ensures fault { (n : Named) → n.name ≡ name.now → n.kind ≡ Dynamic → IsLocated found.entry n.place → anchor (world_of self.now) uri.value name.now ≡ Ok n
-            → IfErr result (IsFaultOf (named_found (world_of self.now) (moved_resolver (resolver_of self.now) uri.value) n n.kind)) }
+        ensures ok { (n : Named) → n.name ≡ name.now → n.kind ≡ Dynamic
+            → IsLocated found.entry n.place → anchor (world_of self.now) uri.value name.now ≡ Ok n
+            → IfOk result
+            (IsWhere (world_of self.now)
+            (named_found (world_of self.now)
+            (moved_resolver (resolver_of self.now) uri.value) n n.kind)) }
+        ensures fault { (n : Named) → n.name ≡ name.now → n.kind ≡ Dynamic
+            → IsLocated found.entry n.place → anchor (world_of self.now) uri.value name.now ≡ Ok n
+            → IfErr result
+            (IsFaultOf
+            (named_found (world_of self.now)
+            (moved_resolver (resolver_of self.now) uri.value) n n.kind)) }
     {
         let resolver = self.moved(alloc, uri)?;
         let (uri, place) = outermost(alloc, &resolver, name, found)?;

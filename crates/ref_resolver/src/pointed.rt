@@ -72,8 +72,12 @@ pub(crate) fn index_of(part: &str) -> Option<usize>
 
 // What a look-up found, or the fault of a pointer that finds no value.
 fn found<'r>(alloc: Global, pointer: &str, value: Option<&'r Value>) -> Result<&'r Value, Error>
-    ensures ok { IfOk result (λ v. ok_or (option_map (λ v. view v.now) value.entry) (PointerToNowhere pointer.now) ≡ Ok (view v.now)) }
-    ensures fault { IfErr result (IsFaultOf (ok_or (option_map (λ v. view v.now) value.entry) (PointerToNowhere pointer.now))) }
+    ensures ok { IfOk result
+        (λ v. ok_or (option_map (λ v. view v.now) value.entry) (PointerToNowhere pointer.now)
+        ≡ Ok (view v.now)) }
+    ensures fault { IfErr result
+        (IsFaultOf
+        (ok_or (option_map (λ v. view v.now) value.entry) (PointerToNowhere pointer.now))) }
 {
     match value {
         Some(value) => Ok(value),
@@ -83,8 +87,10 @@ fn found<'r>(alloc: Global, pointer: &str, value: Option<&'r Value>) -> Result<&
 
 // The index that a token is in an array.
 fn index_in(alloc: Global, pointer: &str, token: &str) -> Result<usize, Error>
-    ensures ok { IfOk result (λ i. ok_or (world.index_of token.now) (InvalidArrayIndex pointer.now token.now) ≡ Ok i) }
-    ensures fault { IfErr result (IsFaultOf (ok_or (world.index_of token.now) (InvalidArrayIndex pointer.now token.now))) }
+    ensures ok { IfOk result
+        (λ i. ok_or (world.index_of token.now) (InvalidArrayIndex pointer.now token.now) ≡ Ok i) }
+    ensures fault { IfErr result
+        (IsFaultOf (ok_or (world.index_of token.now) (InvalidArrayIndex pointer.now token.now))) }
 {
     match index_of(token) {
         Some(index) => Ok(index),
@@ -99,8 +105,11 @@ fn step_into<'r, 't>(
     value: &'r Value,
     token: &'t str,
 ) -> Result<(Segment<'t>, &'r Value), Error>
-    ensures ok { IfOk result (λ s. world.step_into pointer.now (view value.now) token.now ≡ Ok (part_of s.0, view s.1.now)) }
-    ensures fault { IfErr result (IsFaultOf (world.step_into pointer.now (view value.now) token.now)) }
+    ensures ok { IfOk result
+        (λ s. world.step_into pointer.now (view value.now) token.now
+        ≡ Ok (part_of s.0, view s.1.now)) }
+    ensures fault { IfErr result
+        (IsFaultOf (world.step_into pointer.now (view value.now) token.now)) }
 {
     if value.is_array() {
         let index = index_in(alloc, pointer, token)?;
@@ -114,7 +123,10 @@ fn step_into<'r, 't>(
 
 // The identifier of a value, where the parts since the last change are accepted at it.
 fn accepted_id<'v>(draft: Draft, since: &Segments<'_>, value: &'v Value) -> Option<&'v str>
-    ensures { option_map (λ text. text.now) result ≡ (if scan draft (is_object (view value.now)) since.now then identifier draft (view value.now) else None) }
+    ensures { option_map (λ text. text.now) result
+        ≡ (if scan draft (is_object (view value.now)) since.now then
+        identifier draft (view value.now)
+        else None) }
 {
     let id = ResourceRef::new(value, draft).id()?;
     if draft.rebases(since, value) {
@@ -132,8 +144,14 @@ pub(crate) fn step<'r, 't>(
     along: Along<'r, 't>,
     token: &'t str,
 ) -> Result<Along<'r, 't>, Error>
-    ensures ok { IfOk result (λ a. stepped_along walk.now.draft walk.now.pointer.now (along_of along.entry) (view along.entry.value.now) token.now ≡ Ok (view a.value.now, along_of a)) }
-    ensures fault { IfErr result (IsFaultOf (stepped_along walk.now.draft walk.now.pointer.now (along_of along.entry) (view along.entry.value.now) token.now)) }
+    ensures ok { IfOk result
+        (λ a. stepped_along walk.now.draft walk.now.pointer.now (along_of along.entry)
+        (view along.entry.value.now) token.now
+        ≡ Ok (view a.value.now, along_of a)) }
+    ensures fault { IfErr result
+        (IsFaultOf
+        (stepped_along walk.now.draft walk.now.pointer.now (along_of along.entry)
+        (view along.entry.value.now) token.now)) }
 {
     let Along {
         value,
@@ -167,7 +185,8 @@ fn slash_in(text: &str) -> Option<usize>
 // What is before the first `/` of a text, and what follows that.
 #[inline(always)]
 pub(crate) fn cut_at_slash(text: &str) -> Option<(&str, &str)>
-    ensures { MatchOption result (All (λ b. b ≢ slash) text.now) (λ cut. (text.now ≡ cut.0.now ++ (slash ∷ cut.1.now)) × All (λ b. b ≢ slash) cut.0.now) }
+    ensures { MatchOption result (All (λ b. b ≢ slash) text.now)
+        (λ cut. (text.now ≡ cut.0.now ++ (slash ∷ cut.1.now)) × All (λ b. b ≢ slash) cut.0.now) }
 {
     let place = slash_in(text)?;
     let (token, _) = text.split_at(place);
@@ -182,8 +201,14 @@ fn walk_along<'r, 't>(
     along: Along<'r, 't>,
     text: &'t str,
 ) -> Result<Along<'r, 't>, Error>
-    ensures ok { IfOk result (λ a. world.walked_along walk.entry.draft walk.entry.pointer.now (along_of along.entry) (view along.entry.value.now) (tokens text.now) ≡ Ok (view a.value.now, along_of a)) }
-    ensures fault { IfErr result (IsFaultOf (world.walked_along walk.entry.draft walk.entry.pointer.now (along_of along.entry) (view along.entry.value.now) (tokens text.now))) }
+    ensures ok { IfOk result
+        (λ a. world.walked_along walk.entry.draft walk.entry.pointer.now (along_of along.entry)
+        (view along.entry.value.now) (tokens text.now)
+        ≡ Ok (view a.value.now, along_of a)) }
+    ensures fault { IfErr result
+        (IsFaultOf
+        (world.walked_along walk.entry.draft walk.entry.pointer.now (along_of along.entry)
+        (view along.entry.value.now) (tokens text.now))) }
 {
     let mut along = along;
     let mut rest = text;
@@ -211,8 +236,14 @@ fn walk_from<'r>(
     value: &'r Value,
     text: &str,
 ) -> Result<Pointed<'r>, Error>
-    ensures ok { IfOk result (λ p. leads_to walk.entry.draft walk.entry.pointer.now base.value (view value.now) (tokens text.now) ≡ Ok (view p.value.now, p.base.value)) }
-    ensures fault { IfErr result (IsFaultOf (leads_to walk.entry.draft walk.entry.pointer.now base.value (view value.now) (tokens text.now))) }
+    ensures ok { IfOk result
+        (λ p. leads_to walk.entry.draft walk.entry.pointer.now base.value (view value.now)
+        (tokens text.now)
+        ≡ Ok (view p.value.now, p.base.value)) }
+    ensures fault { IfErr result
+        (IsFaultOf
+        (leads_to walk.entry.draft walk.entry.pointer.now base.value (view value.now)
+        (tokens text.now))) }
 {
     let along = Along {
         value,
@@ -236,8 +267,9 @@ pub(crate) fn no_utf8(alloc: Global, pointer: &str) -> Error
 /// The value that a pointer leads to from the value of a resource, with the base there (RFC 6901, 3, 4 and 6): `text` is what
 /// is after the fragment's first `/`.
 ///
-/// Refuses as `InvalidPercentEncoding` where the decoded bytes are no UTF-8, as `InvalidArrayIndex` and `PointerToNowhere` for
-/// the first part that is unresolvable, as `InvalidUri` for an identifier on the way that means no URI, and as `Memory`. Without a
+/// Refuses as `InvalidPercentEncoding` where the decoded bytes are no UTF-8, as `InvalidArrayIndex` and
+/// `PointerToNowhere` for the first part that is unresolvable, as `InvalidUri` for an identifier on the way that means
+/// no URI, and as `Memory`. Without a
 /// `%` no text is decoded.
 #[inline(always)]
 pub(crate) fn follow_pointer<'r>(
@@ -247,8 +279,14 @@ pub(crate) fn follow_pointer<'r>(
     value: &'r Value,
     text: &str,
 ) -> Result<Pointed<'r>, Error>
-    ensures ok { IfOk result (λ p. pointed_to walk.entry.draft walk.entry.pointer.now base.value (view value.now) text.now ≡ Ok (view p.value.now, p.base.value)) }
-    ensures fault { IfErr result (IsFaultOf (pointed_to walk.entry.draft walk.entry.pointer.now base.value (view value.now) text.now)) }
+    ensures ok { IfOk result
+        (λ p. pointed_to walk.entry.draft walk.entry.pointer.now base.value
+        (view value.now) text.now
+        ≡ Ok (view p.value.now, p.base.value)) }
+    ensures fault { IfErr result
+        (IsFaultOf
+        (pointed_to walk.entry.draft walk.entry.pointer.now base.value
+        (view value.now) text.now)) }
 {
     if !text.as_bytes().contains(&b'%') {
         return walk_from(alloc, walk, base, value, text);

@@ -28,9 +28,12 @@ impl<'r> Resolver<'r> {
     /// Refuses as [`Resolver::lookup`] does for `#` and for the URIs of the scope, up to the first that means another resource.
     /// A look-up for each URI of the scope; no value is copied.
     pub fn lookup_recursive_ref(&self, alloc: Global) -> Result<Resolved<'r>, Error>
-        ensures ok { IfOk result (λ found. lookup_recursive (world_of self.now) (resolver_of self.now) ≡ Ok (found_of found)) }
+        ensures ok { IfOk result
+            (λ found. lookup_recursive (world_of self.now) (resolver_of self.now)
+            ≡ Ok (found_of found)) }
         ensures world { IfOk result (λ found. world_found found ≡ world_of self.now) }
-        ensures fault { IfErr result (IsFaultOf (lookup_recursive (world_of self.now) (resolver_of self.now))) }
+        ensures fault { IfErr result
+            (IsFaultOf (lookup_recursive (world_of self.now) (resolver_of self.now))) }
     {
         let (resolved, _) = self.recursive(alloc)?;
         Ok(resolved)
@@ -38,10 +41,13 @@ impl<'r> Resolver<'r> {
 
     // The same, with a reference that leads there.
     pub(crate) fn recursive(&self, alloc: Global) -> Result<(Resolved<'r>, &str), Error>
-        ensures ok { IfOk result (λ t. lookup_recursive (world_of self.now) (resolver_of self.now) ≡ Ok (found_of t.0)) }
-        ensures reference { IfOk result (λ t. lookup (world_of self.now) (resolver_of self.now) t.1.now ≡ Ok (found_of t.0)) }
+        ensures ok { IfOk result
+            (λ t. lookup_recursive (world_of self.now) (resolver_of self.now) ≡ Ok (found_of t.0)) }
+        ensures reference { IfOk result
+            (λ t. lookup (world_of self.now) (resolver_of self.now) t.1.now ≡ Ok (found_of t.0)) }
         ensures world { IfOk result (λ t. world_found t.0 ≡ world_of self.now) }
-        ensures fault { IfErr result (IsFaultOf (lookup_recursive (world_of self.now) (resolver_of self.now))) }
+        ensures fault { IfErr result
+            (IsFaultOf (lookup_recursive (world_of self.now) (resolver_of self.now))) }
     {
         let mut reference = "#";
         let mut resolved = self.lookup(alloc, reference)?;

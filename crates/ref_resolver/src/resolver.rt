@@ -52,7 +52,8 @@ pub(crate) struct Target<'r, 't> {
 }
 
 impl<'r> Resolver<'r> {
-    /// A resolver over layers at a base URI, with an empty dynamic scope. The URI need not mean a place. Takes memory for a handle.
+    /// A resolver over layers at a base URI, with an empty dynamic scope. The URI need not mean a place. Takes memory
+    /// for a handle.
     pub fn new(alloc: Global, layers: Layers<'r>, base: Uri) -> Result<Resolver<'r>, AllocError>
         ensures resolver { IfOk result (λ r. resolver_of r ≡ record { base = base; scope = [] }) }
         ensures world { IfOk result (λ r. world_of r ≡ world_in layers.entry) }
@@ -64,7 +65,8 @@ impl<'r> Resolver<'r> {
         })
     }
 
-    /// A resolver over layers at a base URI, with this dynamic scope, inner to outer. No URI need mean a place. Takes no memory.
+    /// A resolver over layers at a base URI, with this dynamic scope, inner to outer. No URI need mean a place. Takes
+    /// no memory.
     pub fn from_parts(layers: Layers<'r>, base: Rc<Uri>, scope: List<Uri>) -> Resolver<'r>
         ensures resolver { resolver_of result ≡ record { base = base.value; scope = scope } }
         ensures world { world_of result ≡ world_in layers.entry }
@@ -98,8 +100,9 @@ impl<'r> Resolver<'r> {
         &self.scope
     }
 
-    /// The URI that a text means against a base (RFC 3986, 5.2), in normal form. Fails as `InvalidUri` for a base without a scheme and a
-    /// text that is no URI reference, and as `Memory`. A look-up where that was resolved before; else it takes memory for the URI.
+    /// The URI that a text means against a base (RFC 3986, 5.2), in normal form. Fails as `InvalidUri` for a base
+    /// without a scheme and a text that is no URI reference, and as `Memory`. A look-up where that was resolved before;
+    /// else it takes memory for the URI.
     pub fn resolve_uri(&self, alloc: Global, base: UriRef<'_>, uri: &str) -> Result<Rc<Uri>, Error>
         ensures ok { IfOk result (λ u. uri_against base.entry uri.now ≡ Ok u.value) }
         ensures fault { IfErr result (IsFaultOf (as_invalid_uri (uri_against base.entry uri.now))) }
@@ -113,10 +116,13 @@ impl<'r> Resolver<'r> {
         alloc: Global,
         reference: &'t str,
     ) -> Result<Target<'r, 't>, Error>
-        ensures ok { IfOk result (λ t. target (resolver_of self.now).base reference.now ≡ Ok t.uri.value) }
-        ensures place { IfOk result (λ t. IfSome t.place (IsMeant (meant_place (world_of self.now) t.uri.value))) }
+        ensures ok { IfOk result
+            (λ t. target (resolver_of self.now).base reference.now ≡ Ok t.uri.value) }
+        ensures place { IfOk result
+            (λ t. IfSome t.place (IsMeant (meant_place (world_of self.now) t.uri.value))) }
         ensures fragment { IfOk result (λ t. t.fragment.now ≡ fragment_part reference.now) }
-        ensures fault { IfErr result (IsFaultOf (as_invalid_uri (target (resolver_of self.now).base reference.now))) }
+        ensures fault { IfErr result
+            (IsFaultOf (as_invalid_uri (target (resolver_of self.now).base reference.now))) }
     {
         if let Some(fragment) = reference.strip_prefix('#') {
             return Ok(Target {
@@ -136,7 +142,8 @@ impl<'r> Resolver<'r> {
 
     // This resolver with another base.
     pub(crate) fn with_base(&self, base: Rc<Uri>) -> Result<Resolver<'r>, AllocError>
-        ensures resolver { IfOk result (λ r. resolver_of r ≡ record (resolver_of self.now) { base = base.value }) }
+        ensures resolver { IfOk result
+            (λ r. resolver_of r ≡ record (resolver_of self.now) { base = base.value }) }
         ensures world { IfOk result (λ r. world_of r ≡ world_of self.now) }
     {
         Ok(Resolver {
@@ -149,7 +156,8 @@ impl<'r> Resolver<'r> {
     // This resolver at a URI: the old base goes before the scope where the scope was empty or the base changes.
     #[inline(always)]
     pub(crate) fn moved(&self, alloc: Global, uri: Rc<Uri>) -> Result<Resolver<'r>, AllocError>
-        ensures resolver { IfOk result (λ r. resolver_of r ≡ moved_resolver (resolver_of self.now) uri.value) }
+        ensures resolver { IfOk result
+            (λ r. resolver_of r ≡ moved_resolver (resolver_of self.now) uri.value) }
         ensures world { IfOk result (λ r. world_of r ≡ world_of self.now) }
     {
         let scope = if self.scope.is_empty() || uri.as_str() != self.base.as_str() {
@@ -171,9 +179,16 @@ impl<'r> Resolver<'r> {
         alloc: Global,
         subresource: ResourceRef<'_>,
     ) -> Result<Resolver<'r>, Error>
-        ensures ok { IfOk result (λ r. in_subresource (resolver_of self.now) (resource_ref subresource.entry).draft (resource_ref subresource.entry).contents ≡ Ok (resolver_of r)) }
+        ensures ok { IfOk result
+            (λ r. in_subresource (resolver_of self.now) (resource_ref subresource.entry).draft
+            (resource_ref subresource.entry).contents
+            ≡ Ok (resolver_of r)) }
         ensures world { IfOk result (λ r. world_of r ≡ world_of self.now) }
-        ensures fault { IfErr result (IsFaultOf (as_invalid_uri (in_subresource (resolver_of self.now) (resource_ref subresource.entry).draft (resource_ref subresource.entry).contents))) }
+        ensures fault { IfErr result
+            (IsFaultOf
+            (as_invalid_uri
+            (in_subresource (resolver_of self.now) (resource_ref subresource.entry).draft
+            (resource_ref subresource.entry).contents))) }
     {
         let base = match subresource.id() {
             Some(id) => self.layers.resolve_uri(alloc, self.base.borrow(), id)?,
@@ -190,12 +205,15 @@ impl<'r> Resolver<'r> {
     /// means no place; as `InvalidPercentEncoding`, `InvalidArrayIndex` and `PointerToNowhere` for a pointer that leads
     /// nowhere; as `NoSuchAnchor` and, where there is a `/` in it, `InvalidAnchor` for a name that nothing has; and as
     /// `Memory`. Look-ups in tables, one for each part of a pointer, and for a dynamic anchor one for each URI of the scope;
-    /// no value is copied. By the code, `#` takes no memory where the scope isn't empty and the base means a place; no clause says
-    /// so, but [`Resolver::at_base`] takes none by its signature.
+    /// no value is copied. By the code, `#` takes no memory where the scope isn't empty and the base means a place; no
+    /// clause says so, but [`Resolver::at_base`] takes none by its signature.
     pub fn lookup(&self, alloc: Global, reference: &str) -> Result<Resolved<'r>, Error>
-        ensures ok { IfOk result (λ found. lookup (world_of self.now) (resolver_of self.now) reference.now ≡ Ok (found_of found)) }
+        ensures ok { IfOk result
+            (λ found. lookup (world_of self.now) (resolver_of self.now) reference.now
+            ≡ Ok (found_of found)) }
         ensures world { IfOk result (λ found. world_found found ≡ world_of self.now) }
-        ensures fault { IfErr result (IsFaultOf (lookup (world_of self.now) (resolver_of self.now) reference.now)) }
+        ensures fault { IfErr result
+            (IsFaultOf (lookup (world_of self.now) (resolver_of self.now) reference.now)) }
     {
         let Target {
             uri,
@@ -218,7 +236,11 @@ impl<'r> Resolver<'r> {
     /// The value that the base means, and its draft: what [`Resolver::lookup`] of `#` finds. `None` where it means no place. A
     /// look-up for each layer, up to the first that has it; takes no memory.
     pub fn at_base(&self) -> Option<(&'r Value, Draft)>
-        ensures value { MatchOption result (meant_place (world_of self.now) (resolver_of self.now).base ≡ None) (λ found. (place : Place) × (meant_place (world_of self.now) (resolver_of self.now).base ≡ Some place) × (view found.0.now ≡ place.value) × (found.1 ≡ place.draft)) }
+        ensures value { MatchOption result
+            (meant_place (world_of self.now) (resolver_of self.now).base ≡ None)
+            (λ found. (place : Place)
+            × (meant_place (world_of self.now) (resolver_of self.now).base ≡ Some place)
+            × (view found.0.now ≡ place.value) × (found.1 ≡ place.draft)) }
     {
         let place = self.layers.resource(self.base.as_str())?;
         Some((place.value, place.entry.draft))
@@ -227,9 +249,18 @@ impl<'r> Resolver<'r> {
     // Where a name leads under a URI.
     #[inline(never)]
     fn at_name(&self, alloc: Global, uri: Rc<Uri>, name: &str) -> Result<Resolved<'r>, Error>
-        ensures ok { (reference : List ℕ) → target (resolver_of self.now).base reference ≡ Ok uri.value → fragment_part reference ≡ name.now → is_name name.now ≡ true → IfOk result (λ found. lookup (world_of self.now) (resolver_of self.now) reference ≡ Ok (found_of found)) }
+        ensures ok { (reference : List ℕ)
+            → target (resolver_of self.now).base reference ≡ Ok uri.value
+            → fragment_part reference ≡ name.now → is_name name.now ≡ true
+            → IfOk result
+            (λ found. lookup (world_of self.now) (resolver_of self.now) reference
+            ≡ Ok (found_of found)) }
         ensures world { IfOk result (λ found. world_found found ≡ world_of self.now) }
-        ensures fault { (reference : List ℕ) → target (resolver_of self.now).base reference ≡ Ok uri.value → fragment_part reference ≡ name.now → is_name name.now ≡ true → IfErr result (IsFaultOf (lookup (world_of self.now) (resolver_of self.now) reference)) }
+        ensures fault { (reference : List ℕ)
+            → target (resolver_of self.now).base reference ≡ Ok uri.value
+            → fragment_part reference ≡ name.now → is_name name.now ≡ true
+            → IfErr result
+            (IsFaultOf (lookup (world_of self.now) (resolver_of self.now) reference)) }
     {
         let Some(found) = meaning(&self.layers, uri.as_str(), name) else {
             return Err(self.no_name(alloc, &uri, name));
@@ -241,8 +272,8 @@ impl<'r> Resolver<'r> {
         Ok(plain_found(resolver, found.place))
     }
 
-    // Where a name leads under a URI where a dynamic anchor has it, at the place that was found. The many values of this stay out of what a
-    // plain anchor takes.
+    // Where a name leads under a URI where a dynamic anchor has it, at the place that was found. The many values of
+    // this stay out of what a plain anchor takes.
     #[inline(never)]
     fn at_dynamic(
         &self,
@@ -251,9 +282,19 @@ impl<'r> Resolver<'r> {
         name: &str,
         found: Located<'r>,
     ) -> Result<Resolved<'r>, Error>
-        ensures ok { (n : Named) → n.name ≡ name.now → n.kind ≡ Dynamic → IsLocated found.entry n.place → IfOk result (λ f. named_found (world_of self.now) (moved_resolver (resolver_of self.now) uri.value) n n.kind ≡ Ok (found_of f)) }
+        ensures ok { (n : Named) → n.name ≡ name.now → n.kind ≡ Dynamic
+            → IsLocated found.entry n.place
+            → IfOk result
+            (λ f. named_found (world_of self.now)
+            (moved_resolver (resolver_of self.now) uri.value) n n.kind
+            ≡ Ok (found_of f)) }
         ensures world { IfOk result (λ f. world_found f ≡ world_of self.now) }
-        ensures fault { (n : Named) → n.name ≡ name.now → n.kind ≡ Dynamic → IsLocated found.entry n.place → IfErr result (IsFaultOf (named_found (world_of self.now) (moved_resolver (resolver_of self.now) uri.value) n n.kind)) }
+        ensures fault { (n : Named) → n.name ≡ name.now → n.kind ≡ Dynamic
+            → IsLocated found.entry n.place
+            → IfErr result
+            (IsFaultOf
+            (named_found (world_of self.now)
+            (moved_resolver (resolver_of self.now) uri.value) n n.kind)) }
     {
         let resolver = self.moved(alloc, uri)?;
         let (uri, place) = outermost(alloc, &resolver, name, found)?;
@@ -263,7 +304,10 @@ impl<'r> Resolver<'r> {
     // The fault of a name that nothing has under a URI: that of the URI where it means no place.
     #[inline(never)]
     pub(crate) fn no_name(&self, alloc: Global, uri: &Uri, name: &str) -> Error
-        ensures { (reference : List ℕ) → target (resolver_of self.now).base reference ≡ Ok uri.now → fragment_part reference ≡ name.now → is_name name.now ≡ true → anchor (world_of self.now) uri.now name.now ≡ Err (not_named name.now) → IsFaultOf (lookup (world_of self.now) (resolver_of self.now) reference) result }
+        ensures { (reference : List ℕ) → target (resolver_of self.now).base reference ≡ Ok uri.now
+            → fragment_part reference ≡ name.now → is_name name.now ≡ true
+            → anchor (world_of self.now) uri.now name.now ≡ Err (not_named name.now)
+            → IsFaultOf (lookup (world_of self.now) (resolver_of self.now) reference) result }
     {
         if self.layers.has_resource(uri.as_str()) {
             not_named(alloc, name)
@@ -308,8 +352,9 @@ impl<'r> Resolved<'r> {
     }
 }
 
-/// The same registry, base and dynamic scope, shared: two handles more. By the code it takes no memory; no clause says so. It fails only
-/// where the URI or the scope has no count left for one more handle, which `std::rc::Rc` returns as out of memory.
+/// The same registry, base and dynamic scope, shared: two handles more. By the code it takes no memory; no clause says
+/// so. It fails only where the URI or the scope has no count left for one more handle, which `std::rc::Rc` returns as
+/// out of memory.
 impl<'r> Clone for Resolver<'r> {
     ghost is_clone = { λ resolver copy. (resolver_of copy ≡ resolver_of resolver) × (world_of copy ≡ world_of resolver) };
 
@@ -341,7 +386,8 @@ impl<'r> Eq for Resolver<'r> {
 
 // Writes a URI, after a separator where it is not the first.
 fn write_uri<W: fmt::Write>(f: &mut fmt::Formatter<W>, is_first: bool, uri: &str) -> fmt::Result
-    ensures { WritesOnOk W.write_str_gives f.old result ((if is_first then [] else codes ", ") ++ uri.now) f.new }
+    ensures { WritesOnOk W.write_str_gives f.old result
+        ((if is_first then [] else codes ", ") ++ uri.now) f.new }
 {
     let separator = if is_first { "" } else { ", " };
     write!(f, "{separator}{uri}")
@@ -349,7 +395,8 @@ fn write_uri<W: fmt::Write>(f: &mut fmt::Formatter<W>, is_first: bool, uri: &str
 
 // Writes URIs, with a separator between them.
 fn write_scope<W: fmt::Write>(f: &mut fmt::Formatter<W>, scope: &List<Uri>) -> fmt::Result
-    ensures { WritesOnOk W.write_str_gives f.old result (join_by (λ uri. uri) (codes ", ") scope.now) f.new }
+    ensures { WritesOnOk W.write_str_gives f.old result
+        (join_by (λ uri. uri) (codes ", ") scope.now) f.new }
 {
     let mut is_first = true;
     for uri in scope {

@@ -10,7 +10,9 @@ use std::alloc::{AllocError, Global};
 
 // Appends a `/` and a segment: a key escaped, an index in decimal digits.
 fn push_segment(pointer: &mut String, segment: &JsonPointerSegment<'_>) -> Result<(), AllocError>
-    ensures text { OnOk result (string_bytes pointer.new ≡ string_bytes pointer.old ++ slash ∷ part_text (part_of segment.now)) }
+    ensures text { OnOk result
+        (string_bytes pointer.new
+        ≡ string_bytes pointer.old ++ slash ∷ part_text (part_of segment.now)) }
     ensures fits { OnOk result (HasFittingIndexes (part_of segment.now ∷ [])) }
 {
     pointer.push('/')?;

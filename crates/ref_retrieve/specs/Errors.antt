@@ -16,7 +16,8 @@ use Rattle.ref_retrieve.specs.declared.error.Error.TheVariants as error
 abbrev pub reason_text : Reason → List ℕ
 reason_text NotFetched = codes "Default retriever does not fetch resources"
 reason_text NoDocument = codes "no document under this URI"
-reason_text NotSupported = codes "Retrieving external resources is not supported once the registry is populated"
+reason_text NotSupported =
+    codes "Retrieving external resources is not supported once the registry is populated"
 reason_text (Text text) = string_bytes text
 
 -- of a refusal, or of being out of memory
@@ -26,16 +27,22 @@ retrieve_error_text (Memory error) = codes "Out of memory"
 
 -- of an error: the text of the fault that it is named after
 abbrev pub error_text : Error → List ℕ
-error_text (error.Unretrievable uri source) = fault_text (fault.Unretrievable (string_bytes uri) (retrieve_error_text source))
-error_text (error.PointerToNowhere pointer) = fault_text (fault.PointerToNowhere (string_bytes pointer))
-error_text (error.InvalidPercentEncoding pointer) = fault_text (fault.InvalidPercentEncoding (string_bytes pointer))
-error_text (error.InvalidArrayIndex pointer index) = fault_text (fault.InvalidArrayIndex (string_bytes pointer) (string_bytes index))
+error_text (error.Unretrievable uri source) =
+    fault_text (fault.Unretrievable (string_bytes uri) (retrieve_error_text source))
+error_text (error.PointerToNowhere pointer) =
+    fault_text (fault.PointerToNowhere (string_bytes pointer))
+error_text (error.InvalidPercentEncoding pointer) =
+    fault_text (fault.InvalidPercentEncoding (string_bytes pointer))
+error_text (error.InvalidArrayIndex pointer index) =
+    fault_text (fault.InvalidArrayIndex (string_bytes pointer) (string_bytes index))
 error_text (error.NoSuchAnchor anchor) = fault_text (fault.NoSuchAnchor (string_bytes anchor))
 error_text (error.InvalidAnchor anchor) = fault_text (fault.InvalidAnchor (string_bytes anchor))
 error_text (error.InvalidUri refused) = uri_error_text refused
-error_text (error.UnknownSpecification specification) = fault_text (fault.UnknownSpecification (string_bytes specification))
+error_text (error.UnknownSpecification specification) =
+    fault_text (fault.UnknownSpecification (string_bytes specification))
 error_text (error.CircularMetaschema uri) = fault_text (fault.CircularMetaschema (string_bytes uri))
-error_text (error.RetrievalLimit uri limit) = fault_text (fault.RetrievalLimit (string_bytes uri) limit)
+error_text (error.RetrievalLimit uri limit) =
+    fault_text (fault.RetrievalLimit (string_bytes uri) limit)
 error_text (error.Memory memory) = codes "Out of memory"
 
 -- whether an error is out of memory
@@ -55,16 +62,22 @@ SaysWhy (Memory error) text = ⊥
 
 -- The error says the fault, in its own texts. Out of memory says none, also where it is the source.
 abbrev pub SaysFault : Error → Fault → Type 0
-SaysFault (error.Unretrievable uri source) (fault.Unretrievable wanted text) = (string_bytes uri ≡ wanted) × SaysWhy source text
-SaysFault (error.PointerToNowhere pointer) (fault.PointerToNowhere text) = string_bytes pointer ≡ text
-SaysFault (error.InvalidPercentEncoding pointer) (fault.InvalidPercentEncoding text) = string_bytes pointer ≡ text
-SaysFault (error.InvalidArrayIndex pointer index) (fault.InvalidArrayIndex text part) = (string_bytes pointer ≡ text) × (string_bytes index ≡ part)
+SaysFault (error.Unretrievable uri source) (fault.Unretrievable wanted text) =
+    (string_bytes uri ≡ wanted) × SaysWhy source text
+SaysFault (error.PointerToNowhere pointer) (fault.PointerToNowhere text) =
+    string_bytes pointer ≡ text
+SaysFault (error.InvalidPercentEncoding pointer) (fault.InvalidPercentEncoding text) =
+    string_bytes pointer ≡ text
+SaysFault (error.InvalidArrayIndex pointer index) (fault.InvalidArrayIndex text part) =
+    (string_bytes pointer ≡ text) × (string_bytes index ≡ part)
 SaysFault (error.NoSuchAnchor anchor) (fault.NoSuchAnchor text) = string_bytes anchor ≡ text
 SaysFault (error.InvalidAnchor anchor) (fault.InvalidAnchor text) = string_bytes anchor ≡ text
 SaysFault (error.InvalidUri refused) (fault.InvalidUri refusal) = SaysRefusal refused refusal
-SaysFault (error.UnknownSpecification specification) (fault.UnknownSpecification text) = string_bytes specification ≡ text
+SaysFault (error.UnknownSpecification specification) (fault.UnknownSpecification text) =
+    string_bytes specification ≡ text
 SaysFault (error.CircularMetaschema uri) (fault.CircularMetaschema text) = string_bytes uri ≡ text
-SaysFault (error.RetrievalLimit uri limit) (fault.RetrievalLimit wanted most) = (string_bytes uri ≡ wanted) × (limit ≡ most)
+SaysFault (error.RetrievalLimit uri limit) (fault.RetrievalLimit wanted most) =
+    (string_bytes uri ≡ wanted) × (limit ≡ most)
 SaysFault other fault = ⊥
 
 -- the error says the fault that the result is, or is out of memory

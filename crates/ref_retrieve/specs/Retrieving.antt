@@ -25,4 +25,5 @@ trees_of pairs = map (λ p. (p.0, view p.1)) pairs
 
 -- the map has under each URI the last of these values
 abbrev pub AreLast : {S : Type 0} → HashMap (List ℕ) Value S → List (List ℕ × Value) → Type 0
-AreLast documents given = (uri : List ℕ) → get bytes_eq documents uri ≡ update_all bytes_eq (λ _. None) given uri
+AreLast documents given =
+    (uri : List ℕ) → get bytes_eq documents uri ≡ update_all bytes_eq (λ _. None) given uri

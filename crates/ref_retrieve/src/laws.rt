@@ -8,7 +8,8 @@ use crate::error::Error;
 
 /// An error that says a fault displays the text of that fault.
 pub fn errors_say_faults()
-    ensures law { (error : Error) (fault : Fault) → SaysFault error fault → error_text error ≡ fault_text fault }
+    ensures law { (error : Error) (fault : Fault) → SaysFault error fault
+        → error_text error ≡ fault_text fault }
 {}
 
 /// The worked rows of the texts of errors.

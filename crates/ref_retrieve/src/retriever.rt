@@ -23,8 +23,9 @@ pub trait Retrieve {
     // The texts that a URI may be refused with.
     ghost may_refuse: { Self → List ℕ → List ℕ → Type 0 };
 
-    /// The document under a URI: one that it may return, which the caller owns. `Refused` for a reason that it may give, `Memory` where
-    /// memory is refused. It costs what the implementation takes: `prepare` calls it once for each document that is wanted and not there.
+    /// The document under a URI: one that it may return, which the caller owns. `Refused` for a reason that it may
+    /// give, `Memory` where memory is refused. It costs what the implementation takes: `prepare` calls it once for each
+    /// document that is wanted and not there.
     fn retrieve(&self, alloc: Global, uri: &Uri) -> Result<Value, RetrieveError>
         ensures answer { IfOk result (λ value. may_answer self.now uri.now (view value)) }
         ensures refusal { IfErr result (λ error. IfRefused error (may_refuse self.now uri.now)) };
@@ -56,7 +57,8 @@ impl Retrieve for DefaultRetriever {
 
     fn retrieve(&self, _alloc: Global, uri: &Uri) -> Result<Value, RetrieveError>
         ensures answer { IfOk result (λ value. default_retriever.may_answer uri.now (view value)) }
-        ensures refusal { IfErr result (λ error. IfRefused error (default_retriever.may_refuse uri.now)) }
+        ensures refusal { IfErr result
+            (λ error. IfRefused error (default_retriever.may_refuse uri.now)) }
         ensures value { IsErrOf result (RetrieveError.Refused Reason.NotFetched) }
     {
         Err(RetrieveError::Refused(Reason::NotFetched))
@@ -104,7 +106,10 @@ impl MapRetriever {
 
 // Puts a value under a URI, in the place of the one there. Collecting the pairs would go on where the map can't grow.
 fn put(documents: &mut HashMap<Uri, Value>, uri: Uri, value: Value) -> Result<(), AllocError>
-    ensures { OnOk result ((wanted : List ℕ) → get bytes_eq documents.new wanted ≡ update bytes_eq (get bytes_eq documents.old) uri (Some value) wanted) }
+    ensures { OnOk result
+        ((wanted : List ℕ)
+        → get bytes_eq documents.new wanted
+        ≡ update bytes_eq (get bytes_eq documents.old) uri (Some value) wanted) }
 {
     let _before = documents.insert(uri, value)?;
     Ok(())
@@ -134,9 +139,12 @@ impl Retrieve for MapRetriever {
 
     // A copy of the document, which takes memory; a refusal takes none.
     fn retrieve(&self, _alloc: Global, uri: &Uri) -> Result<Value, RetrieveError>
-        ensures answer { IfOk result (λ value. (map_retriever (trees_of self.now)).may_answer uri.now (view value)) }
-        ensures refusal { IfErr result (λ error. IfRefused error ((map_retriever (trees_of self.now)).may_refuse uri.now)) }
-        ensures missing { last_under uri.now (trees_of self.now) ≡ None → IsErrOf result (RetrieveError.Refused Reason.NoDocument) }
+        ensures answer { IfOk result
+            (λ value. (map_retriever (trees_of self.now)).may_answer uri.now (view value)) }
+        ensures refusal { IfErr result
+            (λ error. IfRefused error ((map_retriever (trees_of self.now)).may_refuse uri.now)) }
+        ensures missing { last_under uri.now (trees_of self.now) ≡ None
+            → IsErrOf result (RetrieveError.Refused Reason.NoDocument) }
     {
         match self.documents.get(uri) {
             Some(value) => Ok(value.clone()?),

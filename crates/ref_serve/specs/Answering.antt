@@ -32,16 +32,19 @@ IsOpened state d next outcome = IsOpenedAs (opening_of state d) state next outco
 
 -- a registry is closed, and the result has no members
 abbrev pub IsClosed : Registries → Registries → ℕ → Result Data Data → Type 0
-IsClosed state next number outcome = (outcome ≡ Ok (object_of [])) × (next ≡ without_registry state number)
+IsClosed state next number outcome =
+    (outcome ≡ Ok (object_of [])) × (next ≡ without_registry state number)
 
 -- what a call gives, and the registries after it
-abbrev pub IsClose : Registries → Registries → Result (ℕ × OpenRegistry) Data → Result Data Data → Type 0
+abbrev pub IsClose : Registries → Registries → Result (ℕ × OpenRegistry) Data → Result Data Data
+    → Type 0
 IsClose state next (Ok found) outcome = IsClosed state next found.0 outcome
 IsClose state next (Err error) outcome = (outcome ≡ Err error) × (next ≡ state)
 
 abbrev pub IsReply : Call → Registries → Data → Registries → Result Data Data → Type 0
 IsReply Open state d next outcome = IsOpened state d next outcome
-IsReply Close state d next outcome = IsClose state next (registry_under state d (codes "registry")) outcome
+IsReply Close state d next outcome =
+    IsClose state next (registry_under state d (codes "registry")) outcome
 IsReply call state d next outcome = IsResult call state d outcome × (next ≡ state)
 
 -- the same of an object that may be no call
@@ -51,7 +54,9 @@ IsReplyTo (Err error) state d next outcome = (outcome ≡ Err error) × (next �
 
 -- the line of the error of a line that is no JSON, with a byte of it or its end as the place
 abbrev pub IsNotJsonLine : List ℕ → List ℕ → Type 0
-IsNotJsonLine line text = (offset : ℕ) × (offset ≤ length line) × IsLineOf (answer_of None (codes "error") (not_json offset)) text
+IsNotJsonLine line text =
+    (offset : ℕ) × (offset ≤ length line)
+    × IsLineOf (answer_of None (codes "error") (not_json offset)) text
 
 -- the answer to a call
 abbrev pub outcome_object : Option Data → Result Data Data → Data
@@ -61,7 +66,8 @@ outcome_object id (Err error) = answer_of id (codes "error") error
 abbrev pub IsAnswerTo : Registries → List ℕ → Option Data → Registries → List ℕ → Type 0
 IsAnswerTo state line None next text = IsNotJsonLine line text × (next ≡ state)
 IsAnswerTo state line (Some d) next text =
-    (outcome : Result Data Data) × IsReplyTo (call_of d) state d next outcome × IsLineOf (outcome_object (get (codes "id") d) outcome) text
+    (outcome : Result Data Data) × IsReplyTo (call_of d) state d next outcome
+    × IsLineOf (outcome_object (get (codes "id") d) outcome) text
 
 -- The answer to a line, and the registries after it. An error leaves them as they were.
 unfoldable pub IsAnswer : Registries → List ℕ → Registries → List ℕ → Type 0

@@ -42,11 +42,12 @@ steps_of draft d = do
 abbrev pub start_at : Resolver → Followed
 start_at r = record { last = None; resolver = r }
 
--- the object of where steps lead: that of the value that was found last, with any location where it is, and the base and the scope; without a
--- value these alone
+-- the object of where steps lead: that of the value that was found last, with any location where it is, and the base
+-- and the scope; without a value these alone
 abbrev pub IsFollowedTo : Asked → Option (Data × Draft) → Resolver → Data → Type 0
 IsFollowedTo asked None r d = d ≡ object_of (resolver_members r)
-IsFollowedTo asked (Some last) r d = IsFoundAt asked (record { value = last.0; draft = last.1; resolver = r }) d
+IsFollowedTo asked (Some last) r d =
+    IsFoundAt asked (record { value = last.0; draft = last.1; resolver = r }) d
 
 -- the members of the error of a step: those of its fault, and its number
 abbrev pub step_members : ℕ → Fault → List (List ℕ × Data)
@@ -61,12 +62,15 @@ IsFollowed asked (Err fault) (Err e) = e ≡ object_of (step_members fault.0 fau
 
 -- the steps one after another, from the base and the scope of the call
 abbrev pub IsFollowedFrom : Asked → Resolver → List Step → Result Data Data → Type 0
-IsFollowedFrom asked r steps outcome = IsFollowed asked (followed_from asked.world 0 (start_at r) steps) outcome
+IsFollowedFrom asked r steps outcome =
+    IsFollowed asked (followed_from asked.world 0 (start_at r) steps) outcome
 
 -- the same of a call whose draft may not be readable, nor its steps
 abbrev pub IsFollowedBy : Data → Asked → Resolver → Result Data Data → Type 0
-IsFollowedBy d asked r outcome = Then (draft_of d) (λ draft. Then (steps_of draft d) (IsFollowedFrom asked r)) outcome
+IsFollowedBy d asked r outcome =
+    Then (draft_of d) (λ draft. Then (steps_of draft d) (IsFollowedFrom asked r)) outcome
 
 -- `follow`
 unfoldable pub IsFollow : Registries → Data → Result Data Data → Type 0
-IsFollow state d outcome = Then (asked_of state d) (λ asked. Then (resolver_of d) (IsFollowedBy d asked)) outcome
+IsFollow state d outcome =
+    Then (asked_of state d) (λ asked. Then (resolver_of d) (IsFollowedBy d asked)) outcome

@@ -19,7 +19,8 @@ use Rattle.ref_serve.specs.State.{Registries, registry_under}
 
 -- the members of a place in one of a registry's own documents
 abbrev pub site_members : ℕ → List Part → List (List ℕ × Data)
-site_members document path = (codes "document", whole document) ∷ (codes "pointer", string (pointer_text path)) ∷ []
+site_members document path =
+    (codes "document", whole document) ∷ (codes "pointer", string (pointer_text path)) ∷ []
 
 -- ---- places
 
@@ -30,7 +31,10 @@ base_text (Err refusal) = []
 
 -- the object of a place
 abbrev pub place_object : Listed → Data
-place_object p = object_of (site_members p.document p.path ++ (codes "base", string (base_text p.base)) ∷ (codes "draft", string (draft_name p.draft)) ∷ [])
+place_object p =
+    object_of
+    (site_members p.document p.path ++ (codes "base", string (base_text p.base))
+    ∷ (codes "draft", string (draft_name p.draft)) ∷ [])
 
 -- those of a registry's own documents, in order
 unfoldable pub places_list : World → Data
@@ -46,7 +50,9 @@ places_result state d = do
 
 -- the object of an unresolvable reference: the place whose `$ref` it is, and the error object of its fault
 abbrev pub dangling_object : DanglingReference → Data
-dangling_object r = object_of (site_members r.document r.path ++ (codes "error", object_of (fault_members r.fault)) ∷ [])
+dangling_object r =
+    object_of
+    (site_members r.document r.path ++ (codes "error", object_of (fault_members r.fault)) ∷ [])
 
 -- those of a registry's own documents, in order
 unfoldable pub dangling_list : World → Data
@@ -86,7 +92,9 @@ vocabularies_result state d = do
   registry ← registry_under state d (codes "registry")
   schema ← schema_of d
   draft ← draft_of d
-  Ok (object_of ((codes "vocabularies", texts (vocabulary_uris (find_vocabularies registry.1.0 draft schema))) ∷ []))
+  Ok (object_of
+      ((codes "vocabularies", texts (vocabulary_uris (find_vocabularies registry.1.0 draft schema)))
+      ∷ []))
 
 -- ---- bundle
 
@@ -109,7 +117,9 @@ problem_name (ReplacedUri uri base) = codes "ReplacedUri"
 
 -- the members of a refusal's error
 abbrev pub refusal_members : BundleRefusal → List (List ℕ × Data)
-refusal_members r = error_members (codes "NotBundled") (refusal_text r) ++ (codes "reason", string (problem_name r.problem)) ∷ site_members r.document r.path
+refusal_members r =
+    error_members (codes "NotBundled") (refusal_text r)
+    ++ (codes "reason", string (problem_name r.problem)) ∷ site_members r.document r.path
 
 -- the object with a bundle's tree, or the error of the refusal
 abbrev pub bundled_result : Result Bundle BundleRefusal → Result Data Data

@@ -38,14 +38,17 @@ above_registry r = (r.1.0, r.0 ∷ r.1.1)
 -- the open registry under `parent`, or else no layers
 abbrev pub parent_at : Registries → Data → Option Data → Result OpenRegistry Data
 parent_at state d None = Ok ([], [])
-parent_at state d (Some value) = registry_under state d (codes "parent") >>= λ r. Ok (above_registry r)
+parent_at state d (Some value) =
+    registry_under state d (codes "parent") >>= λ r. Ok (above_registry r)
 
 unfoldable pub parent_of : Registries → Data → Result OpenRegistry Data
 parent_of state d = parent_at state d (get (codes "parent") d)
 
 -- the documents under `remote`, or else none, under the URIs that their texts mean
 unfoldable pub remote_of : Option Data → Result (List (List ℕ × Data)) Data
-remote_of found = documents_at (codes "remote") found >>= λ documents. under_uris (codes "remote") (unwrap_or documents [])
+remote_of found =
+    documents_at (codes "remote") found
+    >>= λ documents. under_uris (codes "remote") (unwrap_or documents [])
 
 unfoldable pub opening_of : Registries → Data → Result Opening Data
 opening_of state d = do
@@ -54,7 +57,13 @@ opening_of state d = do
   above ← parent_of state d
   documents ← needed_documents (get (codes "documents") d)
   remote ← remote_of (get (codes "remote") d)
-  Ok (record { draft = draft; limit = limit; above = above; documents = documents; remote = remote })
+  Ok (record {
+    draft = draft;
+    limit = limit;
+    above = above;
+    documents = documents;
+    remote = remote;
+  })
 
 -- ---- what is prepared
 
@@ -72,13 +81,17 @@ above_parents parents (Ok layer) = Ok (layer ∷ parents)
 above_parents parents (Err fault) = Err fault
 
 -- the fault of the first text that means no URI, or else an outcome of preparing
-abbrev pub IsWorld : (List Pending → Given) → Result (List Pending) Refusal → Result World Fault → Type 0
-IsWorld given (Ok pending) world = (outcome : Result Layer Fault) × IsOutcome (given pending) outcome × (world ≡ above_parents (given pending).parents outcome)
+abbrev pub IsWorld : (List Pending → Given) → Result (List Pending) Refusal → Result World Fault
+    → Type 0
+IsWorld given (Ok pending) world =
+    (outcome : Result Layer Fault) × IsOutcome (given pending) outcome
+    × (world ≡ above_parents (given pending).parents outcome)
 IsWorld given (Err refusal) world = world ≡ Err (InvalidUri refusal)
 
 -- what preparing is given: what the documents want is retrieved from the map, up to the limit
 abbrev pub given_of_opening : Opening → List Pending → Given
-given_of_opening o pending = given_of_builder (map_retriever o.remote) o.limit (Some o.draft) o.above.0 pending
+given_of_opening o pending =
+    given_of_builder (map_retriever o.remote) o.limit (Some o.draft) o.above.0 pending
 
 -- the world of the documents, or the fault
 abbrev pub IsOpeningWorld : Opening → Result World Fault → Type 0
@@ -88,15 +101,21 @@ IsOpeningWorld o world = IsWorld (given_of_opening o) (pending_of o.documents) w
 
 -- the members of a result: the registry's number, and the URIs of its own documents
 abbrev pub opened_members : ℕ → World → List (List ℕ × Data)
-opened_members number world = (codes "registry", whole number) ∷ (codes "documents", texts (map (λ d. d.uri) (own_layer world))) ∷ []
+opened_members number world =
+    (codes "registry", whole number)
+    ∷ (codes "documents", texts (map (λ d. d.uri) (own_layer world))) ∷ []
 
 -- the registry of a world is opened after the others; or there is the error of a fault, and nothing changes
-abbrev pub IsOpenedIn : Opening → Registries → Registries → Result World Fault → Result Data Data → Type 0
-IsOpenedIn o state next (Ok world) outcome = (outcome ≡ Ok (object_of (opened_members (length state) world))) × (next ≡ state ++ Some (world, o.above.1) ∷ [])
+abbrev pub IsOpenedIn : Opening → Registries → Registries → Result World Fault → Result Data Data
+    → Type 0
+IsOpenedIn o state next (Ok world) outcome =
+    (outcome ≡ Ok (object_of (opened_members (length state) world)))
+    × (next ≡ state ++ Some (world, o.above.1) ∷ [])
 IsOpenedIn o state next (Err fault) outcome = (outcome ≡ Err (fault_error fault)) × (next ≡ state)
 
 abbrev pub IsOpenedBy : Opening → Registries → Registries → Result Data Data → Type 0
-IsOpenedBy o state next outcome = (world : Result World Fault) × IsOpeningWorld o world × IsOpenedIn o state next world outcome
+IsOpenedBy o state next outcome =
+    (world : Result World Fault) × IsOpeningWorld o world × IsOpenedIn o state next world outcome
 
 -- the same of a call that may not be readable
 abbrev pub IsOpenedAs : Result Opening Data → Registries → Registries → Result Data Data → Type 0

@@ -30,7 +30,8 @@ Gives may (Err Memory) = Unit {0}
 Gives may (Err (Because value)) = may (Err (view value))
 
 -- what may be given once something is read, or the error of what can't be read
-abbrev pub Then : {A : Type 0} → Result A Data → (A → Result Data Data → Type 0) → Result Data Data → Type 0
+abbrev pub Then : {A : Type 0} → Result A Data → (A → Result Data Data → Type 0) → Result Data Data
+    → Type 0
 Then (Ok x) may outcome = may x outcome
 Then (Err error) may outcome = outcome ≡ Err error
 
@@ -72,15 +73,20 @@ value_member values value = if values then (codes "value", value) ∷ [] else []
 -- the members of a value that is found at a location
 abbrev pub found_members : Asked → Location → Data → Draft → List (List ℕ × Data)
 found_members asked l value draft =
-    (codes "registry", whole (layer_number asked.number asked.parents l.layer)) ∷ (codes "document", whole l.document)
-    ∷ (codes "pointer", string (pointer_text (map part_of l.path.items))) ∷ (codes "draft", string (draft_name draft)) ∷ value_member asked.values value
+    (codes "registry", whole (layer_number asked.number asked.parents l.layer))
+    ∷ (codes "document", whole l.document)
+    ∷ (codes "pointer", string (pointer_text (map part_of l.path.items)))
+    ∷ (codes "draft", string (draft_name draft)) ∷ value_member asked.values value
 
 -- ---- lookup and recursive
 
 -- the object of what is found: any location where the value stands
 abbrev pub IsFoundAt : Asked → Found → Data → Type 0
 IsFoundAt asked found d =
-    (l : Location) × StandsAt asked.world l found.value × (d ≡ object_of (found_members asked l found.value found.draft ++ resolver_members found.resolver))
+    (l : Location) × StandsAt asked.world l found.value
+    × (d
+    ≡ object_of
+    (found_members asked l found.value found.draft ++ resolver_members found.resolver))
 
 -- the object of what a look-up finds, or the error of its fault
 abbrev pub IsFound : Asked → Result Found Fault → Result Data Data → Type 0
@@ -102,7 +108,9 @@ listed_outcome (Err e) = object_of ((codes "error", e) ∷ [])
 
 -- one of a list of references: what it means, or an object with its error
 abbrev pub IsListed : Asked → Resolver → List ℕ → Data → Type 0
-IsListed asked r reference d = (outcome : Result Data Data) × IsLookedUp asked r reference outcome × (d ≡ listed_outcome outcome)
+IsListed asked r reference d =
+    (outcome : Result Data Data) × IsLookedUp asked r reference outcome
+    × (d ≡ listed_outcome outcome)
 
 abbrev pub IsListedAs : Asked → Resolver → List ℕ → Result Data Data → Type 0
 IsListedAs asked r reference (Ok d) = IsListed asked r reference d
@@ -117,16 +125,21 @@ abbrev pub AreListed : Asked → Resolver → List (List ℕ) → List Data → 
 AreListed asked r [] [] = Unit {0}
 AreListed asked r [] (d ∷ ds) = ⊥
 AreListed asked r (reference ∷ more) [] = ⊥
-AreListed asked r (reference ∷ more) (d ∷ ds) = IsListed asked r reference d × AreListed asked r more ds
+AreListed asked r (reference ∷ more) (d ∷ ds) =
+    IsListed asked r reference d × AreListed asked r more ds
 
 abbrev pub IsList : Asked → Resolver → List (List ℕ) → Result Data Data → Type 0
-IsList asked r references outcome = (ds : List Data) × AreListed asked r references ds × (outcome ≡ Ok (list_of ds))
+IsList asked r references outcome =
+    (ds : List Data) × AreListed asked r references ds × (outcome ≡ Ok (list_of ds))
 
 -- a text is looked up, and each of a list of texts
-abbrev pub IsReferenceAs : Asked → Resolver → Option (List ℕ) → Option Items → Result Data Data → Type 0
+abbrev pub IsReferenceAs : Asked → Resolver → Option (List ℕ) → Option Items → Result Data Data
+    → Type 0
 IsReferenceAs asked r (Some reference) items outcome = IsLookedUp asked r reference outcome
-IsReferenceAs asked r None (Some items) outcome = Then (each_item reference_in 0 items) (IsList asked r) outcome
-IsReferenceAs asked r None None outcome = outcome ≡ Err (field_error InvalidField (codes "reference"))
+IsReferenceAs asked r None (Some items) outcome =
+    Then (each_item reference_in 0 items) (IsList asked r) outcome
+IsReferenceAs asked r None None outcome =
+    outcome ≡ Err (field_error InvalidField (codes "reference"))
 
 abbrev pub IsReference : Asked → Resolver → Data → Result Data Data → Type 0
 IsReference asked r d outcome = IsReferenceAs asked r (as_str d) (as_array d) outcome
@@ -134,17 +147,21 @@ IsReference asked r d outcome = IsReferenceAs asked r (as_str d) (as_array d) ou
 -- `lookup`
 unfoldable pub IsLookup : Registries → Data → Result Data Data → Type 0
 IsLookup state d outcome =
-    Then (asked_of state d) (λ asked. Then (resolver_of d) (λ r. Then (required (codes "reference") d) (IsReference asked r))) outcome
+    Then (asked_of state d)
+    (λ asked. Then (resolver_of d)
+    (λ r. Then (required (codes "reference") d) (IsReference asked r))) outcome
 
 -- `recursive`
 unfoldable pub IsRecursiveCall : Registries → Data → Result Data Data → Type 0
-IsRecursiveCall state d outcome = Then (asked_of state d) (λ asked. Then (resolver_of d) (IsRecursive asked)) outcome
+IsRecursiveCall state d outcome =
+    Then (asked_of state d) (λ asked. Then (resolver_of d) (IsRecursive asked)) outcome
 
 -- ---- enter
 
 -- the base and the dynamic scope inside of a schema, whose draft is detected
 abbrev pub entered_resolver : Resolver → Draft → Data → Result Resolver Data
-entered_resolver r draft schema = as_error (as_invalid_uri (in_subresource r (detect draft schema) schema))
+entered_resolver r draft schema =
+    as_error (as_invalid_uri (in_subresource r (detect draft schema) schema))
 
 -- `enter`
 unfoldable pub enter_result : Registries → Data → Result Data Data

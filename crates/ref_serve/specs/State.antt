@@ -27,7 +27,9 @@ without_registry (slot ∷ state) (suc n) = slot ∷ without_registry state n
 
 -- the number under a member, and the open registry that has it
 abbrev pub numbered_registry : Registries → List ℕ → ℕ → Result (ℕ × OpenRegistry) Data
-numbered_registry state field number = ok_or (option_and_then (λ o. Some (number, o)) (open_at state number)) (field_error UnknownRegistry field)
+numbered_registry state field number =
+    ok_or (option_and_then (λ o. Some (number, o)) (open_at state number))
+    (field_error UnknownRegistry field)
 
 unfoldable pub registry_under : Registries → Data → List ℕ → Result (ℕ × OpenRegistry) Data
 registry_under state d field = do

@@ -58,7 +58,8 @@ fn answer_line(alloc: Global, state: &mut State, line: &[u8]) -> Result<Vec<u8>,
 
 // The line of the answer to a line that is no JSON.
 fn not_json_line(alloc: Global, offset: usize) -> Result<Vec<u8>, AllocError>
-    ensures { IfOk result (λ text. IsLineOf (answer_of None (codes "error") (error_of offset)) text.items) }
+    ensures { IfOk result
+        (λ text. IsLineOf (answer_of None (codes "error") (error_of offset)) text.items) }
 {
     error_text(alloc, None, not_json(alloc, offset))
 }
@@ -70,7 +71,8 @@ fn answer_tree(
     line: &[u8],
     tree: Value,
 ) -> Result<Vec<u8>, AllocError>
-    ensures answer { IfOk result (λ text. spec.IsAnswerTo state.old line.now (Some (view tree)) state.new text.items) }
+    ensures answer { IfOk result
+        (λ text. spec.IsAnswerTo state.old line.now (Some (view tree)) state.new text.items) }
     ensures refused { OnErr result (state.new ≡ state.old) }
 {
     let id = id_of(&tree)?;
@@ -108,7 +110,8 @@ fn change(
 // What a call gives.
 fn reply_to(alloc: Global, state: &mut State, tree: Value) -> Result<Reply, Stop<Value>>
     ensures same { state.new ≡ state.old }
-    ensures reply { Replies (spec.IsReplyTo (call_of (view tree)) state.old (view tree)) state.old result }
+    ensures reply { Replies
+        (spec.IsReplyTo (call_of (view tree)) state.old (view tree)) state.old result }
 {
     match call_of(alloc, &tree)? {
         Call::Open => {

@@ -46,7 +46,8 @@ fn problem_name(problem: &Problem<'_>) -> &'static str
 
 // The error object of a refusal.
 fn refusal_object(alloc: Global, refusal: &Refusal<'_>) -> Result<Value, AllocError>
-    ensures { IfOk result (λ d. view d ≡ object_of (spec.refusal_members (refusal_said refusal.now))) }
+    ensures { IfOk result
+        (λ d. view d ≡ object_of (spec.refusal_members (refusal_said refusal.now))) }
 {
     let message = format!(in alloc; "{refusal}")?;
     let mut members = error_members(alloc, "NotBundled", message.as_str())?;

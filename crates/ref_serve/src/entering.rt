@@ -28,10 +28,12 @@ pub fn entered<'s>(
     draft: Draft,
     schema: &Value,
 ) -> Result<Resolver<'s>, Error>
-    ensures ok { IfOk result (λ r. in_subresource (resolver_view resolver.now) (detect draft (view schema.now))
+    ensures ok { IfOk result
+        (λ r. in_subresource (resolver_view resolver.now) (detect draft (view schema.now))
         (view schema.now) ≡ Ok (resolver_view r)) }
     ensures world { IfOk result (λ r. world_of r ≡ world_of resolver.now) }
-    ensures fault { IfErr result (IsFaultOf (as_invalid_uri (in_subresource (resolver_view resolver.now) (detect draft
+    ensures fault { IfErr result
+        (IsFaultOf (as_invalid_uri (in_subresource (resolver_view resolver.now) (detect draft
         (view schema.now)) (view schema.now)))) }
 {
     let resource = draft.detect(schema).create_resource_ref(schema);
@@ -40,7 +42,8 @@ pub fn entered<'s>(
 
 /// The object with the base and the dynamic scope.
 pub fn resolver_object(alloc: Global, resolver: &Resolver<'_>) -> Result<Value, AllocError>
-    ensures { IfOk result (λ d. view d ≡ object_of (results.resolver_members (resolver_view resolver.now))) }
+    ensures { IfOk result
+        (λ d. view d ≡ object_of (results.resolver_members (resolver_view resolver.now))) }
 {
     let mut members = Map::new(alloc);
     put_resolver(alloc, &mut members, resolver)?;

@@ -67,7 +67,8 @@ fn steps_in<'t>(
     draft: Draft,
     items: &'t [Value],
 ) -> Result<Vec<Step<'t>>, Stop<Value>>
-    ensures { Answers (λ v. map step_of v.items) result (each_item (spec.step_in draft) 0 (items_view items.now)) }
+    ensures { Answers (λ v. map step_of v.items) result
+        (each_item (spec.step_in draft) 0 (items_view items.now)) }
 {
     let mut steps = Vec::with_capacity(alloc, items.len())?;
     for (index, item) in items.iter().enumerate() {
@@ -93,11 +94,14 @@ fn looked_up<'s>(
     resolver: &Resolver<'s>,
     reference: Option<&str>,
 ) -> Result<Followed<'s>, Error>
-    ensures ok { IfOk result (λ f. IsLookedUpTo (answer_at (world_of resolver.now) (resolver_view resolver.now) (option_map
+    ensures ok { IfOk result
+        (λ f. IsLookedUpTo
+        (answer_at (world_of resolver.now) (resolver_view resolver.now) (option_map
         (λ r. r.now) reference.entry)) (followed_view f)) }
     ensures placed { IfOk result (λ f. IsPlaced (world_of resolver.now) f) }
     ensures world { IfOk result (λ f. world_of f.resolver ≡ world_of resolver.now) }
-    ensures fault { IfErr result (IsFaultOf (answer_at (world_of resolver.now) (resolver_view resolver.now) (option_map
+    ensures fault { IfErr result
+        (IsFaultOf (answer_at (world_of resolver.now) (resolver_view resolver.now) (option_map
         (λ r. r.now) reference.entry))) }
 {
     let (found, resolver) = found_at(alloc, resolver, reference)?;
@@ -114,11 +118,13 @@ fn stepped<'s>(
     step: &Step<'_>,
 ) -> Result<Followed<'s>, Error>
     requires { IsPlaced (world_of followed.resolver) followed }
-    ensures ok { IfOk result (λ f. after_step (world_of followed.entry.resolver) (followed_view followed.entry)
+    ensures ok { IfOk result
+        (λ f. after_step (world_of followed.entry.resolver) (followed_view followed.entry)
         (step_of step.now) ≡ Ok (followed_view f)) }
     ensures placed { IfOk result (λ f. IsPlaced (world_of followed.entry.resolver) f) }
     ensures world { IfOk result (λ f. world_of f.resolver ≡ world_of followed.entry.resolver) }
-    ensures fault { IfErr result (IsFaultOf (after_step (world_of followed.entry.resolver) (followed_view followed.entry)
+    ensures fault { IfErr result
+        (IsFaultOf (after_step (world_of followed.entry.resolver) (followed_view followed.entry)
         (step_of step.now))) }
 {
     match step {
@@ -151,7 +157,8 @@ fn all_followed<'s>(
     start: Resolver<'s>,
     steps: &[Step<'_>],
 ) -> Result<Followed<'s>, Stop<Value>>
-    ensures ok { IfOk result (λ f. followed_from (world_of start.entry) 0 (spec.start_at (resolver_view start.entry))
+    ensures ok { IfOk result
+        (λ f. followed_from (world_of start.entry) 0 (spec.start_at (resolver_view start.entry))
         (map step_of steps.now) ≡ Ok (followed_view f)) }
     ensures placed { IfOk result (λ f. IsPlaced (world_of start.entry) f) }
     ensures error { IfErr result (IsStepError (followed_from (world_of start.entry) 0 (spec.start_at
@@ -195,7 +202,8 @@ fn followed_object(
     followed: &Followed<'_>,
 ) -> Result<Value, AllocError>
     requires { IsPlaced asked.now.registry.now.0 followed.now }
-    ensures { IfOk result (λ d. spec.IsFollowedTo (asked_view asked.now) (followed_view followed.now).last
+    ensures { IfOk result
+        (λ d. spec.IsFollowedTo (asked_view asked.now) (followed_view followed.now).last
         (resolver_view followed.now.resolver) (view d)) }
 {
     match &followed.last {
@@ -212,7 +220,9 @@ fn steps_result(
     steps: &[Step<'_>],
 ) -> Result<Value, Stop<Value>>
     requires { world_of start ≡ asked.now.registry.now.0 }
-    ensures { Gives (spec.IsFollowedFrom (asked_view asked.now) (resolver_view start.entry) (map step_of steps.now)) result }
+    ensures { Gives
+        (spec.IsFollowedFrom (asked_view asked.now) (resolver_view start.entry)
+        (map step_of steps.now)) result }
 {
     let followed = all_followed(alloc, start, steps)?;
     Ok(followed_object(alloc, asked, &followed)?)

@@ -33,7 +33,8 @@ fn place_object(alloc: Global, place: &Place<'_>) -> Result<Value, AllocError>
 // The object of an entry.
 #[tactic(auto, unfolding(ref_calls::specs::Errors::fault_error))]
 fn dangling_object(alloc: Global, entry: &Dangling<'_>) -> Result<Value, AllocError>
-    ensures { (r : DanglingReference) → IsEntryOf entry.now r → IfOk result (λ d. view d ≡ spec.dangling_object r) }
+    ensures { (r : DanglingReference) → IsEntryOf entry.now r
+        → IfOk result (λ d. view d ≡ spec.dangling_object r) }
 {
     let mut members = Map::new(alloc);
     put_site(alloc, &mut members, entry.document, entry.path.as_slice())?;

@@ -28,9 +28,11 @@ fn found_object(
     reference: Option<&str>,
 ) -> Result<Value, Error>
     requires { world_of resolver.now ≡ asked.now.registry.now.0 }
-    ensures ok { IfOk result (λ d. results.IsFound (asked_view asked.now) (answer_at asked.now.registry.now.0
+    ensures ok { IfOk result
+        (λ d. results.IsFound (asked_view asked.now) (answer_at asked.now.registry.now.0
         (resolver_view resolver.now) (option_map (λ r. r.now) reference.entry)) (Ok (view d))) }
-    ensures fault { IfErr result (IsFaultOf (answer_at asked.now.registry.now.0 (resolver_view resolver.now) (option_map
+    ensures fault { IfErr result
+        (IsFaultOf (answer_at asked.now.registry.now.0 (resolver_view resolver.now) (option_map
         (λ r. r.now) reference.entry))) }
 {
     let (found, next) = found_at(alloc, resolver, reference)?;
@@ -48,7 +50,9 @@ fn found_or_stop(
     reference: Option<&str>,
 ) -> Result<Value, Stop<Value>>
     requires { world_of resolver.now ≡ asked.now.registry.now.0 }
-    ensures { Gives (results.IsFound (asked_view asked.now) (answer_at asked.now.registry.now.0 (resolver_view resolver.now)
+    ensures { Gives
+        (results.IsFound (asked_view asked.now)
+        (answer_at asked.now.registry.now.0 (resolver_view resolver.now)
         (option_map (λ r. r.now) reference.entry))) result }
 {
     match found_object(alloc, asked, resolver, reference) {
@@ -76,7 +80,9 @@ fn found_item(
     index: usize,
 ) -> Result<Value, Stop<Value>>
     requires { world_of resolver.now ≡ asked.now.registry.now.0 }
-    ensures { Gives (Then (results.reference_in index (view item.now)) (results.IsListedAs (asked_view asked.now)
+    ensures { Gives
+        (Then (results.reference_in index (view item.now))
+        (results.IsListedAs (asked_view asked.now)
         (resolver_view resolver.now))) result }
 {
     let reference = reference_in(alloc, item, index)?;
@@ -95,7 +101,9 @@ fn found_items(
     items: &[Value],
 ) -> Result<Value, Stop<Value>>
     requires { world_of resolver.now ≡ asked.now.registry.now.0 }
-    ensures { Gives (Then (each_item results.reference_in 0 (items_view items.now)) (results.IsList (asked_view asked.now)
+    ensures { Gives
+        (Then (each_item results.reference_in 0 (items_view items.now))
+        (results.IsList (asked_view asked.now)
         (resolver_view resolver.now))) result }
 {
     let mut list = Vec::with_capacity(alloc, items.len())?;
@@ -115,7 +123,9 @@ fn referred(
     reference: &Value,
 ) -> Result<Value, Stop<Value>>
     requires { world_of resolver.now ≡ asked.now.registry.now.0 }
-    ensures { Gives (results.IsReference (asked_view asked.now) (resolver_view resolver.now) (view reference.now)) result }
+    ensures { Gives
+        (results.IsReference (asked_view asked.now) (resolver_view resolver.now)
+        (view reference.now)) result }
 {
     if let Some(text) = reference.as_str() {
         return found_or_stop(alloc, asked, resolver, Some(text));

@@ -128,9 +128,12 @@ fn builder_of(
     above: Option<&'static Registry<'static>>,
     documents: Vec<Document>,
 ) -> Result<RegistryBuilder<'static>, Error>
-    ensures ok { IfOk result (λ b. Holds (unwrap_or (option_map (λ r. r.now) above.entry) []) (map given_of documents.items)
+    ensures ok { IfOk result
+        (λ b. Holds (unwrap_or (option_map (λ r. r.now) above.entry) [])
+        (map given_of documents.items)
         (builder_of b)) }
-    ensures fault { IfErr result (IsErrorOf (λ answer. as_invalid_uri (spec.pending_of (map given_of documents.items))
+    ensures fault { IfErr result
+        (IsErrorOf (λ answer. as_invalid_uri (spec.pending_of (map given_of documents.items))
         ≡ answer)) }
 {
     match above {
@@ -148,9 +151,12 @@ fn prepared(
     limit: usize,
     remote: MapRetriever,
 ) -> Result<Registry<'static>, Error>
-    ensures ok { IfOk result (λ world. spec.IsWorld (given_of_builder (map_retriever (trees_of remote)) limit (Some draft)
+    ensures ok { IfOk result
+        (λ world. spec.IsWorld
+        (given_of_builder (map_retriever (trees_of remote)) limit (Some draft)
         (unwrap_or (option_map (λ r. r.now) above.entry) [])) (spec.pending_of (map given_of documents.items)) (Ok world)) }
-    ensures fault { IfErr result (IsErrorOf (spec.IsWorld (given_of_builder (map_retriever (trees_of remote)) limit
+    ensures fault { IfErr result
+        (IsErrorOf (spec.IsWorld (given_of_builder (map_retriever (trees_of remote)) limit
         (Some draft) (unwrap_or (option_map (λ r. r.now) above.entry) [])) (spec.pending_of
         (map given_of documents.items)))) }
 {
@@ -211,7 +217,8 @@ fn put_opened(
 
 // One registry, which gets the next number.
 fn open_one(alloc: Global, number: usize, added: Open) -> Result<Opened, AllocError>
-    ensures result { IfOk result (λ opened. view opened.result ≡ object_of (spec.opened_members number added.0)) }
+    ensures result { IfOk result
+        (λ opened. view opened.result ≡ object_of (spec.opened_members number added.0)) }
     ensures one { IfOk result (λ opened. opened.registries.items ≡ Some added ∷ []) }
 {
     let mut members = Map::new(alloc);

@@ -27,9 +27,12 @@ fn location_of<'s>(
     resolver: &Resolver<'s>,
     reference: Option<&str>,
 ) -> Result<Location<'s>, Error>
-    ensures ok { IfOk result (IsWhere (world_of resolver.now) (answer_at (world_of resolver.now) (resolver_of resolver.now)
+    ensures ok { IfOk result
+        (IsWhere (world_of resolver.now)
+        (answer_at (world_of resolver.now) (resolver_of resolver.now)
         (option_map (λ r. r.now) reference.entry))) }
-    ensures fault { IfErr result (IsFaultOf (answer_at (world_of resolver.now) (resolver_of resolver.now) (option_map
+    ensures fault { IfErr result
+        (IsFaultOf (answer_at (world_of resolver.now) (resolver_of resolver.now) (option_map
         (λ r. r.now) reference.entry))) }
 {
     match reference {
@@ -50,7 +53,9 @@ pub fn pointer_of(alloc: Global, path: &[JsonPointerSegment<'_>]) -> Result<Stri
 }
 
 fn push_segment(pointer: &mut String, segment: &JsonPointerSegment<'_>) -> Result<(), AllocError>
-    ensures { OnOk result (string_bytes pointer.new ≡ string_bytes pointer.old ++ slash ∷ part_text (part_of segment.now)) }
+    ensures { OnOk result
+        (string_bytes pointer.new
+        ≡ string_bytes pointer.old ++ slash ∷ part_text (part_of segment.now)) }
 {
     pointer.push('/')?;
     match segment {
@@ -66,8 +71,10 @@ pub fn put_site(
     document: usize,
     path: &[JsonPointerSegment<'_>],
 ) -> Result<(), AllocError>
-    ensures { OnOk result (members_view members.new.entries ≡ with_all ((codes "document", whole document)
-        ∷ (codes "pointer", string (pointer_text (map part_of path.now))) ∷ []) (members_view members.old.entries)) }
+    ensures { OnOk result
+        (members_view members.new.entries ≡ with_all ((codes "document", whole document)
+        ∷ (codes "pointer", string (pointer_text (map part_of path.now))) ∷ [])
+        (members_view members.old.entries)) }
 {
     put_number(alloc, members, "document", document)?;
     let pointer = pointer_of(alloc, path)?;
@@ -81,7 +88,8 @@ pub fn put_resolver(
     resolver: &Resolver<'_>,
 ) -> Result<(), AllocError>
     ensures { OnOk result (members_view members.new.entries
-        ≡ with_all (results.resolver_members (resolver_of resolver.now)) (members_view members.old.entries)) }
+        ≡ with_all (results.resolver_members (resolver_of resolver.now))
+        (members_view members.old.entries)) }
 {
     put_text(alloc, members, "base", resolver.base_uri().as_str())?;
     let scope = uris_of(alloc, resolver.dynamic_scope())?;
@@ -102,10 +110,12 @@ pub fn found_at<'s>(
     resolver: &Resolver<'s>,
     reference: Option<&str>,
 ) -> Result<(Found<'s>, Resolver<'s>), Error>
-    ensures ok { IfOk result (λ f. IsFoundBy (world_of resolver.now) (answer_at (world_of resolver.now)
+    ensures ok { IfOk result
+        (λ f. IsFoundBy (world_of resolver.now) (answer_at (world_of resolver.now)
         (resolver_of resolver.now) (option_map (λ r. r.now) reference.entry)) f.0 (resolver_of f.1)) }
     ensures world { IfOk result (λ f. world_of f.1 ≡ world_of resolver.now) }
-    ensures fault { IfErr result (IsFaultOf (answer_at (world_of resolver.now) (resolver_of resolver.now) (option_map
+    ensures fault { IfErr result
+        (IsFaultOf (answer_at (world_of resolver.now) (resolver_of resolver.now) (option_map
         (λ r. r.now) reference.entry))) }
 {
     let resolved = match reference {
@@ -130,7 +140,8 @@ fn put_value(
     value: &Value,
 ) -> Result<(), AllocError>
     ensures { OnOk result (members_view members.new.entries
-        ≡ with_all (results.value_member values (view value.now)) (members_view members.old.entries)) }
+        ≡ with_all (results.value_member values (view value.now))
+        (members_view members.old.entries)) }
 {
     if !values {
         return Ok(());

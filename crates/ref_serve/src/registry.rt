@@ -19,7 +19,8 @@ pub fn registry_under<'s>(
     tree: &Value,
     field: &str,
 ) -> Result<(usize, &'s Open), Stop<Value>>
-    ensures { Answers (λ r. (r.0, r.1.now)) result (spec.registry_under state.now (view tree.now) field.now) }
+    ensures { Answers (λ r. (r.0, r.1.now)) result
+        (spec.registry_under state.now (view tree.now) field.now) }
 {
     let value = required(alloc, tree, field)?;
     let number = number_in(alloc, value, field)?;
@@ -35,7 +36,8 @@ pub fn registry_of<'s>(
     state: &'s State,
     tree: &Value,
 ) -> Result<(usize, &'s Open), Stop<Value>>
-    ensures { Answers (λ r. (r.0, r.1.now)) result (spec.registry_under state.now (view tree.now) (codes "registry")) }
+    ensures { Answers (λ r. (r.0, r.1.now)) result
+        (spec.registry_under state.now (view tree.now) (codes "registry")) }
 {
     registry_under(alloc, state, tree, "registry")
 }

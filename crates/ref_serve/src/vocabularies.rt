@@ -32,7 +32,8 @@ const KNOWN: [&str; 9] = [
 
 // Whether the vocabulary of a known one's URI is in a set.
 fn has(alloc: Global, set: &VocabularySet, uri: &str) -> bool
-    ensures { (k : Known) → from_text uri.now ≡ Ok (Standard k) → result ≡ contains set.now (Standard k) }
+    ensures { (k : Known) → from_text uri.now ≡ Ok (Standard k)
+        → result ≡ contains set.now (Standard k) }
 {
     match Vocabulary::from_text(alloc, uri) {
         Ok(vocabulary) => set.contains(&vocabulary),
@@ -48,7 +49,9 @@ fn push_known(
     uri: &str,
 ) -> Result<(), AllocError>
     ensures { (k : Known) → from_text uri.now ≡ Ok (Standard k) → uri.now ≡ spec.known_uri k
-        → OnOk result (map view list.new.items ≡ map view list.old.items ++ map (λ t. string t) (spec.known_uris set.now (k
+        → OnOk result
+        (map view list.new.items
+        ≡ map view list.old.items ++ map (λ t. string t) (spec.known_uris set.now (k
         ∷ []))) }
 {
     if has(alloc, set, uri) {

@@ -113,7 +113,8 @@ impl<R: Read + Drop> Source for Input<R> {
     // The end is reached where the last read gave no byte; a read that fails leaves that as it was.
     fn read(&mut self, buffer: &mut [u8]) -> Result<usize, Failed>
         ensures within { IfOk result (λ n. n ≤ length buffer.new) }
-        ensures bytes { ReadConsumes (R.remaining self.old.reader) (R.remaining self.new.reader) result buffer.new }
+        ensures bytes { ReadConsumes (R.remaining self.old.reader)
+            (R.remaining self.new.reader) result buffer.new }
         ensures end { result ≡ Ok 0 → 0 < length buffer.new → IsTrue self.new.ended }
         ensures count { self.new.failures ≡ count_after result self.old.failures }
         ensures ended { IfOk result (λ n. self.new.ended ≡ (n == 0)) }
@@ -135,7 +136,8 @@ impl<R: Read + Drop> Source for Input<R> {
 // A read that a signal interrupted is made again.
 fn read_uninterrupted<R: Read>(reader: &mut R, buffer: &mut [u8]) -> io::Result<usize>
     ensures within { IfOk result (λ n. n ≤ length buffer.new) }
-    ensures bytes { ReadConsumes (R.remaining reader.old) (R.remaining reader.new) result buffer.new }
+    ensures bytes { ReadConsumes (R.remaining reader.old)
+        (R.remaining reader.new) result buffer.new }
 {
     for _ in 0..u64::MAX {
         match reader.read(buffer) {

@@ -8,7 +8,8 @@ use Rattle.ref_uri.specs.Bytes.{dot, colon, at_sign, opening_bracket, closing_br
 
 -- what is before the first such character, where there is one
 abbrev pub part_before : ℕ → List ℕ → Option (List ℕ)
-part_before c text = if list_any (λ x. x == c) text then Some (before_first (λ x. x == c) text) else None
+part_before c text =
+    if list_any (λ x. x == c) text then Some (before_first (λ x. x == c) text) else None
 
 -- what follows the first such character, or all where there is none
 abbrev pub part_after : ℕ → List ℕ → List ℕ
@@ -25,7 +26,8 @@ host_and_port authority = part_after at_sign authority
 -- how long the host is: through `]` where it begins with `[`, else up to `:`
 abbrev pub host_len : List ℕ → ℕ
 host_len text =
-    if slice_index text 0 == opening_bracket then min (position_or_len (λ c. c == closing_bracket) text + 1) (length text)
+    if slice_index text 0 == opening_bracket then
+    min (position_or_len (λ c. c == closing_bracket) text + 1) (length text)
     else position_or_len (λ c. c == colon) text
 
 -- a name or an address, in its brackets where it has any (3.2.2)
@@ -47,7 +49,8 @@ is_address text = nat_lt 0 (length text) && list_all is_address_character text
 -- hex digits, `.`, and unreserved, sub-delims or `:`, each at least once (IPvFuture after its `v`, 3.2.2)
 abbrev pub is_version_and_address : List ℕ → Bool
 is_version_and_address text =
-    nat_lt 0 (length (before_first (λ c. c == dot) text)) && nat_lt 0 (length (after_first (λ c. c == dot) text))
+    nat_lt 0 (length (before_first (λ c. c == dot) text))
+    && nat_lt 0 (length (after_first (λ c. c == dot) text))
     && list_all is_ascii_hexdigit (before_first (λ c. c == dot) text)
     && list_all is_userinfo_character (after_first (λ c. c == dot) text)
 
@@ -63,7 +66,8 @@ is_either_address text = is_address text || is_future_address text
 -- The first `]` ends the text, and an address is before it.
 abbrev pub is_address_and_bracket : List ℕ → Bool
 is_address_and_bracket text =
-    (position_or_len (λ c. c == closing_bracket) text + 1 == length text) && is_either_address (before_first (λ c. c == closing_bracket) text)
+    (position_or_len (λ c. c == closing_bracket) text + 1 == length text)
+    && is_either_address (before_first (λ c. c == closing_bracket) text)
 
 -- `[`, an address, `]` (IP-literal, 3.2.2)
 abbrev pub is_bracketed : List ℕ → Bool
@@ -81,8 +85,11 @@ is_port_part (c ∷ digits) = (c == colon) && list_all is_ascii_digit digits
 
 -- a host and a port
 abbrev pub is_host_and_port : List ℕ → Bool
-is_host_and_port text = is_host (take (host_len text) text) && is_port_part (drop (host_len text) text)
+is_host_and_port text =
+    is_host (take (host_len text) text) && is_port_part (drop (host_len text) text)
 
 -- userinfo that holds what it may, where there is any, and a host and a port
 abbrev pub is_authority : List ℕ → Bool
-is_authority text = option_map_or (is_encoded is_userinfo_character) (userinfo text) true && is_host_and_port (host_and_port text)
+is_authority text =
+    option_map_or (is_encoded is_userinfo_character) (userinfo text) true
+    && is_host_and_port (host_and_port text)

@@ -49,7 +49,8 @@ begins_with_hex_digits (high ∷ low ∷ rest) = is_ascii_hexdigit high && is_as
 -- each `%` is followed by two hex digits (2.1)
 abbrev pub has_whole_triples : List ℕ → Bool
 has_whole_triples [] = true
-has_whole_triples (c ∷ rest) = (if c == percent then begins_with_hex_digits rest else true) && has_whole_triples rest
+has_whole_triples (c ∷ rest) =
+    (if c == percent then begins_with_hex_digits rest else true) && has_whole_triples rest
 
 -- a text of characters that are allowed, hex digits among them, and of triples
 abbrev pub is_encoded : (ℕ → Bool) → List ℕ → Bool

@@ -23,7 +23,8 @@ framed_component before (Some component) after = before ++ component ++ after
 -- the text that components make (5.3)
 abbrev pub text_of : Components → List ℕ
 text_of c =
-    framed_component [] c.scheme (codes ":") ++ framed_component (codes "//") c.authority [] ++ c.path ++ framed_component (codes "?") c.query []
+    framed_component [] c.scheme (codes ":") ++ framed_component (codes "//") c.authority []
+    ++ c.path ++ framed_component (codes "?") c.query []
     ++ framed_component (codes "#") c.fragment []
 
 -- what ends a scheme
@@ -62,7 +63,8 @@ begins_with_slashes text = (slice_index text 0 == slash) && (slice_index text 1 
 
 -- what is after `//`, up to the next of `/?#`
 abbrev pub authority_in_front : List ℕ → Option (List ℕ)
-authority_in_front text = if begins_with_slashes text then Some (before_first ends_authority (drop 2 text)) else None
+authority_in_front text =
+    if begins_with_slashes text then Some (before_first ends_authority (drop 2 text)) else None
 
 -- the authority, where there is one (3.2)
 unfoldable pub authority : List ℕ → Option (List ℕ)
@@ -82,7 +84,9 @@ after_path text = drop (position_or_len ends_path (after_authority text)) (after
 
 -- what is after `?`, up to `#`
 abbrev pub query_in_front : List ℕ → Option (List ℕ)
-query_in_front text = if slice_index text 0 == question_mark then Some (before_first ends_query (drop 1 text)) else None
+query_in_front text =
+    if slice_index text 0 == question_mark then Some (before_first ends_query (drop 1 text))
+    else None
 
 -- the query, where there is one (3.4)
 unfoldable pub query : List ℕ → Option (List ℕ)
@@ -103,7 +107,13 @@ fragment text = fragment_in_front (after_query text)
 -- the components of any text
 abbrev pub components : List ℕ → Components
 components text =
-    record { scheme = scheme text; authority = authority text; path = path text; query = query text; fragment = fragment text }
+    record {
+      scheme = scheme text;
+      authority = authority text;
+      path = path text;
+      query = query text;
+      fragment = fragment text;
+    }
 
 -- a letter, and then letters, digits and `+-.` (3.1)
 abbrev pub is_scheme : List ℕ → Bool
@@ -127,10 +137,13 @@ if_there test component = option_map_or test component true
 abbrev pub is_path_after : Option (List ℕ) → Option (List ℕ) → List ℕ → Bool
 is_path_after scheme (Some authority) path = (length path == 0) || (slice_index path 0 == slash)
 is_path_after (Some scheme) None path = not (begins_with_slashes path)
-is_path_after None None path = not (begins_with_slashes path) && not (list_any (λ c. c == colon) (before_first (λ c. c == slash) path))
+is_path_after None None path =
+    not (begins_with_slashes path)
+    && not (list_any (λ c. c == colon) (before_first (λ c. c == slash) path))
 
 -- each component holds what it may (3)
 unfoldable pub are_components : Components → Bool
 are_components c =
-    if_there is_scheme c.scheme && if_there is_authority c.authority && is_path c.path && if_there is_query c.query
+    if_there is_scheme c.scheme && if_there is_authority c.authority && is_path c.path
+    && if_there is_query c.query
     && if_there is_query c.fragment && is_path_after c.scheme c.authority c.path

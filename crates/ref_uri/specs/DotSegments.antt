@@ -31,7 +31,8 @@ is_dot_segment segment = is_dot segment || is_dot_dot segment
 
 -- The kept segments, the last of them first, after one more: `.` goes, and `..` takes away the nearest to its left.
 abbrev pub kept_after : List (List ℕ) → List ℕ → List (List ℕ)
-kept_after kept segment = if is_dot segment then kept else (if is_dot_dot segment then drop 1 kept else segment ∷ kept)
+kept_after kept segment =
+    if is_dot segment then kept else (if is_dot_dot segment then drop 1 kept else segment ∷ kept)
 
 -- The first segment after one more. It is what is before the first `/`: a `..` that finds nothing kept takes it away, and
 -- what is left is the root, so that `b/../c` becomes `/c`.
@@ -41,7 +42,8 @@ first_after first kept segment = if is_dot_dot segment && (length kept == 0) the
 -- what remains of the segments, from the left
 abbrev pub remaining_segments : List ℕ → List (List ℕ) → List (List ℕ) → List (List ℕ)
 remaining_segments first kept [] = first ∷ reverse kept
-remaining_segments first kept (segment ∷ rest) = remaining_segments (first_after first kept segment) (kept_after kept segment) rest
+remaining_segments first kept (segment ∷ rest) =
+    remaining_segments (first_after first kept segment) (kept_after kept segment) rest
 
 -- the last segment is a dot segment: then the path ends in `/`
 abbrev pub ends_in_dots : List (List ℕ) → Bool
@@ -52,8 +54,11 @@ ends_in_dots (segment ∷ next ∷ rest) = ends_in_dots (next ∷ rest)
 -- of segments of which the first is no dot segment
 abbrev pub without_dots : List (List ℕ) → List (List ℕ)
 without_dots [] = []
-without_dots (first ∷ rest) = remaining_segments first [] rest ++ (if ends_in_dots rest then [] ∷ [] else [])
+without_dots (first ∷ rest) =
+    remaining_segments first [] rest ++ (if ends_in_dots rest then [] ∷ [] else [])
 
 -- Dot segments before a path without leading `/` go; then each of the others, from the left.
 unfoldable pub remove_dot_segments : List ℕ → List ℕ
-remove_dot_segments path = joined_segments (without_dots (drop (prefix_len is_dot_segment (segments path)) (segments path)))
+remove_dot_segments path =
+    joined_segments
+    (without_dots (drop (prefix_len is_dot_segment (segments path)) (segments path)))

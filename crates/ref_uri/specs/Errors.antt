@@ -36,9 +36,11 @@ resolve_fault_text (resolve_fault.Memory error) = codes "Out of memory"
 -- of a text that means no URI
 abbrev pub uri_error_text : UriError → List ℕ
 uri_error_text (Parse uri is_reference error) =
-    codes "Invalid URI " ++ (if is_reference then codes "reference '" else codes "'") ++ string_bytes uri ++ codes "': " ++ parse_error_text error
+    codes "Invalid URI " ++ (if is_reference then codes "reference '" else codes "'")
+    ++ string_bytes uri ++ codes "': " ++ parse_error_text error
 uri_error_text (Resolve uri base error) =
-    codes "Failed to resolve '" ++ string_bytes uri ++ codes "' against '" ++ string_bytes base ++ codes "': " ++ resolve_error_text error
+    codes "Failed to resolve '" ++ string_bytes uri ++ codes "' against '" ++ string_bytes base
+    ++ codes "': " ++ resolve_error_text error
 
 -- of that, or of being out of memory
 abbrev pub uri_fault_text : UriFault → List ℕ
@@ -47,12 +49,15 @@ uri_fault_text (uri_fault.Memory error) = codes "Out of memory"
 
 -- the error says what the definition refuses
 abbrev pub SaysRefusal : UriError → Refusal → Type 0
-SaysRefusal (Parse uri is_reference error) (parse_refusal text) = (string_bytes uri ≡ text) × (is_reference ≡ true) × (error ≡ Syntax)
+SaysRefusal (Parse uri is_reference error) (parse_refusal text) =
+    (string_bytes uri ≡ text) × (is_reference ≡ true) × (error ≡ Syntax)
 SaysRefusal (Parse uri is_reference error) (resolve_refusal text against) = ⊥
 SaysRefusal (Resolve uri base error) (parse_refusal text) = ⊥
-SaysRefusal (Resolve uri base error) (resolve_refusal text against) = (string_bytes uri ≡ text) × (string_bytes base ≡ against) × (error ≡ BaseWithoutScheme)
+SaysRefusal (Resolve uri base error) (resolve_refusal text against) =
+    (string_bytes uri ≡ text) × (string_bytes base ≡ against) × (error ≡ BaseWithoutScheme)
 
 -- the fault is that of the definition, or out of memory
 abbrev pub IsFaultOf : Result (List ℕ) Refusal → UriFault → Type 0
-IsFaultOf meaning (uri_fault.Invalid error) = (refusal : Refusal) × (meaning ≡ Err refusal) × SaysRefusal error refusal
+IsFaultOf meaning (uri_fault.Invalid error) =
+    (refusal : Refusal) × (meaning ≡ Err refusal) × SaysRefusal error refusal
 IsFaultOf meaning (uri_fault.Memory error) = ⊤

@@ -14,7 +14,8 @@ hex_value c = if nat_lt c 58 then c - 48 else to_ascii_lowercase c - 87
 -- A triple of an unreserved character is that character (6.2.2.2), another one has its digits in upper case (6.2.2.1).
 abbrev pub normal_triple : (ℕ → ℕ) → ℕ → ℕ → List ℕ
 normal_triple fold high low =
-    if is_unreserved (16 * hex_value high + hex_value low) then fold (16 * hex_value high + hex_value low) ∷ []
+    if is_unreserved (16 * hex_value high + hex_value low) then
+    fold (16 * hex_value high + hex_value low) ∷ []
     else percent ∷ to_ascii_uppercase high ∷ to_ascii_uppercase low ∷ []
 
 -- An encoded text in normal form, where fold is what case a character gets: `%` and two digits are a normal triple.
@@ -42,17 +43,20 @@ normal_port_part part = if length part == 1 then [] else part
 -- an authority in normal form: userinfo, host and port part each (3.2.3 and 6.2.2)
 unfoldable pub normal_authority : List ℕ → List ℕ
 normal_authority authority =
-    framed_component [] (option_map normal_text (userinfo authority)) (codes "@") ++ normal_host (host authority)
+    framed_component [] (option_map normal_text (userinfo authority)) (codes "@")
+    ++ normal_host (host authority)
     ++ normal_port_part (port_part authority)
 
 -- `/.` is before a path that would be taken for an authority (6.2.2.3 leaves it open; 3.3)
 abbrev pub guarded_path : Option (List ℕ) → List ℕ → List ℕ
-guarded_path authority path = if is_none authority && begins_with_slashes path then codes "/." ++ path else path
+guarded_path authority path =
+    if is_none authority && begins_with_slashes path then codes "/." ++ path else path
 
 -- with a scheme dot segments go too (6.2.2.3); without one they stay
 abbrev pub normal_path : Option (List ℕ) → Option (List ℕ) → List ℕ → List ℕ
 normal_path None authority path = normal_text path
-normal_path (Some scheme) authority path = guarded_path authority (remove_dot_segments (normal_text path))
+normal_path (Some scheme) authority path =
+    guarded_path authority (remove_dot_segments (normal_text path))
 
 -- component by component
 abbrev pub normal_components : Components → Components

@@ -13,11 +13,15 @@ through_last_slash path = take (length path - suffix_len (λ c. not (c == slash)
 
 -- a relative path after the base's (5.2.3)
 abbrev pub merged_path : Components → List ℕ → List ℕ
-merged_path base path = if is_some base.authority && (length base.path == 0) then slash ∷ path else through_last_slash base.path ++ path
+merged_path base path =
+    if is_some base.authority && (length base.path == 0) then slash ∷ path
+    else through_last_slash base.path ++ path
 
 -- the path of the target of a reference that has one (5.2.2)
 abbrev pub target_path : Components → List ℕ → List ℕ
-target_path base path = if slice_index path 0 == slash then remove_dot_segments path else remove_dot_segments (merged_path base path)
+target_path base path =
+    if slice_index path 0 == slash then remove_dot_segments path
+    else remove_dot_segments (merged_path base path)
 
 -- the reference's query, or the base's where it has none
 abbrev pub query_or : Option (List ℕ) → Option (List ℕ) → Option (List ℕ)
@@ -40,8 +44,10 @@ target_components base reference =
       authority = if has_base_authority reference then base.authority else reference.authority;
       path =
           if has_base_path reference then base.path
-          else (if has_base_authority reference then target_path base reference.path else remove_dot_segments reference.path);
-      query = if has_base_path reference then query_or reference.query base.query else reference.query;
+          else (if has_base_authority reference then target_path base reference.path
+          else remove_dot_segments reference.path);
+      query =
+          if has_base_path reference then query_or reference.query base.query else reference.query;
       fragment = reference.fragment;
     }
 

@@ -89,8 +89,24 @@ pub record ComponentRows : Type 0 where
   pub with_its_mark : framed_component (codes "//") (Some (codes "a")) [] ≡ codes "//a"
   pub empty_with_its_mark : framed_component (codes "?") (Some []) [] ≡ codes "?"
   pub absent : framed_component (codes "?") None [] ≡ []
-  pub whole_text : text_of (record { scheme = Some (codes "foo"); authority = Some (codes "a"); path = codes "/b"; query = Some (codes "c"); fragment = Some (codes "d") }) ≡ codes "foo://a/b?c#d"
-  pub path_alone : text_of (record { scheme = None; authority = None; path = codes "b"; query = None; fragment = None }) ≡ codes "b"
+  pub whole_text : text_of
+      (record {
+        scheme = Some (codes "foo");
+        authority = Some (codes "a");
+        path = codes "/b";
+        query = Some (codes "c");
+        fragment = Some (codes "d");
+      })
+      ≡ codes "foo://a/b?c#d"
+  pub path_alone : text_of
+      (record {
+        scheme = None;
+        authority = None;
+        path = codes "b";
+        query = None;
+        fragment = None;
+      })
+      ≡ codes "b"
   pub colon_ends_scheme : ends_scheme 58 ≡ true
   pub dot_in_scheme : ends_scheme 46 ≡ false
   pub slash_ends_authority : ends_authority 47 ≡ true
@@ -132,7 +148,15 @@ pub record ComponentRows : Type 0 where
   pub colon_in_first_segment : is_path_after None None (codes "a:b") ≡ false
   pub colon_in_second_segment : is_path_after None None (codes "./a:b") ≡ true
   pub as_they_must : are_components (components (codes "http://a/b")) ≡ true
-  pub path_as_authority : are_components (record { scheme = None; authority = None; path = codes "//a"; query = None; fragment = None }) ≡ false
+  pub path_as_authority : are_components
+      (record {
+        scheme = None;
+        authority = None;
+        path = codes "//a";
+        query = None;
+        fragment = None;
+      })
+      ≡ false
   pub with_scheme : is_uri (codes "http://a") ≡ true
   pub without_fragment : with_fragment (codes "a?q#b") None ≡ codes "a?q"
   pub another_fragment : with_fragment (codes "a?q#b") (Some (codes "c")) ≡ codes "a?q#c"
@@ -159,7 +183,8 @@ pub record SegmentRows : Type 0 where
   pub one_more : kept_after (codes "a" ∷ []) (codes "b") ≡ codes "b" ∷ codes "a" ∷ []
   pub first_taken_away : first_after (codes "b") [] (codes "..") ≡ []
   pub first_stays : first_after (codes "b") (codes "c" ∷ []) (codes "..") ≡ codes "b"
-  pub from_the_left : remaining_segments (codes "b") [] (codes "c" ∷ codes ".." ∷ codes "d" ∷ []) ≡ codes "b" ∷ codes "d" ∷ []
+  pub from_the_left : remaining_segments (codes "b") [] (codes "c" ∷ codes ".." ∷ codes "d" ∷ [])
+      ≡ codes "b" ∷ codes "d" ∷ []
   pub past_the_root : remaining_segments [] [] (codes ".." ∷ codes "g" ∷ []) ≡ [] ∷ codes "g" ∷ []
   pub dots_at_the_end : ends_in_dots (codes "a" ∷ codes ".." ∷ []) ≡ true
   pub dots_in_front : ends_in_dots (codes ".." ∷ codes "a" ∷ []) ≡ false
@@ -189,34 +214,57 @@ pub record NormalRows : Type 0 where
   pub authority_stays : normal_authority (codes "a:80") ≡ codes "a:80"
   pub dots_without_scheme : normal_path None None (codes "a/../%7e") ≡ codes "a/../~"
   pub dots_with_scheme : normal_path (Some (codes "a")) None (codes "/.//c") ≡ codes "/.//c"
-  pub by_components : normal_components (components (codes "HTTP://A:/%7e?%7e#%2f")) ≡ components (codes "http://a/~?~#%2F")
+  pub by_components : normal_components (components (codes "HTTP://A:/%7e?%7e#%2f"))
+      ≡ components (codes "http://a/~?~#%2F")
   pub empty_components : normal_components (components []) ≡ components []
 
 -- the five cases of resolution (5.2.2 and 5.2.3)
 pub record ResolutionRows : Type 0 where
   pub relative_path : target_path (components (codes "http://a/b/c")) (codes "../g") ≡ codes "/g"
   pub absolute_path : target_path (components (codes "http://a/b/c")) (codes "/./g") ≡ codes "/g"
-  pub no_path : target_components (components (codes "http://a/b?q")) (components (codes "#s")) ≡ components (codes "http://a/b?q#s")
-  pub some_path : target_components (components (codes "http://a/b?q")) (components (codes "g")) ≡ components (codes "http://a/g")
-  pub authority : target_components (components (codes "http://a/b?q")) (components (codes "//g/./h")) ≡ components (codes "http://g/h")
-  pub no_authority : target_components (components (codes "http://a/b?q")) (components (codes "?y")) ≡ components (codes "http://a/b?y")
-  pub scheme : target_components (components (codes "http://a/b?q")) (components (codes "s:./g")) ≡ components (codes "s:g")
-  pub no_scheme : target_components (components (codes "http://a/b?q")) (components (codes "//g")) ≡ components (codes "http://g")
-  pub guard_put : (with_guard (record { scheme = Some (codes "a"); authority = None; path = codes "//c"; query = None; fragment = None })).path ≡ codes "/.//c"
+  pub no_path : target_components (components (codes "http://a/b?q")) (components (codes "#s"))
+      ≡ components (codes "http://a/b?q#s")
+  pub some_path : target_components (components (codes "http://a/b?q")) (components (codes "g"))
+      ≡ components (codes "http://a/g")
+  pub authority : target_components (components (codes "http://a/b?q"))
+      (components (codes "//g/./h"))
+      ≡ components (codes "http://g/h")
+  pub no_authority : target_components (components (codes "http://a/b?q")) (components (codes "?y"))
+      ≡ components (codes "http://a/b?y")
+  pub scheme : target_components (components (codes "http://a/b?q")) (components (codes "s:./g"))
+      ≡ components (codes "s:g")
+  pub no_scheme : target_components (components (codes "http://a/b?q")) (components (codes "//g"))
+      ≡ components (codes "http://g")
+  pub guard_put :
+      (with_guard
+      (record {
+        scheme = Some (codes "a");
+        authority = None;
+        path = codes "//c";
+        query = None;
+        fragment = None;
+      })).path
+      ≡ codes "/.//c"
   pub no_guard : with_guard (components (codes "http://a//b")) ≡ components (codes "http://a//b")
-  pub whole_target : resolved_components (components (codes "http://a/b")) (components (codes "c")) ≡ components (codes "http://a/c")
-  pub guarded_target : resolved_components (components (codes "a:/b")) (components (codes "/.//c")) ≡ components (codes "a:/.//c")
+  pub whole_target : resolved_components (components (codes "http://a/b")) (components (codes "c"))
+      ≡ components (codes "http://a/c")
+  pub guarded_target : resolved_components (components (codes "a:/b")) (components (codes "/.//c"))
+      ≡ components (codes "a:/.//c")
 
 -- what texts mean, alone and against a base
 pub record MeaningRows : Type 0 where
   pub up : uri_against (codes "http://a/b/c/d;p?q") (codes "../g") ≡ Ok (codes "http://a/b/g")
-  pub past_the_root : uri_against (codes "http://a/b/c/d;p?q") (codes "../../../g") ≡ Ok (codes "http://a/g")
+  pub past_the_root : uri_against (codes "http://a/b/c/d;p?q") (codes "../../../g")
+      ≡ Ok (codes "http://a/g")
   pub empty_text : uri_against (codes "http://a/b/c/d;p?q") [] ≡ Ok (codes "http://a/b/c/d;p?q")
-  pub query : uri_against (codes "http://a/b/c/d;p?q") (codes "?y") ≡ Ok (codes "http://a/b/c/d;p?y")
-  pub fragment : uri_against (codes "http://a/b/c/d;p?q") (codes "#s") ≡ Ok (codes "http://a/b/c/d;p?q#s")
+  pub query : uri_against (codes "http://a/b/c/d;p?q") (codes "?y")
+      ≡ Ok (codes "http://a/b/c/d;p?y")
+  pub fragment : uri_against (codes "http://a/b/c/d;p?q") (codes "#s")
+      ≡ Ok (codes "http://a/b/c/d;p?q#s")
   pub authority : uri_against (codes "http://a/b/c/d;p?q") (codes "//g") ≡ Ok (codes "http://g")
   pub scheme : uri_against (codes "http://a/b/c/d;p?q") (codes "http:g") ≡ Ok (codes "http:g")
-  pub letters_triples_dots : uri_of (codes "HTTP://Ex%41mple.com/%7efoo/./bar/../x%2f") ≡ Ok (codes "http://example.com/~foo/x%2F")
+  pub letters_triples_dots : uri_of (codes "HTTP://Ex%41mple.com/%7efoo/./bar/../x%2f")
+      ≡ Ok (codes "http://example.com/~foo/x%2F")
   pub empty_port : uri_of (codes "http://a:/") ≡ Ok (codes "http://a/")
   pub port_stays : uri_of (codes "http://a:80") ≡ Ok (codes "http://a:80")
   pub scheme_of_digit : uri_of (codes "1a:b") ≡ Err (parse_refusal (codes "1a:b"))

@@ -16,8 +16,11 @@ pub data Refusal : Type 0 where
 
 -- what is displayed
 abbrev pub refusal_text : Refusal → List ℕ
-refusal_text (parse_refusal text) = codes "Invalid URI reference '" ++ text ++ codes "': not a URI reference of RFC 3986"
-refusal_text (resolve_refusal text base) = codes "Failed to resolve '" ++ text ++ codes "' against '" ++ base ++ codes "': the base has no scheme"
+refusal_text (parse_refusal text) =
+    codes "Invalid URI reference '" ++ text ++ codes "': not a URI reference of RFC 3986"
+refusal_text (resolve_refusal text base) =
+    codes "Failed to resolve '" ++ text ++ codes "' against '" ++ base
+    ++ codes "': the base has no scheme"
 
 -- the base of texts without a scheme
 abbrev pub default_base : List ℕ
@@ -27,7 +30,8 @@ default_base = codes "json-schema:///"
 unfoldable pub uri_of : List ℕ → Result (List ℕ) Refusal
 uri_of text =
     if is_uri_reference text then
-    (if is_some (scheme text) then Ok (normal_form text) else Ok (target_text default_base (normal_form text)))
+    (if is_some (scheme text) then Ok (normal_form text)
+    else Ok (target_text default_base (normal_form text)))
     else Err (parse_refusal text)
 
 -- The URI that a text means against a base. A base that ends in the fragment that the text is, is the answer itself; else the
@@ -36,12 +40,16 @@ unfoldable pub uri_against : List ℕ → List ℕ → Result (List ℕ) Refusal
 uri_against base text =
     if is_some (scheme base) then
     (if (slice_index text 0 == hash) && ends_with nat_eq base text then Ok base
-    else (if is_uri_reference text then Ok (normal_form (target_text (with_fragment base None) text)) else Err (parse_refusal text)))
+    else (if is_uri_reference text then
+    Ok (normal_form (target_text (with_fragment base None) text))
+    else Err (parse_refusal text)))
     else Err (resolve_refusal text base)
 
 -- the URI part of a reference that doesn't begin with `#`: what is before its last `#`
 abbrev pub uri_part : List ℕ → List ℕ
-uri_part reference = if list_any (λ c. c == hash) reference then before_last (λ c. c == hash) reference else reference
+uri_part reference =
+    if list_any (λ c. c == hash) reference then before_last (λ c. c == hash) reference
+    else reference
 
 -- the fragment: what follows a `#` in front, or else the last `#`
 abbrev pub fragment_part : List ℕ → List ℕ
@@ -51,4 +59,5 @@ fragment_part reference =
 
 -- the URI that a reference points into: a reference that begins with `#` points into the base
 abbrev pub target : List ℕ → List ℕ → Result (List ℕ) Refusal
-target base reference = if slice_index reference 0 == hash then Ok base else uri_against base (uri_part reference)
+target base reference =
+    if slice_index reference 0 == hash then Ok base else uri_against base (uri_part reference)

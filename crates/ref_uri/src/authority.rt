@@ -57,7 +57,8 @@ fn future_address_len(text: &[u8]) -> usize
 fn version_and_address_len(text: &[u8]) -> Option<usize>
     ensures within { IfSome result (λ n. n ≤ length text.now) }
     ensures sound { IfSome result (λ n. is_version_and_address (take n text.now) ≡ true) }
-    ensures found { (n : ℕ) → n < length text.now → is_version_and_address (take n text.now) ≡ true → slice_index text.now n ≡ 93 → result ≡ Some n }
+    ensures found { (n : ℕ) → n < length text.now → is_version_and_address (take n text.now) ≡ true
+        → slice_index text.now n ≡ 93 → result ≡ Some n }
 {
     let version = hex_digits_len(text);
     if version == 0 || version == text.len() || text[version] != b'.' {
@@ -73,8 +74,11 @@ fn version_and_address_len(text: &[u8]) -> Option<usize>
 /// How long an address of either kind at the front is, or 0.
 fn either_address_len(text: &[u8]) -> usize
     ensures within { result ≤ length text.now }
-    ensures sound { 0 < result → (is_address (take result text.now) || is_future_address (take result text.now)) ≡ true }
-    ensures found { (n : ℕ) → n < length text.now → (is_address (take n text.now) || is_future_address (take n text.now)) ≡ true → slice_index text.now n ≡ 93 → (0 < n) × (result ≡ n) }
+    ensures sound { 0 < result
+        → (is_address (take result text.now) || is_future_address (take result text.now)) ≡ true }
+    ensures found { (n : ℕ) → n < length text.now
+        → (is_address (take n text.now) || is_future_address (take n text.now)) ≡ true
+        → slice_index text.now n ≡ 93 → (0 < n) × (result ≡ n) }
 {
     match text {
         [b'v' | b'V', rest @ ..] => match version_and_address_len(rest) {
@@ -89,7 +93,8 @@ fn either_address_len(text: &[u8]) -> usize
 fn address_and_bracket_len(text: &[u8]) -> Option<usize>
     ensures within { IfSome result (λ n. n ≤ length text.now) }
     ensures sound { IfSome result (λ n. is_address_and_bracket (take n text.now) ≡ true) }
-    ensures found { (n : ℕ) → n ≤ length text.now → is_address_and_bracket (take n text.now) ≡ true → result ≡ Some n }
+    ensures found { (n : ℕ) → n ≤ length text.now → is_address_and_bracket (take n text.now) ≡ true
+        → result ≡ Some n }
 {
     let address = either_address_len(text);
     if address == 0 || address == text.len() || text[address] != b']' {
@@ -102,7 +107,8 @@ fn address_and_bracket_len(text: &[u8]) -> Option<usize>
 fn port_len(text: &[u8]) -> usize
     ensures within { result ≤ length text.now }
     ensures encoded { is_encoded is_userinfo_character (take result text.now) ≡ true }
-    ensures accepted { ends_authority_at text.now result ≡ is_port_part (before_first ends_authority text.now) }
+    ensures accepted { ends_authority_at text.now result
+        ≡ is_port_part (before_first ends_authority text.now) }
 {
     match text {
         [b':', rest @ ..] => 1 + digits_len(rest),
@@ -122,7 +128,8 @@ fn name_and_port_len(text: &[u8]) -> usize
     ensures within { result ≤ length text.now }
     ensures encoded { is_encoded is_userinfo_character (take result text.now) ≡ true }
     ensures inside { result ≤ position_or_len ends_authority text.now }
-    ensures accepted { ends_authority_at text.now result ≡ is_host_and_port (before_first ends_authority text.now) }
+    ensures accepted { ends_authority_at text.now result
+        ≡ is_host_and_port (before_first ends_authority text.now) }
 {
     let name = encoded_len(text, 0, Class::Name);
     name + port_len(&text[name..])
@@ -133,7 +140,9 @@ fn brackets_and_port_len(text: &[u8]) -> Option<usize>
     requires { slice_index text.now 0 ≡ 91 }
     ensures within { IfSome result (λ n. n ≤ length text.now) }
     ensures inside { IfSome result (λ n. n ≤ position_or_len ends_authority text.now) }
-    ensures accepted { IfSome result (λ n. ends_authority_at text.now n ≡ is_host_and_port (before_first ends_authority text.now)) }
+    ensures accepted { IfSome result
+        (λ n. ends_authority_at text.now n
+        ≡ is_host_and_port (before_first ends_authority text.now)) }
     ensures none { IfNone result (is_host_and_port (before_first ends_authority text.now) ≡ false) }
 {
     let brackets = 1 + address_and_bracket_len(&text[1..])?;

@@ -159,7 +159,8 @@ pub fn begins_with_triple(bytes: &[u8]) -> bool
 #[inline(always)]
 fn is_plain_block(bytes: &[u8], at: usize) -> bool
     requires { at + BLOCK ≤ length bytes.now }
-    ensures { IsTrue result → (k : ℕ) → at ≤ k → k < at + BLOCK → is_path_character (slice_index bytes.now k) ≡ true }
+    ensures { IsTrue result → (k : ℕ) → at ≤ k → k < at + BLOCK
+        → is_path_character (slice_index bytes.now k) ≡ true }
 {
     let block = u8x16::from_slice(&bytes[at..]);
     let letters = (block | u8x16::splat(32)) - u8x16::splat(b'a');
@@ -261,7 +262,8 @@ pub fn encoded_len(bytes: &[u8], read: usize, class: Class) -> usize
 pub fn part_len(bytes: &[u8], read: usize, class: Class) -> Result<usize, ParseError>
     requires read_within { read ≤ length bytes.now }
     requires read_encoded { is_encoded (allows class) (take read bytes.now) ≡ true }
-    ensures accepted { is_ok result ≡ is_encoded (allows class) (before_first (ends class) bytes.now) }
+    ensures accepted { is_ok result
+        ≡ is_encoded (allows class) (before_first (ends class) bytes.now) }
     ensures len { IfOk result (λ n. n ≡ position_or_len (ends class) bytes.now) }
     ensures within { IfOk result (λ n. n ≤ length bytes.now) }
     ensures error { IfErr result (λ e. e ≡ ParseError.Syntax) }

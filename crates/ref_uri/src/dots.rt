@@ -108,7 +108,8 @@ fn segment_of(text: &str) -> Segment
 /// Where what is before the last slash of the path that begins at `start` ends.
 fn end_of_rest(bytes: &[u8], start: usize) -> usize
     requires { start ≤ length bytes.now }
-    ensures value { take result bytes.now ≡ take start bytes.now ++ before_last (λ c. c == 47) (drop start bytes.now) }
+    ensures value { take result bytes.now
+        ≡ take start bytes.now ++ before_last (λ c. c == 47) (drop start bytes.now) }
     ensures from { start ≤ result }
     ensures within { result ≤ length bytes.now }
 {
@@ -126,7 +127,9 @@ fn end_of_rest(bytes: &[u8], start: usize) -> usize
 fn take_last(buffer: &mut String, start: usize)
     requires ascii { IsAscii (string_bytes buffer.old) }
     requires within { start ≤ length (string_bytes buffer.old) }
-    ensures text { (before path : List ℕ) → string_bytes buffer.old ≡ before ++ path → length before ≡ start → string_bytes buffer.new ≡ before ++ before_last (λ c. c == 47) path }
+    ensures text { (before path : List ℕ) → string_bytes buffer.old ≡ before ++ path
+        → length before ≡ start
+        → string_bytes buffer.new ≡ before ++ before_last (λ c. c == 47) path }
     ensures ascii { IsAscii (string_bytes buffer.new) }
     ensures start { start ≤ length (string_bytes buffer.new) }
 {
@@ -138,8 +141,11 @@ fn take_last(buffer: &mut String, start: usize)
 fn settle_first(buffer: &mut String, end: usize) -> Progress
     requires buffer_ascii { IsAscii (string_bytes buffer.old) }
     requires within { end ≤ length (string_bytes buffer.old) }
-    ensures text { (path segment : List ℕ) → string_bytes buffer.old ≡ path ++ segment → length path ≡ end → string_bytes buffer.new ≡ first_written (segment_of segment) path segment }
-    ensures progress { (path segment : List ℕ) → string_bytes buffer.old ≡ path ++ segment → length path ≡ end → result ≡ first_progress (segment_of segment) }
+    ensures text { (path segment : List ℕ) → string_bytes buffer.old ≡ path ++ segment
+        → length path ≡ end
+        → string_bytes buffer.new ≡ first_written (segment_of segment) path segment }
+    ensures progress { (path segment : List ℕ) → string_bytes buffer.old ≡ path ++ segment
+        → length path ≡ end → result ≡ first_progress (segment_of segment) }
     ensures ascii { IsAscii (string_bytes buffer.new) }
     ensures longer { end ≤ length (string_bytes buffer.new) }
 {
@@ -158,8 +164,12 @@ fn settle_next(buffer: &mut String, start: usize, end: usize) -> Progress
     requires buffer_ascii { IsAscii (string_bytes buffer.old) }
     requires start_within { start ≤ end }
     requires within { end < length (string_bytes buffer.old) }
-    ensures text { (before path segment : List ℕ) → string_bytes buffer.old ≡ (before ++ path) ++ 47 ∷ segment → length before ≡ start → length (before ++ path) ≡ end → string_bytes buffer.new ≡ before ++ next_written (segment_of segment) path segment }
-    ensures progress { (path segment : List ℕ) → string_bytes buffer.old ≡ path ++ 47 ∷ segment → length path ≡ end → result ≡ next_progress (segment_of segment) }
+    ensures text { (before path segment : List ℕ)
+        → string_bytes buffer.old ≡ (before ++ path) ++ 47 ∷ segment → length before ≡ start
+        → length (before ++ path) ≡ end
+        → string_bytes buffer.new ≡ before ++ next_written (segment_of segment) path segment }
+    ensures progress { (path segment : List ℕ) → string_bytes buffer.old ≡ path ++ 47 ∷ segment
+        → length path ≡ end → result ≡ next_progress (segment_of segment) }
     ensures ascii { IsAscii (string_bytes buffer.new) }
     ensures start { start ≤ length (string_bytes buffer.new) }
 {
@@ -179,8 +189,10 @@ fn settle_next(buffer: &mut String, start: usize, end: usize) -> Progress
 
 /// Appends the slash before a segment, unless the segment is a path's first one.
 fn push_slash(buffer: &mut String, progress: Progress) -> Result<(), AllocError>
-    ensures text { OnOk result (string_bytes buffer.new ≡ string_bytes buffer.old ++ slash_of progress) }
-    ensures ascii { OnOk result (IsAscii (string_bytes buffer.old) → IsAscii (string_bytes buffer.new)) }
+    ensures text { OnOk result
+        (string_bytes buffer.new ≡ string_bytes buffer.old ++ slash_of progress) }
+    ensures ascii { OnOk result
+        (IsAscii (string_bytes buffer.old) → IsAscii (string_bytes buffer.new)) }
 {
     match progress {
         Progress::Front => Ok(()),
@@ -193,8 +205,13 @@ fn settle(buffer: &mut String, start: usize, progress: Progress, end: usize) -> 
     requires buffer_ascii { IsAscii (string_bytes buffer.old) }
     requires start_within { start ≤ end }
     requires within { end + length (slash_of progress) ≤ length (string_bytes buffer.old) }
-    ensures text { (before path segment : List ℕ) → string_bytes buffer.old ≡ (before ++ path) ++ (slash_of progress ++ segment) → length before ≡ start → length (before ++ path) ≡ end → string_bytes buffer.new ≡ before ++ path_then progress path segment }
-    ensures progress { (path segment : List ℕ) → string_bytes buffer.old ≡ path ++ (slash_of progress ++ segment) → length path ≡ end → result ≡ progress_then progress segment }
+    ensures text { (before path segment : List ℕ)
+        → string_bytes buffer.old ≡ (before ++ path) ++ (slash_of progress ++ segment)
+        → length before ≡ start → length (before ++ path) ≡ end
+        → string_bytes buffer.new ≡ before ++ path_then progress path segment }
+    ensures progress { (path segment : List ℕ)
+        → string_bytes buffer.old ≡ path ++ (slash_of progress ++ segment) → length path ≡ end
+        → result ≡ progress_then progress segment }
     ensures ascii { IsAscii (string_bytes buffer.new) }
     ensures start { start ≤ length (string_bytes buffer.new) }
 {
@@ -219,7 +236,8 @@ fn after_dots(progress: Progress) -> Progress
 fn take_last_behind(buffer: &mut String, start: usize, progress: Progress)
     requires ascii { IsAscii (string_bytes buffer.old) }
     requires within { start ≤ length (string_bytes buffer.old) }
-    ensures text { (before path : List ℕ) → string_bytes buffer.old ≡ before ++ path → length before ≡ start → string_bytes buffer.new ≡ before ++ last_taken progress path }
+    ensures text { (before path : List ℕ) → string_bytes buffer.old ≡ before ++ path
+        → length before ≡ start → string_bytes buffer.new ≡ before ++ last_taken progress path }
     ensures ascii { IsAscii (string_bytes buffer.new) }
     ensures start { start ≤ length (string_bytes buffer.new) }
 {
@@ -240,7 +258,9 @@ fn push_given_segment(
     requires buffer_ascii { IsAscii (string_bytes buffer.old) }
     requires within { start ≤ length (string_bytes buffer.old) }
     requires ascii { IsAscii segment.now }
-    ensures text { (before path : List ℕ) → string_bytes buffer.old ≡ before ++ path → length before ≡ start → OnOk result (string_bytes buffer.new ≡ before ++ path_then progress path segment.now) }
+    ensures text { (before path : List ℕ) → string_bytes buffer.old ≡ before ++ path
+        → length before ≡ start
+        → OnOk result (string_bytes buffer.new ≡ before ++ path_then progress path segment.now) }
     ensures progress { IfOk result (λ p. p ≡ progress_then progress segment.now) }
     ensures ascii { OnOk result (IsAscii (string_bytes buffer.new)) }
     ensures start { OnOk result (start ≤ length (string_bytes buffer.new)) }
@@ -267,8 +287,13 @@ fn push_normal_segment(
     requires within { start ≤ length (string_bytes buffer.old) }
     requires ascii { IsAscii segment.now }
     requires triples { has_whole_triples segment.now ≡ true }
-    ensures text { (before path : List ℕ) → string_bytes buffer.old ≡ before ++ path → length before ≡ start → OnOk result (string_bytes buffer.new ≡ before ++ path_then progress path (written_text form segment.now)) }
-    ensures progress { IfOk result (λ p. p ≡ progress_then progress (written_text form segment.now)) }
+    ensures text { (before path : List ℕ) → string_bytes buffer.old ≡ before ++ path
+        → length before ≡ start
+        → OnOk result
+        (string_bytes buffer.new
+        ≡ before ++ path_then progress path (written_text form segment.now)) }
+    ensures progress { IfOk result
+        (λ p. p ≡ progress_then progress (written_text form segment.now)) }
     ensures ascii { OnOk result (IsAscii (string_bytes buffer.new)) }
     ensures start { OnOk result (start ≤ length (string_bytes buffer.new)) }
 {
@@ -291,8 +316,13 @@ fn push_segment(
     requires within { start ≤ length (string_bytes buffer.old) }
     requires ascii { IsAscii segment.now }
     requires triples { has_whole_triples segment.now ≡ true }
-    ensures text { (before path : List ℕ) → string_bytes buffer.old ≡ before ++ path → length before ≡ start → OnOk result (string_bytes buffer.new ≡ before ++ path_then progress path (written_text form segment.now)) }
-    ensures progress { IfOk result (λ p. p ≡ progress_then progress (written_text form segment.now)) }
+    ensures text { (before path : List ℕ) → string_bytes buffer.old ≡ before ++ path
+        → length before ≡ start
+        → OnOk result
+        (string_bytes buffer.new
+        ≡ before ++ path_then progress path (written_text form segment.now)) }
+    ensures progress { IfOk result
+        (λ p. p ≡ progress_then progress (written_text form segment.now)) }
     ensures ascii { OnOk result (IsAscii (string_bytes buffer.new)) }
     ensures start { OnOk result (start ≤ length (string_bytes buffer.new)) }
 {
@@ -316,8 +346,14 @@ fn push_part(
     requires within { start ≤ length (string_bytes buffer.old) }
     requires ordered { from ≤ to }
     requires part_within { to ≤ length (string_bytes buffer.old) }
-    ensures text { (before path : List ℕ) → string_bytes buffer.old ≡ before ++ path → length before ≡ start → OnOk result (string_bytes buffer.new ≡ before ++ path_then progress path (slice_range (string_bytes buffer.old) from to)) }
-    ensures progress { IfOk result (λ p. p ≡ progress_then progress (slice_range (string_bytes buffer.old) from to)) }
+    ensures text { (before path : List ℕ) → string_bytes buffer.old ≡ before ++ path
+        → length before ≡ start
+        → OnOk result
+        (string_bytes buffer.new
+        ≡ before
+        ++ path_then progress path (slice_range (string_bytes buffer.old) from to)) }
+    ensures progress { IfOk result
+        (λ p. p ≡ progress_then progress (slice_range (string_bytes buffer.old) from to)) }
     ensures ascii { OnOk result (IsAscii (string_bytes buffer.new)) }
     ensures start { OnOk result (start ≤ length (string_bytes buffer.new)) }
 {
@@ -339,8 +375,15 @@ fn push_each_segment(
     requires within { start ≤ length (string_bytes buffer.old) }
     requires ascii { IsAscii path.now }
     requires triples { has_whole_triples path.now ≡ true }
-    ensures text { (before written_path : List ℕ) → string_bytes buffer.old ≡ before ++ written_path → length before ≡ start → OnOk result (string_bytes buffer.new ≡ before ++ path_after progress written_path (map (written_text form) (segments path.now))) }
-    ensures progress { IfOk result (λ p. p ≡ progress_after progress (map (written_text form) (segments path.now))) }
+    ensures text { (before written_path : List ℕ) → string_bytes buffer.old ≡ before ++ written_path
+        → length before ≡ start
+        → OnOk result
+        (string_bytes buffer.new
+        ≡ before
+        ++ path_after progress written_path
+        (map (written_text form) (segments path.now))) }
+    ensures progress { IfOk result
+        (λ p. p ≡ progress_after progress (map (written_text form) (segments path.now))) }
     ensures ascii { OnOk result (IsAscii (string_bytes buffer.new)) }
     ensures start { OnOk result (start ≤ length (string_bytes buffer.new)) }
 {
@@ -358,9 +401,11 @@ fn push_each_segment(
 /// Appends a path none of whose segments is a dot segment, after a slash where other segments precede it.
 fn push_names(buffer: &mut String, progress: Progress, path: &str) -> Result<Progress, AllocError>
     requires { IsAscii path.now }
-    ensures text { OnOk result (string_bytes buffer.new ≡ string_bytes buffer.old ++ (slash_of progress ++ path.now)) }
+    ensures text { OnOk result
+        (string_bytes buffer.new ≡ string_bytes buffer.old ++ (slash_of progress ++ path.now)) }
     ensures progress { IfOk result (λ p. p ≡ Progress.Within) }
-    ensures ascii { OnOk result (IsAscii (string_bytes buffer.old) → IsAscii (string_bytes buffer.new)) }
+    ensures ascii { OnOk result
+        (IsAscii (string_bytes buffer.old) → IsAscii (string_bytes buffer.new)) }
 {
     push_slash(buffer, progress)?;
     buffer.push_str(path)?;
@@ -377,9 +422,12 @@ fn push_normal_names(
 ) -> Result<Progress, AllocError>
     requires ascii { IsAscii path.now }
     requires triples { has_whole_triples path.now ≡ true }
-    ensures text { OnOk result (string_bytes buffer.new ≡ string_bytes buffer.old ++ (slash_of progress ++ written_text form path.now)) }
+    ensures text { OnOk result
+        (string_bytes buffer.new
+        ≡ string_bytes buffer.old ++ (slash_of progress ++ written_text form path.now)) }
     ensures progress { IfOk result (λ p. p ≡ Progress.Within) }
-    ensures ascii { OnOk result (IsAscii (string_bytes buffer.old) → IsAscii (string_bytes buffer.new)) }
+    ensures ascii { OnOk result
+        (IsAscii (string_bytes buffer.old) → IsAscii (string_bytes buffer.new)) }
 {
     push_slash(buffer, progress)?;
     form.push(buffer, path)?;
@@ -407,8 +455,15 @@ fn push_segments(
     requires within { start ≤ length (string_bytes buffer.old) }
     requires ascii { IsAscii path.now }
     requires triples { has_whole_triples path.now ≡ true }
-    ensures text { (before written_path : List ℕ) → string_bytes buffer.old ≡ before ++ written_path → length before ≡ start → OnOk result (string_bytes buffer.new ≡ before ++ path_after progress written_path (map (written_text form) (segments path.now))) }
-    ensures progress { IfOk result (λ p. p ≡ progress_after progress (map (written_text form) (segments path.now))) }
+    ensures text { (before written_path : List ℕ) → string_bytes buffer.old ≡ before ++ written_path
+        → length before ≡ start
+        → OnOk result
+        (string_bytes buffer.new
+        ≡ before
+        ++ path_after progress written_path
+        (map (written_text form) (segments path.now))) }
+    ensures progress { IfOk result
+        (λ p. p ≡ progress_after progress (map (written_text form) (segments path.now))) }
     ensures ascii { OnOk result (IsAscii (string_bytes buffer.new)) }
     ensures start { OnOk result (start ≤ length (string_bytes buffer.new)) }
 {
@@ -423,8 +478,10 @@ fn push_segments(
 
 /// Appends the slash that a path ends in whose last segment was a dot segment.
 fn push_end(buffer: &mut String, progress: Progress) -> Result<(), AllocError>
-    ensures text { OnOk result (string_bytes buffer.new ≡ string_bytes buffer.old ++ end_of progress) }
-    ensures ascii { OnOk result (IsAscii (string_bytes buffer.old) → IsAscii (string_bytes buffer.new)) }
+    ensures text { OnOk result
+        (string_bytes buffer.new ≡ string_bytes buffer.old ++ end_of progress) }
+    ensures ascii { OnOk result
+        (IsAscii (string_bytes buffer.old) → IsAscii (string_bytes buffer.new)) }
 {
     match progress {
         Progress::Dots => buffer.push_str("/"),
@@ -444,7 +501,13 @@ fn push_rest(
     requires within { start ≤ length (string_bytes buffer.old) }
     requires ascii { IsAscii path.now }
     requires triples { has_whole_triples path.now ≡ true }
-    ensures text { (before written_path : List ℕ) → string_bytes buffer.old ≡ before ++ written_path → length before ≡ start → OnOk result (string_bytes buffer.new ≡ before ++ ended_path progress written_path (map (written_text form) (segments path.now))) }
+    ensures text { (before written_path : List ℕ) → string_bytes buffer.old ≡ before ++ written_path
+        → length before ≡ start
+        → OnOk result
+        (string_bytes buffer.new
+        ≡ before
+        ++ ended_path progress written_path
+        (map (written_text form) (segments path.now))) }
     ensures ascii { OnOk result (IsAscii (string_bytes buffer.new)) }
 {
     let progress = push_segments(buffer, start, progress, path, form)?;
@@ -456,7 +519,9 @@ pub fn push_without_dots(buffer: &mut String, path: &str, form: Form) -> Result<
     requires buffer_ascii { IsAscii (string_bytes buffer.old) }
     requires ascii { IsAscii path.now }
     requires triples { has_whole_triples path.now ≡ true }
-    ensures text { OnOk result (string_bytes buffer.new ≡ string_bytes buffer.old ++ remove_dot_segments (written_text form path.now)) }
+    ensures text { OnOk result
+        (string_bytes buffer.new
+        ≡ string_bytes buffer.old ++ remove_dot_segments (written_text form path.now)) }
     ensures ascii { OnOk result (IsAscii (string_bytes buffer.new)) }
 {
     let start = buffer.len();
@@ -475,7 +540,10 @@ pub fn push_merged_without_dots(
     requires directory_triples { has_whole_triples directory.now ≡ true }
     requires ascii { IsAscii path.now }
     requires triples { has_whole_triples path.now ≡ true }
-    ensures text { OnOk result (string_bytes buffer.new ≡ string_bytes buffer.old ++ remove_dot_segments (written_text form (directory.now ++ 47 ∷ path.now))) }
+    ensures text { OnOk result
+        (string_bytes buffer.new
+        ≡ string_bytes buffer.old
+        ++ remove_dot_segments (written_text form (directory.now ++ 47 ∷ path.now))) }
     ensures ascii { OnOk result (IsAscii (string_bytes buffer.new)) }
 {
     let start = buffer.len();
@@ -488,7 +556,10 @@ pub fn push_merged_without_dots(
 fn push_again(buffer: &mut String, start: usize) -> Result<(), AllocError>
     requires buffer_ascii { IsAscii (string_bytes buffer.old) }
     requires within { start ≤ length (string_bytes buffer.old) }
-    ensures text { OnOk result (string_bytes buffer.new ≡ string_bytes buffer.old ++ remove_dot_segments (drop start (string_bytes buffer.old))) }
+    ensures text { OnOk result
+        (string_bytes buffer.new
+        ≡ string_bytes buffer.old
+        ++ remove_dot_segments (drop start (string_bytes buffer.old))) }
     ensures ascii { OnOk result (IsAscii (string_bytes buffer.new)) }
 {
     let end = buffer.len();
@@ -507,7 +578,10 @@ fn push_again(buffer: &mut String, start: usize) -> Result<(), AllocError>
 pub fn remove_dots(buffer: &mut String, start: usize) -> Result<(), AllocError>
     requires buffer_ascii { IsAscii (string_bytes buffer.old) }
     requires within { start ≤ length (string_bytes buffer.old) }
-    ensures text { OnOk result (string_bytes buffer.new ≡ take start (string_bytes buffer.old) ++ remove_dot_segments (drop start (string_bytes buffer.old))) }
+    ensures text { OnOk result
+        (string_bytes buffer.new
+        ≡ take start (string_bytes buffer.old)
+        ++ remove_dot_segments (drop start (string_bytes buffer.old))) }
     ensures ascii { OnOk result (IsAscii (string_bytes buffer.new)) }
 {
     let end = buffer.len();

@@ -28,13 +28,19 @@ pub fn references_are_texts_of_components()
 
 /// The two examples that the standard takes apart, and texts with components that are empty or absent (RFC 3986, 3).
 pub fn components_of_examples()
-    ensures scheme { scheme (codes "foo://example.com:8042/over/there?name=ferret#nose") ≡ Some (codes "foo") }
-    ensures authority { authority (codes "foo://example.com:8042/over/there?name=ferret#nose") ≡ Some (codes "example.com:8042") }
-    ensures path { path (codes "foo://example.com:8042/over/there?name=ferret#nose") ≡ codes "/over/there" }
-    ensures query { query (codes "foo://example.com:8042/over/there?name=ferret#nose") ≡ Some (codes "name=ferret") }
-    ensures fragment { fragment (codes "foo://example.com:8042/over/there?name=ferret#nose") ≡ Some (codes "nose") }
+    ensures scheme { scheme (codes "foo://example.com:8042/over/there?name=ferret#nose")
+        ≡ Some (codes "foo") }
+    ensures authority { authority (codes "foo://example.com:8042/over/there?name=ferret#nose")
+        ≡ Some (codes "example.com:8042") }
+    ensures path { path (codes "foo://example.com:8042/over/there?name=ferret#nose")
+        ≡ codes "/over/there" }
+    ensures query { query (codes "foo://example.com:8042/over/there?name=ferret#nose")
+        ≡ Some (codes "name=ferret") }
+    ensures fragment { fragment (codes "foo://example.com:8042/over/there?name=ferret#nose")
+        ≡ Some (codes "nose") }
     ensures no_authority { authority (codes "urn:example:animal:ferret:nose") ≡ None }
-    ensures path_alone { path (codes "urn:example:animal:ferret:nose") ≡ codes "example:animal:ferret:nose" }
+    ensures path_alone { path (codes "urn:example:animal:ferret:nose")
+        ≡ codes "example:animal:ferret:nose" }
     ensures empty_authority { authority (codes "file:///etc/fstab") ≡ Some [] }
     ensures empty_query { query (codes "a?#") ≡ Some [] }
     ensures empty_fragment { fragment (codes "a?#") ≡ Some [] }
@@ -60,7 +66,8 @@ pub fn references_of_examples()
 
 /// The normal form of a reference's normal form is itself (RFC 3986, 6.2.2).
 pub fn normal_form_is_its_own()
-    ensures law { (text : List ℕ) → is_uri_reference text ≡ true → normal_form (normal_form text) ≡ normal_form text }
+    ensures law { (text : List ℕ) → is_uri_reference text ≡ true
+        → normal_form (normal_form text) ≡ normal_form text }
 {}
 
 /// What a text means by itself is its own normal form.
@@ -70,7 +77,8 @@ pub fn meanings_are_normal()
 
 /// An error that says what the definitions refuse displays the text of that refusal.
 pub fn errors_say_refusals()
-    ensures law { (error : UriError) (refusal : Refusal) → SaysRefusal error refusal → uri_error_text error ≡ refusal_text refusal }
+    ensures law { (error : UriError) (refusal : Refusal) → SaysRefusal error refusal
+        → uri_error_text error ≡ refusal_text refusal }
 {}
 
 /// The worked rows of characters and triples (RFC 3986, 2 and 3).

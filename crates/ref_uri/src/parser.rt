@@ -27,9 +27,11 @@ fn first_segment_len(text: &[u8], read: usize) -> Result<usize, ParseError>
     requires read_is { read ≡ prefix_len is_scheme_character text.now }
     requires no_colon { slice_index text.now read ≢ 58 }
     ensures no_scheme { OnOk result (scheme text.now ≡ None) }
-    ensures tested { OnOk result ((slice_index text.now (position_or_len ends_scheme text.now) == 58) ≡ false) }
+    ensures tested { OnOk result
+        ((slice_index text.now (position_or_len ends_scheme text.now) == 58) ≡ false) }
     ensures within { IfOk result (λ n. n ≤ length (after_authority text.now)) }
-    ensures encoded { IfOk result (λ n. is_encoded is_path_character (take n (after_authority text.now)) ≡ true) }
+    ensures encoded { IfOk result
+        (λ n. is_encoded is_path_character (take n (after_authority text.now)) ≡ true) }
     ensures refused { OnErr result (is_uri_reference text.now ≡ false) }
     ensures error { IfErr result (λ e. e ≡ ParseError.Syntax) }
 {
@@ -56,7 +58,8 @@ fn read_front(text: &[u8]) -> Result<Front, ParseError>
     ensures tested { OnOk result ((if_there is_scheme (scheme text.now)
         && (is_some (scheme text.now) || not (slice_index text.now (position_or_len ends_scheme text.now) == 58))) ≡ true) }
     ensures within { IfOk result (λ f. f.segment ≤ length (after_authority text.now)) }
-    ensures encoded { IfOk result (λ f. is_encoded is_path_character (take f.segment (after_authority text.now)) ≡ true) }
+    ensures encoded { IfOk result
+        (λ f. is_encoded is_path_character (take f.segment (after_authority text.now)) ≡ true) }
     ensures refused { OnErr result (is_uri_reference text.now ≡ false) }
     ensures error { IfErr result (λ e. e ≡ ParseError.Syntax) }
 {

@@ -81,7 +81,8 @@ impl<'a> UriRef<'a> {
     fn is_settled(&self) -> bool
         requires { LacksTriples (components self.now) }
         ensures normal { result ≡ true → normal_form self.now ≡ self.now }
-        ensures target { result ≡ true → is_some (scheme self.now) ≡ true → (base : List ℕ) → normal_form (target_text base self.now) ≡ self.now }
+        ensures target { result ≡ true → is_some (scheme self.now) ≡ true → (base : List ℕ)
+            → normal_form (target_text base self.now) ≡ self.now }
     {
         target::is_settled(self.parts())
     }
@@ -90,7 +91,8 @@ impl<'a> UriRef<'a> {
     pub(crate) fn normalized(&self, alloc: Global) -> Result<(String, Lengths), AllocError>
         ensures text { IfOk result (λ t. string_bytes t.0 ≡ normal_form self.now) }
         ensures parsed { IfOk result (λ t. IsParsed (string_bytes t.0) t.1) }
-        ensures scheme { IfOk result (λ t. is_some (scheme (string_bytes t.0)) ≡ is_some (scheme self.now)) }
+        ensures scheme { IfOk result
+            (λ t. is_some (scheme (string_bytes t.0)) ≡ is_some (scheme self.now)) }
     {
         if self.lacks_triples() && self.is_settled() {
             return Ok((String::from_str(alloc, self.text)?, self.lengths));
@@ -122,7 +124,8 @@ impl<'a> UriRef<'a> {
     /// memory once. Linear in the two texts.
     pub fn resolve_against(self, alloc: Global, base: UriRef<'_>) -> Result<Uri, ResolveFault>
         ensures value { IfOk result (λ uri. uri ≡ target_text base.entry self.entry) }
-        ensures no_scheme { IsErrOf result (ResolveFault.Invalid ResolveError.BaseWithoutScheme) ↔ (scheme base.entry ≡ None) }
+        ensures no_scheme { IsErrOf result (ResolveFault.Invalid ResolveError.BaseWithoutScheme) ↔
+            (scheme base.entry ≡ None) }
     {
         if !base.has_scheme() {
             return Err(ResolveFault::Invalid(ResolveError::BaseWithoutScheme));
@@ -140,8 +143,16 @@ impl<'a> UriRef<'a> {
         base: &UriRef<'_>,
     ) -> Result<(String, Lengths), AllocError>
         requires { is_some (scheme base.now) ≡ true }
-        ensures text { IfOk result (λ t. string_bytes t.0 ≡ text_of (normal_components (target_with_dots (components base.now) (components self.now)))) }
-        ensures lengths { IfOk result (λ t. t.1 ≡ lengths_of_components (normal_components (target_with_dots (components base.now) (components self.now)))) }
+        ensures text { IfOk result
+            (λ t. string_bytes t.0
+            ≡ text_of
+            (normal_components
+            (target_with_dots (components base.now) (components self.now)))) }
+        ensures lengths { IfOk result
+            (λ t. t.1
+            ≡ lengths_of_components
+            (normal_components
+            (target_with_dots (components base.now) (components self.now)))) }
     {
         let target = target::resolved(base.parts(), self.parts());
         target.write(alloc, Form::Normal, Form::Normal)
@@ -155,7 +166,9 @@ impl<'a> UriRef<'a> {
         base: &UriRef<'_>,
     ) -> Result<(String, Lengths), AllocError>
         requires { is_some (scheme base.now) ≡ true }
-        ensures text { IfOk result (λ t. string_bytes t.0 ≡ normal_form (target_text (with_fragment base.now None) self.now)) }
+        ensures text { IfOk result
+            (λ t. string_bytes t.0
+            ≡ normal_form (target_text (with_fragment base.now None) self.now)) }
         ensures parsed { IfOk result (λ t. IsParsedUri (string_bytes t.0) t.1) }
     {
         let is_plain = self.lacks_triples();

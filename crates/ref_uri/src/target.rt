@@ -45,7 +45,9 @@ pub struct Target<'a> {
 
 /// Where the last slash of a path stands.
 fn last_slash(path: &[u8]) -> Option<usize>
-    ensures found { IfSome result (λ k. (k < length path.now) × (slice_index path.now k ≡ 47) × ((i : ℕ) → k < i → i < length path.now → slice_index path.now i ≢ 47)) }
+    ensures found { IfSome result
+        (λ k. (k < length path.now) × (slice_index path.now k ≡ 47)
+        × ((i : ℕ) → k < i → i < length path.now → slice_index path.now i ≢ 47)) }
     ensures none { IfNone result ((i : ℕ) → i < length path.now → slice_index path.now i ≢ 47) }
 {
     let mut end = path.len();
@@ -61,7 +63,8 @@ fn last_slash(path: &[u8]) -> Option<usize>
 /// What is before the last slash of a path.
 fn before_last_slash(path: &str) -> Option<&str>
     requires { IsAscii path.now }
-    ensures value { (more : List ℕ) → through_last_slash path.now ++ more ≡ behind_directory (option_copied result) more }
+    ensures value { (more : List ℕ)
+        → through_last_slash path.now ++ more ≡ behind_directory (option_copied result) more }
     ensures path { is_path path.now ≡ true → if_there is_path (option_copied result) ≡ true }
     ensures plain { is_plain path.now ≡ true → if_there is_plain (option_copied result) ≡ true }
 {
@@ -74,9 +77,13 @@ fn before_last_slash(path: &str) -> Option<&str>
 /// The directory that a relative path is in: with an authority and an empty path it is the root (RFC 3986, 5.2.3).
 fn directory(base: Parts<'_>) -> Option<&str>
     requires { IsAscii base.path.now }
-    ensures value { (path : List ℕ) → merged_path (components_of base.entry) path ≡ behind_directory (option_copied result) path }
-    ensures path { is_path base.entry.path.now ≡ true → if_there is_path (option_copied result) ≡ true }
-    ensures plain { is_plain base.entry.path.now ≡ true → if_there is_plain (option_copied result) ≡ true }
+    ensures value { (path : List ℕ)
+        → merged_path (components_of base.entry) path
+        ≡ behind_directory (option_copied result) path }
+    ensures path { is_path base.entry.path.now ≡ true
+        → if_there is_path (option_copied result) ≡ true }
+    ensures plain { is_plain base.entry.path.now ≡ true
+        → if_there is_plain (option_copied result) ≡ true }
 {
     if base.authority.is_some() && base.path.is_empty() {
         return Some("");
@@ -87,10 +94,13 @@ fn directory(base: Parts<'_>) -> Option<&str>
 /// The path of the target of a reference that has one (RFC 3986, 5.2.2).
 fn path_behind<'a>(base: Parts<'a>, path: &'a str) -> PathOf<'a>
     requires { IsAscii base.path.now }
-    ensures value { written_path Form.Given result ≡ target_path (components_of base.entry) path.now }
-    ensures normal { written_path Form.Normal result ≡ remove_dot_segments (normal_text (path_behind (components_of base.entry) path.now)) }
+    ensures value { written_path Form.Given result
+        ≡ target_path (components_of base.entry) path.now }
+    ensures normal { written_path Form.Normal result
+        ≡ remove_dot_segments (normal_text (path_behind (components_of base.entry) path.now)) }
     ensures parts { is_path base.entry.path.now ≡ true → is_path path.now ≡ true → AreParts result }
-    ensures plain { is_plain base.entry.path.now ≡ true → is_plain path.now ≡ true → ArePlain result }
+    ensures plain { is_plain base.entry.path.now ≡ true → is_plain path.now ≡ true
+        → ArePlain result }
 {
     if path.as_bytes().first() == Some(&b'/') {
         return PathOf::Removed(path);
@@ -108,10 +118,15 @@ pub fn resolved<'a>(base: Parts<'a>, reference: Parts<'a>) -> Target<'a>
     requires reference { are_components (components_of reference) ≡ true }
     requires base_framed { AreFramed base }
     requires framed { AreFramed reference }
-    ensures value { written_components Form.Given result ≡ resolved_components (components_of base.entry) (components_of reference.entry) }
-    ensures normal { is_some (option_copied base.entry.scheme) ≡ true → written_components Form.Normal result ≡ normal_components (target_with_dots (components_of base.entry) (components_of reference.entry)) }
+    ensures value { written_components Form.Given result
+        ≡ resolved_components (components_of base.entry) (components_of reference.entry) }
+    ensures normal { is_some (option_copied base.entry.scheme) ≡ true
+        → written_components Form.Normal result
+        ≡ normal_components
+        (target_with_dots (components_of base.entry) (components_of reference.entry)) }
     ensures target { IsTarget result }
-    ensures plain { LacksTriples (components_of base.entry) → LacksTriples (components_of reference.entry) → IsPlainTarget result }
+    ensures plain { LacksTriples (components_of base.entry)
+        → LacksTriples (components_of reference.entry) → IsPlainTarget result }
 {
     let fragment = reference.fragment;
     if reference.scheme.is_some() {
@@ -161,8 +176,10 @@ pub fn resolved<'a>(base: Parts<'a>, reference: Parts<'a>) -> Target<'a>
 
 /// The path of a reference itself: with a scheme it loses its dot segments.
 fn own_path<'a>(scheme: Option<&str>, path: &'a str) -> PathOf<'a>
-    ensures with_scheme { is_some (option_copied scheme.entry) ≡ true → written_path Form.Normal result ≡ remove_dot_segments (normal_text path.now) }
-    ensures without_scheme { option_copied scheme.entry ≡ None → written_path Form.Normal result ≡ normal_text path.now }
+    ensures with_scheme { is_some (option_copied scheme.entry) ≡ true
+        → written_path Form.Normal result ≡ remove_dot_segments (normal_text path.now) }
+    ensures without_scheme { option_copied scheme.entry ≡ None
+        → written_path Form.Normal result ≡ normal_text path.now }
     ensures parts { is_path path.now ≡ true → AreParts result }
 {
     match scheme {
@@ -174,7 +191,8 @@ fn own_path<'a>(scheme: Option<&str>, path: &'a str) -> PathOf<'a>
 /// A reference itself, without dot segments where it has a scheme.
 pub fn itself(reference: Parts<'_>) -> Target<'_>
     requires { are_components (components_of reference) ≡ true }
-    ensures value { written_components Form.Normal result ≡ normal_components (components_of reference.entry) }
+    ensures value { written_components Form.Normal result
+        ≡ normal_components (components_of reference.entry) }
     ensures target { IsTarget result }
 {
     Target {
@@ -190,7 +208,9 @@ pub fn itself(reference: Parts<'_>) -> Target<'_>
 
 /// Whether a scheme is in lower case, or absent.
 fn is_lower(scheme: Option<&str>) -> bool
-    ensures { result ≡ true → option_map (map to_ascii_lowercase) (option_copied scheme.entry) ≡ option_copied scheme.entry }
+    ensures { result ≡ true
+        → option_map (map to_ascii_lowercase) (option_copied scheme.entry)
+        ≡ option_copied scheme.entry }
 {
     match scheme {
         Some(scheme) => !holds_upper(scheme.as_bytes()),
@@ -200,7 +220,9 @@ fn is_lower(scheme: Option<&str>) -> bool
 
 /// Whether an authority is a host in normal form, or absent.
 fn is_plain_authority(authority: Option<&str>) -> bool
-    ensures { result ≡ true → option_map normal_authority (option_copied authority.entry) ≡ option_copied authority.entry }
+    ensures { result ≡ true
+        → option_map normal_authority (option_copied authority.entry)
+        ≡ option_copied authority.entry }
 {
     match authority {
         Some(authority) => is_plain_host(authority.as_bytes()),
@@ -210,7 +232,8 @@ fn is_plain_authority(authority: Option<&str>) -> bool
 
 /// Whether no segment of a path after a scheme begins with a dot.
 fn lacks_dots(scheme: Option<&str>, path: &str) -> bool
-    ensures { result ≡ true → is_some (option_copied scheme.entry) ≡ true → remove_dot_segments path.now ≡ path.now }
+    ensures { result ≡ true → is_some (option_copied scheme.entry) ≡ true
+        → remove_dot_segments path.now ≡ path.now }
 {
     match scheme {
         Some(_) => !may_hold_dots(path.as_bytes()),
@@ -248,8 +271,14 @@ fn push_scheme(
 ) -> Result<Option<usize>, AllocError>
     requires buffer_ascii { IsAscii (string_bytes buffer.old) }
     requires scheme { if_there is_scheme (option_copied scheme) ≡ true }
-    ensures text { OnOk result (string_bytes buffer.new ≡ string_bytes buffer.old ++ framed_component [] (option_map (written_scheme form) (option_copied scheme.entry)) (codes ":")) }
-    ensures len { IfOk result (λ n. n ≡ option_map length (option_map (written_scheme form) (option_copied scheme.entry))) }
+    ensures text { OnOk result
+        (string_bytes buffer.new
+        ≡ string_bytes buffer.old
+        ++ framed_component []
+        (option_map (written_scheme form) (option_copied scheme.entry)) (codes ":")) }
+    ensures len { IfOk result
+        (λ n. n
+        ≡ option_map length (option_map (written_scheme form) (option_copied scheme.entry))) }
     ensures ascii { OnOk result (IsAscii (string_bytes buffer.new)) }
 {
     let Some(scheme) = scheme else {
@@ -270,8 +299,15 @@ fn push_authority(
 ) -> Result<Option<usize>, AllocError>
     requires buffer_ascii { IsAscii (string_bytes buffer.old) }
     requires authority { if_there is_authority (option_copied authority) ≡ true }
-    ensures text { OnOk result (string_bytes buffer.new ≡ string_bytes buffer.old ++ framed_component (codes "//") (option_map (written_authority form) (option_copied authority.entry)) []) }
-    ensures len { IfOk result (λ n. n ≡ option_map length (option_map (written_authority form) (option_copied authority.entry))) }
+    ensures text { OnOk result
+        (string_bytes buffer.new
+        ≡ string_bytes buffer.old
+        ++ framed_component (codes "//")
+        (option_map (written_authority form) (option_copied authority.entry)) []) }
+    ensures len { IfOk result
+        (λ n. n
+        ≡ option_map length
+        (option_map (written_authority form) (option_copied authority.entry))) }
     ensures ascii { OnOk result (IsAscii (string_bytes buffer.new)) }
 {
     let Some(authority) = authority else {
@@ -285,8 +321,12 @@ fn push_authority(
 
 /// Whether scheme and authority are in this form already, as far as their characters show.
 fn keeps_front(scheme: Option<&str>, authority: Option<&str>, form: Form) -> bool
-    ensures scheme { result ≡ true → option_map (written_scheme form) (option_copied scheme.entry) ≡ option_copied scheme.entry }
-    ensures authority { result ≡ true → option_map (written_authority form) (option_copied authority.entry) ≡ option_copied authority.entry }
+    ensures scheme { result ≡ true
+        → option_map (written_scheme form) (option_copied scheme.entry)
+        ≡ option_copied scheme.entry }
+    ensures authority { result ≡ true
+        → option_map (written_authority form) (option_copied authority.entry)
+        ≡ option_copied authority.entry }
 {
     match form {
         Form::Given => true,
@@ -313,9 +353,19 @@ fn push_front(
 ) -> Result<(Option<usize>, Option<usize>), AllocError>
     requires buffer_ascii { IsAscii (string_bytes buffer.old) }
     requires target { IsTarget target }
-    ensures text { OnOk result (string_bytes buffer.new ≡ string_bytes buffer.old ++ the_front (option_map (written_scheme form) (option_copied target.entry.scheme)) (option_map (written_authority form) (option_copied target.entry.authority))) }
-    ensures scheme { IfOk result (λ n. n.0 ≡ option_map length (option_map (written_scheme form) (option_copied target.entry.scheme))) }
-    ensures authority { IfOk result (λ n. n.1 ≡ option_map length (option_map (written_authority form) (option_copied target.entry.authority))) }
+    ensures text { OnOk result
+        (string_bytes buffer.new
+        ≡ string_bytes buffer.old
+        ++ the_front (option_map (written_scheme form) (option_copied target.entry.scheme))
+        (option_map (written_authority form) (option_copied target.entry.authority))) }
+    ensures scheme { IfOk result
+        (λ n. n.0
+        ≡ option_map length
+        (option_map (written_scheme form) (option_copied target.entry.scheme))) }
+    ensures authority { IfOk result
+        (λ n. n.1
+        ≡ option_map length
+        (option_map (written_authority form) (option_copied target.entry.authority))) }
     ensures ascii { OnOk result (IsAscii (string_bytes buffer.new)) }
 {
     match target.front {
@@ -339,8 +389,14 @@ fn push_marked(
     form: Form,
 ) -> Result<Option<usize>, AllocError>
     requires component { if_there is_query (option_copied component) ≡ true }
-    ensures text { OnOk result (string_bytes buffer.new ≡ string_bytes buffer.old ++ framed_component mark.now (option_map (written_text form) (option_copied component.entry)) []) }
-    ensures len { IfOk result (λ n. n ≡ option_map length (option_map (written_text form) (option_copied component.entry))) }
+    ensures text { OnOk result
+        (string_bytes buffer.new
+        ≡ string_bytes buffer.old
+        ++ framed_component mark.now
+        (option_map (written_text form) (option_copied component.entry)) []) }
+    ensures len { IfOk result
+        (λ n. n
+        ≡ option_map length (option_map (written_text form) (option_copied component.entry))) }
 {
     let Some(component) = component else {
         return Ok(None);
@@ -359,8 +415,15 @@ fn push_rest(
     form: Form,
 ) -> Result<Option<usize>, AllocError>
     requires { IsTarget target }
-    ensures text { OnOk result (string_bytes buffer.new ≡ string_bytes buffer.old ++ the_rest (option_map (written_text form) (option_copied target.entry.query)) (option_map (written_text form) (option_copied target.entry.fragment))) }
-    ensures query { IfOk result (λ n. n ≡ option_map length (option_map (written_text form) (option_copied target.entry.query))) }
+    ensures text { OnOk result
+        (string_bytes buffer.new
+        ≡ string_bytes buffer.old
+        ++ the_rest (option_map (written_text form) (option_copied target.entry.query))
+        (option_map (written_text form) (option_copied target.entry.fragment))) }
+    ensures query { IfOk result
+        (λ n. n
+        ≡ option_map length
+        (option_map (written_text form) (option_copied target.entry.query))) }
 {
     match target.rest {
         Some(rest) if form.is_given() => {
@@ -385,7 +448,11 @@ fn begins_with_slashes(path: &str) -> bool
 fn guard(buffer: &mut String, start: usize, authority: Option<&str>) -> Result<(), AllocError>
     requires ascii { IsAscii (string_bytes buffer.old) }
     requires within { start ≤ length (string_bytes buffer.old) }
-    ensures { (before path : List ℕ) → string_bytes buffer.old ≡ before ++ path → length before ≡ start → OnOk result (string_bytes buffer.new ≡ before ++ guarded_path (option_copied authority.entry) path) }
+    ensures { (before path : List ℕ) → string_bytes buffer.old ≡ before ++ path
+        → length before ≡ start
+        → OnOk result
+        (string_bytes buffer.new
+        ≡ before ++ guarded_path (option_copied authority.entry) path) }
 {
     if authority.is_some() || !begins_with_slashes(&buffer[start..]) {
         return Ok(());
@@ -449,7 +516,8 @@ impl<'a> PathOf<'a> {
     fn push_given(self, buffer: &mut String) -> Result<(), AllocError>
         requires buffer_ascii { IsAscii (string_bytes buffer.old) }
         requires parts { AreParts self }
-        ensures text { OnOk result (string_bytes buffer.new ≡ string_bytes buffer.old ++ given_path self.entry) }
+        ensures text { OnOk result
+            (string_bytes buffer.new ≡ string_bytes buffer.old ++ given_path self.entry) }
         ensures ascii { OnOk result (IsAscii (string_bytes buffer.new)) }
     {
         match self {
@@ -466,7 +534,8 @@ impl<'a> PathOf<'a> {
     fn push_normal(self, buffer: &mut String) -> Result<(), AllocError>
         requires buffer_ascii { IsAscii (string_bytes buffer.old) }
         requires parts { AreParts self }
-        ensures text { OnOk result (string_bytes buffer.new ≡ string_bytes buffer.old ++ normal_path_of self.entry) }
+        ensures text { OnOk result
+            (string_bytes buffer.new ≡ string_bytes buffer.old ++ normal_path_of self.entry) }
         ensures ascii { OnOk result (IsAscii (string_bytes buffer.new)) }
     {
         match self {
@@ -484,7 +553,10 @@ impl<'a> PathOf<'a> {
     fn push_normal_target(self, buffer: &mut String) -> Result<(), AllocError>
         requires buffer_ascii { IsAscii (string_bytes buffer.old) }
         requires parts { AreParts self }
-        ensures text { OnOk result (string_bytes buffer.new ≡ string_bytes buffer.old ++ remove_dot_segments (normal_text (given_path self.entry))) }
+        ensures text { OnOk result
+            (string_bytes buffer.new
+            ≡ string_bytes buffer.old
+            ++ remove_dot_segments (normal_text (given_path self.entry))) }
         ensures ascii { OnOk result (IsAscii (string_bytes buffer.new)) }
     {
         let start = buffer.len();
@@ -497,7 +569,8 @@ impl<'a> PathOf<'a> {
     fn push(self, buffer: &mut String, form: Form) -> Result<(), AllocError>
         requires buffer_ascii { IsAscii (string_bytes buffer.old) }
         requires parts { AreParts self }
-        ensures text { OnOk result (string_bytes buffer.new ≡ string_bytes buffer.old ++ written_path form self.entry) }
+        ensures text { OnOk result
+            (string_bytes buffer.new ≡ string_bytes buffer.old ++ written_path form self.entry) }
         ensures ascii { OnOk result (IsAscii (string_bytes buffer.new)) }
     {
         match form {
@@ -517,8 +590,14 @@ fn push_path(
 ) -> Result<usize, AllocError>
     requires buffer_ascii { IsAscii (string_bytes buffer.old) }
     requires parts { AreParts path }
-    ensures text { OnOk result (string_bytes buffer.new ≡ string_bytes buffer.old ++ guarded_path (option_copied authority.entry) (written_path form path.entry)) }
-    ensures len { IfOk result (λ n. n ≡ length (guarded_path (option_copied authority.entry) (written_path form path.entry))) }
+    ensures text { OnOk result
+        (string_bytes buffer.new
+        ≡ string_bytes buffer.old
+        ++ guarded_path (option_copied authority.entry) (written_path form path.entry)) }
+    ensures len { IfOk result
+        (λ n. n
+        ≡ length
+        (guarded_path (option_copied authority.entry) (written_path form path.entry))) }
 {
     let start = buffer.len();
     path.push(buffer, form)?;
@@ -545,7 +624,8 @@ impl<'a> Target<'a> {
     /// The form in which the target's normal form is written: at once, where its path loses the same dot segments so.
     pub fn normal_form(self) -> Form
         requires { IsTarget self }
-        ensures { written_components result self.entry ≡ written_components Form.NormalTarget self.entry }
+        ensures { written_components result self.entry
+            ≡ written_components Form.NormalTarget self.entry }
     {
         if self.path.loses_same_dots() {
             return Form::Normal;
@@ -562,8 +642,10 @@ impl<'a> Target<'a> {
         form: Form,
     ) -> Result<(String, Lengths), AllocError>
         requires { IsTarget self }
-        ensures text { IfOk result (λ t. string_bytes t.0 ≡ text_of (written_by front form self.entry)) }
-        ensures lengths { IfOk result (λ t. t.1 ≡ lengths_of_components (written_by front form self.entry)) }
+        ensures text { IfOk result
+            (λ t. string_bytes t.0 ≡ text_of (written_by front form self.entry)) }
+        ensures lengths { IfOk result
+            (λ t. t.1 ≡ lengths_of_components (written_by front form self.entry)) }
     {
         let mut text = String::with_capacity(alloc, self.room(form))?;
         let (scheme, authority) = push_front(&mut text, self, front)?;
@@ -583,8 +665,10 @@ impl<'a> Target<'a> {
     pub fn write_plain(self, alloc: Global) -> Result<(String, Lengths), AllocError>
         requires target { IsTarget self }
         requires plain { IsPlainTarget self }
-        ensures text { IfOk result (λ t. string_bytes t.0 ≡ text_of (written_components Form.NormalTarget self.entry)) }
-        ensures lengths { IfOk result (λ t. t.1 ≡ lengths_of_components (written_components Form.NormalTarget self.entry)) }
+        ensures text { IfOk result
+            (λ t. string_bytes t.0 ≡ text_of (written_components Form.NormalTarget self.entry)) }
+        ensures lengths { IfOk result
+            (λ t. t.1 ≡ lengths_of_components (written_components Form.NormalTarget self.entry)) }
     {
         let target = Target {
             scheme: self.scheme,

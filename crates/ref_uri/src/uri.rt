@@ -47,8 +47,10 @@ impl Uri {
     pub fn parse(alloc: Global, text: &str) -> Result<Uri, UriParseFault>
         ensures value { IfOk result (λ u. u ≡ text.now) }
         ensures accepted { IsOk result → is_uri text.now ≡ true }
-        ensures no_scheme { IsErrOf result (UriParseFault.Invalid ParseError.NoScheme) ↔ ((is_uri_reference text.now ≡ true) × (scheme text.now ≡ None)) }
-        ensures syntax { IsErrOf result (UriParseFault.Invalid ParseError.Syntax) ↔ (is_uri_reference text.now ≡ false) }
+        ensures no_scheme { IsErrOf result (UriParseFault.Invalid ParseError.NoScheme) ↔
+            ((is_uri_reference text.now ≡ true) × (scheme text.now ≡ None)) }
+        ensures syntax { IsErrOf result (UriParseFault.Invalid ParseError.Syntax) ↔
+            (is_uri_reference text.now ≡ false) }
     {
         let lengths = parser::parse(text.as_bytes())?;
         if lengths.scheme.is_none() {
@@ -161,8 +163,10 @@ impl Uri {
     /// text is no fragment, `Memory` where a growth is refused; the URI is then as it was. `None` succeeds, and by
     /// the code takes no memory. Linear in the fragment, and in the URI where its text is moved to a larger block.
     pub fn set_fragment(&mut self, fragment: Option<&str>) -> Result<(), UriParseFault>
-        ensures ok { OnOk result (self.new ≡ with_fragment self.old (option_copied fragment.entry)) }
-        ensures syntax { IsErrOf result (UriParseFault.Invalid ParseError.Syntax) ↔ (if_there is_query (option_copied fragment.entry) ≡ false) }
+        ensures ok { OnOk result
+            (self.new ≡ with_fragment self.old (option_copied fragment.entry)) }
+        ensures syntax { IsErrOf result (UriParseFault.Invalid ParseError.Syntax) ↔
+            (if_there is_query (option_copied fragment.entry) ≡ false) }
         ensures scheme_there { IsErrOf result (UriParseFault.Invalid ParseError.NoScheme) → ⊥ }
         ensures dropped { fragment.entry ≡ None → IsOk result }
         ensures err { OnErr result (self.new ≡ self.old) }
@@ -179,7 +183,8 @@ impl Uri {
 
     fn put_fragment(&mut self, fragment: &str) -> Result<(), UriParseFault>
         ensures ok { OnOk result (self.new ≡ with_fragment self.old (Some fragment.now)) }
-        ensures syntax { IsErrOf result (UriParseFault.Invalid ParseError.Syntax) ↔ (is_query fragment.now ≡ false) }
+        ensures syntax { IsErrOf result (UriParseFault.Invalid ParseError.Syntax) ↔
+            (is_query fragment.now ≡ false) }
         ensures scheme_there { IsErrOf result (UriParseFault.Invalid ParseError.NoScheme) → ⊥ }
         ensures err { OnErr result (self.new ≡ self.old) }
     {

@@ -44,7 +44,8 @@ impl Case {
     /// Appends characters of which none is `%`.
     fn push_run(self, buffer: &mut String, run: &str) -> Result<(), AllocError>
         requires { IsAscii run.now }
-        ensures { OnOk result (string_bytes buffer.new ≡ string_bytes buffer.old ++ map (in_case self) run.now) }
+        ensures { OnOk result
+            (string_bytes buffer.new ≡ string_bytes buffer.old ++ map (in_case self) run.now) }
     {
         match self {
             Case::AsItIs => buffer.push_str(run),
@@ -76,7 +77,8 @@ pub fn holds_upper(text: &[u8]) -> bool
 /// Appends a text in lower case: at once, where it is so already.
 fn push_lower(buffer: &mut String, run: &str) -> Result<(), AllocError>
     requires { IsAscii run.now }
-    ensures { OnOk result (string_bytes buffer.new ≡ string_bytes buffer.old ++ map (in_case Case.Lower) run.now) }
+    ensures { OnOk result
+        (string_bytes buffer.new ≡ string_bytes buffer.old ++ map (in_case Case.Lower) run.now) }
 {
     if !holds_upper(run.as_bytes()) {
         return buffer.push_str(run);
@@ -104,7 +106,9 @@ fn hex_value(c: u8) -> u8
 fn push_triple(buffer: &mut String, high: u8, low: u8, case: Case) -> Result<(), AllocError>
     requires high { is_ascii_hexdigit high ≡ true }
     requires low { is_ascii_hexdigit low ≡ true }
-    ensures { OnOk result (string_bytes buffer.new ≡ string_bytes buffer.old ++ normal_triple (in_case case) high low) }
+    ensures { OnOk result
+        (string_bytes buffer.new
+        ≡ string_bytes buffer.old ++ normal_triple (in_case case) high low) }
 {
     let value = 16 * hex_value(high) + hex_value(low);
     if is_unreserved(value) {
@@ -119,7 +123,9 @@ fn push_triple(buffer: &mut String, high: u8, low: u8, case: Case) -> Result<(),
 fn push_encoded(buffer: &mut String, text: &str, case: Case) -> Result<(), AllocError>
     requires ascii { IsAscii text.now }
     requires triples { has_whole_triples text.now ≡ true }
-    ensures { OnOk result (string_bytes buffer.new ≡ string_bytes buffer.old ++ normal_encoded (in_case case) text.now) }
+    ensures { OnOk result
+        (string_bytes buffer.new
+        ≡ string_bytes buffer.old ++ normal_encoded (in_case case) text.now) }
 {
     let mut rest = text;
     'runs: while let Some((run, triple)) = rest.split_once('%') {
@@ -160,7 +166,8 @@ fn normal_len(text: &[u8]) -> usize
 fn push_normal_text(buffer: &mut String, text: &str) -> Result<(), AllocError>
     requires ascii { IsAscii text.now }
     requires triples { has_whole_triples text.now ≡ true }
-    ensures { OnOk result (string_bytes buffer.new ≡ string_bytes buffer.old ++ normal_text text.now) }
+    ensures { OnOk result
+        (string_bytes buffer.new ≡ string_bytes buffer.old ++ normal_text text.now) }
 {
     let mut rest = text;
     let mut len = normal_len(rest.as_bytes());
@@ -177,7 +184,11 @@ fn push_normal_text(buffer: &mut String, text: &str) -> Result<(), AllocError>
 /// Appends the triple that is in the buffer's text at `percent`, as [`push_triple`] does.
 fn push_triple_again(buffer: &mut String, percent: usize) -> Result<(), AllocError>
     requires { begins_with_hex_digits (drop (percent + 1) (string_bytes buffer.old)) ≡ true }
-    ensures { OnOk result (string_bytes buffer.new ≡ string_bytes buffer.old ++ normal_triple (λ c. c) (slice_index (string_bytes buffer.old) (percent + 1)) (slice_index (string_bytes buffer.old) (percent + 2))) }
+    ensures { OnOk result
+        (string_bytes buffer.new
+        ≡ string_bytes buffer.old
+        ++ normal_triple (λ c. c) (slice_index (string_bytes buffer.old) (percent + 1))
+        (slice_index (string_bytes buffer.old) (percent + 2))) }
 {
     let high = buffer.as_bytes()[percent + 1];
     let low = buffer.as_bytes()[percent + 2];
@@ -189,7 +200,9 @@ fn push_normal_again(buffer: &mut String, start: usize) -> Result<(), AllocError
     requires buffer_ascii { IsAscii (string_bytes buffer.old) }
     requires within { start ≤ length (string_bytes buffer.old) }
     requires triples { has_whole_triples (drop start (string_bytes buffer.old)) ≡ true }
-    ensures text { OnOk result (string_bytes buffer.new ≡ string_bytes buffer.old ++ normal_text (drop start (string_bytes buffer.old))) }
+    ensures text { OnOk result
+        (string_bytes buffer.new
+        ≡ string_bytes buffer.old ++ normal_text (drop start (string_bytes buffer.old))) }
     ensures ascii { OnOk result (IsAscii (string_bytes buffer.new)) }
 {
     let end = buffer.len();
@@ -208,7 +221,10 @@ pub fn normalize_end(buffer: &mut String, start: usize) -> Result<(), AllocError
     requires buffer_ascii { IsAscii (string_bytes buffer.old) }
     requires within { start ≤ length (string_bytes buffer.old) }
     requires triples { has_whole_triples (drop start (string_bytes buffer.old)) ≡ true }
-    ensures text { OnOk result (string_bytes buffer.new ≡ take start (string_bytes buffer.old) ++ normal_text (drop start (string_bytes buffer.old))) }
+    ensures text { OnOk result
+        (string_bytes buffer.new
+        ≡ take start (string_bytes buffer.old)
+        ++ normal_text (drop start (string_bytes buffer.old))) }
     ensures ascii { OnOk result (IsAscii (string_bytes buffer.new)) }
 {
     let end = buffer.len();
@@ -239,7 +255,8 @@ fn host_len(text: &[u8]) -> usize
 
 /// Appends what follows a host, unless it is the `:` of an empty port.
 fn push_port(buffer: &mut String, port: &str) -> Result<(), AllocError>
-    ensures { OnOk result (string_bytes buffer.new ≡ string_bytes buffer.old ++ normal_port_part port.now) }
+    ensures { OnOk result
+        (string_bytes buffer.new ≡ string_bytes buffer.old ++ normal_port_part port.now) }
 {
     if port.len() == 1 {
         return Ok(());
@@ -259,12 +276,16 @@ pub fn is_plain_host(text: &[u8]) -> bool
     true
 }
 
-/// Appends `host [":" port]` in normal form: the host in lower case, and no `:` before an empty port. A host that is so already is
-/// appended at once.
+/// Appends `host [":" port]` in normal form: the host in lower case, and no `:` before an empty port. A host that is so
+/// already is appended at once.
 fn push_host_and_port(buffer: &mut String, text: &str) -> Result<(), AllocError>
     requires ascii { IsAscii text.now }
     requires host { has_whole_triples (take (host_len text.now) text.now) ≡ true }
-    ensures { OnOk result (string_bytes buffer.new ≡ string_bytes buffer.old ++ (normal_host (take (host_len text.now) text.now) ++ normal_port_part (drop (host_len text.now) text.now))) }
+    ensures { OnOk result
+        (string_bytes buffer.new
+        ≡ string_bytes buffer.old
+        ++ (normal_host (take (host_len text.now) text.now)
+        ++ normal_port_part (drop (host_len text.now) text.now))) }
 {
     if is_plain_host(text.as_bytes()) {
         return buffer.push_str(text);
@@ -278,7 +299,8 @@ fn push_host_and_port(buffer: &mut String, text: &str) -> Result<(), AllocError>
 fn push_normal_authority(buffer: &mut String, authority: &str) -> Result<(), AllocError>
     requires ascii { IsAscii authority.now }
     requires authority { is_authority authority.now ≡ true }
-    ensures { OnOk result (string_bytes buffer.new ≡ string_bytes buffer.old ++ normal_authority authority.now) }
+    ensures { OnOk result
+        (string_bytes buffer.new ≡ string_bytes buffer.old ++ normal_authority authority.now) }
 {
     match authority.split_once('@') {
         Some((userinfo, rest)) => {
@@ -313,8 +335,10 @@ impl Form {
     pub fn push(self, buffer: &mut String, text: &str) -> Result<(), AllocError>
         requires ascii { IsAscii text.now }
         requires triples { has_whole_triples text.now ≡ true }
-        ensures text { OnOk result (string_bytes buffer.new ≡ string_bytes buffer.old ++ written_text self text.now) }
-        ensures ascii { OnOk result (IsAscii (string_bytes buffer.old) → IsAscii (string_bytes buffer.new)) }
+        ensures text { OnOk result
+            (string_bytes buffer.new ≡ string_bytes buffer.old ++ written_text self text.now) }
+        ensures ascii { OnOk result
+            (IsAscii (string_bytes buffer.old) → IsAscii (string_bytes buffer.new)) }
     {
         match self {
             Form::Given => buffer.push_str(text),
@@ -325,8 +349,10 @@ impl Form {
     /// Appends a scheme.
     pub fn push_scheme(self, buffer: &mut String, scheme: &str) -> Result<(), AllocError>
         requires { IsAscii scheme.now }
-        ensures text { OnOk result (string_bytes buffer.new ≡ string_bytes buffer.old ++ written_scheme self scheme.now) }
-        ensures ascii { OnOk result (IsAscii (string_bytes buffer.old) → IsAscii (string_bytes buffer.new)) }
+        ensures text { OnOk result
+            (string_bytes buffer.new ≡ string_bytes buffer.old ++ written_scheme self scheme.now) }
+        ensures ascii { OnOk result
+            (IsAscii (string_bytes buffer.old) → IsAscii (string_bytes buffer.new)) }
     {
         match self {
             Form::Given => buffer.push_str(scheme),
@@ -338,8 +364,11 @@ impl Form {
     pub fn push_authority(self, buffer: &mut String, authority: &str) -> Result<(), AllocError>
         requires ascii { IsAscii authority.now }
         requires authority { is_authority authority.now ≡ true }
-        ensures text { OnOk result (string_bytes buffer.new ≡ string_bytes buffer.old ++ written_authority self authority.now) }
-        ensures ascii { OnOk result (IsAscii (string_bytes buffer.old) → IsAscii (string_bytes buffer.new)) }
+        ensures text { OnOk result
+            (string_bytes buffer.new
+            ≡ string_bytes buffer.old ++ written_authority self authority.now) }
+        ensures ascii { OnOk result
+            (IsAscii (string_bytes buffer.old) → IsAscii (string_bytes buffer.new)) }
     {
         match self {
             Form::Given => buffer.push_str(authority),

@@ -10,4 +10,6 @@ use Rattle.ref_vocabularies.specs.declared.dialect.Dialect.TheVariants.{Known, M
 -- those that are known, or those that the document under the URI declares
 abbrev pub set_of_dialect : World → Dialect → VocabularySet
 set_of_dialect world (Known set) = set
-set_of_dialect world (MetaSchema uri) = option_map_or (λ p. set_or_default (find_in p.value)) (meant_place world uri) (default_set Unknown)
+set_of_dialect world (MetaSchema uri) =
+    option_map_or (λ p. set_or_default (find_in p.value)) (meant_place world uri)
+    (default_set Unknown)

@@ -31,7 +31,9 @@ pub data Known : Type 0 where
 
 -- all of them, in order
 abbrev pub all_known : List Known
-all_known = Core ∷ Applicator ∷ Unevaluated ∷ Validation ∷ Metadata ∷ Format ∷ FormatAnnotation ∷ Content ∷ FormatAssertion ∷ []
+all_known =
+    Core ∷ Applicator ∷ Unevaluated ∷ Validation ∷ Metadata ∷ Format ∷ FormatAnnotation ∷ Content
+    ∷ FormatAssertion ∷ []
 
 -- the place of one in that order, which is its bit in a number
 abbrev pub bit : Known → ℕ
@@ -84,11 +86,14 @@ vocabulary_eq (Custom uri) (Custom other) = bytes_eq uri other
 abbrev pub is_uri_of : List ℕ → Known → Bool
 is_uri_of uri k =
     bytes_eq uri (codes "https://json-schema.org/draft/2020-12/vocab/" ++ name k)
-    || (is_in_2019 k && bytes_eq uri (codes "https://json-schema.org/draft/2019-09/vocab/" ++ name k))
+    || (is_in_2019 k
+    && bytes_eq uri (codes "https://json-schema.org/draft/2019-09/vocab/" ++ name k))
 
 -- the vocabulary that a text names
 abbrev pub from_text : List ℕ → Result Vocabulary Refusal
-from_text text = option_map_or (λ k. Ok (Standard k)) (find (is_uri_of text) all_known) (uri_of text >>= λ uri. Ok (Custom uri))
+from_text text =
+    option_map_or (λ k. Ok (Standard k)) (find (is_uri_of text) all_known)
+    (uri_of text >>= λ uri. Ok (Custom uri))
 
 -- a set of vocabularies: the known ones in their order, and the URIs of the others in byte order, each once
 pub record VocabularySet : Type 0 where
@@ -114,11 +119,14 @@ contains s (Custom uri) = has_uri s.customs uri
 -- a URI at its place among others in byte order
 abbrev pub with_uri : List ℕ → List (List ℕ) → List (List ℕ)
 with_uri uri [] = uri ∷ []
-with_uri uri (other ∷ rest) = match_ordering (slice_cmp nat_cmp uri other) (uri ∷ other ∷ rest) (other ∷ rest) (other ∷ with_uri uri rest)
+with_uri uri (other ∷ rest) =
+    match_ordering (slice_cmp nat_cmp uri other) (uri ∷ other ∷ rest) (other ∷ rest)
+    (other ∷ with_uri uri rest)
 
 -- a set with one more vocabulary
 abbrev pub with_vocabulary : VocabularySet → Vocabulary → VocabularySet
-with_vocabulary s (Standard k) = record s { standard = filter (λ j. has_known s.standard j || known_eq k j) all_known }
+with_vocabulary s (Standard k) =
+    record s { standard = filter (λ j. has_known s.standard j || known_eq k j) all_known }
 with_vocabulary s (Custom uri) = record s { customs = with_uri uri s.customs }
 
 -- the set of known vocabularies alone
@@ -131,7 +139,9 @@ of_bits bits = of_known (filter (λ k. bit_at bits (bit k) == 1) all_known)
 
 -- the vocabularies of the newest draft, without what asserts formats
 abbrev pub set_of_2020 : VocabularySet
-set_of_2020 = of_known (Core ∷ Applicator ∷ Unevaluated ∷ Validation ∷ Metadata ∷ FormatAnnotation ∷ Content ∷ [])
+set_of_2020 =
+    of_known
+    (Core ∷ Applicator ∷ Unevaluated ∷ Validation ∷ Metadata ∷ FormatAnnotation ∷ Content ∷ [])
 
 -- the sets of the drafts: those before 2019-09 have no vocabularies
 abbrev pub default_set : Draft → VocabularySet
@@ -148,7 +158,8 @@ quoted_text text = codes "\"" ++ text ++ codes "\""
 
 -- a set as it is displayed: the known names, then the URIs of the others
 abbrev pub set_text : VocabularySet → List ℕ
-set_text s = codes "[" ++ join_by quoted_text (codes ", ") (map name s.standard ++ s.customs) ++ codes "]"
+set_text s =
+    codes "[" ++ join_by quoted_text (codes ", ") (map name s.standard ++ s.customs) ++ codes "]"
 
 -- format-assertion is added by a member of `$vocabulary` in any case, any other where the member is true
 abbrev pub is_format_assertion : Vocabulary → Bool
@@ -162,14 +173,21 @@ with_member s value v = if is_true value || is_format_assertion v then with_voca
 -- each key of `$vocabulary` is read, also where its value is false
 abbrev pub collected_set : VocabularySet → Members → Result VocabularySet Refusal
 collected_set s no_members = Ok s
-collected_set s (member key value ms) = from_text key >>= λ v. collected_set (with_member s value v) ms
+collected_set s (member key value ms) =
+    from_text key >>= λ v. collected_set (with_member s value v) ms
 
 -- the meta-schemas that are known by their identifier, with their set, or none before 2019-09
 abbrev pub known_set : List ℕ → Option (Option VocabularySet)
 known_set id =
-    if bytes_eq id (codes "https://json-schema.org/schema") || bytes_eq id (codes "https://json-schema.org/draft/2020-12/schema") then Some (Some (default_set Draft202012))
-    else (if bytes_eq id (codes "https://json-schema.org/draft/2019-09/schema") then Some (Some (default_set Draft201909))
-    else (if bytes_eq id (codes "https://json-schema.org/draft-07/schema") || bytes_eq id (codes "https://json-schema.org/draft-06/schema") || bytes_eq id (codes "https://json-schema.org/draft-04/schema") then Some None
+    if bytes_eq id (codes "https://json-schema.org/schema")
+    || bytes_eq id (codes "https://json-schema.org/draft/2020-12/schema") then
+    Some (Some (default_set Draft202012))
+    else (if bytes_eq id (codes "https://json-schema.org/draft/2019-09/schema") then
+    Some (Some (default_set Draft201909))
+    else (if bytes_eq id (codes "https://json-schema.org/draft-07/schema")
+    || bytes_eq id (codes "https://json-schema.org/draft-06/schema")
+    || bytes_eq id (codes "https://json-schema.org/draft-04/schema") then
+    Some None
     else None))
 
 -- what the members of `$vocabulary` declare: none without such an object
@@ -191,21 +209,26 @@ set_or_default (Err refusal) = default_set Unknown
 
 -- that of the document under a URI, whose fragment takes no part
 abbrev pub set_at : World → Result (List ℕ) Refusal → VocabularySet
-set_at world (Ok uri) = option_map_or (λ p. set_or_default (find_in p.value)) (meant_place world (with_fragment uri None)) (default_set Unknown)
+set_at world (Ok uri) =
+    option_map_or (λ p. set_or_default (find_in p.value))
+    (meant_place world (with_fragment uri None)) (default_set Unknown)
 set_at world (Err refusal) = default_set Unknown
 
 -- the vocabularies of a schema of a draft: the draft's own, or those of the meta-schema that it names
 unfoldable pub find_vocabularies : World → Draft → Data → VocabularySet
 find_vocabularies world draft contents =
     if is_unknown (detect draft contents)
-    then option_map_or (λ text. set_at world (uri_of text)) (text_under (codes "$schema") contents) (default_set Unknown)
+    then option_map_or (λ text. set_at world (uri_of text)) (text_under (codes "$schema") contents)
+    (default_set Unknown)
     else default_set draft
 
 -- the contents that a resolver asks for: an object with a key `$schema` itself, or else the value that the base means
 abbrev pub dialect_contents : World → List ℕ → Data → Data
 dialect_contents world base contents =
-    if is_some (get (codes "$schema") contents) then contents else option_map_or (λ p. p.value) (meant_place world base) contents
+    if is_some (get (codes "$schema") contents) then contents
+    else option_map_or (λ p. p.value) (meant_place world base) contents
 
 -- the vocabularies of a schema at a resolver's base
 abbrev pub find_vocabularies_at : World → List ℕ → Draft → Data → VocabularySet
-find_vocabularies_at world base draft contents = find_vocabularies world draft (dialect_contents world base contents)
+find_vocabularies_at world base draft contents =
+    find_vocabularies world draft (dialect_contents world base contents)

@@ -37,7 +37,10 @@ impl Dialect {
     ///
     /// Fails only where memory is refused, which it takes for the URI. A look-up, and linear in the text.
     pub fn of(alloc: Global, draft: Draft, contents: &Value) -> Result<Dialect, AllocError>
-        ensures value { (world : World) → IfOk result (λ dialect. find_vocabularies world draft (view contents.now) ≡ set_of_dialect world dialect) }
+        ensures value { (world : World)
+            → IfOk result
+            (λ dialect. find_vocabularies world draft (view contents.now)
+            ≡ set_of_dialect world dialect) }
     {
         match draft.detect(contents) {
             Draft::Unknown => custom(alloc, contents),
@@ -48,7 +51,11 @@ impl Dialect {
 
 // The dialect of a schema whose draft isn't known.
 fn custom(alloc: Global, contents: &Value) -> Result<Dialect, AllocError>
-    ensures { (world : World) → IfOk result (λ dialect. option_map_or (λ text. set_at world (uri_of text)) (text_under (codes "$schema") (view contents.now)) (default_set Unknown) ≡ set_of_dialect world dialect) }
+    ensures { (world : World)
+        → IfOk result
+        (λ dialect. option_map_or (λ text. set_at world (uri_of text))
+        (text_under (codes "$schema") (view contents.now)) (default_set Unknown)
+        ≡ set_of_dialect world dialect) }
 {
     match contents.get("$schema").and_then(Value::as_str) {
         Some(text) => named(alloc, text),
@@ -58,7 +65,8 @@ fn custom(alloc: Global, contents: &Value) -> Result<Dialect, AllocError>
 
 // The dialect of a schema whose meta-schema a text names.
 fn named(alloc: Global, text: &str) -> Result<Dialect, AllocError>
-    ensures { (world : World) → IfOk result (λ dialect. set_at world (uri_of text.now) ≡ set_of_dialect world dialect) }
+    ensures { (world : World)
+        → IfOk result (λ dialect. set_at world (uri_of text.now) ≡ set_of_dialect world dialect) }
 {
     match uri::from_str(alloc, text) {
         Ok(mut uri) => {
@@ -80,7 +88,10 @@ pub fn declared_or_default(
     alloc: Global,
     document: Option<&Value>,
 ) -> Result<VocabularySet, AllocError>
-    ensures value { IfOk result (λ set. set ≡ option_map_or (λ d. set_or_default (find_in (view d.now))) document.entry (default_set Unknown)) }
+    ensures value { IfOk result
+        (λ set. set
+        ≡ option_map_or (λ d. set_or_default (find_in (view d.now))) document.entry
+        (default_set Unknown)) }
 {
     let Some(document) = document else {
         return Ok(default_vocabularies(Draft::Unknown));
@@ -90,7 +101,8 @@ pub fn declared_or_default(
 
 // The set that was found, or the default one.
 fn or_default(found: Result<Option<VocabularySet>, Error>) -> Result<VocabularySet, AllocError>
-    ensures { (declared : Result (Option SetOfVocabularies) Refusal) → IfOk found (λ set. declared ≡ Ok set) → IfErr found (IsFaultOf (as_invalid_uri declared))
+    ensures { (declared : Result (Option SetOfVocabularies) Refusal)
+        → IfOk found (λ set. declared ≡ Ok set) → IfErr found (IsFaultOf (as_invalid_uri declared))
         → IfOk result (λ set. set ≡ set_or_default declared) }
 {
     match found.map_err(|error| error.is_memory()) {

@@ -22,9 +22,12 @@ pub fn equals_are_the_same()
 /// A set contains what was added to it, and what it contained before. In which order vocabularies were added, and how often
 /// each, makes no difference.
 pub fn sets_have_no_order_of_growth()
-    ensures contains { (s : DefinedSet) (v w : Defined) → contains (with_vocabulary s v) w ≡ (contains s w || vocabulary_eq v w) }
-    ensures order { (s : DefinedSet) (v w : Defined) → with_vocabulary (with_vocabulary s v) w ≡ with_vocabulary (with_vocabulary s w) v }
-    ensures twice { (s : DefinedSet) (v : Defined) → with_vocabulary (with_vocabulary s v) v ≡ with_vocabulary s v }
+    ensures contains { (s : DefinedSet) (v w : Defined)
+        → contains (with_vocabulary s v) w ≡ (contains s w || vocabulary_eq v w) }
+    ensures order { (s : DefinedSet) (v w : Defined)
+        → with_vocabulary (with_vocabulary s v) w ≡ with_vocabulary (with_vocabulary s w) v }
+    ensures twice { (s : DefinedSet) (v : Defined)
+        → with_vocabulary (with_vocabulary s v) v ≡ with_vocabulary s v }
 {}
 
 /// A vocabulary that a text names and that is not known is the URI that the text means.

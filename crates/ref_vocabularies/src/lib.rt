@@ -1,7 +1,8 @@
 //! Vocabularies of JSON Schema's meta-schemas (2020-12 Core, 8.1.2; 2019-09 Core, 8.1.2): which one a text names, and sets of
 //! them.
 //!
-//! What they mean is defined in `specs/Vocabularies.antt`; `specs/Views.antt` says which vocabulary of that definition a value is.
+//! What they mean is defined in `specs/Vocabularies.antt`; `specs/Views.antt` says which vocabulary of that definition
+//! a value is.
 #![tactic(auto)]
 
 pub mod dialect;

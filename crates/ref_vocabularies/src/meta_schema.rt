@@ -62,8 +62,15 @@ fn known(document: &Value) -> Option<Option<VocabularySet>>
 
 // The set that a meta-schema declares under `$vocabulary`.
 fn declared(alloc: Global, document: &Value) -> Result<Option<VocabularySet>, Error>
-    ensures ok { IfOk result (λ found. set_of_members (option_and_then as_object (get (codes "$vocabulary") (view document.now))) ≡ Ok found) }
-    ensures fault { IfErr result (IsFaultOf (as_invalid_uri (set_of_members (option_and_then as_object (get (codes "$vocabulary") (view document.now)))))) }
+    ensures ok { IfOk result
+        (λ found. set_of_members
+        (option_and_then as_object (get (codes "$vocabulary") (view document.now)))
+        ≡ Ok found) }
+    ensures fault { IfErr result
+        (IsFaultOf
+        (as_invalid_uri
+        (set_of_members
+        (option_and_then as_object (get (codes "$vocabulary") (view document.now)))))) }
 {
     match document.get("$vocabulary").and_then(Value::as_object) {
         Some(members) => Ok(Some(collected(alloc, members)?)),
@@ -91,8 +98,11 @@ fn known_set(id: &str) -> Option<Option<VocabularySet>>
 
 // The set that the members of `$vocabulary` declare.
 fn collected(alloc: Global, members: &Map<String, Value>) -> Result<VocabularySet, Error>
-    ensures ok { IfOk result (λ set. collected_set (of_known []) (members_view members.now.entries) ≡ Ok set) }
-    ensures fault { IfErr result (IsFaultOf (as_invalid_uri (collected_set (of_known []) (members_view members.now.entries)))) }
+    ensures ok { IfOk result
+        (λ set. collected_set (of_known []) (members_view members.now.entries) ≡ Ok set) }
+    ensures fault { IfErr result
+        (IsFaultOf
+        (as_invalid_uri (collected_set (of_known []) (members_view members.now.entries)))) }
 {
     let mut set = VocabularySet::new();
     for (key, value) in members {

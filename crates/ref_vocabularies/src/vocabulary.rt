@@ -43,7 +43,8 @@ impl Vocabulary {
     /// `InvalidUri` exactly where the text is no known one's URI and no URI reference (RFC 3986, 4.1), with the whole text;
     /// `Memory` where there is none for a custom one. A known one takes none, and is not refused. Linear in the text.
     pub fn from_text(alloc: Global, text: &str) -> Result<Vocabulary, Error>
-        ensures ok { IfOk result (λ vocabulary. from_text text.now ≡ Ok (vocabulary_of vocabulary)) }
+        ensures ok { IfOk result
+            (λ vocabulary. from_text text.now ≡ Ok (vocabulary_of vocabulary)) }
         ensures fault { IfErr result (IsFaultOf (as_invalid_uri (from_text text.now))) }
         ensures known { (k : Known) → from_text text.now ≡ Ok (Standard k) → IsOk result }
     {
@@ -74,7 +75,8 @@ impl Vocabulary {
 
 // The known vocabulary whose URI a text is.
 fn known(text: &str) -> Option<Vocabulary>
-    ensures { option_map vocabulary_of result ≡ option_map Standard (find (is_uri_of text.now) all_known) }
+    ensures { option_map vocabulary_of result
+        ≡ option_map Standard (find (is_uri_of text.now) all_known) }
 {
     match text {
         "https://json-schema.org/draft/2020-12/vocab/core"

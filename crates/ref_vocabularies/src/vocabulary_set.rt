@@ -79,10 +79,11 @@ impl VocabularySet {
 
     /// Adds a vocabulary; one that is in the set already changes nothing.
     ///
-    /// Fails only where memory is refused, which a custom one takes that isn't there; the set is then as it was. A custom one is
-    /// looked for by binary search, and the URIs after its place move by one.
+    /// Fails only where memory is refused, which a custom one takes that isn't there; the set is then as it was. A
+    /// custom one is looked for by binary search, and the URIs after its place move by one.
     pub fn add(&mut self, alloc: Global, vocabulary: Vocabulary) -> Result<(), AllocError>
-        ensures added { OnOk result (self.new ≡ with_vocabulary self.old (vocabulary_of vocabulary)) }
+        ensures added { OnOk result
+            (self.new ≡ with_vocabulary self.old (vocabulary_of vocabulary)) }
         ensures refused { OnErr result (self.new ≡ self.old) }
         ensures known { (k : Known) → vocabulary_of vocabulary ≡ Standard k → IsOk result }
         ensures there { contains self.old (vocabulary_of vocabulary) ≡ true → IsOk result }

@@ -1,16 +1,19 @@
-//! Public calls of the libraries: what they cost, and how they are refused memory. Reads a line a call from standard input, and prints each line
-//! with its answer after a colon.
+//! Public calls of the libraries: what they cost, and how they are refused memory. Reads a line a call from standard
+//! input, and prints each line with its answer after a colon.
 //!
 //! A line `GROUP CALL`, as `uris parse`, makes a call on values of its own; what is after a tab isn't read here, and says for
 //! `scripts/refusals` that the call takes no memory. `scripts/refusals` runs the program for each such line and each request
-//! for memory, with that request refused. Where the call wants memory, it is made again, and after it other calls on the same values.
+//! for memory, with that request refused. Where the call wants memory, it is made again, and after it other calls on
+//! the same values.
 //!
-//! A line `CALL TEXT SIZE TIMES`, as `parse names 100 1`, is a workload, whose answer is how much the calls answered together; `nothing` as
-//! the call measures the workload itself. It prints the same on every run; `docs/MEASUREMENTS.md` says how it is run under `valgrind
+//! A line `CALL TEXT SIZE TIMES`, as `parse names 100 1`, is a workload, whose answer is how much the calls answered
+//! together; `nothing` as the call measures the workload itself. It prints the same on every run;
+//! `docs/MEASUREMENTS.md` says how it is run under `valgrind
 //! --tool=callgrind`, and what it showed.
 //!
-//! The exit status is 0 where every call has its answer, 3 where one wanted memory and these are the answers afterwards, 4 where memory was refused
-//! before a call, 5 where it was refused once the call had answered, and 1 where there is no call of a line, or something is not as it was.
+//! The exit status is 0 where every call has its answer, 3 where one wanted memory and these are the answers
+//! afterwards, 4 where memory was refused before a call, 5 where it was refused once the call had answered, and 1 where
+//! there is no call of a line, or something is not as it was.
 #![tactic(auto)]
 
 mod refused;

@@ -21,19 +21,26 @@ copied_last last = option_map (λ found. (view found.0, found.1)) last
 
 -- an answer's value, draft, base and scope
 abbrev pub answer_of : Answer → Followed
-answer_of a = record { last = copied_last a.last; resolver = record { base = a.base.value; scope = a.scope } }
+answer_of a =
+    record { last = copied_last a.last; resolver = record { base = a.base.value; scope = a.scope } }
 
 -- an answer is what the steps lead to from the base, over a world that preparing may return, in which no `$ref` of an own place
 -- is unretrievable
 abbrev pub Answers : Given → List ℕ → List Step → Followed → Type 0
-Answers given base steps answer = (world : World) × IsPreparedOf given world × ReferencesAreRetrieved world × (followed_steps world base steps ≡ Ok answer)
+Answers given base steps answer =
+    (world : World) × IsPreparedOf given world × ReferencesAreRetrieved world
+    × (followed_steps world base steps ≡ Ok answer)
 
 -- an error is one of preparing; or, over a world that preparing may return, it says the fault of the first step that leads
 -- nowhere, and the steps before it lead somewhere; or all steps do, and there is no memory for a copy of what they lead to
 abbrev pub IsFailureOf : Given → List ℕ → List Step → AnswerError → Type 0
 IsFailureOf given base steps (error.Prepare e) = IsFaultyOutcome given e
-IsFailureOf given base steps (error.Follow e) = (world : World) × IsPreparedOf given world × IsStepFaultOf (followed_steps world base steps) e × ReachesStep world base steps e.step
-IsFailureOf given base steps (error.Memory memory) = (world : World) × IsPreparedOf given world × ((f : Followed) × (followed_steps world base steps ≡ Ok f))
+IsFailureOf given base steps (error.Follow e) =
+    (world : World) × IsPreparedOf given world × IsStepFaultOf (followed_steps world base steps) e
+    × ReachesStep world base steps e.step
+IsFailureOf given base steps (error.Memory memory) =
+    (world : World) × IsPreparedOf given world
+    × ((f : Followed) × (followed_steps world base steps ≡ Ok f))
 
 -- what is displayed of it: the fault of the documents, or of a step with its number; or that memory ran out
 abbrev pub answer_error_text : AnswerError → List ℕ

@@ -34,27 +34,69 @@ builder_of b = record {
 
 -- a builder without a draft, with the limit 10,000, above these layers
 abbrev pub new_builder : {R : Type 0} → R → World → List Pending → Builder R
-new_builder retriever parents pending = record { retriever = retriever; limit = 10000; draft = None; parents = parents; pending = pending }
+new_builder retriever parents pending =
+    record {
+      retriever = retriever;
+      limit = 10000;
+      draft = None;
+      parents = parents;
+      pending = pending;
+    }
 
 -- the builder with this draft set, all else as it was
 abbrev pub setting_draft : {R : Type 0} → Draft → Builder R → Builder R
-setting_draft draft b = record { retriever = b.retriever; limit = b.limit; draft = Some draft; parents = b.parents; pending = b.pending }
+setting_draft draft b =
+    record {
+      retriever = b.retriever;
+      limit = b.limit;
+      draft = Some draft;
+      parents = b.parents;
+      pending = b.pending;
+    }
 
 -- with this retriever
 abbrev pub retrieving_from : {R S : Type 0} → S → Builder R → Builder S
-retrieving_from retriever b = record { retriever = retriever; limit = b.limit; draft = b.draft; parents = b.parents; pending = b.pending }
+retrieving_from retriever b =
+    record {
+      retriever = retriever;
+      limit = b.limit;
+      draft = b.draft;
+      parents = b.parents;
+      pending = b.pending;
+    }
 
 -- with this limit
 abbrev pub limited_to : {R : Type 0} → ℕ → Builder R → Builder R
-limited_to limit b = record { retriever = b.retriever; limit = limit; draft = b.draft; parents = b.parents; pending = b.pending }
+limited_to limit b =
+    record {
+      retriever = b.retriever;
+      limit = limit;
+      draft = b.draft;
+      parents = b.parents;
+      pending = b.pending;
+    }
 
 -- above these layers
 abbrev pub standing_above : {R : Type 0} → World → Builder R → Builder R
-standing_above parents b = record { retriever = b.retriever; limit = b.limit; draft = b.draft; parents = parents; pending = b.pending }
+standing_above parents b =
+    record {
+      retriever = b.retriever;
+      limit = b.limit;
+      draft = b.draft;
+      parents = parents;
+      pending = b.pending;
+    }
 
 -- with these pending documents
 abbrev pub holding_pending : {R : Type 0} → List Pending → Builder R → Builder R
-holding_pending pending b = record { retriever = b.retriever; limit = b.limit; draft = b.draft; parents = b.parents; pending = pending }
+holding_pending pending b =
+    record {
+      retriever = b.retriever;
+      limit = b.limit;
+      draft = b.draft;
+      parents = b.parents;
+      pending = pending;
+    }
 
 -- what is added: a text, a tree, and perhaps a draft
 abbrev pub addition : List ℕ → Data → Option Draft → Addition
@@ -62,4 +104,5 @@ addition text tree draft = record { text = text; tree = tree; draft = draft }
 
 -- the builder is the old one, but holds the documents that these additions lead to
 abbrev pub Adds : {R : Type 0} → Result (List Pending) Refusal → Builder R → Builder R → Type 0
-Adds additions old new = (pending : List Pending) × (additions ≡ Ok pending) × (new ≡ holding_pending pending old)
+Adds additions old new =
+    (pending : List Pending) × (additions ≡ Ok pending) × (new ≡ holding_pending pending old)

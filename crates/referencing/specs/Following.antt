@@ -22,7 +22,8 @@ use Rattle.ref_resolver.specs.Resolving.{resolver_of}
 abbrev pub step_of : Step → world.Step
 step_of (step.Lookup reference) = world.Lookup reference.now
 step_of step.Recursive = world.Recursive
-step_of (step.Enter resource) = world.Enter (resource_ref resource).draft (resource_ref resource).contents
+step_of (step.Enter resource) =
+    world.Enter (resource_ref resource).draft (resource_ref resource).contents
 
 -- a document's own value, with its draft
 abbrev pub lent_last : Option (Bor Value × Draft) → Option (Data × Draft)
@@ -34,12 +35,14 @@ followed_of f = record { last = lent_last f.last; resolver = resolver_of f.resol
 
 -- the steps before the one with this number lead somewhere
 abbrev pub ReachesStep : World → List ℕ → List world.Step → ℕ → Type 0
-ReachesStep w base steps number = (f : world.Followed) × (world.followed_steps w base (take number steps) ≡ Ok f)
+ReachesStep w base steps number =
+    (f : world.Followed) × (world.followed_steps w base (take number steps) ≡ Ok f)
 
 -- the error says the fault that the answer is, with the number of its step, or is out of memory
 abbrev pub SaysStepFault : Result world.Followed (ℕ × Fault) → ℕ → Error → Type 0
 SaysStepFault answer number (error.Memory memory) = ⊤
-SaysStepFault answer number error = (fault : Fault) × (answer ≡ Err (number, fault)) × SaysFault error fault
+SaysStepFault answer number error =
+    (fault : Fault) × (answer ≡ Err (number, fault)) × SaysFault error fault
 
 abbrev pub IsStepFaultOf : Result world.Followed (ℕ × Fault) → FollowError → Type 0
 IsStepFaultOf answer e = SaysStepFault answer e.step e.error

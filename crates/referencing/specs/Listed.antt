@@ -14,11 +14,17 @@ use Rattle.ref_resolver.specs.Resolving.{found_of}
 abbrev pub AnswersPlace : Place → List ℕ → Result Resolved Error → Type 0
 AnswersPlace q uri (Ok found) =
     (base : List ℕ) × (q.base ≡ Ok base)
-    × (found_of found ≡ record { value = q.value; draft = q.draft; resolver = record { base = base; scope = uri ∷ [] } })
+    × (found_of found
+    ≡ record {
+      value = q.value;
+      draft = q.draft;
+      resolver = record { base = base; scope = uri ∷ [] };
+    })
 AnswersPlace q uri (Err error) = IsMemory error
 
 -- from a resource that the pointer and the keywords read alike, a path answers the place that is there, at or below it
 abbrev pub Agrees : Layer → List ℕ → List Part → Result Resolved Error → Type 0
 Agrees layer uri path result =
-    (d : Document) (r q : Place) → IsReadAlike layer d r uri → IsAtOrBelow q r → q.path ≡ r.path ++ path
+    (d : Document) (r q : Place) → IsReadAlike layer d r uri → IsAtOrBelow q r
+    → q.path ≡ r.path ++ path
     → AnswersPlace q uri result

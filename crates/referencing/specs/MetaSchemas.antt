@@ -24,4 +24,5 @@ given_of_meta_schemas pending = given_of_builder default_retriever 10000 None []
 -- the error is that of the first text that means no URI, or, where all mean one, that of what is prepared
 abbrev pub IsMetaSchemaFault : Result (List Pending) Refusal → Error → Type 0
 IsMetaSchemaFault (Ok pending) error = IsFaultyOutcome (given_of_meta_schemas pending) error
-IsMetaSchemaFault (Err refusal) error = IsFaultOf {A = List Pending} (as_invalid_uri (Err refusal)) error
+IsMetaSchemaFault (Err refusal) error =
+    IsFaultOf {A = List Pending} (as_invalid_uri (Err refusal)) error

@@ -30,29 +30,39 @@ pub record IsPrepared (world : World) : Type 0 where
 abbrev pub ReferencesAreRetrieved : World → Type 0
 ReferencesAreRetrieved world =
     (d : Document) (place : Place) (resolver : Resolver) (reference : List ℕ)
-    → Contains (own_layer world) d → Contains (places d) place → place.base ≡ Ok resolver.base → text_under (codes "$ref") place.value ≡ Some reference
+    → Contains (own_layer world) d → Contains (places d) place → place.base ≡ Ok resolver.base
+    → text_under (codes "$ref") place.value ≡ Some reference
     → (uri source : List ℕ) → ¬ (lookup world resolver reference ≡ Err (Unretrievable uri source))
 
 -- what a registry shows for debugging: how many own documents and how many parents it has
 abbrev pub registry_text : World → List ℕ
-registry_text world = codes "Registry { documents: " ++ decimal (length (own_layer world)) ++ codes ", parents: " ++ decimal (length (drop 1 world)) ++ codes " }"
+registry_text world =
+    codes "Registry { documents: " ++ decimal (length (own_layer world)) ++ codes ", parents: "
+    ++ decimal (length (drop 1 world)) ++ codes " }"
 
 -- whether a text is a URI that means a place
 abbrev pub contains_resource : World → List ℕ → Bool
-contains_resource world text = option_map_or (λ uri. is_some (meant_place world uri)) (result_ok (uri_of text)) false
+contains_resource world text =
+    option_map_or (λ uri. is_some (meant_place world uri)) (result_ok (uri_of text)) false
 
 -- what preparing is given by a builder, whose retriever may return and refuse so
-abbrev pub given_of : {R : Type 0} → (List ℕ → Data → Type 0) → (List ℕ → List ℕ → Type 0) → Builder R → Given
-given_of may_answer may_refuse b = given_of_builder (retriever_of may_answer may_refuse) b.limit b.draft b.parents b.pending
+abbrev pub given_of : {R : Type 0} → (List ℕ → Data → Type 0) → (List ℕ → List ℕ → Type 0)
+    → Builder R → Given
+given_of may_answer may_refuse b =
+    given_of_builder (retriever_of may_answer may_refuse) b.limit b.draft b.parents b.pending
 
 -- a registry's world is that of an outcome, before the parents; so its own documents are those given and what was
 -- retrieved for them, and nothing in it is faulty or wanted
 abbrev pub IsPreparedOf : Given → World → Type 0
-IsPreparedOf given world = (layer : Layer) × IsOutcome given (Ok layer) × IsReady given layer × (world ≡ layer ∷ given.parents)
+IsPreparedOf given world =
+    (layer : Layer) × IsOutcome given (Ok layer) × IsReady given layer
+    × (world ≡ layer ∷ given.parents)
 
 -- the documents that are given have no fault and no open want
 abbrev pub AreComplete : Given → Type 0
-AreComplete given = (faults given.documents ≡ []) × (open_wants (given.documents ∷ given.parents) given.documents ≡ [])
+AreComplete given =
+    (faults given.documents ≡ [])
+    × (open_wants (given.documents ∷ given.parents) given.documents ≡ [])
 
 -- where the error is the limit, it is used up
 abbrev pub LimitIsUsedUp : Given → Error → Type 0

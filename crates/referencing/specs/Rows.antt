@@ -24,24 +24,45 @@ use Rattle.referencing.specs.Answering.{IsFailureOf}
 pub record PreparingRows : Type 0 where
   pub prepared : IsPreparedOf (given_alone (c_is_true ∷ [])) (world (c_is_true ∷ []))
   pub not_prepared : ¬ (IsPreparedOf (given_alone (c_is_true ∷ [])) (world []))
-  pub limit : (uri : String Global) → string_bytes uri ≡ codes "http://a/b" → IsFaultyOutcome (given_with 0) (RetrievalLimit uri 0)
-  pub no_fault : (uri : String Global) → ¬ (IsFaultyOutcome (given_alone (c_is_true ∷ [])) (RetrievalLimit uri 0))
-  pub used_up : (uri : String Global) → string_bytes uri ≡ codes "http://a/b" → LimitIsUsedUp (given_with 0) (RetrievalLimit uri 0)
+  pub limit : (uri : String Global) → string_bytes uri ≡ codes "http://a/b"
+      → IsFaultyOutcome (given_with 0) (RetrievalLimit uri 0)
+  pub no_fault : (uri : String Global)
+      → ¬ (IsFaultyOutcome (given_alone (c_is_true ∷ [])) (RetrievalLimit uri 0))
+  pub used_up : (uri : String Global) → string_bytes uri ≡ codes "http://a/b"
+      → LimitIsUsedUp (given_with 0) (RetrievalLimit uri 0)
   pub not_used_up : (uri : String Global) → ¬ (LimitIsUsedUp (given_with 2) (RetrievalLimit uri 1))
-  pub refused_uri_of_a_meta_schema : (u : String Global) → string_bytes u ≡ codes "a b" → IsMetaSchemaFault (Err (parse_refusal (codes "a b"))) (InvalidUri (Parse u true Syntax))
-  pub no_other_fault_of_a_meta_schema : (p : String Global) → ¬ (IsMetaSchemaFault (Err (parse_refusal (codes "a b"))) (NoSuchAnchor p))
+  pub refused_uri_of_a_meta_schema : (u : String Global) → string_bytes u ≡ codes "a b"
+      → IsMetaSchemaFault (Err (parse_refusal (codes "a b"))) (InvalidUri (Parse u true Syntax))
+  pub no_other_fault_of_a_meta_schema : (p : String Global)
+      → ¬ (IsMetaSchemaFault (Err (parse_refusal (codes "a b"))) (NoSuchAnchor p))
 
 -- which errors following may return
 pub record StepRows : Type 0 where
-  pub second_step : (p : String Global) → string_bytes p ≡ codes "/a" → IsStepFaultOf (Err (1, fault.PointerToNowhere (codes "/a"))) (record { step = 1; error = PointerToNowhere p })
-  pub not_the_first : (p : String Global) → ¬ (IsStepFaultOf (Err (1, fault.PointerToNowhere (codes "/a"))) (record { step = 0; error = PointerToNowhere p }))
-  pub failed_step : (p : String Global) → string_bytes p ≡ codes "/x" → IsFailureOf (given_alone (c_is_true ∷ [])) (codes "http://a/c") (look "#/x" ∷ []) (answer_error.Follow (record { step = 0; error = PointerToNowhere p }))
-  pub no_step : (p : String Global) → ¬ (IsFailureOf (given_alone (c_is_true ∷ [])) (codes "http://a/c") [] (answer_error.Follow (record { step = 0; error = PointerToNowhere p })))
+  pub second_step : (p : String Global) → string_bytes p ≡ codes "/a"
+      → IsStepFaultOf (Err (1, fault.PointerToNowhere (codes "/a")))
+      (record { step = 1; error = PointerToNowhere p })
+  pub not_the_first : (p : String Global)
+      → ¬ (IsStepFaultOf (Err (1, fault.PointerToNowhere (codes "/a")))
+      (record { step = 0; error = PointerToNowhere p }))
+  pub failed_step : (p : String Global) → string_bytes p ≡ codes "/x"
+      → IsFailureOf (given_alone (c_is_true ∷ [])) (codes "http://a/c") (look "#/x" ∷ [])
+      (answer_error.Follow (record { step = 0; error = PointerToNowhere p }))
+  pub no_step : (p : String Global)
+      → ¬ (IsFailureOf (given_alone (c_is_true ∷ [])) (codes "http://a/c") []
+      (answer_error.Follow (record { step = 0; error = PointerToNowhere p })))
 
 -- which answers are a place's
 pub record PlaceRows : Type 0 where
-  pub of_the_place : (r : Resolved) → found_of r ≡ found_value yes Draft7 (resolver "http://a/r" (codes "http://a/r" ∷ [])) → AnswersPlace (root (at Draft7 "http://a/r" yes)) (codes "http://a/r") (Ok r)
-  pub of_another_value : (r : Resolved) → found_of r ≡ found_value empty Draft7 (resolver "http://a/r" (codes "http://a/r" ∷ [])) → ¬ (AnswersPlace (root (at Draft7 "http://a/r" yes)) (codes "http://a/r") (Ok r))
-  pub want_of_memory : (e : AllocError) → Agrees (at Draft7 "http://a/r" yes ∷ []) (codes "http://a/r") [] (Err (Memory e))
-  pub no_other_error : (p : String Global) → ¬ (Agrees (at Draft7 "http://a/r" yes ∷ []) (codes "http://a/r") [] (Err (NoSuchAnchor p)))
-  pub no_other_value : (r : Resolved) → found_of r ≡ found_value empty Draft7 (resolver "http://a/r" (codes "http://a/r" ∷ [])) → ¬ (Agrees (at Draft7 "http://a/r" yes ∷ []) (codes "http://a/r") [] (Ok r))
+  pub of_the_place : (r : Resolved)
+      → found_of r ≡ found_value yes Draft7 (resolver "http://a/r" (codes "http://a/r" ∷ []))
+      → AnswersPlace (root (at Draft7 "http://a/r" yes)) (codes "http://a/r") (Ok r)
+  pub of_another_value : (r : Resolved)
+      → found_of r ≡ found_value empty Draft7 (resolver "http://a/r" (codes "http://a/r" ∷ []))
+      → ¬ (AnswersPlace (root (at Draft7 "http://a/r" yes)) (codes "http://a/r") (Ok r))
+  pub want_of_memory : (e : AllocError)
+      → Agrees (at Draft7 "http://a/r" yes ∷ []) (codes "http://a/r") [] (Err (Memory e))
+  pub no_other_error : (p : String Global)
+      → ¬ (Agrees (at Draft7 "http://a/r" yes ∷ []) (codes "http://a/r") [] (Err (NoSuchAnchor p)))
+  pub no_other_value : (r : Resolved)
+      → found_of r ≡ found_value empty Draft7 (resolver "http://a/r" (codes "http://a/r" ∷ []))
+      → ¬ (Agrees (at Draft7 "http://a/r" yes ∷ []) (codes "http://a/r") [] (Ok r))

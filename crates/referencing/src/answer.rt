@@ -86,8 +86,16 @@ impl<'a, R: Retrieve + Drop> RegistryBuilder<'a, R> {
     /// [`RegistryBuilder::prepare`] does; `Follow` the first step that finds no value, as [`follow`] does; `Memory` that there
     /// is none for the copy.
     pub fn prepare_and_follow(self, base: Uri, steps: &[Step<'_>]) -> Result<Answer, AnswerError>
-        ensures answer { IfOk result (λ answer. Answers (given_of (R.may_answer (builder_of self.entry).retriever) (R.may_refuse (builder_of self.entry).retriever) (builder_of self.entry)) base (map step_of steps.now) (answer_of answer)) }
-        ensures fault { IfErr result (IsFailureOf (given_of (R.may_answer (builder_of self.entry).retriever) (R.may_refuse (builder_of self.entry).retriever) (builder_of self.entry)) base (map step_of steps.now)) }
+        ensures answer { IfOk result
+            (λ answer. Answers
+            (given_of (R.may_answer (builder_of self.entry).retriever)
+            (R.may_refuse (builder_of self.entry).retriever) (builder_of self.entry)) base
+            (map step_of steps.now) (answer_of answer)) }
+        ensures fault { IfErr result
+            (IsFailureOf
+            (given_of (R.may_answer (builder_of self.entry).retriever)
+            (R.may_refuse (builder_of self.entry).retriever) (builder_of self.entry)) base
+            (map step_of steps.now)) }
     {
         let alloc = self.alloc;
         let registry = match self.prepare() {

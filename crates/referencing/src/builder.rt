@@ -107,8 +107,16 @@ impl<'a, R: Drop> RegistryBuilder<'a, R> {
     ) -> Result<RegistryBuilder<'b, R>, Error>
     where
         'a: 'b,
-        ensures ok { IfOk result (λ b. Adds (with_addition (builder_of self.entry).pending (addition (U.text uri) (T.tree resource) (T.given_draft resource))) (builder_of self.entry) (builder_of b)) }
-        ensures fault { IfErr result (IsFaultOf (as_invalid_uri (with_addition (builder_of self.entry).pending (addition (U.text uri) (T.tree resource) (T.given_draft resource))))) }
+        ensures ok { IfOk result
+            (λ b. Adds
+            (with_addition (builder_of self.entry).pending
+            (addition (U.text uri) (T.tree resource) (T.given_draft resource)))
+            (builder_of self.entry) (builder_of b)) }
+        ensures fault { IfErr result
+            (IsFaultOf
+            (as_invalid_uri
+            (with_addition (builder_of self.entry).pending
+            (addition (U.text uri) (T.tree resource) (T.given_draft resource))))) }
     {
         let mut builder = shortened(self);
         builder.push(uri.as_str(), resource.into_pending())?;
@@ -124,11 +132,23 @@ impl<'a, R: Drop> RegistryBuilder<'a, R> {
     ) -> Result<RegistryBuilder<'b, R>, Error>
     where
         'a: 'b,
-        requires ends { (it : I.IntoIter) → I.into_iter_gives pairs it → I.IntoIter.can_next it × IsFinite (I.IntoIter.remaining it) }
-        ensures ok { IfOk result (λ b. (it : I.IntoIter) × (xs : List (U × T)) × I.into_iter_gives pairs it × Drains I.IntoIter.next_gives it xs
-            × Adds (with_additions (builder_of self.entry).pending (map (λ x. addition (U.text x.0) (T.tree x.1) (T.given_draft x.1)) xs)) (builder_of self.entry) (builder_of b)) }
-        ensures fault { IfErr result (λ error. (it : I.IntoIter) × (xs : List (U × T)) × I.into_iter_gives pairs it × ((rest : I.IntoIter) × Yields I.IntoIter.next_gives it xs rest)
-            × IsFaultOf (as_invalid_uri (with_additions (builder_of self.entry).pending (map (λ x. addition (U.text x.0) (T.tree x.1) (T.given_draft x.1)) xs))) error) }
+        requires ends { (it : I.IntoIter) → I.into_iter_gives pairs it
+            → I.IntoIter.can_next it × IsFinite (I.IntoIter.remaining it) }
+        ensures ok { IfOk result
+            (λ b. (it : I.IntoIter) × (xs : List (U × T)) × I.into_iter_gives pairs it
+            × Drains I.IntoIter.next_gives it xs
+            × Adds
+            (with_additions (builder_of self.entry).pending
+            (map (λ x. addition (U.text x.0) (T.tree x.1) (T.given_draft x.1)) xs))
+            (builder_of self.entry) (builder_of b)) }
+        ensures fault { IfErr result
+            (λ error. (it : I.IntoIter) × (xs : List (U × T)) × I.into_iter_gives pairs it
+            × ((rest : I.IntoIter) × Yields I.IntoIter.next_gives it xs rest)
+            × IsFaultOf
+            (as_invalid_uri
+            (with_additions (builder_of self.entry).pending
+            (map (λ x. addition (U.text x.0) (T.tree x.1)
+            (T.given_draft x.1)) xs))) error) }
     {
         let mut builder = shortened(self);
         for (uri, resource) in pairs {
@@ -139,8 +159,17 @@ impl<'a, R: Drop> RegistryBuilder<'a, R> {
 
     // Adds a document under what a text means. Nothing changes where it is refused.
     pub(crate) fn push(&mut self, uri: &str, resource: PendingResource<'a>) -> Result<(), Error>
-        ensures ok { OnOk result (Adds (with_addition (builder_of self.old).pending (addition uri.now (tree_of resource.entry.contents) resource.entry.draft)) (builder_of self.old) (builder_of self.new)) }
-        ensures fault { IfErr result (IsFaultOf (as_invalid_uri (with_addition (builder_of self.old).pending (addition uri.now (tree_of resource.entry.contents) resource.entry.draft)))) }
+        ensures ok { OnOk result
+            (Adds
+            (with_addition (builder_of self.old).pending
+            (addition uri.now (tree_of resource.entry.contents) resource.entry.draft))
+            (builder_of self.old) (builder_of self.new)) }
+        ensures fault { IfErr result
+            (IsFaultOf
+            (as_invalid_uri
+            (with_addition (builder_of self.old).pending
+            (addition uri.now
+            (tree_of resource.entry.contents) resource.entry.draft)))) }
         ensures err { OnErr result (builder_of self.new ≡ builder_of self.old) }
     {
         let uri = from_str(self.alloc, trim_hashes(uri))?;
@@ -191,7 +220,8 @@ pub(crate) fn above<'a>(
     builder: RegistryBuilder<'a>,
     parents: Vec<&'a Index<'a>>,
 ) -> RegistryBuilder<'a>
-    ensures value { builder_of result ≡ standing_above (map (λ p. p.now) parents.entry.items) (builder_of builder.entry) }
+    ensures value { builder_of result
+        ≡ standing_above (map (λ p. p.now) parents.entry.items) (builder_of builder.entry) }
 {
     let mut builder = builder;
     builder.parents = parents;
@@ -211,7 +241,10 @@ fn put<'a>(
     uri: Uri,
     resource: PendingResource<'a>,
 ) -> Result<(), AllocError>
-    ensures ok { OnOk result (map pending_under pending.new.entries ≡ with_pending (map pending_under pending.old.entries) (pending_under (uri, resource.entry))) }
+    ensures ok { OnOk result
+        (map pending_under pending.new.entries
+        ≡ with_pending (map pending_under pending.old.entries)
+        (pending_under (uri, resource.entry))) }
     ensures err { OnErr result (pending.new.entries ≡ pending.old.entries) }
 {
     pending.insert(uri, resource)?;
@@ -222,7 +255,8 @@ fn put<'a>(
 fn copied<'a>(
     pending: &IndexMap<Uri, PendingResource<'a>>,
 ) -> Result<IndexMap<Uri, PendingResource<'a>>, AllocError>
-    ensures { IfOk result (λ copy. map pending_under copy.entries ≡ map pending_under pending.now.entries) }
+    ensures { IfOk result
+        (λ copy. map pending_under copy.entries ≡ map pending_under pending.now.entries) }
 {
     let copy = pending.clone()?;
     Ok(copy)

@@ -24,8 +24,8 @@ impl<'a> Clone for PendingResource<'a> {
 
     ghost is_clone = { λ p copy. (tree_of copy.contents ≡ tree_of p.contents) × (copy.draft ≡ p.draft) };
 
-    /// A handle of a value that is borrowed or shared. One that is owned is copied, which takes memory for its tree and is linear in it; a
-    /// builder holds none. Fails as out of memory.
+    /// A handle of a value that is borrowed or shared. One that is owned is copied, which takes memory for its tree and
+    /// is linear in it; a builder holds none. Fails as out of memory.
     fn clone(&self) -> Result<PendingResource<'a>, AllocError> {
         let contents = match &self.contents {
             Contents::Borrowed(value) => Contents::Borrowed(*value),
@@ -155,7 +155,8 @@ pub(crate) fn shared<'a>(
     alloc: Global,
     resource: PendingResource<'a>,
 ) -> Result<PendingResource<'a>, AllocError>
-    ensures tree { IfOk result (λ shared. tree_of shared.contents ≡ tree_of resource.entry.contents) }
+    ensures tree { IfOk result
+        (λ shared. tree_of shared.contents ≡ tree_of resource.entry.contents) }
     ensures draft { IfOk result (λ shared. shared.draft ≡ resource.entry.draft) }
 {
     let PendingResource { contents, draft } = resource;

@@ -16,20 +16,29 @@ use std::rc::Rc;
 pub fn values_are_added_as_their_trees()
     ensures owned { (v : Value) → (⟦<Value as IntoRegistryResource<'static>>⟧.tree v ≡ view v)
         × (⟦<Value as IntoRegistryResource<'static>>⟧.given_draft v ≡ None) }
-    ensures borrowed { (v : Bor Value) → (⟦<&'static Value as IntoRegistryResource<'static>>⟧.tree v ≡ view v.now)
+    ensures borrowed { (v : Bor Value)
+        → (⟦<&'static Value as IntoRegistryResource<'static>>⟧.tree v ≡ view v.now)
         × (⟦<&'static Value as IntoRegistryResource<'static>>⟧.given_draft v ≡ None) }
-    ensures shared { (v : rc.Rc Value global.Global) → (⟦<Rc<Value> as IntoRegistryResource<'static>>⟧.tree v ≡ view v.value)
+    ensures shared { (v : rc.Rc Value global.Global)
+        → (⟦<Rc<Value> as IntoRegistryResource<'static>>⟧.tree v ≡ view v.value)
         × (⟦<Rc<Value> as IntoRegistryResource<'static>>⟧.given_draft v ≡ None) }
 {}
 
 /// A resource is added as its tree and with its draft, whoever owns it.
 pub fn resources_are_added_with_their_drafts()
-    ensures owned { (r : Resource) → (⟦<Resource as IntoRegistryResource<'static>>⟧.tree r ≡ (resource r).contents)
+    ensures owned { (r : Resource)
+        → (⟦<Resource as IntoRegistryResource<'static>>⟧.tree r ≡ (resource r).contents)
         × (⟦<Resource as IntoRegistryResource<'static>>⟧.given_draft r ≡ Some (resource r).draft) }
-    ensures borrowed { (r : Bor Resource) → (⟦<&'static Resource as IntoRegistryResource<'static>>⟧.tree r ≡ (resource r.now).contents)
-        × (⟦<&'static Resource as IntoRegistryResource<'static>>⟧.given_draft r ≡ Some (resource r.now).draft) }
-    ensures lent { (r : ResourceRef) → (⟦<ResourceRef<'static> as IntoRegistryResource<'static>>⟧.tree r ≡ (resource_ref r).contents)
-        × (⟦<ResourceRef<'static> as IntoRegistryResource<'static>>⟧.given_draft r ≡ Some (resource_ref r).draft) }
+    ensures borrowed { (r : Bor Resource)
+        → (⟦<&'static Resource as IntoRegistryResource<'static>>⟧.tree r
+        ≡ (resource r.now).contents)
+        × (⟦<&'static Resource as IntoRegistryResource<'static>>⟧.given_draft r
+        ≡ Some (resource r.now).draft) }
+    ensures lent { (r : ResourceRef)
+        → (⟦<ResourceRef<'static> as IntoRegistryResource<'static>>⟧.tree r
+        ≡ (resource_ref r).contents)
+        × (⟦<ResourceRef<'static> as IntoRegistryResource<'static>>⟧.given_draft r
+        ≡ Some (resource_ref r).draft) }
 {}
 
 /// Rows of what preparing may return, of its faults and of those of meta-schemas, and of a limit that is used up.

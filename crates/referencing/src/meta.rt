@@ -64,8 +64,11 @@ fn builder_of<'a>(
     alloc: Global,
     pairs: &'a [(&'a str, &'a Value)],
 ) -> Result<RegistryBuilder<'a>, Error>
-    ensures ok { IfOk result (λ b. Adds (with_additions [] (map meta_addition pairs.now)) (new_builder (builder_of b).retriever [] []) (builder_of b)) }
-    ensures fault { IfErr result (IsFaultOf (as_invalid_uri (with_additions [] (map meta_addition pairs.now)))) }
+    ensures ok { IfOk result
+        (λ b. Adds (with_additions [] (map meta_addition pairs.now))
+        (new_builder (builder_of b).retriever [] []) (builder_of b)) }
+    ensures fault { IfErr result
+        (IsFaultOf (as_invalid_uri (with_additions [] (map meta_addition pairs.now)))) }
 {
     let mut builder = RegistryBuilder::new(alloc, Vec::new(alloc));
     for pair in pairs {
@@ -85,8 +88,12 @@ impl<'a> Registry<'a> {
         alloc: Global,
         pairs: &'a [(&'a str, &'a Value)],
     ) -> Result<Registry<'a>, Error>
-        ensures ok { IfOk result (λ registry. (pending : List Pending) × (with_additions [] (map meta_addition pairs.now) ≡ Ok pending) × IsPreparedOf (given_of_meta_schemas pending) registry) }
-        ensures fault { IfErr result (IsMetaSchemaFault (with_additions [] (map meta_addition pairs.now))) }
+        ensures ok { IfOk result
+            (λ registry. (pending : List Pending)
+            × (with_additions [] (map meta_addition pairs.now) ≡ Ok pending)
+            × IsPreparedOf (given_of_meta_schemas pending) registry) }
+        ensures fault { IfErr result
+            (IsMetaSchemaFault (with_additions [] (map meta_addition pairs.now))) }
     {
         builder_of(alloc, pairs)?.prepare()
     }

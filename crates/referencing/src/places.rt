@@ -26,7 +26,8 @@ use std::alloc::Global;
 
 // The value that a segment leads to.
 fn child_at<'v>(value: &'v Value, segment: &JsonPointerSegment<'_>) -> Option<&'v Value>
-    ensures { option_map (λ v. view v.now) result ≡ child_at (view value.now) (part_of segment.now) }
+    ensures { option_map (λ v. view v.now) result
+        ≡ child_at (view value.now) (part_of segment.now) }
 {
     match segment {
         JsonPointerSegment::Key(key) => value.get(key.as_str()),
@@ -36,7 +37,8 @@ fn child_at<'v>(value: &'v Value, segment: &JsonPointerSegment<'_>) -> Option<&'
 
 // The value at a path.
 fn value_along<'v>(value: &'v Value, path: &[JsonPointerSegment<'_>]) -> Option<&'v Value>
-    ensures { option_map (λ v. view v.now) result ≡ value_at (view value.now) (map part_of path.now) }
+    ensures { option_map (λ v. view v.now) result
+        ≡ value_at (view value.now) (map part_of path.now) }
 {
     let mut here = value;
     for part in path {
@@ -46,20 +48,23 @@ fn value_along<'v>(value: &'v Value, path: &[JsonPointerSegment<'_>]) -> Option<
 }
 
 impl<'a> Registry<'a> {
-    /// The own documents, in the order in which their URIs were first added, and after them those retrieved: of each the URI that it was
-    /// added or retrieved under, which an identifier of its root may replace as the base, its value, and the draft of its root. Those of
-    /// parents are left out. Takes no memory.
+    /// The own documents, in the order in which their URIs were first added, and after them those retrieved: of each
+    /// the URI that it was added or retrieved under, which an identifier of its root may replace as the base, its
+    /// value, and the draft of its root. Those of parents are left out. Takes no memory.
     pub fn documents(&self) -> &[Document<'a>]
         ensures value { map document_of result.now ≡ own_layer self.now }
     {
         self.own_index().documents()
     }
 
-    /// The value at a path of an own document, which is counted from 0 in the order in which their URIs were first added, and
-    /// after them those retrieved. `None` for a number without a document, and where a part finds no value: a key steps into an object alone, an
-    /// index into an array alone (RFC 6901, section 4). A look-up for each part; takes no memory.
+    /// The value at a path of an own document, which is counted from 0 in the order in which their URIs were first
+    /// added, and after them those retrieved. `None` for a number without a document, and where a part finds no value:
+    /// a key steps into an object alone, an index into an array alone (RFC 6901, section 4). A look-up for each part;
+    /// takes no memory.
     pub fn value_at(&self, document: usize, path: &[JsonPointerSegment<'_>]) -> Option<&Value>
-        ensures value { option_map (λ v. view v.now) result ≡ option_and_then (λ d. value_at d.tree (map part_of path.now)) (slice_get (own_layer self.now) document) }
+        ensures value { option_map (λ v. view v.now) result
+            ≡ option_and_then (λ d. value_at d.tree (map part_of path.now))
+            (slice_get (own_layer self.now) document) }
     {
         let tree = self.tree(document)?;
         value_along(tree, path)
@@ -72,8 +77,10 @@ impl<'a> Registry<'a> {
     /// Each place is visited once, with a look-up where it has an identifier; its path is copied, and the URI of each document;
     /// keys are lent, and the other URIs shared.
     pub fn places(&self, alloc: Global) -> Result<Vec<Place<'_>>, Error>
-        ensures value { IfOk result (λ places. map listed_of places.items ≡ own_places (own_layer self.now)) }
-        ensures stand { (d : WorldDocument) (p : WorldPlace) → Contains (own_layer self.now) d → Contains (places d) p → value_at d.tree p.path ≡ Some p.value }
+        ensures value { IfOk result
+            (λ places. map listed_of places.items ≡ own_places (own_layer self.now)) }
+        ensures stand { (d : WorldDocument) (p : WorldPlace) → Contains (own_layer self.now) d
+            → Contains (places d) p → value_at d.tree p.path ≡ Some p.value }
         ensures memory { IfErr result IsMemory }
     {
         Ok(self.own_index().places(alloc)?)
@@ -96,9 +103,12 @@ impl<'a> Registry<'a> {
         base: &Uri,
         path: &[JsonPointerSegment<'_>],
     ) -> Result<Resolved<'_>, Error>
-        ensures value { IfOk result (λ found. located_value self.now base.now (map part_of path.now) ≡ Ok (found_of found)) }
+        ensures value { IfOk result
+            (λ found. located_value self.now base.now (map part_of path.now)
+            ≡ Ok (found_of found)) }
         ensures world { IfOk result (λ found. world_found found ≡ self.now) }
-        ensures fault { IfErr result (IsFaultOf (located_value self.now base.now (map part_of path.now))) }
+        ensures fault { IfErr result
+            (IsFaultOf (located_value self.now base.now (map part_of path.now))) }
         ensures agrees { Agrees (own_layer self.now) base.now (map part_of path.now) result }
     {
         // that children of places are at their paths

@@ -51,7 +51,9 @@ fn documents<'a>(
     draft: Draft,
     pending: IndexMap<Uri, PendingResource<'a>>,
 ) -> Result<Vec<Document<'a>>, AllocError>
-    ensures { IfOk result (λ ds. map document_of ds.items ≡ map (world.document_of draft) (map pending_under pending.entry.entries)) }
+    ensures { IfOk result
+        (λ ds. map document_of ds.items
+        ≡ map (world.document_of draft) (map pending_under pending.entry.entries)) }
 {
     let mut documents = Vec::with_capacity(alloc, pending.len())?;
     for (uri, resource) in pending {
@@ -72,11 +74,28 @@ impl<'a, R: Retrieve + Drop> RegistryBuilder<'a, R> {
     /// retriever's too. Each place is visited once; URIs, names and paths are copied for the tables, which are sorted once, and
     /// no value is.
     pub fn prepare(self) -> Result<Registry<'a>, Error>
-        ensures outcome { IfOk result (IsPreparedOf (given_of (R.may_answer (builder_of self.entry).retriever) (R.may_refuse (builder_of self.entry).retriever) (builder_of self.entry))) }
-        ensures fault { IfErr result (IsFaultyOutcome (given_of (R.may_answer (builder_of self.entry).retriever) (R.may_refuse (builder_of self.entry).retriever) (builder_of self.entry))) }
-        ensures alone { AreComplete (given_of (R.may_answer (builder_of self.entry).retriever) (R.may_refuse (builder_of self.entry).retriever) (builder_of self.entry))
-            → IfOk result (λ registry. registry ≡ (given_of (R.may_answer (builder_of self.entry).retriever) (R.may_refuse (builder_of self.entry).retriever) (builder_of self.entry)).documents ∷ (builder_of self.entry).parents) × IfErr result IsMemory }
-        ensures limit { IfErr result (LimitIsUsedUp (given_of (R.may_answer (builder_of self.entry).retriever) (R.may_refuse (builder_of self.entry).retriever) (builder_of self.entry))) }
+        ensures outcome { IfOk result
+            (IsPreparedOf
+            (given_of (R.may_answer (builder_of self.entry).retriever)
+            (R.may_refuse (builder_of self.entry).retriever) (builder_of self.entry))) }
+        ensures fault { IfErr result
+            (IsFaultyOutcome
+            (given_of (R.may_answer (builder_of self.entry).retriever)
+            (R.may_refuse (builder_of self.entry).retriever) (builder_of self.entry))) }
+        ensures alone { AreComplete
+            (given_of (R.may_answer (builder_of self.entry).retriever)
+            (R.may_refuse (builder_of self.entry).retriever) (builder_of self.entry))
+            → IfOk result
+            (λ registry. registry
+            ≡ (given_of (R.may_answer (builder_of self.entry).retriever)
+            (R.may_refuse (builder_of self.entry).retriever)
+            (builder_of self.entry)).documents
+            ∷ (builder_of self.entry).parents)
+            × IfErr result IsMemory }
+        ensures limit { IfErr result
+            (LimitIsUsedUp
+            (given_of (R.may_answer (builder_of self.entry).retriever)
+            (R.may_refuse (builder_of self.entry).retriever) (builder_of self.entry))) }
     {
         let RegistryBuilder {
             alloc,

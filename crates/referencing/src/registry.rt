@@ -71,8 +71,16 @@ impl<'a> Registry<'a> {
         uri: U,
         resource: T,
     ) -> Result<RegistryBuilder<'b>, Error>
-        ensures ok { IfOk result (λ b. Adds (with_addition [] (addition (U.text uri) (T.tree resource) (T.given_draft resource))) (new_builder (builder_of b).retriever self.now []) (builder_of b)) }
-        ensures fault { IfErr result (IsFaultOf (as_invalid_uri (with_addition [] (addition (U.text uri) (T.tree resource) (T.given_draft resource))))) }
+        ensures ok { IfOk result
+            (λ b. Adds
+            (with_addition []
+            (addition (U.text uri) (T.tree resource) (T.given_draft resource)))
+            (new_builder (builder_of b).retriever self.now []) (builder_of b)) }
+        ensures fault { IfErr result
+            (IsFaultOf
+            (as_invalid_uri
+            (with_addition []
+            (addition (U.text uri) (T.tree resource) (T.given_draft resource))))) }
     {
         let builder = RegistryBuilder::new(alloc, Vec::new(alloc)).add(uri, resource)?;
         Ok(above(builder, self.indexes(alloc)?))
@@ -86,11 +94,23 @@ impl<'a> Registry<'a> {
         alloc: Global,
         pairs: I,
     ) -> Result<RegistryBuilder<'b>, Error>
-        requires ends { (it : I.IntoIter) → I.into_iter_gives pairs it → I.IntoIter.can_next it × IsFinite (I.IntoIter.remaining it) }
-        ensures ok { IfOk result (λ b. (it : I.IntoIter) × (xs : List (U × T)) × I.into_iter_gives pairs it × Drains I.IntoIter.next_gives it xs
-            × Adds (with_additions [] (map (λ x. addition (U.text x.0) (T.tree x.1) (T.given_draft x.1)) xs)) (new_builder (builder_of b).retriever self.now []) (builder_of b)) }
-        ensures fault { IfErr result (λ error. (it : I.IntoIter) × (xs : List (U × T)) × I.into_iter_gives pairs it × ((rest : I.IntoIter) × Yields I.IntoIter.next_gives it xs rest)
-            × IsFaultOf (as_invalid_uri (with_additions [] (map (λ x. addition (U.text x.0) (T.tree x.1) (T.given_draft x.1)) xs))) error) }
+        requires ends { (it : I.IntoIter) → I.into_iter_gives pairs it
+            → I.IntoIter.can_next it × IsFinite (I.IntoIter.remaining it) }
+        ensures ok { IfOk result
+            (λ b. (it : I.IntoIter) × (xs : List (U × T)) × I.into_iter_gives pairs it
+            × Drains I.IntoIter.next_gives it xs
+            × Adds
+            (with_additions []
+            (map (λ x. addition (U.text x.0) (T.tree x.1) (T.given_draft x.1)) xs))
+            (new_builder (builder_of b).retriever self.now []) (builder_of b)) }
+        ensures fault { IfErr result
+            (λ error. (it : I.IntoIter) × (xs : List (U × T)) × I.into_iter_gives pairs it
+            × ((rest : I.IntoIter) × Yields I.IntoIter.next_gives it xs rest)
+            × IsFaultOf
+            (as_invalid_uri
+            (with_additions []
+            (map (λ x. addition (U.text x.0) (T.tree x.1)
+            (T.given_draft x.1)) xs))) error) }
     {
         let builder = RegistryBuilder::new(alloc, Vec::new(alloc)).extend(pairs)?;
         Ok(above(builder, self.indexes(alloc)?))
@@ -114,8 +134,10 @@ impl<'a> Registry<'a> {
         index: Index<'a>,
         parents: Vec<&'a Index<'a>>,
     ) -> Result<Registry<'a>, AllocError>
-        requires { (faults index ≡ []) × (open_wants (index ∷ map (λ p. p.now) parents.items) index ≡ []) }
-        ensures value { IfOk result (λ registry. registry ≡ index.entry ∷ map (λ p. p.now) parents.entry.items) }
+        requires { (faults index ≡ [])
+            × (open_wants (index ∷ map (λ p. p.now) parents.items) index ≡ []) }
+        ensures value { IfOk result
+            (λ registry. registry ≡ index.entry ∷ map (λ p. p.now) parents.entry.items) }
     {
         Ok(Registry {
             own: Rc::new(alloc, index)?,
@@ -125,7 +147,8 @@ impl<'a> Registry<'a> {
 
     /// The value of the own document with a number. A look-up; takes no memory.
     pub(crate) fn tree(&self, document: usize) -> Option<&Value>
-        ensures value { option_map (λ v. view v.now) result ≡ option_map (λ d. d.tree) (slice_get (own_layer self.now) document) }
+        ensures value { option_map (λ v. view v.now) result
+            ≡ option_map (λ d. d.tree) (slice_get (own_layer self.now) document) }
     {
         self.own.tree(document)
     }
@@ -159,10 +182,10 @@ impl<'a> Registry<'a> {
         }
     }
 
-    /// The URI that a text means against a base, where that was resolved when the documents were prepared: so it is for the
-    /// identifier of each place, own or of a parent, with the base around it, and for what is before the last `#` of each
-    /// place's `$ref` with the place's base, unless it begins with `#`. A look-up in the tables of this registry and its parents;
-    /// takes no memory.
+    /// The URI that a text means against a base, where that was resolved when the documents were prepared: so it is for
+    /// the identifier of each place, own or of a parent, with the base around it, and for what is before the last `#`
+    /// of each place's `$ref` with the place's base, unless it begins with `#`. A look-up in the tables of this
+    /// registry and its parents; takes no memory.
     pub fn resolved_uri(&self, base: &UriRef<'_>, uri: &str) -> Option<&Rc<Uri>>
         ensures held { IsHeld self.now base.now uri.now → IsSome result }
         ensures value { IfSome result (λ u. uri_against base.now uri.now ≡ Ok u.now.value) }
@@ -170,9 +193,10 @@ impl<'a> Registry<'a> {
         self.layers().resolved_uri(base, uri)
     }
 
-    /// The URI that a text means against a base (RFC 3986, 5.2), in normal form, whatever was resolved before. Where it was, the
-    /// code takes no memory, which no clause says; [`Registry::resolved_uri`] takes none by its signature. Refuses as `InvalidUri` a base without a scheme and a text that is no URI reference, and as `Memory` where
-    /// there is none for the URI.
+    /// The URI that a text means against a base (RFC 3986, 5.2), in normal form, whatever was resolved before. Where it
+    /// was, the code takes no memory, which no clause says; [`Registry::resolved_uri`] takes none by its signature.
+    /// Refuses as `InvalidUri` a base without a scheme and a text that is no URI reference, and as `Memory` where there
+    /// is none for the URI.
     pub fn resolve_uri(&self, alloc: Global, base: UriRef<'_>, uri: &str) -> Result<Rc<Uri>, Error>
         ensures ok { IfOk result (λ u. uri_against base.entry uri.now ≡ Ok u.value) }
         ensures fault { IfErr result (IsFaultOf (as_invalid_uri (uri_against base.entry uri.now))) }
@@ -180,14 +204,16 @@ impl<'a> Registry<'a> {
         self.layers().resolve_uri(alloc, base, uri)
     }
 
-    /// The own documents have no fault, and want no document that isn't there: so each own place has a base, and no reference of
-    /// an own place leads to a URI that is not present, that is, from the place's base, with any dynamic scope, the text under its
+    /// The own documents have no fault, and want no document that isn't there: so each own place has a base, and no
+    /// reference of an own place leads to a URI that is not present, that is, from the place's base, with any dynamic
+    /// scope, the text under its
     /// `$ref` is never unretrievable. A law; the call does nothing.
     pub fn references_are_retrieved(&self)
         ensures no_fault { faults (own_layer self.now) ≡ [] }
         ensures no_want { open_wants self.now (own_layer self.now) ≡ [] }
         ensures law { ReferencesAreRetrieved self.now }
-        ensures bases { (d : WorldDocument) (place : Place) → Contains (own_layer self.now) d → Contains (places d) place → (base : List ℕ) × (place.base ≡ Ok base) }
+        ensures bases { (d : WorldDocument) (place : Place) → Contains (own_layer self.now) d
+            → Contains (places d) place → (base : List ℕ) × (place.base ≡ Ok base) }
     {
         let _ = &self.own;
     }

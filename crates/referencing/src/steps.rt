@@ -76,9 +76,15 @@ fn stepped<'r>(
     followed: Followed<'r>,
     step: &Step<'_>,
 ) -> Result<Followed<'r>, Error>
-    ensures ok { IfOk result (λ f. world.after_step (world_of followed.entry.resolver) (followed_of followed.entry) (step_of step.now) ≡ Ok (followed_of f)) }
+    ensures ok { IfOk result
+        (λ f. world.after_step (world_of followed.entry.resolver) (followed_of followed.entry)
+        (step_of step.now)
+        ≡ Ok (followed_of f)) }
     ensures world { IfOk result (λ f. world_of f.resolver ≡ world_of followed.entry.resolver) }
-    ensures fault { IfErr result (IsFaultOf (world.after_step (world_of followed.entry.resolver) (followed_of followed.entry) (step_of step.now))) }
+    ensures fault { IfErr result
+        (IsFaultOf
+        (world.after_step (world_of followed.entry.resolver) (followed_of followed.entry)
+        (step_of step.now))) }
 {
     let resolver = &followed.resolver;
     match step {
@@ -103,8 +109,8 @@ impl<'a> Registry<'a> {
         Resolver::new(alloc, self.layers(), base)
     }
 
-    /// A resolver at a base URI with a dynamic scope, inner to outer, such as [`Resolver::into_parts`] gives. No URI need mean a place.
-    /// Takes no memory.
+    /// A resolver at a base URI with a dynamic scope, inner to outer, such as [`Resolver::into_parts`] gives. No URI
+    /// need mean a place. Takes no memory.
     pub fn resolver_from_parts<'r>(&'r self, base: Rc<Uri>, scope: List<Uri>) -> Resolver<'r>
         ensures resolver { resolver_of result ≡ record { base = base.value; scope = scope } }
         ensures world { world_of result ≡ self.now }
@@ -112,17 +118,20 @@ impl<'a> Registry<'a> {
         Resolver::from_parts(self.layers(), base, scope)
     }
 
-    /// Where a reference leads from a base URI with an empty dynamic scope: [`Resolver::lookup`] from a new resolver there, whose
-    /// errors and cost it has.
+    /// Where a reference leads from a base URI with an empty dynamic scope: [`Resolver::lookup`] from a new resolver
+    /// there, whose errors and cost it has.
     pub fn lookup<'r>(
         &'r self,
         alloc: Global,
         base: Uri,
         reference: &str,
     ) -> Result<Resolved<'r>, Error>
-        ensures ok { IfOk result (λ found. lookup self.now (record { base = base; scope = [] }) reference.now ≡ Ok (found_of found)) }
+        ensures ok { IfOk result
+            (λ found. lookup self.now (record { base = base; scope = [] }) reference.now
+            ≡ Ok (found_of found)) }
         ensures world { IfOk result (λ found. world_found found ≡ self.now) }
-        ensures fault { IfErr result (IsFaultOf (lookup self.now (record { base = base; scope = [] }) reference.now)) }
+        ensures fault { IfErr result
+            (IsFaultOf (lookup self.now (record { base = base; scope = [] }) reference.now)) }
     {
         self.resolver(alloc, base)?.lookup(alloc, reference)
     }
@@ -140,11 +149,14 @@ pub fn follow<'r, 'a>(
     base: Uri,
     steps: &[Step<'_>],
 ) -> Result<Followed<'r>, FollowError>
-    ensures ok { IfOk result (λ f. world.followed_steps registry.now base (map step_of steps.now) ≡ Ok (followed_of f)) }
+    ensures ok { IfOk result
+        (λ f. world.followed_steps registry.now base (map step_of steps.now) ≡ Ok (followed_of f)) }
     ensures world { IfOk result (λ f. world_of f.resolver ≡ registry.now) }
-    ensures fault { IfErr result (IsStepFaultOf (world.followed_steps registry.now base (map step_of steps.now))) }
+    ensures fault { IfErr result
+        (IsStepFaultOf (world.followed_steps registry.now base (map step_of steps.now))) }
     ensures step { IfErr result (λ e. e.step ≤ length steps.now) }
-    ensures reached { IfErr result (λ e. ReachesStep registry.now base (map step_of steps.now) e.step) }
+    ensures reached { IfErr result
+        (λ e. ReachesStep registry.now base (map step_of steps.now) e.step) }
 {
     let resolver = match registry.resolver(alloc, base) {
         Ok(resolver) => resolver,

@@ -29,7 +29,8 @@ pub(crate) fn reference_of(
     alloc: Global,
     path: &[JsonPointerSegment<'_>],
 ) -> Result<String, AllocError>
-    ensures text { IfOk result (λ text. string_bytes text ≡ 35 ∷ encoded_text (pointer_text (map part_of path.now))) }
+    ensures text { IfOk result
+        (λ text. string_bytes text ≡ 35 ∷ encoded_text (pointer_text (map part_of path.now))) }
     ensures texts { OnOk result (IsPathOfTexts (map part_of path.now)) }
 {
     let pointer = pointer_of(alloc, path)?;

@@ -1,4 +1,5 @@
-//! Builders that are made here, since no row can tell how a document is lent: what they hold, and how they and their copies are shown.
+//! Builders that are made here, since no row can tell how a document is lent: what they hold, and how they and their
+//! copies are shown.
 use crate::fault::{Fault, done, made};
 use crate::inputs::held;
 use crate::registries::known;

@@ -97,7 +97,8 @@ impl Sink for Broken {
     }
 }
 
-// A writer that takes a byte at a write, and fails once it took so many; of which a flush fails too, where it isn't to be flushed.
+// A writer that takes a byte at a write, and fails once it took so many; of which a flush fails too, where it isn't to
+// be flushed.
 #[derive(Drop)]
 struct Narrow {
     taken: usize,
@@ -126,8 +127,8 @@ impl Write for Narrow {
     }
 }
 
-// Whether a request, of which a read fails after so many bytes, ends as one that failed, with nothing written and no other failure. A reader
-// whose read failed isn't at its end.
+// Whether a request, of which a read fails after so many bytes, ends as one that failed, with nothing written and no
+// other failure. A reader whose read failed isn't at its end.
 fn is_refused(alloc: Global, request: &str, left: usize, is_for_ever: bool) -> bool {
     let mut reader = Input::new(FailsAfter {
         bytes: request.as_bytes(),
@@ -269,7 +270,8 @@ fn is_written_into_its_room(
     )
 }
 
-/// Runs on a request of which each read, each write and a flush fails in turn, and one into a sink that has just the report's room.
+/// Runs on a request of which each read, each write and a flush fails in turn, and one into a sink that has just the
+/// report's room.
 pub fn each(alloc: Global, request: &str, ending: &Ending<'_>) -> Result<(), Fault> {
     let reads = is_refused_at_each_read(alloc, request);
     expect(reads, "a failed read isn't told")?;

@@ -30,8 +30,8 @@ fn outcome(alloc: Global, parent: &Registry<'_>, row: &Value) -> Result<String, 
     }
 }
 
-/// Of documents above a registry, and then which URIs that still knows by itself: of a row of the documents in its second column, and
-/// the URIs after them.
+/// Of documents above a registry, and then which URIs that still knows by itself: of a row of the documents in its
+/// second column, and the URIs after them.
 fn of_children(alloc: Global, parent: &Registry<'_>, row: &Value) -> Result<String, Fault> {
     let child = outcome(alloc, parent, row)?;
     let still = known(alloc, parent, row, 3)?;

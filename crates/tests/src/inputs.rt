@@ -114,8 +114,8 @@ fn of_lent_resource(alloc: Global, draft: Option<Draft>, row: &Value) -> Result<
     asked(alloc, &registry, row)
 }
 
-/// Of a document that is added as a kind of input: a row of the kind, which is a view where it is no other, the draft that is set, the document,
-/// and what is asked.
+/// Of a document that is added as a kind of input: a row of the kind, which is a view where it is no other, the draft
+/// that is set, the document, and what is asked.
 fn of_kinds(alloc: Global, row: &Value) -> Result<String, Fault> {
     let (kind, draft) = (row::text(row, 1)?, row::draft(row, 2)?);
     if kind == "a resource that is lent" {

@@ -136,8 +136,8 @@ fn answers(alloc: Global, registry: &Registry<'_>, row: &Value) -> Result<String
     answered(alloc, registry, base, [first, second])
 }
 
-/// Where the value stands that a reference leads to from a resolver, or a recursive one, which is `*`: the layer, the number of the document,
-/// and the pointer there.
+/// Where the value stands that a reference leads to from a resolver, or a recursive one, which is `*`: the layer, the
+/// number of the document, and the pointer there.
 fn standing(alloc: Global, resolver: &Resolver<'_>, reference: &str) -> Result<String, Fault> {
     let answer = match reference {
         "*" => resolver.location_recursive(alloc),

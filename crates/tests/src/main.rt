@@ -1,9 +1,10 @@
-//! The tests of the libraries from `ref_retrieve` up, whose rows are data: reads a row a line from standard input, a JSON list of the table's
-//! name, of what is asked, and of the answer that is expected. Prints each row whose answer is another, and after each table how many of its
-//! rows hold.
+//! The tests of the libraries from `ref_retrieve` up, whose rows are data: reads a row a line from standard input, a
+//! JSON list of the table's name, of what is asked, and of the answer that is expected. Prints each row whose answer is
+//! another, and after each table how many of its rows hold.
 //!
-//! Lines that are empty or begin with `//` are skipped. What a row of the name `given` holds, or the text of a request after `request`, is given
-//! for the rows after it; after a request these are of the tables on requests alone, until a `given` row.
+//! Lines that are empty or begin with `//` are skipped. What a row of the name `given` holds, or the text of a request
+//! after `request`, is given for the rows after it; after a request these are of the tables on requests alone, until a
+//! `given` row.
 #![tactic(auto)]
 
 mod answers;

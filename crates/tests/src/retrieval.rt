@@ -1,5 +1,5 @@
-//! Retrievers of the tests' own: one that counts, one that has no memory, one that refuses, one whose documents never end, and one that
-//! has every document.
+//! Retrievers of the tests' own: one that counts, one that has no memory, one that refuses, one whose documents never
+//! end, and one that has every document.
 ghost use Rattle.std.specs.Prelude.{⊤};
 
 use crate::fault::{Fault, done, made};
@@ -46,7 +46,8 @@ fn outcome(
     }
 }
 
-/// How often a retriever is asked, and what comes of it: of a row of documents, what can be retrieved, how many of it may be, and URIs.
+/// How often a retriever is asked, and what comes of it: of a row of documents, what can be retrieved, how many of it
+/// may be, and URIs.
 fn calls(alloc: Global, row: &Value) -> Result<String, Fault> {
     let limit = row::number(row, 3)?;
     let documents = row::documents(alloc, row, 1)?;
@@ -113,8 +114,8 @@ fn told(alloc: Global, prepared: &Result<Registry<'_>, Error>) -> Result<String,
     }
 }
 
-/// Of a row of documents and a reason: the fault with which preparing them ends, where each retrieval is refused for that reason, and its debug
-/// text in the next line.
+/// Of a row of documents and a reason: the fault with which preparing them ends, where each retrieval is refused for
+/// that reason, and its debug text in the next line.
 fn refused(alloc: Global, row: &Value) -> Result<String, Fault> {
     let documents = row::documents(alloc, row, 1)?;
     let reason = row::text(row, 2)?;
@@ -155,8 +156,8 @@ fn number_in(bytes: &[u8]) -> usize {
     number
 }
 
-/// Of a row of documents and a limit, `null` where none is set: the fault with which preparing them ends, where each document that is
-/// retrieved wants another.
+/// Of a row of documents and a limit, `null` where none is set: the fault with which preparing them ends, where each
+/// document that is retrieved wants another.
 fn endless(alloc: Global, row: &Value) -> Result<String, Fault> {
     let documents = row::documents(alloc, row, 1)?;
     let mut builder = Registry::new(alloc).retriever(Chain);

@@ -55,8 +55,8 @@ fn of_bits(alloc: Global, row: &Value) -> Result<String, Fault> {
     made(format!(in alloc; "{set:?}"))
 }
 
-/// Of a row of a bit, a text and other bits: whether the set of the bit has the vocabulary of the text, whether that of the others has it, and
-/// whether it is equal to its copy.
+/// Of a row of a bit, a text and other bits: whether the set of the bit has the vocabulary of the text, whether that of
+/// the others has it, and whether it is equal to its copy.
 fn of_a_bit(alloc: Global, row: &Value) -> Result<String, Fault> {
     let (bit, others) = (bits_of(row, 1)?, bits_of(row, 3)?);
     let vocabulary = vocabulary(alloc, row, 2)?;

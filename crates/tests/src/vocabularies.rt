@@ -1,5 +1,5 @@
-//! Vocabularies by their names, what meta-schemas and schemas declare, and the vocabularies of schemas by the meta-schemas that a registry and
-//! its parents have.
+//! Vocabularies by their names, what meta-schemas and schemas declare, and the vocabularies of schemas by the
+//! meta-schemas that a registry and its parents have.
 use crate::fault::{Fault, done, made};
 use crate::registries::resolver;
 use crate::row;

@@ -87,8 +87,8 @@ fn at_each_place(
     Ok(())
 }
 
-/// A bad byte, a lone `%`, a triple and marks at each place of a component, and components of each length: texts that reach from one
-/// block of sixteen bytes into the next.
+/// A bad byte, a lone `%`, a triple and marks at each place of a component, and components of each length: texts that
+/// reach from one block of sixteen bytes into the next.
 pub fn places(rt: &impl Abort, alloc: Global, row: &Row<'_>) -> Result<(), AllocError> {
     for column in 1..row.len() {
         at_each_place(rt, alloc, row.text(0), row.text(column))?;

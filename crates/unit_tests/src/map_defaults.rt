@@ -27,7 +27,9 @@ fn write_at(
     value: usize,
 ) -> Result<(), AllocError>
     ensures written { OnOk result (lookup (nat_eq key) map.new ≡ Some value) }
-    ensures kept { OnOk result ((other : ℕ) → nat_eq key other ≡ false → lookup (nat_eq other) map.new ≡ lookup (nat_eq other) map.old) }
+    ensures kept { OnOk result
+        ((other : ℕ) → nat_eq key other ≡ false
+        → lookup (nat_eq other) map.new ≡ lookup (nat_eq other) map.old) }
     ensures err { OnErr result (map.new ≡ map.old) }
 {
     *map.get_or_insert_default(alloc, key)? = value;
@@ -179,8 +181,8 @@ fn put_again(
     Ok(())
 }
 
-// A map keeps its pairs where a growth is refused, as the one past its bound and those of a hashed map, and takes them where there
-// is memory.
+// A map keeps its pairs where a growth is refused, as the one past its bound and those of a hashed map, and takes them
+// where there is memory.
 #[test]
 fn a_refused_growth_keeps_the_pairs(rt: HostRuntime) -> Result<(), AllocError> {
     let mut map: SmallMap<usize, usize, 2> = SmallMap::new();

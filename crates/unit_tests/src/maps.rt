@@ -39,15 +39,15 @@ pub const ROWS: &str = r##"
 [[[1,10]],[false,null,10,null,null,null]]
 
 # copies: 3
-// Pairs, what a map of them with four slots tells and its copy, what the map tells once 7 is put at 0, and what the copy tells once
-// 40 is put at 4.
+// Pairs, what a map of them with four slots tells and its copy, what the map tells once 7 is put at 0, and what the
+// copy tells once 40 is put at 4.
 [[[0,0],[1,10]],[true,0,10,null,null,null],[true,7,10,null,null,null],[true,0,10,null,null,40]]
 [[[0,0],[1,10],[2,20],[3,30]],[true,0,10,20,30,null],[true,7,10,20,30,null],[false,0,10,20,30,40]]
 [[[0,0],[1,10],[2,20],[3,30],[4,40]],[false,0,10,20,30,40],[false,7,10,20,30,40],[false,0,10,20,30,40]]
 
 # copies of texts: 2
-// Pairs, a key that `other` is put at in the map of them, once it is copied, what the copy tells, and what the map tells: whether it
-// is small, and its texts at `a`, `b` and `c`.
+// Pairs, a key that `other` is put at in the map of them, once it is copied, what the copy tells, and what the map
+// tells: whether it is small, and its texts at `a`, `b` and `c`.
 [[["a","one"],["b","two"]],"a",[true,"one","two",null],[true,"other","two",null]]
 [[["a","one"],["b","two"],["c","three"]],"b",[false,"one","two","three"],[false,"one","other","three"]]
 

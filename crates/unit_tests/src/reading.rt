@@ -71,8 +71,8 @@ pub const ROWS: &str = r##"
 [{"$schema":"http://json-schema.org/draft-06/schema#","$id":"k#"},"6","k"]
 "##;
 
-/// Ends the test where an anchor isn't of this draft and value, or has another name than the row, whose names have a star where they
-/// are dynamic.
+/// Ends the test where an anchor isn't of this draft and value, or has another name than the row, whose names have a
+/// star where they are dynamic.
 fn assert_anchor(rt: &impl Abort, anchor: Anchor<'_>, value: &Value, row: &Row<'_>, name: &str) {
     let is_dynamic = matches!(anchor, Anchor::Dynamic { .. });
     row.same(rt, is_dynamic, name.starts_with('*'));

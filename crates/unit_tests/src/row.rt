@@ -160,8 +160,8 @@ fn count_of(rt: &impl Abort, heading: &str, number: &str, lines: &str) -> usize 
     count
 }
 
-/// Asks each row of a text, and counts them. A line that begins with `# ` names the table of the rows after it, with their number after a
-/// colon; one that begins with `//` is skipped.
+/// Asks each row of a text, and counts them. A line that begins with `# ` names the table of the rows after it, with
+/// their number after a colon; one that begins with `//` is skipped.
 pub fn for_each_row<R: Abort>(rt: &R, alloc: Global, rows: &str) -> Result<usize, Fail> {
     let mut count = 0usize;
     for section in rows.split("\n# ") {

@@ -11,8 +11,8 @@ use std::process::Abort;
 
 pub const ROWS: &str = r##"
 # tables: 14
-// Entries, how many pairs of texts they have, the most probes that an answer may take, two texts, and the value of the last entry under
-// them, if there is one.
+// Entries, how many pairs of texts they have, the most probes that an answer may take, two texts, and the value of the
+// last entry under them, if there is one.
 [[],0,0,"a","",null]
 [[["b","",1],["a","",2],["b","",3]],2,2,"b","",3]
 [[["b","",1],["a","",2],["b","",3]],2,2,"a","",2]
@@ -144,7 +144,8 @@ fn table_of_numbers(alloc: Global, count: usize) -> Result<SortedTable<usize>, A
     table_of(alloc, entries)
 }
 
-/// Ends the test where a table lacks a number, has something under a name that none has, or takes more than ten probes for either.
+/// Ends the test where a table lacks a number, has something under a name that none has, or takes more than ten probes
+/// for either.
 fn assert_number(
     rt: &impl Abort,
     alloc: Global,

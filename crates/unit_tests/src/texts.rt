@@ -197,7 +197,8 @@ fn the_greatest_index_is_written_behind_what_the_buffer_holds(
     Ok(())
 }
 
-/// Ends the test where an escape isn't found after so many other bytes and before so many of `after`, or one is found without it.
+/// Ends the test where an escape isn't found after so many other bytes and before so many of `after`, or one is found
+/// without it.
 fn assert_found(
     rt: &impl Abort,
     alloc: Global,

@@ -17,11 +17,14 @@ value_there layer p = option_and_then (λ d. value_at d.tree p.path) (slice_get 
 
 -- the URI that a reference at a base means, without its fragment
 abbrev pub uri_of : Result (List ℕ) Refusal → List ℕ → Option (List ℕ)
-uri_of base reference = result_ok (base >>= λ base. uri_against base reference >>= λ uri. Ok (with_fragment uri None))
+uri_of base reference =
+    result_ok (base >>= λ base. uri_against base reference >>= λ uri. Ok (with_fragment uri None))
 
 -- the URI that the `$ref` of a listed place means, without its fragment, where it has one
 abbrev pub refers_to : Layer → Listed → Option (List ℕ)
-refers_to layer p = option_and_then (uri_of p.base) (option_and_then (text_under (codes "$ref")) (value_there layer p))
+refers_to layer p =
+    option_and_then (uri_of p.base)
+    (option_and_then (text_under (codes "$ref")) (value_there layer p))
 
 -- whether a listed place is one of the document with this number
 abbrev pub is_of : ℕ → Listed → Bool
@@ -33,4 +36,5 @@ refers_from layer document p = if is_of document p then refers_to layer p else N
 
 -- those that the places of the document with this number refer to, in the order of the places
 abbrev pub referred_by : Layer → ℕ → List (List ℕ)
-referred_by layer document = filter_map (refers_to layer) (filter (is_of document) (own_places layer))
+referred_by layer document =
+    filter_map (refers_to layer) (filter (is_of document) (own_places layer))

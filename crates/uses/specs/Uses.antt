@@ -30,23 +30,27 @@ has_file files uri = list_any (λ file. bytes_eq file.0 uri) files
 
 -- the text of a refusal for want of a file, where none is under the URI
 abbrev pub SaysNoFile : List (List ℕ × Value) → List ℕ → List ℕ → Type 0
-SaysNoFile files uri text = (has_file files uri ≡ false) × (text ≡ codes "no document under this URI")
+SaysNoFile files uri text =
+    (has_file files uri ≡ false) × (text ≡ codes "no document under this URI")
 
 -- a registry of one document above others, whose retriever fetches nothing
 abbrev pub given_above : World → List Pending → Given
 given_above parents pending =
-    given_of_builder (retriever_of default_retriever.may_answer default_retriever.may_refuse) 10000 None parents pending
+    given_of_builder
+    (retriever_of default_retriever.may_answer default_retriever.may_refuse) 10000 None parents pending
 
 -- a world that may be prepared of one document above others
 abbrev pub IsPreparedAbove : World → List ℕ → Data → World → Type 0
 IsPreparedAbove parents uri tree world =
-    (pending : List Pending) × (with_addition [] (addition uri tree None) ≡ Ok pending) × IsPreparedOf (given_above parents pending) world
+    (pending : List Pending) × (with_addition [] (addition uri tree None) ≡ Ok pending)
+    × IsPreparedOf (given_above parents pending) world
 
 -- the error says that the document can't be added, or why it can't be prepared, or is out of memory
 abbrev pub IsRefusedAbove : World → List ℕ → Data → Error → Type 0
 IsRefusedAbove parents uri tree error =
     IsFaultOf (as_invalid_uri (with_addition [] (addition uri tree None))) error
-    ⊎ ((pending : List Pending) × (with_addition [] (addition uri tree None) ≡ Ok pending) × IsFaultyOutcome (given_above parents pending) error)
+    ⊎ ((pending : List Pending) × (with_addition [] (addition uri tree None) ≡ Ok pending)
+    × IsFaultyOutcome (given_above parents pending) error)
 
 -- the number of the step that finds no value, and the text of its fault
 abbrev pub step_text : FollowError → List ℕ

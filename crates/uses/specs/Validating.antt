@@ -40,8 +40,10 @@ is_of_type schema value = option_map_or (has_type value) (text_under (codes "typ
 
 -- what of an instance a subschema at a path is asked of
 abbrev pub part_for : List Part → Data → Option Data
-part_for (Key keyword ∷ Key name ∷ []) instance = if bytes_eq keyword (codes "properties") then get name instance else None
-part_for (Key keyword ∷ Index i ∷ []) instance = if bytes_eq keyword (codes "allOf") then Some instance else None
+part_for (Key keyword ∷ Key name ∷ []) instance =
+    if bytes_eq keyword (codes "properties") then get name instance else None
+part_for (Key keyword ∷ Index i ∷ []) instance =
+    if bytes_eq keyword (codes "allOf") then Some instance else None
 part_for path instance = None
 
 -- the first answer, unless it is `Valid`: then the one after it
@@ -56,22 +58,29 @@ Validator = Resolver → Draft → Data → Data → Result Verdict Fault
 -- behind a reference, where there is one
 abbrev pub after_reference : Validator → Data → Option (Result Found Fault) → Result Verdict Fault
 after_reference next instance None = Ok Valid
-after_reference next instance (Some meaning) = meaning >>= λ found. next found.resolver found.draft found.value instance
+after_reference next instance (Some meaning) =
+    meaning >>= λ found. next found.resolver found.draft found.value instance
 
 -- at a subschema, where it is asked of something
 abbrev pub at_child : Validator → Resolver → Data → Walked → Result Verdict Fault
 at_child next r instance child =
-    option_map_or (λ part. as_invalid_uri (in_subresource r child.draft child.value) >>= λ inner. next inner child.draft child.value part) (part_for child.path instance) (Ok Valid)
+    option_map_or
+    (λ part. as_invalid_uri (in_subresource r child.draft child.value)
+    >>= λ inner. next inner child.draft child.value part)
+    (part_for child.path instance) (Ok Valid)
 
 -- at subschemas, one after another
 unfoldable pub at_children : Validator → Resolver → Data → List Walked → Result Verdict Fault
 at_children next r instance [] = Ok Valid
-at_children next r instance (child ∷ children) = unless_valid (at_child next r instance child) (at_children next r instance children)
+at_children next r instance (child ∷ children) =
+    unless_valid (at_child next r instance child) (at_children next r instance children)
 
 -- at most so many schemas that lead to one another: the type, then what the reference leads to, then the subschemas
 unfoldable pub validated_within : World → ℕ → Validator
 validated_within world zero r draft schema instance = Ok TooDeep
 validated_within world (suc depth) r draft schema instance =
     if is_of_type schema instance
-    then unless_valid (after_reference (validated_within world depth) instance (referred_from world r schema)) (at_children (validated_within world depth) r instance (walked_children draft schema))
+    then unless_valid
+    (after_reference (validated_within world depth) instance (referred_from world r schema))
+    (at_children (validated_within world depth) r instance (walked_children draft schema))
     else Ok Invalid

@@ -28,7 +28,9 @@ pub fn bookmark_of<'p, 'k>(
     place: &'p Place<'k>,
 ) -> Option<Bookmark<'p, 'k>>
     ensures resource { IfSome result (λ kept. kept.resource.now ≡ resource.now.base.value) }
-    ensures path { IfSome result (λ kept. map part_of place.now.path.items ≡ map part_of resource.now.path.items ++ map part_of kept.path.now) }
+    ensures path { IfSome result
+        (λ kept. map part_of place.now.path.items
+        ≡ map part_of resource.now.path.items ++ map part_of kept.path.now) }
 {
     if place.document != resource.document {
         return None;
@@ -51,9 +53,15 @@ pub fn opened<'r>(
     registry: &'r Registry<'_>,
     kept: Bookmark<'_, '_>,
 ) -> Result<(&'r Value, Draft, Rc<Uri>), Error>
-    ensures place { (d : Document) (r q : WorldPlace) → IsReadAlike (own_layer registry.now) d r kept.entry.resource.now → IsAtOrBelow q r → q.path ≡ r.path ++ map part_of kept.entry.path.now
-        → IfOk result (λ found. (view found.0.now ≡ q.value) × (found.1 ≡ q.draft) × (q.base ≡ Ok found.2.value)) }
-    ensures memory { (d : Document) (r q : WorldPlace) → IsReadAlike (own_layer registry.now) d r kept.entry.resource.now → IsAtOrBelow q r → q.path ≡ r.path ++ map part_of kept.entry.path.now
+    ensures place { (d : Document) (r q : WorldPlace)
+        → IsReadAlike (own_layer registry.now) d r kept.entry.resource.now → IsAtOrBelow q r
+        → q.path ≡ r.path ++ map part_of kept.entry.path.now
+        → IfOk result
+        (λ found. (view found.0.now ≡ q.value) × (found.1 ≡ q.draft)
+        × (q.base ≡ Ok found.2.value)) }
+    ensures memory { (d : Document) (r q : WorldPlace)
+        → IsReadAlike (own_layer registry.now) d r kept.entry.resource.now → IsAtOrBelow q r
+        → q.path ≡ r.path ++ map part_of kept.entry.path.now
         → IfErr result IsMemory }
 {
     let (value, inner, draft) = registry

@@ -47,7 +47,8 @@ fn referred_from(
     document: usize,
     place: &Place<'_>,
 ) -> Result<Option<Uri>, AllocError>
-    ensures { IfOk result (λ uri. uri ≡ refers_from (own_layer registry.now) document (listed_of place.now)) }
+    ensures { IfOk result
+        (λ uri. uri ≡ refers_from (own_layer registry.now) document (listed_of place.now)) }
 {
     if place.document != document {
         return Ok(None);
@@ -63,20 +64,21 @@ fn push(uris: &mut Vec<Uri>, uri: Uri) -> Result<(), AllocError>
     Ok(())
 }
 
-/// The URIs that the references of one of a registry's own documents mean, without their fragments: one for each place of it with
-/// a text under `$ref` that as a whole means a URI against the place's base, in the order of its places, also where several mean the
-/// same. The document is the one with this number, counted from 0 in the order of [`Registry::places`]; a number without a document
-/// has none. A look-up takes its URI from what is before the text's last `#` alone, so it may lead on from a text that isn't
-/// listed here. A bundler puts together what is under them.
+/// The URIs that the references of one of a registry's own documents mean, without their fragments: one for each place
+/// of it with a text under `$ref` that as a whole means a URI against the place's base, in the order of its places,
+/// also where several mean the same. The document is the one with this number, counted from 0 in the order of
+/// [`Registry::places`]; a number without a document has none. A look-up takes its URI from what is before the text's
+/// last `#` alone, so it may lead on from a text that isn't listed here. A bundler puts together what is under them.
 ///
-/// Refuses as `Memory` alone. Visits each place of the registry once, and those of the document with a look-up of their value and of
-/// the URI.
+/// Refuses as `Memory` alone. Visits each place of the registry once, and those of the document with a look-up of their
+/// value and of the URI.
 pub fn referred_documents(
     alloc: Global,
     registry: &Registry<'_>,
     document: usize,
 ) -> Result<Vec<Uri>, Error>
-    ensures value { IfOk result (λ uris. uris.items ≡ referred_by (own_layer registry.now) document) }
+    ensures value { IfOk result
+        (λ uris. uris.items ≡ referred_by (own_layer registry.now) document) }
     ensures memory { IfErr result IsMemory }
 {
     let mut uris = Vec::new(alloc);

@@ -19,7 +19,9 @@ pub fn vocabularies_of(
     draft: Draft,
     schema: &Value,
 ) -> Result<VocabularySet, Error>
-    ensures value { IfOk result (λ set. (world : World) × IsPreparedAbove parent.now uri.now (view schema.now) world × (set ≡ find_vocabularies world draft (view schema.now))) }
+    ensures value { IfOk result
+        (λ set. (world : World) × IsPreparedAbove parent.now uri.now (view schema.now) world
+        × (set ≡ find_vocabularies world draft (view schema.now))) }
     ensures fault { IfErr result (IsRefusedAbove parent.now uri.now (view schema.now)) }
 {
     let child = parent.add(alloc, uri, schema)?.prepare()?;

@@ -17,9 +17,12 @@ pub fn value_and_base<'r>(
     document: Uri,
     fragment: &str,
 ) -> Result<(&'r Value, Rc<Uri>), Error>
-    ensures ok { IfOk result (λ place. (found : Found) × (lookup registry.now (record { base = document; scope = [] }) fragment.now ≡ Ok found)
+    ensures ok { IfOk result
+        (λ place. (found : Found)
+        × (lookup registry.now (record { base = document; scope = [] }) fragment.now ≡ Ok found)
         × (view place.0.now ≡ found.value) × (place.1.value ≡ found.resolver.base)) }
-    ensures fault { IfErr result (IsFaultOf (lookup registry.now (record { base = document; scope = [] }) fragment.now)) }
+    ensures fault { IfErr result
+        (IsFaultOf (lookup registry.now (record { base = document; scope = [] }) fragment.now)) }
 {
     let resolver = registry.resolver(alloc, document)?;
     let (value, inner, _) = resolver.lookup(alloc, fragment)?.into_inner();

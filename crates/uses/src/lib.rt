@@ -1,5 +1,5 @@
-//! Uses of `referencing`, as callers write them. Each is proved by the clauses of public calls alone. What they answer is shown by rows of
-//! the program `tests`.
+//! Uses of `referencing`, as callers write them. Each is proved by the clauses of public calls alone. What they answer
+//! is shown by rows of the program `tests`.
 #![tactic(auto)]
 
 pub mod bookmarks;

@@ -28,7 +28,8 @@ impl Retrieve for Files {
 
     fn retrieve(&self, _alloc: Global, uri: &Uri) -> Result<Value, RetrieveError>
         ensures answer { IfOk result (λ value. HasFile self.now.files.items uri.now (view value)) }
-        ensures refusal { IfErr result (λ error. IfRefused error (SaysNoFile self.now.files.items uri.now)) }
+        ensures refusal { IfErr result
+            (λ error. IfRefused error (SaysNoFile self.now.files.items uri.now)) }
     {
         for (at, value) in self.files.iter() {
             if at.as_str() == uri.as_str() {
@@ -41,8 +42,14 @@ impl Retrieve for Files {
 
 /// The registry of what a builder holds, and of the files that it wants. Refuses as [`RegistryBuilder::prepare`] does.
 pub fn prepared<'a>(builder: RegistryBuilder<'a>, files: Files) -> Result<Registry<'a>, Error>
-    ensures outcome { IfOk result (IsPreparedOf (given_of (HasFile files.files.items) (SaysNoFile files.files.items) (builder_of builder.entry))) }
-    ensures fault { IfErr result (IsFaultyOutcome (given_of (HasFile files.files.items) (SaysNoFile files.files.items) (builder_of builder.entry))) }
+    ensures outcome { IfOk result
+        (IsPreparedOf
+        (given_of (HasFile files.files.items) (SaysNoFile files.files.items)
+        (builder_of builder.entry))) }
+    ensures fault { IfErr result
+        (IsFaultyOutcome
+        (given_of (HasFile files.files.items) (SaysNoFile files.files.items)
+        (builder_of builder.entry))) }
 {
     builder.retriever(files).prepare()
 }

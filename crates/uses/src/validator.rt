@@ -38,9 +38,16 @@ fn referred<'r>(
     resolver: &Resolver<'r>,
     schema: &Value,
 ) -> Result<Option<Resolved<'r>>, Error>
-    ensures ok { IfOk result (λ found. option_map (λ f. Ok (found_of f)) found ≡ referred_from (world_of resolver.now) (resolver_of resolver.now) (view schema.now)) }
-    ensures world { IfOk result (λ found. IfSome found (λ f. world_found f ≡ world_of resolver.now)) }
-    ensures fault { IfErr result (λ error. (meaning : Result Found Fault) × (referred_from (world_of resolver.now) (resolver_of resolver.now) (view schema.now) ≡ Some meaning) × IsFaultOf meaning error) }
+    ensures ok { IfOk result
+        (λ found. option_map (λ f. Ok (found_of f)) found
+        ≡ referred_from (world_of resolver.now) (resolver_of resolver.now) (view schema.now)) }
+    ensures world { IfOk result
+        (λ found. IfSome found (λ f. world_found f ≡ world_of resolver.now)) }
+    ensures fault { IfErr result
+        (λ error. (meaning : Result Found Fault)
+        × (referred_from (world_of resolver.now) (resolver_of resolver.now) (view schema.now)
+        ≡ Some meaning)
+        × IsFaultOf meaning error) }
 {
     let Some(reference) = schema.get("$ref").and_then(Value::as_str) else {
         return Ok(None);
@@ -66,7 +73,8 @@ fn is_of_type(schema: &Value, instance: &Value) -> bool
 
 // What of an instance a subschema is asked of: under `properties` the member of its name, under `allOf` the instance itself.
 fn part_for<'v>(child: &Child<'_>, instance: &'v Value) -> Option<&'v Value>
-    ensures { option_map (λ part. view part.now) result ≡ part_for (walked_child child.now).path (view instance.now) }
+    ensures { option_map (λ part. view part.now) result
+        ≡ part_for (walked_child child.now).path (view instance.now) }
 {
     match (child.keyword, &child.segment) {
         ("properties", Some(JsonPointerSegment::Key(name))) => instance.get(name.as_str()),
@@ -90,8 +98,14 @@ pub fn validated(
     instance: &Value,
     depth: usize,
 ) -> Result<Verdict, Error>
-    ensures value { IfOk result (λ verdict. validated_within (world_of resolver.now) depth (resolver_of resolver.now) draft (view schema.now) (view instance.now) ≡ Ok verdict) }
-    ensures fault { IfErr result (IsFaultOf (validated_within (world_of resolver.now) depth (resolver_of resolver.now) draft (view schema.now) (view instance.now))) }
+    ensures value { IfOk result
+        (λ verdict. validated_within (world_of resolver.now) depth (resolver_of resolver.now) draft
+        (view schema.now) (view instance.now)
+        ≡ Ok verdict) }
+    ensures fault { IfErr result
+        (IsFaultOf
+        (validated_within (world_of resolver.now) depth (resolver_of resolver.now) draft
+        (view schema.now) (view instance.now))) }
 {
     if depth == 0 {
         return Ok(Verdict::TooDeep);

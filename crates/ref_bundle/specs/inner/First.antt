@@ -20,7 +20,8 @@ uris_seen uri s = (if path_eq s.path [] then uri ∷ [] else []) ++ option_to_li
 
 -- the problems of the URIs that it has
 abbrev pub shared_seen : Layer → List ℕ → Seen → List Problem
-shared_seen layer uri s = flat_map (shared_uri (sites_of_uris layer) (s.document, s.path)) (uris_seen uri s)
+shared_seen layer uri s =
+    flat_map (shared_uri (sites_of_uris layer) (s.document, s.path)) (uris_seen uri s)
 
 -- and of those that it refers to
 abbrev pub replaced_seen : Layer → ℕ → Seen → List Problem
@@ -28,12 +29,18 @@ replaced_seen layer top s = flat_map (replaced_uris layer top) (targets_from s.b
 
 -- the refusals of a place
 abbrev pub refusals_seen : Layer → ℕ → List ℕ → Seen → List BundleRefusal
-refusals_seen layer top uri s = map (at_path s.document s.path) (shared_seen layer uri s ++ replaced_seen layer top s)
+refusals_seen layer top uri s =
+    map (at_path s.document s.path) (shared_seen layer uri s ++ replaced_seen layer top s)
 
 -- a key that a value has already
 abbrev pub taken_in : ℕ → List ℕ → Data → ℕ × Document → List BundleRefusal
-taken_in top keyword value e = if is_some (get (base_uri e.1) value) then at_path top (Key keyword ∷ Key (base_uri e.1) ∷ []) (KeyTaken (base_uri e.1)) ∷ [] else []
+taken_in top keyword value e =
+    if is_some (get (base_uri e.1) value) then
+    at_path top (Key keyword ∷ Key (base_uri e.1) ∷ []) (KeyTaken (base_uri e.1)) ∷ []
+    else []
 
 -- the refusals of a document as a whole
 abbrev pub whole_refusals : ℕ × Document → List (ℕ × Document) → ℕ × Document → List BundleRefusal
-whole_refusals top es e = if e.0 == top.0 then root_refusals top es else map (λ o. at_path e.0 [] (NotEmbedded o)) (option_to_list (obstacle top.1 e.1))
+whole_refusals top es e =
+    if e.0 == top.0 then root_refusals top es
+    else map (λ o. at_path e.0 [] (NotEmbedded o)) (option_to_list (obstacle top.1 e.1))

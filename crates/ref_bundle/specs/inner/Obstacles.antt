@@ -15,7 +15,8 @@ tree_obstacle d =
 -- by its URI, its draft and its anchor
 abbrev pub uri_obstacle : Document → Document → Option Obstacle
 uri_obstacle top d =
-    if not (is_kept (base_uri top) (base_uri d) && is_kept (base_uri d) (base_uri d)) then Some (NotKept (base_uri d))
+    if not (is_kept (base_uri top) (base_uri d) && is_kept (base_uri d) (base_uri d)) then
+    Some (NotKept (base_uri d))
     else (if loses_draft top.draft d then Some (UntoldDraft d.draft)
     else (if is_resolved_again d then Some ResolvedAgain
     else None))

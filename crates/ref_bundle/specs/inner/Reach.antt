@@ -19,7 +19,8 @@ is_marked marks n = unwrap_or (slice_get marks n) false
 
 -- with a number marked and queued, where it has a mark that isn't set
 abbrev pub added_where : Option Bool → State → ℕ → State
-added_where (Some false) s n = record { marks = slice_set s.marks n true; queue = s.queue ++ n ∷ [] }
+added_where (Some false) s n =
+    record { marks = slice_set s.marks n true; queue = s.queue ++ n ∷ [] }
 added_where (Some true) s n = s
 added_where None s n = s
 
@@ -37,7 +38,9 @@ list_at lists n = unwrap_or (slice_get lists n) []
 
 -- a test that holds of all that the lists of numbers have of which it holds
 abbrev pub IsClosed : List (List ℕ) → (ℕ → Bool) → Type 0
-IsClosed lists test = (n m : ℕ) → test n ≡ true → is_among (list_at lists n) m ≡ true → m < length lists → test m ≡ true
+IsClosed lists test =
+    (n m : ℕ) → test n ≡ true → is_among (list_at lists n) m ≡ true → m < length lists
+    → test m ≡ true
 
 -- it holds of the root
 abbrev pub HasRoot : List (List ℕ) → ℕ → (ℕ → Bool) → Type 0
@@ -47,7 +50,8 @@ HasRoot lists root test = root < length lists → test root ≡ true
 pub record IsReach (lists : List (List ℕ)) (root : ℕ) (marks : List Bool) : Type 0 where
   pub start : HasRoot lists root (is_marked marks)
   pub closed : IsClosed lists (is_marked marks)
-  pub least : (test : ℕ → Bool) → HasRoot lists root test → IsClosed lists test → (n : ℕ) → is_marked marks n ≡ true → test n ≡ true
+  pub least : (test : ℕ → Bool) → HasRoot lists root test → IsClosed lists test → (n : ℕ)
+      → is_marked marks n ≡ true → test n ≡ true
 
 -- how many marks are set
 abbrev pub count : List Bool → ℕ
@@ -60,5 +64,7 @@ pub record IsRun (lists : List (List ℕ)) (root head : ℕ) (s : State) : Type 
   pub queued : (n : ℕ) → is_among s.queue n ≡ is_marked s.marks n
   pub counted : count s.marks ≡ length s.queue
   pub start : HasRoot lists root (is_marked s.marks)
-  pub closed : (n m : ℕ) → is_among (take head s.queue) n ≡ true → is_among (list_at lists n) m ≡ true → m < length lists → is_marked s.marks m ≡ true
-  pub least : (test : ℕ → Bool) → HasRoot lists root test → IsClosed lists test → (n : ℕ) → is_marked s.marks n ≡ true → test n ≡ true
+  pub closed : (n m : ℕ) → is_among (take head s.queue) n ≡ true
+      → is_among (list_at lists n) m ≡ true → m < length lists → is_marked s.marks m ≡ true
+  pub least : (test : ℕ → Bool) → HasRoot lists root test → IsClosed lists test → (n : ℕ)
+      → is_marked s.marks n ≡ true → test n ≡ true

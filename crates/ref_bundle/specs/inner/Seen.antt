@@ -29,7 +29,8 @@ pub record Seen : Type 0 where
 
 -- one of the definition's
 abbrev pub see : ℕ → Place → Seen
-see number p = record { document = number; path = p.path; value = p.value; draft = p.draft; base = p.base }
+see number p =
+    record { document = number; path = p.path; value = p.value; draft = p.draft; base = p.base }
 
 -- those of a document
 abbrev pub seen_in : ℕ × Document → List Seen
@@ -37,7 +38,14 @@ seen_in e = map (see e.0) (places e.1)
 
 -- one of the program's
 abbrev pub seen_spot : Spot → Seen
-seen_spot s = record { document = s.document; path = map part_of s.path.items; value = view s.value.now; draft = s.draft; base = Ok s.base.value }
+seen_spot s =
+    record {
+      document = s.document;
+      path = map part_of s.path.items;
+      value = view s.value.now;
+      draft = s.draft;
+      base = Ok s.base.value;
+    }
 
 -- the URI that it has by its own identifier
 abbrev pub own_uri_of : Seen → Option (List ℕ)
@@ -79,7 +87,16 @@ HasBase p = p.base.value ≡ base_uri (part_document p)
 
 -- a place that is listed, where its value is in its document
 abbrev pub see_listed : Layer → Listed → Option Seen
-see_listed layer l = option_map (λ v. record { document = l.document; path = l.path; value = v; draft = l.draft; base = l.base }) (option_and_then (λ d. value_at d.tree l.path) (slice_get layer l.document))
+see_listed layer l =
+    option_map
+    (λ v. record {
+      document = l.document;
+      path = l.path;
+      value = v;
+      draft = l.draft;
+      base = l.base;
+    })
+    (option_and_then (λ d. value_at d.tree l.path) (slice_get layer l.document))
 
 -- those whose values are there
 abbrev pub all_seen : Layer → List Listed → List Seen

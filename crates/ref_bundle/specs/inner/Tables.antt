@@ -15,7 +15,8 @@ abbrev pub site_of : rust_site.Site → Site
 site_of s = (s.document, map part_of s.path.items)
 
 -- entries that are to become a table, and those of a table
-abbrev pub table_entries_of : List (String Global × String Global × rust_site.Site) → List (Entry Site)
+abbrev pub table_entries_of : List (String Global × String Global × rust_site.Site)
+    → List (Entry Site)
 table_entries_of es = map (λ e. (string_bytes e.0, string_bytes e.1, site_of e.2)) es
 
 abbrev pub table_of : List (Entry rust_site.Site) → List (Entry Site)
@@ -31,7 +32,8 @@ borne_at s = option_to_list (option_map (λ uri. (uri, (s.document, s.path))) (o
 
 -- whether another place than this one is last under a URI in a table
 abbrev pub is_other_in : List (Entry Site) → List ℕ → Site → Bool
-is_other_in table uri site = not (option_map_or (λ s. is_site s site) (last_value uri [] table) false)
+is_other_in table uri site =
+    not (option_map_or (λ s. is_site s site) (last_value uri [] table) false)
 
 -- the same where there is a table
 abbrev pub is_other : Option (List (Entry Site)) → List ℕ × Site → Bool
@@ -41,4 +43,6 @@ is_other (Some table) b = is_other_in table b.0 b.1
 -- the tables of a layer: of all that its places have, and of those entries whose place isn't the last under their URI
 pub record AreTables (layer : Layer) (b : rust_bearers.Bearers) : Type 0 where
   pub last : table_of b.last ≡ map entry_under (sites_of_uris layer)
-  pub others : table_of b.others ≡ map entry_under (filter (is_other (Some (map entry_under (sites_of_uris layer)))) (sites_of_uris layer))
+  pub others : table_of b.others
+      ≡ map entry_under
+      (filter (is_other (Some (map entry_under (sites_of_uris layer)))) (sites_of_uris layer))

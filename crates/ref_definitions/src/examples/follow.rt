@@ -8,27 +8,74 @@ ghost use Rattle.ref_definitions.specs.Rows.{at, world, yes, empty, text, one, t
 
 /// One step.
 pub fn single_steps()
-    ensures lookup { after_step (world (at Draft7 "http://a/r" yes ∷ [])) (followed_to None (resolver "http://a/r" [])) (look "") ≡ Ok (followed_to (Some (yes, Draft7)) (resolver "http://a/r" (codes "http://a/r" ∷ []))) }
-    ensures faulty_lookup { after_step [] (followed_to None (resolver "http://a/r" [])) (look "") ≡ Err (not_retrieved (codes "http://a/r")) }
-    ensures recursive { after_step (world (at Draft201909 "http://a/r" yes ∷ [])) (followed_to None (resolver "http://a/r" [])) Recursive ≡ Ok (followed_to (Some (yes, Draft201909)) (resolver "http://a/r" (codes "http://a/r" ∷ []))) }
-    ensures entered { after_step [] (followed_to (Some (yes, Draft7)) (resolver "http://a/r" (codes "http://a/q" ∷ []))) (Enter Draft202012 (one "$id" (text "k/"))) ≡ Ok (followed_to (Some (yes, Draft7)) (resolver "http://a/k/" (codes "http://a/q" ∷ []))) }
-    ensures entered_without_identifier { after_step [] (followed_to None (resolver "http://a/r" [])) (Enter Draft202012 empty) ≡ Ok (followed_to None (resolver "http://a/r" [])) }
-    ensures refused_identifier { after_step [] (followed_to None (resolver "http://a/r" [])) (Enter Draft202012 (one "$id" (text "a b"))) ≡ Err (InvalidUri (parse_refusal (codes "a b"))) }
-    ensures after_a_lookup { after_lookup (found_value yes Draft7 (resolver "a:b" [])) ≡ followed_to (Some (yes, Draft7)) (resolver "a:b" []) }
-    ensures after_another_lookup { after_lookup (found_value empty Draft202012 (resolver "a:b" (codes "a:c" ∷ []))) ≡ followed_to (Some (empty, Draft202012)) (resolver "a:b" (codes "a:c" ∷ [])) }
+    ensures lookup { after_step (world (at Draft7 "http://a/r" yes ∷ []))
+        (followed_to None (resolver "http://a/r" [])) (look "")
+        ≡ Ok (followed_to (Some (yes, Draft7)) (resolver "http://a/r" (codes "http://a/r" ∷ []))) }
+    ensures faulty_lookup { after_step [] (followed_to None (resolver "http://a/r" [])) (look "")
+        ≡ Err (not_retrieved (codes "http://a/r")) }
+    ensures recursive { after_step (world (at Draft201909 "http://a/r" yes ∷ []))
+        (followed_to None (resolver "http://a/r" [])) Recursive
+        ≡ Ok (followed_to (Some (yes, Draft201909))
+        (resolver "http://a/r" (codes "http://a/r" ∷ []))) }
+    ensures entered { after_step []
+        (followed_to (Some (yes, Draft7)) (resolver "http://a/r" (codes "http://a/q" ∷ [])))
+        (Enter Draft202012 (one "$id" (text "k/")))
+        ≡ Ok (followed_to (Some (yes, Draft7)) (resolver "http://a/k/" (codes "http://a/q" ∷ []))) }
+    ensures entered_without_identifier { after_step [] (followed_to None (resolver "http://a/r" []))
+        (Enter Draft202012 empty)
+        ≡ Ok (followed_to None (resolver "http://a/r" [])) }
+    ensures refused_identifier { after_step [] (followed_to None (resolver "http://a/r" []))
+        (Enter Draft202012 (one "$id" (text "a b")))
+        ≡ Err (InvalidUri (parse_refusal (codes "a b"))) }
+    ensures after_a_lookup { after_lookup (found_value yes Draft7 (resolver "a:b" []))
+        ≡ followed_to (Some (yes, Draft7)) (resolver "a:b" []) }
+    ensures after_another_lookup { after_lookup
+        (found_value empty Draft202012 (resolver "a:b" (codes "a:c" ∷ [])))
+        ≡ followed_to (Some (empty, Draft202012)) (resolver "a:b" (codes "a:c" ∷ [])) }
 {}
 
 /// One step after another.
 pub fn steps_in_turn()
-    ensures no_steps { followed_steps [] (codes "http://a/r") [] ≡ Ok (followed_to None (resolver "http://a/r" [])) }
-    ensures member { steps (world (at Draft202012 "http://a/r" (one "properties" (one "n" (one "type" (text "string")))) ∷ [])) "http://a/r" (look "#/properties/n" ∷ []) ≡ answer (Some (one "type" (text "string"))) (codes "http://a/r") (codes "http://a/r" ∷ []) }
-    ensures another_document { steps (world (at Draft202012 "http://a/p/r" empty ∷ at Draft202012 "http://a/s" (one "k" (one "l" yes)) ∷ [])) "http://a/p/r" (look "../s#/k" ∷ look "#/k/l" ∷ []) ≡ answer (Some yes) (codes "http://a/s") (codes "http://a/p/r" ∷ []) }
-    ensures first_fault { steps (world (at Draft202012 "http://a/r" empty ∷ [])) "http://a/r" (look "" ∷ look "#/q" ∷ look "#/p" ∷ []) ≡ refusal 1 (PointerToNowhere (codes "/q")) }
-    ensures entered_last { steps (world (at Draft202012 "http://a/r" yes ∷ [])) "http://a/r" (look "" ∷ Enter Draft202012 (one "$id" (text "k/")) ∷ []) ≡ answer (Some yes) (codes "http://a/k/") (codes "http://a/r" ∷ []) }
-    ensures counted_on { followed_from [] 7 (followed_to None (resolver "http://a/r" [])) (look "" ∷ []) ≡ Err (7, not_retrieved (codes "http://a/r")) }
-    ensures after_no_more_steps { followed_from [] 7 (followed_to (Some (yes, Draft7)) (resolver "a:b" [])) [] ≡ Ok (followed_to (Some (yes, Draft7)) (resolver "a:b" [])) }
-    ensures from_a_base { followed_steps (world (at Draft7 "http://a/r" yes ∷ [])) (codes "http://a/r") (look "" ∷ []) ≡ Ok (followed_to (Some (yes, Draft7)) (resolver "http://a/r" (codes "http://a/r" ∷ []))) }
-    ensures with_its_draft { followed_steps (world (at Draft202012 "http://a/r" (one "$schema" (text "http://a/meta#")) ∷ at Draft202012 "http://a/meta" (one "title" (text "m")) ∷ [])) (codes "http://a/r") (look "" ∷ []) ≡ Ok (followed_to (Some (one "$schema" (text "http://a/meta#"), Unknown)) (resolver "http://a/r" (codes "http://a/r" ∷ []))) }
-    ensures numbered_fault { numbered_fault 3 (Err (PointerToNowhere (codes "/q"))) ≡ Err (3, PointerToNowhere (codes "/q")) }
-    ensures numbered_answer { numbered_fault 3 (Ok (followed_to None (resolver "a:b" []))) ≡ Ok (followed_to None (resolver "a:b" [])) }
+    ensures no_steps { followed_steps [] (codes "http://a/r") []
+        ≡ Ok (followed_to None (resolver "http://a/r" [])) }
+    ensures member { steps
+        (world
+        (at Draft202012 "http://a/r"
+        (one "properties" (one "n" (one "type" (text "string"))))
+        ∷ [])) "http://a/r"
+        (look "#/properties/n" ∷ [])
+        ≡ answer (Some (one "type" (text "string"))) (codes "http://a/r")
+        (codes "http://a/r" ∷ []) }
+    ensures another_document { steps
+        (world
+        (at Draft202012 "http://a/p/r" empty
+        ∷ at Draft202012 "http://a/s" (one "k" (one "l" yes)) ∷ [])) "http://a/p/r"
+        (look "../s#/k" ∷ look "#/k/l" ∷ [])
+        ≡ answer (Some yes) (codes "http://a/s") (codes "http://a/p/r" ∷ []) }
+    ensures first_fault { steps (world (at Draft202012 "http://a/r" empty ∷ [])) "http://a/r"
+        (look "" ∷ look "#/q" ∷ look "#/p" ∷ [])
+        ≡ refusal 1 (PointerToNowhere (codes "/q")) }
+    ensures entered_last { steps (world (at Draft202012 "http://a/r" yes ∷ [])) "http://a/r"
+        (look "" ∷ Enter Draft202012 (one "$id" (text "k/")) ∷ [])
+        ≡ answer (Some yes) (codes "http://a/k/") (codes "http://a/r" ∷ []) }
+    ensures counted_on { followed_from [] 7 (followed_to None (resolver "http://a/r" []))
+        (look "" ∷ [])
+        ≡ Err (7, not_retrieved (codes "http://a/r")) }
+    ensures after_no_more_steps { followed_from [] 7
+        (followed_to (Some (yes, Draft7)) (resolver "a:b" [])) []
+        ≡ Ok (followed_to (Some (yes, Draft7)) (resolver "a:b" [])) }
+    ensures from_a_base { followed_steps (world (at Draft7 "http://a/r" yes ∷ []))
+        (codes "http://a/r") (look "" ∷ [])
+        ≡ Ok (followed_to (Some (yes, Draft7)) (resolver "http://a/r" (codes "http://a/r" ∷ []))) }
+    ensures with_its_draft { followed_steps
+        (world
+        (at Draft202012 "http://a/r" (one "$schema" (text "http://a/meta#"))
+        ∷ at Draft202012 "http://a/meta" (one "title" (text "m")) ∷ []))
+        (codes "http://a/r") (look "" ∷ [])
+        ≡ Ok (followed_to (Some (one "$schema" (text "http://a/meta#"), Unknown))
+        (resolver "http://a/r" (codes "http://a/r" ∷ []))) }
+    ensures numbered_fault { numbered_fault 3 (Err (PointerToNowhere (codes "/q")))
+        ≡ Err (3, PointerToNowhere (codes "/q")) }
+    ensures numbered_answer { numbered_fault 3 (Ok (followed_to None (resolver "a:b" [])))
+        ≡ Ok (followed_to None (resolver "a:b" [])) }
 {}

@@ -13,36 +13,155 @@ pub fn marks()
     ensures marked_false { is_marked (one "$recursiveAnchor" (boolean false)) ≡ false }
     ensures no_boolean { is_marked (one "$recursiveAnchor" (text "true")) ≡ false }
     ensures no_object { is_marked yes ≡ false }
-    ensures marked_answer { answers_marked (Ok (found_value (one "$recursiveAnchor" yes) Draft201909 (resolver "a:1" []))) ≡ true }
-    ensures unmarked_answer { answers_marked (Ok (found_value yes Draft201909 (resolver "a:1" []))) ≡ false }
+    ensures marked_answer { answers_marked
+        (Ok (found_value (one "$recursiveAnchor" yes) Draft201909 (resolver "a:1" [])))
+        ≡ true }
+    ensures unmarked_answer { answers_marked (Ok (found_value yes Draft201909 (resolver "a:1" [])))
+        ≡ false }
     ensures faulty_answer { answers_marked (Err (NoSuchAnchor (codes "n"))) ≡ false }
 {}
 
 /// The last of the longest beginning of marked values.
 pub fn beginnings_of_marked_values()
-    ensures none { outermost_marked (Ok (found_value yes Draft201909 (resolver "a:0" []))) [] ≡ Ok (found_value yes Draft201909 (resolver "a:0" [])) }
-    ensures last_marked { outermost_marked (Ok (found_value yes Draft201909 (resolver "a:0" []))) (Ok (found_value (one "$recursiveAnchor" yes) Draft201909 (resolver "a:1" [])) ∷ Ok (found_value yes Draft201909 (resolver "a:2" [])) ∷ Ok (found_value (one "$recursiveAnchor" yes) Draft201909 (resolver "a:3" [])) ∷ []) ≡ Ok (found_value (one "$recursiveAnchor" yes) Draft201909 (resolver "a:1" [])) }
-    ensures fault_behind { outermost_marked (Ok (found_value yes Draft201909 (resolver "a:0" []))) (Ok (found_value (one "$recursiveAnchor" yes) Draft201909 (resolver "a:1" [])) ∷ Err (NoSuchAnchor (codes "n")) ∷ []) ≡ Err (NoSuchAnchor (codes "n")) }
-    ensures fault_past_the_end { outermost_marked (Ok (found_value yes Draft201909 (resolver "a:0" []))) (Ok (found_value yes Draft201909 (resolver "a:1" [])) ∷ Err (NoSuchAnchor (codes "n")) ∷ []) ≡ Ok (found_value yes Draft201909 (resolver "a:0" [])) }
-    ensures beginning { marked_beginning (Ok (found_value (one "$recursiveAnchor" yes) Draft201909 (resolver "a:1" [])) ∷ Err (NoSuchAnchor (codes "n")) ∷ Ok (found_value (one "$recursiveAnchor" yes) Draft201909 (resolver "a:3" [])) ∷ []) ≡ Ok (found_value (one "$recursiveAnchor" yes) Draft201909 (resolver "a:1" [])) ∷ [] }
-    ensures no_beginning { marked_beginning (Ok (found_value yes Draft201909 (resolver "a:1" [])) ∷ []) ≡ [] }
-    ensures behind { behind_beginning (Ok (found_value (one "$recursiveAnchor" yes) Draft201909 (resolver "a:1" [])) ∷ Err (NoSuchAnchor (codes "n")) ∷ []) ≡ Err (NoSuchAnchor (codes "n")) ∷ [] }
-    ensures nothing_behind { behind_beginning (Ok (found_value (one "$recursiveAnchor" yes) Draft201909 (resolver "a:1" [])) ∷ []) ≡ [] }
-    ensures unless_a_fault { unless_fault_behind (Err (NoSuchAnchor (codes "n")) ∷ []) (Ok (found_value yes Draft201909 (resolver "a:0" []))) ≡ Err (NoSuchAnchor (codes "n")) }
-    ensures unless_no_fault { unless_fault_behind (Ok (found_value yes Draft201909 (resolver "a:1" [])) ∷ Err (NoSuchAnchor (codes "n")) ∷ []) (Ok (found_value empty Draft201909 (resolver "a:0" []))) ≡ Ok (found_value empty Draft201909 (resolver "a:0" [])) }
-    ensures inner_to_outer { looked_up (world (at Draft201909 "http://a/x" yes ∷ at Draft201909 "http://a/y" empty ∷ [])) (resolver "http://a/y" (codes "http://a/x" ∷ codes "http://a/z" ∷ [])) ≡ Ok (found_value yes Draft201909 (resolver "http://a/x" (codes "http://a/y" ∷ codes "http://a/x" ∷ codes "http://a/z" ∷ []))) ∷ Err (not_retrieved (codes "http://a/z")) ∷ [] }
+    ensures none { outermost_marked (Ok (found_value yes Draft201909 (resolver "a:0" []))) []
+        ≡ Ok (found_value yes Draft201909 (resolver "a:0" [])) }
+    ensures last_marked { outermost_marked (Ok (found_value yes Draft201909 (resolver "a:0" [])))
+        (Ok (found_value (one "$recursiveAnchor" yes) Draft201909 (resolver "a:1" []))
+        ∷ Ok (found_value yes Draft201909 (resolver "a:2" []))
+        ∷ Ok (found_value (one "$recursiveAnchor" yes) Draft201909 (resolver "a:3" []))
+        ∷ [])
+        ≡ Ok (found_value (one "$recursiveAnchor" yes) Draft201909 (resolver "a:1" [])) }
+    ensures fault_behind { outermost_marked (Ok (found_value yes Draft201909 (resolver "a:0" [])))
+        (Ok (found_value (one "$recursiveAnchor" yes) Draft201909 (resolver "a:1" []))
+        ∷ Err (NoSuchAnchor (codes "n")) ∷ [])
+        ≡ Err (NoSuchAnchor (codes "n")) }
+    ensures fault_past_the_end { outermost_marked
+        (Ok (found_value yes Draft201909 (resolver "a:0" [])))
+        (Ok (found_value yes Draft201909 (resolver "a:1" [])) ∷ Err (NoSuchAnchor (codes "n"))
+        ∷ [])
+        ≡ Ok (found_value yes Draft201909 (resolver "a:0" [])) }
+    ensures beginning { marked_beginning
+        (Ok (found_value (one "$recursiveAnchor" yes) Draft201909 (resolver "a:1" []))
+        ∷ Err (NoSuchAnchor (codes "n"))
+        ∷ Ok (found_value (one "$recursiveAnchor" yes) Draft201909 (resolver "a:3" []))
+        ∷ [])
+        ≡ Ok (found_value (one "$recursiveAnchor" yes) Draft201909 (resolver "a:1" [])) ∷ [] }
+    ensures no_beginning { marked_beginning
+        (Ok (found_value yes Draft201909 (resolver "a:1" [])) ∷ [])
+        ≡ [] }
+    ensures behind { behind_beginning
+        (Ok (found_value (one "$recursiveAnchor" yes) Draft201909 (resolver "a:1" []))
+        ∷ Err (NoSuchAnchor (codes "n")) ∷ [])
+        ≡ Err (NoSuchAnchor (codes "n")) ∷ [] }
+    ensures nothing_behind { behind_beginning
+        (Ok (found_value (one "$recursiveAnchor" yes) Draft201909 (resolver "a:1" [])) ∷ [])
+        ≡ [] }
+    ensures unless_a_fault { unless_fault_behind (Err (NoSuchAnchor (codes "n")) ∷ [])
+        (Ok (found_value yes Draft201909 (resolver "a:0" [])))
+        ≡ Err (NoSuchAnchor (codes "n")) }
+    ensures unless_no_fault { unless_fault_behind
+        (Ok (found_value yes Draft201909 (resolver "a:1" [])) ∷ Err (NoSuchAnchor (codes "n"))
+        ∷ [])
+        (Ok (found_value empty Draft201909 (resolver "a:0" [])))
+        ≡ Ok (found_value empty Draft201909 (resolver "a:0" [])) }
+    ensures inner_to_outer { looked_up
+        (world (at Draft201909 "http://a/x" yes ∷ at Draft201909 "http://a/y" empty ∷ []))
+        (resolver "http://a/y" (codes "http://a/x" ∷ codes "http://a/z" ∷ []))
+        ≡ Ok (found_value yes Draft201909
+        (resolver "http://a/x"
+        (codes "http://a/y" ∷ codes "http://a/x" ∷ codes "http://a/z" ∷ [])))
+        ∷ Err (not_retrieved (codes "http://a/z")) ∷ [] }
     ensures no_scope { looked_up [] (resolver "http://a/y" []) ≡ [] }
 {}
 
 /// Where a recursive reference leads.
 pub fn recursive_lookups()
-    ensures unmarked { lookup_recursive (world (at Draft201909 "http://a/r" yes ∷ [])) (resolver "http://a/r" []) ≡ Ok (found_value yes Draft201909 (resolver "http://a/r" (codes "http://a/r" ∷ []))) }
-    ensures marked_alone { lookup_recursive (world (at Draft201909 "http://a/r" (one "$recursiveAnchor" yes) ∷ [])) (resolver "http://a/r" []) ≡ Ok (found_value (one "$recursiveAnchor" yes) Draft201909 (resolver "http://a/r" (codes "http://a/r" ∷ []))) }
-    ensures no_place { lookup_recursive [] (resolver "http://a/r" []) ≡ Err (not_retrieved (codes "http://a/r")) }
-    ensures recursive { steps (world (at Draft201909 "http://a/x" (two "$recursiveAnchor" yes "title" (text "x")) ∷ at Draft201909 "http://a/y" (one "title" (text "y")) ∷ at Draft201909 "http://a/z" (two "$recursiveAnchor" yes "title" (text "z")) ∷ [])) "http://a/x" (look "" ∷ look "y" ∷ look "z" ∷ Recursive ∷ []) ≡ answer (Some (two "$recursiveAnchor" yes "title" (text "z"))) (codes "http://a/z") (codes "http://a/y" ∷ codes "http://a/x" ∷ codes "http://a/x" ∷ []) }
-    ensures recursive_nested { value_of_answer (steps (world (at Draft201909 "http://example.com" (one "$recursiveAnchor" (boolean false)) ∷ at Draft201909 "http://example.com/foo/" (three "$defs" (one "foo" (three "$defs" (two "bar" yes "baz" (two "$anchor" (text "fooAnchor") "$recursiveAnchor" yes)) "$id" (text "foo") "$recursiveAnchor" yes)) "$id" (text "http://example.com") "$recursiveAnchor" yes) ∷ at Draft201909 "http://example.com/foo/bar" (one "$recursiveAnchor" yes) ∷ [])) "http://example.com" (look "" ∷ look "foo/" ∷ look "bar" ∷ Recursive ∷ [])) ≡ Some (three "$defs" (one "foo" (three "$defs" (two "bar" yes "baz" (two "$anchor" (text "fooAnchor") "$recursiveAnchor" yes)) "$id" (text "foo") "$recursiveAnchor" yes)) "$id" (text "http://example.com") "$recursiveAnchor" yes) }
-    ensures recursive_past_no_object { value_of_answer (steps (world (at Draft201909 "http://example.com" (three "$defs" (one "foo" (three "$defs" (two "bar" yes "baz" (two "$anchor" (text "fooAnchor") "$recursiveAnchor" yes)) "$id" (text "foo") "$recursiveAnchor" yes)) "$id" (text "http://example.com") "$recursiveAnchor" yes) ∷ at Draft201909 "http://example.com/foo/" yes ∷ at Draft201909 "http://example.com/foo/bar" (three "$defs" (one "foo" (three "$defs" (two "bar" yes "baz" (two "$anchor" (text "fooAnchor") "$recursiveAnchor" yes)) "$id" (text "foo") "$recursiveAnchor" yes)) "$id" (text "http://example.com") "$recursiveAnchor" yes) ∷ [])) "http://example.com" (look "" ∷ look "foo/" ∷ look "bar" ∷ Recursive ∷ [])) ≡ Some (three "$defs" (one "foo" (three "$defs" (two "bar" yes "baz" (two "$anchor" (text "fooAnchor") "$recursiveAnchor" yes)) "$id" (text "foo") "$recursiveAnchor" yes)) "$id" (text "http://example.com") "$recursiveAnchor" yes) }
-    ensures recursive_alone { steps (world (at Draft201909 "http://example.com" yes ∷ [])) "http://example.com" (Recursive ∷ []) ≡ answer (Some yes) (codes "http://example.com") (codes "http://example.com" ∷ []) }
-    ensures marked_document { steps (world (at Draft201909 "http://example.com" (one "$recursiveAnchor" yes) ∷ [])) "http://example.com" (look "" ∷ Recursive ∷ []) ≡ answer (Some (one "$recursiveAnchor" yes)) (codes "http://example.com") (codes "http://example.com" ∷ []) }
-    ensures fault { steps [] "http://a/r" (Recursive ∷ []) ≡ refusal 0 (not_retrieved (codes "http://a/r")) }
+    ensures unmarked { lookup_recursive (world (at Draft201909 "http://a/r" yes ∷ []))
+        (resolver "http://a/r" [])
+        ≡ Ok (found_value yes Draft201909 (resolver "http://a/r" (codes "http://a/r" ∷ []))) }
+    ensures marked_alone { lookup_recursive
+        (world (at Draft201909 "http://a/r" (one "$recursiveAnchor" yes) ∷ []))
+        (resolver "http://a/r" [])
+        ≡ Ok (found_value (one "$recursiveAnchor" yes) Draft201909
+        (resolver "http://a/r" (codes "http://a/r" ∷ []))) }
+    ensures no_place { lookup_recursive [] (resolver "http://a/r" [])
+        ≡ Err (not_retrieved (codes "http://a/r")) }
+    ensures recursive { steps
+        (world
+        (at Draft201909 "http://a/x" (two "$recursiveAnchor" yes "title" (text "x"))
+        ∷ at Draft201909 "http://a/y" (one "title" (text "y"))
+        ∷ at Draft201909 "http://a/z" (two "$recursiveAnchor" yes "title" (text "z"))
+        ∷ [])) "http://a/x"
+        (look "" ∷ look "y" ∷ look "z" ∷ Recursive ∷ [])
+        ≡ answer (Some (two "$recursiveAnchor" yes "title" (text "z"))) (codes "http://a/z")
+        (codes "http://a/y" ∷ codes "http://a/x" ∷ codes "http://a/x" ∷ []) }
+    ensures recursive_nested { value_of_answer
+        (steps
+        (world
+        (at Draft201909 "http://example.com" (one "$recursiveAnchor" (boolean false))
+        ∷ at Draft201909 "http://example.com/foo/"
+        (three "$defs"
+        (one "foo"
+        (three "$defs"
+        (two "bar" yes "baz"
+        (two "$anchor"
+        (text "fooAnchor") "$recursiveAnchor" yes)) "$id"
+        (text "foo") "$recursiveAnchor" yes)) "$id"
+        (text "http://example.com") "$recursiveAnchor" yes)
+        ∷ at Draft201909 "http://example.com/foo/bar" (one "$recursiveAnchor" yes)
+        ∷ [])) "http://example.com"
+        (look "" ∷ look "foo/" ∷ look "bar" ∷ Recursive ∷ []))
+        ≡ Some
+        (three "$defs"
+        (one "foo"
+        (three "$defs"
+        (two "bar" yes "baz"
+        (two "$anchor" (text "fooAnchor") "$recursiveAnchor" yes)) "$id"
+        (text "foo") "$recursiveAnchor" yes)) "$id"
+        (text "http://example.com") "$recursiveAnchor" yes) }
+    ensures recursive_past_no_object { value_of_answer
+        (steps
+        (world
+        (at Draft201909 "http://example.com"
+        (three "$defs"
+        (one "foo"
+        (three "$defs"
+        (two "bar" yes "baz"
+        (two "$anchor"
+        (text "fooAnchor") "$recursiveAnchor" yes)) "$id"
+        (text "foo") "$recursiveAnchor" yes)) "$id"
+        (text "http://example.com") "$recursiveAnchor" yes)
+        ∷ at Draft201909 "http://example.com/foo/" yes
+        ∷ at Draft201909 "http://example.com/foo/bar"
+        (three "$defs"
+        (one "foo"
+        (three "$defs"
+        (two "bar" yes "baz"
+        (two "$anchor"
+        (text "fooAnchor") "$recursiveAnchor" yes)) "$id"
+        (text "foo") "$recursiveAnchor" yes)) "$id"
+        (text "http://example.com") "$recursiveAnchor" yes)
+        ∷ [])) "http://example.com"
+        (look "" ∷ look "foo/" ∷ look "bar" ∷ Recursive ∷ []))
+        ≡ Some
+        (three "$defs"
+        (one "foo"
+        (three "$defs"
+        (two "bar" yes "baz"
+        (two "$anchor" (text "fooAnchor") "$recursiveAnchor" yes)) "$id"
+        (text "foo") "$recursiveAnchor" yes)) "$id"
+        (text "http://example.com") "$recursiveAnchor" yes) }
+    ensures recursive_alone { steps
+        (world (at Draft201909 "http://example.com" yes ∷ [])) "http://example.com"
+        (Recursive ∷ [])
+        ≡ answer (Some yes) (codes "http://example.com") (codes "http://example.com" ∷ []) }
+    ensures marked_document { steps
+        (world
+        (at Draft201909 "http://example.com" (one "$recursiveAnchor" yes)
+        ∷ [])) "http://example.com"
+        (look "" ∷ Recursive ∷ [])
+        ≡ answer (Some (one "$recursiveAnchor" yes)) (codes "http://example.com")
+        (codes "http://example.com" ∷ []) }
+    ensures fault { steps [] "http://a/r" (Recursive ∷ [])
+        ≡ refusal 0 (not_retrieved (codes "http://a/r")) }
 {}

@@ -8,32 +8,88 @@ ghost use Rattle.ref_definitions.specs.Rows.{world, at, yes, empty, text, one, t
 
 /// The places under URIs.
 pub fn uris_of_resources()
-    ensures root_twice { uris_and_paths (resources_in (at Draft202012 "http://a/r" (one "$id" (text "#x")))) ≡ (codes "http://a/r", []) ∷ (codes "http://a/r#x", []) ∷ [] }
-    ensures root_once { uris_and_paths (resources_in (at Draft7 "http://a/r" (one "$id" (text "#x")))) ≡ (codes "http://a/r", []) ∷ [] }
-    ensures by_documents_and_places { uris_and_paths (resources (at Draft202012 "http://a/r" (two "if" (one "$id" (text "x")) "then" yes) ∷ at Draft202012 "http://a/s" yes ∷ [])) ≡ (codes "http://a/r", []) ∷ (codes "http://a/x", Key (codes "if") ∷ []) ∷ (codes "http://a/s", []) ∷ [] }
+    ensures root_twice { uris_and_paths
+        (resources_in (at Draft202012 "http://a/r" (one "$id" (text "#x"))))
+        ≡ (codes "http://a/r", []) ∷ (codes "http://a/r#x", []) ∷ [] }
+    ensures root_once { uris_and_paths
+        (resources_in (at Draft7 "http://a/r" (one "$id" (text "#x"))))
+        ≡ (codes "http://a/r", []) ∷ [] }
+    ensures by_documents_and_places { uris_and_paths
+        (resources
+        (at Draft202012 "http://a/r" (two "if" (one "$id" (text "x")) "then" yes)
+        ∷ at Draft202012 "http://a/s" yes ∷ []))
+        ≡ (codes "http://a/r", []) ∷ (codes "http://a/x", Key (codes "if") ∷ [])
+        ∷ (codes "http://a/s", []) ∷ [] }
     ensures nothing { resources [] ≡ [] }
-    ensures by_a_place { uris_and_paths (resource_of (root (at Draft202012 "http://a/r" (one "$id" (text "y"))))) ≡ (codes "http://a/y", []) ∷ [] }
+    ensures by_a_place { uris_and_paths
+        (resource_of (root (at Draft202012 "http://a/r" (one "$id" (text "y")))))
+        ≡ (codes "http://a/y", []) ∷ [] }
     ensures by_a_place_without { resource_of (root (at Draft202012 "http://a/r" empty)) ≡ [] }
-    ensures by_a_refused_identifier { resource_of (root (at Draft202012 "http://a/r" (one "$id" (text "a b")))) ≡ [] }
-    ensures own { own_uri (root (at Draft202012 "http://a/r" (one "$id" (text "y")))) ≡ Some (codes "http://a/y") }
-    ensures none_of_a_refusal { own_uri (root (at Draft202012 "http://a/r" (one "$id" (text "a b")))) ≡ None }
+    ensures by_a_refused_identifier { resource_of
+        (root (at Draft202012 "http://a/r" (one "$id" (text "a b"))))
+        ≡ [] }
+    ensures own { own_uri (root (at Draft202012 "http://a/r" (one "$id" (text "y"))))
+        ≡ Some (codes "http://a/y") }
+    ensures none_of_a_refusal { own_uri
+        (root (at Draft202012 "http://a/r" (one "$id" (text "a b"))))
+        ≡ None }
     ensures none_without_identifier { own_uri (root (at Draft202012 "http://a/r" yes)) ≡ None }
-    ensures none_of_a_hidden_identifier { own_uri (root (at Draft7 "http://a/r" (two "$id" (text "y") "$ref" (text "b")))) ≡ None }
+    ensures none_of_a_hidden_identifier { own_uri
+        (root (at Draft7 "http://a/r" (two "$id" (text "y") "$ref" (text "b"))))
+        ≡ None }
 {}
 
 /// The last entry counts.
 pub fn last_entries()
-    ensures under_a_uri { last_under (codes "a:b") ((codes "a:b", yes) ∷ (codes "a:c", yes) ∷ (codes "a:b", empty) ∷ (codes "a:c", yes) ∷ []) ≡ Some (codes "a:b", empty) }
+    ensures under_a_uri { last_under (codes "a:b")
+        ((codes "a:b", yes) ∷ (codes "a:c", yes) ∷ (codes "a:b", empty) ∷ (codes "a:c", yes)
+        ∷ [])
+        ≡ Some (codes "a:b", empty) }
     ensures under_no_uri { last_under (codes "a:B") ((codes "a:b", yes) ∷ []) ≡ None }
 {}
 
 /// What a URI means.
 pub fn meanings_of_uris()
-    ensures last_place { path_of (meant_place (world (at Draft202012 "http://a/r" (one "$defs" (two "a" (two "$id" (text "http://a/k") "title" (text "1")) "b" (two "$id" (text "http://a/k") "title" (text "2")))) ∷ [])) (codes "http://a/k")) ≡ Some (Key (codes "$defs") ∷ Key (codes "b") ∷ []) }
-    ensures own_uri { path_of (meant_place (world (at Draft202012 "http://a/r" (one "$id" (text "#x")) ∷ [])) (codes "http://a/r")) ≡ Some [] }
-    ensures own_identifier { path_of (meant_place (world (at Draft202012 "http://a/r" (one "$id" (text "#x")) ∷ [])) (codes "http://a/r#x")) ≡ Some [] }
-    ensures exactly { path_of (meant_place (world (at Draft202012 "http://a/d" yes ∷ [])) (codes "http://a/d#")) ≡ None }
-    ensures later_document { option_map (λ p. p.value) (meant_place (world (at Draft202012 "http://a/k" (one "$id" (text "http://a/k")) ∷ at Draft202012 "http://a/b" (one "not" (two "$id" (text "http://a/k") "title" (text "late"))) ∷ [])) (codes "http://a/k")) ≡ Some (two "$id" (text "http://a/k") "title" (text "late")) }
-    ensures nearest_layer { option_map (λ p. p.value) (meant_place ((at Draft202012 "http://a/m" empty ∷ []) ∷ world (at Draft202012 "http://a/m" yes ∷ [])) (codes "http://a/m")) ≡ Some empty }
-    ensures parent { option_map (λ p. p.value) (meant_place ((at Draft202012 "http://a/n" empty ∷ []) ∷ world (at Draft202012 "http://a/m" yes ∷ [])) (codes "http://a/m")) ≡ Some yes }
+    ensures last_place { path_of
+        (meant_place
+        (world
+        (at Draft202012 "http://a/r"
+        (one "$defs"
+        (two "a" (two "$id" (text "http://a/k") "title" (text "1")) "b"
+        (two "$id" (text "http://a/k") "title" (text "2"))))
+        ∷ []))
+        (codes "http://a/k"))
+        ≡ Some (Key (codes "$defs") ∷ Key (codes "b") ∷ []) }
+    ensures own_uri { path_of
+        (meant_place (world (at Draft202012 "http://a/r" (one "$id" (text "#x")) ∷ []))
+        (codes "http://a/r"))
+        ≡ Some [] }
+    ensures own_identifier { path_of
+        (meant_place (world (at Draft202012 "http://a/r" (one "$id" (text "#x")) ∷ []))
+        (codes "http://a/r#x"))
+        ≡ Some [] }
+    ensures exactly { path_of
+        (meant_place (world (at Draft202012 "http://a/d" yes ∷ [])) (codes "http://a/d#"))
+        ≡ None }
+    ensures later_document { option_map (λ p. p.value)
+        (meant_place
+        (world
+        (at Draft202012 "http://a/k" (one "$id" (text "http://a/k"))
+        ∷ at Draft202012 "http://a/b"
+        (one "not" (two "$id" (text "http://a/k") "title" (text "late")))
+        ∷ []))
+        (codes "http://a/k"))
+        ≡ Some (two "$id" (text "http://a/k") "title" (text "late")) }
+    ensures nearest_layer { option_map (λ p. p.value)
+        (meant_place
+        ((at Draft202012 "http://a/m" empty ∷ [])
+        ∷ world (at Draft202012 "http://a/m" yes ∷ []))
+        (codes "http://a/m"))
+        ≡ Some empty }
+    ensures parent { option_map (λ p. p.value)
+        (meant_place
+        ((at Draft202012 "http://a/n" empty ∷ [])
+        ∷ world (at Draft202012 "http://a/m" yes ∷ []))
+        (codes "http://a/m"))
+        ≡ Some yes }
 {}

@@ -6,12 +6,16 @@ ghost use Rattle.ref_draft.specs.Rows.{empty, yes, text, one, two};
 
 /// The anchors in each draft.
 pub fn anchors_of_drafts()
-    ensures in_7_beside_a_reference { anchors Draft7 (two "$id" (text "#f") "$ref" (text "x")) ≡ (codes "f", Plain) ∷ [] }
+    ensures in_7_beside_a_reference { anchors Draft7 (two "$id" (text "#f") "$ref" (text "x"))
+        ≡ (codes "f", Plain) ∷ [] }
     ensures in_4 { anchors Draft4 (one "id" (text "#f")) ≡ (codes "f", Plain) ∷ [] }
     ensures not_in_6 { anchors Draft6 (two "$anchor" (text "a") "id" (text "#f")) ≡ [] }
-    ensures in_2019 { anchors Draft201909 (two "$anchor" (text "a") "$dynamicAnchor" (text "b")) ≡ (codes "a", Plain) ∷ [] }
-    ensures in_2020 { anchors Draft202012 (two "$anchor" (text "a") "$dynamicAnchor" (text "b")) ≡ (codes "a", Plain) ∷ (codes "b", Dynamic) ∷ [] }
-    ensures in_unknown { anchors Unknown (one "$dynamicAnchor" (text "b")) ≡ (codes "b", Dynamic) ∷ [] }
+    ensures in_2019 { anchors Draft201909 (two "$anchor" (text "a") "$dynamicAnchor" (text "b"))
+        ≡ (codes "a", Plain) ∷ [] }
+    ensures in_2020 { anchors Draft202012 (two "$anchor" (text "a") "$dynamicAnchor" (text "b"))
+        ≡ (codes "a", Plain) ∷ (codes "b", Dynamic) ∷ [] }
+    ensures in_unknown { anchors Unknown (one "$dynamicAnchor" (text "b"))
+        ≡ (codes "b", Dynamic) ∷ [] }
     ensures no_text { anchors Draft202012 (two "$anchor" yes "$id" (text "#f")) ≡ [] }
 {}
 
@@ -20,11 +24,16 @@ pub fn anchors_of_keywords()
     ensures behind_a_hash { after_hash (codes "#f#") ≡ Some (codes "f#") }
     ensures behind_a_hash_alone { after_hash (codes "#") ≡ Some [] }
     ensures behind_no_hash { after_hash (codes "f#") ≡ None }
-    ensures identifier_of_4 { in_identifier Draft4 (two "$id" (text "#g") "id" (text "#f")) ≡ (codes "f", Plain) ∷ [] }
+    ensures identifier_of_4 { in_identifier Draft4 (two "$id" (text "#g") "id" (text "#f"))
+        ≡ (codes "f", Plain) ∷ [] }
     ensures no_anchor_in_an_identifier { in_identifier Draft7 (one "$id" (text "f")) ≡ [] }
-    ensures plain { named_by (codes "$anchor") Plain (one "$anchor" (text "a")) ≡ (codes "a", Plain) ∷ [] }
-    ensures dynamic { named_by (codes "$dynamicAnchor") Dynamic (one "$dynamicAnchor" (text "b")) ≡ (codes "b", Dynamic) ∷ [] }
+    ensures plain { named_by (codes "$anchor") Plain (one "$anchor" (text "a"))
+        ≡ (codes "a", Plain) ∷ [] }
+    ensures dynamic { named_by (codes "$dynamicAnchor") Dynamic (one "$dynamicAnchor" (text "b"))
+        ≡ (codes "b", Dynamic) ∷ [] }
     ensures none { named_by (codes "$anchor") Plain empty ≡ [] }
-    ensures plain_first { plain_and_dynamic (two "$anchor" (text "n") "$dynamicAnchor" (text "n")) ≡ (codes "n", Plain) ∷ (codes "n", Dynamic) ∷ [] }
-    ensures dynamic_alone { plain_and_dynamic (one "$dynamicAnchor" (text "b")) ≡ (codes "b", Dynamic) ∷ [] }
+    ensures plain_first { plain_and_dynamic (two "$anchor" (text "n") "$dynamicAnchor" (text "n"))
+        ≡ (codes "n", Plain) ∷ (codes "n", Dynamic) ∷ [] }
+    ensures dynamic_alone { plain_and_dynamic (one "$dynamicAnchor" (text "b"))
+        ≡ (codes "b", Dynamic) ∷ [] }
 {}

@@ -10,19 +10,28 @@ pub fn rows_of_drafts()
     ensures one_of { is_one_of (codes "not") (codes "if" ∷ codes "not" ∷ []) ≡ true }
     ensures none_of { is_one_of (codes "Not") (codes "if" ∷ codes "not" ∷ []) ≡ false }
     ensures values_of_4 { length row_4.values ≡ 11 }
-    ensures arrays_of_4 { row_4.arrays ≡ codes "allOf" ∷ codes "anyOf" ∷ codes "oneOf" ∷ codes "prefixItems" ∷ [] }
+    ensures arrays_of_4 { row_4.arrays
+        ≡ codes "allOf" ∷ codes "anyOf" ∷ codes "oneOf" ∷ codes "prefixItems" ∷ [] }
     ensures maps_of_4 { length row_4.maps ≡ 5 }
-    ensures values_of_6 { row_6.values ≡ codes "additionalItems" ∷ codes "additionalProperties" ∷ codes "contains" ∷ codes "not" ∷ codes "propertyNames" ∷ [] }
+    ensures values_of_6 { row_6.values
+        ≡ codes "additionalItems" ∷ codes "additionalProperties" ∷ codes "contains" ∷ codes "not"
+        ∷ codes "propertyNames" ∷ [] }
     ensures arrays_of_6 { row_6.arrays ≡ codes "allOf" ∷ codes "anyOf" ∷ codes "oneOf" ∷ [] }
-    ensures maps_of_6 { row_6.maps ≡ codes "definitions" ∷ codes "patternProperties" ∷ codes "properties" ∷ [] }
-    ensures values_of_7 { row_7.values ≡ codes "additionalItems" ∷ codes "additionalProperties" ∷ codes "contains" ∷ codes "else" ∷ codes "if" ∷ codes "not" ∷ codes "propertyNames" ∷ codes "then" ∷ [] }
+    ensures maps_of_6 { row_6.maps
+        ≡ codes "definitions" ∷ codes "patternProperties" ∷ codes "properties" ∷ [] }
+    ensures values_of_7 { row_7.values
+        ≡ codes "additionalItems" ∷ codes "additionalProperties" ∷ codes "contains" ∷ codes "else"
+        ∷ codes "if" ∷ codes "not" ∷ codes "propertyNames" ∷ codes "then" ∷ [] }
     ensures arrays_of_7 { row_7.arrays ≡ row_6.arrays }
     ensures maps_of_7 { row_7.maps ≡ row_6.maps }
     ensures values_of_2019 { row_2019.values ≡ row_4.values }
     ensures arrays_of_2019 { row_2019.arrays ≡ row_6.arrays }
-    ensures maps_of_2019 { row_2019.maps ≡ codes "$defs" ∷ codes "definitions" ∷ codes "dependentSchemas" ∷ codes "patternProperties" ∷ codes "properties" ∷ [] }
+    ensures maps_of_2019 { row_2019.maps
+        ≡ codes "$defs" ∷ codes "definitions" ∷ codes "dependentSchemas" ∷ codes "patternProperties"
+        ∷ codes "properties" ∷ [] }
     ensures items_in_2020 { is_one_of (codes "items") row_2020.values ≡ true }
-    ensures no_additional_items_in_2020 { is_one_of (codes "additionalItems") row_2020.values ≡ false }
+    ensures no_additional_items_in_2020 { is_one_of (codes "additionalItems") row_2020.values
+        ≡ false }
     ensures values_of_2020 { length row_2020.values ≡ 11 }
     ensures arrays_of_2020 { row_2020.arrays ≡ row_4.arrays }
     ensures maps_of_2020 { row_2020.maps ≡ row_2019.maps }
@@ -43,7 +52,8 @@ pub fn holdings_of_keywords()
     ensures dependencies_since_2020 { holding_of Draft202012 (codes "dependencies") ≡ Nothing }
     ensures no_keyword { holding_of Draft7 (codes "const") ≡ Nothing }
     ensures if_since_7 { holding_of Draft6 (codes "if") ≡ Nothing }
-    ensures booleans_of_4 { boolean_or_schema Draft4 ≡ codes "additionalItems" ∷ codes "additionalProperties" ∷ [] }
+    ensures booleans_of_4 { boolean_or_schema Draft4
+        ≡ codes "additionalItems" ∷ codes "additionalProperties" ∷ [] }
     ensures booleans_of_6 { boolean_or_schema Draft6 ≡ [] }
     ensures items { is_items_or_dependencies (codes "items") ≡ true }
     ensures dependencies { is_items_or_dependencies (codes "dependencies") ≡ true }
@@ -95,7 +105,8 @@ pub fn known_keywords()
     ensures const_since_7 { is_one_of (codes "const") known_since_7 ≡ false }
     ensures eleven_since_2019 { length known_since_2019 ≡ 11 }
     ensures max_contains_since_2019 { is_one_of (codes "maxContains") known_since_2019 ≡ true }
-    ensures since_2020 { known_since_2020 ≡ codes "$dynamicAnchor" ∷ codes "$dynamicRef" ∷ codes "prefixItems" ∷ [] }
+    ensures since_2020 { known_since_2020
+        ≡ codes "$dynamicAnchor" ∷ codes "$dynamicRef" ∷ codes "prefixItems" ∷ [] }
     ensures recursive_ref_since_2020 { is_one_of (codes "$recursiveRef") known_since_2020 ≡ false }
     ensures if_known_in_2019 { is_known_in_2019 (codes "if") ≡ true }
     ensures id_known_in_2019 { is_known_in_2019 (codes "id") ≡ false }

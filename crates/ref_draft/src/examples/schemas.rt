@@ -7,14 +7,18 @@ ghost use Rattle.ref_draft.specs.Rows.{empty, yes, text, one, two, list, schema}
 
 /// The draft of a schema by its `$schema` (2020-12 Core, 8.1.1).
 pub fn drafts_of_schemas()
-    ensures without_version { detect Draft7 (schema "http://json-schema.org/schema#") ≡ Draft202012 }
-    ensures of_2020 { detect Draft7 (schema "https://json-schema.org/draft/2020-12/schema") ≡ Draft202012 }
-    ensures of_2019 { detect Draft7 (schema "http://json-schema.org/draft/2019-09/schema##") ≡ Draft201909 }
+    ensures without_version { detect Draft7 (schema "http://json-schema.org/schema#")
+        ≡ Draft202012 }
+    ensures of_2020 { detect Draft7 (schema "https://json-schema.org/draft/2020-12/schema")
+        ≡ Draft202012 }
+    ensures of_2019 { detect Draft7 (schema "http://json-schema.org/draft/2019-09/schema##")
+        ≡ Draft201909 }
     ensures of_7 { detect Draft4 (schema "http://json-schema.org/draft-07/schema#") ≡ Draft7 }
     ensures of_6 { detect Draft7 (schema "http://json-schema.org/draft-06/schema#") ≡ Draft6 }
     ensures of_4 { detect Draft7 (schema "https://json-schema.org/draft-04/schema#") ≡ Draft4 }
     ensures of_another_text { detect Draft7 (schema "invalid") ≡ Unknown }
-    ensures of_a_longer_text { detect Draft7 (schema "http://json-schema.org/draft-07/schema/") ≡ Unknown }
+    ensures of_a_longer_text { detect Draft7 (schema "http://json-schema.org/draft-07/schema/")
+        ≡ Unknown }
     ensures of_no_text { detect Draft7 (one "$schema" yes) ≡ Draft7 }
     ensures of_an_empty_object { detect Draft7 empty ≡ Draft7 }
     ensures of_no_object { detect Draft6 (text "http://json-schema.org/draft-04/schema#") ≡ Draft6 }
@@ -23,15 +27,24 @@ pub fn drafts_of_schemas()
 /// The drafts of meta-schemas' URIs.
 pub fn drafts_of_uris()
     ensures six { length meta_schemas ≡ 6 }
-    ensures after_the_scheme { map (λ e. e.1) meta_schemas ≡ Draft202012 ∷ Draft201909 ∷ Draft7 ∷ Draft6 ∷ Draft4 ∷ Draft202012 ∷ [] }
-    ensures with_http { is_at (codes "://json-schema.org/draft-07/schema") (codes "http://json-schema.org/draft-07/schema") ≡ true }
-    ensures with_https { is_at (codes "://json-schema.org/draft-07/schema") (codes "https://json-schema.org/draft-07/schema") ≡ true }
-    ensures with_another_scheme { is_at (codes "://json-schema.org/draft-07/schema") (codes "ftp://json-schema.org/draft-07/schema") ≡ false }
+    ensures after_the_scheme { map (λ e. e.1) meta_schemas
+        ≡ Draft202012 ∷ Draft201909 ∷ Draft7 ∷ Draft6 ∷ Draft4 ∷ Draft202012 ∷ [] }
+    ensures with_http { is_at (codes "://json-schema.org/draft-07/schema")
+        (codes "http://json-schema.org/draft-07/schema")
+        ≡ true }
+    ensures with_https { is_at (codes "://json-schema.org/draft-07/schema")
+        (codes "https://json-schema.org/draft-07/schema")
+        ≡ true }
+    ensures with_another_scheme { is_at (codes "://json-schema.org/draft-07/schema")
+        (codes "ftp://json-schema.org/draft-07/schema")
+        ≡ false }
     ensures exact { draft_of_uri (codes "http://json-schema.org/draft-06/schema") ≡ Draft6 }
     ensures not_exact { draft_of_uri (codes "http://json-schema.org/draft-06/schema#") ≡ Unknown }
     ensures of_the_newest { draft_of_uri (codes "https://json-schema.org/schema") ≡ Draft202012 }
-    ensures trailing_hashes { from_schema_uri (codes "http://json-schema.org/draft-06/schema##") ≡ Draft6 }
-    ensures no_such_version { from_schema_uri (codes "http://json-schema.org/draft-05/schema#") ≡ Unknown }
+    ensures trailing_hashes { from_schema_uri (codes "http://json-schema.org/draft-06/schema##")
+        ≡ Draft6 }
+    ensures no_such_version { from_schema_uri (codes "http://json-schema.org/draft-05/schema#")
+        ≡ Unknown }
     ensures trimmed_twice { trimmed_text (codes "k##") ≡ codes "k" }
     ensures trimmed_at_the_end { trimmed_text (codes "a#b") ≡ codes "a#b" }
     ensures trimmed_to_nothing { trimmed_text (codes "#") ≡ [] }
@@ -46,7 +59,8 @@ pub fn identifiers_of_values()
     ensures dollar_id_in_4 { identifier Draft4 (one "$id" (text "k")) ≡ None }
     ensures id_in_6 { identifier Draft6 (one "id" (text "k")) ≡ None }
     ensures beside_a_reference { identifier Draft7 (two "$id" (text "k") "$ref" yes) ≡ None }
-    ensures beside_a_reference_in_2019 { identifier Draft201909 (two "$id" (text "k") "$ref" yes) ≡ Some (codes "k") }
+    ensures beside_a_reference_in_2019 { identifier Draft201909 (two "$id" (text "k") "$ref" yes)
+        ≡ Some (codes "k") }
     ensures an_anchor { identifier Draft7 (one "$id" (text "#f")) ≡ None }
     ensures a_fragment { identifier Unknown (one "$id" (text "#f")) ≡ Some (codes "#f") }
     ensures no_text { identifier Draft202012 (one "$id" yes) ≡ None }

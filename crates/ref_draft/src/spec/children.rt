@@ -87,7 +87,8 @@ impl<'a> ChildIterInner<'a> {
     }
 
     fn held(holding: Holding, keyword: &str, value: &'a Value) -> Self
-        ensures { inner_left result ≡ map (λ child. child.1) (held_children holding keyword.now (view value.now)) }
+        ensures { inner_left result
+            ≡ map (λ child. child.1) (held_children holding keyword.now (view value.now)) }
     {
         match holding {
             Holding::Whole => ChildIterInner::Once(value),
@@ -148,7 +149,8 @@ fn is_left_out(draft: Draft, keyword: &str) -> bool
 
 // The next value that is an object.
 fn next_object<'a>(values: &mut btree_map::Values<'a, String, Value>) -> Option<&'a Value>
-    ensures { YieldsFirstBy (λ (value : Bor Value). view value.now) objects_of values.old result values.new }
+    ensures { YieldsFirstBy
+        (λ (value : Bor Value). view value.now) objects_of values.old result values.new }
 {
     while let Some(value) = values.next() {
         if value.is_object() {

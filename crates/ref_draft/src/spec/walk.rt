@@ -34,7 +34,8 @@ pub(crate) fn children<'a>(
     draft: Draft,
     contents: &'a Value,
 ) -> Result<Vec<Child<'a>>, AllocError>
-    ensures children { IfOk result (λ v. map walked_child v.items ≡ walked_children draft (view contents.now)) }
+    ensures children { IfOk result
+        (λ v. map walked_child v.items ≡ walked_children draft (view contents.now)) }
     ensures order { OnOk result (InKeyOrder (view contents.now)) }
     ensures found { IfOk result (λ v. AllStand (view contents.now) (map walked_child v.items)) }
 {
@@ -112,7 +113,8 @@ fn push_members<'a>(
     ensures adds { OnOk result
         (Adds draft (each_member keyword.now (members_view members.now.entries))
         children.old.items children.new.items) }
-    ensures found { AreFoundIn (members_view members.now.entries) (members_view members.now.entries) }
+    ensures found { AreFoundIn (members_view members.now.entries)
+        (members_view members.now.entries) }
 {
     for (key, member) in members {
         push(children, draft, keyword, Some(key.as_str().into()), member)?;
@@ -131,7 +133,8 @@ fn push_object_members<'a>(
     ensures adds { OnOk result
         (Adds draft (filter has_object (each_member keyword.now (members_view members.now.entries)))
         children.old.items children.new.items) }
-    ensures found { AreFoundIn (members_view members.now.entries) (members_view members.now.entries) }
+    ensures found { AreFoundIn (members_view members.now.entries)
+        (members_view members.now.entries) }
 {
     for (key, member) in members {
         push_object(children, draft, keyword, Some(key.as_str().into()), member)?;

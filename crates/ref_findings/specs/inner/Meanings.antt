@@ -27,7 +27,8 @@ meta_schema_uri text = uri_of text >>= λ uri. Ok (with_fragment uri None)
 -- what is settled is the meaning
 abbrev pub IsMeaning : Result (List ℕ) Refusal → Result (Rc Uri Global) UriError → Type 0
 IsMeaning meaning (Ok uri) = meaning ≡ Ok uri.value
-IsMeaning meaning (Err error) = (refusal : Refusal) × (meaning ≡ Err refusal) × SaysRefusal error refusal
+IsMeaning meaning (Err error) =
+    (refusal : Refusal) × (meaning ≡ Err refusal) × SaysRefusal error refusal
 
 -- the program says what is wrong, or nothing is
 abbrev pub IsMaybe : Option Problem → Option rust_problem.Problem → Type 0
@@ -47,4 +48,6 @@ IsWhy answer (Some said) = (fault : Fault) × (answer ≡ Err fault) × SaysFaul
 -- the bearer is the place, or there is none of either
 abbrev pub IsBearer : Option Site → Option Bearer → Type 0
 IsBearer site None = site ≡ None
-IsBearer site (Some bearer) = (s : Site) × (site ≡ Some s) × (bearer.source ≡ s.0) × (map part_of bearer.path.items ≡ s.1.path)
+IsBearer site (Some bearer) =
+    (s : Site) × (site ≡ Some s) × (bearer.source ≡ s.0)
+    × (map part_of bearer.path.items ≡ s.1.path)

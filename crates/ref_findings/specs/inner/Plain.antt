@@ -8,4 +8,5 @@ use Rattle.ref_draft.specs.Anchors.{anchors}
 -- it has no identifier, no `$ref`, no `$schema` and no anchor
 abbrev pub IsPlain : Draft → Data → Type 0
 IsPlain draft value =
-    (text_under (codes "$ref") value ≡ None) × (text_under (codes "$schema") value ≡ None) × (identifier draft value ≡ None) × (anchors draft value ≡ [])
+    (text_under (codes "$ref") value ≡ None) × (text_under (codes "$schema") value ≡ None)
+    × (identifier draft value ≡ None) × (anchors draft value ≡ [])

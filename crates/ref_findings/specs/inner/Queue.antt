@@ -7,7 +7,10 @@ use Rattle.ref_findings.specs.Places.{children_near, levels_near, places_near}
 
 -- the rest of a level, then the level below it, of which the beginning was found, and the m levels below that
 abbrev pub left_from : ℕ → List Place → List Place → List Place
-left_from m level next = level ++ ((next ++ flat_map children_near level) ++ levels_near m (next ++ flat_map children_near level))
+left_from m level next =
+    level
+    ++ ((next ++ flat_map children_near level)
+    ++ levels_near m (next ++ flat_map children_near level))
 
 -- Some places were visited, and some wait: the rest of a level, then what was found of the next one.
 pub record IsQueue (d : Document) (visited waiting : List Place) : Type 0 where

@@ -23,7 +23,14 @@ use Rattle.ref_findings.specs.Entries.{source_of}
 
 -- a place, by its path, value, draft and the base around it
 abbrev pub place_with : List Part → Data → Draft → List ℕ → Place
-place_with path value draft outer = record { path = path; value = value; draft = draft; outer = outer; base = base_within outer (identifier draft value) }
+place_with path value draft outer =
+    record {
+      path = path;
+      value = value;
+      draft = draft;
+      outer = outer;
+      base = base_within outer (identifier draft value);
+    }
 
 -- that of the program
 abbrev pub place_of : rust.Place → Place
@@ -41,7 +48,12 @@ pub record Survey : Type 0 where
 
 -- that of the program
 abbrev pub seen_survey : rust_survey.Survey → Survey
-seen_survey s = record { source = source_of s.source.now; places = map place_of s.places.items; is_sound = s.is_sound }
+seen_survey s =
+    record {
+      source = source_of s.source.now;
+      places = map place_of s.places.items;
+      is_sound = s.is_sound;
+    }
 
 -- that of a source
 abbrev pub survey_in : Draft → Source → Survey
@@ -57,7 +69,9 @@ sound_in draft t = if t.is_sound then option_to_list (document_in draft t.source
 
 -- the URIs of one that isn't
 abbrev pub unsound_in : Survey → List (Entry ℕ)
-unsound_in t = if t.is_sound then [] else map (under_uri 0) (t.source.uri ∷ flat_map (λ p. option_to_list (own_uri p)) t.places)
+unsound_in t =
+    if t.is_sound then []
+    else map (under_uri 0) (t.source.uri ∷ flat_map (λ p. option_to_list (own_uri p)) t.places)
 
 -- what the program knows of all sources; its tables were made from the last entry to the first
 abbrev pub known_in : rust_known.Known → Known
@@ -71,4 +85,12 @@ known_in k = record {
 
 -- what is known of places, by the documents that are sound and the URIs of the others
 abbrev pub known_among : Layer → List (Entry ℕ) → List Site → Known
-known_among layer unsound sites = record { world = layer ∷ []; unsound = unsound; sites = sites; uris = uris_borne sites; names = names_borne sites }
+known_among layer unsound sites =
+    record {
+      world = layer
+          ∷ [];
+      unsound = unsound;
+      sites = sites;
+      uris = uris_borne sites;
+      names = names_borne sites;
+    }

@@ -19,12 +19,14 @@ wanted_of w = map (λ u. u.value) w.wanted.items
 
 -- the URIs that are known are these
 abbrev pub AreMet : rust.Wants → List (List ℕ) → Type 0
-AreMet w uris = (uri : List ℕ) → is_some (get bytes_eq w.met uri) ≡ list_any (λ known. bytes_eq known uri) uris
+AreMet w uris =
+    (uri : List ℕ) → is_some (get bytes_eq w.met uri) ≡ list_any (λ known. bytes_eq known uri) uris
 
 -- these are known too, and those are wanted too
 abbrev pub Grows : rust.Wants → rust.Wants → List (List ℕ) → List (List ℕ) → Type 0
 Grows before after met wanted =
-    ((uris : List (List ℕ)) → AreMet before uris → AreMet after (uris ++ met)) × (wanted_of after ≡ wanted_of before ++ wanted) × (after.next ≡ before.next)
+    ((uris : List (List ℕ)) → AreMet before uris → AreMet after (uris ++ met))
+    × (wanted_of after ≡ wanted_of before ++ wanted) × (after.next ≡ before.next)
 
 -- the URIs that a source and its places have, and those that the places want
 abbrev pub uris_seen : Survey → List (List ℕ)
@@ -48,7 +50,8 @@ pub record IsState (draft : Draft) (sources : List Source) (w : rust.Wants) : Ty
   pub known : AllByRecursion (λ uri. is_known draft sources uri ≡ true) passed
 
 -- Documents were gathered so far.
-pub record IsGoing (retriever : Retriever) (draft : Draft) (sources : List Source) (w : rust.Wants) (gathered : List Source) : Type 0 where
+pub record IsGoing (retriever : Retriever) (draft : Draft) (sources : List Source) (w : rust.Wants)
+    (gathered : List Source) : Type 0 where
   pub asked : List Source
   pub run : IsRun retriever draft sources asked
   pub returned : filter has_tree asked ≡ gathered

@@ -28,7 +28,9 @@ Passes before passed false after = IsFree passed × (before ≡ passed) × (afte
 -- The bytes begin with a line, and these are after it; the last line may end where the source does.
 abbrev pub Cuts : List ℕ → List ℕ → List ℕ → Bool → Type 0
 Cuts before line after ended =
-    IsFree line × ((before ≡ line ++ 10 ∷ after) ⊎ ((before ≡ line) × (line ≢ []) × (after ≡ []) × (ended ≡ true)))
+    IsFree line
+    × ((before ≡ line ++ 10 ∷ after)
+    ⊎ ((before ≡ line) × (line ≢ []) × (after ≡ []) × (ended ≡ true)))
 
 -- the next line of bytes
 abbrev pub IsNext : Line → List ℕ → List ℕ → Bool → Type 0
@@ -43,12 +45,15 @@ StaysEnded ended ended' bytes = ended ≡ true → (bytes ≡ []) × (ended' ≡
 -- some bytes were read, and a line is kept of what was held before and of these; the rest is held
 abbrev pub Got : Option (List ℕ) → Option (List ℕ) → List ℕ → List ℕ → Part → Bool → Bool → Type 0
 Got left left' before after part ended ended' =
-    (bytes line : List ℕ) × Consumes left left' bytes × (before ++ bytes ≡ line ++ after) × IsFree line × Keeps part line × StaysEnded ended ended' bytes
+    (bytes line : List ℕ) × Consumes left left' bytes × (before ++ bytes ≡ line ++ after)
+    × IsFree line × Keeps part line × StaysEnded ended ended' bytes
 
 -- the next line of what was held and of bytes that were read
-abbrev pub GotNext : Option (List ℕ) → Option (List ℕ) → List ℕ → List ℕ → Line → Bool → Bool → Type 0
+abbrev pub GotNext : Option (List ℕ) → Option (List ℕ) → List ℕ → List ℕ → Line → Bool → Bool
+    → Type 0
 GotNext left left' before after line ended ended' =
-    (bytes : List ℕ) × Consumes left left' bytes × IsNext line (before ++ bytes) after ended' × StaysEnded ended ended' bytes
+    (bytes : List ℕ) × Consumes left left' bytes × IsNext line (before ++ bytes) after ended'
+    × StaysEnded ended ended' bytes
 
 -- some bytes were read, and none where the end was reached before
 abbrev pub Gave : Option (List ℕ) → Option (List ℕ) → Bool → Type 0

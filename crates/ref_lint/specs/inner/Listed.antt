@@ -14,7 +14,9 @@ use Rattle.ref_lint.specs.Entries.{IsEntryOf}
 
 -- the text under `$ref` of the value at the path of a listed place
 abbrev pub reference_of : World → Listed → Option (List ℕ)
-reference_of world p = option_and_then (text_under (codes "$ref")) (option_and_then (λ d. value_at d.tree p.path) (slice_get (own_layer world) p.document))
+reference_of world p =
+    option_and_then (text_under (codes "$ref"))
+    (option_and_then (λ d. value_at d.tree p.path) (slice_get (own_layer world) p.document))
 
 -- that text, where it is unresolvable
 abbrev pub dangling_listed : World → Listed → List DanglingReference
@@ -28,4 +30,5 @@ IsWhy answer (Some error) = (fault : Fault) × (answer ≡ Err fault) × SaysFau
 -- the entry is that of the one reference, or there is none of either
 abbrev pub AreEntries : List DanglingReference → Option Dangling → Type 0
 AreEntries references None = references ≡ []
-AreEntries references (Some entry) = (r : DanglingReference) × (references ≡ r ∷ []) × IsEntryOf entry r
+AreEntries references (Some entry) =
+    (r : DanglingReference) × (references ≡ r ∷ []) × IsEntryOf entry r

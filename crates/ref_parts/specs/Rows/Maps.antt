@@ -33,7 +33,8 @@ pub record MapRows : Type 0 where
   pub put_drops : Puts nat_eq two ((1, 11) ∷ []) 1 11 → ⊥
   pub put_keeps : Puts nat_eq two two 1 11 → ⊥
   pub clone_of_entries : IsClone (λ k l. l ≡ k) (λ v w. w ≡ v) two two
-  pub clone_in_another_order : IsClone (λ k l. l ≡ k) (λ v w. w ≡ v) two ((2, 20) ∷ (1, 10) ∷ []) → ⊥
+  pub clone_in_another_order : IsClone (λ k l. l ≡ k) (λ v w. w ≡ v) two ((2, 20) ∷ (1, 10) ∷ [])
+      → ⊥
   pub clone_of_less : IsClone (λ k l. l ≡ k) (λ v w. w ≡ v) two one → ⊥
   pub pairs_of_slots : pairs slots ≡ two
   pub pairs_past_empty : pairs (None ∷ slots) ≡ two

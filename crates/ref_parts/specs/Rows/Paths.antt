@@ -41,12 +41,16 @@ pub record PathRows : Type 0 where
   pub first_segment : part_of (segment.Index 0) ≡ Index 0
   pub index_segment : part_of (segment.Index 3) ≡ Index 3
   pub index_owns_nothing : OwnsNothing (segment.Index 3)
-  pub borrowed_key_owns_nothing : (key : Bor (List ℕ)) → OwnsNothing (segment.Key (cow.Borrowed key))
-  pub owned_key_owns_its_text : (key : String Global) → OwnsNothing (segment.Key (cow.Owned key)) → ⊥
+  pub borrowed_key_owns_nothing : (key : Bor (List ℕ))
+      → OwnsNothing (segment.Key (cow.Borrowed key))
+  pub owned_key_owns_its_text : (key : String Global) → OwnsNothing (segment.Key (cow.Owned key))
+      → ⊥
 
 -- what a chain of links is seen as, from its last link on, and a shared list from its first node on
 pub record LinkRows : Type 0 where
   pub no_link : path_of {A = ℕ} None ≡ []
-  pub last_link : (link : Rc Link ℕ) → path_of (Some link) ≡ link.value.parent ++ part_of link.value.segment ∷ []
+  pub last_link : (link : Rc Link ℕ)
+      → path_of (Some link) ≡ link.value.parent ++ part_of link.value.segment ∷ []
   pub no_item : items_of {T = ℕ} {A = ℕ} None ≡ []
-  pub first_item : (node : Rc (Node ℕ) ℕ) → items_of (Some node) ≡ node.value.value.value ∷ node.value.next
+  pub first_item : (node : Rc (Node ℕ) ℕ)
+      → items_of (Some node) ≡ node.value.value.value ∷ node.value.next

@@ -8,7 +8,9 @@ use Rattle.std.proofs.lemmas.Bool.{and_parts, false≢true}
 use Rattle.ref_parts.specs.Path.{Part, Key, Index, part_eq}
 
 -- lists whose items are equal feed a hasher alike, where equal items do
-pub feeds_alike : {T : Type 0} {E : T → T → Bool} {F : T → HashWrites} → ((x y : T) → E x y ≡ true → F x ≡ F y) → (xs ys : List T) → pointwise E xs ys ≡ true → flat_map F xs ≡ flat_map F ys
+pub feeds_alike : {T : Type 0} {E : T → T → Bool} {F : T → HashWrites}
+    → ((x y : T) → E x y ≡ true → F x ≡ F y) → (xs ys : List T) → pointwise E xs ys ≡ true
+    → flat_map F xs ≡ flat_map F ys
 feeds_alike h [] [] e = refl
 feeds_alike h [] (y ∷ ys) e = absurd (false≢true e)
 feeds_alike h (x ∷ xs) [] e = absurd (false≢true e)

@@ -17,8 +17,10 @@ abbrev pub with_value : {K V : Type 0} → Option (K × V) → V → Option (K �
 with_value slot w = option_map (λ pair. (pair.0, w)) slot
 
 -- the slots with this value in the pair at a place
-abbrev pub with_slot_value : {K V : Type 0} → ArrayVec (Option (K × V)) → ℕ → V → ArrayVec (Option (K × V))
-with_slot_value slots place w = with_item slots place (with_value (slice_index_or slots.items place None) w)
+abbrev pub with_slot_value : {K V : Type 0} → ArrayVec (Option (K × V)) → ℕ → V
+    → ArrayVec (Option (K × V))
+with_slot_value slots place w =
+    with_item slots place (with_value (slice_index_or slots.items place None) w)
 
 -- either form with this value in the pair at a place
 abbrev pub with_form_value : {K V : Type 0} {n : ℕ} → Form K V n → ℕ → V → Form K V n
@@ -32,13 +34,17 @@ module _ (K V : RattleType) where
 
   module _ (N : RattleType) where
     -- so has the pair at a place of the slots
-    abbrev pub lends_slot : MutBor (ArrayVec (Option (K.Denot × V.Denot))) → ℕ → MutBor V.Denot → Fml
-    lends_slot slots place r = Lends (array_vec.the_row (option.the_row (Tuple (K ∷ V ∷ []))) N unit) V slots r (with_slot_value slots.now place)
+    abbrev pub lends_slot : MutBor (ArrayVec (Option (K.Denot × V.Denot))) → ℕ → MutBor V.Denot
+        → Fml
+    lends_slot slots place r =
+        Lends (array_vec.the_row (option.the_row (Tuple (K ∷ V ∷ []))) N unit) V slots r
+        (with_slot_value slots.now place)
 
     module _ (key : HashMembers K.Denot) where
       -- so has the pair at a place of either form
       abbrev pub form_row : RattleType
-      form_row = form.the_row K V N (record { eq = key.eq }) (record { hash_input = key.hash_input })
+      form_row =
+          form.the_row K V N (record { eq = key.eq }) (record { hash_input = key.hash_input })
 
       abbrev pub lends_place : MutBor form_row.Denot → ℕ → MutBor V.Denot → Fml
       lends_place it place r = Lends form_row V it r (with_form_value it.now place)

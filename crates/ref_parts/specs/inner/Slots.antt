@@ -28,17 +28,21 @@ EachOnce eq (e ∷ es) = (lookup (eq e.0) es ≡ None) × EachOnce eq es
 
 -- inline up to n keys, each once, and hashed from n + 1 on
 abbrev pub IsFormOf : {K V : Type 0} (eq : K → K → Bool) (n : ℕ) → Form K V n → Type 0
-IsFormOf eq n (Small slots) = AllHold slots.items × (length slots.items ≤ n) × EachOnce eq (pairs slots.items)
+IsFormOf eq n (Small slots) =
+    AllHold slots.items × (length slots.items ≤ n) × EachOnce eq (pairs slots.items)
 IsFormOf eq n (Large map) = n < length map.entries
 
 -- the first slot whose key is equal
-pub record IsPlaceOf {K V : Type 0} (eq : K → K → Bool) (key : K) (slots : List (Option (K × V))) (i : ℕ) : Type 0 where
+pub record IsPlaceOf {K V : Type 0} (eq : K → K → Bool) (key : K) (slots : List (Option (K × V)))
+    (i : ℕ) : Type 0 where
   pub within : i < length slots
   pub first : lookup (eq key) (pairs (take i slots)) ≡ None
-  pub here : (old : K × V) × (slots ≡ take i slots ++ (Some old ∷ drop (i + 1) slots)) × (eq key old.0 ≡ true)
+  pub here : (old : K × V) × (slots ≡ take i slots ++ (Some old ∷ drop (i + 1) slots))
+      × (eq key old.0 ≡ true)
 
 -- the first entry whose key is equal is at this place
-pub record IsAt {K V : Type 0} (eq : K → K → Bool) (key : K) (entries : List (K × V)) (place : ℕ) : Type 0 where
+pub record IsAt {K V : Type 0} (eq : K → K → Bool) (key : K) (entries : List (K × V))
+    (place : ℕ) : Type 0 where
   pub front : List (K × V)
   pub pair : K × V
   pub back : List (K × V)

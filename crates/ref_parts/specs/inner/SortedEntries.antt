@@ -58,8 +58,11 @@ abbrev pub words_of : {V : Type 0} → List (Slot V) → List ℕ
 words_of slots = map (λ s. s.word) slots
 
 -- the kept tuples are those of the last values of the entered ones
-pub record KeepsLast {V : Type 0} (shared : ℕ) (kept : List (Slot V)) (entered : List (String Global × String Global × V)) : Type 0 where
+pub record KeepsLast {V : Type 0} (shared : ℕ) (kept : List (Slot V))
+    (entered : List (String Global × String Global × V)) : Type 0 where
   pub sorted : IsStrictlySortedBy (λ x y. key_cmp (key_of x) (key_of y)) kept
   pub words : All (HasWord shared) kept
-  pub values : (first second : List ℕ) → last_value first second (entries_of (tuples_of kept)) ≡ last_value first second (entries_of entered)
+  pub values : (first second : List ℕ)
+      → last_value first second (entries_of (tuples_of kept))
+      ≡ last_value first second (entries_of entered)
   pub count : length kept ≡ pair_count (entries_of entered)

@@ -12,7 +12,9 @@ number (b ∷ bytes) = b + 256 * number bytes
 abbrev pub MarksFirst : (ℕ → Bool) → List ℕ → ℕ → Type 0
 MarksFirst p [] marks = marks ≡ 0
 MarksFirst p (b ∷ bytes) marks =
-    (above : ℕ) × MatchBool (p b) (marks ≡ 256 * above + 128) ((marks ≡ 256 * above) × MarksFirst p bytes above)
+    (above : ℕ)
+    × MatchBool (p b) (marks ≡ 256 * above + 128)
+    ((marks ≡ 256 * above) × MarksFirst p bytes above)
 
 -- no byte is written escaped
 abbrev pub IsPlain : List ℕ → Type 0

@@ -14,4 +14,5 @@ IsErrorOf MayAnswer e = UnlessMemory ((fault : Fault) × MayAnswer (Err fault) �
 -- the report on the fault that an error says, which is not out of memory
 abbrev pub IsReportOn : List ℕ → Error → Report → Type 0
 IsReportOn of e report =
-    ((memory : AllocError) → ¬ (e ≡ error.Memory memory)) × ((fault : Fault) → SaysFault e fault → report ≡ fault_report of fault)
+    ((memory : AllocError) → ¬ (e ≡ error.Memory memory))
+    × ((fault : Fault) → SaysFault e fault → report ≡ fault_report of fault)

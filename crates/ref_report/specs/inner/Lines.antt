@@ -11,5 +11,6 @@ use Rattle.ref_report.specs.Report.{line}
 -- the line of an entry, with the text of its error
 abbrev pub entry_line : Dangling → List ℕ
 entry_line entry =
-    line (codes "dangling " ++ decimal entry.document ++ codes " " ++ compact_text (string (pointer_text (map part_of entry.path.items)))
+    line (codes "dangling " ++ decimal entry.document ++ codes " "
+    ++ compact_text (string (pointer_text (map part_of entry.path.items)))
     ++ codes " " ++ error_text entry.error)

@@ -9,6 +9,7 @@ Stops seen Memory defined = Unit {0}
 Stops seen (Because f) defined = defined ≡ Err (seen f)
 
 -- A call returned what the definition gives, unless memory ran out: its value and its error as the two functions see them.
-abbrev pub Answers : {X Y F G : Type 0} → (X → Y) → (F → G) → Result X (Stop F) → Result Y G → Type 0
+abbrev pub Answers : {X Y F G : Type 0} → (X → Y) → (F → G) → Result X (Stop F) → Result Y G
+    → Type 0
 Answers view seen (Ok x) defined = defined ≡ Ok (view x)
 Answers view seen (Err e) defined = Stops seen e defined

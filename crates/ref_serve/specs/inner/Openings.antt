@@ -26,7 +26,14 @@ above_view None = ([], [])
 above_view (Some above) = (above.registry.now, above.numbers.items)
 
 abbrev pub opening_view : Wanted → spec.Opening
-opening_view w = record { draft = w.draft; limit = w.limit; above = above_view w.above; documents = map given_of w.documents.items; remote = trees_of w.remote }
+opening_view w =
+    record {
+      draft = w.draft;
+      limit = w.limit;
+      above = above_view w.above;
+      documents = map given_of w.documents.items;
+      remote = trees_of w.remote;
+    }
 
 -- a fault that may be the answer, unless memory ran out
 abbrev pub IsErrorOf : {A : Type 0} → (Result A Fault → Type 0) → Error → Type 0
@@ -34,10 +41,13 @@ IsErrorOf MayAnswer e = UnlessMemory ((fault : Fault) × MayAnswer (Err fault) �
 
 -- a new builder above parents, to which documents were added
 abbrev pub Holds : {R : Type 0} → World → List (List ℕ × Data) → Builder R → Type 0
-Holds parents documents b = (pending : List Pending) × (spec.pending_of documents ≡ Ok pending) × (b ≡ new_builder b.retriever parents pending)
+Holds parents documents b =
+    (pending : List Pending) × (spec.pending_of documents ≡ Ok pending)
+    × (b ≡ new_builder b.retriever parents pending)
 
 -- what is opened, and the registries with it after the others, unless memory ran out
-abbrev pub GivesOpened : (Registries → Result Data Data → Type 0) → Registries → Result Opened (Stop Value) → Type 0
+abbrev pub GivesOpened : (Registries → Result Data Data → Type 0) → Registries
+    → Result Opened (Stop Value) → Type 0
 GivesOpened may state (Ok opened) = may (state ++ opened.registries.items) (Ok (view opened.result))
 GivesOpened may state (Err Memory) = Unit {0}
 GivesOpened may state (Err (Because value)) = may state (Err (view value))
@@ -46,4 +56,5 @@ GivesOpened may state (Err (Because value)) = may state (Err (view value))
 abbrev pub IsWorldOr : spec.Opening → Result OpenRegistry (Stop Value) → Type 0
 IsWorldOr o (Ok added) = spec.IsOpeningWorld o (Ok added.0) × (added.1 ≡ o.above.1)
 IsWorldOr o (Err Memory) = Unit {0}
-IsWorldOr o (Err (Because value)) = (fault : Fault) × spec.IsOpeningWorld o (Err fault) × (view value ≡ fault_error fault)
+IsWorldOr o (Err (Because value)) =
+    (fault : Fault) × spec.IsOpeningWorld o (Err fault) × (view value ≡ fault_error fault)

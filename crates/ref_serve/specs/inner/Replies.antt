@@ -19,8 +19,10 @@ abbrev pub changed : Registries → List (Option OpenRegistry) → Option ℕ �
 changed state opened number = without (state ++ opened) number
 
 -- a reply that may be given, with what becomes of the registries
-abbrev pub Replies : (Registries → Result Data Data → Type 0) → Registries → Result Reply (Stop Value) → Type 0
-Replies may state (Ok reply) = may (changed state reply.opened.items reply.closed) (Ok (view reply.result))
+abbrev pub Replies : (Registries → Result Data Data → Type 0) → Registries
+    → Result Reply (Stop Value) → Type 0
+Replies may state (Ok reply) =
+    may (changed state reply.opened.items reply.closed) (Ok (view reply.result))
 Replies may state (Err Memory) = Unit {0}
 Replies may state (Err (Because value)) = may state (Err (view value))
 

@@ -11,7 +11,13 @@ use Rattle.ref_serve.specs.declared.place.Found.{Found}
 use Rattle.ref_serve.specs.Results as results
 
 abbrev pub asked_view : Asked → results.Asked
-asked_view a = record { number = a.number; world = a.registry.now.0; parents = a.registry.now.1; values = a.values }
+asked_view a =
+    record {
+      number = a.number;
+      world = a.registry.now.0;
+      parents = a.registry.now.1;
+      values = a.values;
+    }
 
 -- what a reference means, or without one what a recursive reference means
 abbrev pub answer_at : World → Resolver → Option (List ℕ) → Result WorldFound Fault
@@ -21,4 +27,5 @@ answer_at world r (Some reference) = lookup world r reference
 -- it was found, with its place, and the resolver there
 abbrev pub IsFoundBy : World → Result WorldFound Fault → Found → Resolver → Type 0
 IsFoundBy world answer f r =
-    (answer ≡ Ok (record { value = view f.value.now; draft = f.draft; resolver = r })) × StandsAt world f.location (view f.value.now)
+    (answer ≡ Ok (record { value = view f.value.now; draft = f.draft; resolver = r }))
+    × StandsAt world f.location (view f.value.now)

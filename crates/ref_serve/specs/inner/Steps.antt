@@ -16,7 +16,11 @@ use Rattle.ref_serve.specs.Following.{step_members}
 
 -- where the steps before led
 abbrev pub followed_view : Followed → world.Followed
-followed_view f = record { last = option_map (λ x. (view x.value.now, x.draft)) f.last; resolver = resolver_of f.resolver }
+followed_view f =
+    record {
+      last = option_map (λ x. (view x.value.now, x.draft)) f.last;
+      resolver = resolver_of f.resolver;
+    }
 
 -- what was found last is at its location
 abbrev pub IsPlaced : World → Followed → Type 0
@@ -29,4 +33,6 @@ IsLookedUpTo answer f = (found : WorldFound) × (answer ≡ Ok found) × (f ≡ 
 -- the error is that of the step which is faulty, unless memory ran out
 abbrev pub IsStepError : Result world.Followed (ℕ × Fault) → Stop Value → Type 0
 IsStepError answer Memory = Unit {0}
-IsStepError answer (Because value) = (n : ℕ) × (fault : Fault) × (answer ≡ Err (n, fault)) × (view value ≡ object_of (step_members n fault))
+IsStepError answer (Because value) =
+    (n : ℕ) × (fault : Fault) × (answer ≡ Err (n, fault))
+    × (view value ≡ object_of (step_members n fault))

@@ -7,12 +7,14 @@ use Rattle.ref_uri.specs.Reference.{is_uri_reference}
 
 -- lengths of components
 abbrev pub the_lengths : Option ℕ → Option ℕ → ℕ → Option ℕ → Lengths
-the_lengths scheme authority path query = record { scheme = scheme; authority = authority; path = path; query = query }
+the_lengths scheme authority path query =
+    record { scheme = scheme; authority = authority; path = path; query = query }
 
 -- the lengths of the components of a text
 abbrev pub lengths_of : List ℕ → Lengths
 lengths_of text =
-    the_lengths (option_map length (scheme text)) (option_map length (authority text)) (length (path text)) (option_map length (query text))
+    the_lengths (option_map length (scheme text)) (option_map length (authority text))
+    (length (path text)) (option_map length (query text))
 
 -- the text is a URI reference, which is ASCII, and its components are so long
 pub record IsParsed (text : List ℕ) (lengths : Lengths) : Type 0 where

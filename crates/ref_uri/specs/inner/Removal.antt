@@ -56,7 +56,8 @@ progress_then Dots segment = next_progress (segment_of segment)
 -- a path after more segments
 abbrev pub path_after : Progress → List ℕ → List (List ℕ) → List ℕ
 path_after progress path [] = path
-path_after progress path (segment ∷ rest) = path_after (progress_then progress segment) (path_then progress path segment) rest
+path_after progress path (segment ∷ rest) =
+    path_after (progress_then progress segment) (path_then progress path segment) rest
 
 -- how far it is after more segments
 abbrev pub progress_after : Progress → List (List ℕ) → Progress
@@ -71,7 +72,8 @@ end_of Dots = codes "/"
 
 -- a path after its last segments
 abbrev pub ended_path : Progress → List ℕ → List (List ℕ) → List ℕ
-ended_path progress path segments = path_after progress path segments ++ end_of (progress_after progress segments)
+ended_path progress path segments =
+    path_after progress path segments ++ end_of (progress_after progress segments)
 
 -- how far a path is after a dot segment
 abbrev pub dots_after : Progress → Progress
@@ -95,4 +97,6 @@ IsInside path at = slice_index path at ≡ 46 → (0 < at) × (slice_index path 
 
 -- no triple of `.` begins at this place
 abbrev pub IsNoEncodedDot : List ℕ → ℕ → Type 0
-IsNoEncodedDot text at = slice_index text at ≡ 37 → slice_index text (at + 1) ≡ 50 → (slice_index text (at + 2) ≢ 101) × (slice_index text (at + 2) ≢ 69)
+IsNoEncodedDot text at =
+    slice_index text at ≡ 37 → slice_index text (at + 1) ≡ 50
+    → (slice_index text (at + 2) ≢ 101) × (slice_index text (at + 2) ≢ 69)

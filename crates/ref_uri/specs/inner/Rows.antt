@@ -38,9 +38,12 @@ pub record BodyRows : Type 0 where
   pub class_of_query : allows part.Query 63 ≡ true
   pub end_of_userinfo : ends part.Userinfo 64 ≡ true
   pub end_of_path : ends part.Path 47 ≡ false
-  pub some_lengths : the_lengths (Some 1) None 2 None ≡ record { scheme = Some 1; authority = None; path = 2; query = None }
-  pub no_lengths : the_lengths None None 0 None ≡ record { scheme = None; authority = None; path = 0; query = None }
-  pub lengths_of_uri : lengths_of (codes "http://a/b?c#d") ≡ the_lengths (Some 4) (Some 1) 2 (Some 1)
+  pub some_lengths : the_lengths (Some 1) None 2 None
+      ≡ record { scheme = Some 1; authority = None; path = 2; query = None }
+  pub no_lengths : the_lengths None None 0 None
+      ≡ record { scheme = None; authority = None; path = 0; query = None }
+  pub lengths_of_uri : lengths_of (codes "http://a/b?c#d")
+      ≡ the_lengths (Some 4) (Some 1) 2 (Some 1)
   pub lengths_of_nothing : lengths_of [] ≡ the_lengths None None 0 None
   pub parsed_reference : IsParsed (codes "a") (the_lengths None None 1 None)
   pub no_reference : (lengths : Lengths) → IsParsed (codes "a b") lengths → ⊥
@@ -80,46 +83,140 @@ pub record BodyRows : Type 0 where
   pub scheme_in_normal_form : written_scheme Normal (codes "HTTP") ≡ codes "http"
   pub authority_as_given : written_authority Given (codes "A:") ≡ codes "A:"
   pub authority_in_normal_form : written_authority Normal (codes "A:") ≡ codes "a"
-  pub kept_as_given : (path : Bor (List ℕ)) → path.now ≡ codes "/a/.." → given_path (Kept path) ≡ codes "/a/.."
-  pub of_base_as_given : (path : Bor (List ℕ)) → path.now ≡ codes "/a/.." → given_path (OfBase path) ≡ codes "/a/.."
-  pub removed_as_given : (path : Bor (List ℕ)) → path.now ≡ codes "/a/../b" → given_path (Removed path) ≡ codes "/b"
-  pub merged_as_given : (directory path : Bor (List ℕ)) → directory.now ≡ codes "/a/b" → path.now ≡ codes "../c" → given_path (Merged directory path) ≡ codes "/a/c"
-  pub kept_in_normal_form : (path : Bor (List ℕ)) → path.now ≡ codes "/a/../%7e" → normal_path_of (Kept path) ≡ codes "/a/../~"
-  pub of_base_in_normal_form : (path : Bor (List ℕ)) → path.now ≡ codes "/a/%2e%2e/b" → normal_path_of (OfBase path) ≡ codes "/b"
-  pub removed_in_normal_form : (path : Bor (List ℕ)) → path.now ≡ codes "/a/%2E/b" → normal_path_of (Removed path) ≡ codes "/a/b"
-  pub merged_in_normal_form : (directory path : Bor (List ℕ)) → directory.now ≡ codes "/a/b" → path.now ≡ codes "%2e./c" → normal_path_of (Merged directory path) ≡ codes "/a/c"
-  pub path_as_given : (path : Bor (List ℕ)) → path.now ≡ codes "/b/x/%2e%2e/../y" → written_path Given (Removed path) ≡ codes "/b/x/y"
-  pub path_in_normal_form : (path : Bor (List ℕ)) → path.now ≡ codes "/b/x/%2e%2e/../y" → written_path Normal (Removed path) ≡ codes "/y"
-  pub path_of_a_target : (path : Bor (List ℕ)) → path.now ≡ codes "/b/x/%2e%2e/../y" → written_path NormalTarget (Removed path) ≡ codes "/b/x/y"
-  pub components_in_normal_form : (scheme authority path query : Bor (List ℕ)) → scheme.now ≡ codes "HTTP" → authority.now ≡ codes "A:" → path.now ≡ codes "/%7e" → query.now ≡ codes "%2f" → written_components Normal (record { scheme = Some scheme; authority = Some authority; path = Kept path; query = Some query; fragment = None; front = None; rest = None }) ≡ components (codes "http://a/~?%2F")
-  pub components_with_a_guard : (scheme path : Bor (List ℕ)) → scheme.now ≡ codes "A" → path.now ≡ codes "/..//b" → written_components Given (record { scheme = Some scheme; authority = None; path = Removed path; query = None; fragment = None; front = None; rest = None }) ≡ components (codes "A:/.//b")
+  pub kept_as_given : (path : Bor (List ℕ)) → path.now ≡ codes "/a/.."
+      → given_path (Kept path) ≡ codes "/a/.."
+  pub of_base_as_given : (path : Bor (List ℕ)) → path.now ≡ codes "/a/.."
+      → given_path (OfBase path) ≡ codes "/a/.."
+  pub removed_as_given : (path : Bor (List ℕ)) → path.now ≡ codes "/a/../b"
+      → given_path (Removed path) ≡ codes "/b"
+  pub merged_as_given : (directory path : Bor (List ℕ)) → directory.now ≡ codes "/a/b"
+      → path.now ≡ codes "../c" → given_path (Merged directory path) ≡ codes "/a/c"
+  pub kept_in_normal_form : (path : Bor (List ℕ)) → path.now ≡ codes "/a/../%7e"
+      → normal_path_of (Kept path) ≡ codes "/a/../~"
+  pub of_base_in_normal_form : (path : Bor (List ℕ)) → path.now ≡ codes "/a/%2e%2e/b"
+      → normal_path_of (OfBase path) ≡ codes "/b"
+  pub removed_in_normal_form : (path : Bor (List ℕ)) → path.now ≡ codes "/a/%2E/b"
+      → normal_path_of (Removed path) ≡ codes "/a/b"
+  pub merged_in_normal_form : (directory path : Bor (List ℕ)) → directory.now ≡ codes "/a/b"
+      → path.now ≡ codes "%2e./c" → normal_path_of (Merged directory path) ≡ codes "/a/c"
+  pub path_as_given : (path : Bor (List ℕ)) → path.now ≡ codes "/b/x/%2e%2e/../y"
+      → written_path Given (Removed path) ≡ codes "/b/x/y"
+  pub path_in_normal_form : (path : Bor (List ℕ)) → path.now ≡ codes "/b/x/%2e%2e/../y"
+      → written_path Normal (Removed path) ≡ codes "/y"
+  pub path_of_a_target : (path : Bor (List ℕ)) → path.now ≡ codes "/b/x/%2e%2e/../y"
+      → written_path NormalTarget (Removed path) ≡ codes "/b/x/y"
+  pub components_in_normal_form : (scheme authority path query : Bor (List ℕ))
+      → scheme.now ≡ codes "HTTP" → authority.now ≡ codes "A:" → path.now ≡ codes "/%7e"
+      → query.now ≡ codes "%2f"
+      → written_components Normal
+      (record {
+        scheme = Some scheme;
+        authority = Some authority;
+        path = Kept path;
+        query = Some query;
+        fragment = None;
+        front = None;
+        rest = None;
+      })
+      ≡ components (codes "http://a/~?%2F")
+  pub components_with_a_guard : (scheme path : Bor (List ℕ)) → scheme.now ≡ codes "A"
+      → path.now ≡ codes "/..//b"
+      → written_components Given
+      (record {
+        scheme = Some scheme;
+        authority = None;
+        path = Removed path;
+        query = None;
+        fragment = None;
+        front = None;
+        rest = None;
+      })
+      ≡ components (codes "A:/.//b")
   pub front_of_both : the_front (Some (codes "a")) (Some (codes "b")) ≡ codes "a://b"
   pub rest_of_both : the_rest (Some (codes "a")) (Some []) ≡ codes "?a#"
   pub text_without_triples : is_plain (codes "a/.#") ≡ true
   pub text_with_a_triple : is_plain (codes "a%2e") ≡ false
-  pub lengths_of_some_components : lengths_of_components (components (codes "http://a/b?c#d")) ≡ the_lengths (Some 4) (Some 1) 2 (Some 1)
-  pub lengths_of_no_components : lengths_of_components (components []) ≡ the_lengths None None 0 None
+  pub lengths_of_some_components : lengths_of_components (components (codes "http://a/b?c#d"))
+      ≡ the_lengths (Some 4) (Some 1) 2 (Some 1)
+  pub lengths_of_no_components : lengths_of_components (components [])
+      ≡ the_lengths None None 0 None
   pub part_is_a_path : (path : Bor (List ℕ)) → path.now ≡ codes "a:b" → AreParts (Kept path)
-  pub part_is_no_path : (directory path : Bor (List ℕ)) → directory.now ≡ codes "/a" → path.now ≡ codes "b?" → AreParts (Merged directory path) → ⊥
+  pub part_is_no_path : (directory path : Bor (List ℕ)) → directory.now ≡ codes "/a"
+      → path.now ≡ codes "b?" → AreParts (Merged directory path) → ⊥
   pub lacks_encoded_dot : LacksEncodedDot (codes "%2f")
   pub has_encoded_dot : LacksEncodedDot (codes "a%2Eb") → ⊥
   pub base_loses_same_dots : (path : Bor (List ℕ)) → LosesSameDots (OfBase path)
-  pub merged_lose_same_dots : (directory path : Bor (List ℕ)) → directory.now ≡ codes "%2f" → path.now ≡ codes "." → LosesSameDots (Merged directory path)
-  pub loses_more_dots : (path : Bor (List ℕ)) → path.now ≡ codes "/%2e" → LosesSameDots (Removed path) → ⊥
+  pub merged_lose_same_dots : (directory path : Bor (List ℕ)) → directory.now ≡ codes "%2f"
+      → path.now ≡ codes "." → LosesSameDots (Merged directory path)
+  pub loses_more_dots : (path : Bor (List ℕ)) → path.now ≡ codes "/%2e"
+      → LosesSameDots (Removed path) → ⊥
   pub keeps_its_dots : (path : Bor (List ℕ)) → LosesSameDots (Kept path) → ⊥
-  pub some_target : (path : Bor (List ℕ)) → path.now ≡ codes "a:b" → IsTarget (record { scheme = None; authority = None; path = Kept path; query = None; fragment = None; front = None; rest = None })
-  pub no_target : (path query : Bor (List ℕ)) → query.now ≡ codes "#" → IsTarget (record { scheme = None; authority = None; path = Kept path; query = Some query; fragment = None; front = None; rest = None }) → ⊥
-  pub some_parts : (scheme path fragment : Bor (List ℕ)) → scheme.now ≡ codes "a" → path.now ≡ codes "b" → fragment.now ≡ codes "c" → components_of (record { scheme = Some scheme; authority = None; path = path; query = None; fragment = Some fragment; front = path; rest = path }) ≡ components (codes "a:b#c")
-  pub no_parts : (path : Bor (List ℕ)) → path.now ≡ codes "" → components_of (record { scheme = None; authority = None; path = path; query = None; fragment = None; front = path; rest = path }) ≡ components []
+  pub some_target : (path : Bor (List ℕ)) → path.now ≡ codes "a:b"
+      → IsTarget
+      (record {
+        scheme = None;
+        authority = None;
+        path = Kept path;
+        query = None;
+        fragment = None;
+        front = None;
+        rest = None;
+      })
+  pub no_target : (path query : Bor (List ℕ)) → query.now ≡ codes "#"
+      → IsTarget
+      (record {
+        scheme = None;
+        authority = None;
+        path = Kept path;
+        query = Some query;
+        fragment = None;
+        front = None;
+        rest = None;
+      })
+      → ⊥
+  pub some_parts : (scheme path fragment : Bor (List ℕ)) → scheme.now ≡ codes "a"
+      → path.now ≡ codes "b" → fragment.now ≡ codes "c"
+      → components_of
+      (record {
+        scheme = Some scheme;
+        authority = None;
+        path = path;
+        query = None;
+        fragment = Some fragment;
+        front = path;
+        rest = path;
+      })
+      ≡ components (codes "a:b#c")
+  pub no_parts : (path : Bor (List ℕ)) → path.now ≡ codes ""
+      → components_of
+      (record {
+        scheme = None;
+        authority = None;
+        path = path;
+        query = None;
+        fragment = None;
+        front = path;
+        rest = path;
+      })
+      ≡ components []
   pub behind_a_directory : behind_directory (Some (codes "/a")) (codes "b") ≡ codes "/a/b"
   pub behind_no_directory : behind_directory None (codes "b") ≡ codes "b"
   pub path_behind_authority : path_behind (components (codes "http://a")) (codes "b") ≡ codes "/b"
   pub path_behind_path : path_behind (components (codes "/x/y")) (codes "b") ≡ codes "/x/b"
   pub path_from_the_root : path_behind (components (codes "/x/y")) (codes "/b") ≡ codes "/b"
-  pub dots_of_the_base : path_with_dots (components (codes "a:/b/../c")) (components (codes "#d")) ≡ codes "/b/../c"
-  pub dots_of_the_reference : path_with_dots (components (codes "a:/b/c")) (components (codes "//d/../e")) ≡ codes "/../e"
-  pub dots_of_both : path_with_dots (components (codes "a:/b/./c")) (components (codes "../d")) ≡ codes "/b/./../d"
-  pub target_keeps_dots : target_with_dots (components (codes "http://a/b/c?q")) (components (codes "../d")) ≡ components (codes "http://a/b/../d")
-  pub target_of_a_fragment : target_with_dots (components (codes "http://a/./c?q")) (components (codes "#f")) ≡ components (codes "http://a/./c?q#f")
+  pub dots_of_the_base : path_with_dots (components (codes "a:/b/../c")) (components (codes "#d"))
+      ≡ codes "/b/../c"
+  pub dots_of_the_reference : path_with_dots (components (codes "a:/b/c"))
+      (components (codes "//d/../e"))
+      ≡ codes "/../e"
+  pub dots_of_both : path_with_dots (components (codes "a:/b/./c")) (components (codes "../d"))
+      ≡ codes "/b/./../d"
+  pub target_keeps_dots : target_with_dots (components (codes "http://a/b/c?q"))
+      (components (codes "../d"))
+      ≡ components (codes "http://a/b/../d")
+  pub target_of_a_fragment : target_with_dots (components (codes "http://a/./c?q"))
+      (components (codes "#f"))
+      ≡ components (codes "http://a/./c?q#f")
   pub if_memory : (e : AllocError) → IfInvalid (uri_fault.Memory e) (true ≡ false)
-  pub if_invalid : (uri : String Global) → IfInvalid (uri_fault.Invalid (Parse uri true Syntax)) (true ≡ true)
+  pub if_invalid : (uri : String Global)
+      → IfInvalid (uri_fault.Invalid (Parse uri true Syntax)) (true ≡ true)

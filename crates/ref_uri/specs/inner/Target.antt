@@ -29,7 +29,8 @@ abbrev pub normal_path_of : PathOf → List ℕ
 normal_path_of (Kept path) = normal_text path.now
 normal_path_of (OfBase path) = remove_dot_segments (normal_text path.now)
 normal_path_of (Removed path) = remove_dot_segments (normal_text path.now)
-normal_path_of (Merged directory path) = remove_dot_segments (normal_text (directory.now ++ 47 ∷ path.now))
+normal_path_of (Merged directory path) =
+    remove_dot_segments (normal_text (directory.now ++ 47 ∷ path.now))
 
 -- A path as it is written: a target's loses its dot segments as it is given, and then those that it has in normal form.
 abbrev pub written_path : Form → PathOf → List ℕ
@@ -54,7 +55,9 @@ written_components form target = written_by form form target
 
 -- their lengths
 abbrev pub lengths_of_components : Components → Lengths
-lengths_of_components c = the_lengths (option_map length c.scheme) (option_map length c.authority) (length c.path) (option_map length c.query)
+lengths_of_components c =
+    the_lengths (option_map length c.scheme) (option_map length c.authority) (length c.path)
+    (option_map length c.query)
 
 -- the path's parts are paths
 abbrev pub AreParts : PathOf → Type 0
@@ -65,7 +68,9 @@ AreParts (Merged directory path) = (is_path directory.now ≡ true) × (is_path 
 
 -- no triple of `.` is in the text (2.1)
 abbrev pub LacksEncodedDot : List ℕ → Type 0
-LacksEncodedDot text = (before after : List ℕ) → (text ≢ before ++ (codes "%2e" ++ after)) × (text ≢ before ++ (codes "%2E" ++ after))
+LacksEncodedDot text =
+    (before after : List ℕ)
+    → (text ≢ before ++ (codes "%2e" ++ after)) × (text ≢ before ++ (codes "%2E" ++ after))
 
 -- The path in normal form is the same, be its dot segments removed before triples are decoded and after, or after alone.
 abbrev pub LosesSameDots : PathOf → Type 0
@@ -100,12 +105,16 @@ pub record IsTarget (target : Target) : Type 0 where
   pub path_test : AreParts target.path
   pub query_test : if_there is_query (option_copied target.query) ≡ true
   pub fragment_test : if_there is_query (option_copied target.fragment) ≡ true
-  pub front_test : (front : List ℕ) → option_copied target.front ≡ Some front → (front ≡ the_front (option_copied target.scheme) (option_copied target.authority)) × IsAscii front
-  pub rest_test : (rest : List ℕ) → option_copied target.rest ≡ Some rest → rest ≡ the_rest (option_copied target.query) (option_copied target.fragment)
+  pub front_test : (front : List ℕ) → option_copied target.front ≡ Some front
+      → (front ≡ the_front (option_copied target.scheme) (option_copied target.authority))
+      × IsAscii front
+  pub rest_test : (rest : List ℕ) → option_copied target.rest ≡ Some rest
+      → rest ≡ the_rest (option_copied target.query) (option_copied target.fragment)
 
 -- what is around the path
 pub record AreFramed (parts : Parts) : Type 0 where
-  pub front : parts.front.now ≡ the_front (option_copied parts.scheme) (option_copied parts.authority)
+  pub front : parts.front.now
+      ≡ the_front (option_copied parts.scheme) (option_copied parts.authority)
   pub ascii : IsAscii parts.front.now
   pub rest : parts.rest.now ≡ the_rest (option_copied parts.query) (option_copied parts.fragment)
 
@@ -137,7 +146,8 @@ path_with_dots base reference =
 
 -- the target before the removal of its path's dot segments
 unfoldable pub target_with_dots : Components → Components → Components
-target_with_dots base reference = record (target_components base reference) { path = path_with_dots base reference }
+target_with_dots base reference =
+    record (target_components base reference) { path = path_with_dots base reference }
 
 -- each component in normal form, and with a scheme no dot segments to remove
 pub record IsSettled (c : Components) : Type 0 where

@@ -40,11 +40,13 @@ is_plain_in_host c = not (is_ascii_uppercase c || (c == 37) || (c == 58) || (c =
 
 -- what is before the path
 abbrev pub the_front : Option (List ℕ) → Option (List ℕ) → List ℕ
-the_front scheme authority = framed_component [] scheme (codes ":") ++ framed_component (codes "//") authority []
+the_front scheme authority =
+    framed_component [] scheme (codes ":") ++ framed_component (codes "//") authority []
 
 -- what is after it
 abbrev pub the_rest : Option (List ℕ) → Option (List ℕ) → List ℕ
-the_rest query fragment = framed_component (codes "?") query [] ++ framed_component (codes "#") fragment []
+the_rest query fragment =
+    framed_component (codes "?") query [] ++ framed_component (codes "#") fragment []
 
 -- no `%` is in the text
 abbrev pub is_plain : List ℕ → Bool

@@ -30,4 +30,6 @@ vocabulary_equivalence = record { refl = reflexive; symm = symmetric; congr = al
     alike (Custom u) (Custom v) (Custom w) e = nat_list_eq_equiv.congr u v w e
 
 pub set_equivalence : IsEquivalence set_eq
-set_equivalence = and_equiv (on_equiv (λ (s : VocabularySet). s.standard) (lists_equiv known_equivalence)) (on_equiv (λ (s : VocabularySet). s.customs) (lists_equiv nat_list_eq_equiv))
+set_equivalence =
+    and_equiv (on_equiv (λ (s : VocabularySet). s.standard) (lists_equiv known_equivalence))
+    (on_equiv (λ (s : VocabularySet). s.customs) (lists_equiv nat_list_eq_equiv))

@@ -17,7 +17,11 @@ pub fn vocabularies_of_variants()
 
 /// The vocabularies of dialects.
 pub fn vocabularies_of_dialects()
-    ensures known { set_of_dialect [] (Known (of_known (defined.Core ∷ []))) ≡ of_known (defined.Core ∷ []) }
-    ensures declared { set_of_dialect (world (at Draft202012 "a:b" (one "$vocabulary" (one "a:v" yes)) ∷ [])) (MetaSchema (codes "a:b")) ≡ record { standard = []; customs = codes "a:v" ∷ [] } }
+    ensures known { set_of_dialect [] (Known (of_known (defined.Core ∷ [])))
+        ≡ of_known (defined.Core ∷ []) }
+    ensures declared { set_of_dialect
+        (world (at Draft202012 "a:b" (one "$vocabulary" (one "a:v" yes)) ∷ []))
+        (MetaSchema (codes "a:b"))
+        ≡ record { standard = []; customs = codes "a:v" ∷ [] } }
     ensures no_document { set_of_dialect [] (MetaSchema (codes "a:b")) ≡ set_of_2020 }
 {}

@@ -150,7 +150,8 @@ fn read_of(alloc: Global, value: &Value) -> Result<String, AllocError> {
     format!(in alloc; "{draft:?} {id} {children} {anchors}")
 }
 
-/// The draft of a meta-schema's URI, whether it knows a keyword, and whether `$id` of an object under `not` changes the base in it.
+/// The draft of a meta-schema's URI, whether it knows a keyword, and whether `$id` of an object under `not` changes the
+/// base in it.
 fn ruled(alloc: Global) -> Result<String, Stop> {
     let value = value(alloc, r#"{"$id":"a"}"#)?;
     let mut segments = Segments::new(alloc);

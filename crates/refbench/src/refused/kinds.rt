@@ -1,5 +1,5 @@
-//! The six kinds of input: a document with a list of no text or of a hundred is added, prepared, and looked up. No value is copied
-//! where both make as many requests.
+//! The six kinds of input: a document with a list of no text or of a hundred is added, prepared, and looked up. No
+//! value is copied where both make as many requests.
 use crate::refused::documents::value;
 use crate::refused::stop::{Stop, outcome};
 use crate::refused::trial::{Calls, Trial, tried};

@@ -17,7 +17,8 @@ struct Linted<'s, 'a> {
     registry: &'s Registry<'a>,
 }
 
-/// The row of a call, which is `known`, or a list of the draft's number, a document at `http://a/r`, and one that is retrieved from
+/// The row of a call, which is `known`, or a list of the draft's number, a document at `http://a/r`, and one that is
+/// retrieved from
 /// `http://a/b`.
 pub fn row(alloc: Global, call: &str) -> Result<Trial, Stop> {
     let given = value(alloc, if call == "known" { KNOWN } else { call })?;

@@ -33,8 +33,8 @@ fn line(alloc: Global, group: &str, call: &str, answer: &str) -> Result<String, 
     format!(in alloc; "{group} {call}: {answer}")
 }
 
-/// Makes a call. Where it wants memory, makes the very same call again, and after it its neighbours, on the same values: none of them
-/// may then be refused.
+/// Makes a call. Where it wants memory, makes the very same call again, and after it its neighbours, on the same
+/// values: none of them may then be refused.
 pub fn tried<C: Calls>(
     alloc: Global,
     calls: &mut C,

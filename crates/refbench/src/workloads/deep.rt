@@ -1,5 +1,6 @@
-//! A document deeper than a text may nest: so many schemas, each under `not` of the one before. It is prepared, and a pointer through all of
-//! them is looked up. `lent` is not freed, and `owned` is, by the registry: the drop of a value goes as deep as the value.
+//! A document deeper than a text may nest: so many schemas, each under `not` of the one before. It is prepared, and a
+//! pointer through all of them is looked up. `lent` is not freed, and `owned` is, by the registry: the drop of a value
+//! goes as deep as the value.
 
 use crate::workloads::line::Line;
 use ref_retrieve::Error;

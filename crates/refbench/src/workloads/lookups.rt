@@ -4,8 +4,8 @@
 //! an anchor after each, and with the `$ref` of the last value. `flat` looks the identifiers up from one resolver, and
 //! `flat-ref` the `$ref` of each definition from a resolver at it. `pointer`,
 //! `pointer-type`, `pointer-plain` and `anchor` look a fragment up from resolvers at documents or identifiers. `here` looks `#` up
-//! where the scope isn't empty, and `resolved` resolves a `$ref` against the base at which it stands. The documents are borrowed,
-//! and owned where the call ends with `-owned`.
+//! where the scope isn't empty, and `resolved` resolves a `$ref` against the base at which it stands. The documents are
+//! borrowed, and owned where the call ends with `-owned`.
 
 use crate::workloads::line::Line;
 use crate::workloads::registries::{DEFINITIONS, documents_of, lent};
@@ -175,7 +175,8 @@ fn in_turn(
     Ok(sum)
 }
 
-/// How many `$ref`s are followed, each of the value that the last one led to. Other kinds, with values of their own, stay out of its loop.
+/// How many `$ref`s are followed, each of the value that the last one led to. Other kinds, with values of their own,
+/// stay out of its loop.
 #[inline(never)]
 fn along_references(alloc: Global, start: Resolver<'_>, times: u32) -> Result<u64, Error> {
     let mut found = start.lookup(alloc, "../d0/k0")?;

@@ -1,5 +1,5 @@
-//! Workloads by which the cost of this project's calls is measured: of lines `CALL TEXT SIZE TIMES`, how long the texts are that the calls
-//! answered, together.
+//! Workloads by which the cost of this project's calls is measured: of lines `CALL TEXT SIZE TIMES`, how long the texts
+//! are that the calls answered, together.
 
 mod deep;
 mod line;
@@ -60,8 +60,8 @@ fn call_of(name: &str) -> Option<Call> {
     }
 }
 
-/// How long the text is that a call returns; nothing where it returns none. A base is parsed where the call has one. What a call
-/// answers is matched where it stands, so that moving it costs nothing beside the call.
+/// How long the text is that a call returns; nothing where it returns none. A base is parsed where the call has one.
+/// What a call answers is matched where it stands, so that moving it costs nothing beside the call.
 fn length_of(alloc: Global, call: Call, base: &str, text: &str) -> Option<usize> {
     match call {
         Call::Nothing => Some(text.len()),
