@@ -11,9 +11,6 @@ use ref_uri::Uri;
 use serde_json::{Map, Value};
 use std::alloc::{AllocError, Global};
 
-// How many documents are read from maps at most.
-const MOST_HELD: usize = 10_000;
-
 /// What was read for a command line.
 #[derive(Drop)]
 pub struct Given {
@@ -82,7 +79,7 @@ fn gathered(
         return Ok(Vec::new(alloc));
     }
     let sources = sources_of(alloc, documents)?;
-    gather(alloc, draft, sources.as_slice(), maps, MOST_HELD)
+    gather(alloc, draft, sources.as_slice(), maps, usize::MAX)
 }
 
 fn sources_of<'d>(alloc: Global, documents: &'d [Document]) -> Result<Vec<Source<'d>>, AllocError> {
