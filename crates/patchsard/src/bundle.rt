@@ -186,7 +186,10 @@ impl<'d, 'l, 'w, 'o> Sources<'d, 'l, 'w, 'o> {
             if let Some(text) = value.get(keyword).and_then(Value::as_str) {
                 if let Some(why) = self.lost(rt.alloc(), place, text, replaced)? {
                     let at = self.place_in(rt.alloc(), number, place.path.as_slice())?;
-                    let _ = eprintln!(rt; "{at}: error: {why}\n    {keyword} '{text}'");
+                    let pointer = pointer_of(rt.alloc(), place.path.as_slice())?;
+                    let _ = eprintln!(rt;
+                        "{at}: error: {why}\n    {keyword} '{text}' at '{pointer}'"
+                    );
                     is_lost = true;
                 }
             }
