@@ -15,7 +15,7 @@ use Rattle.ref_calls.specs.declared.call.Call.TheVariants.{Open, Lookup, Recursi
 use Rattle.ref_calls.specs.declared.stop.Stop.{Stop}
 use Rattle.ref_calls.specs.declared.stop.Stop.TheVariants.{Memory, Because}
 use Rattle.ref_calls.specs.declared.fault.Wrong.TheVariants.{UnknownField, MissingField, InvalidField}
-use Rattle.ref_calls.specs.Errors.{plain_error, field_error, as_error, in_field, at_index}
+use Rattle.ref_calls.specs.Errors.{plain_error, with_field, field_error, as_error, in_field, at_index}
 
 -- ---- the whole
 
@@ -80,7 +80,9 @@ abbrev pub not_an_object : Data
 not_an_object = plain_error (codes "NotAnObject") (codes "The line is no JSON object")
 
 abbrev pub unknown_call : Data
-unknown_call = plain_error (codes "UnknownCall") (codes "The member 'call' names no call")
+unknown_call =
+    with_field (codes "call")
+    (plain_error (codes "UnknownCall") (codes "The member 'call' names no call"))
 
 -- the call that an object is, each of whose members it knows
 unfoldable pub call_of : Data → Result Call Data

@@ -1,5 +1,7 @@
 -- Objects of answers.
 use Rattle.std.specs.Prelude.{◌≡◌, ◌≤◌, ℕ, false, List, [], ◌∷◌, ◌++◌, map, codes, Option, None, Some}
+use Rattle.json.specs.Lex.{tokens}
+use Rattle.json.specs.Print.{print}
 use Rattle.serde_json.specs.Data.{Data, number, string, array, object, unsigned, Members, no_members, put, depth}
 use Rattle.serde_json.specs.View.{items_of}
 use Rattle.serde_json.specs.Read.{read, max_depth}
@@ -35,13 +37,15 @@ id_member (Some id) = (codes "id", id) ∷ []
 abbrev pub answer_of : Option Data → List ℕ → Data → Data
 answer_of id key value = object_of ((key, value) ∷ id_member id)
 
--- The line of a value: its compact text and a line feed, where it holds no float. With a float the text has each item
--- and member once and in order and each whole number in decimal; where the value nests no deeper than 127, the text
--- reads back as it.
+-- The text of a value in a line: its compact text, where it holds no float. With a float it is the compact printing of
+-- its tokens, which have each item and member once and in order and each whole number in decimal. Where the value nests
+-- no deeper than 127, it reads back as it.
 pub record IsLine (d : Data) (json : List ℕ) : Type 0 where
   pub text : has_float d ≡ false → json ≡ compact_text d
+  pub compact : json ≡ print (tokens json)
   pub order : IsInOrder json d
   pub reads_back : depth d ≤ max_depth → read json ≡ Some d
 
+-- that text and a line feed
 unfoldable pub IsLineOf : Data → List ℕ → Type 0
 IsLineOf d text = (json : List ℕ) × (text ≡ json ++ 10 ∷ []) × IsLine d json

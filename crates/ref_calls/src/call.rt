@@ -2,9 +2,9 @@
 ghost use Rattle.std.specs.Prelude.{◌≡◌, map, option_map};
 ghost use Rattle.serde_json.specs.View.{view, members_view};
 ghost use Rattle.ref_calls.specs.Calls as spec;
-ghost use Rattle.ref_calls.specs.Outcome.{Answers};
+ghost use Rattle.ref_calls.specs.Outcome.{IsStop, Answers};
 
-use crate::fault::{Wrong, field_error, plain_error};
+use crate::fault::{Wrong, field_error, in_field, plain_error};
 use crate::stop::Stop;
 use serde_json::{Map, Value};
 use std::alloc::Global;
@@ -85,6 +85,14 @@ fn unknown_in(call: Call, members: &Map<String, Value>) -> Option<&str>
     None
 }
 
+// The error of an object that is no call.
+fn unknown_call(alloc: Global) -> Stop<Value>
+    ensures { IsStop result spec.unknown_call }
+{
+    let error = plain_error(alloc, "UnknownCall", "The member 'call' names no call");
+    in_field(alloc, error, "call")
+}
+
 /// The call that an object is, each of whose members the call knows.
 #[tactic(auto, unfolding(crate::specs::Calls::call_of))]
 pub fn call_of(alloc: Global, tree: &Value) -> Result<Call, Stop<Value>>
@@ -98,7 +106,7 @@ pub fn call_of(alloc: Global, tree: &Value) -> Result<Call, Stop<Value>>
         .and_then(Value::as_str)
         .and_then(call_named)
     else {
-        return Err(plain_error(alloc, "UnknownCall", "The member 'call' names no call"));
+        return Err(unknown_call(alloc));
     };
     match unknown_in(call, members) {
         Some(field) => Err(field_error(alloc, Wrong::UnknownField, field)),
