@@ -26,7 +26,10 @@ pub fn reading_of<'a>(rt: &HostRuntime, given: &ArgMatches<'a>) -> Result<Readin
             return Err(Stop::Reported);
         }
     }
-    let draft = draft_of(given.get_str("draft").unwrap_or(""));
+    let draft = match given.get_str("draft").and_then(Draft::from_name) {
+        Some(draft) => draft,
+        None => Draft::Draft202012,
+    };
     Ok(Reading { base, draft })
 }
 
@@ -35,36 +38,6 @@ fn is_base(base: &str) -> bool {
     match UriRef::parse(base) {
         Ok(uri) => uri.has_scheme() && !uri.has_fragment() && uri.query().is_none(),
         Err(_) => false,
-    }
-}
-
-// The drafts that a command line names.
-const DRAFTS: [Draft; 5] = [
-    Draft::Draft4,
-    Draft::Draft6,
-    Draft::Draft7,
-    Draft::Draft201909,
-    Draft::Draft202012,
-];
-
-fn draft_of(name: &str) -> Draft {
-    for draft in DRAFTS {
-        if draft_name(draft) == name {
-            return draft;
-        }
-    }
-    Draft::Draft202012
-}
-
-/// The name of a draft.
-pub fn draft_name(draft: Draft) -> &'static str {
-    match draft {
-        Draft::Draft4 => "4",
-        Draft::Draft6 => "6",
-        Draft::Draft7 => "7",
-        Draft::Draft201909 => "2019-09",
-        Draft::Draft202012 => "2020-12",
-        Draft::Unknown => "unknown",
     }
 }
 

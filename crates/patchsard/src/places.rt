@@ -3,7 +3,6 @@
 use crate::console::Console;
 use crate::document::Document;
 use crate::given::{Given, read_given};
-use crate::options::draft_name;
 use crate::pointer::{place_of, pointer_of};
 use crate::stop::Stop;
 use crate::world::{World, faulty_of, world_of};
@@ -131,7 +130,7 @@ fn push_place(
     };
     let pointer = pointer_of(alloc, place.path.as_slice())?;
     let file = document.shown.as_str();
-    let draft = draft_name(place.draft);
+    let draft = place.draft.name();
     let base = place.base.as_str();
     write!(
         out,

@@ -1,6 +1,5 @@
 //! What a reference leads to, as it is printed.
 use crate::given::Given;
-use crate::options::draft_name;
 use crate::pointer::{path_to, place_of, pointer_of};
 use crate::resolve::Found;
 use crate::stop::Stop;
@@ -24,7 +23,7 @@ pub fn push_found(
     out.push_str(text.as_str())?;
     out.push('\n')?;
     push_place(alloc, out, given, world, found.uri.as_str())?;
-    let (name, base) = (draft_name(draft), resolver.base_uri());
+    let (name, base) = (draft.name(), resolver.base_uri());
     write!(out, "draft {name}\nbase {}\nscope", base.as_str())?;
     for uri in resolver.dynamic_scope().iter() {
         write!(out, " {}", uri.as_str())?;

@@ -15,7 +15,8 @@ ghost use Rattle.ref_bundle.specs.inner.Seen.{seen_spot, own_uri_of, document_in
 
 use crate::own::{Own, Spot};
 use ref_draft::{Draft, ResourceRef};
-use ref_index::reference::{shared, uri_part};
+use ref_index::reference::shared;
+use ref_uri::parts::uri_part;
 use ref_uri::uri::{from_str, resolve_against};
 use ref_uri::{Uri, UriFault};
 use serde_json::Value;

@@ -7,7 +7,8 @@ use Rattle.serde_json.specs.Find.{get, as_bool, as_str, as_array, as_object, as_
 use Rattle.serde_json.specs.Read.{read}
 use Rattle.ref_uri.specs.Targets.{uri_of}
 use Rattle.ref_draft.specs.declared.draft.Draft.{Draft}
-use Rattle.ref_draft.specs.declared.draft.Draft.TheVariants as draft
+use Rattle.ref_draft.specs.declared.draft.Draft.TheVariants.{Draft202012}
+use Rattle.ref_draft.specs.Names.{draft_named}
 use Rattle.ref_definitions.specs.Results.{◌>>=◌}
 use Rattle.ref_definitions.specs.Fault.{as_invalid_uri}
 use Rattle.ref_calls.specs.declared.call.Call.{Call}
@@ -132,27 +133,9 @@ is_set_at field (Some d) = ok_or (as_bool d) (field_error InvalidField field)
 abbrev pub is_set : List ℕ → Data → Result Bool Data
 is_set field d = is_set_at field (get field d)
 
--- the draft that a name means
-abbrev pub draft_named : List ℕ → Option Draft
-draft_named s =
-    if bytes_eq s (codes "4") then Some draft.Draft4
-    else (if bytes_eq s (codes "6") then Some draft.Draft6
-    else (if bytes_eq s (codes "7") then Some draft.Draft7
-    else (if bytes_eq s (codes "2019-09") then Some draft.Draft201909
-    else (if bytes_eq s (codes "2020-12") then Some draft.Draft202012 else None))))
-
--- the name of a draft
-abbrev pub draft_name : Draft → List ℕ
-draft_name draft.Draft4 = codes "4"
-draft_name draft.Draft6 = codes "6"
-draft_name draft.Draft7 = codes "7"
-draft_name draft.Draft201909 = codes "2019-09"
-draft_name draft.Draft202012 = codes "2020-12"
-draft_name draft.Unknown = codes "unknown"
-
 -- the draft under `draft`, or else 2020-12
 abbrev pub draft_at : Option Data → Result Draft Data
-draft_at None = Ok draft.Draft202012
+draft_at None = Ok Draft202012
 draft_at (Some d) =
     ok_or (option_and_then draft_named (as_str d)) (field_error InvalidField (codes "draft"))
 

@@ -104,33 +104,6 @@ pub fn is_set(alloc: Global, tree: &Value, field: &str) -> Result<bool, Stop<Val
     }
 }
 
-fn draft_named(name: &str) -> Option<Draft>
-    ensures { result ≡ spec.draft_named name.now }
-{
-    match name {
-        "4" => Some(Draft::Draft4),
-        "6" => Some(Draft::Draft6),
-        "7" => Some(Draft::Draft7),
-        "2019-09" => Some(Draft::Draft201909),
-        "2020-12" => Some(Draft::Draft202012),
-        _ => None,
-    }
-}
-
-/// The name of a draft.
-pub fn draft_name(draft: Draft) -> &'static str
-    ensures { result.now ≡ spec.draft_name draft }
-{
-    match draft {
-        Draft::Draft4 => "4",
-        Draft::Draft6 => "6",
-        Draft::Draft7 => "7",
-        Draft::Draft201909 => "2019-09",
-        Draft::Draft202012 => "2020-12",
-        Draft::Unknown => "unknown",
-    }
-}
-
 /// The draft under `draft`, or else 2020-12.
 #[tactic(auto, unfolding(crate::specs::Calls::draft_of))]
 pub fn draft_of(alloc: Global, tree: &Value) -> Result<Draft, Stop<Value>>
@@ -139,7 +112,7 @@ pub fn draft_of(alloc: Global, tree: &Value) -> Result<Draft, Stop<Value>>
     let Some(value) = tree.get("draft") else {
         return Ok(Draft::Draft202012);
     };
-    match value.as_str().and_then(draft_named) {
+    match value.as_str().and_then(Draft::from_name) {
         Some(draft) => Ok(draft),
         None => Err(field_error(alloc, Wrong::InvalidField, "draft")),
     }

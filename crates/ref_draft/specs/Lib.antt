@@ -1,4 +1,5 @@
 pub mod Keywords
+pub mod Names
 pub mod Schema
 pub mod Children
 pub mod Anchors

@@ -2,6 +2,7 @@
 ghost use Rattle.std.specs.Prelude.{◌≡◌, ◌↔◌, map, IfOk, OnOk, IsTrue};
 ghost use Rattle.serde_json.specs.View.{view};
 ghost use Rattle.ref_draft.specs.Keywords.{holding_of, id_keyword, is_known, is_before_2019};
+ghost use Rattle.ref_draft.specs.Names as names;
 ghost use Rattle.ref_draft.specs.Schema.{from_schema_uri, draft_of_uri, detect, text_under};
 ghost use Rattle.ref_draft.specs.Children.{AllStand, InKeyOrder, subresources, walked_children};
 ghost use Rattle.ref_draft.specs.Anchors.{anchors};
@@ -68,6 +69,35 @@ impl Draft {
         match text_under(contents, "$schema") {
             Some(uri) => Draft::from_schema_uri(uri),
             None => self,
+        }
+    }
+
+    /// The name of the draft as its specification has it, such as `4` or `2020-12`; `unknown` for a custom meta-schema.
+    /// It takes no memory.
+    pub fn name(self) -> &'static str
+        ensures value { result.now ≡ names.draft_name self }
+    {
+        match self {
+            Draft::Draft4 => "4",
+            Draft::Draft6 => "6",
+            Draft::Draft7 => "7",
+            Draft::Draft201909 => "2019-09",
+            Draft::Draft202012 => "2020-12",
+            Draft::Unknown => "unknown",
+        }
+    }
+
+    /// The draft that has this name; `None` for another text, `unknown` among them. It takes no memory.
+    pub fn from_name(name: &str) -> Option<Draft>
+        ensures value { result ≡ names.draft_named name.now }
+    {
+        match name {
+            "4" => Some(Draft::Draft4),
+            "6" => Some(Draft::Draft6),
+            "7" => Some(Draft::Draft7),
+            "2019-09" => Some(Draft::Draft201909),
+            "2020-12" => Some(Draft::Draft202012),
+            _ => None,
         }
     }
 

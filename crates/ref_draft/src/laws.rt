@@ -1,11 +1,12 @@
 //! Laws of the definitions. No function here does anything: its contract is the law.
-ghost use Rattle.std.specs.Prelude.{◌≡◌, ◌↔◌, true, ◌<◌, ◌∷◌, ◌++◌, [], ℕ, IsTrue, List};
+ghost use Rattle.std.specs.Prelude.{◌≡◌, ◌↔◌, true, ◌<◌, ◌∷◌, ◌++◌, [], ℕ, IsTrue, List, codes, Some, None};
 ghost use Rattle.std.specs.List.{AllByRecursion};
 ghost use Rattle.std.specs.Ordering.{nat_cmp};
 ghost use Rattle.serde_json.specs.Data.{Data, depth};
 ghost use Rattle.ref_draft.specs.declared.draft.Draft.{Draft as Version};
 ghost use Rattle.ref_draft.specs.declared.segments.Segment.{Segment as PointerSegment};
 ghost use Rattle.ref_draft.specs.Children.{AllStand, children, is_object, walked_children};
+ghost use Rattle.ref_draft.specs.Names.{draft_name, draft_named};
 ghost use Rattle.ref_draft.specs.Order.{rank};
 ghost use Rattle.ref_draft.specs.Scan.{AcceptsChildren, IsAccepted, SpellsWord, is_child_keyword};
 ghost use Rattle.ref_draft.specs.ScanSteps.{scan};
@@ -25,6 +26,17 @@ pub fn drafts_are_ordered()
 /// The draft without further knowledge is 2020-12, and none else.
 pub fn default_is_2020()
     ensures law { (d : Version) → ⟦<Draft as Default>⟧.is_default d → d ≡ Draft.Draft202012 }
+{}
+
+/// Each draft but `Unknown` is the one that its name means, and other texts name none.
+pub fn names_are_read_back()
+    ensures rows { (draft_named (draft_name Draft.Draft4) ≡ Some Draft.Draft4)
+        × (draft_named (draft_name Draft.Draft6) ≡ Some Draft.Draft6)
+        × (draft_named (draft_name Draft.Draft7) ≡ Some Draft.Draft7)
+        × (draft_named (draft_name Draft.Draft201909) ≡ Some Draft.Draft201909)
+        × (draft_named (draft_name Draft.Draft202012) ≡ Some Draft.Draft202012)
+        × (draft_named (draft_name Draft.Unknown) ≡ None)
+        × (draft_named (codes "5") ≡ None) × (draft_named [] ≡ None) }
 {}
 
 /// Segments are equal where their parts are: keys where their texts are, borrowed or owned, and indexes where they are one

@@ -6,7 +6,8 @@ ghost use Rattle.ref_definitions.specs.Places.{base_within};
 ghost use Rattle.ref_findings.specs.Places.{nearest_of};
 ghost use Rattle.ref_findings.specs.inner.Meanings.{meta_schema_uri, IsMeaning};
 
-use ref_index::reference::{shared, uri_part};
+use ref_index::reference::shared;
+use ref_uri::parts::uri_part;
 use ref_uri::uri::{from_str, resolve_against};
 use ref_uri::{Uri, UriError, UriFault};
 use std::alloc::{AllocError, Global};

@@ -1,4 +1,3 @@
-pub mod Hashes
 pub mod Queues
 pub mod Holding
 pub mod Paths

@@ -1,6 +1,5 @@
-//! What references point into, and their fragments.
+//! URIs that are shared.
 ghost use Rattle.std.specs.Prelude.{◌≡◌, IfOk};
-ghost use Rattle.ref_uri.specs.Targets as uri;
 
 use ref_uri::Uri;
 use std::alloc::{AllocError, Global};
@@ -11,40 +10,4 @@ pub fn shared(alloc: Global, uri: Uri) -> Result<Rc<Uri>, AllocError>
     ensures value { IfOk result (λ u. u.value ≡ uri) }
 {
     Ok(Rc::new(alloc, uri)?)
-}
-
-/// What is before the last `#` of a reference, which is the whole where there is none, and its fragment: what follows a `#` in
-/// front, or else the last `#`.
-#[inline(always)]
-pub fn parts(reference: &str) -> (&str, &str)
-    ensures uri { result.0.now ≡ uri.uri_part reference.now }
-    ensures fragment { result.1.now ≡ uri.fragment_part reference.now }
-{
-    if reference.as_bytes().contains(&b'#') {
-        parts_around_hash(reference)
-    } else {
-        (reference, "")
-    }
-}
-
-// The same for any reference, by a search from its end; `parts` answers most references, which have no `#`, without it.
-#[inline(never)]
-fn parts_around_hash(reference: &str) -> (&str, &str)
-    ensures uri { result.0.now ≡ uri.uri_part reference.now }
-    ensures fragment { result.1.now ≡ uri.fragment_part reference.now }
-{
-    let Some((uri, last)) = reference.rsplit_once('#') else {
-        return (reference, "");
-    };
-    match reference.strip_prefix('#') {
-        Some(fragment) => (uri, fragment),
-        None => (uri, last),
-    }
-}
-
-/// What is before the last `#` of a reference.
-pub fn uri_part(reference: &str) -> &str
-    ensures value { result.now ≡ uri.uri_part reference.now }
-{
-    parts(reference).0
 }

@@ -12,9 +12,9 @@ use Rattle.ref_definitions.specs.Follow.{Step, Followed, followed_steps}
 use Rattle.ref_retrieve.specs.declared.error.Error.{Error}
 use Rattle.referencing.specs.Following.{lent_last, SaysStepFault}
 use Rattle.ref_report.specs.declared.report.Report as declared
-use Rattle.ref_streams.specs.declared.status.Status.{Status}
+use Rattle.ref_report.specs.declared.status.Status.{Status}
 use Rattle.ref_report.specs.declared.request.BadRequest.TheVariants as bad
-use Rattle.ref_streams.specs.declared.status.RunError.{RunError}
+use Rattle.ref_streams.specs.declared.error.RunError.{RunError}
 use Rattle.ref_report.specs.Report.{Report, line, done_report, followed_report, lint_lines, with_lines, steps_of, IsRequestReport, IsReadReport, IsReport}
 use Rattle.ref_report.specs.Request.{Request, tree_of, request_of, read_request}
 use Rattle.ref_report.specs.Worlds.{AreParents, IsWorldAbove}

@@ -1,6 +1,6 @@
 pub mod Request
 pub mod Worlds
 pub mod Report
-pub mod Rows
+pub mod Status
 pub mod Run
 pub mod inner

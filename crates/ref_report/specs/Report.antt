@@ -4,7 +4,7 @@ use Rattle.serde_json.specs.Data.{Data, string}
 use Rattle.serde_json.specs.Written.{compact_text}
 use Rattle.ref_parts.specs.Pointer.{pointer_text}
 use Rattle.ref_draft.specs.declared.draft.Draft.{Draft}
-use Rattle.ref_draft.specs.declared.draft.Draft.TheVariants.{Draft4, Draft6, Draft7, Draft201909, Draft202012, Unknown}
+use Rattle.ref_draft.specs.Names.{draft_name}
 use Rattle.ref_draft.specs.Schema.{detect}
 use Rattle.ref_definitions.specs.World.{World}
 use Rattle.ref_definitions.specs.Fault.{Fault, fault_text}
@@ -12,8 +12,8 @@ use Rattle.ref_definitions.specs.Pending.{builder_draft}
 use Rattle.ref_definitions.specs.Follow as world
 use Rattle.ref_definitions.specs.Follow.{Followed, followed_steps}
 use Rattle.ref_lint.specs.Dangling.{DanglingReference, dangling}
-use Rattle.ref_streams.specs.declared.status.Status.{Status}
-use Rattle.ref_streams.specs.declared.status.Status.TheVariants as status
+use Rattle.ref_report.specs.declared.status.Status.{Status}
+use Rattle.ref_report.specs.declared.status.Status.TheVariants as status
 use Rattle.ref_report.specs.declared.request.BadRequest.{BadRequest}
 use Rattle.ref_report.specs.declared.request.BadRequest.TheVariants.{NotJson, NotAnObject, Float, UnknownField, Documents, Base, Steps, Remote, Meta, Draft as DraftField, Limit, Lint}
 use Rattle.ref_report.specs.Request.{Step, Lookup, Recursive, Enter, Request, read_request}
@@ -55,15 +55,6 @@ fault_report of fault =
       status = status.Fault;
       text = line (codes "fault " ++ of ++ codes " " ++ fault_text fault);
     }
-
--- the name of a draft
-abbrev pub draft_name : Draft → List ℕ
-draft_name Draft4 = codes "4"
-draft_name Draft6 = codes "6"
-draft_name Draft7 = codes "7"
-draft_name Draft201909 = codes "2019-09"
-draft_name Draft202012 = codes "2020-12"
-draft_name Unknown = codes "unknown"
 
 -- the value found last and its draft
 abbrev pub value_lines : Option (Data × Draft) → List ℕ

@@ -8,7 +8,7 @@ use Rattle.serde_json.specs.Read.{read}
 use Rattle.serde_json.specs.Written.{has_float}
 use Rattle.ref_uri.specs.Targets.{uri_of}
 use Rattle.ref_draft.specs.declared.draft.Draft.{Draft}
-use Rattle.ref_draft.specs.declared.draft.Draft.TheVariants as draft
+use Rattle.ref_draft.specs.Names.{draft_named}
 use Rattle.ref_report.specs.declared.request.BadRequest.{BadRequest}
 use Rattle.ref_report.specs.declared.request.BadRequest.TheVariants as bad
 use Rattle.ref_definitions.specs.Results.{◌>>=◌}
@@ -89,15 +89,6 @@ unfoldable pub steps_of : Data → Option (List Step)
 steps_of d = list_of step_of d
 
 -- the draft that a name stands for
-abbrev pub draft_named : List ℕ → Option Draft
-draft_named s =
-    if bytes_eq s (codes "4") then Some draft.Draft4
-    else (if bytes_eq s (codes "6") then Some draft.Draft6
-    else (if bytes_eq s (codes "7") then Some draft.Draft7
-    else (if bytes_eq s (codes "2019-09") then Some draft.Draft201909
-    else (if bytes_eq s (codes "2020-12") then Some draft.Draft202012 else None))))
-
--- the name of a draft
 unfoldable pub draft_of : Data → Option Draft
 draft_of d = option_and_then draft_named (as_str d)
 

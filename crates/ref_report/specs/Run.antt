@@ -1,7 +1,7 @@
 -- What a run answers.
 use Rattle.std.specs.Prelude.{◌≡◌, ℕ, List, Option}
 use Rattle.std.specs.Io.KnownBytes.{Appends, Consumes}
-use Rattle.ref_streams.specs.declared.status.Status.{Status}
+use Rattle.ref_report.specs.declared.status.Status.{Status}
 use Rattle.ref_report.specs.Report.{Report, IsReport}
 
 -- The source gave some bytes, the sink took the text of the report on these, and the status is the report's.

@@ -1,7 +1,7 @@
 //! Laws and rows of the definitions, as contracts of functions that do nothing.
 ghost use Rattle.std.specs.Prelude.{◌≡◌, ℕ, List};
 ghost use Rattle.ref_report.specs.Report.{Report, IsReport};
-ghost use Rattle.ref_report.specs.Rows.{DraftRows};
+ghost use Rattle.ref_report.specs.Status.{ExitRows};
 
 /// The bytes of a request have one report alone: what can be retrieved is a map, so preparing has one outcome.
 pub fn reports_are_one()
@@ -15,7 +15,7 @@ pub fn requests_have_reports()
     ensures law { (bytes : List ℕ) → (report : Report) × IsReport bytes report }
 {}
 
-/// The names of drafts.
-pub fn draft_rows()
-    ensures rows { DraftRows }
+/// The program's exit status, of each status and of each run without one.
+pub fn exit_rows()
+    ensures rows { ExitRows }
 {}

@@ -12,7 +12,9 @@ mod report;
 mod request;
 pub mod run;
 mod scan;
+pub mod status;
 mod stop;
 mod worlds;
 
-pub use ref_streams::{Failed, Input, MemorySink, MemorySource, Output, Sink, Source, Status};
+pub use ref_streams::{Failed, Input, MemorySink, MemorySource, Output, RunError, Sink, Source};
+pub use status::{Status, exit_status};

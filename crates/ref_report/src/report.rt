@@ -9,7 +9,7 @@ ghost use Rattle.ref_report.specs.inner.View.{report_view};
 
 use crate::request::BadRequest;
 use ref_retrieve::laws::errors_say_faults;
-use ref_streams::Status;
+use crate::status::Status;
 use referencing::{Draft, Error, FollowError, Followed, List, Uri};
 use serde_json::Value;
 use std::alloc::{AllocError, Global};
@@ -96,19 +96,6 @@ pub fn done_report(alloc: Global, followed: &Followed) -> Result<Report, AllocEr
     })
 }
 
-fn draft_name(draft: Draft) -> &'static str
-    ensures { result.now ≡ spec.draft_name draft }
-{
-    match draft {
-        Draft::Draft4 => "4",
-        Draft::Draft6 => "6",
-        Draft::Draft7 => "7",
-        Draft::Draft201909 => "2019-09",
-        Draft::Draft202012 => "2020-12",
-        Draft::Unknown => "unknown",
-    }
-}
-
 // The lines of the value and its draft.
 fn push_value(
     alloc: Global,
@@ -124,7 +111,7 @@ fn push_value(
     };
     let json = value.to_string(alloc)?;
     push_line(text, "value ", json.as_str())?;
-    push_line(text, "draft ", draft_name(draft))?;
+    push_line(text, "draft ", draft.name())?;
     Ok(())
 }
 

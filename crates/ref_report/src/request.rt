@@ -336,18 +336,5 @@ fn step_of(value: &Value) -> Option<Step<'_>>
 fn draft_of(value: &Value) -> Option<Draft>
     ensures { result ≡ spec.draft_of (view value.now) }
 {
-    draft_named(value.as_str()?)
-}
-
-fn draft_named(name: &str) -> Option<Draft>
-    ensures { result ≡ spec.draft_named name.now }
-{
-    match name {
-        "4" => Some(Draft::Draft4),
-        "6" => Some(Draft::Draft6),
-        "7" => Some(Draft::Draft7),
-        "2019-09" => Some(Draft::Draft201909),
-        "2020-12" => Some(Draft::Draft202012),
-        _ => None,
-    }
+    Draft::from_name(value.as_str()?)
 }

@@ -6,8 +6,10 @@ ghost use Rattle.ref_report.specs.Run.{Reports};
 
 use crate::answer::answer;
 use crate::report::Report;
-use ref_streams::{Sink, Source, Status, read_to_end};
-pub use ref_streams::{RunError, exit_status};
+pub use crate::status::exit_status;
+use crate::status::Status;
+pub use ref_streams::RunError;
+use ref_streams::{Sink, Source, read_to_end};
 use std::alloc::Global;
 
 /// Reads one request to the end, makes its whole report, and writes it. The status is that of the report.

@@ -25,9 +25,9 @@ use crate::fragment::{
 use crate::layers::Layers;
 use crate::located::Located;
 use ref_draft::{Draft, ResourceRef};
-use ref_index::reference::parts;
 use ref_parts::list::List;
 use ref_retrieve::Error;
+use ref_uri::parts::parts;
 use ref_uri::{Uri, UriRef};
 use serde_json::Value;
 use std::alloc::{AllocError, Global};

@@ -12,9 +12,10 @@ use Rattle.ref_lint.specs.Dangling.{DanglingReference, dangling}
 use Rattle.ref_bundle.specs.Embedding.{Obstacle, NotAnObject, IdentifierBesideRef, NotAnIdentifier, NotKept, UntoldDraft, ResolvedAgain}
 use Rattle.ref_bundle.specs.Bundle.{Bundle, BundleRefusal, Problem, NoDocument, NotEmbedded, NoMap, KeyTaken, SharedUri, ReplacedUri, bundle_at}
 use Rattle.ref_bundle.specs.Saying.{refusal_text}
+use Rattle.ref_draft.specs.Names.{draft_name}
 use Rattle.ref_calls.specs.Objects.{object_of, list_of, texts, whole}
 use Rattle.ref_calls.specs.Errors.{error_members, fault_members}
-use Rattle.ref_calls.specs.Calls.{required, number_in, draft_name, draft_of, schema_of}
+use Rattle.ref_calls.specs.Calls.{required, number_in, draft_of, schema_of}
 use Rattle.ref_serve.specs.State.{Registries, registry_under}
 
 -- the members of a place in one of a registry's own documents

@@ -15,12 +15,13 @@ use Rattle.ref_definitions.specs.Lookup.{Resolver, Found, lookup, in_subresource
 use Rattle.ref_definitions.specs.Recursive.{lookup_recursive}
 use Rattle.ref_resolver.specs.declared.location.Location.{Location}
 use Rattle.ref_resolver.specs.Locations.{StandsAt}
+use Rattle.ref_draft.specs.Names.{draft_name}
 use Rattle.ref_calls.specs.declared.fault.Wrong.TheVariants.{InvalidField}
 use Rattle.ref_calls.specs.declared.stop.Stop.{Stop}
 use Rattle.ref_calls.specs.declared.stop.Stop.TheVariants.{Memory, Because}
 use Rattle.ref_calls.specs.Objects.{object_of, list_of, texts, whole}
 use Rattle.ref_calls.specs.Errors.{field_error, fault_error, as_error, at_index}
-use Rattle.ref_calls.specs.Calls.{required, text_in, each_item, is_set, base_of, scope_of, draft_of, draft_name, schema_of}
+use Rattle.ref_calls.specs.Calls.{required, text_in, each_item, is_set, base_of, scope_of, draft_of, schema_of}
 use Rattle.ref_serve.specs.State.{OpenRegistry, Registries, registry_under, layer_number}
 
 -- a call gives what it may, unless memory ran out: its result or its error object

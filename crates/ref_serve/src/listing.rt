@@ -11,7 +11,6 @@ use crate::place::put_site;
 use crate::registry::registry_of;
 use crate::state::State;
 use ref_calls::fault::fault_members;
-use ref_calls::field::draft_name;
 use ref_calls::members::put_text;
 use ref_calls::stop::Stop;
 use ref_lint::{Dangling, dangling};
@@ -26,7 +25,7 @@ fn place_object(alloc: Global, place: &Place<'_>) -> Result<Value, AllocError>
     let mut members = Map::new(alloc);
     put_site(alloc, &mut members, place.document, place.path.as_slice())?;
     put_text(alloc, &mut members, "base", place.base.as_str())?;
-    put_text(alloc, &mut members, "draft", draft_name(place.draft))?;
+    put_text(alloc, &mut members, "draft", place.draft.name())?;
     Ok(Value::Object(members))
 }
 

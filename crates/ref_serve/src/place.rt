@@ -13,7 +13,6 @@ ghost use Rattle.ref_serve.specs.Results as results;
 ghost use Rattle.ref_serve.specs.inner.Seen.{asked_view, IsFoundBy, answer_at};
 
 use crate::asked::Asked;
-use ref_calls::field::draft_name;
 use ref_calls::members::{Members, put_number, put_text, uris_of};
 use referencing::{
     Draft, Error, JsonPointerSegment, Location, Resolver, write_escaped_str, write_index,
@@ -165,6 +164,6 @@ pub fn put_found(
     put_number(alloc, members, "document", location.document)?;
     let pointer = location.pointer(alloc)?;
     put(members, alloc, "pointer", Value::String(pointer))?;
-    put_text(alloc, members, "draft", draft_name(found.draft))?;
+    put_text(alloc, members, "draft", found.draft.name())?;
     put_value(alloc, members, asked.values, found.value)
 }

@@ -1,4 +1,4 @@
 pub mod Bytes
 pub mod Memory
-pub mod Status
+pub mod Errors
 pub mod Rows

@@ -3,8 +3,8 @@ ghost use Rattle.std.specs.Prelude.{◌≡◌, Err, IfOk, OnOk, IfErr, ◌⊎◌
 ghost use Rattle.std.specs.Io.KnownBytes.{Consumes, IsAtEnd};
 ghost use Rattle.ref_streams.specs.Bytes.{HasFailed};
 
+use crate::error::RunError;
 use crate::source::Source;
-use crate::status::RunError;
 use std::alloc::Global;
 
 const CHUNK: usize = 4096;

@@ -12,6 +12,7 @@ pub mod AuthorityCharacters
 pub mod AsciiLemmas
 pub mod UniqueLemmas
 pub mod FragmentLemmas
+pub mod Hashes
 pub mod LawLemmas
 pub mod RestLemmas
 pub mod LengthsLemmas

@@ -13,6 +13,7 @@ pub mod examples;
 pub mod laws;
 mod lengths;
 mod parser;
+pub mod parts;
 mod reference;
 mod target;
 mod traits;

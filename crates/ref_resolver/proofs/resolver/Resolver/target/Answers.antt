@@ -1,6 +1,6 @@
 use Rattle.std.proofs.Common.{◌≡◌, lit<, false, slice_index, rules}
 use Rattle.std.proofs.lemmas.Str.Pattern.{strip_prefix_char}
-use Rattle.ref_index.proofs.Hashes.{is_hash, not_in_front, target-against}
+use Rattle.ref_uri.proofs.Hashes.{is_hash, not_in_front, target-against}
 use Rattle.ref_resolver.proofs.resolver.Resolver.target.Goals as goal
 
 pub returns-in_err-uri-clause-fault : goal.returns-in_err-uri-clause-fault

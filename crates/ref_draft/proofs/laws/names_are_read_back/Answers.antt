@@ -1,5 +1,5 @@
 use Rattle.std.proofs.Common.{refl}
-use Rattle.ref_report.proofs.laws.draft_rows.Goals as goal
+use Rattle.ref_draft.proofs.laws.names_are_read_back.Goals as goal
 
 pub returns : goal.returns
 returns c = record { rows = (refl, refl, refl, refl, refl, refl, refl, refl) }

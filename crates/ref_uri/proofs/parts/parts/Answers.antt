@@ -1,7 +1,7 @@
 use Rattle.std.proofs.Common.{◌≡◌, false, rules}
 use Rattle.std.specs.List.{list_any}
-use Rattle.ref_index.proofs.Hashes.{is_hash, uri_part-whole, fragment_part-hashless}
-use Rattle.ref_index.proofs.reference.parts.Goals as goal
+use Rattle.ref_uri.proofs.Hashes.{is_hash, uri_part-whole, fragment_part-hashless}
+use Rattle.ref_uri.proofs.parts.parts.Goals as goal
 
 pub returns-else-contains : goal.returns-else-contains
 returns-else-contains c =

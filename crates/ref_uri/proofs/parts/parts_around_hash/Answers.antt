@@ -1,7 +1,7 @@
 use Rattle.std.proofs.Common.{◌≡◌, lit<, false, slice_index}
 use Rattle.std.proofs.lemmas.Str.Pattern.{strip_prefix_char}
-use Rattle.ref_index.proofs.Hashes.{is_hash, hash_split, not_in_front, uri_part-split, uri_part-whole, fragment_part-split, fragment_part-hashless, fragment_part-behind}
-use Rattle.ref_index.proofs.reference.parts_around_hash.Goals as goal
+use Rattle.ref_uri.proofs.Hashes.{is_hash, hash_split, not_in_front, uri_part-split, uri_part-whole, fragment_part-split, fragment_part-hashless, fragment_part-behind}
+use Rattle.ref_uri.proofs.parts.parts_around_hash.Goals as goal
 
 pub returns-in_default : goal.returns-in_default
 returns-in_default c =
