@@ -5,9 +5,9 @@ use crate::resources::Resources;
 use crate::rules::code_of;
 use crate::spots::{Spots, first_of};
 use crate::suggestions::suggestion;
+use ref_error::Error;
 use ref_findings::{Bearer, Finding, Problem};
 use ref_messages::{Level, Message, Other, Suggester};
-use ref_retrieve::Error;
 use ref_uri::Uri;
 use std::alloc::{AllocError, Global};
 

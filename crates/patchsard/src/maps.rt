@@ -1,6 +1,6 @@
 //! Documents that are read from folders by their URIs.
+use ref_error::{Reason, Retrieve, RetrieveError};
 use ref_files::{below_prefix, names_of, path_below};
-use ref_retrieve::{Reason, Retrieve, RetrieveError};
 use ref_uri::Uri;
 use ref_uri::uri::from_str;
 use serde_json::Value;

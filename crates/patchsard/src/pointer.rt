@@ -1,7 +1,7 @@
 //! Paths as JSON pointers, and as steps.
+use ref_error::Error;
 use ref_parts::path::JsonPointerSegment;
 use ref_positions::Places;
-use ref_retrieve::Error;
 use referencing::{unescape_segment, write_escaped_str, write_index};
 use serde_json::Value;
 use std::alloc::{AllocError, Global};

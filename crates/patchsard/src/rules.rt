@@ -1,7 +1,7 @@
 //! The kinds of findings.
+use ref_error::Error;
 use ref_findings::Problem;
 use ref_messages::Rule;
-use ref_retrieve::Error;
 
 /// The kinds of findings, each with what it says.
 pub const RULES: &[Rule] = &[

@@ -1,7 +1,7 @@
 //! What may be meant by a pointer or an anchor that isn't there.
 use crate::resources::Resource;
+use ref_error::Error;
 use ref_messages::Suggester;
-use ref_retrieve::Error;
 use referencing::{unescape_segment, write_escaped_str};
 use serde_json::{Map, Value};
 use std::alloc::{AllocError, Global};

@@ -2,8 +2,8 @@
 use crate::given::Given;
 use crate::stop::Stop;
 use ref_draft::Draft;
+use ref_error::{Error, Retrieve, RetrieveError};
 use ref_findings::{Finding, Problem};
-use ref_retrieve::{Error, Retrieve, RetrieveError};
 use ref_uri::Uri;
 use referencing::meta::uris_for_draft;
 use referencing::{Registry, RegistryBuilder};

@@ -3,15 +3,15 @@ ghost use Rattle.std.specs.Prelude.{◌≡◌, true, IfOk, OnOk, IsErr, option_m
 ghost use Rattle.serde_json.specs.Data.{no_members};
 ghost use Rattle.serde_json.specs.View.{view, members_view};
 ghost use Rattle.ref_definitions.specs.Fault.{Fault};
-ghost use Rattle.ref_retrieve.specs.Errors.{is_memory, SaysFault};
+ghost use Rattle.ref_error.specs.Errors.{is_memory, SaysFault};
 ghost use Rattle.ref_calls.specs.Objects.{with_all};
 ghost use Rattle.ref_calls.specs.Errors as spec;
 ghost use Rattle.ref_calls.specs.Outcome.{IsStop, IsChanged};
 
 use crate::members::{Members, put_number, put_text};
 use crate::stop::Stop;
-use ref_retrieve::Error;
-use ref_retrieve::laws::errors_say_faults;
+use ref_error::Error;
+use ref_error::laws::errors_say_faults;
 use serde_json::{Map, Value, put};
 use std::alloc::{AllocError, Global};
 

@@ -2,9 +2,9 @@
 use Rattle.std.proofs.Common.{◌≡◌, ℕ, List, true, false, Some, refl}
 use Rattle.ref_definitions.specs.Fault as fault
 use Rattle.ref_definitions.specs.Fault.{Fault}
-use Rattle.ref_retrieve.specs.declared.error.Error.{Error}
-use Rattle.ref_retrieve.specs.declared.error.Error.TheVariants as error
-use Rattle.ref_retrieve.specs.Errors.{SaysFault}
+use Rattle.ref_error.specs.declared.error.Error.{Error}
+use Rattle.ref_error.specs.declared.error.Error.TheVariants as error
+use Rattle.ref_error.specs.Errors.{SaysFault}
 use Rattle.ref_findings.specs.Findings.{LeadsNowhere, missing_problem, by_fault}
 use Rattle.ref_findings.specs.inner.Meanings.{is_unretrievable}
 

@@ -4,8 +4,8 @@ ghost use Rattle.serde_json.specs.View.{view};
 ghost use Rattle.ref_draft.specs.Schema.{text_under};
 ghost use Rattle.ref_findings.specs.Entries.{is_note};
 
+use ref_error::Error;
 use ref_parts::path::JsonPointerSegment;
-use ref_retrieve::Error;
 use ref_uri::{Uri, UriError};
 use serde_json::Value;
 use std::rc::Rc;

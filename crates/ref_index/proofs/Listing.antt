@@ -8,7 +8,7 @@ use Rattle.ref_definitions.specs.World.{Document}
 use Rattle.ref_definitions.specs.Places.{root, children_of, places}
 use Rattle.ref_definitions.specs.Listing.{Listed, listed_place}
 use Rattle.ref_index.specs.declared.queue.Visit.{Visit}
-use Rattle.ref_index.specs.Queue.{place_of, IsQueue, IsListedTo}
+use Rattle.ref_index.specs.inner.Queue.{place_of, IsQueue, IsListedTo}
 use Rattle.ref_index.proofs.Queues.{at_root, step, at_end, beginning}
 use Rattle.ref_index.proofs.Walking.{head_is, visited_is, waiting_is}
 

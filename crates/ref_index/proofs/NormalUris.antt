@@ -30,7 +30,7 @@ use Rattle.ref_uri.proofs.Meanings.{parsed_with_scheme, parsed_refused, against_
 use Rattle.ref_uri.proofs.WrittenUri.{components_hold, normal_text_of, resolved_text_of}
 use Rattle.ref_uri.proofs.FragmentLemmas.{reference-with_fragment, scheme-with_fragment}
 use Rattle.ref_uri.proofs.LawLemmas.{from_components}
-use Rattle.ref_index.specs.NormalUris.{IsNormalUri, HasNormalUri, HaveNormalUris}
+use Rattle.ref_index.specs.inner.NormalUris.{IsNormalUri, HasNormalUri, HaveNormalUris}
 
 -- the guard goes with the dot segments
 guard_goes : (text : List ℕ) → remove_dot_segments (47 ∷ 46 ∷ 47 ∷ text) ≡ remove_dot_segments (47 ∷ text)

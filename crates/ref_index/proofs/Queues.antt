@@ -4,7 +4,7 @@ use Rattle.serde_json.specs.Data.{depth}
 use Rattle.ref_definitions.specs.World.{Document}
 use Rattle.ref_definitions.specs.Places.{Place, root, children_of, levels_below, places}
 use Rattle.ref_definitions.proofs.Levels.{places_end}
-use Rattle.ref_index.specs.Queue.{left_from, IsQueue}
+use Rattle.ref_index.specs.inner.Queue.{left_from, IsQueue}
 
 -- ---- a level that is done gives way to the next
 

@@ -7,9 +7,9 @@ use Rattle.std.proofs.lemmas.Grind.{flat_map-append}
 use Rattle.ref_uri.specs.Targets.{Refusal}
 use Rattle.ref_uri.specs.declared.error.UriFault.{UriFault}
 use Rattle.ref_uri.specs.declared.error.UriFault.TheVariants.{Invalid, Memory}
-use Rattle.ref_retrieve.specs.declared.error.Error.{Error}
-use Rattle.ref_retrieve.specs.declared.error.Error.TheVariants as error
-use Rattle.ref_retrieve.specs.Errors.{of_uri_fault, UnlessMemory}
+use Rattle.ref_error.specs.declared.error.Error.{Error}
+use Rattle.ref_error.specs.declared.error.Error.TheVariants as error
+use Rattle.ref_error.specs.Errors.{of_uri_fault, UnlessMemory}
 use Rattle.ref_definitions.specs.World.{Document, Layer, World}
 use Rattle.ref_definitions.specs.Places.{places}
 use Rattle.ref_definitions.specs.Fault.{InvalidUri, RetrievalLimit}

@@ -21,7 +21,7 @@ use Rattle.ref_definitions.specs.Anchors.{named_under}
 use Rattle.ref_definitions.specs.Cached.{pairs_at}
 use Rattle.ref_index.specs.declared.found.Found.{Found}
 use Rattle.ref_index.specs.declared.queue.Visit.{Visit}
-use Rattle.ref_index.specs.Queue.{place_of, value_of, IsQueue}
+use Rattle.ref_index.specs.inner.Queue.{place_of, value_of, IsQueue}
 use Rattle.ref_index.specs.Visits.{IsFirstFault, IsVisited, IsWalked, AllStandIn, ChildrenStandAt, IsAt, faults_of, names_of, wants_of}
 use Rattle.ref_index.proofs.Visiting.{holds_same}
 use Rattle.ref_index.proofs.Queues.{at_root, step, at_end, beginning}

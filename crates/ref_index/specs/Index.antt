@@ -16,7 +16,7 @@ use Rattle.ref_index.specs.declared.entry.Entry.{Entry}
 use Rattle.ref_index.specs.declared.entry.NamedEntry.{NamedEntry}
 use Rattle.ref_index.specs.declared.entry.FoundName.{FoundName}
 use Rattle.ref_index.specs.declared.found.ResolvedUri.{ResolvedUri}
-use Rattle.ref_index.specs.NormalUris.{HaveNormalUris}
+use Rattle.ref_index.specs.inner.NormalUris.{HaveNormalUris}
 use Rattle.ref_index.specs.Found.{IsEntryOf, IsNumberOf, kind_of}
 
 -- an entry under a URI and the empty text is that of a resource

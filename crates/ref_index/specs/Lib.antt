@@ -1,11 +1,9 @@
-pub mod Codes
 pub mod Contents
 pub mod Parts
 pub mod Document
 pub mod Found
-pub mod Queue
 pub mod Visits
-pub mod NormalUris
 pub mod Index
 pub mod Listing
 pub mod Retrieval
+pub mod inner

@@ -7,8 +7,8 @@ use Rattle.ref_definitions.specs.World.{Document, Layer, World}
 use Rattle.ref_definitions.specs.Fault.{Fault}
 use Rattle.ref_definitions.specs.Wants.{Want}
 use Rattle.ref_definitions.specs.Preparing.{Given, IsOutcome, refusal_fault}
-use Rattle.ref_retrieve.specs.declared.error.Error.{Error}
-use Rattle.ref_retrieve.specs.Errors.{SaysFault, UnlessMemory}
+use Rattle.ref_error.specs.declared.error.Error.{Error}
+use Rattle.ref_error.specs.Errors.{SaysFault, UnlessMemory}
 
 -- what is given: what the retriever may return and refuse, the limit, the draft, the parents and the documents
 abbrev pub given_with : (List ℕ → Data → Type 0) → (List ℕ → List ℕ → Type 0) → ℕ → Draft → World

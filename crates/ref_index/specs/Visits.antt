@@ -21,7 +21,7 @@ use Rattle.ref_draft.specs.declared.draft.Draft.{Draft}
 use Rattle.ref_index.specs.declared.found.Found.{Found}
 use Rattle.ref_index.specs.declared.queue.Visit.{Visit}
 use Rattle.ref_index.specs.Found.{Holds}
-use Rattle.ref_index.specs.Queue.{place_of, value_of, IsQueue}
+use Rattle.ref_index.specs.inner.Queue.{place_of, value_of, IsQueue}
 
 -- the URI that a text names a meta-schema by: its fragment takes no part
 abbrev pub meta_schema_uri : List ℕ → Result (List ℕ) Refusal

@@ -13,7 +13,7 @@ ghost use Rattle.ref_definitions.specs.Cached.{pairs};
 ghost use Rattle.ref_definitions.specs.Wants.{Want};
 ghost use Rattle.ref_index.specs.Document.{document_of};
 ghost use Rattle.ref_index.specs.Found.{Holds, IsEntryOf};
-ghost use Rattle.ref_index.specs.NormalUris.{IsNormalUri, HaveNormalUris};
+ghost use Rattle.ref_index.specs.inner.NormalUris.{IsNormalUri, HaveNormalUris};
 ghost use Rattle.ref_index.specs.Index.{IsFoundAt, IsFoundWhere, IsNamedAt, numbered_uri};
 
 use crate::document::Document;
@@ -45,7 +45,7 @@ pub struct Index<'a> {
 impl<'a> Model for Index<'a> {
     ghost use Rattle.std.specs.Prelude.{List, map};
     ghost use Rattle.ref_definitions.specs.World.{Document as WorldDocument};
-    ghost use Rattle.ref_index.specs.Codes.{layer_code};
+    ghost use Rattle.ref_index.specs.inner.Codes.{layer_code};
 
     ghost Value = { List WorldDocument };
 

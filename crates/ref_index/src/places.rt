@@ -8,7 +8,7 @@ ghost use Rattle.ref_definitions.specs.Places.{Place as WorldPlace, base_within,
 ghost use Rattle.ref_definitions.specs.Wants.{faults};
 ghost use Rattle.ref_index.specs.Document.{document_of};
 ghost use Rattle.ref_index.specs.Listing.{listed_of};
-ghost use Rattle.ref_index.specs.Queue.{place_of};
+ghost use Rattle.ref_index.specs.inner.Queue.{place_of};
 ghost use Rattle.ref_index.specs.declared.queue.Visit.{Visit};
 
 use crate::document::Document;

@@ -3,7 +3,7 @@ ghost use Rattle.std.specs.Prelude.{◌≡◌, map, IfOk, IfErr, Ok};
 ghost use Rattle.ref_definitions.specs.Fault.{RetrievalLimit};
 ghost use Rattle.ref_definitions.specs.Wants.{faults};
 ghost use Rattle.ref_definitions.specs.Preparing.{IsOutcome, refusal_fault};
-ghost use Rattle.ref_retrieve.specs.Errors.{reason_text, IsForReason, SaysOrMemory};
+ghost use Rattle.ref_error.specs.Errors.{reason_text, IsForReason, SaysOrMemory};
 ghost use Rattle.ref_index.specs.Document.{document_of};
 ghost use Rattle.ref_index.specs.Found.{cause_of, want_of};
 ghost use Rattle.ref_index.specs.Visits.{IsFirstFault};
@@ -14,7 +14,7 @@ use crate::found::{Cause, Want};
 use crate::index::Index;
 use crate::walked::Walked;
 use ref_draft::Draft;
-use ref_retrieve::{Error, Reason, Retrieve, RetrieveError};
+use ref_error::{Error, Reason, Retrieve, RetrieveError};
 use ref_uri::UriFault;
 use std::alloc::Global;
 

@@ -2,7 +2,7 @@
 ghost use Rattle.std.specs.Prelude.{◌≡◌, IfSome};
 ghost use Rattle.serde_json.specs.View.{view};
 ghost use Rattle.ref_index.specs.Contents.{tree_of};
-ghost use Rattle.ref_index.specs.Queue.{value_of};
+ghost use Rattle.ref_index.specs.inner.Queue.{value_of};
 
 use crate::document::Contents;
 use ref_draft::Draft;

@@ -15,7 +15,7 @@ ghost use Rattle.ref_definitions.specs.Cached.{Pair, pairs_of_identifier, pairs_
 ghost use Rattle.ref_definitions.specs.Wants.{Want as Wanted, Reference, MetaSchema, reference_at, schema_at, wants_of_text, refusals_of, wants_at, faults_at};
 ghost use Rattle.ref_index.specs.Contents.{tree_of};
 ghost use Rattle.ref_index.specs.Found.{Holds, IsEntryOf, IsNumberOf};
-ghost use Rattle.ref_index.specs.Queue.{place_of, value_of};
+ghost use Rattle.ref_index.specs.inner.Queue.{place_of, value_of};
 ghost use Rattle.ref_index.specs.declared.queue.Visit.{Visit};
 ghost use Rattle.ref_index.specs.Document.{document_of};
 ghost use Rattle.ref_index.specs.Visits.{meta_schema_uri, IsFirstFault, StandsIn, ChildrenCame, IsVisited, IsWalked, faults_of, under_document, names_under, resources_at, names_at};

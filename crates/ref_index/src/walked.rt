@@ -55,7 +55,7 @@ pub struct Walked<'a> {
 impl<'a> Model for Walked<'a> {
     ghost use Rattle.std.specs.Prelude.{List, map};
     ghost use Rattle.ref_definitions.specs.World.{Document as WorldDocument};
-    ghost use Rattle.ref_index.specs.Codes.{layer_code};
+    ghost use Rattle.ref_index.specs.inner.Codes.{layer_code};
 
     ghost Value = { List WorldDocument };
 

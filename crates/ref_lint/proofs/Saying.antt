@@ -5,9 +5,9 @@ use Rattle.ref_definitions.specs.World.{World}
 use Rattle.ref_definitions.specs.Fault as fault
 use Rattle.ref_definitions.specs.Fault.{Fault}
 use Rattle.ref_definitions.specs.Lookup.{lookup}
-use Rattle.ref_retrieve.specs.declared.error.Error.{Error}
-use Rattle.ref_retrieve.specs.declared.error.Error.TheVariants as error
-use Rattle.ref_retrieve.specs.Errors.{SaysFault}
+use Rattle.ref_error.specs.declared.error.Error.{Error}
+use Rattle.ref_error.specs.declared.error.Error.TheVariants as error
+use Rattle.ref_error.specs.Errors.{SaysFault}
 use Rattle.ref_lint.specs.Dangling.{where_fault, dangling_from}
 use Rattle.ref_lint.specs.Entries.{IsUnretrievable}
 

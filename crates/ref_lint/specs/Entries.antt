@@ -1,9 +1,9 @@
 -- What is listed of unresolvable references.
 use Rattle.std.specs.Prelude.{◌≡◌, map, ⊤}
 use Rattle.ref_parts.specs.Segment.{part_of}
-use Rattle.ref_retrieve.specs.declared.error.Error.{Error}
-use Rattle.ref_retrieve.specs.declared.error.Error.TheVariants as error
-use Rattle.ref_retrieve.specs.Errors.{SaysFault}
+use Rattle.ref_error.specs.declared.error.Error.{Error}
+use Rattle.ref_error.specs.declared.error.Error.TheVariants as error
+use Rattle.ref_error.specs.Errors.{SaysFault}
 use Rattle.ref_lint.specs.declared.entry.Dangling.{Dangling}
 use Rattle.ref_lint.specs.Dangling.{DanglingReference}
 

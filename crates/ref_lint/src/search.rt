@@ -4,7 +4,7 @@ ghost use Rattle.std.specs.List.{All, AllZip};
 ghost use Rattle.std.specs.Option.{option_to_list};
 ghost use Rattle.ref_definitions.specs.Lookup.{lookup};
 ghost use Rattle.ref_index.specs.Listing.{listed_of};
-ghost use Rattle.ref_retrieve.specs.Errors.{IsMemory};
+ghost use Rattle.ref_error.specs.Errors.{IsMemory};
 ghost use Rattle.ref_lint.specs.Dangling.{dangling};
 ghost use Rattle.ref_lint.specs.Entries.{IsEntryOf, IsUnretrievable};
 ghost use Rattle.ref_lint.specs.inner.Listed.{reference_of, dangling_listed, IsWhy, AreEntries};

@@ -18,9 +18,9 @@ use Rattle.ref_definitions.specs.Fault.{Fault, as_invalid_uri}
 use Rattle.ref_definitions.specs.Preparing.{Given}
 use Rattle.ref_definitions.specs.Pending.{Addition, Pending, with_addition, with_additions, given_of_builder}
 use Rattle.ref_definitions.specs.Retrievers.{map_retriever}
-use Rattle.ref_retrieve.specs.declared.error.Error.{Error}
-use Rattle.ref_retrieve.specs.Errors.{IsFaultOf}
-use Rattle.ref_retrieve.specs.Retrieving.{trees_of}
+use Rattle.ref_error.specs.declared.error.Error.{Error}
+use Rattle.ref_error.specs.Errors.{IsFaultOf}
+use Rattle.ref_error.specs.Retrieving.{trees_of}
 use Rattle.ref_index.proofs.Retrieving.{unless_memory}
 use Rattle.referencing.specs.Builder.{Builder, new_builder, holding_pending, addition, Adds}
 use Rattle.referencing.specs.Prepared.{given_of, IsPreparedOf}

@@ -8,8 +8,8 @@ use Rattle.ref_parts.specs.Pointer.{pointer_text}
 use Rattle.ref_parts.specs.Segment.{part_of}
 use Rattle.ref_definitions.specs.World.{World}
 use Rattle.ref_definitions.specs.Fault.{Fault, fault_text}
-use Rattle.ref_retrieve.specs.declared.error.Error.{Error}
-use Rattle.ref_retrieve.specs.Errors.{error_text, SaysFault}
+use Rattle.ref_error.specs.declared.error.Error.{Error}
+use Rattle.ref_error.specs.Errors.{error_text, SaysFault}
 use Rattle.ref_lint.specs.declared.entry.Dangling.{Dangling}
 use Rattle.ref_lint.specs.Dangling.{DanglingReference, dangling}
 use Rattle.ref_lint.specs.Entries.{IsEntryOf}

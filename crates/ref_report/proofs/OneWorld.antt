@@ -7,9 +7,9 @@ use Rattle.ref_definitions.specs.Fault.{Fault, InvalidUri, as_invalid_uri}
 use Rattle.ref_definitions.specs.Preparing.{Given}
 use Rattle.ref_definitions.specs.Pending.{Pending}
 use Rattle.ref_definitions.specs.Follow.{Followed}
-use Rattle.ref_retrieve.specs.declared.error.Error.{Error}
-use Rattle.ref_retrieve.specs.declared.error.Error.TheVariants as error
-use Rattle.ref_retrieve.specs.Errors.{SaysFault, IsFaultOf, UnlessMemory}
+use Rattle.ref_error.specs.declared.error.Error.{Error}
+use Rattle.ref_error.specs.declared.error.Error.TheVariants as error
+use Rattle.ref_error.specs.Errors.{SaysFault, IsFaultOf, UnlessMemory}
 use Rattle.ref_index.specs.Retrieval.{IsFaultyOutcome}
 use Rattle.ref_index.proofs.Retrieving.{unless_memory}
 use Rattle.referencing.specs.Prepared.{IsPreparedOf}

@@ -9,7 +9,7 @@ use Rattle.ref_definitions.specs.Results.{◌>>=◌}
 use Rattle.ref_definitions.specs.World.{World}
 use Rattle.ref_definitions.specs.Fault.{Fault}
 use Rattle.ref_definitions.specs.Follow.{Step, Followed, followed_steps}
-use Rattle.ref_retrieve.specs.declared.error.Error.{Error}
+use Rattle.ref_error.specs.declared.error.Error.{Error}
 use Rattle.referencing.specs.Following.{lent_last, SaysStepFault}
 use Rattle.ref_report.specs.declared.report.Report as declared
 use Rattle.ref_report.specs.declared.status.Status.{Status}

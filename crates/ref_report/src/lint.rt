@@ -5,8 +5,8 @@ ghost use Rattle.ref_parts.specs.Segment.{part_of};
 ghost use Rattle.ref_report.specs.Report as spec;
 ghost use Rattle.ref_report.specs.inner.Lines.{entry_line};
 
+use ref_error::laws::errors_say_faults;
 use ref_lint::{Dangling, dangling};
-use ref_retrieve::laws::errors_say_faults;
 use referencing::{JsonPointerSegment, Registry, write_escaped_str, write_index};
 use serde_json::Value;
 use std::alloc::{AllocError, Global};

@@ -8,8 +8,8 @@ ghost use Rattle.ref_report.specs.inner.Faults.{IsReportOn};
 ghost use Rattle.ref_report.specs.inner.View.{report_view};
 
 use crate::request::BadRequest;
-use ref_retrieve::laws::errors_say_faults;
 use crate::status::Status;
+use ref_error::laws::errors_say_faults;
 use referencing::{Draft, Error, FollowError, Followed, List, Uri};
 use serde_json::Value;
 use std::alloc::{AllocError, Global};

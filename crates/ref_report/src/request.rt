@@ -1,7 +1,7 @@
 //! A request, read from one JSON object.
 ghost use Rattle.std.specs.Prelude.{◌≡◌, IfOk, option_map, map};
 ghost use Rattle.serde_json.specs.View.{view, members_view};
-ghost use Rattle.ref_retrieve.specs.Retrieving.{trees_of};
+ghost use Rattle.ref_error.specs.Retrieving.{trees_of};
 ghost use Rattle.ref_report.specs.Request as spec;
 ghost use Rattle.ref_report.specs.inner.Outcome.{Answers};
 ghost use Rattle.ref_report.specs.inner.View.{document_view, documents_view, step_view, request_view};

@@ -6,8 +6,8 @@ ghost use Rattle.ref_report.specs.Run.{Reports};
 
 use crate::answer::answer;
 use crate::report::Report;
-pub use crate::status::exit_status;
 use crate::status::Status;
+pub use crate::status::exit_status;
 pub use ref_streams::RunError;
 use ref_streams::{Sink, Source, read_to_end};
 use std::alloc::Global;

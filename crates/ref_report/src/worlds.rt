@@ -3,7 +3,7 @@ ghost use Rattle.std.specs.Prelude.{◌≡◌, [], IfOk, IfErr, Ok, option_map, 
 ghost use Rattle.ref_definitions.specs.Fault.{as_invalid_uri};
 ghost use Rattle.ref_definitions.specs.Pending.{given_of_builder};
 ghost use Rattle.ref_definitions.specs.Retrievers.{map_retriever};
-ghost use Rattle.ref_retrieve.specs.Retrieving.{trees_of};
+ghost use Rattle.ref_error.specs.Retrieving.{trees_of};
 ghost use Rattle.referencing.specs.Builder.{builder_of};
 ghost use Rattle.ref_report.specs.Worlds.{pending_of, AreParents, IsWorld};
 ghost use Rattle.ref_report.specs.inner.Builders as inner;

@@ -3,9 +3,9 @@ use Rattle.std.proofs.Common.{◌≡◌, Result, Ok, Err, ap}
 use Rattle.ref_uri.specs.Targets.{Refusal}
 use Rattle.ref_definitions.specs.Results.{◌>>=◌}
 use Rattle.ref_definitions.specs.Fault.{Fault, InvalidUri, as_invalid_uri}
-use Rattle.ref_retrieve.specs.declared.error.Error.{Error}
-use Rattle.ref_retrieve.specs.declared.error.Error.TheVariants as error
-use Rattle.ref_retrieve.specs.Errors.{IsFaultOf, SaysOrMemory}
+use Rattle.ref_error.specs.declared.error.Error.{Error}
+use Rattle.ref_error.specs.declared.error.Error.TheVariants as error
+use Rattle.ref_error.specs.Errors.{IsFaultOf, SaysOrMemory}
 
 -- an error that says the fault that an answer is
 pub says_of : {A : Type 0} (answer : Result A Fault) (fault : Fault) (e : Error) → answer ≡ Err fault → SaysOrMemory fault e → IsFaultOf answer e

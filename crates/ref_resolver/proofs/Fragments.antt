@@ -9,8 +9,8 @@ use Rattle.ref_definitions.specs.Places.{Place}
 use Rattle.ref_definitions.specs.Anchors.{Named}
 use Rattle.ref_definitions.specs.Lookup.{Resolver, at_fragment, named_found, dynamically, by_scope, in_scope}
 use Rattle.ref_resolver.specs.declared.located.Located.{Located}
-use Rattle.ref_resolver.specs.Located.{IsLocated}
-use Rattle.ref_resolver.specs.Names.{is_name}
+use Rattle.ref_resolver.specs.inner.Located.{IsLocated}
+use Rattle.ref_resolver.specs.inner.Names.{is_name}
 use Rattle.ref_resolver.specs.Resolving.{at_pointer}
 
 -- one that begins with `/` is a pointer

@@ -10,7 +10,7 @@ use Rattle.ref_definitions.specs.Resources.{last_under, resources, meant_place}
 use Rattle.ref_definitions.specs.Fault.{Fault}
 use Rattle.ref_definitions.specs.Anchors.{Named, last_named, names, named_entry, named_by_identifier, not_named, anchor}
 use Rattle.ref_resolver.specs.declared.located.Located.{Located}
-use Rattle.ref_resolver.specs.Located.{IsLocated, IsLocatedIn, IsMeant, IsMeantIn}
+use Rattle.ref_resolver.specs.inner.Located.{IsLocated, IsLocatedIn, IsMeant, IsMeantIn}
 
 pub meant_of : (layer : Layer) (o : Option Located) (found : Option (List ℕ × Place)) (r : List ℕ × Place) → found ≡ Some r → MatchOption o ⊥ (λ l. IsLocatedIn layer l r.1)
     → MatchOption o (found ≡ None) (IsMeantIn layer (option_map (λ e. e.1) found))

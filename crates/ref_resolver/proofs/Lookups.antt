@@ -10,8 +10,8 @@ use Rattle.ref_definitions.specs.Places.{Place}
 use Rattle.ref_definitions.specs.Resources.{meant_place}
 use Rattle.ref_definitions.specs.Lookup.{Resolver, Found, lookup, at_fragment, moved_resolver}
 use Rattle.ref_definitions.specs.Recursive.{is_marked, answers_marked, looked_up, outermost_marked, unless_fault_behind, lookup_recursive}
-use Rattle.ref_retrieve.specs.declared.error.Error.{Error}
-use Rattle.ref_retrieve.specs.Errors.{IsFaultOf}
+use Rattle.ref_error.specs.declared.error.Error.{Error}
+use Rattle.ref_error.specs.Errors.{IsFaultOf}
 use Rattle.ref_resolver.proofs.Faults.{fault_ends, goes_on}
 
 abbrev at_uri : World → Resolver → List ℕ → List ℕ → Result Found Fault

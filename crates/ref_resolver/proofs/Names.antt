@@ -7,7 +7,7 @@ use Rattle.ref_definitions.specs.Places.{Place}
 use Rattle.ref_definitions.specs.Resources.{meant_place}
 use Rattle.ref_definitions.specs.Anchors.{Named, anchor}
 use Rattle.ref_definitions.specs.Lookup.{Resolver, lookup, at_fragment, moved_resolver, named_found}
-use Rattle.ref_resolver.specs.Names.{is_name, at_name}
+use Rattle.ref_resolver.specs.inner.Names.{is_name, at_name}
 use Rattle.ref_resolver.proofs.Faults.{goes_on}
 use Rattle.ref_resolver.proofs.Lookups.{lookup_present}
 

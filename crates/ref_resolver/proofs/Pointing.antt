@@ -19,9 +19,9 @@ use Rattle.ref_definitions.specs.Places.{base_within}
 use Rattle.ref_definitions.specs.Fault.{Fault, InvalidPercentEncoding, as_invalid_uri}
 use Rattle.ref_definitions.specs.Bases.{Along, along_part, changed_base}
 use Rattle.ref_definitions.specs.Pointers.{step_into, walked_along, pointed_value}
-use Rattle.ref_retrieve.specs.declared.error.Error.{Error}
-use Rattle.ref_retrieve.specs.Errors.{IsFaultOf}
-use Rattle.ref_resolver.specs.Walking.{stepped_along, leads_to, pointed_to}
+use Rattle.ref_error.specs.declared.error.Error.{Error}
+use Rattle.ref_error.specs.Errors.{IsFaultOf}
+use Rattle.ref_resolver.specs.inner.Walking.{stepped_along, leads_to, pointed_to}
 use Rattle.ref_resolver.proofs.Faults.{fault_as, refused_after}
 
 both_true : (b s : Bool) → (b ≡ true → s ≡ true) → (s ≡ true → b ≡ true) → b ≡ s

@@ -8,9 +8,9 @@ use Rattle.ref_definitions.specs.Anchors.{Named}
 use Rattle.ref_definitions.specs.Lookup.{Resolver, Found, fault_of, entry_of, is_dynamic, unless_fault, entry_found, outermost}
 use Rattle.serde_json.specs.View.{view}
 use Rattle.ref_resolver.specs.declared.located.Located.{Located}
-use Rattle.ref_resolver.specs.Located.{IsLocated}
+use Rattle.ref_resolver.specs.inner.Located.{IsLocated}
 use Rattle.ref_resolver.specs.Resolving.{under_uri}
-use Rattle.ref_resolver.specs.Scoped.{dynamic_of}
+use Rattle.ref_resolver.specs.inner.Scoped.{dynamic_of}
 
 abbrev Meaning : Type 0
 Meaning = List ℕ × Result Named Fault

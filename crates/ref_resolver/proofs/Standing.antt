@@ -16,9 +16,9 @@ use Rattle.ref_definitions.specs.Lookup.{Resolver, Found, in_subresource}
 use Rattle.ref_definitions.proofs.Changes.{first_answers, there_or, step_leads, part_more}
 use Rattle.ref_index.specs.Parts.{part_of as owned_part}
 use Rattle.ref_resolver.specs.declared.located.Located.{Located}
-use Rattle.ref_resolver.specs.Located.{IsLocatedIn}
+use Rattle.ref_resolver.specs.inner.Located.{IsLocatedIn}
 use Rattle.ref_resolver.specs.Resolving.{under_uri}
-use Rattle.ref_resolver.specs.Walking.{stepped_along}
+use Rattle.ref_resolver.specs.inner.Walking.{stepped_along}
 
 pub if_ok : {A E : Type 0} (P Q : A → Type 0) (r : Result A E) → ((a : A) → P a → Q a) → IfOk r P → IfOk r Q
 if_ok P Q (Ok a) then is = then a is

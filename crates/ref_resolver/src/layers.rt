@@ -4,17 +4,17 @@ ghost use Rattle.ref_uri.specs.Targets.{uri_against};
 ghost use Rattle.ref_definitions.specs.Resources.{meant_place};
 ghost use Rattle.ref_definitions.specs.Anchors.{named_entry};
 ghost use Rattle.ref_definitions.specs.Fault.{as_invalid_uri};
-ghost use Rattle.ref_retrieve.specs.Errors.{IsFaultOf};
-ghost use Rattle.ref_resolver.specs.Located.{IsMeant, IsMeantAt, IsNamed, IsNamedAt};
+ghost use Rattle.ref_error.specs.Errors.{IsFaultOf};
+ghost use Rattle.ref_resolver.specs.inner.Located.{IsMeant, IsMeantAt, IsNamed, IsNamedAt};
 ghost use Rattle.ref_resolver.specs.Layered.{world_in, IsHeld};
 
 use crate::located::{
     Located, LocatedName, Numbered, NumberedName, is_resource_above, named_above, named_in,
     place_of, resolved_above, resource_above, resource_in, with_layer,
 };
+use ref_error::Error;
 use ref_index::Index;
 use ref_index::reference::shared;
-use ref_retrieve::Error;
 use ref_uri::uri::resolve_against;
 use ref_uri::{Uri, UriRef};
 use std::alloc::Global;

@@ -8,7 +8,7 @@ ghost use Rattle.ref_definitions.specs.Anchors.{last_named, names, named_entry};
 ghost use Rattle.ref_index.specs.Found.{IsEntryOf};
 ghost use Rattle.ref_index.specs.Index.{IsFoundWhere};
 ghost use Rattle.ref_resolver.specs.Layered.{IsHeld};
-ghost use Rattle.ref_resolver.specs.Located.{IsLocatedIn, IsMeantIn, IsMeantAt, IsNamedIn, IsNamedAt};
+ghost use Rattle.ref_resolver.specs.inner.Located.{IsLocatedIn, IsMeantIn, IsMeantAt, IsNamedIn, IsNamedAt};
 
 use ref_index::{Entry, Index, NamedEntry};
 use ref_uri::Uri;

@@ -9,14 +9,14 @@ ghost use Rattle.ref_draft.specs.ScanSteps.{scan};
 ghost use Rattle.ref_definitions.specs.Places.{base_within};
 ghost use Rattle.ref_definitions.specs.Pointers as world;
 ghost use Rattle.ref_definitions.specs.Fault.{PointerToNowhere, InvalidArrayIndex, InvalidPercentEncoding, as_invalid_uri};
-ghost use Rattle.ref_retrieve.specs.Errors.{IsFaultOf, SaysOrMemory};
-ghost use Rattle.ref_resolver.specs.Walking.{along_of, stepped_along, leads_to, pointed_to};
+ghost use Rattle.ref_error.specs.Errors.{IsFaultOf, SaysOrMemory};
+ghost use Rattle.ref_resolver.specs.inner.Walking.{along_of, stepped_along, leads_to, pointed_to};
 
 use crate::layers::Layers;
 use percent_encoding::{DecodeError, percent_decode};
 use ref_draft::{Draft, ResourceRef, Segment, Segments};
+use ref_error::Error;
 use ref_parts::escape::unescape_segment;
-use ref_retrieve::Error;
 use ref_uri::Uri;
 use serde_json::Value;
 use std::alloc::{AllocError, Global};

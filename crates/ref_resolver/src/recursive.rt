@@ -3,11 +3,11 @@ ghost use Rattle.std.specs.Prelude.{◌≡◌, IfOk, IfErr, Ok};
 ghost use Rattle.serde_json.specs.View.{view};
 ghost use Rattle.ref_definitions.specs.Lookup.{lookup};
 ghost use Rattle.ref_definitions.specs.Recursive.{is_marked, lookup_recursive};
-ghost use Rattle.ref_retrieve.specs.Errors.{IsFaultOf};
+ghost use Rattle.ref_error.specs.Errors.{IsFaultOf};
 ghost use Rattle.ref_resolver.specs.Resolving.{resolver_of, world_of, found_of, world_found};
 
 use crate::resolver::{Resolved, Resolver};
-use ref_retrieve::Error;
+use ref_error::Error;
 use serde_json::Value;
 use std::alloc::Global;
 

@@ -10,13 +10,13 @@ ghost use Rattle.ref_definitions.specs.Anchors.{Named, anchor, not_named};
 ghost use Rattle.ref_draft.specs.Anchors.{Dynamic};
 ghost use Rattle.ref_draft.specs.Views.{resource_ref};
 ghost use Rattle.ref_definitions.specs.Lookup.{moved_resolver, in_subresource, lookup, named_found};
-ghost use Rattle.ref_retrieve.specs.Errors.{IsFaultOf};
+ghost use Rattle.ref_error.specs.Errors.{IsFaultOf};
 ghost use Rattle.ref_definitions.specs.Places.{Place};
 ghost use Rattle.ref_definitions.specs.Resources.{meant_place};
 ghost use Rattle.ref_resolver.specs.Layered.{world_in};
-ghost use Rattle.ref_resolver.specs.Located.{IsLocated, IsMeant};
+ghost use Rattle.ref_resolver.specs.inner.Located.{IsLocated, IsMeant};
 ghost use Rattle.ref_resolver.specs.Resolving.{resolver_of, world_of, found_of, world_found};
-ghost use Rattle.ref_resolver.specs.Names.{is_name};
+ghost use Rattle.ref_resolver.specs.inner.Names.{is_name};
 
 use crate::fragment::{
     at_pointer, at_value, is_name, meaning, not_named, not_retrieved, outermost, plain_found,
@@ -25,8 +25,8 @@ use crate::fragment::{
 use crate::layers::Layers;
 use crate::located::Located;
 use ref_draft::{Draft, ResourceRef};
+use ref_error::Error;
 use ref_parts::list::List;
-use ref_retrieve::Error;
 use ref_uri::parts::parts;
 use ref_uri::{Uri, UriRef};
 use serde_json::Value;
@@ -367,7 +367,7 @@ impl<'r> Clone for Resolver<'r> {
 impl<'r> PartialEq for Resolver<'r> {
     ghost use Rattle.std.specs.Prelude.{bytes_eq};
     ghost use Rattle.std.specs.Cmp.{partial_equiv_from_equiv};
-    ghost use Rattle.ref_resolver.specs.Comparing.{by_base};
+    ghost use Rattle.ref_resolver.specs.inner.Comparing.{by_base};
 
     ghost eq = { λ a b. bytes_eq (resolver_of a).base (resolver_of b).base };
 
@@ -379,7 +379,7 @@ impl<'r> PartialEq for Resolver<'r> {
 }
 
 impl<'r> Eq for Resolver<'r> {
-    ghost use Rattle.ref_resolver.specs.Comparing.{by_base};
+    ghost use Rattle.ref_resolver.specs.inner.Comparing.{by_base};
 
     ghost laws = { by_base };
 }

@@ -18,10 +18,10 @@ use Rattle.ref_definitions.specs.Fault.{Fault, as_invalid_uri}
 use Rattle.ref_definitions.specs.Preparing.{Given}
 use Rattle.ref_definitions.specs.Pending.{Addition, Pending, with_addition, with_additions, given_of_builder}
 use Rattle.ref_definitions.specs.Retrievers.{map_retriever}
-use Rattle.ref_retrieve.specs.declared.error.Error.{Error}
-use Rattle.ref_retrieve.specs.declared.error.Error.TheVariants as error
-use Rattle.ref_retrieve.specs.Errors.{SaysFault, IsFaultOf, UnlessMemory}
-use Rattle.ref_retrieve.specs.Retrieving.{trees_of}
+use Rattle.ref_error.specs.declared.error.Error.{Error}
+use Rattle.ref_error.specs.declared.error.Error.TheVariants as error
+use Rattle.ref_error.specs.Errors.{SaysFault, IsFaultOf, UnlessMemory}
+use Rattle.ref_error.specs.Retrieving.{trees_of}
 use Rattle.ref_index.specs.Retrieval.{IsFaultyOutcome}
 use Rattle.ref_index.proofs.Retrieving.{unless_memory}
 use Rattle.ref_calls.specs.inner.Given.{given_of}

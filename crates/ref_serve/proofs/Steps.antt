@@ -11,9 +11,9 @@ use Rattle.ref_definitions.specs.World.{World}
 use Rattle.ref_definitions.specs.Fault.{Fault}
 use Rattle.ref_definitions.specs.Lookup.{Resolver, Found as WorldFound, in_subresource}
 use Rattle.ref_definitions.specs.Follow as world
-use Rattle.ref_retrieve.specs.declared.error.Error.{Error}
-use Rattle.ref_retrieve.specs.declared.error.Error.TheVariants as error
-use Rattle.ref_retrieve.specs.Errors.{IsFaultOf, SaysFault, is_memory}
+use Rattle.ref_error.specs.declared.error.Error.{Error}
+use Rattle.ref_error.specs.declared.error.Error.TheVariants as error
+use Rattle.ref_error.specs.Errors.{IsFaultOf, SaysFault, is_memory}
 use Rattle.ref_resolver.specs.Locations.{StandsAt}
 use Rattle.ref_resolver.proofs.Faults.{fault_ends}
 use Rattle.referencing.specs.declared.steps.Step.{Step}

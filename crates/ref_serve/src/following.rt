@@ -3,7 +3,7 @@ ghost use Rattle.std.specs.Prelude.{◌≡◌, ◌++◌, true, option_map, map, 
 ghost use Rattle.serde_json.specs.View.{view, items_view};
 ghost use Rattle.ref_definitions.specs.Fault.{Fault};
 ghost use Rattle.ref_definitions.specs.Follow.{after_step, followed_from};
-ghost use Rattle.ref_retrieve.specs.Errors.{IsFaultOf, SaysFault, is_memory};
+ghost use Rattle.ref_error.specs.Errors.{IsFaultOf, SaysFault, is_memory};
 ghost use Rattle.ref_resolver.specs.Resolving.{resolver_of as resolver_view, world_of};
 ghost use Rattle.referencing.specs.Following.{step_of};
 ghost use Rattle.ref_calls.specs.Objects.{object_of};

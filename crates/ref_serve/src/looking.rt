@@ -1,7 +1,7 @@
 //! `lookup` and `recursive`.
 ghost use Rattle.std.specs.Prelude.{◌≡◌, Ok, IfOk, IfErr, Option, option_map};
 ghost use Rattle.serde_json.specs.View.{view, items_view};
-ghost use Rattle.ref_retrieve.specs.Errors.{IsFaultOf};
+ghost use Rattle.ref_error.specs.Errors.{IsFaultOf};
 ghost use Rattle.ref_resolver.specs.Resolving.{resolver_of as resolver_view, world_of};
 ghost use Rattle.ref_calls.specs.Calls.{each_item};
 ghost use Rattle.ref_calls.specs.Outcome.{Answers};

@@ -7,7 +7,7 @@ ghost use Rattle.ref_definitions.specs.Fault.{as_invalid_uri};
 ghost use Rattle.ref_definitions.specs.Pending.{given_of_builder};
 ghost use Rattle.ref_definitions.specs.Retrievers.{map_retriever};
 ghost use Rattle.ref_definitions.specs.World.{own_layer};
-ghost use Rattle.ref_retrieve.specs.Retrieving.{trees_of};
+ghost use Rattle.ref_error.specs.Retrieving.{trees_of};
 ghost use Rattle.referencing.specs.Builder.{builder_of};
 ghost use Rattle.ref_calls.specs.Objects.{object_of, with_all, texts};
 ghost use Rattle.ref_calls.specs.Outcome.{Answers};

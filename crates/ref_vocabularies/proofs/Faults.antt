@@ -8,9 +8,9 @@ use Rattle.ref_uri.specs.Targets.{Refusal}
 use Rattle.ref_definitions.specs.Results.{◌>>=◌}
 use Rattle.ref_definitions.specs.Fault.{Fault, InvalidUri, as_invalid_uri}
 use Rattle.ref_vocabularies.specs.Vocabularies.{VocabularySet, from_text, with_member, collected_set, known_set, set_of_members, find_in}
-use Rattle.ref_retrieve.specs.declared.error.Error.{Error}
-use Rattle.ref_retrieve.specs.declared.error.Error.TheVariants as error
-use Rattle.ref_retrieve.specs.Errors.{IsFaultOf}
+use Rattle.ref_error.specs.declared.error.Error.{Error}
+use Rattle.ref_error.specs.declared.error.Error.TheVariants as error
+use Rattle.ref_error.specs.Errors.{IsFaultOf}
 
 -- a fault of one meaning is one of another that is refused alike
 pub fault_moved : {A B : Type 0} (m : Result A Fault) (n : Result B Fault) → ((fault : Fault) → m ≡ Err fault → n ≡ Err fault) → (e : Error) → IsFaultOf m e → IsFaultOf n e

@@ -9,9 +9,9 @@ use Rattle.ref_uri.specs.declared.error.UriFault.{UriFault}
 use Rattle.ref_definitions.specs.Fault.{as_invalid_uri}
 use Rattle.ref_definitions.specs.Results.{◌>>=◌}
 use Rattle.ref_vocabularies.specs.Vocabularies.{Known, Standard, Custom, all_known, name, is_in_2019, is_uri_of, from_text}
-use Rattle.ref_retrieve.specs.declared.error.Error.{Error}
-use Rattle.ref_retrieve.specs.Errors.{IsFaultOf, of_uri_fault}
-use Rattle.ref_retrieve.proofs.Saying.{refused_then}
+use Rattle.ref_error.specs.declared.error.Error.{Error}
+use Rattle.ref_error.specs.Errors.{IsFaultOf, of_uri_fault}
+use Rattle.ref_error.proofs.Saying.{refused_then}
 
 -- texts that differ
 pub other_bytes : (xs ys : List ℕ) → (xs ≡ ys → ⊥) → bytes_eq xs ys ≡ false

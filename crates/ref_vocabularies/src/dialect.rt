@@ -9,13 +9,13 @@ ghost use Rattle.ref_draft.specs.declared.draft.Draft.TheVariants.{Unknown};
 ghost use Rattle.ref_definitions.specs.World.{World};
 ghost use Rattle.ref_definitions.specs.Fault.{as_invalid_uri};
 ghost use Rattle.ref_vocabularies.specs.Vocabularies.{VocabularySet as SetOfVocabularies, default_set, find_in, set_or_default, set_at, find_vocabularies};
-ghost use Rattle.ref_retrieve.specs.Errors.{IsFaultOf, IsMemory};
+ghost use Rattle.ref_error.specs.Errors.{IsFaultOf, IsMemory};
 ghost use Rattle.ref_vocabularies.specs.Dialects.{set_of_dialect};
 
 use crate::meta_schema::{default_vocabularies, find};
 use crate::vocabulary_set::VocabularySet;
 use ref_draft::Draft;
-use ref_retrieve::Error;
+use ref_error::Error;
 use ref_uri::{Uri, UriFault, uri};
 use serde_json::Value;
 use std::alloc::{AllocError, Global};

@@ -5,13 +5,13 @@ ghost use Rattle.serde_json.specs.View.{view, members_view};
 ghost use Rattle.ref_draft.specs.Schema.{text_under};
 ghost use Rattle.ref_definitions.specs.Fault.{as_invalid_uri};
 ghost use Rattle.ref_vocabularies.specs.Vocabularies.{of_known, default_set, from_text, collected_set, known_set, set_of_members, find_in};
-ghost use Rattle.ref_retrieve.specs.Errors.{IsFaultOf};
+ghost use Rattle.ref_error.specs.Errors.{IsFaultOf};
 ghost use Rattle.ref_vocabularies.specs.inner.Adding.{AddsMember};
 
 use crate::vocabulary::Vocabulary;
 use crate::vocabulary_set::VocabularySet;
 use ref_draft::Draft;
-use ref_retrieve::Error;
+use ref_error::Error;
 use serde_json::{Map, Value};
 use std::alloc::Global;
 

@@ -3,11 +3,11 @@ ghost use Rattle.std.specs.Prelude.{◌≡◌, Ok, IsOk, IfOk, IfErr, option_map
 ghost use Rattle.std.specs.List.{find};
 ghost use Rattle.ref_definitions.specs.Fault.{as_invalid_uri};
 ghost use Rattle.ref_vocabularies.specs.Vocabularies.{Known, Standard, all_known, is_uri_of, from_text};
-ghost use Rattle.ref_retrieve.specs.Errors.{IsFaultOf};
+ghost use Rattle.ref_error.specs.Errors.{IsFaultOf};
 ghost use Rattle.ref_vocabularies.specs.Views.{vocabulary_of};
 ghost use Rattle.ref_vocabularies.specs.inner.Kept.{mask};
 
-use ref_retrieve::Error;
+use ref_error::Error;
 use ref_uri::{Uri, uri};
 use std::alloc::{AllocError, Global};
 

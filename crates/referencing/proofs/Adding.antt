@@ -12,8 +12,8 @@ use Rattle.ref_draft.specs.Schema.{trimmed_text}
 use Rattle.ref_definitions.specs.Results.{◌>>=◌}
 use Rattle.ref_definitions.specs.Fault.{InvalidUri, as_invalid_uri}
 use Rattle.ref_definitions.specs.Pending.{Addition, Pending, with_addition, with_additions, with_pending}
-use Rattle.ref_retrieve.specs.declared.error.Error.{Error}
-use Rattle.ref_retrieve.specs.Errors.{IsFaultOf, of_uri_fault}
+use Rattle.ref_error.specs.declared.error.Error.{Error}
+use Rattle.ref_error.specs.Errors.{IsFaultOf, of_uri_fault}
 use Rattle.referencing.specs.Builder.{Builder, Adds, addition, holding_pending}
 
 -- the pending document of an addition under a URI

@@ -13,9 +13,9 @@ use Rattle.ref_definitions.specs.Agreement.{ChildrenStand, IsAtOrBelow, IsReadAl
 use Rattle.ref_definitions.proofs.AtOrBelow.{below_is_place, place_has_base}
 use Rattle.ref_definitions.proofs.Located.{leads_to}
 use Rattle.ref_definitions.proofs.Standing.{StandsAt, all_stand_where}
-use Rattle.ref_retrieve.specs.declared.error.Error.{Error}
-use Rattle.ref_retrieve.specs.declared.error.Error.TheVariants as error
-use Rattle.ref_retrieve.specs.Errors.{IsFaultOf, IsMemory}
+use Rattle.ref_error.specs.declared.error.Error.{Error}
+use Rattle.ref_error.specs.declared.error.Error.TheVariants as error
+use Rattle.ref_error.specs.Errors.{IsFaultOf, IsMemory}
 use Rattle.ref_resolver.specs.declared.resolver.Resolved.{Resolved}
 use Rattle.ref_resolver.specs.Resolving.{found_of}
 use Rattle.referencing.specs.Listed.{AnswersPlace}

@@ -8,11 +8,11 @@ use Rattle.ref_definitions.specs.Fault.{Fault}
 use Rattle.ref_definitions.specs.Preparing.{Given, IsOutcome}
 use Rattle.ref_definitions.specs.Closure.{IsReady, IsUsedUp}
 use Rattle.ref_definitions.proofs.Closure.{outcome_laws}
-use Rattle.ref_retrieve.specs.declared.error.Error.{Error}
-use Rattle.ref_retrieve.specs.declared.error.Error.TheVariants as error
+use Rattle.ref_error.specs.declared.error.Error.{Error}
+use Rattle.ref_error.specs.declared.error.Error.TheVariants as error
 use Rattle.ref_index.specs.Retrieval.{given_with, IsFaultyOutcome}
 use Rattle.referencing.specs.Prepared.{LimitIsUsedUp, AreComplete}
-use Rattle.ref_retrieve.specs.Errors.{IsMemory}
+use Rattle.ref_error.specs.Errors.{IsMemory}
 
 -- what is given, told otherwise
 pub same_given : (P : Given → Type 0) (may_answer : List ℕ → Data → Type 0) (may_refuse : List ℕ → List ℕ → Type 0) (limit : ℕ) (d d' : Draft) (ps ps' : World) (ds ds' : Layer) → d ≡ d' → ps ≡ ps' → ds ≡ ds'

@@ -7,9 +7,9 @@ use Rattle.ref_definitions.specs.Fault.{Fault}
 use Rattle.ref_definitions.specs.Lookup.{Resolver}
 use Rattle.ref_definitions.specs.Follow as world
 use Rattle.ref_definitions.specs.Follow.{Followed, after_step, numbered_fault, followed_from, followed_steps}
-use Rattle.ref_retrieve.specs.declared.error.Error.{Error}
-use Rattle.ref_retrieve.specs.declared.error.Error.TheVariants as error
-use Rattle.ref_retrieve.specs.Errors.{IsFaultOf}
+use Rattle.ref_error.specs.declared.error.Error.{Error}
+use Rattle.ref_error.specs.declared.error.Error.TheVariants as error
+use Rattle.ref_error.specs.Errors.{IsFaultOf}
 use Rattle.referencing.specs.declared.steps.Step.{Step}
 use Rattle.referencing.specs.Following.{step_of, SaysStepFault, ReachesStep}
 

@@ -7,7 +7,7 @@ use Rattle.ref_draft.specs.declared.draft.Draft.{Draft}
 use Rattle.ref_definitions.specs.World.{World}
 use Rattle.ref_definitions.specs.Preparing.{Given}
 use Rattle.ref_definitions.specs.Follow.{Step, Followed, followed_steps}
-use Rattle.ref_retrieve.specs.Errors.{error_text}
+use Rattle.ref_error.specs.Errors.{error_text}
 use Rattle.ref_index.specs.Retrieval.{IsFaultyOutcome}
 use Rattle.referencing.specs.declared.answer.Answer.{Answer}
 use Rattle.referencing.specs.declared.answer.AnswerError.{AnswerError}

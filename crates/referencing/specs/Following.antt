@@ -9,9 +9,9 @@ use Rattle.ref_draft.specs.Views.{resource_ref}
 use Rattle.ref_definitions.specs.World.{World}
 use Rattle.ref_definitions.specs.Fault.{Fault}
 use Rattle.ref_definitions.specs.Follow as world
-use Rattle.ref_retrieve.specs.declared.error.Error.{Error}
-use Rattle.ref_retrieve.specs.declared.error.Error.TheVariants as error
-use Rattle.ref_retrieve.specs.Errors.{SaysFault, error_text}
+use Rattle.ref_error.specs.declared.error.Error.{Error}
+use Rattle.ref_error.specs.declared.error.Error.TheVariants as error
+use Rattle.ref_error.specs.Errors.{SaysFault, error_text}
 use Rattle.referencing.specs.declared.steps.Step.{Step}
 use Rattle.referencing.specs.declared.steps.Step.TheVariants as step
 use Rattle.referencing.specs.declared.steps.Followed.{Followed}

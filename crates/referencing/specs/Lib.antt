@@ -42,9 +42,9 @@ pub use Rattle.ref_draft.specs.Views
 pub use Rattle.ref_draft.specs.Anchors as AnchorsOfValues
 pub use Rattle.ref_draft.specs.declared.draft.Draft
 pub use Rattle.ref_draft.specs.declared.spec.walk.Child
-pub use Rattle.ref_retrieve.specs.Errors
-pub use Rattle.ref_retrieve.specs.Retrieving
-pub use Rattle.ref_retrieve.specs.declared.error.Error
+pub use Rattle.ref_error.specs.Errors
+pub use Rattle.ref_error.specs.Retrieving
+pub use Rattle.ref_error.specs.declared.error.Error
 pub use Rattle.ref_index.specs.Document
 pub use Rattle.ref_index.specs.Contents
 pub use Rattle.ref_index.specs.Retrieval

@@ -4,8 +4,8 @@ use Rattle.ref_parts.specs.Path.{Part}
 use Rattle.ref_definitions.specs.World.{Document, Layer}
 use Rattle.ref_definitions.specs.Places.{Place}
 use Rattle.ref_definitions.specs.Agreement.{IsAtOrBelow, IsReadAlike}
-use Rattle.ref_retrieve.specs.declared.error.Error.{Error}
-use Rattle.ref_retrieve.specs.Errors.{IsMemory}
+use Rattle.ref_error.specs.declared.error.Error.{Error}
+use Rattle.ref_error.specs.Errors.{IsMemory}
 use Rattle.ref_resolver.specs.declared.resolver.Resolved.{Resolved}
 use Rattle.ref_resolver.specs.Resolving.{found_of}
 

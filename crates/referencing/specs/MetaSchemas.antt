@@ -8,8 +8,8 @@ use Rattle.ref_definitions.specs.Fault.{as_invalid_uri}
 use Rattle.ref_definitions.specs.Preparing.{Given}
 use Rattle.ref_definitions.specs.Retrievers.{default_retriever}
 use Rattle.ref_definitions.specs.Pending.{Addition, Pending, given_of_builder}
-use Rattle.ref_retrieve.specs.declared.error.Error.{Error}
-use Rattle.ref_retrieve.specs.Errors.{IsFaultOf}
+use Rattle.ref_error.specs.declared.error.Error.{Error}
+use Rattle.ref_error.specs.Errors.{IsFaultOf}
 use Rattle.ref_index.specs.Retrieval.{IsFaultyOutcome}
 use Rattle.referencing.specs.Builder.{addition}
 

@@ -15,9 +15,9 @@ use Rattle.ref_definitions.specs.Wants.{faults, open_wants}
 use Rattle.ref_definitions.specs.Preparing.{Given, IsOutcome}
 use Rattle.ref_definitions.specs.Closure.{IsReady, IsUsedUp}
 use Rattle.ref_definitions.specs.Pending.{given_of_builder}
-use Rattle.ref_retrieve.specs.declared.error.Error.{Error}
-use Rattle.ref_retrieve.specs.declared.error.Error.TheVariants as error
-use Rattle.ref_retrieve.specs.Retrieving.{retriever_of}
+use Rattle.ref_error.specs.declared.error.Error.{Error}
+use Rattle.ref_error.specs.declared.error.Error.TheVariants as error
+use Rattle.ref_error.specs.Retrieving.{retriever_of}
 use Rattle.referencing.specs.Builder.{Builder}
 
 -- its own documents have no fault and no open want

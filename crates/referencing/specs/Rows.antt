@@ -9,7 +9,7 @@ use Rattle.ref_uri.specs.declared.error.ParseError.TheVariants.{Syntax}
 use Rattle.ref_definitions.specs.Fault as fault
 use Rattle.ref_definitions.specs.Places.{root}
 use Rattle.ref_definitions.specs.Rows.{at, world, yes, empty, c_is_true, given_alone, given_with, look, found_value, resolver}
-use Rattle.ref_retrieve.specs.declared.error.Error.TheVariants.{PointerToNowhere, NoSuchAnchor, InvalidUri, RetrievalLimit, Memory}
+use Rattle.ref_error.specs.declared.error.Error.TheVariants.{PointerToNowhere, NoSuchAnchor, InvalidUri, RetrievalLimit, Memory}
 use Rattle.ref_index.specs.Retrieval.{IsFaultyOutcome}
 use Rattle.ref_resolver.specs.declared.resolver.Resolved.{Resolved}
 use Rattle.ref_resolver.specs.Resolving.{found_of}

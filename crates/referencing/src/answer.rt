@@ -8,8 +8,8 @@ ghost use Rattle.referencing.specs.Answering.{copied_last, answer_of, Answers, I
 use crate::builder::RegistryBuilder;
 use crate::steps::{FollowError, Followed, Step, follow};
 use ref_draft::Draft;
+use ref_error::{Error, Retrieve};
 use ref_parts::list::List;
-use ref_retrieve::{Error, Retrieve};
 use ref_uri::Uri;
 use serde_json::Value;
 use std::alloc::{AllocError, Global};

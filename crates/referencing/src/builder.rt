@@ -4,14 +4,14 @@ ghost use Rattle.std.specs.Iterator.{Drains, Yields, IsFinite};
 ghost use Rattle.ref_definitions.specs.Fault.{as_invalid_uri};
 ghost use Rattle.ref_definitions.specs.Pending.{with_addition, with_additions, with_pending};
 ghost use Rattle.ref_index.specs.Contents.{tree_of};
-ghost use Rattle.ref_retrieve.specs.Errors.{IsFaultOf};
+ghost use Rattle.ref_error.specs.Errors.{IsFaultOf};
 ghost use Rattle.referencing.specs.Builder.{pending_under, builder_of, setting_draft, retrieving_from, limited_to, standing_above, addition, Adds};
 
 use crate::input::{IntoRegistryResource, PendingResource, shared};
 use indexmap::IndexMap;
 use ref_draft::{Draft, trim_hashes};
+use ref_error::{DefaultRetriever, Error};
 use ref_index::Index;
-use ref_retrieve::{DefaultRetriever, Error};
 use ref_uri::Uri;
 use ref_uri::uri::from_str;
 use std::alloc::{AllocError, Global};

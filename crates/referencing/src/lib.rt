@@ -23,6 +23,7 @@ pub use ref_draft::{
     Anchor, AnchorIter, Child, ChildIter, ChildIterInner, Draft, Resource, ResourceRef, Segment,
     Segments, trim_hashes,
 };
+pub use ref_error::{DefaultRetriever, Error, MapRetriever, Reason, Retrieve, RetrieveError};
 pub use ref_index::{Contents, Document, Place};
 pub use ref_parts::path::{JsonPointerNode, JsonPointerSegment};
 pub use ref_parts::{
@@ -30,7 +31,6 @@ pub use ref_parts::{
     unescape_segment, write_escaped_str, write_index,
 };
 pub use ref_resolver::{Location, Resolved, Resolver};
-pub use ref_retrieve::{DefaultRetriever, Error, MapRetriever, Reason, Retrieve, RetrieveError};
 pub use ref_uri::{
     ParseError, ResolveError, ResolveFault, Uri, UriError, UriFault, UriParseFault, UriRef,
 };

@@ -3,7 +3,7 @@ ghost use Rattle.std.specs.Prelude.{◌≡◌, List, [], map, IfOk, IfErr, Ok};
 ghost use Rattle.ref_definitions.specs.Fault.{as_invalid_uri};
 ghost use Rattle.ref_definitions.specs.MetaSchemas as world;
 ghost use Rattle.ref_definitions.specs.Pending.{Pending, with_additions};
-ghost use Rattle.ref_retrieve.specs.Errors.{IsFaultOf};
+ghost use Rattle.ref_error.specs.Errors.{IsFaultOf};
 ghost use Rattle.referencing.specs.Builder.{builder_of, Adds, new_builder};
 ghost use Rattle.referencing.specs.Prepared.{IsPreparedOf};
 ghost use Rattle.referencing.specs.MetaSchemas.{meta_addition, given_of_meta_schemas, IsMetaSchemaFault};
@@ -12,7 +12,7 @@ use crate::builder::RegistryBuilder;
 use crate::input::IntoRegistryResource;
 use crate::registry::Registry;
 use ref_draft::Draft;
-use ref_retrieve::Error;
+use ref_error::Error;
 use serde_json::Value;
 use std::alloc::Global;
 

@@ -8,7 +8,7 @@ ghost use Rattle.ref_definitions.specs.World.{Document as WorldDocument, own_lay
 ghost use Rattle.ref_definitions.specs.Places.{Place as WorldPlace, places};
 ghost use Rattle.ref_definitions.specs.Listing.{own_places};
 ghost use Rattle.ref_definitions.specs.Lookup.{located_value};
-ghost use Rattle.ref_retrieve.specs.Errors.{IsFaultOf, IsMemory};
+ghost use Rattle.ref_error.specs.Errors.{IsFaultOf, IsMemory};
 ghost use Rattle.ref_index.specs.Document.{document_of};
 ghost use Rattle.ref_index.specs.Listing.{listed_of};
 ghost use Rattle.ref_resolver.specs.Resolving.{found_of, world_found};
@@ -16,10 +16,10 @@ ghost use Rattle.referencing.specs.Listed.{Agrees};
 
 use crate::registry::Registry;
 use crate::written::reference_of;
+use ref_error::Error;
 use ref_index::{Document, Place};
 use ref_parts::path::JsonPointerSegment;
 use ref_resolver::Resolved;
-use ref_retrieve::Error;
 use ref_uri::Uri;
 use serde_json::Value;
 use std::alloc::Global;

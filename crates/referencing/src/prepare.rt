@@ -4,7 +4,7 @@ ghost use Rattle.ref_definitions.specs.Pending as world;
 ghost use Rattle.ref_index.specs.Document.{document_of};
 ghost use Rattle.ref_index.specs.Retrieval.{IsFaultyOutcome};
 ghost use Rattle.referencing.specs.Builder.{pending_under, builder_of};
-ghost use Rattle.ref_retrieve.specs.Errors.{IsMemory};
+ghost use Rattle.ref_error.specs.Errors.{IsMemory};
 ghost use Rattle.referencing.specs.Prepared.{given_of, IsPreparedOf, LimitIsUsedUp, AreComplete};
 
 use crate::builder::RegistryBuilder;
@@ -12,9 +12,9 @@ use crate::input::PendingResource;
 use crate::registry::Registry;
 use indexmap::IndexMap;
 use ref_draft::Draft;
+use ref_error::{Error, Retrieve};
 use ref_index::Document;
 use ref_index::prepare::prepare;
-use ref_retrieve::{Error, Retrieve};
 use ref_uri::Uri;
 use std::alloc::{AllocError, Global};
 

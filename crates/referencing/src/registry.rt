@@ -9,7 +9,7 @@ ghost use Rattle.ref_definitions.specs.Agreement.{ChildrenStand};
 ghost use Rattle.ref_definitions.specs.Places.{Place, places};
 ghost use Rattle.ref_definitions.specs.Fault.{as_invalid_uri};
 ghost use Rattle.ref_definitions.specs.Wants.{faults, open_wants};
-ghost use Rattle.ref_retrieve.specs.Errors.{IsFaultOf};
+ghost use Rattle.ref_error.specs.Errors.{IsFaultOf};
 ghost use Rattle.ref_definitions.specs.Pending.{with_addition, with_additions};
 ghost use Rattle.referencing.specs.Builder.{builder_of, addition, Adds, new_builder};
 ghost use Rattle.ref_resolver.specs.Layered.{world_in, IsHeld};
@@ -17,9 +17,9 @@ ghost use Rattle.referencing.specs.Prepared.{contains_resource, ReferencesAreRet
 
 use crate::builder::{RegistryBuilder, above};
 use crate::input::IntoRegistryResource;
+use ref_error::Error;
 use ref_index::Index;
 use ref_resolver::Layers;
-use ref_retrieve::Error;
 use ref_uri::uri::from_str;
 use ref_uri::{Uri, UriFault, UriRef};
 use serde_json::Value;
@@ -40,7 +40,7 @@ pub struct Registry<'a> {
 impl<'a> Model for Registry<'a> {
     ghost use Rattle.std.specs.Prelude.{List, ◌∷◌, map};
     ghost use Rattle.ref_definitions.specs.World.{Document as WorldDocument};
-    ghost use Rattle.ref_index.specs.Codes.{world_code};
+    ghost use Rattle.ref_index.specs.inner.Codes.{world_code};
 
     ghost Value = { List (List WorldDocument) };
 

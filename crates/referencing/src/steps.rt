@@ -2,15 +2,15 @@
 ghost use Rattle.std.specs.Prelude.{◌≡◌, ◌≤◌, [], map, length, IfOk, IfErr, Ok};
 ghost use Rattle.ref_definitions.specs.Follow as world;
 ghost use Rattle.ref_definitions.specs.Lookup.{lookup};
-ghost use Rattle.ref_retrieve.specs.Errors.{IsFaultOf};
+ghost use Rattle.ref_error.specs.Errors.{IsFaultOf};
 ghost use Rattle.ref_resolver.specs.Resolving.{resolver_of, world_of, found_of, world_found};
 ghost use Rattle.referencing.specs.Following.{step_of, followed_of, IsStepFaultOf, ReachesStep};
 
 use crate::registry::Registry;
 use ref_draft::{Draft, ResourceRef};
+use ref_error::Error;
 use ref_parts::list::List;
 use ref_resolver::{Resolved, Resolver};
-use ref_retrieve::Error;
 use ref_uri::Uri;
 use serde_json::Value;
 use std::alloc::{AllocError, Global};

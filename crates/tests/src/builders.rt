@@ -5,7 +5,7 @@ use crate::inputs::held;
 use crate::registries::known;
 use crate::row;
 use ref_draft::Draft;
-use ref_retrieve::{Error, MapRetriever};
+use ref_error::{Error, MapRetriever};
 use referencing::{Registry, RegistryBuilder};
 use serde_json::Value;
 use std::alloc::Global;

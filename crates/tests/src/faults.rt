@@ -1,7 +1,7 @@
 //! Faults and reasons, as they are displayed and as their debug texts are.
 use crate::fault::{Fault, made};
 use crate::row;
-use ref_retrieve::{Error, Reason, RetrieveError};
+use ref_error::{Error, Reason, RetrieveError};
 use ref_uri::{ParseError, UriError, UriFault};
 use serde_json::Value;
 use std::alloc::{AllocError, Global};

@@ -4,7 +4,7 @@ use crate::fault::{Fault, done, made};
 use crate::registries::{holding, known, prepared, resolver};
 use crate::row;
 use ref_draft::{Draft, ResourceRef};
-use ref_retrieve::Error;
+use ref_error::Error;
 use referencing::{Place, Registry, Step, follow};
 use serde_json::Value;
 use std::alloc::{AllocError, Global};

@@ -1,4 +1,4 @@
-//! The tests of the libraries from `ref_retrieve` up, whose rows are data: reads a row a line from standard input, a
+//! The tests of the libraries from `ref_error` up, whose rows are data: reads a row a line from standard input, a
 //! JSON list of the table's name, of what is asked, and of the answer that is expected. Prints each row whose answer is
 //! another, and after each table how many of its rows hold.
 //!

@@ -2,7 +2,7 @@
 use crate::fault::{Fault, done, made};
 use crate::row;
 use ref_draft::Draft;
-use ref_retrieve::{Error, Retrieve};
+use ref_error::{Error, Retrieve};
 use ref_uri::uri::from_str;
 use referencing::{IntoRegistryResource, Registry, RegistryBuilder, Resolver};
 use serde_json::Value;

@@ -6,7 +6,7 @@ use crate::fault::{Fault, done, made};
 use crate::faults::reason_of;
 use crate::registries::{known, prepared, resolver};
 use crate::row;
-use ref_retrieve::{Error, MapRetriever, Retrieve, RetrieveError};
+use ref_error::{Error, MapRetriever, Retrieve, RetrieveError};
 use ref_uri::Uri;
 use referencing::Registry;
 use serde_json::Value;

@@ -1,7 +1,7 @@
 //! What retrievers answer.
 use crate::fault::{Fault, done, made};
 use crate::row;
-use ref_retrieve::{DefaultRetriever, MapRetriever, Retrieve};
+use ref_error::{DefaultRetriever, MapRetriever, Retrieve};
 use serde_json::Value;
 use std::alloc::Global;
 

@@ -1,7 +1,7 @@
 //! The columns of a row, of which the first has the name of its table and the last the answer that is expected.
 use crate::fault::{Fault, made};
 use ref_draft::Draft;
-use ref_retrieve::MapRetriever;
+use ref_error::MapRetriever;
 use ref_uri::Uri;
 use ref_uri::uri::from_str;
 use serde_json::Value;

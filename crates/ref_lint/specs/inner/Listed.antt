@@ -6,8 +6,8 @@ use Rattle.ref_definitions.specs.World.{World, own_layer}
 use Rattle.ref_definitions.specs.Fault.{Fault}
 use Rattle.ref_definitions.specs.Lookup.{Found}
 use Rattle.ref_definitions.specs.Listing.{Listed}
-use Rattle.ref_retrieve.specs.declared.error.Error.{Error}
-use Rattle.ref_retrieve.specs.Errors.{SaysFault}
+use Rattle.ref_error.specs.declared.error.Error.{Error}
+use Rattle.ref_error.specs.Errors.{SaysFault}
 use Rattle.ref_lint.specs.declared.entry.Dangling.{Dangling}
 use Rattle.ref_lint.specs.Dangling.{DanglingReference, dangling_from}
 use Rattle.ref_lint.specs.Entries.{IsEntryOf}

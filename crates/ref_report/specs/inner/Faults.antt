@@ -2,9 +2,9 @@
 use Rattle.std.specs.Prelude.{◌≡◌, ℕ, List, Result, Err}
 use Rattle.std.specs.declared.alloc.AllocError.{AllocError}
 use Rattle.ref_definitions.specs.Fault.{Fault}
-use Rattle.ref_retrieve.specs.declared.error.Error.{Error}
-use Rattle.ref_retrieve.specs.declared.error.Error.TheVariants as error
-use Rattle.ref_retrieve.specs.Errors.{SaysFault, UnlessMemory}
+use Rattle.ref_error.specs.declared.error.Error.{Error}
+use Rattle.ref_error.specs.declared.error.Error.TheVariants as error
+use Rattle.ref_error.specs.Errors.{SaysFault, UnlessMemory}
 use Rattle.ref_report.specs.Report.{Report, fault_report}
 
 -- a fault that may be the answer, unless memory ran out

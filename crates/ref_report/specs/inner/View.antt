@@ -3,7 +3,7 @@ use Rattle.std.specs.Prelude.{ℕ, List, map, option_map, string_bytes}
 use Rattle.std.specs.Borrow.{Bor}
 use Rattle.serde_json.specs.View.{view}
 use Rattle.serde_json.specs.declared.value.Value.{Value}
-use Rattle.ref_retrieve.specs.Retrieving.{trees_of}
+use Rattle.ref_error.specs.Retrieving.{trees_of}
 use Rattle.ref_report.specs.declared.request.Step.{Step}
 use Rattle.ref_report.specs.declared.request.Step.TheVariants.{Lookup, Recursive, Enter}
 use Rattle.ref_report.specs.declared.request.Request.{Request}

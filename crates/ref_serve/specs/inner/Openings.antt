@@ -5,9 +5,9 @@ use Rattle.serde_json.specs.View.{view}
 use Rattle.serde_json.specs.declared.value.Value.{Value}
 use Rattle.ref_definitions.specs.World.{World}
 use Rattle.ref_definitions.specs.Fault.{Fault}
-use Rattle.ref_retrieve.specs.declared.error.Error.{Error}
-use Rattle.ref_retrieve.specs.Errors.{SaysFault, UnlessMemory}
-use Rattle.ref_retrieve.specs.Retrieving.{trees_of}
+use Rattle.ref_error.specs.declared.error.Error.{Error}
+use Rattle.ref_error.specs.Errors.{SaysFault, UnlessMemory}
+use Rattle.ref_error.specs.Retrieving.{trees_of}
 use Rattle.ref_calls.specs.declared.stop.Stop.{Stop}
 use Rattle.ref_calls.specs.declared.stop.Stop.TheVariants.{Memory, Because}
 use Rattle.ref_calls.specs.Errors.{fault_error}

@@ -4,7 +4,7 @@ use crate::refused::stop::{
     Refusal, Stop, Told, after, before, fault, outcome, outcome_after, refused,
 };
 use crate::refused::trial::{Calls, Trial, tried};
-use ref_retrieve::MapRetriever;
+use ref_error::MapRetriever;
 use referencing::{Answer, Draft, Registry, RegistryBuilder, Step};
 use serde_json::Value;
 use std::alloc::{AllocError, Global};

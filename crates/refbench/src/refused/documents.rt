@@ -1,6 +1,6 @@
 //! The documents that calls are made on.
 use crate::refused::stop::{Stop, before};
-use ref_retrieve::MapRetriever;
+use ref_error::MapRetriever;
 use ref_uri::Uri;
 use ref_uri::uri::from_str;
 use referencing::{Registry, RegistryBuilder};

@@ -4,7 +4,7 @@ use crate::refused::documents::value;
 use crate::refused::stop::{Stop, outcome};
 use crate::refused::trial::{Calls, Trial, tried};
 use ref_draft::{Draft, Resource, ResourceRef};
-use ref_retrieve::Error;
+use ref_error::Error;
 use ref_uri::uri::from_str;
 use referencing::{IntoRegistryResource, Registry};
 use serde_json::Value;

@@ -3,7 +3,7 @@ use crate::refused::documents::{list_of, uri, value};
 use crate::refused::registries::{contained, leading_nowhere};
 use crate::refused::stop::{Stop, after, before};
 use crate::refused::trial::{Calls, Trial, tried};
-use ref_retrieve::MapRetriever;
+use ref_error::MapRetriever;
 use referencing::{Draft, Registry};
 use serde_json::Value;
 use std::alloc::Global;

@@ -2,7 +2,7 @@
 use crate::refused::documents::{pairs, retriever, title_of, uri};
 use crate::refused::stop::{Stop, Told, outcome, refused};
 use crate::refused::trial::{Calls, Trial, tried};
-use ref_retrieve::{DefaultRetriever, MapRetriever, Retrieve};
+use ref_error::{DefaultRetriever, MapRetriever, Retrieve};
 use ref_uri::Uri;
 use serde_json::Value;
 use std::alloc::{AllocError, Global};

@@ -1,7 +1,7 @@
 //! Why a row has no answer.
 ghost use Rattle.std.specs.Prelude.{⊤};
 
-use ref_retrieve::{Error, RetrieveError};
+use ref_error::{Error, RetrieveError};
 use ref_uri::{ResolveFault, UriFault, UriParseFault};
 use referencing::{AnswerError, FollowError};
 use serde_json::Category;

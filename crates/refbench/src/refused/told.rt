@@ -2,7 +2,7 @@
 use crate::refused::documents::{DOCUMENT, SUBRESOURCE, retriever, uri, value};
 use crate::refused::stop::{Refusal, Stop, after, before};
 use crate::refused::trial::Trial;
-use ref_retrieve::MapRetriever;
+use ref_error::MapRetriever;
 use referencing::{
     Answer, AnswerError, Draft, FollowError, Registry, RegistryBuilder, ResourceRef, Step, follow,
 };

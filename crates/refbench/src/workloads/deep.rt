@@ -3,7 +3,7 @@
 //! goes as deep as the value.
 
 use crate::workloads::line::Line;
-use ref_retrieve::Error;
+use ref_error::Error;
 use ref_uri::uri::from_str;
 use referencing::{Registry, RegistryBuilder};
 use serde_json::{Value, json};

@@ -9,7 +9,7 @@
 
 use crate::workloads::line::Line;
 use crate::workloads::registries::{DEFINITIONS, documents_of, lent};
-use ref_retrieve::Error;
+use ref_error::Error;
 use ref_uri::uri::from_str;
 use referencing::{Draft, Registry, RegistryBuilder, Resolver};
 use serde_json::Value;

@@ -2,8 +2,8 @@
 
 use crate::workloads::line::Line;
 use crate::workloads::registries::documents_of;
+use ref_error::Error;
 use ref_lint::dangling;
-use ref_retrieve::Error;
 use ref_uri::uri::from_str;
 use referencing::{JsonPointerSegment, Registry};
 use serde_json::Value;

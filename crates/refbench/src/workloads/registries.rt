@@ -4,7 +4,7 @@
 //! the next document; `members` is one document with so many definitions, each with an identifier.
 
 use crate::workloads::line::Line;
-use ref_retrieve::Error;
+use ref_error::Error;
 use referencing::{Registry, RegistryBuilder};
 use serde_json::Value;
 use std::alloc::{AllocError, Global};

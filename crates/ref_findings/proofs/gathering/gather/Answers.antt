@@ -5,7 +5,7 @@ use Rattle.std.specs.Option.{option_to_list}
 use Rattle.std.proofs.lemmas.List.{map-append}
 use Rattle.serde_json.specs.View.{view}
 use Rattle.ref_draft.proofs.Lists.{all_append}
-use Rattle.ref_retrieve.specs.Retrieving.{retriever_of}
+use Rattle.ref_error.specs.Retrieving.{retriever_of}
 use Rattle.ref_findings.specs.declared.gathering.Held.{Held}
 use Rattle.ref_findings.specs.Entries.{source_of}
 use Rattle.ref_findings.specs.Held.{held_source}

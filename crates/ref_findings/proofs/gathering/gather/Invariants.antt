@@ -1,7 +1,7 @@
 use Rattle.std.proofs.Common.{◌≡◌, length, map}
 use Rattle.std.specs.List.{AllByRecursion}
 use Rattle.serde_json.specs.View.{view}
-use Rattle.ref_retrieve.specs.Retrieving.{retriever_of}
+use Rattle.ref_error.specs.Retrieving.{retriever_of}
 use Rattle.ref_findings.specs.declared.gathering.Held.{Held}
 use Rattle.ref_findings.specs.Entries.{source_of}
 use Rattle.ref_findings.specs.Held.{held_source}

@@ -1,5 +1,5 @@
 use Rattle.std.proofs.Common.{List, ◌-◌, length}
-use Rattle.ref_retrieve.specs.Retrieving.{retriever_of}
+use Rattle.ref_error.specs.Retrieving.{retriever_of}
 use Rattle.ref_findings.specs.Sources.{Source}
 use Rattle.ref_findings.specs.inner.Wanted.{IsGoing}
 use Rattle.ref_findings.proofs.gathering.retrieve_next.Given as goal

@@ -3,7 +3,7 @@ use Rattle.std.proofs.lemmas.Option.{slice_get-get_or}
 use Rattle.ref_definitions.specs.Places.{places}
 use Rattle.ref_index.specs.Document.{document_of}
 use Rattle.ref_index.specs.Listing.{listed_of}
-use Rattle.ref_index.specs.Queue.{place_of}
+use Rattle.ref_index.specs.inner.Queue.{place_of}
 use Rattle.ref_index.proofs.Walking.{left_in}
 use Rattle.ref_index.proofs.Listing.{at_head, listing_begins, listing_goes_on, listing_ends}
 use Rattle.ref_index.proofs.places.list_document.Goals as goal

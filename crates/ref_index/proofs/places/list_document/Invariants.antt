@@ -2,7 +2,7 @@ use Rattle.std.proofs.Common.{◌-◌, map, length}
 use Rattle.ref_definitions.specs.Places.{places}
 use Rattle.ref_index.specs.Document.{document_of}
 use Rattle.ref_index.specs.Listing.{listed_of}
-use Rattle.ref_index.specs.Queue.{IsListedTo}
+use Rattle.ref_index.specs.inner.Queue.{IsListedTo}
 use Rattle.ref_index.proofs.places.list_document.Given as goal
 
 abbrev pub invariant-loop-head : goal.invariant-loop-head

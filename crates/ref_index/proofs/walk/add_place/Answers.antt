@@ -3,7 +3,7 @@ use Rattle.ref_draft.specs.Views.{tagged_value}
 use Rattle.ref_definitions.specs.Resources.{resource_of}
 use Rattle.ref_definitions.specs.Anchors.{named_at}
 use Rattle.ref_index.specs.Found.{IsNumberOf}
-use Rattle.ref_index.specs.Queue.{place_of}
+use Rattle.ref_index.specs.inner.Queue.{place_of}
 use Rattle.ref_index.specs.Visits.{under_document, names_under}
 use Rattle.ref_index.proofs.Visiting.{on_same}
 use Rattle.ref_index.proofs.walk.add_place.Goals as goal

@@ -1,7 +1,7 @@
 use Rattle.std.proofs.Common.{◌≡◌, List, ◌++◌, map}
 use Rattle.ref_draft.specs.Views.{walked_child}
 use Rattle.ref_definitions.specs.Places.{child_place}
-use Rattle.ref_index.specs.Queue.{place_of}
+use Rattle.ref_index.specs.inner.Queue.{place_of}
 use Rattle.ref_index.specs.declared.queue.Visit.{Visit}
 use Rattle.ref_index.proofs.walk.push_kept.Given as goal
 

@@ -7,7 +7,7 @@ use Rattle.ref_definitions.specs.Places.{base_within, identifier_of}
 use Rattle.ref_definitions.specs.Cached.{pairs_of_identifier, reference_pairs}
 use Rattle.ref_definitions.specs.Wants.{Reference, MetaSchema, wants_of_text, reference_at, refusals_of, schema_at}
 use Rattle.ref_index.specs.Found.{Holds}
-use Rattle.ref_index.specs.Queue.{place_of}
+use Rattle.ref_index.specs.inner.Queue.{place_of}
 use Rattle.ref_index.specs.Visits.{IsFirstFault, resources_at, names_at}
 use Rattle.ref_index.proofs.Visiting.{first_of_base, first_of_reference, wants_where, pairs_where, holds_same}
 use Rattle.ref_index.proofs.walk.settle.Goals as goal

@@ -2,7 +2,7 @@ use Rattle.std.proofs.Common.{◌≡◌, ◌∙◌, Ok, sym, ap, subst, map, opt
 use Rattle.std.proofs.lemmas.Option.{get_or_from_slice_get}
 use Rattle.ref_draft.specs.Children.{walked_children}
 use Rattle.ref_definitions.specs.Places.{child_place, children_with}
-use Rattle.ref_index.specs.Queue.{place_of, value_of}
+use Rattle.ref_index.specs.inner.Queue.{place_of, value_of}
 use Rattle.ref_index.specs.Visits.{IsVisited}
 use Rattle.ref_index.proofs.walk.visit.Goals as goal
 

@@ -4,7 +4,7 @@ use Rattle.std.proofs.lemmas.Option.{slice_get-get_or}
 use Rattle.ref_definitions.specs.Places.{places, root, levels_below}
 use Rattle.serde_json.specs.Data.{depth}
 use Rattle.ref_index.specs.Document.{document_of}
-use Rattle.ref_index.specs.Queue.{place_of, IsQueue}
+use Rattle.ref_index.specs.inner.Queue.{place_of, IsQueue}
 use Rattle.ref_index.specs.Visits.{IsFirstFault, IsVisited, faults_of}
 use Rattle.ref_index.proofs.Walking.{begin, advance, finish, left, first_in_front, first_of_visit, head_is}
 use Rattle.ref_index.proofs.walk.walk.Goals as goal

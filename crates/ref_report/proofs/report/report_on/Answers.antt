@@ -1,5 +1,5 @@
 use Rattle.std.proofs.Common.{◌≡◌, ◌++◌, codes, string_bytes, sym, ap, ◌∙◌, true≢false}
-use Rattle.ref_retrieve.specs.Errors.{error_text, is_memory}
+use Rattle.ref_error.specs.Errors.{error_text, is_memory}
 use Rattle.ref_report.specs.Report.{line}
 use Rattle.ref_report.specs.declared.status.Status.TheVariants as status
 use Rattle.ref_report.proofs.Reports.{fault_line}

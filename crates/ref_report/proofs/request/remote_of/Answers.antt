@@ -1,6 +1,6 @@
 use Rattle.std.proofs.Common.{◌+◌, drop, sym, ap, ◌∙◌}
 use Rattle.serde_json.specs.View.{view, items_view}
-use Rattle.ref_retrieve.specs.Retrieving.{trees_of}
+use Rattle.ref_error.specs.Retrieving.{trees_of}
 use Rattle.ref_report.specs.Request.{every, retrievable_of}
 use Rattle.ref_report.proofs.Trees.{in_front, drop_read, retrievable_next}
 use Rattle.ref_report.proofs.request.remote_of.Goals as goal

@@ -1,7 +1,7 @@
 use Rattle.std.proofs.Common.{[], unwrap_or, option_map}
 use Rattle.ref_definitions.specs.Pending.{given_of_builder}
 use Rattle.ref_definitions.specs.Retrievers.{map_retriever}
-use Rattle.ref_retrieve.specs.Retrieving.{trees_of}
+use Rattle.ref_error.specs.Retrieving.{trees_of}
 use Rattle.ref_index.specs.Retrieval.{IsFaultyOutcome}
 use Rattle.referencing.specs.Builder.{builder_of}
 use Rattle.referencing.specs.Prepared.{IsPreparedOf}

@@ -1,7 +1,7 @@
 use Rattle.std.proofs.Common.{◌≡◌, None, rules}
 use Rattle.ref_definitions.specs.Anchors.{named_entry}
 use Rattle.ref_resolver.specs.Layered.{world_in}
-use Rattle.ref_resolver.specs.Located.{IsNameOf}
+use Rattle.ref_resolver.specs.inner.Located.{IsNameOf}
 use Rattle.ref_resolver.proofs.Locating.{anchor_there, anchor_behind}
 use Rattle.ref_resolver.proofs.fragment.meaning.Goals as goal
 

@@ -1,7 +1,7 @@
 use Rattle.std.proofs.Common.{◌≡◌, None, MatchOption, sym, subst}
 use Rattle.ref_definitions.specs.Anchors.{named_entry, named_by_identifier}
 use Rattle.ref_resolver.specs.Layered.{world_in}
-use Rattle.ref_resolver.specs.Located.{IsNamed}
+use Rattle.ref_resolver.specs.inner.Located.{IsNamed}
 use Rattle.ref_resolver.proofs.fragment.named_by_identifier.Goals as goal
 
 pub returns : goal.returns

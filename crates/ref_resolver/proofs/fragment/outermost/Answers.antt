@@ -2,9 +2,9 @@ use Rattle.std.proofs.Common.{◌≡◌, ℕ, List, Result, [], Ok, ap, subst, �
 use Rattle.ref_definitions.specs.Fault.{Fault}
 use Rattle.ref_definitions.specs.Anchors.{Named, anchor}
 use Rattle.ref_definitions.specs.Lookup.{by_scope, in_scope}
-use Rattle.ref_retrieve.specs.Errors.{IsFaultOf}
+use Rattle.ref_error.specs.Errors.{IsFaultOf}
 use Rattle.ref_resolver.specs.Resolving.{resolver_of, world_of}
-use Rattle.ref_resolver.specs.Scoped.{dynamic_under}
+use Rattle.ref_resolver.specs.inner.Scoped.{dynamic_under}
 use Rattle.ref_resolver.proofs.Faults.{fault_as}
 use Rattle.ref_resolver.proofs.Scoping.{from_here, passed, taken, ended, dynamic_means}
 use Rattle.ref_resolver.proofs.fragment.outermost.Goals as goal

@@ -1,7 +1,7 @@
 use Rattle.std.proofs.Common.{◌≡◌, Ok}
 use Rattle.ref_definitions.specs.Anchors.{Named, anchor}
 use Rattle.ref_definitions.specs.Lookup.{by_scope, in_scope}
-use Rattle.ref_resolver.specs.Located.{IsLocated}
+use Rattle.ref_resolver.specs.inner.Located.{IsLocated}
 use Rattle.ref_resolver.specs.Resolving.{resolver_of, world_of}
 use Rattle.ref_resolver.proofs.Scoping.{from_here}
 use Rattle.ref_resolver.proofs.fragment.outermost.Given as goal

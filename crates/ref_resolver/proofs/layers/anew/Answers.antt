@@ -1,6 +1,6 @@
 use Rattle.std.proofs.Common.{rules}
 use Rattle.ref_uri.specs.Targets.{uri_against}
-use Rattle.ref_retrieve.proofs.Saying.{refused_uri}
+use Rattle.ref_error.proofs.Saying.{refused_uri}
 use Rattle.ref_resolver.proofs.layers.anew.Goals as goal
 
 pub returns-in_err-uri-clause-fault : goal.returns-in_err-uri-clause-fault

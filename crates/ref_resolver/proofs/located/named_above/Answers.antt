@@ -1,7 +1,7 @@
 use Rattle.std.proofs.Common.{◌≡◌, ◌<◌, ◌∷◌, ◌+◌, length, map, drop, sym, subst, ◌∙◌, arith}
 use Rattle.ref_definitions.specs.Anchors.{named_entry}
 use Rattle.ref_resolver.specs.declared.located.NumberedName.{NumberedName}
-use Rattle.ref_resolver.specs.Located.{IsNameAt, IsNamedAt}
+use Rattle.ref_resolver.specs.inner.Located.{IsNameAt, IsNamedAt}
 use Rattle.ref_resolver.proofs.Locating.{parent_layer, parents_step, near_name, far_name}
 use Rattle.ref_resolver.proofs.located.named_above.Goals as goal
 

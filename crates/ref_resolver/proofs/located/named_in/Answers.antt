@@ -1,5 +1,5 @@
 use Rattle.std.proofs.Common.{MatchOption, subst}
-use Rattle.ref_resolver.specs.Located.{IsLocatedIn}
+use Rattle.ref_resolver.specs.inner.Located.{IsLocatedIn}
 use Rattle.ref_resolver.proofs.located.named_in.Goals as goal
 
 pub returns-in_err-place : goal.returns-in_err-place

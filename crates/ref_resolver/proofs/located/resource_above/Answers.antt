@@ -1,7 +1,7 @@
 use Rattle.std.proofs.Common.{◌<◌, ◌∷◌, ◌+◌, length, map, drop, sym, subst, ◌∙◌, arith}
 use Rattle.ref_definitions.specs.Resources.{meant_place}
 use Rattle.ref_resolver.specs.declared.located.Numbered.{Numbered}
-use Rattle.ref_resolver.specs.Located.{IsLocatedAt, IsMeantAt}
+use Rattle.ref_resolver.specs.inner.Located.{IsLocatedAt, IsMeantAt}
 use Rattle.ref_resolver.proofs.Locating.{parent_layer, parents_step, near, far}
 use Rattle.ref_resolver.proofs.located.resource_above.Goals as goal
 

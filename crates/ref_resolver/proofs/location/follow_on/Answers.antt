@@ -4,7 +4,7 @@ use Rattle.percent_encoding.specs.Iter.{decoded_bytes}
 use Rattle.serde_json.specs.View.{view}
 use Rattle.ref_definitions.specs.Fault.{InvalidPercentEncoding}
 use Rattle.ref_definitions.specs.Pointers.{pointed_value}
-use Rattle.ref_retrieve.specs.Errors.{IsFaultOf}
+use Rattle.ref_error.specs.Errors.{IsFaultOf}
 use Rattle.ref_resolver.specs.Locations.{EndsAt}
 use Rattle.ref_resolver.proofs.Faults.{says_of}
 use Rattle.ref_resolver.proofs.Pointing.{text_pointed, bytes_pointed}

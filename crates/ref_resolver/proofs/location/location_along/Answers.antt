@@ -4,7 +4,7 @@ use Rattle.ref_parts.specs.Path.{value_at}
 use Rattle.ref_parts.specs.Segment.{part_of}
 use Rattle.ref_definitions.specs.Pointers.{pointed_value}
 use Rattle.ref_definitions.specs.Lookup.{pointer_found}
-use Rattle.ref_retrieve.specs.Errors.{IsFaultOf}
+use Rattle.ref_error.specs.Errors.{IsFaultOf}
 use Rattle.ref_index.specs.Parts.{part_of as owned_part}
 use Rattle.ref_resolver.proofs.Faults.{fault_ends, goes_on}
 use Rattle.ref_resolver.proofs.Standing.{place_there}

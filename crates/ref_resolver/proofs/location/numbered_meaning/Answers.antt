@@ -1,7 +1,7 @@
 use Rattle.std.proofs.Common.{◌≡◌, None, Err, MatchOption, sym, subst, rules}
 use Rattle.ref_definitions.specs.Anchors.{anchor, named_entry, named_by_identifier, not_named}
 use Rattle.ref_resolver.specs.Layered.{world_in}
-use Rattle.ref_resolver.specs.Located.{IsNameAt, IsNamedAt}
+use Rattle.ref_resolver.specs.inner.Located.{IsNameAt, IsNamedAt}
 use Rattle.ref_resolver.proofs.Locating.{anchor_there, anchor_nowhere, anchor_behind}
 use Rattle.ref_resolver.proofs.location.numbered_meaning.Goals as goal
 

@@ -2,7 +2,7 @@ use Rattle.std.proofs.Common.{◌≡◌, map, Some, Ok}
 use Rattle.serde_json.specs.View.{view}
 use Rattle.ref_parts.specs.Path.{value_at}
 use Rattle.ref_parts.specs.Segment.{part_of}
-use Rattle.ref_resolver.specs.Walking.{along_of, stepped_along}
+use Rattle.ref_resolver.specs.inner.Walking.{along_of, stepped_along}
 use Rattle.ref_resolver.proofs.Standing.{if_ok, one_step_on}
 use Rattle.ref_resolver.proofs.location.step_on.Goals as goal
 

@@ -2,8 +2,8 @@ use Rattle.std.proofs.Common.{sym, subst, ◌∙◌, rules}
 use Rattle.serde_json.specs.View.{view}
 use Rattle.ref_parts.specs.Pointer.{tokens}
 use Rattle.ref_definitions.specs.Pointers.{walked_along}
-use Rattle.ref_retrieve.specs.Errors.{IsFaultOf}
-use Rattle.ref_resolver.specs.Walking.{along_of, stepped_along}
+use Rattle.ref_error.specs.Errors.{IsFaultOf}
+use Rattle.ref_resolver.specs.inner.Walking.{along_of, stepped_along}
 use Rattle.ref_resolver.proofs.Faults.{fault_ends, goes_on}
 use Rattle.ref_resolver.proofs.Pointing.{walk_turn, walk_last}
 use Rattle.ref_resolver.proofs.location.walk_on.Goals as goal

@@ -7,7 +7,7 @@ use Rattle.ref_parts.specs.Path.{value_at}
 use Rattle.ref_parts.specs.Pointer.{tokens}
 use Rattle.ref_parts.specs.Segment.{part_of}
 use Rattle.ref_definitions.specs.Pointers.{walked_along}
-use Rattle.ref_resolver.specs.Walking.{along_of}
+use Rattle.ref_resolver.specs.inner.Walking.{along_of}
 use Rattle.ref_resolver.proofs.location.walk_on.Given as goal
 
 abbrev pub invariant-loop-token : goal.invariant-loop-token

@@ -5,8 +5,8 @@ use Rattle.percent_encoding.specs.Percent.{percent_decode}
 use Rattle.percent_encoding.specs.Iter.{decoded_bytes}
 use Rattle.serde_json.specs.View.{view}
 use Rattle.ref_definitions.specs.Fault.{InvalidPercentEncoding}
-use Rattle.ref_retrieve.specs.Errors.{IsFaultOf}
-use Rattle.ref_resolver.specs.Walking.{pointed_to}
+use Rattle.ref_error.specs.Errors.{IsFaultOf}
+use Rattle.ref_resolver.specs.inner.Walking.{pointed_to}
 use Rattle.ref_resolver.proofs.Faults.{says_of}
 use Rattle.ref_resolver.proofs.Pointing.{text_leads, bytes_lead_nowhere}
 use Rattle.ref_resolver.proofs.Undecoded.{undecoded}

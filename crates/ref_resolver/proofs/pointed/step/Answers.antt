@@ -6,8 +6,8 @@ use Rattle.ref_draft.specs.ScanSteps.{scan}
 use Rattle.ref_draft.specs.Views.{part_of}
 use Rattle.ref_definitions.specs.Places.{base_within}
 use Rattle.ref_definitions.specs.Fault.{as_invalid_uri}
-use Rattle.ref_retrieve.specs.Errors.{IsFaultOf}
-use Rattle.ref_resolver.specs.Walking.{along_of}
+use Rattle.ref_error.specs.Errors.{IsFaultOf}
+use Rattle.ref_resolver.specs.inner.Walking.{along_of}
 use Rattle.ref_resolver.proofs.Pointing.{step_refused}
 use Rattle.ref_resolver.proofs.pointed.step.Goals as goal
 

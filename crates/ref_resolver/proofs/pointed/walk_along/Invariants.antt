@@ -4,7 +4,7 @@ use denote.Shadow.{shadow}
 use Rattle.serde_json.specs.View.{view}
 use Rattle.ref_parts.specs.Pointer.{tokens}
 use Rattle.ref_definitions.specs.Pointers.{walked_along}
-use Rattle.ref_resolver.specs.Walking.{along_of}
+use Rattle.ref_resolver.specs.inner.Walking.{along_of}
 use Rattle.ref_resolver.proofs.pointed.walk_along.Given as goal
 
 abbrev pub invariant-loop-token : goal.invariant-loop-token

@@ -2,7 +2,7 @@ use Rattle.std.proofs.Common.{[], string_bytes}
 use Rattle.serde_json.specs.View.{view, members_view}
 use Rattle.ref_definitions.specs.Fault.{as_invalid_uri}
 use Rattle.ref_vocabularies.specs.Vocabularies.{of_known, collected_set}
-use Rattle.ref_retrieve.specs.Errors.{IsFaultOf}
+use Rattle.ref_error.specs.Errors.{IsFaultOf}
 use Rattle.ref_vocabularies.proofs.Faults.{passed, key_refused}
 use Rattle.ref_vocabularies.proofs.meta_schema.collected.Goals as goal
 

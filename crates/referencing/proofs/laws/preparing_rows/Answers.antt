@@ -11,8 +11,8 @@ use Rattle.ref_definitions.specs.Rows.{world, given_alone, given_with, refers_to
 use Rattle.ref_definitions.proofs.Closure.{documents_alone, outcome_laws}
 use Rattle.ref_definitions.proofs.Retrieval.{want_of_b}
 use Rattle.ref_definitions.proofs.OnLiterals.{world_on_literals}
-use Rattle.ref_retrieve.specs.declared.error.Error.TheVariants.{NoSuchAnchor}
-use Rattle.ref_retrieve.specs.Errors.{SaysFault}
+use Rattle.ref_error.specs.declared.error.Error.TheVariants.{NoSuchAnchor}
+use Rattle.ref_error.specs.Errors.{SaysFault}
 use Rattle.referencing.proofs.laws.preparing_rows.Goals as goal
 
 abbrev the_answer : Result Layer fault.Fault → Result Layer fault.Fault

@@ -7,7 +7,7 @@ use Rattle.ref_definitions.specs.Resources.{resources}
 use Rattle.ref_definitions.specs.Anchors.{names}
 use Rattle.ref_definitions.specs.Cached.{pairs}
 use Rattle.ref_index.specs.Document.{document_of}
-use Rattle.ref_index.specs.NormalUris.{HaveNormalUris}
+use Rattle.ref_index.specs.inner.NormalUris.{HaveNormalUris}
 use Rattle.ref_index.specs.Found.{IsResourceOf, IsNameOf, IsPairOf}
 use Rattle.ref_index.specs.Index.{IsResourceIn, IsNameIn, IsPairIn, numbered_uri}
 use Rattle.ref_index.proofs.Looking.{zip_mapped}

@@ -1,7 +1,7 @@
 use Rattle.std.proofs.Common.{◌≡◌, map, None, MatchOption, subst, ◌∙◌, rules}
 use Rattle.ref_definitions.specs.Anchors.{named_entry}
 use Rattle.ref_resolver.specs.Layered.{world_in}
-use Rattle.ref_resolver.specs.Located.{IsNameOf, IsNamedAt}
+use Rattle.ref_resolver.specs.inner.Located.{IsNameOf, IsNamedAt}
 use Rattle.ref_resolver.proofs.Locating.{near_name, far_name}
 use Rattle.ref_resolver.proofs.layers.Layers.named.Goals as goal
 

@@ -2,7 +2,7 @@ use Rattle.std.proofs.Common.{◌≡◌, map, None, MatchOption, refl, sym, subs
 use Rattle.ref_definitions.specs.Anchors.{named_entry}
 use Rattle.ref_resolver.specs.declared.located.NumberedName.{NumberedName}
 use Rattle.ref_resolver.specs.Layered.{world_in}
-use Rattle.ref_resolver.specs.Located.{IsNameAt, IsNamedAt}
+use Rattle.ref_resolver.specs.inner.Located.{IsNameAt, IsNamedAt}
 use Rattle.ref_resolver.proofs.Locating.{near_name, far_name}
 use Rattle.ref_resolver.proofs.layers.Layers.numbered_name.Goals as goal
 

@@ -1,7 +1,7 @@
 use Rattle.std.proofs.Common.{◌≡◌, map, None, MatchOption, refl, sym, subst}
 use Rattle.ref_resolver.specs.declared.located.Numbered.{Numbered}
 use Rattle.ref_resolver.specs.Layered.{world_in}
-use Rattle.ref_resolver.specs.Located.{IsLocatedAt, IsMeantAt}
+use Rattle.ref_resolver.specs.inner.Located.{IsLocatedAt, IsMeantAt}
 use Rattle.ref_resolver.proofs.Locating.{near, far}
 use Rattle.ref_resolver.proofs.layers.Layers.numbered_resource.Goals as goal
 

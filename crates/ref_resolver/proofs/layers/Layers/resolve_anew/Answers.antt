@@ -2,7 +2,7 @@ use Rattle.std.proofs.Common.{◌≡◌, true, map, Ok, IfSome, sym, ap, subst, 
 use Rattle.ref_uri.specs.Targets.{uri_against}
 use Rattle.ref_definitions.specs.Resources.{last_under, resources, meant_place}
 use Rattle.ref_resolver.specs.Layered.{world_in}
-use Rattle.ref_resolver.specs.Located.{IsMeant}
+use Rattle.ref_resolver.specs.inner.Located.{IsMeant}
 use Rattle.ref_resolver.proofs.Locating.{meant_near}
 use Rattle.ref_resolver.proofs.layers.Layers.resolve_anew.Goals as goal
 

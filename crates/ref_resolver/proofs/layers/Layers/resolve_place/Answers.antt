@@ -1,7 +1,7 @@
 use Rattle.std.proofs.Common.{map, IfSome, sym, subst}
 use Rattle.ref_definitions.specs.Resources.{last_under, resources, meant_place}
 use Rattle.ref_resolver.specs.Layered.{world_in}
-use Rattle.ref_resolver.specs.Located.{IsMeant}
+use Rattle.ref_resolver.specs.inner.Located.{IsMeant}
 use Rattle.ref_resolver.proofs.Locating.{meant_near}
 use Rattle.ref_resolver.proofs.layers.Layers.resolve_place.Goals as goal
 

@@ -1,7 +1,7 @@
 use Rattle.std.proofs.Common.{◌≡◌, map, None, MatchOption, subst, ◌∙◌, rules}
 use Rattle.ref_definitions.specs.Resources.{meant_place}
 use Rattle.ref_resolver.specs.Layered.{world_in}
-use Rattle.ref_resolver.specs.Located.{IsLocated, IsMeantAt}
+use Rattle.ref_resolver.specs.inner.Located.{IsLocated, IsMeantAt}
 use Rattle.ref_resolver.proofs.Locating.{near, far}
 use Rattle.ref_resolver.proofs.layers.Layers.resource.Goals as goal
 

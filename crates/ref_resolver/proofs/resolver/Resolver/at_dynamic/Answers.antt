@@ -1,6 +1,6 @@
 use Rattle.std.proofs.Common.{◌≡◌, IfOk, IfErr, Ok, sym, subst, ◌∙◌, rules}
 use Rattle.ref_definitions.specs.Lookup.{moved_resolver}
-use Rattle.ref_retrieve.specs.Errors.{IsFaultOf}
+use Rattle.ref_error.specs.Errors.{IsFaultOf}
 use Rattle.ref_resolver.specs.Resolving.{resolver_of, world_of, found_of}
 use Rattle.ref_resolver.proofs.Fragments.{dynamic_moved}
 use Rattle.ref_resolver.proofs.Scoping.{found_under}

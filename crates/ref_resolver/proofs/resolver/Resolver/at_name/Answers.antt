@@ -1,7 +1,7 @@
 use Rattle.std.proofs.Common.{◌≡◌, ℕ, List, IfOk, IfErr, Ok, Err, sym, subst, ◌∙◌, rules}
 use Rattle.ref_draft.specs.Anchors.{Plain, Dynamic}
 use Rattle.ref_definitions.specs.Anchors.{anchor, not_named}
-use Rattle.ref_retrieve.specs.Errors.{IsFaultOf}
+use Rattle.ref_error.specs.Errors.{IsFaultOf}
 use Rattle.ref_resolver.specs.Resolving.{resolver_of, world_of, found_of}
 use Rattle.ref_resolver.proofs.Based.{anchor_means}
 use Rattle.ref_resolver.proofs.Names.{lookup_found}

@@ -4,10 +4,10 @@ use Rattle.serde_json.specs.View.{view}
 use Rattle.ref_definitions.specs.Fault.{not_retrieved}
 use Rattle.ref_definitions.specs.Resources.{meant_place}
 use Rattle.ref_definitions.specs.Lookup.{lookup, moved_resolver, at_fragment}
-use Rattle.ref_retrieve.specs.Errors.{IsFaultOf}
+use Rattle.ref_error.specs.Errors.{IsFaultOf}
 use Rattle.ref_resolver.specs.Locations.{StandsAt, IsWhere}
 use Rattle.ref_resolver.specs.Resolving.{resolver_of, world_of}
-use Rattle.ref_resolver.specs.Names.{is_name}
+use Rattle.ref_resolver.specs.inner.Names.{is_name}
 use Rattle.ref_resolver.proofs.Faults.{says_of}
 use Rattle.ref_resolver.proofs.Fragments.{pointer_there, whole_there}
 use Rattle.ref_resolver.proofs.Lookups.{lookup_refused, lookup_absent, lookup_present}

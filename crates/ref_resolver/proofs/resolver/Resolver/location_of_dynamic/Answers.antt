@@ -2,7 +2,7 @@ use Rattle.std.proofs.Common.{◌≡◌, Ok, Err, sym, ap, subst, ◌∙◌, rul
 use Rattle.serde_json.specs.View.{view}
 use Rattle.ref_definitions.specs.Anchors.{anchor, not_named}
 use Rattle.ref_definitions.specs.Lookup.{moved_resolver}
-use Rattle.ref_retrieve.specs.Errors.{IsFaultOf}
+use Rattle.ref_error.specs.Errors.{IsFaultOf}
 use Rattle.ref_resolver.specs.Locations.{StandsAt}
 use Rattle.ref_resolver.specs.Resolving.{resolver_of, world_of, found_of}
 use Rattle.ref_resolver.proofs.Fragments.{dynamic_moved}

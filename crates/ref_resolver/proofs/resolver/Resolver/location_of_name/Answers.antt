@@ -2,7 +2,7 @@ use Rattle.std.proofs.Common.{◌≡◌, ℕ, List, IfOk, IfErr, Err, sym, subst
 use Rattle.ref_draft.specs.Anchors.{Plain, Dynamic}
 use Rattle.ref_definitions.specs.Anchors.{anchor, not_named}
 use Rattle.ref_definitions.specs.Lookup.{moved_resolver}
-use Rattle.ref_retrieve.specs.Errors.{IsFaultOf}
+use Rattle.ref_error.specs.Errors.{IsFaultOf}
 use Rattle.ref_resolver.specs.Locations.{IsWhere}
 use Rattle.ref_resolver.specs.Resolving.{resolver_of, world_of}
 use Rattle.ref_resolver.proofs.Based.{anchor_means}

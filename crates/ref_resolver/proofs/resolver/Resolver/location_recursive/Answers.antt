@@ -1,5 +1,5 @@
 use Rattle.std.proofs.Common.{IfOk, IfErr, sym, subst, ◌∙◌}
-use Rattle.ref_retrieve.specs.Errors.{IsFaultOf}
+use Rattle.ref_error.specs.Errors.{IsFaultOf}
 use Rattle.ref_resolver.specs.Locations.{IsWhere}
 use Rattle.ref_resolver.specs.Resolving.{world_of}
 use Rattle.ref_resolver.proofs.resolver.Resolver.location_recursive.Goals as goal

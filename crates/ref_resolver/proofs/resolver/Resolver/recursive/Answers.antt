@@ -1,7 +1,7 @@
 use Rattle.std.proofs.Common.{◌≡◌, map, Ok, true, false, sym, ap, subst, ◌∙◌, rules}
 use Rattle.ref_definitions.specs.Lookup.{lookup}
 use Rattle.ref_definitions.specs.Recursive.{is_marked, lookup_recursive, outermost_marked}
-use Rattle.ref_retrieve.specs.Errors.{IsFaultOf}
+use Rattle.ref_error.specs.Errors.{IsFaultOf}
 use Rattle.ref_resolver.specs.Resolving.{resolver_of, world_of, found_of}
 use Rattle.ref_resolver.proofs.Faults.{fault_as}
 use Rattle.ref_resolver.proofs.Lookups.{recursive_refused, recursive_first, recursive_marked, marked_turn, unmarked_turn, fault_turn}

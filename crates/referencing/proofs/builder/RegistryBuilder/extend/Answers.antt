@@ -2,7 +2,7 @@ use Rattle.std.proofs.Common.{rules, subst, [], ◌∷◌, ◌++◌}
 use Rattle.std.proofs.iter.Next.{Yields-more}
 use Rattle.ref_definitions.specs.Fault.{as_invalid_uri}
 use Rattle.ref_definitions.specs.Pending.{Addition, with_addition}
-use Rattle.ref_retrieve.specs.Errors.{IsFaultOf}
+use Rattle.ref_error.specs.Errors.{IsFaultOf}
 use Rattle.referencing.specs.Builder.{builder_of, addition, Adds}
 use Rattle.referencing.proofs.Adding.{adds_more, refused_more, passed_on, same_addition}
 use Rattle.referencing.proofs.builder.RegistryBuilder.extend.Goals as goal

@@ -1,6 +1,6 @@
 use Rattle.std.proofs.Common.{rules}
 use Rattle.ref_index.specs.Contents.{tree_of}
-use Rattle.ref_retrieve.proofs.Saying.{fault_passed}
+use Rattle.ref_error.proofs.Saying.{fault_passed}
 use Rattle.referencing.specs.Builder.{builder_of, addition}
 use Rattle.referencing.proofs.Adding.{added_refused}
 use Rattle.referencing.proofs.builder.RegistryBuilder.push.Goals as goal

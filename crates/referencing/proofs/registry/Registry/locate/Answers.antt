@@ -2,7 +2,7 @@ use Rattle.std.proofs.Common.{◌≡◌, Ok, map, rules}
 use Rattle.std.specs.Prelude.{IfOk, IfErr}
 use Rattle.ref_parts.specs.Segment.{part_of}
 use Rattle.ref_definitions.specs.Lookup.{located_value}
-use Rattle.ref_retrieve.specs.Errors.{IsFaultOf}
+use Rattle.ref_error.specs.Errors.{IsFaultOf}
 use Rattle.ref_resolver.specs.Resolving.{found_of}
 use Rattle.referencing.proofs.Agreeing.{leads_here, answers_place}
 use Rattle.referencing.proofs.registry.Registry.locate.Goals as goal

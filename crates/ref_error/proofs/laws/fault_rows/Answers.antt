@@ -1,0 +1,19 @@
+use Rattle.std.proofs.Common.{◌≡◌, refl, sym, ◌∙◌, codes, Ok, Err}
+use Rattle.ref_uri.specs.Targets.{parse_refusal}
+use Rattle.ref_definitions.specs.Fault as fault
+use Rattle.ref_error.proofs.laws.fault_rows.Goals as goal
+
+pub returns : goal.returns
+returns c = record {
+  rows = record {
+    says = λ p is. is;
+    says_no_other_text = λ p is says. let other : codes "/a" ≡ codes "" = sym is ∙ says in cc;
+    says_no_other_kind = λ p is says. says;
+    says_in_order = λ p i is at. (is, at);
+    memory_says_none = λ e f says. says;
+    source_of_memory_says_none = λ uri e wanted text says. says.1;
+    memory_in_any_case = λ e. tt;
+    no_fault_of_an_answer = λ p is. let e : Ok (codes "a") ≡ Err is.0 = is.1 in cc;
+    fault_of_a_refusal = λ u is. (fault.InvalidUri (parse_refusal (codes "a b")), refl, (is, refl, refl));
+  };
+}

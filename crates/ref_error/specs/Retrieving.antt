@@ -1,0 +1,29 @@
+-- Retrievers of the program as the definitions have them.
+use Rattle.std.specs.Prelude.{◌≡◌, ℕ, List, map, None, ⊤, bytes_eq}
+use Rattle.std.specs.HashMap.{HashMap, get}
+use Rattle.std.specs.Map.{update_all}
+use Rattle.serde_json.specs.Data.{Data}
+use Rattle.serde_json.specs.View.{view}
+use Rattle.serde_json.specs.declared.value.Value.{Value}
+use Rattle.ref_definitions.specs.Preparing.{Retriever}
+use Rattle.ref_error.specs.declared.error.RetrieveError.{RetrieveError}
+use Rattle.ref_error.specs.declared.error.RetrieveError.TheVariants.{Refused, Memory}
+use Rattle.ref_error.specs.Errors.{reason_text}
+
+-- the retriever that may return and refuse so
+abbrev pub retriever_of : (List ℕ → Data → Type 0) → (List ℕ → List ℕ → Type 0) → Retriever
+retriever_of may_answer may_refuse = record { may_answer = may_answer; may_refuse = may_refuse }
+
+-- where the error is a refusal, its text is such a one
+abbrev pub IfRefused : RetrieveError → (List ℕ → Type 0) → Type 0
+IfRefused (Refused reason) P = P (reason_text reason)
+IfRefused (Memory error) P = ⊤
+
+-- the trees of documents, each under its URI
+abbrev pub trees_of : List (List ℕ × Value) → List (List ℕ × Data)
+trees_of pairs = map (λ p. (p.0, view p.1)) pairs
+
+-- the map has under each URI the last of these values
+abbrev pub AreLast : {S : Type 0} → HashMap (List ℕ) Value S → List (List ℕ × Value) → Type 0
+AreLast documents given =
+    (uri : List ℕ) → get bytes_eq documents uri ≡ update_all bytes_eq (λ _. None) given uri
