@@ -174,16 +174,9 @@ impl<'d, 'l, 'w, 'o> Sources<'d, 'l, 'w, 'o> {
         place: &ref_index::Place<'_>,
         replaced: Option<&str>,
     ) -> Result<bool, Stop> {
-        let Some(value) = self
-            .world
-            .registry
-            .value_at(place.document, place.path.as_slice())
-        else {
-            return Ok(false);
-        };
         let mut is_lost = false;
         for keyword in ["$ref", "$dynamicRef"] {
-            if let Some(text) = value.get(keyword).and_then(Value::as_str) {
+            if let Some(text) = place.value.get(keyword).and_then(Value::as_str) {
                 if let Some(why) = self.lost(rt.alloc(), place, text, replaced)? {
                     let at = self.place_in(rt.alloc(), number, place.path.as_slice())?;
                     let pointer = pointer_of(rt.alloc(), place.path.as_slice())?;

@@ -79,10 +79,7 @@ impl Drawing {
             if place.document >= world.sources.len() {
                 continue;
             }
-            let value = world
-                .registry
-                .value_at(place.document, place.path.as_slice());
-            if let Some(reference) = reference_of(value) {
+            if let Some(reference) = place.value.get("$ref").and_then(Value::as_str) {
                 let uri = world
                     .registry
                     .resolve_uri(self.alloc, place.base.borrow(), reference);
@@ -172,8 +169,4 @@ fn push_node(
         is_missing,
     })?;
     Ok(())
-}
-
-fn reference_of(value: Option<&Value>) -> Option<&str> {
-    value?.get("$ref")?.as_str()
 }

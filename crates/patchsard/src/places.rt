@@ -62,7 +62,7 @@ fn list_all(
         let count = count_of(rest, number);
         if let Some(document) = documents.get(*source) {
             let own = rest.get(..count).unwrap_or(rest);
-            list_document(alloc, console, document, world, own)?;
+            list_document(alloc, console, document, own)?;
         }
         rest = rest.get(count..).unwrap_or(&[]);
     }
@@ -85,7 +85,6 @@ fn list_document(
     alloc: Global,
     console: &mut Console<'_>,
     document: &Document,
-    world: &World<'_>,
     places: &[Place<'_>],
 ) -> Result<(), Stop> {
     if document.value().is_none() {
@@ -95,11 +94,8 @@ fn list_document(
     let numbers = numbers_of(alloc, &mut asked, places)?;
     let located = asked.locate(alloc, document.text.as_str())?;
     for (place, number) in places.iter().zip(numbers.iter()) {
-        let value = world
-            .registry
-            .value_at(place.document, place.path.as_slice());
         let position = located.value(*number);
-        push_place(alloc, &mut console.out, document, place, (position, value))?;
+        push_place(alloc, &mut console.out, document, place, position)?;
         console.pass()?;
     }
     Ok(())
@@ -122,7 +118,7 @@ fn push_place(
     out: &mut String,
     document: &Document,
     place: &Place<'_>,
-    (position, value): (Option<Position<'_>>, Option<&Value>),
+    position: Option<Position<'_>>,
 ) -> Result<(), AllocError> {
     let (line, column) = match position {
         Some(position) => (position.line(), position.column()),
@@ -136,9 +132,7 @@ fn push_place(
         out,
         "{file}:{line}:{column}: '{pointer}' draft {draft} base {base}"
     )?;
-    if let Some(value) = value {
-        push_names(out, place.draft, value)?;
-    }
+    push_names(out, place.draft, place.value)?;
     out.push('\n')
 }
 

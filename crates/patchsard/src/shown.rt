@@ -42,9 +42,7 @@ fn push_place(
 ) -> Result<(), AllocError> {
     let fragment = fragment_of(alloc, uri)?;
     for place in world.places(alloc)? {
-        if place.base.as_str() == without_fragment(uri)
-            && is_meant(world, &place, fragment.as_str())
-        {
+        if place.base.as_str() == without_fragment(uri) && is_meant(&place, fragment.as_str()) {
             let mut pointer = pointer_of(alloc, place.path.as_slice())?;
             if fragment.as_str().starts_with('/') {
                 pointer.push_str(fragment.as_str())?;
@@ -75,17 +73,11 @@ fn push_in_document(
 }
 
 // Whether a fragment is a pointer from a place or the name of an anchor there.
-fn is_meant(world: &World<'_>, place: &Place<'_>, fragment: &str) -> bool {
+fn is_meant(place: &Place<'_>, fragment: &str) -> bool {
     if fragment.is_empty() || fragment.starts_with('/') {
         return true;
     }
-    let Some(value) = world
-        .registry
-        .value_at(place.document, place.path.as_slice())
-    else {
-        return false;
-    };
-    for anchor in place.draft.anchors(value) {
+    for anchor in place.draft.anchors(place.value) {
         if anchor.name() == fragment {
             return true;
         }

@@ -20,6 +20,7 @@ use ref_draft::{Draft, ResourceRef};
 use ref_parts::path::{JsonPointerNode, JsonPointerSegment};
 use ref_uri::uri::resolve_against;
 use ref_uri::{Uri, UriFault};
+use serde_json::Value;
 use std::alloc::{AllocError, Global};
 use std::rc::Rc;
 
@@ -31,6 +32,8 @@ pub struct Place<'a> {
     pub document: usize,
     /// Its path in the document.
     pub path: Vec<JsonPointerSegment<'a>>,
+    /// The value there.
+    pub value: &'a Value,
     /// Its base URI, which its own identifier changes.
     pub base: Rc<Uri>,
     /// Its draft.
@@ -113,6 +116,7 @@ fn place_at<'w>(
     Ok(Place {
         document: number,
         path,
+        value: visit.value.get(),
         base,
         draft: visit.draft,
     })

@@ -1,5 +1,5 @@
 -- No reference of a registry's own places is unretrievable.
-use Rattle.std.proofs.Common.{◌≡◌, ℕ, zero, suc, List, [], ◌∷◌, map, flat_map, codes, Option, Some, None, Result, Ok, Err, ⊎_elim, refl, ap, ◌∙◌, arith}
+use Rattle.std.proofs.Common.{◌≡◌, ℕ, zero, suc, List, [], ◌∷◌, map, flat_map, codes, Option, Some, None, Result, Ok, Err, ⊎_elim, refl, ap, sym, subst, ◌∙◌, arith}
 use Rattle.std.specs.List.{All, AllZip, AllByRecursion, Contains}
 use Rattle.std.proofs.lemmas.List.Elements.{All-from_recursion, Contains-append_cases}
 use Rattle.ref_parts.specs.Path.{Part}
@@ -7,10 +7,11 @@ use Rattle.ref_draft.specs.Schema.{text_under}
 use Rattle.ref_uri.specs.Targets.{Refusal}
 use Rattle.ref_definitions.specs.World.{Document, Layer, World, own_layer}
 use Rattle.ref_definitions.specs.Places.{Place, places}
+use Rattle.ref_definitions.specs.Listing.{Listed, listed_place, listed_from, own_places}
 use Rattle.ref_definitions.specs.Fault.{Fault, Unretrievable}
 use Rattle.ref_definitions.specs.Lookup.{Resolver, Found, lookup}
 use Rattle.ref_lint.specs.declared.entry.Dangling.{Dangling}
-use Rattle.ref_lint.specs.Dangling.{DanglingReference, where_fault, dangling_from, dangling_at, numbered_from, dangling}
+use Rattle.ref_lint.specs.Dangling.{DanglingReference, where_fault, dangling_from, dangling_at, dangling}
 use Rattle.ref_lint.specs.Entries.{IsEntryOf, IsUnretrievable}
 use Rattle.ref_lint.proofs.Saying.{says_another}
 
@@ -48,23 +49,29 @@ joined P f (x ∷ xs) each y there =
     (λ later. joined P f xs (λ z (k, small, among). each z (suc k, omega arith, among)) y later)
     (Contains-append_cases (f x) (flat_map f xs) y there)
 
-among_numbered : (number : ℕ) (ps : List Place) (x : ℕ × Place) → Contains (map (λ p. (number, p)) ps) x → Contains ps x.1
-among_numbered number [] x there = absurd (none_in_nothing x there)
-among_numbered number (p ∷ ps) x (zero, small, is) = (0, omega arith, ap (λ (y : ℕ × Place). y.1) is)
-among_numbered number (p ∷ ps) x (suc k, small, is) = let (j, less, there) = among_numbered number ps x (k, omega arith, is) in (suc j, omega arith, there)
+among_listed : (number : ℕ) (ps : List Place) (l : Listed) → Contains (map (listed_place number) ps) l → (p : Place) × Contains ps p × (l ≡ listed_place number p)
+among_listed number [] l there = absurd (none_in_nothing l there)
+among_listed number (p ∷ ps) l (zero, small, is) = (p, (0, omega arith, refl), sym is)
+among_listed number (p ∷ ps) l (suc k, small, is) = let (q, (j, less, there), same) = among_listed number ps l (k, omega arith, is) in (q, (suc j, omega arith, there), same)
 
-of_documents : (number : ℕ) (ds : Layer) (x : ℕ × Place) → Contains (numbered_from number ds) x → (d : Document) × Contains ds d × Contains (places d) x.1
-of_documents number [] x there = absurd (none_in_nothing x there)
-of_documents number (d ∷ ds) x there =
+-- a listed place is one of a document
+of_documents : (number : ℕ) (ds : Layer) (l : Listed) → Contains (listed_from number ds) l
+    → (d : Document) × (p : Place) × (at : ℕ) × Contains ds d × Contains (places d) p × (l ≡ listed_place at p)
+of_documents number [] l there = absurd (none_in_nothing l there)
+of_documents number (d ∷ ds) l there =
     ⊎_elim
-    (λ here. (d, (0, omega arith, refl), among_numbered number (places d) x here))
-    (λ later. let (e, (k, small, is), among) = of_documents (suc number) ds x later in (e, (suc k, omega arith, is), among))
-    (Contains-append_cases (map (λ p. (number, p)) (places d)) (numbered_from (suc number) ds) x there)
+    (λ here. let (p, among, same) = among_listed number (places d) l here in (d, p, number, (0, omega arith, refl), among, same))
+    (λ later. let (e, p, at, (k, small, is), among, same) = of_documents (suc number) ds l later in (e, p, at, (suc k, omega arith, is), among, same))
+    (Contains-append_cases (map (listed_place number) (places d)) (listed_from (suc number) ds) l there)
+
+of_listed : (world : World) → AreRetrieved world → (l : Listed) → Contains (own_places (own_layer world)) l → (r : DanglingReference) → Contains (dangling_at world l) r → IsOther r
+of_listed world law l there =
+    let (d, p, at, own, among, same) = of_documents 0 (own_layer world) l there in
+    subst (λ l. (r : DanglingReference) → Contains (dangling_at world l) r → IsOther r) (sym same)
+    (by_place world at p.path p.base (text_under (codes "$ref") p.value) (λ resolver reference. law d p resolver reference own among))
 
 pub none_unretrievable : (world : World) → AreRetrieved world → (r : DanglingReference) → Contains (dangling world) r → (uri source : List ℕ) → ¬ (r.fault ≡ Unretrievable uri source)
-none_unretrievable world law = joined IsOther (dangling_at world) (numbered_from 0 (own_layer world))
-    (λ (number, p) there. let (d, own_layer, among) = of_documents 0 (own_layer world) (number, p) there in
-    by_place world number p.path p.base (text_under (codes "$ref") p.value) (λ resolver reference. law d p resolver reference own_layer among))
+none_unretrievable world law = joined IsOther (dangling_at world) (own_places (own_layer world)) (of_listed world law)
 
 entries_recursively : (entries : List Dangling) (rs : List DanglingReference) → AllZip IsEntryOf entries rs → ((r : DanglingReference) → Contains rs r → IsOther r)
     → AllByRecursion (λ entry. ¬ (IsUnretrievable entry.error)) entries

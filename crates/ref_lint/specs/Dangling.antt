@@ -1,10 +1,10 @@
 -- The references of a registry's own documents that are unresolvable (2020-12 Core, 8.2.3.1).
-use Rattle.std.specs.Prelude.{ℕ, suc, List, [], ◌∷◌, ◌++◌, map, flat_map, codes, Option, Some, None, Result, Ok, Err}
+use Rattle.std.specs.Prelude.{ℕ, List, [], ◌∷◌, flat_map, codes, Option, Some, None, Result, Ok, Err}
 use Rattle.ref_parts.specs.Path.{Part}
 use Rattle.ref_draft.specs.Schema.{text_under}
 use Rattle.ref_uri.specs.Targets.{Refusal}
-use Rattle.ref_definitions.specs.World.{Layer, World, own_layer}
-use Rattle.ref_definitions.specs.Places.{Place, places}
+use Rattle.ref_definitions.specs.World.{World, own_layer}
+use Rattle.ref_definitions.specs.Listing.{Listed, own_places}
 use Rattle.ref_definitions.specs.Fault.{Fault}
 use Rattle.ref_definitions.specs.Lookup.{Found, lookup}
 
@@ -30,16 +30,11 @@ dangling_from world number path (Ok base) (Some reference) =
 dangling_from world number path (Ok base) None = []
 dangling_from world number path (Err refusal) reference = []
 
--- the text under `$ref` of a place of the document with this number, where it is unresolvable
-abbrev pub dangling_at : World → ℕ × Place → List DanglingReference
-dangling_at world (number, p) =
-    dangling_from world number p.path p.base (text_under (codes "$ref") p.value)
-
--- the places of documents, one document after another, with the numbers of these, which are counted from this one on
-abbrev pub numbered_from : ℕ → Layer → List (ℕ × Place)
-numbered_from number [] = []
-numbered_from number (d ∷ ds) = map (λ p. (number, p)) (places d) ++ numbered_from (suc number) ds
+-- the text under `$ref` of a listed place, where it is unresolvable
+abbrev pub dangling_at : World → Listed → List DanglingReference
+dangling_at world p =
+    dangling_from world p.document p.path p.base (text_under (codes "$ref") p.value)
 
 -- those of a registry's own places, in the order of the places
 abbrev pub dangling : World → List DanglingReference
-dangling world = flat_map (dangling_at world) (numbered_from 0 (own_layer world))
+dangling world = flat_map (dangling_at world) (own_places (own_layer world))

@@ -1,25 +1,26 @@
 //! The look-up of each `$ref` of a registry's own documents.
-ghost use Rattle.std.specs.Prelude.{◌≡◌, [], ◌++◌, option_map, IfOk, IfErr, OnOk};
+ghost use Rattle.std.specs.Prelude.{◌≡◌, [], ◌++◌, codes, option_map, IfOk, IfErr, OnOk};
 ghost use Rattle.std.specs.List.{All, AllZip};
 ghost use Rattle.std.specs.Option.{option_to_list};
+ghost use Rattle.serde_json.specs.View.{view};
+ghost use Rattle.ref_draft.specs.Schema.{text_under};
 ghost use Rattle.ref_definitions.specs.Lookup.{lookup};
 ghost use Rattle.ref_index.specs.Listing.{listed_of};
 ghost use Rattle.ref_error.specs.Errors.{IsMemory};
-ghost use Rattle.ref_lint.specs.Dangling.{dangling};
+ghost use Rattle.ref_lint.specs.Dangling.{dangling, dangling_at};
 ghost use Rattle.ref_lint.specs.Entries.{IsEntryOf, IsUnretrievable};
-ghost use Rattle.ref_lint.specs.inner.Listed.{reference_of, dangling_listed, IsWhy, AreEntries};
+ghost use Rattle.ref_lint.specs.inner.Listed.{IsWhy, AreEntries};
 
 use crate::entry::Dangling;
 use referencing::{Error, Place, Registry, Uri};
 use serde_json::Value;
 use std::alloc::{AllocError, Global};
 
-// The text under `$ref` of the value at a place.
-fn reference_at<'r>(registry: &'r Registry<'_>, place: &Place<'_>) -> Option<&'r str>
+// The text under `$ref` of a value.
+fn reference_in(value: &Value) -> Option<&str>
     ensures { option_map (λ text. text.now) result
-        ≡ reference_of registry.now (listed_of place.now) }
+        ≡ text_under (codes "$ref") (view value.now) }
 {
-    let value = registry.value_at(place.document, place.path.as_slice())?;
     value.get("$ref").and_then(Value::as_str)
 }
 
@@ -49,10 +50,10 @@ fn entry_at<'r>(
     place: Place<'r>,
 ) -> Result<Option<Dangling<'r>>, Error>
     ensures entry { IfOk result
-        (AreEntries (dangling_listed registry.now (listed_of place.entry))) }
+        (AreEntries (dangling_at registry.now (listed_of place.entry))) }
     ensures memory { IfErr result IsMemory }
 {
-    let Some(reference) = reference_at(registry, &place) else {
+    let Some(reference) = reference_in(place.value) else {
         return Ok(None);
     };
     let Some(error) = fault_at(alloc, registry, &place.base, reference)? else {

@@ -72,7 +72,7 @@ impl<'a> Registry<'a> {
 
     /// The places where schemas are in the own documents: document by document, in the order in which their URIs were first
     /// added, and after them those retrieved; in each document the root, then its children by the keywords that hold
-    /// subschemas, and so on level by level. [`Registry::value_at`] answers the value of each. Refuses as `Memory` alone.
+    /// subschemas, and so on level by level, each with its value. Refuses as `Memory` alone.
     ///
     /// Each place is visited once, with a look-up where it has an identifier; its path is copied, and the URI of each document;
     /// keys are lent, and the other URIs shared.

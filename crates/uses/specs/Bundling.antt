@@ -1,9 +1,7 @@
 -- What an own document of a registry refers to.
-use Rattle.std.specs.Prelude.{ℕ, ◌==◌, Bool, List, codes, filter, if◌then◌else◌, Option, None, option_and_then, slice_get, Result, Ok}
+use Rattle.std.specs.Prelude.{ℕ, ◌==◌, Bool, List, codes, filter, if◌then◌else◌, Option, None, option_and_then, Result, Ok}
 use Rattle.std.specs.List.{filter_map}
 use Rattle.std.specs.Result.{result_ok}
-use Rattle.serde_json.specs.Data.{Data}
-use Rattle.referencing.specs.Path.{value_at}
 use Rattle.referencing.specs.Schema.{text_under}
 use Rattle.referencing.specs.Reference.{with_fragment}
 use Rattle.referencing.specs.Targets.{Refusal, uri_against}
@@ -11,30 +9,24 @@ use Rattle.referencing.specs.Results.{◌>>=◌}
 use Rattle.referencing.specs.World.{Layer}
 use Rattle.referencing.specs.Listing.{Listed, own_places}
 
--- the value at a listed place
-abbrev pub value_there : Layer → Listed → Option Data
-value_there layer p = option_and_then (λ d. value_at d.tree p.path) (slice_get layer p.document)
-
 -- the URI that a reference at a base means, without its fragment
 abbrev pub uri_of : Result (List ℕ) Refusal → List ℕ → Option (List ℕ)
 uri_of base reference =
     result_ok (base >>= λ base. uri_against base reference >>= λ uri. Ok (with_fragment uri None))
 
 -- the URI that the `$ref` of a listed place means, without its fragment, where it has one
-abbrev pub refers_to : Layer → Listed → Option (List ℕ)
-refers_to layer p =
-    option_and_then (uri_of p.base)
-    (option_and_then (text_under (codes "$ref")) (value_there layer p))
+abbrev pub refers_to : Listed → Option (List ℕ)
+refers_to p = option_and_then (uri_of p.base) (text_under (codes "$ref") p.value)
 
 -- whether a listed place is one of the document with this number
 abbrev pub is_of : ℕ → Listed → Bool
 is_of document p = p.document == document
 
 -- the URI that a listed place refers to, where it is one of the document with this number
-abbrev pub refers_from : Layer → ℕ → Listed → Option (List ℕ)
-refers_from layer document p = if is_of document p then refers_to layer p else None
+abbrev pub refers_from : ℕ → Listed → Option (List ℕ)
+refers_from document p = if is_of document p then refers_to p else None
 
 -- those that the places of the document with this number refer to, in the order of the places
 abbrev pub referred_by : Layer → ℕ → List (List ℕ)
 referred_by layer document =
-    filter_map (refers_to layer) (filter (is_of document) (own_places layer))
+    filter_map refers_to (filter (is_of document) (own_places layer))

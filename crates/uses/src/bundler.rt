@@ -25,12 +25,9 @@ fn referred(
     registry: &Registry<'_>,
     place: &Place<'_>,
 ) -> Result<Option<Uri>, AllocError>
-    ensures { IfOk result (λ uri. uri ≡ refers_to (own_layer registry.now) (listed_of place.now)) }
+    ensures { IfOk result (λ uri. uri ≡ refers_to (listed_of place.now)) }
 {
-    let Some(value) = registry.value_at(place.document, place.path.as_slice()) else {
-        return Ok(None);
-    };
-    let Some(reference) = value.get("$ref").and_then(Value::as_str) else {
+    let Some(reference) = place.value.get("$ref").and_then(Value::as_str) else {
         return Ok(None);
     };
     match registry.resolve_uri(alloc, place.base.borrow(), reference) {
@@ -48,7 +45,7 @@ fn referred_from(
     place: &Place<'_>,
 ) -> Result<Option<Uri>, AllocError>
     ensures { IfOk result
-        (λ uri. uri ≡ refers_from (own_layer registry.now) document (listed_of place.now)) }
+        (λ uri. uri ≡ refers_from document (listed_of place.now)) }
 {
     if place.document != document {
         return Ok(None);
@@ -70,8 +67,8 @@ fn push(uris: &mut Vec<Uri>, uri: Uri) -> Result<(), AllocError>
 /// [`Registry::places`]; a number without a document has none. A look-up takes its URI from what is before the text's
 /// last `#` alone, so it may lead on from a text that isn't listed here. A bundler puts together what is under them.
 ///
-/// Refuses as `Memory` alone. Visits each place of the registry once, and those of the document with a look-up of their
-/// value and of the URI.
+/// Refuses as `Memory` alone. Visits each place of the registry once, and those of the document with a look-up of the
+/// URI.
 pub fn referred_documents(
     alloc: Global,
     registry: &Registry<'_>,

@@ -149,15 +149,27 @@ pub fn listed_places()
     ensures of_two_documents { own_places
         (at Draft202012 "http://a/r" (one "not" (one "$id" (text "s")))
         ∷ at Draft7 "http://a/t" yes ∷ [])
-        ≡ record { document = 0; path = []; draft = Draft202012; base = Ok (codes "http://a/r") }
+        ≡ record {
+          document = 0;
+          path = [];
+          value = one "not" (one "$id" (text "s"));
+          draft = Draft202012;
+          base = Ok (codes "http://a/r");
+        }
         ∷ record {
           document = 0;
-          path = Key (codes "not")
-              ∷ [];
+          path = Key (codes "not") ∷ [];
+          value = one "$id" (text "s");
           draft = Draft202012;
           base = Ok (codes "http://a/s");
         }
-        ∷ record { document = 1; path = []; draft = Draft7; base = Ok (codes "http://a/t") }
+        ∷ record {
+          document = 1;
+          path = [];
+          value = yes;
+          draft = Draft7;
+          base = Ok (codes "http://a/t");
+        }
         ∷ [] }
     ensures of_none { own_places [] ≡ [] }
 {}

@@ -7,8 +7,8 @@ use Rattle.ref_definitions.specs.Listing.{own_places}
 use Rattle.ref_index.specs.Listing.{listed_of}
 use Rattle.ref_definitions.specs.World.{own_layer}
 use Rattle.ref_lint.specs.Entries.{IsEntryOf}
-use Rattle.ref_lint.specs.inner.Listed.{dangling_listed}
-use Rattle.ref_lint.proofs.Numbering.{entry_of_one_more, entries_of_all}
+use Rattle.ref_lint.specs.Dangling.{dangling_at}
+use Rattle.ref_lint.proofs.Numbering.{entry_of_one_more}
 use Rattle.ref_lint.proofs.Retrieved.{entries_retrieved}
 use Rattle.ref_lint.proofs.search.dangling.Goals as goal
 
@@ -21,7 +21,7 @@ loop-place-preserved c =
     let rest = into_iter_items c.next.new.self in
     let steps : into_iter_items c.loop-place.place-iterator ≡ place ∷ rest = c.in-Some.ensures.steps.0 in
     let added : c.add.new.list.items ≡ c.loop-place.list.items ++ option_to_list entry = search rules in (
-      subst (λ entries. AllZip IsEntryOf entries (flat_map (dangling_listed world) (map listed_of (before ++ place ∷ [])))) (sym added)
+      subst (λ entries. AllZip IsEntryOf entries (flat_map (dangling_at world) (map listed_of (before ++ place ∷ [])))) (sym added)
           (entry_of_one_more world before place c.loop-place.list.items entry c.loop-place.invariant.0 c.in_ok-entry.ensures.entry),
       append_assoc before (place ∷ []) rest ∙ ap (λ l. before ++ l) (sym steps) ∙ c.loop-place.invariant.1,
       search rules,
@@ -36,7 +36,7 @@ value_of_all c =
     let all : gone ≡ c.in_ok-places.places.items =
     sym (append-nil gone) ∙ ap (λ l. gone ++ l) (sym none) ∙ c.loop-place.invariant.1 ∙ c.into_iter-place-iterator.ensures.into_iter_gives.0 in
     let listed : map listed_of gone ≡ own_places (own_layer world) = ap (map listed_of) all ∙ c.in_ok-places.ensures.value in
-    entries_of_all world gone c.loop-place.list.items c.in_ok-places.ensures.stand listed c.loop-place.invariant.0
+    subst (λ places. AllZip IsEntryOf c.loop-place.list.items (flat_map (dangling_at world) places)) listed c.loop-place.invariant.0
 
 pub returns-clause-value : goal.returns-clause-value
 returns-clause-value c = value_of_all c

@@ -3,11 +3,11 @@ use Rattle.std.specs.List.{AllZip}
 use Rattle.std.specs.Vec.Iter.{into_iter_items, into_iter_len}
 use Rattle.ref_index.specs.Listing.{listed_of}
 use Rattle.ref_lint.specs.Entries.{IsEntryOf}
-use Rattle.ref_lint.specs.inner.Listed.{dangling_listed}
+use Rattle.ref_lint.specs.Dangling.{dangling_at}
 use Rattle.ref_lint.proofs.search.dangling.Given as goal
 
 abbrev pub invariant-loop-place : goal.invariant-loop-place
 invariant-loop-place l =
-    AllZip IsEntryOf l.list.items (flat_map (dangling_listed l.registry) (map listed_of l.yielded))
+    AllZip IsEntryOf l.list.items (flat_map (dangling_at l.registry) (map listed_of l.yielded))
     × (l.yielded ++ into_iter_items l.place-iterator ≡ into_iter_items l.initial.place-iterator)
     × (into_iter_len l.place-iterator ≡ length (into_iter_items l.place-iterator))
