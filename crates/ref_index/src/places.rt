@@ -102,10 +102,10 @@ fn base_in(
 }
 
 // The place of a visit, whose base is known.
-fn place_at<'w>(
+fn place_at<'w, 'a: 'w>(
     alloc: Global,
     number: usize,
-    visit: &Visit<'w, '_>,
+    visit: &Visit<'w, 'a>,
     base: &Rc<Uri>,
 ) -> Result<Place<'w>, AllocError>
     ensures { (place_of visit.now).base ≡ Ok base.now.value
