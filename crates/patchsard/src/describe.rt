@@ -1,6 +1,5 @@
 //! Findings as messages.
 use crate::given::Given;
-use crate::pointer::pointer_of;
 use crate::resources::Resources;
 use crate::rules::code_of;
 use crate::spots::{Spots, first_of};
@@ -8,6 +7,7 @@ use crate::suggestions::suggestion;
 use ref_error::Error;
 use ref_findings::{Bearer, Finding, Problem};
 use ref_messages::{Level, Message, Other, Suggester};
+use ref_parts::pointer_of;
 use ref_uri::Uri;
 use std::alloc::{AllocError, Global};
 

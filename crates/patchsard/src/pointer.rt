@@ -2,22 +2,9 @@
 use ref_error::Error;
 use ref_parts::path::JsonPointerSegment;
 use ref_positions::Places;
-use referencing::{unescape_segment, write_escaped_str, write_index};
+use referencing::unescape_segment;
 use serde_json::Value;
 use std::alloc::{AllocError, Global};
-
-/// The pointer of a path (RFC 6901, 3).
-pub fn pointer_of(alloc: Global, path: &[JsonPointerSegment<'_>]) -> Result<String, AllocError> {
-    let mut pointer = String::new(alloc);
-    for segment in path {
-        pointer.push('/')?;
-        match segment {
-            JsonPointerSegment::Key(key) => write_escaped_str(&mut pointer, key.as_str())?,
-            JsonPointerSegment::Index(index) => write_index(&mut pointer, *index)?,
-        }
-    }
-    Ok(pointer)
-}
 
 /// The number of the place at the end of a path, which is asked for from here on.
 pub fn place_of(places: &mut Places, path: &[JsonPointerSegment<'_>]) -> Result<usize, AllocError> {
@@ -29,15 +16,6 @@ pub fn place_of(places: &mut Places, path: &[JsonPointerSegment<'_>]) -> Result<
         };
     }
     Ok(place)
-}
-
-/// The value at the end of a path.
-pub fn value_at<'v>(root: &'v Value, path: &[JsonPointerSegment<'_>]) -> Option<&'v Value> {
-    let mut value = root;
-    for segment in path {
-        value = child(value, segment)?;
-    }
-    Some(value)
 }
 
 /// The path that a pointer means in a value (RFC 6901, 4). `PointerToNowhere` where it leads to none.

@@ -1,11 +1,12 @@
 //! What a reference leads to, as it is printed.
 use crate::given::Given;
-use crate::pointer::{path_to, place_of, pointer_of};
+use crate::pointer::{path_to, place_of};
 use crate::resolve::Found;
 use crate::stop::Stop;
 use crate::world::{World, without_fragment};
 use percent_encoding::percent_decode_str;
 use ref_index::Place;
+use ref_parts::pointer_of;
 use ref_positions::Places;
 use std::alloc::{AllocError, Global};
 

@@ -1,8 +1,9 @@
 //! Where findings stand in the files: one pass over each file that has some.
 use crate::document::Document;
-use crate::pointer::{place_of, value_at};
+use crate::pointer::place_of;
 use ref_findings::{Bearer, Finding, Problem};
 use ref_parts::path::JsonPointerSegment;
+use ref_parts::value_at;
 use ref_positions::{Located, Places, Position};
 use std::alloc::{AllocError, Global};
 

@@ -17,9 +17,10 @@ ghost use Rattle.ref_findings.specs.inner.Seen.{known_in};
 
 use crate::base::{base_of, meta_schema_uri, target_of};
 use crate::finding::{Bearer, Problem};
-use crate::site::{Site, segments_of};
+use crate::site::Site;
 use ref_draft::{Draft, trim_hashes};
 use ref_error::Error;
+use ref_index::path::segments_of;
 use ref_parts::SortedTable;
 use ref_resolver::{Layers, Resolver};
 use ref_uri::Uri;

@@ -1,9 +1,8 @@
 //! The places of a source where schemas stand.
 ghost use Rattle.std.specs.Prelude.{◌≡◌, ◌<◌, List, [], ◌∷◌, ◌++◌, map, length, slice_get, Some, IfOk, OnOk};
 ghost use Rattle.serde_json.specs.View.{view};
-ghost use Rattle.ref_parts.specs.Path.{Key};
 ghost use Rattle.ref_draft.specs.Children.{walked_children};
-ghost use Rattle.ref_draft.specs.Views.{segment_parts, walked_child};
+ghost use Rattle.ref_draft.specs.Views.{walked_child};
 ghost use Rattle.ref_definitions.specs.Places.{child_place, root};
 ghost use Rattle.ref_findings.specs.Places.{children_near, places_near};
 ghost use Rattle.ref_findings.specs.declared.place.Place.{Place};
@@ -12,29 +11,13 @@ ghost use Rattle.ref_findings.specs.inner.Seen.{place_of};
 use crate::base::nearest_base;
 use crate::place::Place;
 use ref_draft::{Child, Draft};
+use ref_index::path::path_below;
 use ref_index::reference::shared;
-use ref_parts::path::{JsonPointerNode, JsonPointerSegment};
+use ref_parts::path::JsonPointerNode;
 use ref_uri::Uri;
 use serde_json::Value;
 use std::alloc::{AllocError, Global};
 use std::rc::Rc;
-
-// The path of a child of a place.
-fn path_below<'v>(
-    alloc: Global,
-    path: &JsonPointerNode<'v>,
-    keyword: &'v str,
-    segment: Option<JsonPointerSegment<'v>>,
-) -> Result<JsonPointerNode<'v>, AllocError>
-    ensures { IfOk result
-        (λ below. below ≡ path.now ++ Key keyword.now ∷ segment_parts segment.entry) }
-{
-    let keyword = path.push(alloc, keyword)?;
-    match segment {
-        Some(segment) => keyword.push(alloc, segment),
-        None => Ok(keyword),
-    }
-}
 
 // Adds a place after the others.
 fn push<'v>(places: &mut Vec<Place<'v>>, place: Place<'v>) -> Result<(), AllocError>

@@ -13,7 +13,7 @@ use Rattle.ref_definitions.specs.Cached.{Pair, pairs_at, pairs}
 use Rattle.ref_definitions.specs.Wants.{Want, wants, faults}
 use Rattle.ref_index.specs.declared.entry.Entry.{Entry}
 use Rattle.ref_index.specs.declared.found.Found.{Found}
-use Rattle.ref_index.specs.declared.path.PathPart.{PathPart}
+use Rattle.ref_parts.specs.declared.path.JsonPointerSegment.{JsonPointerSegment}
 use Rattle.ref_index.specs.declared.entry.NamedEntry.{NamedEntry}
 use Rattle.ref_index.specs.Found.{IsPathOf, IsEntryOf, IsNumberOf, IsResourceOf, IsNameOf, Holds}
 use Rattle.ref_index.specs.Visits.{IsWalked, IsFound, ChildrenStandAt, faults_of, wants_of}
@@ -32,7 +32,7 @@ at_length (y ∷ xs) x = at_length xs x
 
 -- ---- what was found stays
 
-path_stays : (layer more : Layer) (number : ℕ) (parts : List PathPart) (p : Place) → IsPathOf layer number parts p → IsPathOf (layer ++ more) number parts p
+path_stays : (layer more : Layer) (number : ℕ) (parts : List JsonPointerSegment) (p : Place) → IsPathOf layer number parts p → IsPathOf (layer ++ more) number parts p
 path_stays layer more number parts p is =
     record { document = is.document; numbered = there_still layer more number is.document is.numbered; path = is.path; value = is.value }
 

@@ -1,10 +1,9 @@
 -- Paths, and the value that one leads to.
 use Rattle.std.proofs.Common.{◌≡◌, List, [], ◌∷◌, ◌++◌, Option, Some, None, map, reverse, refl, sym, ap, ◌∙◌}
 use Rattle.std.proofs.lemmas.List.{map-append, reverse-append}
-use Rattle.std.specs.Prelude.{option_and_then, unwrap_or, take, length}
+use Rattle.std.specs.Prelude.{unwrap_or, take, length}
 use Rattle.std.specs.List.{last_or}
-use Rattle.serde_json.specs.Data.{Data}
-use Rattle.ref_parts.specs.Path.{Part, child_at, value_at, Index, last_part, parent_path}
+use Rattle.ref_parts.specs.Path.{Part, Index, last_part, parent_path}
 
 last_behind : (part : Part) (path : List Part) → part ∷ path ≡ take (length path) (part ∷ path) ++ unwrap_or (last_or (Some part) path) (Index 0) ∷ []
 last_behind part [] = refl
@@ -21,11 +20,6 @@ last_stands (part ∷ path) before is =
 pub without_parent : (path : List Part) → parent_path path ≡ None → path ≡ []
 without_parent [] is = refl
 without_parent (part ∷ path) is = cc
-
--- ---- a step
-
-pub stepped : (d : Data) (part : Part) (rest : List Part) (o : Option Data) → o ≡ child_at d part → value_at d (part ∷ rest) ≡ option_and_then (λ e. value_at e rest) o
-stepped d part rest o is = ap (option_and_then (λ e. value_at e rest)) (sym is)
 
 -- ---- turned round
 

@@ -9,6 +9,8 @@ use Rattle.ref_uri.specs.Targets.{uri_against}
 use Rattle.serde_json.specs.View.{view}
 use Rattle.ref_parts.specs.Path.{value_at}
 use Rattle.ref_draft.specs.Anchors.{Kind, Plain, Dynamic}
+use Rattle.ref_parts.specs.Segment.{part_of}
+use Rattle.ref_parts.specs.declared.path.JsonPointerSegment.{JsonPointerSegment}
 use Rattle.ref_definitions.specs.World.{Document, Layer}
 use Rattle.ref_definitions.specs.Places.{Place}
 use Rattle.ref_definitions.specs.Anchors.{Named}
@@ -22,11 +24,9 @@ use Rattle.ref_index.specs.declared.found.Want.{Want}
 use Rattle.ref_index.specs.declared.found.ResolvedUri.{ResolvedUri}
 use Rattle.ref_index.specs.declared.found.Cause.{Cause}
 use Rattle.ref_index.specs.declared.found.Cause.TheVariants.{Reference, MetaSchema}
-use Rattle.ref_index.specs.declared.path.PathPart.{PathPart}
-use Rattle.ref_index.specs.Parts.{part_of}
 
 -- a path in one of a layer's documents leads to a place's value
-pub record IsPathOf (layer : Layer) (number : ℕ) (parts : List PathPart) (p : Place) : Type 0 where
+pub record IsPathOf (layer : Layer) (number : ℕ) (parts : List JsonPointerSegment) (p : Place) : Type 0 where
   pub document : Document
   pub numbered : slice_get layer number ≡ Some document
   pub path : map part_of parts ≡ p.path

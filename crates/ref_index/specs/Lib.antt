@@ -1,5 +1,4 @@
 pub mod Contents
-pub mod Parts
 pub mod Document
 pub mod Found
 pub mod Visits

@@ -1,6 +1,6 @@
 //! Where a place is.
-use crate::path::PathPart;
 use ref_draft::Draft;
+use ref_parts::path::JsonPointerSegment;
 use ref_uri::Uri;
 use serde_json::Value;
 use std::rc::Rc;
@@ -13,7 +13,7 @@ pub struct Entry<'a> {
     /// The number of its document.
     pub document: usize,
     /// Its path there.
-    pub path: Vec<PathPart>,
+    pub path: Vec<JsonPointerSegment<'static>>,
     pub draft: Draft,
     pub base: Rc<Uri>,
 }

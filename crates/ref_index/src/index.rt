@@ -19,8 +19,7 @@ ghost use Rattle.ref_index.specs.Index.{IsFoundAt, IsFoundWhere, IsNamedAt, numb
 use crate::document::Document;
 use crate::entry::{Entry, FoundName, FoundUri, NamedEntry};
 use crate::found::{Found, ResolvedUri};
-use crate::path::value_at;
-use ref_parts::SortedTable;
+use ref_parts::{SortedTable, value_at};
 use ref_uri::uri::from_str;
 use ref_uri::{Uri, UriFault};
 use serde_json::Value;

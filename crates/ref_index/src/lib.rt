@@ -21,6 +21,5 @@ pub use document::{Contents, Document};
 pub use entry::{Entry, FoundName, FoundUri, NamedEntry};
 pub use found::{Found, Want};
 pub use index::Index;
-pub use path::PathPart;
 pub use places::Place;
 pub use walked::Walked;

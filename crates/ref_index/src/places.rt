@@ -1,8 +1,6 @@
 //! The places of the documents of an index, as a list.
-ghost use Rattle.std.specs.Prelude.{◌≡◌, ℕ, List, [], ◌∷◌, ◌++◌, map, option_map, slice_get, Some, Ok, IfOk, OnOk, MatchOption};
+ghost use Rattle.std.specs.Prelude.{◌≡◌, ℕ, List, [], ◌∷◌, ◌++◌, map, option_map, slice_get, Some, Ok, IfOk, OnOk};
 ghost use Rattle.std.specs.List.{Contains};
-ghost use Rattle.ref_parts.specs.Segment.{part_of};
-ghost use Rattle.ref_parts.specs.declared.path.JsonPointerSegment.{JsonPointerSegment};
 ghost use Rattle.ref_definitions.specs.Listing.{listed_place, own_places};
 ghost use Rattle.ref_definitions.specs.Places.{Place as WorldPlace, base_within, children_of, places};
 ghost use Rattle.ref_definitions.specs.Wants.{faults};
@@ -13,11 +11,12 @@ ghost use Rattle.ref_index.specs.declared.queue.Visit.{Visit};
 
 use crate::document::Document;
 use crate::index::Index;
+use crate::path::segments_of;
 use crate::queue::Visit;
 use crate::reference::shared;
 use crate::walk::{push_children, push_visit, root_of};
 use ref_draft::{Draft, ResourceRef};
-use ref_parts::path::{JsonPointerNode, JsonPointerSegment};
+use ref_parts::path::JsonPointerSegment;
 use ref_uri::uri::resolve_against;
 use ref_uri::{Uri, UriFault};
 use serde_json::Value;
@@ -38,41 +37,6 @@ pub struct Place<'a> {
     pub base: Rc<Uri>,
     /// Its draft.
     pub draft: Draft,
-}
-
-// Adds a copy of the last segment of the path, and returns the path before it, where there is one.
-fn push_last<'n, 'w>(
-    segments: &mut Vec<JsonPointerSegment<'w>>,
-    path: &'n JsonPointerNode<'w>,
-) -> Result<Option<&'n JsonPointerNode<'w>>, AllocError>
-    ensures { IfOk result
-        (λ rest. MatchOption rest ((path.now ≡ []) × (segments.new.items ≡ segments.old.items))
-        (λ before. (segment : JsonPointerSegment)
-        × (segments.new.items ≡ segments.old.items ++ segment ∷ [])
-        × (path.now ≡ before.now ++ part_of segment ∷ []))) }
-{
-    let Some(before) = path.parent() else {
-        return Ok(None);
-    };
-    let segment = path.segment().clone()?;
-    segments.push(segment)?;
-    Ok(Some(before))
-}
-
-// The segments of a path, from the root on.
-fn segments_of<'w>(
-    alloc: Global,
-    path: &JsonPointerNode<'w>,
-) -> Result<Vec<JsonPointerSegment<'w>>, AllocError>
-    ensures value { IfOk result (λ segments. map part_of segments.items ≡ path.now) }
-{
-    let mut segments = Vec::new(alloc);
-    let mut rest = Some(path);
-    while let Some(node) = rest {
-        rest = push_last(&mut segments, node)?;
-    }
-    segments.reverse();
-    Ok(segments)
 }
 
 // The base of a place, whose identifier means a URI: what was resolved while the documents were walked is shared.

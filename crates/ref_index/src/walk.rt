@@ -1,9 +1,8 @@
 //! The walk over the places of a document.
 ghost use Rattle.std.specs.Prelude.{◌≡◌, ◌<◌, ℕ, List, [], ◌∷◌, ◌++◌, map, flat_map, length, option_map, slice_get, false, Some, Ok, OnOk, IfOk, IfErr};
 ghost use Rattle.serde_json.specs.View.{view};
-ghost use Rattle.ref_parts.specs.Path.{Key};
 ghost use Rattle.ref_draft.specs.Schema.{identifier, text_under};
-ghost use Rattle.ref_draft.specs.Views.{resource_ref, tagged_value, segment_parts, walked_child};
+ghost use Rattle.ref_draft.specs.Views.{resource_ref, tagged_value, walked_child};
 ghost use Rattle.ref_draft.specs.Anchors.{anchors};
 ghost use Rattle.ref_uri.specs.Errors.{IsFaultOf};
 ghost use Rattle.ref_uri.specs.Targets.{target as uri_target};
@@ -23,11 +22,11 @@ ghost use Rattle.ref_index.specs.Visits.{meta_schema_uri, IsFirstFault, StandsIn
 use crate::document::Document;
 use crate::entry::Entry;
 use crate::found::{Cause, Found};
-use crate::path::owned;
+use crate::path::{owned, path_below};
 use crate::queue::{ValueRef, Visit};
 use crate::reference::shared;
 use ref_draft::{AnchorIter, Child, Draft, ResourceRef};
-use ref_parts::path::{JsonPointerNode, JsonPointerSegment};
+use ref_parts::path::JsonPointerNode;
 use ref_uri::parts::uri_part;
 use ref_uri::uri::{from_str, resolve_against};
 use ref_uri::{Uri, UriFault};
@@ -330,23 +329,6 @@ fn settle<'w, 'a: 'w>(
     add_reference(alloc, found, value, &base)?;
     add_meta_schema(alloc, found, value)?;
     Ok(base)
-}
-
-// The path of a child of a place.
-fn path_below<'w>(
-    alloc: Global,
-    path: &JsonPointerNode<'w>,
-    keyword: &'w str,
-    segment: Option<JsonPointerSegment<'w>>,
-) -> Result<JsonPointerNode<'w>, AllocError>
-    ensures { IfOk result
-        (λ below. below ≡ path.now ++ Key keyword.now ∷ segment_parts segment.entry) }
-{
-    let keyword = path.push(alloc, keyword)?;
-    match segment {
-        Some(segment) => keyword.push(alloc, segment),
-        None => Ok(keyword),
-    }
 }
 
 // Adds a child of a place to the queue, with its value.

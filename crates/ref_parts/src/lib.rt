@@ -12,6 +12,7 @@ pub mod laws;
 pub mod list;
 pub mod path;
 mod scan;
+mod segments;
 pub mod small_map;
 pub mod table;
 
@@ -20,5 +21,6 @@ pub use escape::{first_escape, unescape_segment, write_escaped_str, write_index}
 pub use evaluate::{parse_index, pointer};
 pub use list::{Iter, List};
 pub use path::{JsonPointerNode, JsonPointerSegment};
+pub use segments::{pointer_of, value_at};
 pub use small_map::{BorrowedKey, SmallMap};
 pub use table::SortedTable;

@@ -1,13 +1,11 @@
 //! The lines of unresolvable references.
-ghost use Rattle.std.specs.Prelude.{◌≡◌, ◌∷◌, ◌++◌, map, string_bytes, IfOk, OnOk};
-ghost use Rattle.ref_parts.specs.Pointer.{slash, part_text, pointer_text};
-ghost use Rattle.ref_parts.specs.Segment.{part_of};
+ghost use Rattle.std.specs.Prelude.{◌≡◌, ◌++◌, string_bytes, OnOk};
 ghost use Rattle.ref_report.specs.Report as spec;
 ghost use Rattle.ref_report.specs.inner.Lines.{entry_line};
 
 use ref_error::laws::errors_say_faults;
 use ref_lint::{Dangling, dangling};
-use referencing::{JsonPointerSegment, Registry, write_escaped_str, write_index};
+use referencing::{Registry, pointer_of};
 use serde_json::Value;
 use std::alloc::{AllocError, Global};
 
@@ -38,26 +36,4 @@ fn push_entry(alloc: Global, text: &mut String, entry: &Dangling<'_>) -> Result<
     let path = Value::String(pointer_of(alloc, entry.path.as_slice())?).to_string(alloc)?;
     let line = format!(in alloc; "dangling {document} {path} {error}\n")?;
     text.push_str(line.as_str())
-}
-
-// The pointer text of a path (RFC 6901, section 3).
-fn pointer_of(alloc: Global, path: &[JsonPointerSegment<'_>]) -> Result<String, AllocError>
-    ensures { IfOk result (λ text. string_bytes text ≡ pointer_text (map part_of path.now)) }
-{
-    let mut pointer = String::new(alloc);
-    for segment in path {
-        push_segment(&mut pointer, segment)?;
-    }
-    Ok(pointer)
-}
-
-fn push_segment(pointer: &mut String, segment: &JsonPointerSegment<'_>) -> Result<(), AllocError>
-    ensures { OnOk result (string_bytes pointer.new
-        ≡ string_bytes pointer.old ++ slash ∷ part_text (part_of segment.now)) }
-{
-    pointer.push('/')?;
-    match segment {
-        JsonPointerSegment::Key(key) => write_escaped_str(pointer, key.as_str()),
-        JsonPointerSegment::Index(index) => write_index(pointer, *index),
-    }
 }

@@ -12,5 +12,4 @@ pub mod Names
 pub mod Undecoded
 pub mod Based
 pub mod Cutting
-pub mod Writing
 pub mod Standing

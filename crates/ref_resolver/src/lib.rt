@@ -13,9 +13,7 @@ mod location;
 mod pointed;
 mod recursive;
 mod resolver;
-mod written;
 
 pub use layers::Layers;
 pub use location::Location;
 pub use resolver::{Resolved, Resolver};
-pub use written::pointer_of;

@@ -3,7 +3,7 @@ ghost use Rattle.std.specs.Prelude.{◌≡◌, ◌∷◌, ◌++◌, [], codes, m
 ghost use Rattle.std.specs.Prelude.{option_map, string_bytes};
 ghost use Rattle.serde_json.specs.Data.{Data, string};
 ghost use Rattle.serde_json.specs.View.{view, members_view};
-ghost use Rattle.ref_parts.specs.Pointer.{slash, part_text, pointer_text};
+ghost use Rattle.ref_parts.specs.Pointer.{pointer_text};
 ghost use Rattle.ref_parts.specs.Segment.{part_of};
 ghost use Rattle.ref_error.specs.Errors.{IsFaultOf};
 ghost use Rattle.ref_resolver.specs.Locations.{IsWhere, StandsAt};
@@ -14,9 +14,7 @@ ghost use Rattle.ref_serve.specs.inner.Seen.{asked_view, IsFoundBy, answer_at};
 
 use crate::asked::Asked;
 use ref_calls::members::{Members, put_number, put_text, uris_of};
-use referencing::{
-    Draft, Error, JsonPointerSegment, Location, Resolver, write_escaped_str, write_index,
-};
+use referencing::{Draft, Error, JsonPointerSegment, Location, Resolver, pointer_of};
 use serde_json::{Value, put};
 use std::alloc::{AllocError, Global};
 
@@ -37,29 +35,6 @@ fn location_of<'s>(
     match reference {
         Some(reference) => resolver.location(alloc, reference),
         None => resolver.location_recursive(alloc),
-    }
-}
-
-/// The pointer of a path (RFC 6901, section 3).
-pub fn pointer_of(alloc: Global, path: &[JsonPointerSegment<'_>]) -> Result<String, AllocError>
-    ensures { IfOk result (λ text. string_bytes text ≡ pointer_text (map part_of path.now)) }
-{
-    let mut pointer = String::new(alloc);
-    for segment in path {
-        push_segment(&mut pointer, segment)?;
-    }
-    Ok(pointer)
-}
-
-fn push_segment(pointer: &mut String, segment: &JsonPointerSegment<'_>) -> Result<(), AllocError>
-    ensures { OnOk result
-        (string_bytes pointer.new
-        ≡ string_bytes pointer.old ++ slash ∷ part_text (part_of segment.now)) }
-{
-    pointer.push('/')?;
-    match segment {
-        JsonPointerSegment::Key(key) => write_escaped_str(pointer, key.as_str()),
-        JsonPointerSegment::Index(index) => write_index(pointer, *index),
     }
 }
 

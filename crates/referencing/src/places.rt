@@ -2,7 +2,7 @@
 ghost use Rattle.std.specs.Prelude.{◌≡◌, map, option_map, option_and_then, slice_get, IfOk, IfErr, Ok};
 ghost use Rattle.std.specs.List.{Contains};
 ghost use Rattle.serde_json.specs.View.{view};
-ghost use Rattle.ref_parts.specs.Path.{child_at, value_at};
+ghost use Rattle.ref_parts.specs.Path.{value_at};
 ghost use Rattle.ref_parts.specs.Segment.{part_of};
 ghost use Rattle.ref_definitions.specs.World.{Document as WorldDocument, own_layer};
 ghost use Rattle.ref_definitions.specs.Places.{Place as WorldPlace, places};
@@ -19,33 +19,11 @@ use crate::written::reference_of;
 use ref_error::Error;
 use ref_index::{Document, Place};
 use ref_parts::path::JsonPointerSegment;
+use ref_parts::value_at;
 use ref_resolver::Resolved;
 use ref_uri::Uri;
 use serde_json::Value;
 use std::alloc::Global;
-
-// The value that a segment leads to.
-fn child_at<'v>(value: &'v Value, segment: &JsonPointerSegment<'_>) -> Option<&'v Value>
-    ensures { option_map (λ v. view v.now) result
-        ≡ child_at (view value.now) (part_of segment.now) }
-{
-    match segment {
-        JsonPointerSegment::Key(key) => value.get(key.as_str()),
-        JsonPointerSegment::Index(index) => value.get(*index),
-    }
-}
-
-// The value at a path.
-fn value_along<'v>(value: &'v Value, path: &[JsonPointerSegment<'_>]) -> Option<&'v Value>
-    ensures { option_map (λ v. view v.now) result
-        ≡ value_at (view value.now) (map part_of path.now) }
-{
-    let mut here = value;
-    for part in path {
-        here = child_at(here, part)?;
-    }
-    Some(here)
-}
 
 impl<'a> Registry<'a> {
     /// The own documents, in the order in which their URIs were first added, and after them those retrieved: of each
@@ -67,7 +45,7 @@ impl<'a> Registry<'a> {
             (slice_get (own_layer self.now) document) }
     {
         let tree = self.tree(document)?;
-        value_along(tree, path)
+        value_at(tree, path)
     }
 
     /// The places where schemas are in the own documents: document by document, in the order in which their URIs were first

@@ -5,9 +5,8 @@ ghost use Rattle.ref_parts.specs.Pointer.{pointer_text};
 ghost use Rattle.ref_parts.specs.Segment.{part_of};
 ghost use Rattle.ref_definitions.specs.Agreement.{IsPathOfTexts};
 
-use ref_parts::EncodedBuffer;
 use ref_parts::path::JsonPointerSegment;
-use ref_resolver::pointer_of;
+use ref_parts::{EncodedBuffer, pointer_of};
 use std::alloc::{AllocError, Global};
 
 // `#` and a pointer, as a fragment holds it (RFC 6901, section 6).

@@ -12,7 +12,7 @@ returns c =
     (λ grown. (
       p,
       grown,
-      place_is p c.in_ok-path.path (view c.args.child.value.now) c.args.child.draft c.in_ok-outer.outer.value c.args.path.now c.args.base.now.value (walked_child c.args.child) c.new-place.ensures.value c.in_ok-path.ensures
+      place_is p c.in_ok-path.path (view c.args.child.value.now) c.args.child.draft c.in_ok-outer.outer.value c.args.path.now c.args.base.now.value (walked_child c.args.child) c.new-place.ensures.value c.in_ok-path.ensures.value
           refl refl c.in_ok-outer.ensures.cases,
     ))
     c.push.ensures

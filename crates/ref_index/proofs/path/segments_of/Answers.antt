@@ -2,7 +2,7 @@ use Rattle.std.proofs.Common.{◌≡◌, ◌∙◌, sym, ap, map, reverse, [], �
 use Rattle.std.specs.Option.{option_map_or}
 use Rattle.ref_parts.specs.Segment.{part_of}
 use Rattle.ref_index.proofs.Paths.{map-reverse}
-use Rattle.ref_index.proofs.places.segments_of.Goals as goal
+use Rattle.ref_index.proofs.path.segments_of.Goals as goal
 
 pub returns : goal.returns
 returns c =

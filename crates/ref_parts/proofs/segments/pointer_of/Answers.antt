@@ -3,8 +3,8 @@ use Rattle.std.proofs.lemmas.List.{take_more, map-append}
 use Rattle.ref_parts.specs.Path.{HasFittingIndexes}
 use Rattle.ref_parts.specs.Pointer.{slash, part_text, pointer_text}
 use Rattle.ref_parts.specs.Segment.{part_of}
-use Rattle.ref_resolver.proofs.Writing.{text_more, fits_more}
-use Rattle.ref_resolver.proofs.written.pointer_of.Goals as goal
+use Rattle.ref_parts.proofs.SegmentLaws.{text_more, fits_more}
+use Rattle.ref_parts.proofs.segments.pointer_of.Goals as goal
 
 pub loop-segment-preserved : goal.loop-segment-preserved
 loop-segment-preserved c =

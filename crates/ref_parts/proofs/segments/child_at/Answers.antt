@@ -1,5 +1,5 @@
 use Rattle.std.proofs.Common.{rules}
-use Rattle.referencing.proofs.places.child_at.Goals as goal
+use Rattle.ref_parts.proofs.segments.child_at.Goals as goal
 
 pub returns-in-Index : goal.returns-in-Index
 returns-in-Index c = search rules

@@ -2,9 +2,9 @@ use Rattle.std.proofs.Common.{◌≡◌, ◌∙◌, refl, ◌∷◌, ◌+◌, ap
 use Rattle.std.proofs.lemmas.List.{at_drop_more, at_drop_all}
 use Rattle.serde_json.specs.View.{view}
 use Rattle.ref_parts.specs.Path.{value_at}
-use Rattle.ref_index.specs.Parts.{part_of}
-use Rattle.ref_index.proofs.Paths.{stepped}
-use Rattle.ref_index.proofs.path.value_at.Goals as goal
+use Rattle.ref_parts.specs.Segment.{part_of}
+use Rattle.ref_parts.proofs.SegmentLaws.{stepped}
+use Rattle.ref_parts.proofs.segments.value_at.Goals as goal
 
 pub returns-in_err-here : goal.returns-in_err-here
 returns-in_err-here c =

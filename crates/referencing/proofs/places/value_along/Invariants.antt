@@ -1,8 +1,0 @@
-use Rattle.std.proofs.Common.{◌≡◌, map, drop}
-use Rattle.serde_json.specs.View.{view}
-use Rattle.ref_parts.specs.Path.{value_at}
-use Rattle.ref_parts.specs.Segment.{part_of}
-use Rattle.referencing.proofs.places.value_along.Given as goal
-
-abbrev pub invariant-loop-part : goal.invariant-loop-part
-invariant-loop-part l = value_at (view l.here) (map part_of (drop l.part-index l.path)) ≡ value_at (view l.value) (map part_of l.path)
