@@ -6,6 +6,7 @@ pub mod Held
 pub mod Disjoint
 pub mod Holdings
 pub mod Scanning
+pub mod Begun
 pub mod Depth
 pub mod Given
 pub mod Standing
