@@ -5,6 +5,7 @@ pub mod Anchors
 pub mod Scan
 pub mod Views
 pub mod ScanSteps
+pub mod Reached
 pub mod Beginnings
 pub mod UniqueKeys
 pub mod Rows
