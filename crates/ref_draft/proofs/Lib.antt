@@ -6,6 +6,8 @@ pub mod Held
 pub mod Disjoint
 pub mod Holdings
 pub mod Scanning
+pub mod Begun
+pub mod Reaching
 pub mod Depth
 pub mod Given
 pub mod Standing

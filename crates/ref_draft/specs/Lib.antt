@@ -6,6 +6,7 @@ pub mod Anchors
 pub mod Scan
 pub mod Views
 pub mod ScanSteps
+pub mod Reached
 pub mod Beginnings
 pub mod UniqueKeys
 pub mod Rows

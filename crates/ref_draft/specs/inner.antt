@@ -2,3 +2,4 @@
 -- definitions say what private functions answer.
 pub mod WalkSteps
 pub mod Added
+pub mod Ends

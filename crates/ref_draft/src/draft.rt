@@ -13,6 +13,7 @@ use crate::anchor::{self, AnchorIter};
 use crate::resource::{Resource, ResourceRef};
 use crate::segments::Segments;
 use crate::spec::children::ChildIter;
+use crate::spec::columns::may_hold;
 use crate::spec::ids::{text_under, trim_hashes};
 use crate::spec::walk::{self, Child};
 use crate::spec::{Holding, draft4, draft6, draft7, draft201909, draft202012, known, scan};
@@ -188,6 +189,9 @@ impl Draft {
     pub(crate) fn holding(self, keyword: &str) -> Holding
         ensures { result ≡ holding_of self keyword.now }
     {
+        if !may_hold(keyword) {
+            return Holding::Nothing;
+        }
         match self {
             Draft::Draft4 => draft4::holding(keyword),
             Draft::Draft6 => draft6::holding(keyword),

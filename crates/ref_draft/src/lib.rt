@@ -8,12 +8,14 @@ pub mod anchor;
 pub mod draft;
 pub mod examples;
 pub mod laws;
+pub mod reached;
 pub mod resource;
 pub mod segments;
 mod spec;
 
 pub use anchor::{Anchor, AnchorIter};
 pub use draft::Draft;
+pub use reached::Reached;
 pub use resource::{Resource, ResourceRef};
 pub use segments::{Segment, Segments};
 pub use spec::children::{ChildIter, ChildIterInner};
