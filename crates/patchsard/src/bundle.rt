@@ -1,14 +1,10 @@
 //! `patchsard bundle`.
 use crate::console::Console;
 use crate::describe::Describer;
-use crate::document::{Document, parsed};
 use crate::given::{Given, read_file};
 use crate::lint::order_of;
-use crate::options::maps;
 use crate::pointer::place_of;
-use crate::splice::{Added, Part, with_added, with_parts};
 use crate::spots::spots_of;
-use crate::stop::Stop;
 use crate::world::{World, faulty_of, outside_of, world_above};
 use crate::write::write_file;
 use clap::ArgMatches;
@@ -20,6 +16,10 @@ use ref_messages::push_text;
 use ref_parts::path::JsonPointerSegment;
 use ref_parts::pointer_of;
 use ref_positions::Places;
+use ref_positions::splice::{Added, Part, with_added, with_parts};
+use ref_reading::Stop;
+use ref_reading::document::{Document, parsed};
+use ref_reading::options::maps;
 use ref_uri::UriRef;
 use referencing::Registry;
 use serde_json::Value;

@@ -1,5 +1,5 @@
 //! Standard output, a large piece at a time.
-use crate::stop::Stop;
+use ref_reading::Stop;
 use std::env;
 use std::io::Write;
 

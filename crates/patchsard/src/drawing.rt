@@ -1,12 +1,12 @@
 //! `patchsard graph`.
 use crate::console::Console;
 use crate::given::{Given, read_given};
-use crate::stop::Stop;
 use crate::world::{World, bearers, faulty_of, without_fragment, world_of};
 use clap::ArgMatches;
 use ref_draft::Draft;
 use ref_findings::{Finding, Problem};
 use ref_messages::{Edge, Graph, Node, push_dot, push_mermaid};
+use ref_reading::Stop;
 use ref_uri::Uri;
 use serde_json::Value;
 use std::alloc::{AllocError, Global};

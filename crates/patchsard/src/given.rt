@@ -1,12 +1,11 @@
 //! What a command line asks to be read.
-use crate::document::{Document, read_all};
-use crate::files::{Listing, list_file, list_given};
-use crate::maps::Maps;
-use crate::options::{maps, reading_of};
-use crate::stop::Stop;
 use clap::ArgMatches;
 use ref_draft::Draft;
 use ref_findings::{Finding, Held, Report, Source, as_sources, gather, report};
+use ref_reading::document::{Document, read_all};
+use ref_reading::files::{Listing, list_file, list_given};
+use ref_reading::options::{maps, reading_of};
+use ref_reading::{Maps, Stop};
 use ref_uri::Uri;
 use serde_json::{Map, Value};
 use std::alloc::{AllocError, Global};

@@ -3,18 +3,13 @@
 //! `ref_positions`, and how it is printed `ref_messages`; here is what reads files, asks these, and writes.
 #![tactic(auto)]
 
-mod buffer;
 mod bundle;
 mod command;
 mod console;
 mod describe;
-mod document;
 mod drawing;
-mod files;
 mod given;
 mod lint;
-mod maps;
-mod options;
 mod places;
 mod pointer;
 mod resolve;
@@ -22,16 +17,14 @@ mod resources;
 mod rules;
 mod serve;
 mod shown;
-mod splice;
 mod spots;
-mod stop;
 mod suggestions;
 mod world;
 mod write;
 
 use crate::console::Console;
-use crate::stop::Stop;
 use clap::ArgMatches;
+use ref_reading::Stop;
 use std::process::ExitCode;
 use std::{env, io};
 

@@ -1,16 +1,15 @@
 //! `patchsard places`.
 
 use crate::console::Console;
-use crate::document::Document;
 use crate::given::{Given, read_given};
 use crate::pointer::place_of;
-use crate::stop::Stop;
 use crate::world::{World, faulty_of, world_of};
 use clap::ArgMatches;
 use ref_draft::Draft;
 use ref_index::Place;
 use ref_parts::pointer_of;
 use ref_positions::{Places, Position};
+use ref_reading::{Document, Stop};
 use serde_json::Value;
 use std::alloc::{AllocError, Global};
 

@@ -1,14 +1,13 @@
 //! `patchsard resolve`.
 use crate::console::Console;
-use crate::document::Document;
 use crate::given::{Given, read_file};
 use crate::pointer::path_to;
 use crate::shown::push_found;
-use crate::stop::Stop;
 use crate::world::{World, bearers, faulty_of, without_fragment, world_of};
 use clap::ArgMatches;
 use ref_error::Error;
 use ref_parts::path::JsonPointerSegment;
+use ref_reading::{Document, Stop};
 use ref_uri::Uri;
 use referencing::Resolved;
 use std::alloc::{AllocError, Global};

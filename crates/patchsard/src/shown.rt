@@ -2,12 +2,12 @@
 use crate::given::Given;
 use crate::pointer::{path_to, place_of};
 use crate::resolve::Found;
-use crate::stop::Stop;
 use crate::world::{World, without_fragment};
 use percent_encoding::percent_decode_str;
 use ref_index::Place;
 use ref_parts::pointer_of;
 use ref_positions::Places;
+use ref_reading::Stop;
 use std::alloc::{AllocError, Global};
 
 /// Adds the value that was found, and where it stands: its file, line, column and pointer, its draft, its base URI and

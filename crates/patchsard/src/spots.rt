@@ -1,10 +1,10 @@
 //! Where findings stand in the files: one pass over each file that has some.
-use crate::document::Document;
 use crate::pointer::place_of;
 use ref_findings::{Bearer, Finding, Problem};
 use ref_parts::path::JsonPointerSegment;
 use ref_parts::value_at;
 use ref_positions::{Located, Places, Position};
+use ref_reading::Document;
 use std::alloc::{AllocError, Global};
 
 /// Where findings stand, and the first places that they clash with.

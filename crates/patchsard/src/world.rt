@@ -1,9 +1,9 @@
 //! The registry of the files, for what goes on from one document to the next.
 use crate::given::Given;
-use crate::stop::Stop;
 use ref_draft::Draft;
 use ref_error::{Error, Retrieve, RetrieveError};
 use ref_findings::{Finding, Problem};
+use ref_reading::Stop;
 use ref_uri::Uri;
 use referencing::meta::uris_for_draft;
 use referencing::{Registry, RegistryBuilder};

@@ -1,5 +1,5 @@
 //! A file that is written whole or not at all.
-use crate::stop::Stop;
+use ref_reading::Stop;
 use std::alloc::AllocError;
 use std::fs::{File, Permissions};
 use std::io::Write;

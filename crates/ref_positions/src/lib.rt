@@ -8,6 +8,7 @@
 mod locate;
 mod places;
 mod position;
+pub mod splice;
 mod walk;
 
 pub use locate::Located;

@@ -14,7 +14,7 @@ use Rattle.ref_definitions.specs.Bases.{Along, along_part}
 use Rattle.ref_definitions.specs.Pointers.{index_of, step_into}
 use Rattle.ref_definitions.specs.Lookup.{Resolver, Found, in_subresource}
 use Rattle.ref_definitions.proofs.Changes.{first_answers, there_or, step_leads, part_more}
-use Rattle.ref_index.specs.Parts.{part_of as owned_part}
+use Rattle.ref_parts.specs.Segment.{part_of}
 use Rattle.ref_resolver.specs.declared.located.Located.{Located}
 use Rattle.ref_resolver.specs.inner.Located.{IsLocatedIn}
 use Rattle.ref_resolver.specs.Resolving.{under_uri}
@@ -75,7 +75,7 @@ one_step_on draft pointer along value start token before after at pushed here is
 -- ---- a place
 
 -- the document of a place leads along the entry's path to its value
-pub place_there : (layer : Layer) (l : Located) (p : Place) (path : List Part) (at : IsLocatedIn layer l p) → path ≡ map owned_part l.entry.now.path.items → value_at at.path.document.tree path ≡ Some p.value
+pub place_there : (layer : Layer) (l : Located) (p : Place) (path : List Part) (at : IsLocatedIn layer l p) → path ≡ map part_of l.entry.now.path.items → value_at at.path.document.tree path ≡ Some p.value
 place_there layer l p path at is = ap (value_at at.path.document.tree) (is ∙ at.path.path) ∙ at.path.value
 
 -- what is found under a URI is the value that is given

@@ -15,7 +15,6 @@ ghost use Rattle.ref_draft.specs.Anchors.{Dynamic};
 ghost use Rattle.ref_definitions.specs.Lookup.{Resolver as Start, lookup, moved_resolver, named_found};
 ghost use Rattle.ref_definitions.specs.Recursive.{lookup_recursive};
 ghost use Rattle.ref_error.specs.Errors.{IsFaultOf};
-ghost use Rattle.ref_index.specs.Parts.{part_of as owned_part};
 ghost use Rattle.ref_resolver.specs.Layered.{world_in};
 ghost use Rattle.ref_resolver.specs.inner.Located.{IsLocated, IsLocatedAt, IsNamedAt};
 ghost use Rattle.ref_resolver.specs.Locations.{StandsAt, IsWhere, EndsAt};
@@ -31,7 +30,6 @@ use crate::resolver::{Resolver, Target};
 use percent_encoding::{DecodeError, percent_decode};
 use ref_draft::Segments;
 use ref_error::Error;
-use ref_index::PathPart;
 use ref_parts::escape::unescape_segment;
 use ref_parts::path::JsonPointerSegment;
 use ref_parts::pointer_of;
@@ -54,18 +52,21 @@ pub struct Location<'r> {
 }
 
 // A part of a path, whose key is lent.
-fn lent_part(part: &PathPart) -> JsonPointerSegment<'_>
-    ensures { part_of result ≡ owned_part part.now }
+fn lent_part<'p>(part: &'p JsonPointerSegment<'_>) -> JsonPointerSegment<'p>
+    ensures { part_of result ≡ part_of part.now }
 {
     match part {
-        PathPart::Key(key) => JsonPointerSegment::from(key),
-        PathPart::Index(index) => JsonPointerSegment::from(*index),
+        JsonPointerSegment::Key(key) => JsonPointerSegment::from(key.as_str()),
+        JsonPointerSegment::Index(index) => JsonPointerSegment::from(*index),
     }
 }
 
 // A path, whose keys are lent. Takes memory for the list.
-fn lent<'p>(alloc: Global, path: &'p [PathPart]) -> Result<Vec<JsonPointerSegment<'p>>, AllocError>
-    ensures { IfOk result (λ parts. map part_of parts.items ≡ map owned_part path.now) }
+fn lent<'p>(
+    alloc: Global,
+    path: &'p [JsonPointerSegment<'static>],
+) -> Result<Vec<JsonPointerSegment<'p>>, AllocError>
+    ensures { IfOk result (λ parts. map part_of parts.items ≡ map part_of path.now) }
 {
     let mut parts = Vec::with_capacity(alloc, path.len())?;
     for part in path {

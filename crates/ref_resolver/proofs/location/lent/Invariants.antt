@@ -1,7 +1,6 @@
 use Rattle.std.proofs.Common.{◌≡◌, map, take}
 use Rattle.ref_parts.specs.Segment.{part_of}
-use Rattle.ref_index.specs.Parts.{part_of as owned_part}
 use Rattle.ref_resolver.proofs.location.lent.Given as goal
 
 abbrev pub invariant-loop-part : goal.invariant-loop-part
-invariant-loop-part l = map part_of l.parts.items ≡ map owned_part (take l.part-index l.path)
+invariant-loop-part l = map part_of l.parts.items ≡ map part_of (take l.part-index l.path)

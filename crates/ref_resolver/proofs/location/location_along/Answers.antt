@@ -5,7 +5,6 @@ use Rattle.ref_parts.specs.Segment.{part_of}
 use Rattle.ref_definitions.specs.Pointers.{pointed_value}
 use Rattle.ref_definitions.specs.Lookup.{pointer_found}
 use Rattle.ref_error.specs.Errors.{IsFaultOf}
-use Rattle.ref_index.specs.Parts.{part_of as owned_part}
 use Rattle.ref_resolver.proofs.Faults.{fault_ends, goes_on}
 use Rattle.ref_resolver.proofs.Standing.{place_there}
 use Rattle.ref_resolver.proofs.location.location_along.Goals as goal
@@ -28,7 +27,7 @@ returns-clause-ok c = λ r p base at.
     let tree = path.document.tree in
     let slice : c.as_slice.result.now ≡ c.args.found.place.entry.now.path.items = search rules in
     let start : value_at tree (map part_of c.in_ok-path.path.items) ≡ Some v =
-    place_there at.layer c.args.found.place p (map part_of c.in_ok-path.path.items) at.there (c.in_ok-path.ensures ∙ ap (map owned_part) slice) ∙ ap (λ x. Some x) (sym at.there.place.value) in
+    place_there at.layer c.args.found.place p (map part_of c.in_ok-path.path.items) at.there (c.in_ok-path.ensures ∙ ap (map part_of) slice) ∙ ap (λ x. Some x) (sym at.there.place.value) in
     let (found, is, there) = c.in_ok-follow_on.ensures.ok tree start in
     let answer = ap (λ b. pointed_value d c.args.pointer.now b v c.args.text.now) base ∙ is in (
       pointer_found r d found,

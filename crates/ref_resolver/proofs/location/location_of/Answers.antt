@@ -1,6 +1,5 @@
 use Rattle.std.proofs.Common.{◌≡◌, map, ap, ◌∙◌, rules}
 use Rattle.ref_parts.specs.Segment.{part_of}
-use Rattle.ref_index.specs.Parts.{part_of as owned_part}
 use Rattle.ref_resolver.proofs.Standing.{place_there}
 use Rattle.ref_resolver.proofs.location.location_of.Goals as goal
 
@@ -13,5 +12,5 @@ returns c = λ w p at.
       in_world = at.numbered;
       document = path.document;
       in_layer = path.numbered;
-      there = place_there at.layer c.args.found.place p (map part_of c.in_ok-path.path.items) at.there (c.in_ok-path.ensures ∙ ap (map owned_part) slice);
+      there = place_there at.layer c.args.found.place p (map part_of c.in_ok-path.path.items) at.there (c.in_ok-path.ensures ∙ ap (map part_of) slice);
     }

@@ -1,0 +1,14 @@
+//! What a command line asks to be read: the files below folders, as documents under their URIs, and folders from which
+//! documents are retrieved. Nothing here looks up a reference.
+#![tactic(auto)]
+
+mod buffer;
+pub mod document;
+pub mod files;
+pub mod maps;
+pub mod options;
+pub mod stop;
+
+pub use document::Document;
+pub use maps::Maps;
+pub use stop::Stop;
