@@ -1,5 +1,5 @@
 -- Where a value is, part by part of a pointer.
-use Rattle.std.proofs.Common.{◌≡◌, ℕ, true, false, List, [], ◌∷◌, ◌++◌, map, Some, None, is_some, Result, Ok, Err, IfOk, sym, ap, ◌∙◌}
+use Rattle.std.proofs.Common.{◌≡◌, ℕ, true, false, List, [], ◌∷◌, ◌++◌, map, Some, None, is_some, Result, Ok, Err, IfOk, IfErr, OnOk, sym, ap, ◌∙◌}
 use Rattle.std.specs.Option.{ok_or}
 use Rattle.serde_json.specs.Data.{Data, null, boolean, number, string, array, object}
 use Rattle.serde_json.specs.Find.{get_item, get_member, as_array}
@@ -10,19 +10,32 @@ use Rattle.ref_definitions.specs.Results.{◌>>=◌}
 use Rattle.ref_definitions.specs.World.{Layer}
 use Rattle.ref_definitions.specs.Places.{Place}
 use Rattle.ref_definitions.specs.Fault.{PointerToNowhere, InvalidArrayIndex, as_invalid_uri}
-use Rattle.ref_definitions.specs.Bases.{Along, along_part}
-use Rattle.ref_definitions.specs.Pointers.{index_of, step_into}
+use Rattle.ref_definitions.specs.Pointers.{index_of, step_into, walked_along}
 use Rattle.ref_definitions.specs.Lookup.{Resolver, Found, in_subresource}
 use Rattle.ref_definitions.proofs.Changes.{first_answers, there_or, step_leads, part_more}
 use Rattle.ref_parts.specs.Segment.{part_of}
 use Rattle.ref_resolver.specs.declared.located.Located.{Located}
 use Rattle.ref_resolver.specs.inner.Located.{IsLocatedIn}
 use Rattle.ref_resolver.specs.Resolving.{under_uri}
-use Rattle.ref_resolver.specs.inner.Walking.{stepped_along}
+use Rattle.ref_draft.specs.declared.reached.Reached.{Reached}
+use Rattle.ref_draft.specs.declared.reached.Reached.TheVariants.{Schema}
+use Rattle.ref_draft.specs.Reached.{reached_after}
+use Rattle.ref_parts.specs.declared.path.JsonPointerSegment.{JsonPointerSegment}
+use Rattle.ref_resolver.specs.Locations.{EndsAt}
+use Rattle.ref_resolver.proofs.Pointing.{answer_same}
+use Rattle.ref_resolver.specs.inner.Walking.{Passed, stepped_into, based, stepped_along, passed_along}
 
 pub if_ok : {A E : Type 0} (P Q : A → Type 0) (r : Result A E) → ((a : A) → P a → Q a) → IfOk r P → IfOk r Q
 if_ok P Q (Ok a) then is = then a is
 if_ok P Q (Err e) then is = tt
+
+pub on_ok : {A E P Q : Type 0} (r : Result A E) → (P → Q) → OnOk r P → OnOk r Q
+on_ok (Ok a) then is = then is
+on_ok (Err e) then is = tt
+
+pub if_err : {A E : Type 0} (P Q : E → Type 0) (r : Result A E) → ((e : E) → P e → Q e) → IfErr r P → IfErr r Q
+if_err P Q (Ok a) then is = tt
+if_err P Q (Err e) then is = then e is
 
 -- ---- the part that a token is
 
@@ -64,13 +77,24 @@ key_part pointer (object ms) token s is steps =
 
 -- ---- one part more
 
-pub one_step_on : (draft : Draft) (pointer : List ℕ) (along : Along) (value start : Data) (token : List ℕ) (before after : List Part) (at : Data × Along)
-    → ((s : Part × Data) → step_into pointer value token ≡ Ok s → after ≡ before ++ s.0 ∷ []) → value_at start before ≡ Some value → stepped_along draft pointer along value token ≡ Ok at → value_at start after ≡ Some at.0
-one_step_on draft pointer along value start token before after at pushed here is =
-    let step = first_answers (step_into pointer value token) (λ s. as_invalid_uri (along_part draft along s.0 s.1) >>= λ next. Ok (s.1, next)) at is in
-    let base = first_answers (as_invalid_uri (along_part draft along step.0.0 step.0.1)) (λ next. Ok (step.0.1, next)) at step.2 in
-    let same : (step.0.1, base.0) ≡ at = cc in
-    ap (value_at start) (pushed step.0 step.1) ∙ part_more start step.0.1 value before step.0.0 here (step_leads pointer value token step.0 step.1) ∙ ap (λ (t : Data × Along). Some t.0) same
+pub one_step_on : (draft : Draft) (pointer : List ℕ) (passed : Passed) (value start : Data) (token : List ℕ) (before after : List Part) (at : Data × Passed)
+    → ((s : Part × Data) → step_into pointer value token ≡ Ok s → after ≡ before ++ s.0 ∷ []) → value_at start before ≡ Some value → stepped_along draft pointer passed value token ≡ Ok at → value_at start after ≡ Some at.0
+one_step_on draft pointer passed value start token before after at pushed here is =
+    let to = first_answers (stepped_into draft pointer passed.reached value token) (λ s. as_invalid_uri (based draft passed.base s) >>= λ next. Ok (s.1, next)) at is in
+    let base = first_answers (as_invalid_uri (based draft passed.base to.0)) (λ next. Ok (to.0.1, next)) at to.2 in
+    let same : (to.0.1, base.0) ≡ at = cc in
+    let step = first_answers (step_into pointer value token) (λ s. Ok (reached_after draft passed.reached s.0, s.1)) to.0 to.1 in
+    let there : (reached_after draft passed.reached step.0.0, step.0.1) ≡ to.0 = cc in
+    ap (value_at start) (pushed step.0 step.1) ∙ part_more start step.0.1 value before step.0.0 here (step_leads pointer value token step.0 step.1) ∙ ap (λ (t : Reached × Data). Some t.1) there
+    ∙ ap (λ (t : Data × Passed). Some t.0) same
+
+-- ---- the end of a walk
+
+pub ends_same : (draft : Draft) (pointer base : List ℕ) (value start : Data) (tokens : List (List ℕ)) (path : List JsonPointerSegment)
+    → EndsAt start path (passed_along draft pointer (record { base = base; reached = Schema }) value tokens) → EndsAt start path (walked_along draft pointer (record { base = base; since = [] }) value tokens)
+ends_same draft pointer base value start tokens path (at, is, there) =
+    let (to, leads, same) = answer_same draft pointer base value tokens at is in
+    (to, leads, there ∙ ap (λ v. Some v) (sym same))
 
 -- ---- a place
 

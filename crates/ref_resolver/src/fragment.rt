@@ -29,6 +29,7 @@ use std::alloc::{AllocError, Global};
 use std::rc::Rc;
 
 // The fault of a name that nothing has: a name with `/` in it is none.
+#[inline(never)]
 pub(crate) fn not_named(alloc: Global, name: &str) -> Error
     ensures { SaysOrMemory (not_named name.now) result }
 {
@@ -246,6 +247,7 @@ pub(crate) fn is_name(fragment: &str) -> bool
 }
 
 // The fault of a URI that means no place: nothing is retrieved any more.
+#[inline(never)]
 pub(crate) fn not_retrieved(alloc: Global, uri: &Uri) -> Error
     ensures fault { SaysOrMemory (not_retrieved uri.now) result }
     ensures reason { IsForReason result NotSupported }

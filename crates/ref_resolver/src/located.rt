@@ -76,6 +76,7 @@ pub(crate) fn resource_in<'r>(index: &'r Index<'r>, uri: &str) -> Option<Located
 
 /// The place that a URI means in the documents of parents, nearest first, whose layers are counted from 1. A look-up for each;
 /// takes no memory.
+#[inline(never)]
 pub(crate) fn resource_above<'r>(parents: &'r [&'r Index<'r>], uri: &str) -> Option<Numbered<'r>>
     ensures value { (own : Layer)
         → MatchOption result (meant_place (map (λ p. p.now) parents.now) uri.now ≡ None)
@@ -93,6 +94,7 @@ pub(crate) fn resource_above<'r>(parents: &'r [&'r Index<'r>], uri: &str) -> Opt
 }
 
 /// Whether a URI means a place in the documents of parents. A look-up for each; takes no memory.
+#[inline(never)]
 pub(crate) fn is_resource_above(parents: &[&Index<'_>], uri: &str) -> bool
     ensures value { result ≡ is_some (meant_place (map (λ p. p.now) parents.now) uri.now) }
 {
@@ -120,6 +122,7 @@ pub(crate) fn named_in<'r>(index: &'r Index<'r>, uri: &str, name: &str) -> Optio
 
 /// The place that an anchor names under a URI in the documents of parents, nearest first, whose layers are counted from 1. A
 /// look-up for each; takes no memory.
+#[inline(never)]
 pub(crate) fn named_above<'r>(
     parents: &'r [&'r Index<'r>],
     uri: &str,
@@ -158,6 +161,7 @@ pub(crate) fn with_layer<'r>(layer: usize, found: LocatedName<'r>) -> NumberedNa
 
 /// The URI that a text means against a base, where that was resolved in the documents of parents. A look-up for each; takes no
 /// memory.
+#[inline(never)]
 pub(crate) fn resolved_above<'r>(
     parents: &'r [&'r Index<'r>],
     base: &str,

@@ -9,9 +9,10 @@ ghost use Rattle.ref_parts.specs.Segment.{part_of};
 ghost use Rattle.ref_uri.specs.Targets.{target, fragment_part};
 ghost use Rattle.ref_definitions.specs.World.{World};
 ghost use Rattle.ref_definitions.specs.Places.{Place};
-ghost use Rattle.ref_definitions.specs.Pointers.{step_into, walked_along, pointed_value};
+ghost use Rattle.ref_definitions.specs.Pointers.{step_into, pointed_value};
 ghost use Rattle.ref_definitions.specs.Anchors.{Named, anchor, not_named};
 ghost use Rattle.ref_draft.specs.Anchors.{Dynamic};
+ghost use Rattle.ref_draft.specs.declared.reached.Reached.TheVariants.{Schema};
 ghost use Rattle.ref_definitions.specs.Lookup.{Resolver as Start, lookup, moved_resolver, named_found};
 ghost use Rattle.ref_definitions.specs.Recursive.{lookup_recursive};
 ghost use Rattle.ref_error.specs.Errors.{IsFaultOf};
@@ -20,7 +21,7 @@ ghost use Rattle.ref_resolver.specs.inner.Located.{IsLocated, IsLocatedAt, IsNam
 ghost use Rattle.ref_resolver.specs.Locations.{StandsAt, IsWhere, EndsAt};
 ghost use Rattle.ref_resolver.specs.inner.Names.{is_name};
 ghost use Rattle.ref_resolver.specs.Resolving.{resolver_of, world_of, at_pointer};
-ghost use Rattle.ref_resolver.specs.inner.Walking.{along_of, stepped_along};
+ghost use Rattle.ref_resolver.specs.inner.Walking.{along_of, passed_along, stepped_along};
 
 use crate::fragment::{identified_base, is_name, not_named, not_retrieved, outermost, under_uri};
 use crate::layers::Layers;
@@ -28,7 +29,7 @@ use crate::located::{Located, Numbered, NumberedName};
 use crate::pointed::{Along, Walk, cut_at_slash, index_of, no_utf8, step};
 use crate::resolver::{Resolver, Target};
 use percent_encoding::{DecodeError, percent_decode};
-use ref_draft::Segments;
+use ref_draft::Reached;
 use ref_error::Error;
 use ref_parts::escape::unescape_segment;
 use ref_parts::path::JsonPointerSegment;
@@ -146,13 +147,13 @@ fn push_part(
 }
 
 // One token further, with its part after the path.
-fn step_on<'v, 't>(
+fn step_on<'v>(
     alloc: Global,
     walk: &Walk<'_, '_>,
-    along: Along<'v, 't>,
+    along: Along<'v>,
     path: &mut Vec<JsonPointerSegment<'_>>,
-    token: &'t str,
-) -> Result<Along<'v, 't>, Error>
+    token: &str,
+) -> Result<Along<'v>, Error>
     ensures ok { IfOk result
         (λ a. stepped_along walk.now.draft walk.now.pointer.now (along_of along.entry)
         (view along.entry.value.now) token.now
@@ -182,18 +183,18 @@ fn walk_on(
         → value_at start (map part_of path.old.items) ≡ Some (view value.now)
         → OnOk result
         (EndsAt start path.new.items
-        (walked_along walk.entry.draft walk.entry.pointer.now
-        (record { base = base.value; since = [] }) (view value.now)
+        (passed_along walk.entry.draft walk.entry.pointer.now
+        (record { base = base.value; reached = Schema }) (view value.now)
         (tokens text.now))) }
     ensures fault { IfErr result
         (IsFaultOf
-        (walked_along walk.entry.draft walk.entry.pointer.now
-        (record { base = base.value; since = [] }) (view value.now) (tokens text.now))) }
+        (passed_along walk.entry.draft walk.entry.pointer.now
+        (record { base = base.value; reached = Schema }) (view value.now) (tokens text.now))) }
 {
     let mut along = Along {
         value,
         base,
-        since: Segments::new(alloc),
+        reached: Reached::Schema,
     };
     let mut rest = text;
     while let Some((token, more)) = cut_at_slash(rest) {

@@ -10,11 +10,11 @@ ghost use Rattle.ref_definitions.specs.Places.{base_within};
 ghost use Rattle.ref_definitions.specs.Pointers as world;
 ghost use Rattle.ref_definitions.specs.Fault.{PointerToNowhere, InvalidArrayIndex, InvalidPercentEncoding, as_invalid_uri};
 ghost use Rattle.ref_error.specs.Errors.{IsFaultOf, SaysOrMemory};
-ghost use Rattle.ref_resolver.specs.inner.Walking.{along_of, stepped_along, leads_to, pointed_to};
+ghost use Rattle.ref_resolver.specs.inner.Walking.{along_of, accepted_id, stepped_into, stepped_along, passed_along, leads_to, pointed_to};
 
 use crate::layers::Layers;
 use percent_encoding::{DecodeError, percent_decode};
-use ref_draft::{Draft, ResourceRef, Segment, Segments};
+use ref_draft::{Draft, Reached, ResourceRef};
 use ref_error::Error;
 use ref_parts::escape::unescape_segment;
 use ref_uri::Uri;
@@ -22,12 +22,12 @@ use serde_json::Value;
 use std::alloc::{AllocError, Global};
 use std::rc::Rc;
 
-/// A value on the way of a pointer, with the base there and the parts since it last changed.
+/// A value on the way of a pointer, with the base there and what the parts since it last changed lead to.
 #[derive(Drop)]
-pub struct Along<'r, 't> {
+pub struct Along<'r> {
     pub value: &'r Value,
     pub base: Rc<Uri>,
-    pub since: Segments<'t>,
+    pub reached: Reached,
 }
 
 /// How a pointer is walked: the documents whose resolved URIs serve, the draft of the resource, and the pointer's text, which
@@ -39,7 +39,8 @@ pub struct Walk<'r, 'w> {
     pub pointer: &'w str,
 }
 
-// A fault with the text of the pointer.
+// A fault with the text of the pointer. Faults stay out of what a step takes.
+#[inline(never)]
 fn to_nowhere(alloc: Global, pointer: &str) -> Error
     ensures { SaysOrMemory (PointerToNowhere pointer.now) result }
 {
@@ -50,6 +51,7 @@ fn to_nowhere(alloc: Global, pointer: &str) -> Error
 }
 
 // A fault with the texts of the pointer and of the part that is no index.
+#[inline(never)]
 fn no_index(alloc: Global, pointer: &str, token: &str) -> Error
     ensures { SaysOrMemory (InvalidArrayIndex pointer.now token.now) result }
 {
@@ -86,6 +88,7 @@ fn found<'r>(alloc: Global, pointer: &str, value: Option<&'r Value>) -> Result<&
 }
 
 // The index that a token is in an array.
+#[inline(never)]
 fn index_in(alloc: Global, pointer: &str, token: &str) -> Result<usize, Error>
     ensures ok { IfOk result
         (λ i. ok_or (world.index_of token.now) (InvalidArrayIndex pointer.now token.now) ≡ Ok i) }
@@ -98,39 +101,40 @@ fn index_in(alloc: Global, pointer: &str, token: &str) -> Result<usize, Error>
     }
 }
 
-// The part of a path that a token is, and the value that it leads to.
-fn step_into<'r, 't>(
+// The value that a token leads to, and what the parts lead to with the one that it is.
+#[inline(always)]
+fn step_into<'r>(
     alloc: Global,
-    pointer: &str,
+    walk: &Walk<'_, '_>,
     value: &'r Value,
-    token: &'t str,
-) -> Result<(Segment<'t>, &'r Value), Error>
+    reached: Reached,
+    token: &str,
+) -> Result<(Reached, &'r Value), Error>
     ensures ok { IfOk result
-        (λ s. world.step_into pointer.now (view value.now) token.now
-        ≡ Ok (part_of s.0, view s.1.now)) }
+        (λ s. stepped_into walk.now.draft walk.now.pointer.now reached (view value.now) token.now
+        ≡ Ok (s.0, view s.1.now)) }
     ensures fault { IfErr result
-        (IsFaultOf (world.step_into pointer.now (view value.now) token.now)) }
+        (IsFaultOf
+        (stepped_into walk.now.draft walk.now.pointer.now reached (view value.now) token.now)) }
 {
     if value.is_array() {
-        let index = index_in(alloc, pointer, token)?;
-        let item = found(alloc, pointer, value.get(index))?;
-        return Ok((Segment::Index(index), item));
+        let index = index_in(alloc, walk.pointer, token)?;
+        let item = found(alloc, walk.pointer, value.get(index))?;
+        return Ok((reached.index(), item));
     }
     let key = unescape_segment(alloc, token)?;
-    let member = found(alloc, pointer, value.get(key.as_str()))?;
-    Ok((Segment::Key(key), member))
+    let member = found(alloc, walk.pointer, value.get(key.as_str()))?;
+    Ok((reached.key(walk.draft, key.as_str()), member))
 }
 
 // The identifier of a value, where the parts since the last change are accepted at it.
-fn accepted_id<'v>(draft: Draft, since: &Segments<'_>, value: &'v Value) -> Option<&'v str>
+#[inline(always)]
+fn accepted_id<'v>(draft: Draft, reached: Reached, value: &'v Value) -> Option<&'v str>
     ensures { option_map (λ text. text.now) result
-        ≡ (if scan draft (is_object (view value.now)) since.now then
-        identifier draft (view value.now)
-        else None) }
+        ≡ accepted_id draft reached (view value.now) }
 {
-    let id = ResourceRef::new(value, draft).id()?;
-    if draft.rebases(since, value) {
-        Some(id)
+    if reached.accepts(value.is_object()) {
+        ResourceRef::new(value, draft).id()
     } else {
         None
     }
@@ -138,12 +142,12 @@ fn accepted_id<'v>(draft: Draft, since: &Segments<'_>, value: &'v Value) -> Opti
 
 // One token further: an identifier of the value there, where the parts since the last change are accepted at it, is a base
 // against the one before.
-pub(crate) fn step<'r, 't>(
+pub(crate) fn step<'r>(
     alloc: Global,
     walk: &Walk<'_, '_>,
-    along: Along<'r, 't>,
-    token: &'t str,
-) -> Result<Along<'r, 't>, Error>
+    along: Along<'r>,
+    token: &str,
+) -> Result<Along<'r>, Error>
     ensures ok { IfOk result
         (λ a. stepped_along walk.now.draft walk.now.pointer.now (along_of along.entry)
         (view along.entry.value.now) token.now
@@ -156,30 +160,25 @@ pub(crate) fn step<'r, 't>(
     let Along {
         value,
         base,
-        mut since,
+        reached,
     } = along;
-    let (segment, value) = step_into(alloc, walk.pointer, value, token)?;
-    since.push(segment)?;
-    let Some(id) = accepted_id(walk.draft, &since, value) else {
-        return Ok(Along { value, base, since });
+    let (mut reached, value) = step_into(alloc, walk, value, reached, token)?;
+    let Some(id) = accepted_id(walk.draft, reached, value) else {
+        return Ok(Along {
+            value,
+            base,
+            reached,
+        });
     };
     let uri = walk.layers.resolve_uri(alloc, base.borrow(), id)?;
     if uri.as_str() != base.as_str() {
-        since = Segments::new(alloc);
+        reached = Reached::Schema;
     }
     Ok(Along {
         value,
         base: uri,
-        since,
+        reached,
     })
-}
-
-// Where the first `/` of a text stands. A search by bytes, which decodes no character.
-#[inline(always)]
-fn slash_in(text: &str) -> Option<usize>
-    ensures { result ≡ position (λ b. b == slash) text.now }
-{
-    text.as_bytes().iter().position(|byte| *byte == b'/')
 }
 
 // What is before the first `/` of a text, and what follows that.
@@ -188,26 +187,24 @@ pub(crate) fn cut_at_slash(text: &str) -> Option<(&str, &str)>
     ensures { MatchOption result (All (λ b. b ≢ slash) text.now)
         (λ cut. (text.now ≡ cut.0.now ++ (slash ∷ cut.1.now)) × All (λ b. b ≢ slash) cut.0.now) }
 {
-    let place = slash_in(text)?;
-    let (token, _) = text.split_at(place);
-    Some((token, &text[place + 1..]))
+    text.split_once('/')
 }
 
 // Token by token.
 #[inline(always)]
-fn walk_along<'r, 't>(
+fn walk_along<'r>(
     alloc: Global,
     walk: Walk<'_, '_>,
-    along: Along<'r, 't>,
-    text: &'t str,
-) -> Result<Along<'r, 't>, Error>
+    along: Along<'r>,
+    text: &str,
+) -> Result<Along<'r>, Error>
     ensures ok { IfOk result
-        (λ a. world.walked_along walk.entry.draft walk.entry.pointer.now (along_of along.entry)
+        (λ a. passed_along walk.entry.draft walk.entry.pointer.now (along_of along.entry)
         (view along.entry.value.now) (tokens text.now)
         ≡ Ok (view a.value.now, along_of a)) }
     ensures fault { IfErr result
         (IsFaultOf
-        (world.walked_along walk.entry.draft walk.entry.pointer.now (along_of along.entry)
+        (passed_along walk.entry.draft walk.entry.pointer.now (along_of along.entry)
         (view along.entry.value.now) (tokens text.now))) }
 {
     let mut along = along;
@@ -248,19 +245,45 @@ fn walk_from<'r>(
     let along = Along {
         value,
         base,
-        since: Segments::new(alloc),
+        reached: Reached::Schema,
     };
     let Along { value, base, .. } = walk_along(alloc, walk, along, text)?;
     Ok(Pointed { value, base })
 }
 
 // The fault of a pointer whose triples make no UTF-8.
+#[inline(never)]
 pub(crate) fn no_utf8(alloc: Global, pointer: &str) -> Error
     ensures { SaysOrMemory (InvalidPercentEncoding pointer.now) result }
 {
     match String::from_str(alloc, pointer) {
         Ok(pointer) => Error::InvalidPercentEncoding { pointer },
         Err(error) => Error::Memory(error),
+    }
+}
+
+// What a pointer leads to, as `follow_pointer` says it, where its text is decoded first. Few texts are, so what decoding takes stays out of the others.
+#[inline(never)]
+fn follow_decoded<'r>(
+    alloc: Global,
+    walk: Walk<'_, '_>,
+    base: Rc<Uri>,
+    value: &'r Value,
+    text: &str,
+) -> Result<Pointed<'r>, Error>
+    ensures ok { IfOk result
+        (λ p. pointed_to walk.entry.draft walk.entry.pointer.now base.value
+        (view value.now) text.now
+        ≡ Ok (view p.value.now, p.base.value)) }
+    ensures fault { IfErr result
+        (IsFaultOf
+        (pointed_to walk.entry.draft walk.entry.pointer.now base.value
+        (view value.now) text.now)) }
+{
+    match percent_decode(text.as_bytes()).decode_utf8(alloc) {
+        Ok(decoded) => walk_from(alloc, walk, base, value, decoded.as_str()),
+        Err(DecodeError::OutOfMemory) => Err(Error::Memory(AllocError)),
+        Err(DecodeError::Utf8(_)) => Err(no_utf8(alloc, walk.pointer)),
     }
 }
 
@@ -288,12 +311,8 @@ pub(crate) fn follow_pointer<'r>(
         (pointed_to walk.entry.draft walk.entry.pointer.now base.value
         (view value.now) text.now)) }
 {
-    if !text.as_bytes().contains(&b'%') {
-        return walk_from(alloc, walk, base, value, text);
-    }
-    match percent_decode(text.as_bytes()).decode_utf8(alloc) {
-        Ok(decoded) => walk_from(alloc, walk, base, value, decoded.as_str()),
-        Err(DecodeError::OutOfMemory) => Err(Error::Memory(AllocError)),
-        Err(DecodeError::Utf8(_)) => Err(no_utf8(alloc, walk.pointer)),
+    match text.split_once('%') {
+        Some(_) => follow_decoded(alloc, walk, base, value, text),
+        None => walk_from(alloc, walk, base, value, text),
     }
 }

@@ -4,7 +4,7 @@ ghost use Rattle.std.specs.Fmt.{WritesOnOk};
 ghost use Rattle.std.specs.List.{join_by};
 ghost use Rattle.std.specs.Result.{result_ok};
 ghost use Rattle.serde_json.specs.View.{view};
-ghost use Rattle.ref_uri.specs.Targets.{uri_against, target, fragment_part};
+ghost use Rattle.ref_uri.specs.Targets.{uri_against, target, uri_part, fragment_part};
 ghost use Rattle.ref_definitions.specs.Fault.{as_invalid_uri};
 ghost use Rattle.ref_definitions.specs.Anchors.{Named, anchor, not_named};
 ghost use Rattle.ref_draft.specs.Anchors.{Dynamic};
@@ -49,6 +49,18 @@ pub(crate) struct Target<'r, 't> {
     pub uri: Rc<Uri>,
     pub place: Option<Located<'r>>,
     pub fragment: &'t str,
+}
+
+// What is before the last `#` of a reference, and its fragment. Most references have no `#`, which a search by words tells.
+#[inline(always)]
+fn cut_at_hash(reference: &str) -> (&str, &str)
+    ensures uri { result.0.now ≡ uri_part reference.now }
+    ensures fragment { result.1.now ≡ fragment_part reference.now }
+{
+    match reference.split_once('#') {
+        Some(_) => parts(reference),
+        None => (reference, ""),
+    }
 }
 
 impl<'r> Resolver<'r> {
@@ -131,7 +143,7 @@ impl<'r> Resolver<'r> {
                 fragment,
             });
         }
-        let (uri, fragment) = parts(reference);
+        let (uri, fragment) = cut_at_hash(reference);
         let (uri, place) = self.layers.resolve_place(alloc, self.base.borrow(), uri)?;
         Ok(Target {
             uri,

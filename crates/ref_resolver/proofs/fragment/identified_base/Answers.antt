@@ -1,4 +1,4 @@
-use Rattle.std.proofs.Common.{◌≡◌, List, ℕ, Option, None, Some, Result, Ok, is_some, not, option_map, option_and_then, MatchOption, true, Bor, refl, rules, sym, ap, subst, ◌∙◌}
+use Rattle.std.proofs.Common.{◌≡◌, List, ℕ, Option, None, Some, Result, Ok, is_some, not, option_map, option_and_then, true, Bor, refl, rules, sym, ap, ◌∙◌}
 use Rattle.std.specs.Result.{result_ok}
 use Rattle.serde_json.specs.View.{view}
 use Rattle.ref_draft.specs.Views.{tagged_value, id_of, resource_ref}

@@ -1,4 +1,4 @@
-use Rattle.std.proofs.Common.{◌≡◌, ◌<◌, ◌∷◌, ◌+◌, length, map, drop, sym, subst, ◌∙◌, arith}
+use Rattle.std.proofs.Common.{◌<◌, ◌∷◌, ◌+◌, length, map, drop, sym, subst, ◌∙◌, arith}
 use Rattle.ref_definitions.specs.Anchors.{named_entry}
 use Rattle.ref_resolver.specs.declared.located.NumberedName.{NumberedName}
 use Rattle.ref_resolver.specs.inner.Located.{IsNameAt, IsNamedAt}

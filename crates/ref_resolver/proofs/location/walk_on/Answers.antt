@@ -1,9 +1,8 @@
 use Rattle.std.proofs.Common.{sym, subst, ◌∙◌, rules}
 use Rattle.serde_json.specs.View.{view}
 use Rattle.ref_parts.specs.Pointer.{tokens}
-use Rattle.ref_definitions.specs.Pointers.{walked_along}
 use Rattle.ref_error.specs.Errors.{IsFaultOf}
-use Rattle.ref_resolver.specs.inner.Walking.{along_of, stepped_along}
+use Rattle.ref_resolver.specs.inner.Walking.{along_of, passed_along, stepped_along}
 use Rattle.ref_resolver.proofs.Faults.{fault_ends, goes_on}
 use Rattle.ref_resolver.proofs.Pointing.{walk_turn, walk_last}
 use Rattle.ref_resolver.proofs.location.walk_on.Goals as goal
@@ -15,7 +14,7 @@ loop-token-preserved c =
     let p = c.args.walk.pointer.now in
     let cut = rw c.in-Some.is at c.cut_at_slash.ensures in
     let turn = walk_turn d p (along_of l.along) (view l.along.value.now) l.rest.now c.in-Some.token.now c.in-Some.more.now cut.0 cut.1 in
-    let on = goes_on (stepped_along d p (along_of l.along) (view l.along.value.now) c.in-Some.token.now) (λ s. walked_along d p s.1 s.0 (tokens c.in-Some.more.now)) (view c.in_ok-along.along.value.now, along_of c.in_ok-along.along) c.in_ok-along.ensures.ok in
+    let on = goes_on (stepped_along d p (along_of l.along) (view l.along.value.now) c.in-Some.token.now) (λ s. passed_along d p s.1 s.0 (tokens c.in-Some.more.now)) (view c.in_ok-along.along.value.now, along_of c.in_ok-along.along) c.in_ok-along.ensures.ok in
     (l.invariant.0 ∙ turn ∙ on, λ start here. c.in_ok-along.ensures.path start (l.invariant.1 start here), search rules)
 
 pub returns-in_err-along-clause-fault : goal.returns-in_err-along-clause-fault
@@ -25,7 +24,7 @@ returns-in_err-along-clause-fault c =
     let p = c.args.walk.pointer.now in
     let cut = rw c.in-Some.is at c.cut_at_slash.ensures in
     let turn = walk_turn d p (along_of l.along) (view l.along.value.now) l.rest.now c.in-Some.token.now c.in-Some.more.now cut.0 cut.1 in
-    let ended = fault_ends (stepped_along d p (along_of l.along) (view l.along.value.now) c.in-Some.token.now) (λ s. walked_along d p s.1 s.0 (tokens c.in-Some.more.now)) c.in_err-along.field-0.0 c.in_err-along.ensures.fault in
+    let ended = fault_ends (stepped_along d p (along_of l.along) (view l.along.value.now) c.in-Some.token.now) (λ s. passed_along d p s.1 s.0 (tokens c.in-Some.more.now)) c.in_err-along.field-0.0 c.in_err-along.ensures.fault in
     let fault = subst (λ a. IsFaultOf a c.in_err-along.field-0.0) (sym (l.invariant.0 ∙ turn)) ended in
     search rules
 

@@ -1,51 +1,26 @@
-use Rattle.std.proofs.Common.{◌≡◌, Ok, IfOk, IfErr, false, eqb, sym, ap, subst, ◌∙◌, rules}
-use Rattle.std.specs.List.{list_any}
+use Rattle.std.proofs.Common.{◌≡◌, Ok, IfOk, IfErr, sym, subst, arith, rules}
+use Rattle.std.proofs.lemmas.Str.Pattern.{split_parts}
 use Rattle.std.specs.Str.{IsUtf8}
-use Rattle.percent_encoding.specs.Percent.{percent_decode}
-use Rattle.percent_encoding.specs.Iter.{decoded_bytes}
 use Rattle.serde_json.specs.View.{view}
-use Rattle.ref_definitions.specs.Fault.{InvalidPercentEncoding}
 use Rattle.ref_error.specs.Errors.{IsFaultOf}
-use Rattle.ref_resolver.specs.inner.Walking.{pointed_to}
-use Rattle.ref_resolver.proofs.Faults.{says_of}
-use Rattle.ref_resolver.proofs.Pointing.{text_leads, bytes_lead_nowhere}
+use Rattle.ref_resolver.proofs.Pointing.{text_leads}
 use Rattle.ref_resolver.proofs.Undecoded.{undecoded}
 use Rattle.ref_resolver.proofs.pointed.follow_pointer.Goals as goal
 
-pub returns-then-not-contains-clause-ok : goal.returns-then-not-contains-clause-ok
-returns-then-not-contains-clause-ok c =
+pub returns-in-None-clause-ok : goal.returns-in-None-clause-ok
+returns-in-None-clause-ok c =
     let text = c.args.text.now in
-    let none : list_any (λ b. eqb b 37) text ≡ false = search rules in
+    let none = rw c.in-None.is at (split_parts 37 text c.split_once.result c.split_once.ensures.cases (omega arith)) in
     let utf8 : IsUtf8 text = search rules in
     let itself = undecoded text none in
     let same = text_leads c.args.walk.draft c.args.walk.pointer.now c.args.base.value text text (view c.args.value.now) (sym itself) (subst IsUtf8 (sym itself) utf8) in
     subst (λ a. IfOk c.walk_from.result (λ p. a ≡ Ok (view p.value.now, p.base.value))) same c.walk_from.ensures.ok
 
-pub returns-then-not-contains-clause-fault : goal.returns-then-not-contains-clause-fault
-returns-then-not-contains-clause-fault c =
+pub returns-in-None-clause-fault : goal.returns-in-None-clause-fault
+returns-in-None-clause-fault c =
     let text = c.args.text.now in
-    let none : list_any (λ b. eqb b 37) text ≡ false = search rules in
+    let none = rw c.in-None.is at (split_parts 37 text c.split_once.result c.split_once.ensures.cases (omega arith)) in
     let utf8 : IsUtf8 text = search rules in
     let itself = undecoded text none in
     let same = text_leads c.args.walk.draft c.args.walk.pointer.now c.args.base.value text text (view c.args.value.now) (sym itself) (subst IsUtf8 (sym itself) utf8) in
     subst (λ a. IfErr c.walk_from.result (IsFaultOf a)) same c.walk_from.ensures.fault
-
-pub returns-in-Ok-clause-ok : goal.returns-in-Ok-clause-ok
-returns-in-Ok-clause-ok c =
-    let d = view c.args.value.now in
-    let bytes : decoded_bytes c.percent_decode.result ≡ percent_decode c.args.text.now = c.percent_decode.ensures.bytes ∙ ap percent_decode c.as_bytes-2.ensures.value in
-    let same = text_leads c.args.walk.draft c.args.walk.pointer.now c.args.base.value c.args.text.now c.as_str.result.now d (c.as_str.ensures.value ∙ c.in-Ok.ensures.value ∙ bytes) (rw bytes at c.in-Ok.ensures.ok_only_if_utf8) in
-    subst (λ a. IfOk c.walk_from-in-Ok.result (λ p. a ≡ Ok (view p.value.now, p.base.value))) same c.walk_from-in-Ok.ensures.ok
-
-pub returns-in-Ok-clause-fault : goal.returns-in-Ok-clause-fault
-returns-in-Ok-clause-fault c =
-    let d = view c.args.value.now in
-    let bytes : decoded_bytes c.percent_decode.result ≡ percent_decode c.args.text.now = c.percent_decode.ensures.bytes ∙ ap percent_decode c.as_bytes-2.ensures.value in
-    let same = text_leads c.args.walk.draft c.args.walk.pointer.now c.args.base.value c.args.text.now c.as_str.result.now d (c.as_str.ensures.value ∙ c.in-Ok.ensures.value ∙ bytes) (rw bytes at c.in-Ok.ensures.ok_only_if_utf8) in
-    subst (λ a. IfErr c.walk_from-in-Ok.result (IsFaultOf a)) same c.walk_from-in-Ok.ensures.fault
-
-pub returns-clause-fault : goal.returns-clause-fault
-returns-clause-fault c =
-    let bytes : decoded_bytes c.percent_decode.result ≡ percent_decode c.args.text.now = c.percent_decode.ensures.bytes ∙ ap percent_decode c.as_bytes-2.ensures.value in
-    let is = bytes_lead_nowhere c.args.walk.draft c.args.walk.pointer.now c.args.base.value c.args.text.now (view c.args.value.now) (λ text. cc (c.in-Err-Utf8.ensures.utf8 (rw bytes text), c.in-Err-Utf8.field-0-is)) in
-    says_of (pointed_to c.args.walk.draft c.args.walk.pointer.now c.args.base.value (view c.args.value.now) c.args.text.now) (InvalidPercentEncoding c.args.walk.pointer.now) c.no_utf8.result is c.no_utf8.ensures

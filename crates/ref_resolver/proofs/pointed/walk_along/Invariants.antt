@@ -3,13 +3,12 @@ use denote.Text.{Utf8}
 use denote.Shadow.{shadow}
 use Rattle.serde_json.specs.View.{view}
 use Rattle.ref_parts.specs.Pointer.{tokens}
-use Rattle.ref_definitions.specs.Pointers.{walked_along}
-use Rattle.ref_resolver.specs.inner.Walking.{along_of}
+use Rattle.ref_resolver.specs.inner.Walking.{along_of, passed_along}
 use Rattle.ref_resolver.proofs.pointed.walk_along.Given as goal
 
 abbrev pub invariant-loop-token : goal.invariant-loop-token
 invariant-loop-token l =
-    (walked_along l.walk.draft l.walk.pointer.now (along_of l.fn.along) (view l.fn.along.value.now) (tokens l.fn.text) ≡ walked_along l.walk.draft l.walk.pointer.now (along_of l.along) (view l.along.value.now) (tokens l.rest))
+    (passed_along l.walk.draft l.walk.pointer.now (along_of l.fn.along) (view l.fn.along.value.now) (tokens l.fn.text) ≡ passed_along l.walk.draft l.walk.pointer.now (along_of l.along) (view l.along.value.now) (tokens l.rest))
     × shadow (Utf8 l.rest)
 
 abbrev pub decreases-loop-token : goal.decreases-loop-token

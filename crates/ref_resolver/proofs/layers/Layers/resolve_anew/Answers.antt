@@ -1,5 +1,4 @@
-use Rattle.std.proofs.Common.{◌≡◌, true, map, Ok, IfSome, sym, ap, subst, ◌∙◌, rules}
-use Rattle.ref_uri.specs.Targets.{uri_against}
+use Rattle.std.proofs.Common.{map, Ok, IfSome, sym, ap, subst, ◌∙◌, rules}
 use Rattle.ref_definitions.specs.Resources.{last_under, resources, meant_place}
 use Rattle.ref_resolver.specs.Layered.{world_in}
 use Rattle.ref_resolver.specs.inner.Located.{IsMeant}
