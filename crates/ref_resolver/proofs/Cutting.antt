@@ -2,7 +2,7 @@
 use Rattle.std.proofs.Common.{◌≡◌, ◌≢◌, ℕ, zero, suc, ◌<◌, false, List, [], ◌∷◌, ◌++◌, length, get_or, Option, Some, None, MatchOption, Bor, All, refl, arith}
 use Rattle.std.specs.List.{list_any}
 use Rattle.std.proofs.lemmas.Bool.{ne_eqb}
-use Rattle.ref_index.proofs.Hashes.{is_hash}
+use Rattle.ref_uri.proofs.Hashes.{is_hash}
 
 pub all_others : (b : ℕ) (text : List ℕ) → ((i : ℕ) → i < length text → get_or text i 0 ≢ b) → (i d : ℕ) → i < length text → get_or text i d ≢ b
 all_others b [] none i d within = absurd (omega arith)

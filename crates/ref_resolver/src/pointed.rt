@@ -262,7 +262,8 @@ pub(crate) fn no_utf8(alloc: Global, pointer: &str) -> Error
     }
 }
 
-// What a pointer leads to, as `follow_pointer` says it, where its text is decoded first. Few texts are, so what decoding takes stays out of the others.
+// What a pointer leads to, as `follow_pointer` says it, where its text is decoded first. Few texts are, so what decoding takes
+// stays out of the others.
 #[inline(never)]
 fn follow_decoded<'r>(
     alloc: Global,

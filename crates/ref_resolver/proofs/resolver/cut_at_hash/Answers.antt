@@ -1,6 +1,6 @@
 use Rattle.std.proofs.Common.{arith}
 use Rattle.std.proofs.lemmas.Str.Pattern.{split_parts}
-use Rattle.ref_index.proofs.Hashes.{uri_part-whole, fragment_part-hashless}
+use Rattle.ref_uri.proofs.Hashes.{uri_part-whole, fragment_part-hashless}
 use Rattle.ref_resolver.proofs.Cutting.{hashless}
 use Rattle.ref_resolver.proofs.resolver.cut_at_hash.Goals as goal
 
