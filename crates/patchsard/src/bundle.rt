@@ -401,10 +401,16 @@ impl<'d, 'l, 'w, 'o> Sources<'d, 'l, 'w, 'o> {
         rt: &HostRuntime,
         problem: &ref_bundle::Problem<'_>,
     ) -> Result<(), AllocError> {
-        if let ref_bundle::Problem::SharedUri { document, path, .. } = problem {
-            let other = self.place(rt.alloc(), *document, path.as_slice())?;
-            let _ = eprintln!(rt; "    other: {other}");
-        }
+        let other = match problem {
+            ref_bundle::Problem::SharedUri { document, path, .. } => {
+                self.place(rt.alloc(), *document, path.as_slice())?
+            }
+            ref_bundle::Problem::ShadowedUri { document, .. } => {
+                self.place(rt.alloc(), *document, &[])?
+            }
+            _ => return Ok(()),
+        };
+        let _ = eprintln!(rt; "    other: {other}");
         Ok(())
     }
 
@@ -470,6 +476,13 @@ fn text_of(alloc: Global, problem: &ref_bundle::Problem<'_>) -> Result<String, A
                 base.as_str()
             )
         }
+        ref_bundle::Problem::ShadowedUri { uri, base, .. } => {
+            format!(in alloc;
+                "It refers to '{}' outside, whose identifier gives '{}', the URI of another document",
+                uri.as_str(),
+                base.as_str()
+            )
+        }
     }
 }
 
@@ -482,6 +495,7 @@ fn advice(problem: &ref_bundle::Problem<'_>) -> &'static str {
         ref_bundle::Problem::KeyTaken { .. } => "rename that definition",
         ref_bundle::Problem::SharedUri { .. } => "give one of them another identifier",
         ref_bundle::Problem::ReplacedUri { .. } => "refer to the document by its identifier",
+        ref_bundle::Problem::ShadowedUri { .. } => "give that other document another identifier",
     }
 }
 

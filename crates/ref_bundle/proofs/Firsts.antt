@@ -2,13 +2,13 @@
 use Rattle.std.proofs.Common.{◌≡◌, ℕ, zero, suc, ◌+◌, ◌<◌, Bool, true, false, ◌==◌, cond, is_some, slice_get, true≢false, List, [], ◌∷◌, ◌++◌, map, flat_map, take, length, get_or, Option, Some, None, option_map, refl, ap, sym, ◌∙◌, append-nil, arith}
 use Rattle.std.specs.Option.{option_to_list, option_map_or}
 use Rattle.std.proofs.lemmas.List.Concat.{flat_map-append}
-use Rattle.ref_definitions.specs.World.{Document, Layer}
+use Rattle.ref_definitions.specs.World.{Document, Layer, World}
 use Rattle.ref_definitions.specs.Places.{Place, places}
 use Rattle.serde_json.specs.Data.{Data, null, boolean, number, string, array, object}
 use Rattle.serde_json.specs.Find.{as_object}
 use Rattle.ref_parts.specs.Path.{path_eq}
 use Rattle.ref_bundle.specs.Needed.{document_under}
-use Rattle.ref_bundle.specs.Bundle.{Problem, at_path, place_problems, place_refusals, replaced_uris, replaced_in, replaced_at, map_refusals, shared_uri, sites_of_uris}
+use Rattle.ref_bundle.specs.Bundle.{Problem, at_path, place_problems, place_refusals, reference_problems, reference_problems_by, replaced_in, map_refusals, shared_uri, sites_of_uris}
 use Rattle.ref_bundle.specs.inner.Seen.{Seen, see, seen_in, own_uri_of}
 use Rattle.ref_bundle.specs.inner.First.{first, refusals_seen, shared_seen, taken_in}
 use Rattle.ref_bundle.proofs.Lists.{joined_more}
@@ -61,22 +61,23 @@ found_here f v (y ∷ xs) (suc i) x a within is before here =
 
 -- ---- the refusals of places
 
-pub of_places : (layer : Layer) (top : ℕ) (e : ℕ × Document) → flat_map (refusals_seen layer top e.1.uri) (seen_in e) ≡ place_refusals layer top e
-of_places layer top e = of_list (places e.1)
+pub of_places : (layer : Layer) (world : World) (top : ℕ) (e : ℕ × Document) → flat_map (refusals_seen layer world top e.1.uri) (seen_in e) ≡ place_refusals layer world top e
+of_places layer world top e = of_list (places e.1)
   where
-    of_list : (ps : List Place) → flat_map (refusals_seen layer top e.1.uri) (map (see e.0) ps) ≡ flat_map (λ p. map (at_path e.0 p.path) (place_problems layer top e p)) ps
+    of_list : (ps : List Place) → flat_map (refusals_seen layer world top e.1.uri) (map (see e.0) ps) ≡ flat_map (λ p. map (at_path e.0 p.path) (place_problems layer world top e p)) ps
     of_list [] = refl
-    of_list (p ∷ ps) = ap (λ l. map (at_path e.0 p.path) (place_problems layer top e p) ++ l) (of_list ps)
+    of_list (p ∷ ps) = ap (λ l. map (at_path e.0 p.path) (place_problems layer world top e p) ++ l) (of_list ps)
 
 -- ---- the refusals of URIs and definitions
 
-pub replaced_is : (layer : Layer) (top : ℕ) (uri : List ℕ) (n : ℕ) (d : Document) → document_under layer uri ≡ Some n → (n == top) ≡ false → slice_get layer n ≡ Some d → replaced_in uri d ≡ replaced_uris layer top uri
-replaced_is layer top uri n d under other at =
-    sym (ap (replaced_at layer top uri) under ∙ ap (λ b. cond b [] (option_map_or (replaced_in uri) (slice_get layer n) [])) other ∙ ap (λ o. option_map_or (replaced_in uri) o []) at)
+pub replaced_is : (layer : Layer) (world : World) (top : ℕ) (uri : List ℕ) (n : ℕ) (d : Document) → document_under layer uri ≡ Some n → (n == top) ≡ false → slice_get layer n ≡ Some d
+    → replaced_in uri d ≡ reference_problems layer world top uri
+replaced_is layer world top uri n d under other at =
+    sym (ap (reference_problems_by layer world top uri) under ∙ ap (λ b. cond b [] (option_map_or (replaced_in uri) (slice_get layer n) [])) other ∙ ap (λ o. option_map_or (replaced_in uri) o []) at)
 
-pub replaced_not : (layer : Layer) (top : ℕ) (uri : List ℕ) (n : ℕ) → document_under layer uri ≡ Some n → (n == top) ≡ false → slice_get layer n ≡ None → [] ≡ replaced_uris layer top uri
-replaced_not layer top uri n under other at =
-    sym (ap (replaced_at layer top uri) under ∙ ap (λ b. cond b [] (option_map_or (replaced_in uri) (slice_get layer n) [])) other ∙ ap (λ o. option_map_or (replaced_in uri) o []) at)
+pub replaced_not : (layer : Layer) (world : World) (top : ℕ) (uri : List ℕ) (n : ℕ) → document_under layer uri ≡ Some n → (n == top) ≡ false → slice_get layer n ≡ None → [] ≡ reference_problems layer world top uri
+replaced_not layer world top uri n under other at =
+    sym (ap (reference_problems_by layer world top uri) under ∙ ap (λ b. cond b [] (option_map_or (replaced_in uri) (slice_get layer n) [])) other ∙ ap (λ o. option_map_or (replaced_in uri) o []) at)
 
 pub map_is : (top : ℕ) (keyword : List ℕ) (value : Data) (es : List (ℕ × Document)) → is_some (as_object value) ≡ true → flat_map (taken_in top keyword value) es ≡ map_refusals top keyword (Some value) es
 map_is top keyword null es is = absurd (true≢false (sym is))

@@ -141,7 +141,7 @@ none_bear layer uri none =
     let each = each_none (λ d. Under uri (resources_in d)) layer (sym (filter_flat (λ (e : List ℕ × Place). bytes_eq e.0 uri) resources_in layer) ∙ last_none (Under uri (resources layer)) none) in
     all_of (λ e. IsFree uri e.1) (counted_documents 0 layer) (λ e there. free uri e.1 (each_in (λ d. Under uri (resources_in d) ≡ []) layer e.1 each (in_layer 0 layer e there)))
 
-last_is : {X : Type 0} (test : X → Bool) (xs : List X) (x : X) → last_or None (filter test xs) ≡ Some x → IsKeptThere test xs x
+pub last_is : {X : Type 0} (test : X → Bool) (xs : List X) (x : X) → last_or None (filter test xs) ≡ Some x → IsKeptThere test xs x
 last_is test xs x is = ⊎_elim (λ none. absurd (let e : None ≡ Some x = none in cc)) (λ kept. kept) (last_kept test xs x None is)
 
 pub no_second : {A B : Type 0} (R : A → B → Type 0) (a : Option A) (b : Option B) → BothAlike R a b → a ≡ None → b ≡ None

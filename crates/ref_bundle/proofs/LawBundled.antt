@@ -9,11 +9,11 @@ use Rattle.ref_draft.specs.declared.draft.Draft.{Draft}
 use Rattle.ref_draft.specs.Children.{is_object, children, with_draft}
 use Rattle.ref_uri.specs.Targets.{Refusal}
 use Rattle.ref_draft.proofs.Lists.{all_map}
-use Rattle.ref_definitions.specs.World.{Document, Layer}
+use Rattle.ref_definitions.specs.World.{Document, Layer, World}
 use Rattle.ref_definitions.specs.Places.{Place, root, child_place, children_with, levels_below, places}
 use Rattle.ref_bundle.specs.Needed.{counted_documents, document_under, targets_from, targets, referred_in, referred_from, is_among, numbers, with_referred, numbers_of_needed, needed_documents}
 use Rattle.ref_bundle.specs.Embedding.{obstacle, Obstacle}
-use Rattle.ref_bundle.specs.Bundle.{Bundle, BundleRefusal, NotEmbedded, NoDocument, shared_uri, sites_of_uris, uris_of, replaced_uris, place_problems, place_refusals, at_path, root_refusals, refusals_in, refusals, to_embed, unless_refused, bundle_of, bundle_at}
+use Rattle.ref_bundle.specs.Bundle.{Bundle, BundleRefusal, NotEmbedded, NoDocument, shared_uri, sites_of_uris, uris_of, reference_problems, place_problems, place_refusals, at_path, root_refusals, refusals_in, refusals, to_embed, unless_refused, bundle_of, bundle_among}
 use Rattle.ref_bundle.proofs.LawMerges.{nothing_below}
 use Rattle.ref_bundle.proofs.LawEntries.{each_none, none_of, front_empty, back_empty}
 use Rattle.ref_bundle.proofs.LawNeeded.{each_in}
@@ -25,17 +25,17 @@ unrefused : (rs : List BundleRefusal) (b bundle : Bundle) → unless_refused rs 
 unrefused [] b bundle is = (refl, let e : Ok b ≡ Ok bundle = is in cc)
 unrefused (r ∷ rs) b bundle is = absurd (let e : Err r ≡ Ok bundle = is in cc)
 
-pub not_refused : (layer : Layer) (n : ℕ) (top : Document) (bundle : Bundle) → slice_get layer n ≡ Some top → bundle_at layer n ≡ Ok bundle
-    → (refusals layer (n, top) (to_embed layer n) ≡ []) × (bundle ≡ bundle_of top (to_embed layer n))
-not_refused layer n top bundle at is =
-    unrefused (refusals layer (n, top) (to_embed layer n)) (bundle_of top (to_embed layer n)) bundle
-    (sym (ap (λ o. option_map_or (λ t. unless_refused (refusals layer (n, t) (to_embed layer n)) (bundle_of t (to_embed layer n))) o (Err (at_path n [] NoDocument))) at) ∙ is)
+pub not_refused : (layer : Layer) (world : World) (n : ℕ) (top : Document) (bundle : Bundle) → slice_get layer n ≡ Some top → bundle_among layer world n ≡ Ok bundle
+    → (refusals layer world (n, top) (to_embed layer n) ≡ []) × (bundle ≡ bundle_of top (to_embed layer n))
+not_refused layer world n top bundle at is =
+    unrefused (refusals layer world (n, top) (to_embed layer n)) (bundle_of top (to_embed layer n)) bundle
+    (sym (ap (λ o. option_map_or (λ t. unless_refused (refusals layer world (n, t) (to_embed layer n)) (bundle_of t (to_embed layer n))) o (Err (at_path n [] NoDocument))) at) ∙ is)
 
 -- of each needed document nothing is refused
-pub none_in : (layer : Layer) (n : ℕ) (top : Document) (x : ℕ × Document) → refusals layer (n, top) (to_embed layer n) ≡ [] → Contains (needed_documents layer n) x → refusals_in layer (n, top) (to_embed layer n) x ≡ []
-none_in layer n top x none there =
-    each_in (λ e. refusals_in layer (n, top) (to_embed layer n) e ≡ []) (needed_documents layer n) x
-    (each_none (refusals_in layer (n, top) (to_embed layer n)) (needed_documents layer n) none) there
+pub none_in : (layer : Layer) (world : World) (n : ℕ) (top : Document) (x : ℕ × Document) → refusals layer world (n, top) (to_embed layer n) ≡ [] → Contains (needed_documents layer n) x → refusals_in layer world (n, top) (to_embed layer n) x ≡ []
+none_in layer world n top x none there =
+    each_in (λ e. refusals_in layer world (n, top) (to_embed layer n) e ≡ []) (needed_documents layer n) x
+    (each_none (refusals_in layer world (n, top) (to_embed layer n)) (needed_documents layer n) none) there
 
 abbrev whole_refusals : ℕ × Document → List (ℕ × Document) → ℕ × Document → List BundleRefusal
 whole_refusals top es e = cond (e.0 == top.0) (root_refusals top es) (map (λ o. at_path e.0 [] (NotEmbedded o)) (option_to_list (obstacle top.1 e.1)))
@@ -48,15 +48,15 @@ is_other : (m n : ℕ) (b : Bool) → (m == n) ≡ b → ¬ (m ≡ n) → (m == 
 is_other m n true is other = absurd (other (eqb-true m n is))
 is_other m n false is other = is
 
-pub no_obstacle : (layer : Layer) (n : ℕ) (top : Document) (x : ℕ × Document) → refusals_in layer (n, top) (to_embed layer n) x ≡ [] → ¬ (x.0 ≡ n) → obstacle top x.1 ≡ None
-no_obstacle layer n top x none other =
-    let first = front_empty (whole_refusals (n, top) (to_embed layer n) x) (place_refusals layer n x) none in
+pub no_obstacle : (layer : Layer) (world : World) (n : ℕ) (top : Document) (x : ℕ × Document) → refusals_in layer world (n, top) (to_embed layer n) x ≡ [] → ¬ (x.0 ≡ n) → obstacle top x.1 ≡ None
+no_obstacle layer world n top x none other =
+    let first = front_empty (whole_refusals (n, top) (to_embed layer n) x) (place_refusals layer world n x) none in
     no_obstacle_by x.0 (obstacle top x.1)
     (sym (ap (λ b. cond b (root_refusals (n, top) (to_embed layer n)) (map (λ o. at_path x.0 [] (NotEmbedded o)) (option_to_list (obstacle top x.1)))) (is_other x.0 n (x.0 == n) refl other)) ∙ first)
 
-pub no_root_refusal : (layer : Layer) (n : ℕ) (top : Document) → refusals_in layer (n, top) (to_embed layer n) (n, top) ≡ [] → root_refusals (n, top) (to_embed layer n) ≡ []
-no_root_refusal layer n top none =
-    let first = front_empty (whole_refusals (n, top) (to_embed layer n) (n, top)) (place_refusals layer n (n, top)) none in
+pub no_root_refusal : (layer : Layer) (world : World) (n : ℕ) (top : Document) → refusals_in layer world (n, top) (to_embed layer n) (n, top) ≡ [] → root_refusals (n, top) (to_embed layer n) ≡ []
+no_root_refusal layer world n top none =
+    let first = front_empty (whole_refusals (n, top) (to_embed layer n) (n, top)) (place_refusals layer world n (n, top)) none in
     sym (ap (λ b. cond b (root_refusals (n, top) (to_embed layer n)) (map (λ o. at_path n [] (NotEmbedded o)) (option_to_list (obstacle top top)))) (eq-eqb n n refl)) ∙ first
 
 pub none_mapped : {X Y : Type 0} (f : X → Y) (xs : List X) → map f xs ≡ [] → xs ≡ []
@@ -64,24 +64,24 @@ none_mapped f [] is = refl
 none_mapped f (x ∷ xs) is = absurd (let e : f x ∷ map f xs ≡ [] = is in cc)
 
 -- no problem of a place of a needed document
-pub no_problem : (layer : Layer) (n : ℕ) (top : Document) (x : ℕ × Document) (p : Place) → refusals_in layer (n, top) (to_embed layer n) x ≡ [] → Contains (places x.1) p → place_problems layer n x p ≡ []
-no_problem layer n top x p none there =
-    let rest = back_empty (whole_refusals (n, top) (to_embed layer n) x) (place_refusals layer n x) none in
-    none_mapped (at_path x.0 p.path) (place_problems layer n x p)
-    (each_in (λ q. map (at_path x.0 q.path) (place_problems layer n x q) ≡ []) (places x.1) p
-    (each_none (λ q. map (at_path x.0 q.path) (place_problems layer n x q)) (places x.1) rest) there)
+pub no_problem : (layer : Layer) (world : World) (n : ℕ) (top : Document) (x : ℕ × Document) (p : Place) → refusals_in layer world (n, top) (to_embed layer n) x ≡ [] → Contains (places x.1) p → place_problems layer world n x p ≡ []
+no_problem layer world n top x p none there =
+    let rest = back_empty (whole_refusals (n, top) (to_embed layer n) x) (place_refusals layer world n x) none in
+    none_mapped (at_path x.0 p.path) (place_problems layer world n x p)
+    (each_in (λ q. map (at_path x.0 q.path) (place_problems layer world n x q) ≡ []) (places x.1) p
+    (each_none (λ q. map (at_path x.0 q.path) (place_problems layer world n x q)) (places x.1) rest) there)
 
-pub not_shared : (layer : Layer) (n : ℕ) (x : ℕ × Document) (p : Place) (uri : List ℕ) → place_problems layer n x p ≡ [] → Contains (uris_of x.1 p) uri → shared_uri (sites_of_uris layer) (x.0, p.path) uri ≡ []
-not_shared layer n x p uri none there =
+pub not_shared : (layer : Layer) (world : World) (n : ℕ) (x : ℕ × Document) (p : Place) (uri : List ℕ) → place_problems layer world n x p ≡ [] → Contains (uris_of x.1 p) uri → shared_uri (sites_of_uris layer) (x.0, p.path) uri ≡ []
+not_shared layer world n x p uri none there =
     each_in (λ u. shared_uri (sites_of_uris layer) (x.0, p.path) u ≡ []) (uris_of x.1 p) uri
     (each_none (shared_uri (sites_of_uris layer) (x.0, p.path)) (uris_of x.1 p)
-    (front_empty (flat_map (shared_uri (sites_of_uris layer) (x.0, p.path)) (uris_of x.1 p)) (flat_map (replaced_uris layer n) (targets p)) none)) there
+    (front_empty (flat_map (shared_uri (sites_of_uris layer) (x.0, p.path)) (uris_of x.1 p)) (flat_map (reference_problems layer world n) (targets p)) none)) there
 
-pub not_replaced : (layer : Layer) (n : ℕ) (x : ℕ × Document) (p : Place) (uri : List ℕ) → place_problems layer n x p ≡ [] → Contains (targets p) uri → replaced_uris layer n uri ≡ []
-not_replaced layer n x p uri none there =
-    each_in (λ u. replaced_uris layer n u ≡ []) (targets p) uri
-    (each_none (replaced_uris layer n) (targets p)
-    (back_empty (flat_map (shared_uri (sites_of_uris layer) (x.0, p.path)) (uris_of x.1 p)) (flat_map (replaced_uris layer n) (targets p)) none)) there
+pub no_reference_problem : (layer : Layer) (world : World) (n : ℕ) (x : ℕ × Document) (p : Place) (uri : List ℕ) → place_problems layer world n x p ≡ [] → Contains (targets p) uri → reference_problems layer world n uri ≡ []
+no_reference_problem layer world n x p uri none there =
+    each_in (λ u. reference_problems layer world n u ≡ []) (targets p) uri
+    (each_none (reference_problems layer world n) (targets p)
+    (back_empty (flat_map (shared_uri (sites_of_uris layer) (x.0, p.path)) (uris_of x.1 p)) (flat_map (reference_problems layer world n) (targets p)) none)) there
 
 -- ---- where a root is no object, nothing is to be embedded
 

@@ -7,7 +7,7 @@ use Rattle.ref_definitions.specs.World.{Document, Layer}
 use Rattle.ref_definitions.specs.Places.{Place, places}
 use Rattle.ref_bundle.specs.Needed.{counted_documents, document_under, targets, is_among, numbers_of_needed, needed_documents}
 use Rattle.ref_bundle.specs.Embedding.{base_uri}
-use Rattle.ref_bundle.specs.Bundle.{ReplacedUri, uris_of, replaced_in, replaced_at, to_embed}
+use Rattle.ref_bundle.specs.Bundle.{ReplacedUri, uris_of, replaced_in, reference_problems_by, to_embed}
 use Rattle.ref_bundle.proofs.LawEntries.{IsFree}
 use Rattle.ref_bundle.proofs.LawBorne.{IsPut}
 use Rattle.ref_bundle.proofs.LawEmbedded.{base_is}
@@ -15,7 +15,7 @@ use Rattle.ref_bundle.proofs.LawMeans.{IsNoAlias}
 use Rattle.ref_bundle.proofs.LawPlaces.{put_in}
 use Rattle.ref_bundle.proofs.LawNeeded.{each_in, counted_one, counted_kept, IsAlone, alone_among, document_bears, none_bears}
 use Rattle.ref_bundle.proofs.LawClosed.{got_at, passes_kept, kept_in, target_needed}
-use Rattle.ref_bundle.proofs.LawBundled.{none_in, no_problem, not_replaced}
+use Rattle.ref_bundle.proofs.LawBundled.{none_in, no_problem, no_reference_problem}
 use Rattle.ref_bundle.proofs.LawFacts.{IsMade, root_counted, needed_counted, embedded_needed, others_free, put_of, all_of}
 use Rattle.ref_bundle.proofs.LawMeaning.{IsClear, borne_by_none, borne_by_root, borne_by_embedded}
 
@@ -102,8 +102,8 @@ clear_target_by layer n top is e p uri need place target (Some k) means =
     let bearer = found.3 in
     let at = got_at layer x bearer.document in
     let x_needed = target_needed layer (n, top) e x p uri (root_counted layer n top is.at) need place target own bearer.document in
-    let none : replaced_at layer n uri (Some x.0) ≡ [] =
-    sym (ap (replaced_at layer n uri) own) ∙ not_replaced layer n e p uri (no_problem layer n top e p (none_in layer n top e is.unrefused need) place) target in
+    let none : reference_problems_by layer is.world n uri (Some x.0) ≡ [] =
+    sym (ap (reference_problems_by layer is.world n uri) own) ∙ no_reference_problem layer is.world n e p uri (no_problem layer is.world n top e p (none_in layer is.world n top e is.unrefused need) place) target in
     clear_borne layer n top is x found.1 uri x_needed bearer.place bearer.bears (stays_by layer n uri x (x.0 == n) refl none at)
 
 pub clear_target : (layer : Layer) (n : ℕ) (top : Document) → IsMade layer n top → (e : ℕ × Document) (p : Place) (uri : List ℕ) → Contains (needed_documents layer n) e → Contains (places e.1) p → Contains (targets p) uri

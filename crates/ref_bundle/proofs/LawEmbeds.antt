@@ -121,6 +121,6 @@ embeds_needed layer parents n top bundle is =
     let own = root_counted layer n top is.root in
     record {
       needed_numbers = record { in_order = needed_rise layer n; all = all_needed layer (n, top) own; only = only_needed layer n };
-      embeds = ap (λ (b : Bundle). map (λ (e : Embedded). e.document) b.embedded) both.1 ∙ documents_listed top (to_embed layer n) ∙ numbers_embedded layer n;
-      alone = λ none. ap (λ (b : Bundle). b.value) both.1 ∙ ap (λ es. (bundle_of top es).value) (none_mapped (embedded_document top.draft) (to_embed layer n) (sym (ap (λ (b : Bundle). b.embedded) both.1) ∙ none));
+      embeds = ap (λ (b : Bundle). map (λ (e : Embedded). e.document) b.embedded) both.2 ∙ documents_listed top (to_embed layer n) ∙ numbers_embedded layer n;
+      alone = λ none. ap (λ (b : Bundle). b.value) both.2 ∙ ap (λ es. (bundle_of top es).value) (none_mapped (embedded_document top.draft) (to_embed layer n) (sym (ap (λ (b : Bundle). b.embedded) both.2) ∙ none));
     }

@@ -53,18 +53,19 @@ base_borne_by d (Some id) base is = Contains-append_right (d.uri ∷ []) (option
 pub base_borne : (d : Document) (base : List ℕ) → (root d).base ≡ Ok base → Contains (uris_of d (root d)) base
 base_borne d base is = base_borne_by d (identifier d.draft d.tree) base is
 
--- ---- a bundle that isn't refused
+-- ---- a bundle that isn't refused, of the own documents of a world
 
 pub record IsMade (layer : Layer) (n : ℕ) (top : Document) : Type 0 where
+  pub world : World
   pub no_fault : faults layer ≡ []
   pub at : slice_get layer n ≡ Some top
   pub in_order : InKeyOrder top.tree
-  pub unrefused : refusals layer (n, top) (to_embed layer n) ≡ []
+  pub unrefused : refusals layer world (n, top) (to_embed layer n) ≡ []
 
-pub made : (layer : Layer) (parents : World) (n : ℕ) (top : Document) (bundle : Bundle) → IsBundle layer parents n top bundle → IsMade layer n top × (bundle ≡ bundle_of top (to_embed layer n))
+pub made : (layer : Layer) (parents : World) (n : ℕ) (top : Document) (bundle : Bundle) → IsBundle layer parents n top bundle → (is : IsMade layer n top) × (is.world ≡ layer ∷ parents) × (bundle ≡ bundle_of top (to_embed layer n))
 made layer parents n top bundle is =
-    let both = not_refused layer n top bundle is.root is.is in
-    (record { no_fault = is.no_fault; at = is.root; in_order = is.in_order; unrefused = both.0 }, both.1)
+    let both = not_refused layer (layer ∷ parents) n top bundle is.root is.is in
+    (record { world = layer ∷ parents; no_fault = is.no_fault; at = is.root; in_order = is.in_order; unrefused = both.0 }, refl, both.1)
 
 pub root_counted : (layer : Layer) (n : ℕ) (top : Document) → slice_get layer n ≡ Some top → Contains (counted_documents 0 layer) (n, top)
 root_counted layer n top at = subst (λ k. Contains (counted_documents 0 layer) (k, top)) (let e : n + 0 ≡ n = omega arith in e) (counted_at 0 layer n top at)
@@ -81,7 +82,7 @@ embedded_needed layer n x there =
 pub others_free : (layer : Layer) (n : ℕ) (top : Document) → IsMade layer n top → (x : ℕ × Document) (p : Place) (uri : List ℕ) → Contains (needed_documents layer n) x → Contains (places x.1) p → Contains (uris_of x.1 p) uri
     → AllByRecursion (λ e. ¬ (e.0 ≡ x.0) → IsFree uri e.1) (counted_documents 0 layer)
 others_free layer n top is x p uri need place bears =
-    free_but layer (x.0, p.path) uri (not_shared layer n x p uri (no_problem layer n top x p (none_in layer n top x is.unrefused need) place) bears)
+    free_but layer (x.0, p.path) uri (not_shared layer is.world n x p uri (no_problem layer is.world n top x p (none_in layer is.world n top x is.unrefused need) place) bears)
 
 -- ---- the bases of documents that are embedded differ
 
@@ -173,8 +174,8 @@ room_by n top (e ∷ es) none object_ apart =
 pub room : (layer : Layer) (n : ℕ) (top : Document) → IsMade layer n top → HasRoomFor top (to_embed layer n)
 room layer n top is =
     let own = root_counted layer n top is.at in
-    let none = none_in layer n top (n, top) is.unrefused (root_needed layer (n, top) own) in
-    room_by n top (to_embed layer n) (no_root_refusal layer n top none) (λ some. root_object layer n top (is_object top.tree) refl is.at some)
+    let none = none_in layer is.world n top (n, top) is.unrefused (root_needed layer (n, top) own) in
+    room_by n top (to_embed layer n) (no_root_refusal layer is.world n top none) (λ some. root_object layer n top (is_object top.tree) refl is.at some)
     (keys_apart top.draft (to_embed layer n) (bases_apart layer n top is)
     (kept_apart (λ (e : ℕ × Document). not (e.0 == n)) (needed_documents layer n) (kept_apart (λ (e : ℕ × Document). is_among (numbers_of_needed layer n) e.0) (counted_documents 0 layer) (counted_apart 0 layer))))
 
@@ -184,7 +185,7 @@ pub put_of : (layer : Layer) (n : ℕ) (top : Document) → IsMade layer n top �
 put_of layer n top is x there =
     let need = embedded_needed layer n x there in
     put_there (definitions_keyword top.draft) (base_uri top) (base_uri x.1) top x.1
-    (embeddable top x.1 (no_obstacle layer n top x (none_in layer n top x is.unrefused need.0) need.1))
+    (embeddable top x.1 (no_obstacle layer is.world n top x (none_in layer is.world n top x is.unrefused need.0) need.1))
     (root_base layer (n, top) is.no_fault (root_counted layer n top is.at))
     (root_base layer x is.no_fault (needed_counted layer n x need.0))
 
@@ -206,4 +207,4 @@ pub bundle_places : (layer : Layer) (parents : World) (n : ℕ) (top : Document)
     → IsMergeOf Place (places (document_of_bundle top bundle)) (places_of_root top bundle ∷ map (places_of_embedded top) (to_embed layer n))
 bundle_places layer parents n top bundle is =
     let both = made layer parents n top bundle is in
-    subst (λ b. IsMergeOf Place (places (document_of_bundle top b)) (places_of_root top b ∷ map (places_of_embedded top) (to_embed layer n))) (sym both.1) (made_places layer n top both.0)
+    subst (λ b. IsMergeOf Place (places (document_of_bundle top b)) (places_of_root top b ∷ map (places_of_embedded top) (to_embed layer n))) (sym both.2) (made_places layer n top both.0)

@@ -41,7 +41,7 @@ use Rattle.ref_bundle.proofs.LawSafe.{safe_scope, safe_base, safe_target}
 able_of : (layer : Layer) (n : ℕ) (top : Document) → IsMade layer n top → (e : ℕ × Document) → Contains (to_embed layer n) e → IsEmbeddable top e.1
 able_of layer n top is e there =
     let need = embedded_needed layer n e there in
-    embeddable top e.1 (no_obstacle layer n top e (none_in layer n top e is.unrefused need.0) need.1)
+    embeddable top e.1 (no_obstacle layer is.world n top e (none_in layer is.world n top e is.unrefused need.0) need.1)
 
 -- ---- values and drafts
 
@@ -324,10 +324,10 @@ scope_safe layer parents n top is (uri ∷ scope) each = (safe_scope layer paren
 
 -- a bundle keeps every reference
 pub keeps_references : KeepsReferences
-keeps_references layer parents n top bundle is e p base reference scope need there has refers borne_ alone =
+keeps_references layer parents n top bundle is e p base reference scope need there has refers borne_ =
     let both = made layer parents n top bundle is in
     let r : Resolver = record { base = base; scope = scope } in
     subst (λ b. IsAnswerNow layer n top b (lookup (world_of_bundle top b parents) r reference) (lookup (layer ∷ parents) r reference)
-    ⊎ PointsIntoAdded layer parents n top base reference) (sym both.1)
+    ⊎ PointsIntoAdded layer parents n top base reference) (sym both.2)
     (lookup_now layer parents n top both.0 r reference (safe_base layer parents n top both.0 e p base need there has) (scope_safe layer parents n top both.0 scope borne_)
-    (λ uri to. safe_target layer parents n top both.0 e p base uri reference need there has refers to (alone uri to)))
+    (λ uri to. safe_target layer parents n top both.0 both.1 e p base uri reference need there has refers to))

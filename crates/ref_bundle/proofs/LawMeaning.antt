@@ -78,7 +78,7 @@ names_were uri name layer x one =
     ap (λ l. last_named uri name (names l)) (layer_split uri layer x one)
     ∙ ap (last_or None) (names_of_one uri name (map (λ (e : ℕ × Document). e.1) one.before) x.1 (map (λ (e : ℕ × Document). e.1) one.after) (free_of uri one.before one.front) (free_of uri one.after one.back))
 
-no_entries_were : (uri : List ℕ) (layer : Layer) → AllByRecursion (λ e. IsFree uri e.1) (counted_documents 0 layer) → last_under uri (resources layer) ≡ None
+pub no_entries_were : (uri : List ℕ) (layer : Layer) → AllByRecursion (λ e. IsFree uri e.1) (counted_documents 0 layer) → last_under uri (resources layer) ≡ None
 no_entries_were uri layer free_ =
     ap (λ l. last_under uri (resources l)) (sym (documents_of 0 layer))
     ∙ ap (last_or None) (no_entries_of uri (map (λ (e : ℕ × Document). e.1) (counted_documents 0 layer)) (free_of uri (counted_documents 0 layer) free_))

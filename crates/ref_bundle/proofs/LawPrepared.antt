@@ -138,7 +138,7 @@ embedded_ready : (layer : Layer) (parents : World) (n : ℕ) (top : Document) �
 embedded_ready layer parents n top is met e there =
     let need = embedded_needed layer n e there in
     let put = put_of layer n top is e there in
-    let able = embeddable top e.1 (no_obstacle layer n top e (none_in layer n top e is.unrefused need.0) need.1) in (
+    let able = embeddable top e.1 (no_obstacle layer is.world n top e (none_in layer is.world n top e is.unrefused need.0) need.1) in (
       ready layer parents n top is met e (root e.1) (place_in top e.1) need.0 (0, omega arith, refl) (put.has_base ∙ sym put.same_base)
           (text_embedded top.draft e.1 (codes "$ref") refl refl refl) (meta_embedded top.draft e.1 able.object),
       behind_ready layer parents n top is met e (put_in top e).place.path (drop 1 (places e.1)) need.0 (λ q later. Contains-append_right (root e.1 ∷ []) (drop 1 (places e.1)) q later),
@@ -176,7 +176,7 @@ pub no_fault : (layer : Layer) (parents : World) (n : ℕ) (top : Document) (bun
 no_fault layer parents n top bundle is =
     let both = made layer parents n top bundle is in
     let each = all_ready layer parents n top both.0 is.no_want in
-    subst (λ b. faults (document_of_bundle top b ∷ []) ≡ []) (sym both.1)
+    subst (λ b. faults (document_of_bundle top b ∷ []) ≡ []) (sym both.2)
     (append-nil (flat_map (λ q. faults_at q.base q.value) (places (joined top (to_embed layer n))))
     ∙ none_of (λ q. faults_at q.base q.value) (places (joined top (to_embed layer n))) (no_faults ((joined top (to_embed layer n) ∷ []) ∷ parents) (places (joined top (to_embed layer n))) each))
 
@@ -185,6 +185,6 @@ no_open_want layer parents n top bundle is =
     let both = made layer parents n top bundle is in
     let each = all_ready layer parents n top both.0 is.no_want in
     let world = (joined top (to_embed layer n) ∷ []) ∷ parents in
-    subst (λ b. open_wants (world_of_bundle top b parents) (document_of_bundle top b ∷ []) ≡ []) (sym both.1)
+    subst (λ b. open_wants (world_of_bundle top b parents) (document_of_bundle top b ∷ []) ≡ []) (sym both.2)
     (ap (filter (is_open world)) (append-nil (flat_map (λ q. wants_at q.base q.value) (places (joined top (to_embed layer n)))))
     ∙ none_pass (is_open world) (flat_map (λ q. wants_at q.base q.value) (places (joined top (to_embed layer n)))) (all_closed world (places (joined top (to_embed layer n))) each))

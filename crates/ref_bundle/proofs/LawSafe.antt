@@ -1,32 +1,34 @@
 -- The URIs that a look-up from a needed place asks for are safe: its target, its base, and those of its scope.
-use Rattle.std.proofs.Common.{◌≡◌, ℕ, zero, suc, Bool, true, false, not, cond, ◌&&◌, ◌==◌, eq-eqb, List, [], ◌∷◌, ◌++◌, flat_map, map, filter, codes, Option, Some, None, option_map, Result, Ok, bytes_eq, ◌⊎◌, inl, inr, ⊎_elim, refl, sym, ap, subst, ◌∙◌, true≢false, arith}
+use Rattle.std.proofs.Common.{◌≡◌, ℕ, zero, suc, Bool, true, false, not, cond, ◌&&◌, ◌==◌, eq-eqb, List, [], ◌∷◌, ◌++◌, flat_map, map, filter, codes, Option, Some, None, option_map, option_and_then, Result, Ok, bytes_eq, ◌⊎◌, inl, inr, ⊎_elim, refl, sym, ap, subst, ◌∙◌, true≢false, arith}
 use Rattle.std.specs.List.{AllByRecursion, Contains, last_or}
 use Rattle.std.specs.Option.{option_map_or, option_to_list}
+use Rattle.std.specs.Result.{result_ok}
 use Rattle.std.proofs.lemmas.Slice.Eq.{bytes_eq-Decides}
 use Rattle.std.proofs.lemmas.List.Elements.{Contains-append_right, Contains-append_left, Contains-append_cases}
 use Rattle.serde_json.specs.Data.{depth}
 use Rattle.ref_parts.specs.Path.{Part, path_eq}
 use Rattle.ref_draft.specs.Schema.{text_under}
-use Rattle.ref_uri.specs.Targets.{Refusal, target}
+use Rattle.ref_uri.specs.Targets.{Refusal, target, uri_against}
 use Rattle.ref_draft.proofs.Lists.{all_append}
 use Rattle.ref_definitions.specs.World.{Document, Layer, World}
-use Rattle.ref_definitions.specs.Places.{Place, root, children_of, levels_below, places}
-use Rattle.ref_definitions.specs.Resources.{own_uri, resource_of, resources_in, resources, last_under}
+use Rattle.ref_definitions.specs.Places.{Place, root, identifier_of, base_within, children_of, levels_below, places}
+use Rattle.ref_definitions.specs.Resources.{own_uri, resource_of, resources_in, resources, last_under, meant_place}
 use Rattle.ref_definitions.specs.Wants.{reference_at, schema_at}
 use Rattle.ref_definitions.proofs.Alone.{first_or_later, in_joined}
 use Rattle.ref_definitions.proofs.Differ.{GoesOn, on_with}
-use Rattle.ref_bundle.specs.Needed.{counted_documents, dynamic_reference_at, meant_uris, targets_from, targets, needed_documents}
+use Rattle.ref_bundle.specs.Needed.{counted_documents, document_under, dynamic_reference_at, meant_uris, targets_from, targets, needed_documents}
 use Rattle.ref_bundle.specs.Embedding.{base_uri}
-use Rattle.ref_bundle.specs.Bundle.{borne_in, sites_of_uris, uris_of}
-use Rattle.ref_bundle.specs.Kept.{IsBorneByNeeded, HasNoOtherName, RefersBy}
+use Rattle.ref_bundle.specs.Bundle.{ShadowedUri, borne_in, sites_of_uris, uris_of, identified_from, shadowed_uri, reference_problems, reference_problems_by}
+use Rattle.ref_bundle.specs.Kept.{IsBorneByNeeded, RefersBy}
 use Rattle.ref_bundle.proofs.LawEntries.{borne_by, IsFree, IsOther, AllOther, each_none, filter_flat, other_levels, not_first, not_later}
 use Rattle.ref_bundle.proofs.LawEmbedded.{base_is}
-use Rattle.ref_bundle.proofs.LawNeeded.{is_of_another, each_in, in_one_of, last_none, none_of_shared}
+use Rattle.ref_bundle.proofs.LawNeeded.{is_of_another, each_in, in_one_of, last_none, none_of_shared, document_bears, none_bears}
 use Rattle.ref_bundle.proofs.LawClosed.{passes_kept}
-use Rattle.ref_bundle.proofs.LawBundled.{none_in, no_problem, not_shared}
+use Rattle.ref_bundle.proofs.LawBundled.{none_in, no_problem, not_shared, no_reference_problem}
 use Rattle.ref_bundle.proofs.LawFacts.{IsMade, root_base, needed_counted, base_borne}
 use Rattle.ref_bundle.proofs.LawClear.{Stays, clear_borne, clear_target}
-use Rattle.ref_bundle.proofs.LawAnchors.{own_base, IsSafe, none_bear}
+use Rattle.ref_bundle.proofs.LawMeaning.{no_entries_were}
+use Rattle.ref_bundle.proofs.LawAnchors.{own_base, IsSafe, none_bear, last_is}
 
 -- ---- paths of places below a root
 
@@ -123,7 +125,7 @@ no_alias_borne : (layer : Layer) (n : ℕ) (top : Document) → IsMade layer n t
 no_alias_borne layer n top is x q uri need there own alias =
     let d = x.1 in
     let root_bears : Contains (uris_of d (root d)) uri = (0, omega arith, alias) in
-    let none = not_shared layer n x (root d) uri (no_problem layer n top x (root d) (none_in layer n top x is.unrefused need) (0, omega arith, refl)) root_bears in
+    let none = not_shared layer is.world n x (root d) uri (no_problem layer is.world n top x (root d) (none_in layer is.world n top x is.unrefused need) (0, omega arith, refl)) root_bears in
     let filtered = last_none (filter (is_of_another uri (x.0, [])) (sites_of_uris layer)) (none_of_shared (sites_of_uris layer) (last_or None (filter (is_of_another uri (x.0, [])) (sites_of_uris layer))) uri none) in
     let here : filter (is_of_another uri (x.0, [])) (borne_in x) ≡ [] =
     each_in (λ e. filter (is_of_another uri (x.0, [])) (borne_in e) ≡ []) (counted_documents 0 layer) x
@@ -187,17 +189,91 @@ target_of p base uri reference has (inr dynamic) means_ =
     subst (λ b. Contains (targets_from b p.value) uri) (sym has)
     (Contains-append_left (first ++ second) (meant_uris (schema_at p.value)) uri (Contains-append_right first second uri (in_meant base uri reference (text_under (codes "$dynamicRef") p.value) dynamic means_)))
 
-no_own : (o : Option (List ℕ × Place)) → option_map_or (λ (e : List ℕ × Place). Some e.1) o None ≡ None → o ≡ None
-no_own None is = refl
-no_own (Some e) is = absurd (let x : Some e.1 ≡ None = is in cc)
+-- ---- a place of a parent that a URI means
 
-pub safe_target : (layer : Layer) (parents : World) (n : ℕ) (top : Document) → IsMade layer n top → (x : ℕ × Document) (p : Place) (base uri reference : List ℕ) → Contains (needed_documents layer n) x → Contains (places x.1) p → p.base ≡ Ok base
-    → RefersBy p.value reference → target base reference ≡ Ok uri → HasNoOtherName layer parents uri → IsSafe layer parents n top uri
-safe_target layer parents n top is x p base uri reference need there has refers means_ alone = record {
-  clear = clear_target layer n top is x p uri need there (target_of p base uri reference has refers means_);
-  outside = λ q other none of_parent own. no_own (last_under other (resources layer)) (alone q other (ap (λ o. option_map_or (λ (e : List ℕ × Place). Some e.1) o None) none) of_parent own);
-}
+same_base : (uri : List ℕ) (id : Option (List ℕ)) → option_and_then (λ i. result_ok (uri_against uri i)) id ≡ option_and_then (λ i. result_ok (base_within uri id)) id
+same_base uri None = refl
+same_base uri (Some id) = refl
 
--- without parents no place of one is meant
-pub no_other_name : (layer : Layer) (uri : List ℕ) → HasNoOtherName layer [] uri
-no_other_name layer uri p other none of_parent own = absurd (let e : None ≡ Some p = of_parent in cc)
+entry_of : (uri : List ℕ) (p q : Place) (o : Option (List ℕ)) → Contains {X = List ℕ × Place} (option_to_list (option_map (λ u. (u, q)) o)) (uri, p) → (o ≡ Some uri) × (q ≡ p)
+entry_of uri p q None there = absurd (omega (arith, there.1))
+entry_of uri p q (Some u) there =
+    ⊎_elim
+    (λ one. (ap (λ (e : List ℕ × Place). Some e.0) one, ap (λ (e : List ℕ × Place). e.1) one))
+    (λ later. absurd (omega (arith, later.1)))
+    (first_or_later (u, q) [] (uri, p) there)
+
+-- its own URI is that one, or what its identifier gives against it: then it is a root
+named_in : (d : Document) (uri other : List ℕ) (p : Place) → Contains (resources_in d) (uri, p) → own_uri p ≡ Some other → (other ≡ uri) ⊎ (identified_from uri p ≡ Some other)
+named_in d uri other p there own =
+    ⊎_elim
+    (λ one.
+    inr (ap (λ u. identified_from u p) (sym (ap (λ (e : List ℕ × Place). e.0) one))
+    ∙ sym (ap (identified_from d.uri) (ap (λ (e : List ℕ × Place). e.1) one))
+    ∙ same_base d.uri (identifier_of (root d))
+    ∙ ap (λ (e : List ℕ × Place). own_uri e.1) one ∙ own))
+    (λ later.
+    let of_place = in_one_of resource_of (places d) (uri, p) later in
+    let entry = entry_of uri p of_place.0 (own_uri of_place.0) of_place.2 in
+    let both : Some other ≡ Some uri = sym own ∙ ap own_uri (sym entry.1) ∙ entry.0 in
+    inl (let same : other ≡ uri = cc in same))
+    (first_or_later (d.uri, root d) (flat_map resource_of (places d)) (uri, p) there)
+
+named_by : (uri other : List ℕ) (p : Place) (layer : Layer) (parents : World) (o : Option (List ℕ × Place)) → last_under uri (resources layer) ≡ o → option_map_or (λ (e : List ℕ × Place). Some e.1) o (meant_place parents uri) ≡ Some p → own_uri p ≡ Some other
+    → (meant_place parents uri ≡ Some p → (other ≡ uri) ⊎ (identified_from uri p ≡ Some other)) → (other ≡ uri) ⊎ (identified_from uri p ≡ Some other)
+named_by uri other p layer parents None last is own later = later is
+named_by uri other p layer parents (Some e) last is own later =
+    let kept = last_is (λ (x : List ℕ × Place). bytes_eq x.0 uri) (resources layer) e last in
+    let of_document = in_one_of resources_in layer e kept.there in
+    let place : e.1 ≡ p = cc in
+    let uris : e.0 ≡ uri = (bytes_eq-Decides e.0 uri).0 kept.passes in
+    named_in of_document.0 uri other p (subst (λ u. Contains (resources_in of_document.0) (u, p)) uris (subst (λ x. Contains (resources_in of_document.0) (e.0, x)) place of_document.2)) own
+
+parent_named : (parents : World) (uri other : List ℕ) (p : Place) → meant_place parents uri ≡ Some p → own_uri p ≡ Some other → (other ≡ uri) ⊎ (identified_from uri p ≡ Some other)
+parent_named [] uri other p is own = absurd (let e : None ≡ Some p = is in cc)
+parent_named (layer ∷ parents) uri other p is own = named_by uri other p layer parents (last_under uri (resources layer)) refl is own (λ above. parent_named parents uri other p above own)
+
+-- ---- a URI of no own document
+
+no_document_by : (layer : Layer) (uri : List ℕ) (o : Option ℕ) → last_under uri (resources layer) ≡ None → document_under layer uri ≡ o → o ≡ None
+no_document_by layer uri None none is = refl
+no_document_by layer uri (Some k) none is =
+    let found = document_bears layer uri k is in
+    absurd (not_free found.0.1 found.1 uri found.3.place found.3.bears (each_in (λ e. IsFree uri e.1) (counted_documents 0 layer) found.0 (none_bear layer uri none) found.3.document))
+
+no_document : (layer : Layer) (uri : List ℕ) → last_under uri (resources layer) ≡ None → document_under layer uri ≡ None
+no_document layer uri none = no_document_by layer uri (document_under layer uri) none refl
+
+none_listed : {X : Type 0} (o : Option X) → option_to_list o ≡ [] → o ≡ None
+none_listed None is = refl
+none_listed (Some x) is = absurd (let e : x ∷ [] ≡ [] = is in cc)
+
+none_there : (uri other : List ℕ) (o : Option ℕ) → option_map (ShadowedUri uri other) o ≡ None → o ≡ None
+none_there uri other None is = refl
+none_there uri other (Some n) is = absurd (let e : Some (ShadowedUri uri other n) ≡ None = is in cc)
+
+-- where a place of a parent is meant without a problem, no own document has its own URI
+unshadowed : (layer : Layer) (parents : World) (n : ℕ) (uri other : List ℕ) (p : Place) → reference_problems layer (layer ∷ parents) n uri ≡ [] → last_under uri (resources layer) ≡ None
+    → meant_place parents uri ≡ Some p → own_uri p ≡ Some other → last_under other (resources layer) ≡ None
+unshadowed layer parents n uri other p no_problems none of_parent own =
+    ⊎_elim
+    (λ same. ap (λ u. last_under u (resources layer)) same ∙ none)
+    (λ from.
+    let meant : meant_place (layer ∷ parents) uri ≡ Some p = ap (λ o. option_map_or (λ (e : List ℕ × Place). Some e.1) o (meant_place parents uri)) none ∙ of_parent in
+    let shadowed : shadowed_uri layer (layer ∷ parents) uri ≡ None =
+    none_listed (shadowed_uri layer (layer ∷ parents) uri) (sym (ap (reference_problems_by layer (layer ∷ parents) n uri) (no_document layer uri none)) ∙ no_problems) in
+    let base : option_and_then (identified_from uri) (meant_place (layer ∷ parents) uri) ≡ Some other = ap (option_and_then (identified_from uri)) meant ∙ from in
+    let there : option_map (ShadowedUri uri other) (document_under layer other) ≡ None =
+    sym (ap (option_and_then (λ b. option_map (ShadowedUri uri b) (document_under layer b))) base) ∙ shadowed in
+    no_entries_were other layer (none_bears layer other (none_there uri other (document_under layer other) there)))
+    (parent_named parents uri other p of_parent own)
+
+pub safe_target : (layer : Layer) (parents : World) (n : ℕ) (top : Document) → (is : IsMade layer n top) → is.world ≡ layer ∷ parents → (x : ℕ × Document) (p : Place) (base uri reference : List ℕ) → Contains (needed_documents layer n) x → Contains (places x.1) p
+    → p.base ≡ Ok base → RefersBy p.value reference → target base reference ≡ Ok uri → IsSafe layer parents n top uri
+safe_target layer parents n top is of_world x p base uri reference need there has refers means_ =
+    let to = target_of p base uri reference has refers means_ in
+    let none = no_reference_problem layer is.world n x p uri (no_problem layer is.world n top x p (none_in layer is.world n top x is.unrefused need) there) to in
+    record {
+      clear = clear_target layer n top is x p uri need there to;
+      outside = λ q other own_none of_parent own. unshadowed layer parents n uri other q (subst (λ w. reference_problems layer w n uri ≡ []) of_world none) own_none of_parent own;
+    }

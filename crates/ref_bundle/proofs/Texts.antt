@@ -1,7 +1,7 @@
 -- The texts of problems with two parts in them, as they are written from the front.
 use Rattle.std.proofs.Common.{◌≡◌, ℕ, List, ◌++◌, codes, decimal, append_assoc}
 use Rattle.ref_parts.specs.Path.{Part}
-use Rattle.ref_bundle.specs.Bundle.{SharedUri, ReplacedUri}
+use Rattle.ref_bundle.specs.Bundle.{SharedUri, ReplacedUri, ShadowedUri}
 use Rattle.ref_bundle.specs.Saying.{problem_text}
 
 abbrev has : List ℕ
@@ -15,3 +15,12 @@ replaces = codes "' replaces that URI by '"
 
 pub replaced : (uri base : List ℕ) → codes "the identifier of the document '" ++ (uri ++ (replaces ++ (base ++ codes "'"))) ≡ problem_text (ReplacedUri uri base)
 replaced uri base = simp append_assoc
+
+abbrev gives : List ℕ
+gives = codes "' gives the URI '"
+
+abbrev which : List ℕ
+which = codes "', which document "
+
+pub shadowed : (uri base : List ℕ) (document : ℕ) → codes "the identifier of '" ++ (uri ++ (gives ++ (base ++ (which ++ (decimal document ++ codes " has"))))) ≡ problem_text (ShadowedUri uri base document)
+shadowed uri base document = simp append_assoc

@@ -2,9 +2,9 @@
 use Rattle.std.proofs.Common.{◌≡◌, ℕ, zero, suc, ◌+◌, Bool, true, false, not, ◌==◌, ◌&&◌, cond, List, [], ◌∷◌, ◌++◌, map, flat_map, filter, slice_get, Option, Some, None, option_map, Ok, Err, refl, ap, sym, ◌∙◌, arith}
 use Rattle.std.specs.Option.{option_map_or}
 use Rattle.std.proofs.lemmas.Option.{slice_get-map}
-use Rattle.ref_definitions.specs.World.{Document, Layer}
+use Rattle.ref_definitions.specs.World.{Document, Layer, World}
 use Rattle.ref_bundle.specs.Needed.{counted_documents, is_among, numbers_of_needed, needed_documents}
-use Rattle.ref_bundle.specs.Bundle.{Bundle, BundleRefusal, NoDocument, at_path, refusals_in, refusals, to_embed, unless_refused, bundle_of, bundle_at}
+use Rattle.ref_bundle.specs.Bundle.{Bundle, BundleRefusal, NoDocument, at_path, refusals_in, refusals, to_embed, unless_refused, bundle_of, bundle_among}
 use Rattle.ref_bundle.specs.inner.Reach.{is_marked}
 use Rattle.ref_bundle.specs.inner.First.{first}
 use Rattle.ref_bundle.specs.inner.Seen.{numbered_document, document_in, layer_in}
@@ -33,20 +33,20 @@ flat_if t f [] = refl
 flat_if t f (x ∷ xs) = flat_step (t x) f x (filter t xs) (flat_map (λ y. cond (t y) (f y) []) xs) (flat_if t f xs)
 
 -- and their refusals those of the needed documents
-pub refusals_are : (layer : Layer) (n : ℕ) (marks : List Bool) (top : ℕ × Document) (es : List (ℕ × Document)) → top.0 ≡ n → AreMarked layer n marks
-    → flat_map (λ e. cond (is_marked marks e.0) (refusals_in layer top es e) []) (counted_documents 0 layer) ≡ refusals layer top es
-refusals_are layer n marks top es same are =
-    flat_if (λ e. is_marked marks e.0) (refusals_in layer top es) (counted_documents 0 layer)
-    ∙ ap (flat_map (refusals_in layer top es)) (marked_documents layer n marks are ∙ ap (needed_documents layer) (sym same))
+pub refusals_are : (layer : Layer) (world : World) (n : ℕ) (marks : List Bool) (top : ℕ × Document) (es : List (ℕ × Document)) → top.0 ≡ n → AreMarked layer n marks
+    → flat_map (λ e. cond (is_marked marks e.0) (refusals_in layer world top es e) []) (counted_documents 0 layer) ≡ refusals layer world top es
+refusals_are layer world n marks top es same are =
+    flat_if (λ e. is_marked marks e.0) (refusals_in layer world top es) (counted_documents 0 layer)
+    ∙ ap (flat_map (refusals_in layer world top es)) (marked_documents layer n marks are ∙ ap (needed_documents layer) (sym same))
 
-pub bundled_is : (layer : Layer) (n : ℕ) (d : Document) → slice_get layer n ≡ Some d
-    → bundle_at layer n ≡ unless_refused (refusals layer (n, d) (to_embed layer n)) (bundle_of d (to_embed layer n))
-bundled_is layer n d at =
-    ap (λ o. option_map_or (λ top. unless_refused (refusals layer (n, top) (to_embed layer n)) (bundle_of top (to_embed layer n))) o (Err (at_path n [] NoDocument))) at
+pub bundled_is : (layer : Layer) (world : World) (n : ℕ) (d : Document) → slice_get layer n ≡ Some d
+    → bundle_among layer world n ≡ unless_refused (refusals layer world (n, d) (to_embed layer n)) (bundle_of d (to_embed layer n))
+bundled_is layer world n d at =
+    ap (λ o. option_map_or (λ top. unless_refused (refusals layer world (n, top) (to_embed layer n)) (bundle_of top (to_embed layer n))) o (Err (at_path n [] NoDocument))) at
 
-pub not_bundled : (layer : Layer) (n : ℕ) → slice_get layer n ≡ None → bundle_at layer n ≡ Err (at_path n [] NoDocument)
-not_bundled layer n at =
-    ap (λ o. option_map_or (λ top. unless_refused (refusals layer (n, top) (to_embed layer n)) (bundle_of top (to_embed layer n))) o (Err (at_path n [] NoDocument))) at
+pub not_bundled : (layer : Layer) (world : World) (n : ℕ) → slice_get layer n ≡ None → bundle_among layer world n ≡ Err (at_path n [] NoDocument)
+not_bundled layer world n at =
+    ap (λ o. option_map_or (λ top. unless_refused (refusals layer world (n, top) (to_embed layer n)) (bundle_of top (to_embed layer n))) o (Err (at_path n [] NoDocument))) at
 
 pub refused_first : (rs : List BundleRefusal) (b : Bundle) (r : BundleRefusal) → first rs ≡ Some r → unless_refused rs b ≡ Err r
 refused_first [] b r is = cc
@@ -81,19 +81,19 @@ number_at owns layer i o is at =
 
 -- ---- the first refusal, and the bundle
 
-pub first_is : (layer : Layer) (n : ℕ) (d : Document) (marks : List Bool) (t : ℕ × Document) (es xs : List (ℕ × Document)) (o : Option BundleRefusal)
+pub first_is : (layer : Layer) (world : World) (n : ℕ) (d : Document) (marks : List Bool) (t : ℕ × Document) (es xs : List (ℕ × Document)) (o : Option BundleRefusal)
     → xs ≡ counted_documents 0 layer → AreMarked layer n marks → t ≡ (n, d) → es ≡ to_embed layer n
-    → o ≡ first (flat_map (λ e. cond (is_marked marks e.0) (refusals_in layer t es e) []) xs) → o ≡ first (refusals layer (n, d) (to_embed layer n))
-first_is layer n d marks t es xs o all are top embeds is =
+    → o ≡ first (flat_map (λ e. cond (is_marked marks e.0) (refusals_in layer world t es e) []) xs) → o ≡ first (refusals layer world (n, d) (to_embed layer n))
+first_is layer world n d marks t es xs o all are top embeds is =
     is
-    ∙ ap (λ u. first (flat_map (λ e. cond (is_marked marks e.0) (refusals_in layer u es e) []) xs)) top
-    ∙ ap (λ fs. first (flat_map (λ e. cond (is_marked marks e.0) (refusals_in layer (n, d) fs e) []) xs)) embeds
-    ∙ ap (λ ys. first (flat_map (λ e. cond (is_marked marks e.0) (refusals_in layer (n, d) (to_embed layer n) e) []) ys)) all
-    ∙ ap first (refusals_are layer n marks (n, d) (to_embed layer n) refl are)
+    ∙ ap (λ u. first (flat_map (λ e. cond (is_marked marks e.0) (refusals_in layer world u es e) []) xs)) top
+    ∙ ap (λ fs. first (flat_map (λ e. cond (is_marked marks e.0) (refusals_in layer world (n, d) fs e) []) xs)) embeds
+    ∙ ap (λ ys. first (flat_map (λ e. cond (is_marked marks e.0) (refusals_in layer world (n, d) (to_embed layer n) e) []) ys)) all
+    ∙ ap first (refusals_are layer world n marks (n, d) (to_embed layer n) refl are)
 
-pub is_refused : (layer : Layer) (n : ℕ) (d : Document) (r : BundleRefusal) → slice_get layer n ≡ Some d → Some r ≡ first (refusals layer (n, d) (to_embed layer n)) → bundle_at layer n ≡ Err r
-is_refused layer n d r at is = bundled_is layer n d at ∙ refused_first (refusals layer (n, d) (to_embed layer n)) (bundle_of d (to_embed layer n)) r (sym is)
+pub is_refused : (layer : Layer) (world : World) (n : ℕ) (d : Document) (r : BundleRefusal) → slice_get layer n ≡ Some d → Some r ≡ first (refusals layer world (n, d) (to_embed layer n)) → bundle_among layer world n ≡ Err r
+is_refused layer world n d r at is = bundled_is layer world n d at ∙ refused_first (refusals layer world (n, d) (to_embed layer n)) (bundle_of d (to_embed layer n)) r (sym is)
 
-pub is_bundle : (layer : Layer) (n : ℕ) (d : Document) (b : Bundle) → slice_get layer n ≡ Some d → None ≡ first (refusals layer (n, d) (to_embed layer n)) → b ≡ bundle_of d (to_embed layer n) → bundle_at layer n ≡ Ok b
-is_bundle layer n d b at is same =
-    bundled_is layer n d at ∙ not_refused (refusals layer (n, d) (to_embed layer n)) (bundle_of d (to_embed layer n)) (sym is) ∙ ap (λ x. Ok x) (sym same)
+pub is_bundle : (layer : Layer) (world : World) (n : ℕ) (d : Document) (b : Bundle) → slice_get layer n ≡ Some d → None ≡ first (refusals layer world (n, d) (to_embed layer n)) → b ≡ bundle_of d (to_embed layer n) → bundle_among layer world n ≡ Ok b
+is_bundle layer world n d b at is same =
+    bundled_is layer world n d at ∙ not_refused (refusals layer world (n, d) (to_embed layer n)) (bundle_of d (to_embed layer n)) (sym is) ∙ ap (λ x. Ok x) (sym same)

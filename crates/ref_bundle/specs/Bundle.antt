@@ -1,15 +1,17 @@
 -- One document in place of several (2020-12 Core, 9.3), or why there is none.
-use Rattle.std.specs.Prelude.{ℕ, ◌==◌, Bool, not, ◌&&◌, if◌then◌else◌, List, [], ◌∷◌, ◌++◌, flat_map, map, filter, codes, bytes_eq, slice_get, is_some, Option, Some, None, option_and_then, Result, Ok, Err}
+use Rattle.std.specs.Prelude.{ℕ, ◌==◌, Bool, not, ◌&&◌, if◌then◌else◌, List, [], ◌∷◌, ◌++◌, flat_map, map, filter, codes, bytes_eq, slice_get, is_some, Option, Some, None, option_map, option_and_then, Result, Ok, Err}
 use Rattle.std.specs.List.{last_or}
 use Rattle.std.specs.Option.{option_map_or, option_to_list}
+use Rattle.std.specs.Result.{result_ok}
 use Rattle.serde_json.specs.Data.{Data, object, Members, no_members, put}
 use Rattle.serde_json.specs.Find.{get, get_member, as_object}
 use Rattle.ref_parts.specs.Path.{Part, Key, path_eq}
 use Rattle.ref_draft.specs.declared.draft.Draft.{Draft}
 use Rattle.ref_draft.specs.Keywords.{id_keyword, is_before_2019}
-use Rattle.ref_definitions.specs.World.{Document, Layer}
-use Rattle.ref_definitions.specs.Places.{Place, places}
-use Rattle.ref_definitions.specs.Resources.{own_uri, resources_in}
+use Rattle.ref_uri.specs.Targets.{uri_against}
+use Rattle.ref_definitions.specs.World.{Document, Layer, World, own_layer}
+use Rattle.ref_definitions.specs.Places.{Place, identifier_of, places}
+use Rattle.ref_definitions.specs.Resources.{own_uri, resources_in, meant_place}
 use Rattle.ref_bundle.specs.Needed.{counted_documents, document_under, targets, needed_documents}
 use Rattle.ref_bundle.specs.Embedding.{Obstacle, base_uri, added_schema, embedded_tree, with_member, obstacle}
 
@@ -40,6 +42,9 @@ pub data Problem : Type 0 where
   SharedUri : List ℕ → ℕ → List Part → Problem
   -- a place refers to a document by its URI, in place of which its root's identifier gives another one
   ReplacedUri : List ℕ → List ℕ → Problem
+  -- a place refers to a place of a parent by a URI against which that place's identifier gives this URI, which the document
+  -- with this number has
+  ShadowedUri : List ℕ → List ℕ → ℕ → Problem
 
 -- a problem, with the document and the path that it is at
 pub record BundleRefusal : Type 0 where
@@ -128,28 +133,41 @@ replaced_in uri d =
     if bytes_eq d.uri uri && not (bytes_eq (base_uri d) uri) then ReplacedUri uri (base_uri d) ∷ []
     else []
 
-abbrev pub replaced_at : Layer → ℕ → List ℕ → Option ℕ → List Problem
-replaced_at layer top uri None = []
-replaced_at layer top uri (Some n) =
+-- the URI that the identifier of a place gives against one that means the place
+abbrev pub identified_from : List ℕ → Place → Option (List ℕ)
+identified_from uri p = option_and_then (λ id. result_ok (uri_against uri id)) (identifier_of p)
+
+-- the problem of a URI that a place refers to, where it means a place of a parent: a name under it may be one of an own
+-- document that has the URI which the identifier of that place gives
+abbrev pub shadowed_uri : Layer → World → List ℕ → Option Problem
+shadowed_uri layer world uri =
+    option_and_then (λ base. option_map (ShadowedUri uri base) (document_under layer base))
+    (option_and_then (identified_from uri) (meant_place world uri))
+
+-- the problems of a URI that a place refers to, by the own document that it means, or else by the place of a parent
+abbrev pub reference_problems_by : Layer → World → ℕ → List ℕ → Option ℕ → List Problem
+reference_problems_by layer world top uri None = option_to_list (shadowed_uri layer world uri)
+reference_problems_by layer world top uri (Some n) =
     if n == top then [] else option_map_or (replaced_in uri) (slice_get layer n) []
 
-abbrev pub replaced_uris : Layer → ℕ → List ℕ → List Problem
-replaced_uris layer top uri = replaced_at layer top uri (document_under layer uri)
+abbrev pub reference_problems : Layer → World → ℕ → List ℕ → List Problem
+reference_problems layer world top uri =
+    reference_problems_by layer world top uri (document_under layer uri)
 
 -- the problems of a place of a needed document: of the URIs that it has, then of those that it refers to
-abbrev pub place_problems : Layer → ℕ → ℕ × Document → Place → List Problem
-place_problems layer top e p =
+abbrev pub place_problems : Layer → World → ℕ → ℕ × Document → Place → List Problem
+place_problems layer world top e p =
     flat_map (shared_uri (sites_of_uris layer) (e.0, p.path)) (uris_of e.1 p)
-    ++ flat_map (replaced_uris layer top) (targets p)
+    ++ flat_map (reference_problems layer world top) (targets p)
 
 -- a problem at a path of a document
 abbrev pub at_path : ℕ → List Part → Problem → BundleRefusal
 at_path number path problem = record { document = number; path = path; problem = problem }
 
 -- the refusals of the places of a needed document
-abbrev pub place_refusals : Layer → ℕ → ℕ × Document → List BundleRefusal
-place_refusals layer top e =
-    flat_map (λ p. map (at_path e.0 p.path) (place_problems layer top e p)) (places e.1)
+abbrev pub place_refusals : Layer → World → ℕ → ℕ × Document → List BundleRefusal
+place_refusals layer world top e =
+    flat_map (λ p. map (at_path e.0 p.path) (place_problems layer world top e p)) (places e.1)
 
 -- a key that the definitions have already
 abbrev pub taken_key : ℕ → List ℕ → Members → ℕ × Document → List BundleRefusal
@@ -174,16 +192,17 @@ root_refusals top (e ∷ es) =
     (e ∷ es)
 
 -- the refusals of a needed document: as a whole, then of its places
-abbrev pub refusals_in : Layer → ℕ × Document → List (ℕ × Document) → ℕ × Document
+abbrev pub refusals_in : Layer → World → ℕ × Document → List (ℕ × Document) → ℕ × Document
     → List BundleRefusal
-refusals_in layer top es e =
+refusals_in layer world top es e =
     (if e.0 == top.0 then root_refusals top es
     else map (λ o. at_path e.0 [] (NotEmbedded o)) (option_to_list (obstacle top.1 e.1)))
-    ++ place_refusals layer top.0 e
+    ++ place_refusals layer world top.0 e
 
 -- all of them, in the order of documents and places
-abbrev pub refusals : Layer → ℕ × Document → List (ℕ × Document) → List BundleRefusal
-refusals layer top es = flat_map (refusals_in layer top es) (needed_documents layer top.0)
+abbrev pub refusals : Layer → World → ℕ × Document → List (ℕ × Document) → List BundleRefusal
+refusals layer world top es =
+    flat_map (refusals_in layer world top es) (needed_documents layer top.0)
 
 -- ---- the bundle
 
@@ -201,11 +220,14 @@ abbrev pub bundle_of : Document → List (ℕ × Document) → Bundle
 bundle_of top es =
     record { value = tree_with top es; embedded = map (embedded_document top.draft) es }
 
--- the bundle of the document with a number, or why there is none
-abbrev pub bundle_at : Layer → ℕ → Result Bundle BundleRefusal
-bundle_at layer number =
+-- the bundle of the document with a number among the own documents of a world, or why there is none
+abbrev pub bundle_among : Layer → World → ℕ → Result Bundle BundleRefusal
+bundle_among layer world number =
     option_map_or
-    (λ top. let es = to_embed layer number in unless_refused (refusals layer (number, top) es)
+    (λ top. let es = to_embed layer number in unless_refused (refusals layer world (number, top) es)
     (bundle_of top es))
     (slice_get layer number)
     (Err (at_path number [] NoDocument))
+
+abbrev pub bundle_at : World → ℕ → Result Bundle BundleRefusal
+bundle_at world number = bundle_among (own_layer world) world number

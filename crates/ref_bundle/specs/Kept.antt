@@ -13,7 +13,7 @@ use Rattle.ref_draft.specs.Children.{InKeyOrder, with_draft}
 use Rattle.ref_uri.specs.Targets.{target, fragment_part}
 use Rattle.ref_definitions.specs.World.{Document, Layer, World}
 use Rattle.ref_definitions.specs.Places.{Place, root, child_place, places}
-use Rattle.ref_definitions.specs.Resources.{own_uri, meant_place}
+use Rattle.ref_definitions.specs.Resources.{meant_place}
 use Rattle.ref_definitions.specs.Wants.{faults, open_wants}
 use Rattle.ref_definitions.specs.Fault.{Fault}
 use Rattle.ref_definitions.specs.Lookup.{Resolver, Found, at_fragment, lookup}
@@ -39,7 +39,7 @@ pub record IsBundle (layer : Layer) (parents : World) (number : ℕ) (top : Docu
   pub no_want : open_wants (layer ∷ parents) layer ≡ []
   pub root : slice_get layer number ≡ Some top
   pub in_order : InKeyOrder top.tree
-  pub is : bundle_at layer number ≡ Ok bundle
+  pub is : bundle_at (layer ∷ parents) number ≡ Ok bundle
 
 -- the path of a document below the root's definitions
 abbrev pub path_in : Document → Document → List Part
@@ -158,14 +158,6 @@ pub record IsBorneByNeeded (layer : Layer) (number : ℕ) (uri : List ℕ) : Typ
   pub bears : Contains (uris_of document.1 place) uri
   pub stays : document.1.uri ≡ uri → base_uri document.1 ≡ uri
 
--- Where a URI means a place of a parent, and no own document has it, none has that place's own URI either. Without parents
--- this always holds.
-abbrev pub HasNoOtherName : Layer → World → List ℕ → Type 0
-HasNoOtherName layer parents uri =
-    (p : Place) (other : List ℕ) → meant_place (layer ∷ []) uri ≡ None
-    → meant_place parents uri ≡ Some p → own_uri p ≡ Some other
-    → meant_place (layer ∷ []) other ≡ None
-
 -- a reference from a base whose pointer goes into what was added
 pub record PointsIntoAdded (layer : Layer) (parents : World) (number : ℕ) (top : Document)
     (base reference : List ℕ) : Type 0 where
@@ -185,7 +177,6 @@ KeepsReferences =
     → Contains (needed_documents layer number) e → Contains (places e.1) p → p.base ≡ Ok base
     → RefersBy p.value reference
     → AllByRecursion (IsBorneByNeeded layer number) scope
-    → ((uri : List ℕ) → target base reference ≡ Ok uri → HasNoOtherName layer parents uri)
     → let r : Resolver = record { base = base; scope = scope } in
     IsAnswerNow layer number top bundle
     (lookup (world_of_bundle top bundle parents) r reference) (lookup (layer ∷ parents) r reference)

@@ -29,7 +29,7 @@ looked_up world base reference =
 -- a look-up from a base: in the bundle, and among the documents
 abbrev pub both : Document → Layer → Literal → Literal → Seen × Seen
 both top others base reference = (
-  looked_up (world_of top (bundle_at (top ∷ others) 0)) base reference,
+  looked_up (world_of top (bundle_at ((top ∷ others) ∷ []) 0)) base reference,
   looked_up
       ((top ∷ others) ∷ []) base reference,
 )

@@ -1,6 +1,6 @@
 -- Literal bundles for rows that compute.
 use Prim.Native.String.{String as Literal}
-use Rattle.std.specs.Prelude.{ℕ, List, map, codes, Bool, Option, Some, None, Result, Ok, Err}
+use Rattle.std.specs.Prelude.{ℕ, List, [], ◌∷◌, map, codes, Bool, Option, Some, None, Result, Ok, Err}
 use Rattle.serde_json.specs.Data.{Data, object, member, no_members}
 use Rattle.ref_parts.specs.Path.{Part}
 use Rattle.ref_draft.specs.declared.draft.Draft.TheVariants.{Draft202012}
@@ -19,7 +19,11 @@ shown_bundle (Err r) = refused_bundle r.document r.path r.problem
 
 -- the bundle of the first document
 abbrev pub bundle_of_first : Layer → Shown
-bundle_of_first layer = shown_bundle (bundle_at layer 0)
+bundle_of_first layer = shown_bundle (bundle_at (layer ∷ []) 0)
+
+-- the same above a parent with one document
+abbrev pub bundle_above : Document → Layer → Shown
+bundle_above parent layer = shown_bundle (bundle_at (layer ∷ (parent ∷ []) ∷ []) 0)
 
 -- a document of 2020-12, and one that refers to `s`
 abbrev pub new : Literal → Data → Document

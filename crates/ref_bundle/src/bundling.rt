@@ -1,8 +1,7 @@
 //! The bundle of a document with those that it needs.
 ghost use Rattle.std.specs.Prelude.{◌≡◌, ◌==◌, ◌&&◌, [], ◌∷◌, ◌++◌, OnOk, map, slice_get, Some, filter, not, IfOk, IfErr, Ok};
 ghost use Rattle.std.specs.List.{AllByRecursion};
-ghost use Rattle.ref_definitions.specs.World.{own_layer};
-ghost use Rattle.ref_bundle.specs.Bundle.{embedded_document, bundle_at, bundle_of, to_embed};
+ghost use Rattle.ref_bundle.specs.Bundle.{embedded_document, bundle_among, bundle_at, bundle_of, to_embed};
 ghost use Rattle.ref_bundle.specs.Saying.{embedded_said, bundle_said, IsRefusalOf};
 ghost use Rattle.ref_bundle.specs.inner.Reach.{is_marked, IsReach};
 ghost use Rattle.ref_bundle.specs.inner.Seen.{numbered_document, layer_in, part_document, numbered_part, HasPlaces, AreOwn};
@@ -117,7 +116,7 @@ fn bundle_of(alloc: Global, top: &Part<'_>, parts: &[Part<'_>]) -> Result<Bundle
 // The bundle of a root among documents, which have URIs and are needed so.
 fn bundle_with<'r>(
     alloc: Global,
-    bearers: &Bearers<'r>,
+    bearers: &Bearers<'r, '_>,
     owns: &[Own<'r>],
     needed: &[bool],
     top: &Own<'r>,
@@ -128,8 +127,11 @@ fn bundle_with<'r>(
     requires needed { IsReach
         (map (referred_in (layer_in owns.now)) (layer_in owns.now)) top.now.number needed.now }
     ensures value { IfOk result
-        (λ b. bundle_at (layer_in owns.now) top.now.number ≡ Ok (bundle_said b)) }
-    ensures fault { IfErr result (IsRefusalOf (bundle_at (layer_in owns.now) top.now.number)) }
+        (λ b. bundle_among (layer_in owns.now) bearers.now.registry.now top.now.number
+        ≡ Ok (bundle_said b)) }
+    ensures fault { IfErr result
+        (IsRefusalOf
+        (bundle_among (layer_in owns.now) bearers.now.registry.now top.now.number)) }
 {
     let parts = parts_of(alloc, owns, needed, top.number)?;
     let top = part_of(alloc, top)?;
@@ -142,16 +144,19 @@ fn bundle_with<'r>(
 // The bundle of a root among documents.
 fn bundle_among<'r>(
     alloc: Global,
+    registry: &'r Registry<'_>,
     owns: &[Own<'r>],
     top: &Own<'r>,
 ) -> Result<Bundle, BundleError<'r>>
     requires own { AreOwn owns.now }
     requires top { slice_get owns.now top.now.number ≡ Some top.now }
     ensures value { IfOk result
-        (λ b. bundle_at (layer_in owns.now) top.now.number ≡ Ok (bundle_said b)) }
-    ensures fault { IfErr result (IsRefusalOf (bundle_at (layer_in owns.now) top.now.number)) }
+        (λ b. bundle_among (layer_in owns.now) registry.now top.now.number
+        ≡ Ok (bundle_said b)) }
+    ensures fault { IfErr result
+        (IsRefusalOf (bundle_among (layer_in owns.now) registry.now top.now.number)) }
 {
-    let bearers = bearers_of(alloc, owns)?;
+    let bearers = bearers_of(alloc, registry, owns)?;
     let lists = all_referred(alloc, &bearers, owns)?;
     let needed = reach(alloc, lists.as_slice(), top.number)?;
     bundle_with(alloc, &bearers, owns, needed.as_slice(), top)
@@ -169,19 +174,18 @@ fn bundle_among<'r>(
 ///
 /// Refuses by what [`Problem`] names, the first in the order of documents and places, and as `Memory`. The trees of the
 /// documents in the bundle are copied. Each place of the registry is visited once, with look-ups in sorted tables for the
-/// URIs that it has and refers to.
+/// URIs that it has and refers to, and in the parents for those that no own document has.
 pub fn bundle<'r>(
     alloc: Global,
     registry: &'r Registry<'_>,
     root: usize,
 ) -> Result<Bundle, BundleError<'r>>
-    ensures value { IfOk result
-        (λ b. bundle_at (own_layer registry.now) root ≡ Ok (bundle_said b)) }
-    ensures fault { IfErr result (IsRefusalOf (bundle_at (own_layer registry.now) root)) }
+    ensures value { IfOk result (λ b. bundle_at registry.now root ≡ Ok (bundle_said b)) }
+    ensures fault { IfErr result (IsRefusalOf (bundle_at registry.now root)) }
 {
     let owns = owns_of(alloc, registry)?;
     match owns.get(root) {
-        Some(top) => bundle_among(alloc, owns.as_slice(), top),
+        Some(top) => bundle_among(alloc, registry, owns.as_slice(), top),
         None => Err(BundleError::Refused(at_root(alloc, root, Problem::NoDocument))),
     }
 }

@@ -58,6 +58,17 @@ pub enum Problem<'r> {
         /// The URI that the document's root has.
         base: Rc<Uri>,
     },
+    /// The place refers to a place of a parent by a URI against which the identifier of that place gives another URI, which
+    /// a document has. A name that is looked up under the first is looked up under the second too, so it may be one of
+    /// that document, which need not be in the bundle. Give the document another URI.
+    ShadowedUri {
+        /// The URI that the place refers to.
+        uri: Rc<Uri>,
+        /// The URI that the identifier of the parent's place gives against it.
+        base: Rc<Uri>,
+        /// The number of the document that has this URI.
+        document: usize,
+    },
 }
 
 /// A problem, and where it is.
@@ -128,6 +139,16 @@ impl fmt::Display for Problem<'_> {
                 write!(
                     f,
                     "the identifier of the document '{uri}' replaces that URI by '{base}'"
+                )
+            }
+            Problem::ShadowedUri {
+                uri,
+                base,
+                document,
+            } => {
+                write!(
+                    f,
+                    "the identifier of '{uri}' gives the URI '{base}', which document {document} has"
                 )
             }
         }

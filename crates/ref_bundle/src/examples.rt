@@ -7,8 +7,8 @@ ghost use Rattle.ref_bundle.specs.Needed.{numbers_of_needed};
 ghost use Rattle.ref_bundle.specs.Embedding.{embedded_tree, NotAnObject, IdentifierBesideRef, NotAnIdentifier, NotKept};
 ghost use Rattle.ref_bundle.specs.Embedding.{UntoldDraft, ResolvedAgain};
 ghost use Rattle.ref_bundle.specs.Bundle.{bundle_at, embedded_document, NoDocument, NotEmbedded, NoMap, KeyTaken, SharedUri};
-ghost use Rattle.ref_bundle.specs.Bundle.{ReplacedUri};
-ghost use Rattle.ref_bundle.specs.Rows.{bundle, refused_bundle, bundle_of_first, new, refers_to_s, with_definition};
+ghost use Rattle.ref_bundle.specs.Bundle.{ReplacedUri, ShadowedUri};
+ghost use Rattle.ref_bundle.specs.Rows.{bundle, refused_bundle, bundle_of_first, bundle_above, new, refers_to_s, with_definition};
 ghost use Rattle.ref_bundle.specs.Rows.{renamed_root, listed_as};
 
 /// Bundles of documents of 2020-12.
@@ -147,6 +147,15 @@ pub fn refusals()
     ensures replaced { bundle_of_first
         (refers_to_s ∷ new "http://a/s" (one "$id" (text "http://b/t")) ∷ [])
         ≡ refused_bundle 0 [] (ReplacedUri (codes "http://a/s") (codes "http://b/t")) }
+    ensures shadowed { bundle_above (new "http://a/s" (one "$id" (text "http://b/t")))
+        (refers_to_s ∷ new "http://b/t" empty ∷ [])
+        ≡ refused_bundle 0 [] (ShadowedUri (codes "http://a/s") (codes "http://b/t") 1) }
+    ensures shadowed_by_none { bundle_above (new "http://a/s" (one "$id" (text "http://b/t")))
+        (refers_to_s ∷ new "http://a/u" empty ∷ [])
+        ≡ bundle (one "$ref" (text "s")) [] }
+    ensures meant_by_its_identifier { bundle_above (new "http://b/t" (one "$id" (text "http://a/s")))
+        (refers_to_s ∷ new "http://b/t" empty ∷ [])
+        ≡ bundle (one "$ref" (text "s")) [] }
     ensures of_the_root { bundle_of_first
         (new "http://a/r" (three "$id" (text "http://b/t") "$ref" (text "http://a/s") "not"
         (one "$ref" (text "http://a/r"))) ∷ new "http://a/s" empty ∷ []) ≡ bundle renamed_root (1 ∷ []) }

@@ -25,7 +25,7 @@ fn members_are_ordered(value: &Value)
 pub fn bundle_is_lawful(registry: &Registry<'_>, root: usize)
     ensures law { (top : Document) (bundle : Bundle)
         → slice_get (own_layer registry.now) root ≡ Some top
-        → bundle_at (own_layer registry.now) root ≡ Ok bundle
+        → bundle_at registry.now root ≡ Ok bundle
         → IsBundle (own_layer registry.now) (drop 1 registry.now) root top bundle }
 {
     registry.references_are_retrieved();

@@ -1,11 +1,10 @@
 //! Laws of the definitions. Each function is empty: its contract states the law, and the check proves it.
-ghost use Rattle.std.specs.Prelude.{◌≡◌, ℕ, List, [], ◌∷◌, codes, true, None};
-ghost use Rattle.ref_definitions.specs.World.{Layer};
+ghost use Rattle.std.specs.Prelude.{◌≡◌, [], ◌∷◌, codes, true, None};
 ghost use Rattle.ref_definitions.specs.Fault.{PointerToNowhere};
 ghost use Rattle.ref_definitions.specs.Rows.{yes, text, empty, one, two};
 ghost use Rattle.ref_bundle.specs.Rows.{new, refers_to_s, with_definition, listed_as};
 ghost use Rattle.ref_bundle.specs.KeptRows.{value, fault, both, alike};
-ghost use Rattle.ref_bundle.specs.Kept.{IsBundle, HaveMergedPlaces, HaveNoFault, HaveNoOpenWant, HasNoOtherName};
+ghost use Rattle.ref_bundle.specs.Kept.{IsBundle, HaveMergedPlaces, HaveNoFault, HaveNoOpenWant};
 ghost use Rattle.ref_bundle.specs.Kept.{KeepsReferences, AddedDefinitionsWereFaults, EmbedWhatIsNeeded};
 
 /// The places of a bundle are those of the root and of each embedded document, merged, each document's in their order. The
@@ -29,7 +28,6 @@ pub fn bundles_are_prepared()
 pub fn bundles_keep_references()
     ensures law { KeepsReferences }
     ensures definitions { AddedDefinitionsWereFaults }
-    ensures without_parents { (layer : Layer) (uri : List ℕ) → HasNoOtherName layer [] uri }
 {}
 
 /// A bundle embeds exactly what is needed: each document once, in the order of documents. A document that needs none is its own

@@ -17,7 +17,7 @@ use std::rc::Rc;
 // Adds the documents that URIs mean.
 fn push_meant(
     numbers: &mut Vec<usize>,
-    bearers: &Bearers<'_>,
+    bearers: &Bearers<'_, '_>,
     uris: &[Rc<Uri>],
 ) -> Result<(), AllocError>
     ensures { (layer : Layer) → AreTables layer bearers.now
@@ -36,7 +36,7 @@ fn push_meant(
 // The documents that places refer to.
 fn referred(
     alloc: Global,
-    bearers: &Bearers<'_>,
+    bearers: &Bearers<'_, '_>,
     places: &[Spot<'_>],
 ) -> Result<Vec<usize>, AllocError>
     ensures { (layer : Layer) → AreTables layer bearers.now → IfOk result (λ numbers. numbers.items
@@ -55,7 +55,7 @@ fn referred(
 /// The documents that each document refers to.
 pub(crate) fn all_referred(
     alloc: Global,
-    bearers: &Bearers<'_>,
+    bearers: &Bearers<'_, '_>,
     owns: &[Own<'_>],
 ) -> Result<Vec<Vec<usize>>, AllocError>
     requires own { AreOwn owns.now }

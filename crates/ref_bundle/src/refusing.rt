@@ -8,20 +8,20 @@ ghost use Rattle.ref_parts.specs.Segment.{part_of};
 ghost use Rattle.ref_definitions.specs.World.{Layer};
 ghost use Rattle.ref_bundle.specs.Embedding.{obstacle};
 ghost use Rattle.ref_bundle.specs.Bundle as bundle;
-ghost use Rattle.ref_bundle.specs.Bundle.{at_path, sites_of_uris, shared_uri, replaced_uris, replaced_in, place_refusals};
+ghost use Rattle.ref_bundle.specs.Bundle.{at_path, sites_of_uris, shared_uri, shadowed_uri, reference_problems, replaced_in, place_refusals};
 ghost use Rattle.ref_bundle.specs.Bundle.{map_refusals, root_refusals, refusals_in};
 ghost use Rattle.ref_bundle.specs.Saying.{problem_said, refusal_said};
 ghost use Rattle.ref_bundle.specs.inner.Reach.{is_marked};
 ghost use Rattle.ref_bundle.specs.inner.Seen.{seen_spot, own_uri_of, numbered_document, document_in, layer_in, part_document};
 ghost use Rattle.ref_bundle.specs.inner.Seen.{numbered_part, HasPlaces, AreOwn, HasBase};
 ghost use Rattle.ref_bundle.specs.inner.Tables.{AreTables};
-ghost use Rattle.ref_bundle.specs.inner.First.{first, shared_seen, replaced_seen, refusals_seen, taken_in, whole_refusals};
+ghost use Rattle.ref_bundle.specs.inner.First.{first, shared_seen, references_seen, refusals_seen, taken_in, whole_refusals};
 
 use crate::embedding::{Part, definitions_keyword, obstacle, part_of};
 use crate::error::{Problem, Refusal};
 use crate::own::{Own, Spot};
 use crate::tables::Bearers;
-use crate::uris::{base_uri, own_uri, root_uri, targets};
+use crate::uris::{base_uri, identified, own_uri, root_uri, targets};
 use ref_index::reference::shared;
 use ref_parts::path::JsonPointerSegment;
 use ref_uri::Uri;
@@ -65,7 +65,7 @@ fn own_ref<'s>(spot: &'s Spot<'_>) -> Option<&'s Uri>
 // The problem of a URI that a place has, where another has it too.
 fn shared_uri<'r>(
     alloc: Global,
-    bearers: &Bearers<'r>,
+    bearers: &Bearers<'r, '_>,
     spot: &Spot<'r>,
     uri: Option<&Uri>,
 ) -> Result<Option<Problem<'r>>, AllocError>
@@ -93,7 +93,7 @@ fn shared_uri<'r>(
 // The first problem of the URIs that a place has.
 fn shared_uris<'r>(
     alloc: Global,
-    bearers: &Bearers<'r>,
+    bearers: &Bearers<'r, '_>,
     own: &Own<'r>,
     spot: &Spot<'r>,
 ) -> Result<Option<Problem<'r>>, AllocError>
@@ -130,10 +130,34 @@ fn replaced_in<'r>(
     }))
 }
 
-// The problem of a URI that a place refers to, where it is that of a document below a root with this number.
-fn replaced<'r>(
+// The problem of a URI that a place refers to, where it means a place of a parent.
+fn shadowed<'r>(
     alloc: Global,
-    bearers: &Bearers<'_>,
+    bearers: &Bearers<'_, '_>,
+    uri: &Rc<Uri>,
+) -> Result<Option<Problem<'r>>, AllocError>
+    ensures { (layer : Layer) → AreTables layer bearers.now
+        → IfOk result (λ o. option_map problem_said o
+        ≡ shadowed_uri layer bearers.now.registry.now uri.now.value) }
+{
+    let Some(base) = identified(alloc, bearers.registry, uri)? else {
+        return Ok(None);
+    };
+    let Some(document) = bearers.document_under(base.as_str()) else {
+        return Ok(None);
+    };
+    Ok(Some(Problem::ShadowedUri {
+        uri: uri.clone()?,
+        base,
+        document,
+    }))
+}
+
+// The problem of a URI that a place refers to, where it is that of a document below a root with this number, or means a
+// place of a parent.
+fn reference_problem<'r>(
+    alloc: Global,
+    bearers: &Bearers<'_, '_>,
     owns: &[Own<'_>],
     top: usize,
     uri: &Rc<Uri>,
@@ -142,33 +166,40 @@ fn replaced<'r>(
     requires tables { AreTables (layer_in owns.now) bearers.now }
     ensures { IfOk result
         (λ o. option_map problem_said o
-        ≡ first (replaced_uris (layer_in owns.now) top uri.now.value)) }
+        ≡ first
+        (reference_problems (layer_in owns.now) bearers.now.registry.now top uri.now.value)) }
 {
-    match bearers.document_under(uri.as_str()) {
-        Some(number) if number != top => match owns.get(number) {
-            Some(own) => replaced_in(alloc, own, uri),
-            None => Ok(None),
-        },
-        _ => Ok(None),
+    let Some(number) = bearers.document_under(uri.as_str()) else {
+        return shadowed(alloc, bearers, uri);
+    };
+    if number == top {
+        return Ok(None);
+    }
+    match owns.get(number) {
+        Some(own) => replaced_in(alloc, own, uri),
+        None => Ok(None),
     }
 }
 
 // The first problem of the URIs that a place refers to.
-fn replaced_uris<'r>(
+fn reference_problems<'r>(
     alloc: Global,
-    bearers: &Bearers<'_>,
+    bearers: &Bearers<'_, '_>,
     owns: &[Own<'_>],
     top: usize,
     spot: &Spot<'_>,
 ) -> Result<Option<Problem<'r>>, AllocError>
     requires own { AreOwn owns.now }
     requires tables { AreTables (layer_in owns.now) bearers.now }
-    ensures { IfOk result (λ o. option_map problem_said o
-        ≡ first (replaced_seen (layer_in owns.now) top (seen_spot spot.now))) }
+    ensures { IfOk result
+        (λ o. option_map problem_said o
+        ≡ first
+        (references_seen (layer_in owns.now) bearers.now.registry.now top
+        (seen_spot spot.now))) }
 {
     let uris = targets(alloc, spot)?;
     for uri in &uris {
-        if let Some(problem) = replaced(alloc, bearers, owns, top, uri)? {
+        if let Some(problem) = reference_problem(alloc, bearers, owns, top, uri)? {
             return Ok(Some(problem));
         }
     }
@@ -178,7 +209,7 @@ fn replaced_uris<'r>(
 // The first problem of a place.
 fn place_problem<'r>(
     alloc: Global,
-    bearers: &Bearers<'r>,
+    bearers: &Bearers<'r, '_>,
     owns: &[Own<'r>],
     top: usize,
     own: &Own<'r>,
@@ -188,11 +219,12 @@ fn place_problem<'r>(
     requires tables { AreTables (layer_in owns.now) bearers.now }
     ensures { IfOk result (λ o. option_map problem_said o
         ≡ first (shared_seen (layer_in owns.now) own.now.uri.now (seen_spot spot.now)
-        ++ replaced_seen (layer_in owns.now) top (seen_spot spot.now))) }
+        ++ references_seen (layer_in owns.now) bearers.now.registry.now top
+        (seen_spot spot.now))) }
 {
     match shared_uris(alloc, bearers, own, spot)? {
         Some(problem) => Ok(Some(problem)),
-        None => replaced_uris(alloc, bearers, owns, top, spot),
+        None => reference_problems(alloc, bearers, owns, top, spot),
     }
 }
 
@@ -216,7 +248,7 @@ fn at_place<'r>(
 // The first refusal of a place.
 fn place_refusal<'r>(
     alloc: Global,
-    bearers: &Bearers<'r>,
+    bearers: &Bearers<'r, '_>,
     owns: &[Own<'r>],
     top: usize,
     own: &Own<'r>,
@@ -225,7 +257,9 @@ fn place_refusal<'r>(
     requires own { AreOwn owns.now }
     requires tables { AreTables (layer_in owns.now) bearers.now }
     ensures { IfOk result (λ o. option_map refusal_said o
-        ≡ first (refusals_seen (layer_in owns.now) top own.now.uri.now (seen_spot spot.now))) }
+        ≡ first
+        (refusals_seen (layer_in owns.now) bearers.now.registry.now top own.now.uri.now
+        (seen_spot spot.now))) }
 {
     match place_problem(alloc, bearers, owns, top, own, spot)? {
         Some(problem) => Ok(Some(at_place(alloc, spot, problem)?)),
@@ -236,7 +270,7 @@ fn place_refusal<'r>(
 // The first refusal of the places of a document.
 fn places_refusal<'r>(
     alloc: Global,
-    bearers: &Bearers<'r>,
+    bearers: &Bearers<'r, '_>,
     owns: &[Own<'r>],
     top: usize,
     own: &Own<'r>,
@@ -245,7 +279,9 @@ fn places_refusal<'r>(
     requires tables { AreTables (layer_in owns.now) bearers.now }
     requires places { HasPlaces own.now }
     ensures { IfOk result (λ o. option_map refusal_said o
-        ≡ first (place_refusals (layer_in owns.now) top (numbered_document own.now))) }
+        ≡ first
+        (place_refusals (layer_in owns.now) bearers.now.registry.now top
+        (numbered_document own.now))) }
 {
     for spot in &own.places {
         if let Some(refusal) = place_refusal(alloc, bearers, owns, top, own, spot)? {
@@ -427,7 +463,7 @@ fn whole_refusal<'r>(
 // The first refusal of a needed document.
 fn refusal_in<'r>(
     alloc: Global,
-    bearers: &Bearers<'r>,
+    bearers: &Bearers<'r, '_>,
     owns: &[Own<'r>],
     top: &Part<'_>,
     parts: &[Part<'_>],
@@ -440,8 +476,8 @@ fn refusal_in<'r>(
     requires places { HasPlaces own.now }
     ensures { IfOk result (λ o. option_map refusal_said o
         ≡ first
-        (refusals_in (layer_in owns.now) (numbered_part top.now) (map numbered_part parts.now)
-        (numbered_document own.now))) }
+        (refusals_in (layer_in owns.now) bearers.now.registry.now (numbered_part top.now)
+        (map numbered_part parts.now) (numbered_document own.now))) }
 {
     match whole_refusal(alloc, top, parts, own)? {
         Some(refusal) => Ok(Some(refusal)),
@@ -462,7 +498,7 @@ pub(crate) fn is_marked(marks: &[bool], number: usize) -> bool
 // The first refusal of a document, where it is needed.
 fn refusal_if_needed<'r>(
     alloc: Global,
-    bearers: &Bearers<'r>,
+    bearers: &Bearers<'r, '_>,
     owns: &[Own<'r>],
     needed: &[bool],
     top: &Part<'_>,
@@ -477,7 +513,7 @@ fn refusal_if_needed<'r>(
     ensures { IfOk result (λ o. option_map refusal_said o
         ≡ first
         (if is_marked needed.now own.now.number then
-        refusals_in (layer_in owns.now) (numbered_part top.now)
+        refusals_in (layer_in owns.now) bearers.now.registry.now (numbered_part top.now)
         (map numbered_part parts.now) (numbered_document own.now) else [])) }
 {
     if is_marked(needed, own.number) {
@@ -489,7 +525,7 @@ fn refusal_if_needed<'r>(
 /// The first refusal of the needed documents.
 pub(crate) fn first_refusal<'r>(
     alloc: Global,
-    bearers: &Bearers<'r>,
+    bearers: &Bearers<'r, '_>,
     owns: &[Own<'r>],
     needed: &[bool],
     top: &Part<'_>,
@@ -503,7 +539,7 @@ pub(crate) fn first_refusal<'r>(
         ≡ first
         (flat_map
         (λ e. if is_marked needed.now e.0 then
-        refusals_in (layer_in owns.now) (numbered_part top.now)
+        refusals_in (layer_in owns.now) bearers.now.registry.now (numbered_part top.now)
         (map numbered_part parts.now) e else []) (map numbered_document owns.now))) }
 {
     for own in owns {

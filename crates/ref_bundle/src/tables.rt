@@ -14,6 +14,7 @@ use crate::own::{Own, Spot};
 use crate::uris::own_uri;
 use ref_parts::SortedTable;
 use ref_parts::path::JsonPointerSegment;
+use referencing::Registry;
 use std::alloc::{AllocError, Global};
 
 /// A place: the number of its document, and its path there.
@@ -26,9 +27,11 @@ pub(crate) struct Site<'r> {
 // The entries of a table: a URI, an empty text, and a place.
 type Entries<'r> = Vec<(String, String, Site<'r>)>;
 
-/// Which place is the last to have each URI, and which is the last of those that aren't that one.
+/// Which place is the last to have each URI, and which is the last of those that aren't that one; and the registry, whose
+/// parents have others.
 #[derive(Drop)]
-pub(crate) struct Bearers<'r> {
+pub(crate) struct Bearers<'r, 'a> {
+    pub registry: &'r Registry<'a>,
     pub last: SortedTable<Site<'r>>,
     pub others: SortedTable<Site<'r>>,
 }
@@ -215,17 +218,26 @@ fn table_of<'r>(
     Ok(table)
 }
 
-/// The tables of documents.
-pub(crate) fn bearers_of<'r>(alloc: Global, owns: &[Own<'r>]) -> Result<Bearers<'r>, AllocError>
+/// The tables of the documents of a registry.
+pub(crate) fn bearers_of<'r, 'a>(
+    alloc: Global,
+    registry: &'r Registry<'a>,
+    owns: &[Own<'r>],
+) -> Result<Bearers<'r, 'a>, AllocError>
     requires { AreOwn owns.now }
     ensures value { IfOk result (AreTables (layer_in owns.now)) }
+    ensures registry { IfOk result (λ b. b.registry.now ≡ registry.now) }
 {
     let last = table_of(alloc, owns, None)?;
     let others = table_of(alloc, owns, Some(&last))?;
-    Ok(Bearers { last, others })
+    Ok(Bearers {
+        registry,
+        last,
+        others,
+    })
 }
 
-impl<'r> Bearers<'r> {
+impl<'r> Bearers<'r, '_> {
     /// The number of the document that a URI means.
     pub fn document_under(&self, uri: &str) -> Option<usize>
         ensures value { (layer : Layer) → AreTables layer self.now

@@ -8,17 +8,21 @@ ghost use Rattle.ref_parts.specs.Path.{path_eq};
 ghost use Rattle.ref_draft.specs.Schema.{text_under};
 ghost use Rattle.ref_uri.specs.Reference.{with_fragment};
 ghost use Rattle.ref_uri.specs.Targets.{uri_against, target, uri_of};
+ghost use Rattle.ref_definitions.specs.Resources.{meant_place};
 ghost use Rattle.ref_definitions.specs.Wants.{schema_at};
 ghost use Rattle.ref_bundle.specs.Needed.{targets_from};
 ghost use Rattle.ref_bundle.specs.Embedding.{base_uri};
+ghost use Rattle.ref_bundle.specs.Bundle.{identified_from};
 ghost use Rattle.ref_bundle.specs.inner.Seen.{seen_spot, own_uri_of, document_in, HasPlaces};
 
 use crate::own::{Own, Spot};
 use ref_draft::{Draft, ResourceRef};
 use ref_index::reference::shared;
+use ref_parts::list::List;
 use ref_uri::parts::uri_part;
 use ref_uri::uri::{from_str, resolve_against};
 use ref_uri::{Uri, UriFault};
+use referencing::Registry;
 use serde_json::Value;
 use std::alloc::{AllocError, Global};
 use std::rc::Rc;
@@ -129,6 +133,27 @@ pub(crate) fn targets(alloc: Global, spot: &Spot<'_>) -> Result<Vec<Rc<Uri>>, Al
     )?;
     push(&mut uris, dialect(alloc, spot.value)?)?;
     Ok(uris)
+}
+
+/// The URI that the identifier of a place gives against one that means the place in a registry or its parents.
+pub(crate) fn identified(
+    alloc: Global,
+    registry: &Registry<'_>,
+    uri: &Rc<Uri>,
+) -> Result<Option<Rc<Uri>>, AllocError>
+    ensures value { IfOk result
+        (λ o. option_map (λ u. u.value) o
+        ≡ option_and_then (identified_from uri.now.value)
+        (meant_place registry.now uri.now.value)) }
+{
+    let resolver = registry.resolver_from_parts(uri.clone()?, List::new());
+    let Some((value, draft)) = resolver.at_base() else {
+        return Ok(None);
+    };
+    match ResourceRef::new(value, draft).id() {
+        Some(id) => resolved(alloc, uri, id),
+        None => Ok(None),
+    }
 }
 
 /// The URI that a place has by its own identifier.

@@ -41,6 +41,7 @@ fn problem_name(problem: &Problem<'_>) -> &'static str
         Problem::KeyTaken { .. } => "KeyTaken",
         Problem::SharedUri { .. } => "SharedUri",
         Problem::ReplacedUri { .. } => "ReplacedUri",
+        Problem::ShadowedUri { .. } => "ShadowedUri",
     }
 }
 

@@ -4,10 +4,10 @@ use Rattle.std.specs.Option.{option_to_list}
 use Rattle.serde_json.specs.Data.{Data}
 use Rattle.serde_json.specs.Find.{get}
 use Rattle.ref_parts.specs.Path.{Key, path_eq}
-use Rattle.ref_definitions.specs.World.{Document, Layer}
+use Rattle.ref_definitions.specs.World.{Document, Layer, World}
 use Rattle.ref_bundle.specs.Needed.{targets_from}
 use Rattle.ref_bundle.specs.Embedding.{base_uri, obstacle}
-use Rattle.ref_bundle.specs.Bundle.{Problem, KeyTaken, NotEmbedded, root_refusals, BundleRefusal, at_path, sites_of_uris, shared_uri, replaced_uris}
+use Rattle.ref_bundle.specs.Bundle.{Problem, KeyTaken, NotEmbedded, root_refusals, BundleRefusal, at_path, sites_of_uris, shared_uri, reference_problems}
 use Rattle.ref_bundle.specs.inner.Seen.{Seen, own_uri_of}
 
 abbrev pub first : {X : Type 0} → List X → Option X
@@ -24,13 +24,14 @@ shared_seen layer uri s =
     flat_map (shared_uri (sites_of_uris layer) (s.document, s.path)) (uris_seen uri s)
 
 -- and of those that it refers to
-abbrev pub replaced_seen : Layer → ℕ → Seen → List Problem
-replaced_seen layer top s = flat_map (replaced_uris layer top) (targets_from s.base s.value)
+abbrev pub references_seen : Layer → World → ℕ → Seen → List Problem
+references_seen layer world top s =
+    flat_map (reference_problems layer world top) (targets_from s.base s.value)
 
 -- the refusals of a place
-abbrev pub refusals_seen : Layer → ℕ → List ℕ → Seen → List BundleRefusal
-refusals_seen layer top uri s =
-    map (at_path s.document s.path) (shared_seen layer uri s ++ replaced_seen layer top s)
+abbrev pub refusals_seen : Layer → World → ℕ → List ℕ → Seen → List BundleRefusal
+refusals_seen layer world top uri s =
+    map (at_path s.document s.path) (shared_seen layer uri s ++ references_seen layer world top s)
 
 -- a key that a value has already
 abbrev pub taken_in : ℕ → List ℕ → Data → ℕ × Document → List BundleRefusal

@@ -3,7 +3,7 @@ use Rattle.std.specs.List.{AllByRecursion}
 use Rattle.ref_index.proofs.Looking.{got}
 use Rattle.ref_definitions.specs.World.{own_layer}
 use Rattle.ref_bundle.specs.Needed.{counted_documents}
-use Rattle.ref_bundle.specs.Bundle.{bundle_at}
+use Rattle.ref_bundle.specs.Bundle.{bundle_among}
 use Rattle.ref_bundle.specs.Saying.{bundle_said, IsRefusalOf}
 use Rattle.ref_bundle.specs.inner.Seen.{document_in, numbered_document, HasPlaces}
 use Rattle.ref_bundle.proofs.Gathering.{document_at}
@@ -42,8 +42,8 @@ returns-in-Some-clause-value c =
     let lookup : slice_get c.deref.result.now c.args.root ≡ Some top = sym (got c.deref.result.now c.args.root c.get.result c.get.ensures.lookup) ∙ search rules in
     let there : slice_get owns c.args.root ≡ Some top = ap (λ l. slice_get l c.args.root) (lent ∙ sym c.deref.ensures.value) ∙ lookup in
     let root = number_at owns layer c.args.root top order there in
-    subst (λ k. IfOk c.bundle_among.result (λ b. bundle_at layer k ≡ Ok (bundle_said b))) root
-    (subst (λ l. IfOk c.bundle_among.result (λ b. bundle_at l top.number ≡ Ok (bundle_said b))) (layer_is owns layer order) c.bundle_among.ensures.value)
+    subst (λ k. IfOk c.bundle_among.result (λ b. bundle_among layer c.args.registry.now k ≡ Ok (bundle_said b))) root
+    (subst (λ l. IfOk c.bundle_among.result (λ b. bundle_among l c.args.registry.now top.number ≡ Ok (bundle_said b))) (layer_is owns layer order) c.bundle_among.ensures.value)
 
 pub returns-in-Some-clause-fault : goal.returns-in-Some-clause-fault
 returns-in-Some-clause-fault c =
@@ -55,8 +55,8 @@ returns-in-Some-clause-fault c =
     let lookup : slice_get c.deref.result.now c.args.root ≡ Some top = sym (got c.deref.result.now c.args.root c.get.result c.get.ensures.lookup) ∙ search rules in
     let there : slice_get owns c.args.root ≡ Some top = ap (λ l. slice_get l c.args.root) (lent ∙ sym c.deref.ensures.value) ∙ lookup in
     let root = number_at owns layer c.args.root top order there in
-    subst (λ k. IfErr c.bundle_among.result (IsRefusalOf (bundle_at layer k))) root
-    (subst (λ l. IfErr c.bundle_among.result (IsRefusalOf (bundle_at l top.number))) (layer_is owns layer order) c.bundle_among.ensures.fault)
+    subst (λ k. IfErr c.bundle_among.result (IsRefusalOf (bundle_among layer c.args.registry.now k))) root
+    (subst (λ l. IfErr c.bundle_among.result (IsRefusalOf (bundle_among l c.args.registry.now top.number))) (layer_is owns layer order) c.bundle_among.ensures.fault)
 
 pub returns-clause-fault : goal.returns-clause-fault
 returns-clause-fault c =
@@ -65,4 +65,4 @@ returns-clause-fault c =
     let order : map numbered_document owns ≡ counted_documents 0 layer = ap (map numbered_document) c.deref.ensures.value ∙ c.in_ok-owns.ensures.order in
     let missing : slice_get owns c.args.root ≡ None = sym (got owns c.args.root c.get.result c.get.ensures.lookup) ∙ search rules in
     let at = document_at document_in owns layer c.args.root None (layer_is owns layer order) missing in
-    not_bundled layer c.args.root at ∙ search rules
+    not_bundled layer c.args.registry.now c.args.root at ∙ search rules

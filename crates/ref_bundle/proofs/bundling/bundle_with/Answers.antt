@@ -22,8 +22,8 @@ returns-in-Some-clause-fault c =
     let lent : map numbered_part slice ≡ map numbered_part c.in_ok-parts.parts.items = ap (map numbered_part) c.as_slice.ensures.value in
     let embeds : map numbered_part slice ≡ to_embed layer n = lent ∙ c.in_ok-parts.ensures.parts ∙ ap (filter (λ e. not (e.0 == n) && is_marked marks e.0)) c.requires.own.order ∙ parts_are layer n marks are in
     let said : option_map refusal_said c.in_ok-refusal.field-0 ≡ Some (refusal_said c.in-Some.refusal) = search rules in
-    is_refused layer n (document_in own) (refusal_said c.in-Some.refusal) at
-    (sym said ∙ first_is layer n (document_in own) marks (numbered_part c.in_ok-top.top) (map numbered_part slice) (map numbered_document owns) (option_map refusal_said c.in_ok-refusal.field-0) c.requires.own.order are c.in_ok-top.ensures.value embeds c.in_ok-refusal.ensures.value)
+    is_refused layer c.args.bearers.now.registry.now n (document_in own) (refusal_said c.in-Some.refusal) at
+    (sym said ∙ first_is layer c.args.bearers.now.registry.now n (document_in own) marks (numbered_part c.in_ok-top.top) (map numbered_part slice) (map numbered_document owns) (option_map refusal_said c.in_ok-refusal.field-0) c.requires.own.order are c.in_ok-top.ensures.value embeds c.in_ok-refusal.ensures.value)
 
 pub returns-clause-value : goal.returns-clause-value
 returns-clause-value c =
@@ -40,6 +40,6 @@ returns-clause-value c =
     let shown : map numbered_part c.as_slice-in-None.result.now ≡ to_embed layer n = ap (map numbered_part) c.as_slice-in-None.ensures.value ∙ parts in
     let said : option_map refusal_said c.in_ok-refusal.field-0 ≡ None = search rules in
     let document = ap (λ (e : ℕ × Document). e.1) c.in_ok-top.ensures.value in
-    is_bundle layer n (document_in own) (bundle_said c.in_ok-bundle_of-in-None.field-0) at
-    (sym said ∙ first_is layer n (document_in own) marks (numbered_part c.in_ok-top.top) (map numbered_part c.as_slice.result.now) (map numbered_document owns) (option_map refusal_said c.in_ok-refusal.field-0) c.requires.own.order are c.in_ok-top.ensures.value embeds c.in_ok-refusal.ensures.value)
+    is_bundle layer c.args.bearers.now.registry.now n (document_in own) (bundle_said c.in_ok-bundle_of-in-None.field-0) at
+    (sym said ∙ first_is layer c.args.bearers.now.registry.now n (document_in own) marks (numbered_part c.in_ok-top.top) (map numbered_part c.as_slice.result.now) (map numbered_document owns) (option_map refusal_said c.in_ok-refusal.field-0) c.requires.own.order are c.in_ok-top.ensures.value embeds c.in_ok-refusal.ensures.value)
     (c.in_ok-bundle_of-in-None.ensures ∙ ap (λ d. bundle_of d (map numbered_part c.as_slice-in-None.result.now)) document ∙ ap (bundle_of (document_in own)) shown)

@@ -11,6 +11,9 @@ returns c = record {
   shared_by_another = refl;
   shared_in_one = refl;
   replaced = refl;
+  shadowed = refl;
+  shadowed_by_none = refl;
+  meant_by_its_identifier = refl;
   of_the_root = refl;
   in_order = refl;
 }

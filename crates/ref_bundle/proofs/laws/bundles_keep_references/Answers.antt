@@ -1,7 +1,6 @@
 use Rattle.ref_bundle.proofs.LawLookups.{keeps_references}
 use Rattle.ref_bundle.proofs.LawFaults.{were_faults}
-use Rattle.ref_bundle.proofs.LawSafe.{no_other_name}
 use Rattle.ref_bundle.proofs.laws.bundles_keep_references.Goals as goal
 
 pub returns : goal.returns
-returns c = record { law = keeps_references; definitions = were_faults; without_parents = no_other_name }
+returns c = record { law = keeps_references; definitions = were_faults }

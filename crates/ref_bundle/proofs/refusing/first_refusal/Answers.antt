@@ -11,7 +11,7 @@ returns-in-Some c =
     let l = c.loop-own in
     let said : option_map refusal_said c.in_ok-refusal.field-0 ≡ Some (refusal_said c.in-Some.refusal) = search rules in
     record {
-      value = found_here (λ e. cond (is_marked c.args.needed.now e.0) (refusals_in (layer_in c.args.owns.now) (numbered_part c.args.top.now) (map numbered_part c.args.parts.now) e) [])
+      value = found_here (λ e. cond (is_marked c.args.needed.now e.0) (refusals_in (layer_in c.args.owns.now) c.args.bearers.now.registry.now (numbered_part c.args.top.now) (map numbered_part c.args.parts.now) e) [])
           numbered_document c.args.owns.now l.own-index c.own-item.result (refusal_said c.in-Some.refusal) c.loop-own-test.true c.own-item.is l.invariant (sym said ∙ c.in_ok-refusal.ensures);
     }
 
@@ -19,5 +19,5 @@ pub loop-own-preserved : goal.loop-own-preserved
 loop-own-preserved c =
     let l = c.loop-own in
     let said : option_map refusal_said c.in_ok-refusal.field-0 ≡ None = search rules in
-    none_more (λ e. cond (is_marked c.args.needed.now e.0) (refusals_in (layer_in c.args.owns.now) (numbered_part c.args.top.now) (map numbered_part c.args.parts.now) e) [])
+    none_more (λ e. cond (is_marked c.args.needed.now e.0) (refusals_in (layer_in c.args.owns.now) c.args.bearers.now.registry.now (numbered_part c.args.top.now) (map numbered_part c.args.parts.now) e) [])
     numbered_document c.args.owns.now l.own-index c.own-item.result c.loop-own-test.true c.own-item.is l.invariant (sym said ∙ c.in_ok-refusal.ensures)

@@ -12,19 +12,19 @@ returns-in-Some c =
     let l = c.loop-spot in
     let layer = layer_in c.args.owns.now in
     let own = c.args.own.now in
-    let f : Seen → List BundleRefusal = refusals_seen layer c.args.top own.uri.now in
+    let f : Seen → List BundleRefusal = refusals_seen layer c.args.bearers.now.registry.now c.args.top own.uri.now in
     let items = c.deref-spot-items.result.now in
     let lent : map seen_spot items ≡ map seen_spot own.places.items = ap (map seen_spot) c.deref-spot-items.ensures.value in
     let said : option_map refusal_said c.in_ok-refusal.field-0 ≡ Some (refusal_said c.in-Some.refusal) = search rules in
     found_here f seen_spot items l.spot-index c.spot-item.result (refusal_said c.in-Some.refusal) c.loop-spot-test.true c.spot-item.is l.invariant (sym said ∙ c.in_ok-refusal.ensures)
-    ∙ ap (λ ss. first (flat_map f ss)) (lent ∙ c.requires.places) ∙ ap first (of_places layer c.args.top (numbered_document own))
+    ∙ ap (λ ss. first (flat_map f ss)) (lent ∙ c.requires.places) ∙ ap first (of_places layer c.args.bearers.now.registry.now c.args.top (numbered_document own))
 
 pub returns : goal.returns
 returns c =
     let l = c.loop-spot in
     let layer = layer_in c.args.owns.now in
     let own = c.args.own.now in
-    let f : Seen → List BundleRefusal = refusals_seen layer c.args.top own.uri.now in
+    let f : Seen → List BundleRefusal = refusals_seen layer c.args.bearers.now.registry.now c.args.top own.uri.now in
     let items = c.deref-spot-items.result.now in
     let lent : map seen_spot items ≡ map seen_spot own.places.items = ap (map seen_spot) c.deref-spot-items.ensures.value in
-    sym (sym (ap first (of_places layer c.args.top (numbered_document own))) ∙ sym (ap (λ ss. first (flat_map f ss)) (lent ∙ c.requires.places)) ∙ sym (ap (λ ss. first (flat_map f ss)) (taken_all seen_spot items l.spot-index (omega arith))) ∙ l.invariant)
+    sym (sym (ap first (of_places layer c.args.bearers.now.registry.now c.args.top (numbered_document own))) ∙ sym (ap (λ ss. first (flat_map f ss)) (lent ∙ c.requires.places)) ∙ sym (ap (λ ss. first (flat_map f ss)) (taken_all seen_spot items l.spot-index (omega arith))) ∙ l.invariant)

@@ -1,4 +1,4 @@
-use Rattle.std.proofs.Common.{map}
+use Rattle.std.proofs.Common.{map, refl}
 use Rattle.ref_bundle.specs.inner.Seen.{numbered_document, layer_in}
 use Rattle.ref_bundle.proofs.Bearing.{first_table, second_table}
 use Rattle.ref_bundle.proofs.tables.bearers_of.Goals as goal
@@ -13,4 +13,5 @@ returns c =
         last = last;
         others = second_table c.in_ok-others.others c.in_ok-last.last layer (map numbered_document owns) c.requires.order last c.in_ok-others.ensures;
       };
+      registry = refl;
     }
