@@ -1,20 +1,46 @@
--- A text that is cut at a byte, or holds none.
-use Rattle.std.proofs.Common.{◌≡◌, ◌≢◌, ℕ, zero, suc, ◌<◌, false, List, [], ◌∷◌, ◌++◌, length, get_or, Option, Some, None, MatchOption, Bor, All, refl, arith}
-use Rattle.std.specs.List.{list_any}
+-- A text cut at its first `/`.
+use Rattle.std.proofs.Common.{◌≡◌, ◌≢◌, ℕ, suc, ◌+◌, ◌<◌, false, eqb, ltb, List, [], ◌∷◌, ◌++◌, refl, length, get_or, take, drop, All, Some, None, sym, ap, ◌∙◌, arith}
+use Rattle.std.specs.List.{position, position_or_len}
+use Rattle.std.proofs.Math.Seq.{split_at}
+use Rattle.std.proofs.lemmas.Bool.{false≢true, cond_both, ltb-false, eqb-true}
+use Rattle.std.proofs.lemmas.List.Sums.{fails_before_first}
+use Rattle.std.proofs.lemmas.List.Quantifiers.{position-Some}
 use Rattle.std.proofs.lemmas.Bool.{ne_eqb}
+<<<<<<< ours
 use Rattle.ref_uri.proofs.Hashes.{is_hash}
+=======
+use Rattle.std.proofs.lemmas.List.{length-take, get_or-take}
+use Rattle.std.specs.List.{list_any}
+use Rattle.ref_index.proofs.Hashes.{is_hash}
+>>>>>>> theirs
 
-pub all_others : (b : ℕ) (text : List ℕ) → ((i : ℕ) → i < length text → get_or text i 0 ≢ b) → (i d : ℕ) → i < length text → get_or text i d ≢ b
-all_others b [] none i d within = absurd (omega arith)
-all_others b (c ∷ text) none zero d within = none 0 (omega arith)
-all_others b (c ∷ text) none (suc i) d within = all_others b text (λ j less. none (suc j) (omega arith)) i d (omega arith)
+other : (b : ℕ) → eqb b 47 ≡ false → b ≢ 47
+other b fails = λ slash. false≢true (sym fails ∙ ap (λ x. eqb x 47) slash)
 
-pub cut_parts : (b : ℕ) (text : List ℕ) (r : Option (Bor (List ℕ) × Bor (List ℕ)))
-    → MatchOption r ((i : ℕ) → i < length text → get_or text i 0 ≢ b) (λ x. (text ≡ x.0.now ++ (b ∷ x.1.now)) × ((i : ℕ) → i < length x.0.now → get_or x.0.now i 0 ≢ b))
-    → MatchOption r (All (λ x. x ≢ b) text) (λ x. (text ≡ x.0.now ++ (b ∷ x.1.now)) × All (λ y. y ≢ b) x.0.now)
-cut_parts b text None none = λ i d within. all_others b text none i d within
-cut_parts b text (Some x) cut = (cut.0, λ i d within. all_others b x.0.now cut.1 i d within)
+-- where the first one stands, what is before it, and what follows
+pub cut_first : (text : List ℕ) (place : ℕ) → position (λ b. eqb b 47) text ≡ Some place
+    → (place < length text) × (get_or text place 0 ≡ 47) × (text ≡ take place text ++ (47 ∷ drop (place + 1) text)) × All (λ b. b ≢ 47) (take place text)
+cut_first text place found =
+    let at = position-Some (λ b. eqb b 47) text place 0 found in
+    let slash = eqb-true (get_or text place 0) 47 at.1 in
+    let next : suc place ≡ place + 1 = omega (arith) in (
+      at.0,
+      slash,
+      split_at text place 0 at.0 ∙ ap (λ n. take place text ++ (get_or text place 0 ∷ drop n text)) next ∙ ap (λ b. take place text ++ (b ∷ drop (place + 1) text)) slash,
+      λ k d less.
+          let below : k < place = omega (arith, length-take place text) in
+          other (get_or (take place text) k d) (ap (λ b. eqb b 47) (get_or-take place text k d below) ∙ (position-Some (λ b. eqb b 47) text place d found).2 k below),
+    )
 
+-- where there is none
+pub uncut : (text : List ℕ) → position (λ b. eqb b 47) text ≡ None → All (λ b. b ≢ 47) text
+uncut text =
+    let n = position_or_len (λ b. eqb b 47) text in
+    cond_both (ltb n (length text)) (Some n) None (λ o. o ≡ None → All (λ b. b ≢ 47) text)
+    (λ yes none. absurd (cc))
+    (λ no none k d less. other (get_or text k d) (fails_before_first (λ b. eqb b 47) text k d (omega (arith, ltb-false n (length text) no))))
+
+-- a text without a `#`
 pub hashless : (text : List ℕ) → ((i : ℕ) → i < length text → get_or text i 0 ≢ 35) → list_any is_hash text ≡ false
 hashless [] none = refl
 hashless (c ∷ text) none = rw (ne_eqb c 35 (none 0 (omega arith))) (hashless text (λ i less. none (suc i) (omega arith)))

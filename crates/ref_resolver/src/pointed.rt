@@ -181,13 +181,23 @@ pub(crate) fn step<'r>(
     })
 }
 
+// Where the first `/` of a text stands. A search by bytes, which decodes no character; most tokens are short.
+#[inline(always)]
+fn slash_in(text: &str) -> Option<usize>
+    ensures { result ≡ position (λ b. b == slash) text.now }
+{
+    text.as_bytes().iter().position(|byte| *byte == b'/')
+}
+
 // What is before the first `/` of a text, and what follows that.
 #[inline(always)]
 pub(crate) fn cut_at_slash(text: &str) -> Option<(&str, &str)>
     ensures { MatchOption result (All (λ b. b ≢ slash) text.now)
         (λ cut. (text.now ≡ cut.0.now ++ (slash ∷ cut.1.now)) × All (λ b. b ≢ slash) cut.0.now) }
 {
-    text.split_once('/')
+    let place = slash_in(text)?;
+    let (token, _) = text.split_at(place);
+    Some((token, &text[place + 1..]))
 }
 
 // Token by token.
