@@ -6,13 +6,9 @@ use Rattle.std.proofs.lemmas.Bool.{false≢true, cond_both, ltb-false, eqb-true}
 use Rattle.std.proofs.lemmas.List.Sums.{fails_before_first}
 use Rattle.std.proofs.lemmas.List.Quantifiers.{position-Some}
 use Rattle.std.proofs.lemmas.Bool.{ne_eqb}
-<<<<<<< ours
-use Rattle.ref_uri.proofs.Hashes.{is_hash}
-=======
 use Rattle.std.proofs.lemmas.List.{length-take, get_or-take}
 use Rattle.std.specs.List.{list_any}
-use Rattle.ref_index.proofs.Hashes.{is_hash}
->>>>>>> theirs
+use Rattle.ref_uri.proofs.Hashes.{is_hash}
 
 other : (b : ℕ) → eqb b 47 ≡ false → b ≢ 47
 other b fails = λ slash. false≢true (sym fails ∙ ap (λ x. eqb x 47) slash)
