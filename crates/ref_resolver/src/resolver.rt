@@ -123,6 +123,7 @@ impl<'r> Resolver<'r> {
     }
 
     // What a reference points into.
+    #[inline(always)]
     pub(crate) fn target<'t>(
         &self,
         alloc: Global,
