@@ -137,8 +137,8 @@ replaced_in uri d =
 abbrev pub identified_from : List ℕ → Place → Option (List ℕ)
 identified_from uri p = option_and_then (λ id. result_ok (uri_against uri id)) (identifier_of p)
 
--- the problem of a URI that a place refers to, where it means a place of a parent: a name under it may be one of an own
--- document that has the URI which the identifier of that place gives
+-- the problem of a URI that a place refers to, where it means a place of a parent and an own document has the URI that
+-- the identifier of that place gives: a name that is looked up under the first may be one of that document
 abbrev pub shadowed_uri : Layer → World → List ℕ → Option Problem
 shadowed_uri layer world uri =
     option_and_then (λ base. option_map (ShadowedUri uri base) (document_under layer base))
@@ -220,7 +220,7 @@ abbrev pub bundle_of : Document → List (ℕ × Document) → Bundle
 bundle_of top es =
     record { value = tree_with top es; embedded = map (embedded_document top.draft) es }
 
--- the bundle of the document with a number among the own documents of a world, or why there is none
+-- the bundle of a document, by its number among the own documents of a world, or why there is none
 abbrev pub bundle_among : Layer → World → ℕ → Result Bundle BundleRefusal
 bundle_among layer world number =
     option_map_or
@@ -229,5 +229,6 @@ bundle_among layer world number =
     (slice_get layer number)
     (Err (at_path number [] NoDocument))
 
+-- the same of a world
 abbrev pub bundle_at : World → ℕ → Result Bundle BundleRefusal
 bundle_at world number = bundle_among (own_layer world) world number
