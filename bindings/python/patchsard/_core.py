@@ -207,18 +207,20 @@ class Registry(Mapping[str, Resource]):
     `crawl`, and with them all documents that they refer to: what is not in the registry is asked of `retrieve`, a function from a URI to a document,
     which raises an exception or answers `None` where it has none. Values in answers are those of the documents that were given, not copies, so they must not change.
 
+    `parent` is a registry whose documents are seen where this one has none, or meta-schemas, each under its URI, which are made such a registry.
     `draft` is the draft of documents that name none, and `limit` says how many documents may be retrieved. A document that can't be had is an error as soon as the
     program gets the others, or with `allow_missing` only where a reference to it is looked up. The meta-schemas of the drafts are there where the package
     `jsonschema-specifications` is installed.
     """
 
-    __slots__ = ("_documents", "_retrieve", "_draft", "_limit", "_allow_missing", "_retrieved", "_parent", "_opened", "__weakref__")
+    __slots__ = ("_documents", "_retrieve", "_draft", "_limit", "_allow_missing", "_retrieved", "_base", "_parent", "_opened", "__weakref__")
 
     def __init__(
         self,
         resources: Union[Mapping[str, Any], Pairs] = (),
         retrieve: Optional[Callable[[str], Any]] = None,
         *,
+        parent: Union["Registry", Mapping[str, Any], Pairs, None] = None,
         draft: Draft = DRAFT202012,
         limit: Optional[int] = None,
         allow_missing: bool = False,
@@ -230,6 +232,8 @@ class Registry(Mapping[str, Resource]):
         self._limit = limit
         self._allow_missing = allow_missing
         self._retrieved: Dict[str, Resource] = {}
+        # The parent that the caller gave; `_parent` is the registry that this one was made from, where it is opened behind that.
+        self._base: Optional[Registry] = parent if parent is None or isinstance(parent, Registry) else Registry(parent)
         self._parent: Optional[Registry] = None
         self._opened: Optional[_Opened] = None
 
@@ -252,8 +256,8 @@ class Registry(Mapping[str, Resource]):
         return self.with_resources((uri, Resource(contents, None if _named(contents) else default_specification)) for uri, contents in pairs)
 
     def combine(self, *registries: "Registry") -> "Registry":
-        """A registry with the documents of all. Only one of them may have a `retrieve` of its own."""
-        documents, retrieved, retrieve = self._all(), self._all_retrieved(), self._retrieve
+        """A registry with the documents of all. Only one of them may have a `retrieve` of its own, and only one a parent."""
+        documents, retrieved, retrieve, base = self._all(), self._all_retrieved(), self._retrieve, self._base
         for registry in registries:
             documents.update(registry._all())
             retrieved.update(registry._all_retrieved())
@@ -261,8 +265,12 @@ class Registry(Mapping[str, Resource]):
                 if retrieve is not None:
                     raise ValueError("The registries have different functions to retrieve")
                 retrieve = registry._retrieve
+            if registry._base is not None and registry._base is not base:
+                if base is not None:
+                    raise ValueError("The registries have different parents")
+                base = registry._base
         new = self._evolved(documents, retrieved, None)
-        new._retrieve = retrieve
+        new._retrieve, new._base = retrieve, base
         return new
 
     def crawl(self) -> "Registry":
@@ -345,7 +353,7 @@ class Registry(Mapping[str, Resource]):
 
     def _evolved(self, documents: Dict[str, Resource], retrieved: Dict[str, Resource], parent: Optional["Registry"]) -> "Registry":
         new = Registry((), self._retrieve, draft=self._draft, limit=self._limit, allow_missing=self._allow_missing)
-        new._documents, new._retrieved, new._parent = documents, retrieved, parent
+        new._documents, new._retrieved, new._base, new._parent = documents, retrieved, self._base, parent
         return new
 
     def _with_root(self, resource: Resource) -> "Registry":
@@ -391,7 +399,8 @@ class Registry(Mapping[str, Resource]):
         return opened
 
     def _open_in(self, process: _process.Process) -> _Opened:
-        parent = self._parent._open() if self._parent is not None else _meta(process)
+        below = self._parent if self._parent is not None else self._base
+        parent = below._open() if below is not None else _meta(process)
         texts = {uri: _text(resource) for uri, resource in self._documents.items()}
         retrieved = dict(self._retrieved)
         remote = {uri: _text(resource) for uri, resource in retrieved.items()}

@@ -151,6 +151,36 @@ class Registries(unittest.TestCase):
         with self.assertRaises(ValueError):
             Registry(retrieve=lambda uri: {}).combine(Registry(retrieve=lambda uri: True))
 
+    def test_meta_schemas_as_a_parent(self):
+        uri = "https://example.com/meta"
+        meta = {"$id": uri, "$schema": "https://json-schema.org/draft/2020-12/schema", "$defs": {"a": {"$anchor": "it"}}}
+        schema = {"$schema": uri, "$ref": f"{uri}#it"}
+        with self.assertRaises(patchsard.UnknownSpecification):
+            Registry({"u:a": {"$schema": uri}}).crawl()
+        registry = Registry({"u:a": schema}, parent={uri: meta})
+        self.assertIs(registry.resolver("u:a").lookup(f"{uri}#it").contents, meta["$defs"]["a"])
+        self.assertIs(registry.contents(uri), meta)
+        self.assertEqual(list(registry), ["u:a"])
+        for more in (registry.with_resource("u:b", {"$ref": "u:a"}), registry.combine(Registry({"u:b": {"$ref": "u:a"}})), Registry({"u:b": {"$ref": "u:a"}}).combine(registry)):
+            self.assertEqual(more.dangling(), [])
+            self.assertIs(more.resolver("u:b").lookup(uri).contents, meta)
+        with self.assertRaises(patchsard.Unretrievable) as raised:
+            Registry(parent=[(uri, {"$ref": "part"})]).crawl()
+        self.assertEqual(raised.exception.uri, "https://example.com/part")
+
+    def test_a_registry_as_a_parent(self):
+        part = {"$anchor": "part"}
+        parent = Registry({"u:part": part})
+        first, second = Registry({"u:a": {"$ref": "u:part"}}, parent=parent), Registry({"u:a": {"$ref": "u:part#part"}}, parent=parent)
+        for registry in (first, second):
+            self.assertIs(registry.resolver("u:a").lookup("u:part#part").contents, part)
+        self.assertEqual(first.bundle("u:a"), {"$ref": "u:part"})
+        with self.assertRaises(ValueError):
+            first.combine(Registry(parent=Registry()))
+        above = Registry({"u:b": {"$ref": "u:a"}}, parent=first)
+        self.assertIs(above.resolver("u:b").lookup("u:part").contents, part)
+        self.assertIs(Registry(parent=Registry()).with_resource("u:a", part).resolver("u:a").lookup("#part").contents, part)
+
     def test_the_draft_of_documents(self):
         schema = {"definitions": {"a": {"id": "#n"}}}
         self.assertIs(Registry(draft=DRAFT4).with_resource("u:a", schema).resolver("u:a").lookup("#n").contents, schema["definitions"]["a"])

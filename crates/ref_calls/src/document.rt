@@ -60,9 +60,9 @@ fn document_in(
     }
 }
 
-// The pairs that a list has.
+/// The documents of a list.
 #[tactic(auto, unfolding(crate::specs::Calls::documents_of))]
-fn documents_of(alloc: Global, value: Value, field: &str) -> Result<Vec<Document>, Stop<Value>>
+pub fn documents_of(alloc: Global, value: Value, field: &str) -> Result<Vec<Document>, Stop<Value>>
     ensures { Answers (λ v. map given_of v.items) result
         (spec.documents_of field.now (view value)) }
 {
@@ -78,8 +78,8 @@ fn documents_of(alloc: Global, value: Value, field: &str) -> Result<Vec<Document
     Ok(documents)
 }
 
-// The member under a key, which is taken out.
-fn taken(members: &mut Members, key: &str) -> Option<Value>
+/// The member under a key, which is taken out.
+pub fn taken(members: &mut Members, key: &str) -> Option<Value>
     ensures value { option_map view result ≡ get_member key.now (members_view members.old.entries) }
     ensures others { (other : List ℕ) → other ≢ key.now
         → get_member other (members_view members.new.entries)

@@ -1,10 +1,10 @@
 -- Bytes that are cut into lines.
-use Rattle.std.proofs.Common.{◌≡◌, ◌≢◌, ◌<◌, ◌≤◌, ◌+◌, ◌-◌, ℕ, zero, suc, Bool, true, false, List, [], ◌∷◌, ◌++◌, inl, inr, Some, None, length, take, drop, nat_eq, slice_index, refl, sym, ap, ◌∙◌, subst, append_assoc, append-nil, add-one, arith}
-use Rattle.std.proofs.lemmas.Bool.{eq-eqb, eqb-true, ne_eqb}
+use Rattle.std.proofs.Common.{◌≡◌, ◌≢◌, ◌<◌, ◌≤◌, ◌+◌, ◌-◌, ℕ, zero, suc, Bool, true, false, List, [], ◌∷◌, ◌++◌, inl, inr, Some, None, length, take, drop, nat_eq, slice_index, refl, sym, ap, ◌∙◌, subst, append_assoc, append-nil, add-one, length-append, arith}
+use Rattle.std.proofs.lemmas.Bool.{eq-eqb, eqb-true, ne_eqb, false≢true}
 use Rattle.std.proofs.lemmas.List.{drop-take, drop-drop}
 use Rattle.std.proofs.Math.Seq.{take-length}
 use Rattle.memchr.specs.Find.{IsFirstByte, is_byte}
-use Rattle.ref_lines.specs.Lines.{lines_after, lines}
+use Rattle.ref_lines.specs.Lines.{lines_after, lines, whole_lines_after, whole_lines}
 use Rattle.ref_lines.specs.inner.Held.{IsFree, Cuts}
 
 pub free_append : (xs ys : List ℕ) → IsFree xs → IsFree ys → IsFree (xs ++ ys)
@@ -88,3 +88,40 @@ cut_lines before line after rest ended (free, inr (is, some, empty, end)) none =
 pub no_lines : lines [] ≡ []
 unfolding lines
 no_lines = refl
+
+-- ---- lines that end at a line feed
+
+pub not_ended : (ended : Bool) → (ended ≡ true → ⊥) → ended ≡ false
+not_ended true not = absurd (not refl)
+not_ended false not = refl
+
+whole_in_front : (line rest begun : List ℕ) → IsFree line → whole_lines_after (line ++ 10 ∷ rest) begun ≡ (begun ++ line) ∷ whole_lines_after rest []
+whole_in_front [] rest begun free = ap (λ l. l ∷ whole_lines_after rest []) (sym (append-nil begun))
+whole_in_front (x ∷ line) rest begun free =
+    rw (not_feed x free.0) (whole_in_front line rest (begun ++ x ∷ []) free.1 ∙ ap (λ l. l ∷ whole_lines_after rest []) (append_assoc begun (x ∷ []) line))
+
+none_whole_after : (line begun : List ℕ) → IsFree line → whole_lines_after line begun ≡ []
+none_whole_after [] begun free = refl
+none_whole_after (x ∷ line) begun free = rw (not_feed x free.0) (none_whole_after line (begun ++ x ∷ []) free.1)
+
+pub none_whole : (line : List ℕ) → IsFree line → whole_lines line ≡ []
+unfolding whole_lines
+none_whole line free = none_whole_after line [] free
+
+pub cut_whole : (before line after rest : List ℕ) (ended : Bool) → Cuts before line after ended → ended ≡ false
+    → whole_lines (before ++ rest) ≡ line ∷ whole_lines (after ++ rest)
+unfolding whole_lines
+cut_whole before line after rest ended (free, inl is) unended =
+    ap (λ bs. whole_lines_after (bs ++ rest) []) is ∙ ap (λ bs. whole_lines_after bs []) (append_assoc line (10 ∷ after) rest) ∙ whole_in_front line (after ++ rest) [] free
+cut_whole before line after rest ended (free, inr (is, some, empty, end)) unended = absurd (false≢true (sym unended ∙ end))
+
+-- ---- how long lines are
+
+some_bytes : (line : List ℕ) → line ≢ [] → 1 ≤ length line
+some_bytes [] some = absurd (some refl)
+some_bytes (x ∷ line) some = omega arith
+
+-- what is after a line is shorter
+pub cut_length : (before line after : List ℕ) (ended : Bool) → Cuts before line after ended → length after + 1 ≤ length before
+cut_length before line after ended (free, inl is) = omega (arith, ap length is, length-append line (10 ∷ after))
+cut_length before line after ended (free, inr (is, some, empty, end)) = omega (arith, ap length is, ap length empty, some_bytes line some)

@@ -1,12 +1,13 @@
 -- A line that is read piece by piece.
-use Rattle.std.proofs.Common.{◌≡◌, ℕ, Bool, true, false, List, [], ◌∷◌, ◌++◌, inl, Option, refl, sym, ap, ◌∙◌, subst, append_assoc, append-nil}
+use Rattle.std.proofs.Common.{◌≡◌, ◌≤◌, ◌+◌, ◌-◌, ◌^◌, ℕ, Bool, true, false, List, [], ◌∷◌, ◌++◌, inl, Option, refl, sym, ap, ◌∙◌, subst, append_assoc, append-nil, length, length-append, arith}
 use Rattle.std.proofs.lemmas.Bool.{false≢true}
-use Rattle.std.proofs.KnownBytes.{Consumes-nil, Consumes-trans}
-use Rattle.std.specs.Io.KnownBytes.{Consumes}
+use Rattle.std.proofs.KnownBytes.{Consumes-nil, Consumes-trans, Consumes-kept}
+use Rattle.std.specs.Io.KnownBytes.{Consumes, Keeps as Stays}
 use Rattle.ref_lines.specs.declared.line.Line.{Line}
 use Rattle.ref_lines.specs.declared.line.Part.{Part}
-use Rattle.ref_lines.specs.inner.Held.{IsFree, Keeps, Passes, Cuts, IsNext, Got, GotNext}
-use Rattle.ref_lines.proofs.Cutting.{free_append}
+use Rattle.ref_lines.specs.inner.Held.{IsFree, Keeps, Passes, Cuts, IsNext, Got, GotNext, IsUnfinished, GaveForReads}
+use Rattle.ref_lines.specs.Serving.{GaveAtLeast}
+use Rattle.ref_lines.proofs.Cutting.{free_append, not_ended}
 
 -- what passing bytes gives a line
 abbrev pub Passed : List ℕ → List ℕ → Part → Part → Bool → Type 0
@@ -42,3 +43,34 @@ got_more left left' left'' before held after more part part' ended mid ended' (b
     let all : before ++ (bytes ++ more) ≡ (l ++ passed) ++ more =
     sym (append_assoc before bytes more) ∙ ap (λ ys. ys ++ more) (is ∙ ap (λ ys. l ++ ys) whole) in
     (bytes ++ more, l ++ passed, Consumes-trans left left' left'' bytes more consumes consumed, all, free_append l passed free front, kept, λ e. absurd (false≢true (sym begun ∙ (stays e).1)))
+
+-- where a read fails, what was read of the line has no line feed
+pub got_unfinished : (left left' left'' : Option (List ℕ)) (before held after : List ℕ) (part part' : Part) (ended mid : Bool)
+    → Got left left' before held part ended mid → Passed held after part part' false → mid ≡ false → Stays left' left''
+    → IsUnfinished left left'' before ended
+got_unfinished left left' left'' before held after part part' ended mid (bytes, l, consumes, is, free, keeps, stays) pass begun same =
+    let (passed, (front, whole, none), kept) = pass l keeps in
+    let all : before ++ bytes ≡ l ++ passed = is ∙ ap (λ ys. l ++ ys) whole in (
+      bytes,
+      Consumes-kept left left' left'' bytes consumes same,
+      subst IsFree (sym all) (free_append l passed free front),
+      not_ended ended (λ e. false≢true (sym begun ∙ (stays e).1)),
+    )
+
+-- ---- how many reads there were
+
+pub reads_none : (left : Option (List ℕ)) (ended : Bool) → GaveForReads 0 left left ended
+reads_none left ended = ([], Consumes-nil left, omega arith, λ _. omega arith)
+
+pub reads_more : (left left' left'' : Option (List ℕ)) (count : ℕ) (more : List ℕ) (mid ended' : Bool)
+    → GaveForReads count left left' mid → mid ≡ false → Consumes left' left'' more → (ended' ≡ false → 1 ≤ length more)
+    → GaveForReads (count + 1) left left'' ended'
+reads_more left left' left'' count more mid ended' (bytes, consumes, most, all) begun consumed some = (
+  bytes ++ more,
+  Consumes-trans left left' left'' bytes more consumes consumed,
+  omega (arith, all begun, length-append bytes more),
+  λ e. omega (arith, all begun, some e, length-append bytes more),
+)
+
+pub reads_all : (left left' : Option (List ℕ)) (count : ℕ) (ended : Bool) → GaveForReads count left left' ended → 2 ^ 64 - 1 ≤ count → GaveAtLeast (2 ^ 64 - 2) left left'
+reads_all left left' count ended (bytes, consumes, most, all) many = (bytes, consumes, omega (arith, most, many))

@@ -1,14 +1,15 @@
 -- Answers that are written one after another.
-use Rattle.std.proofs.Common.{◌≡◌, ℕ, Bool, true, List, [], ◌∷◌, ◌++◌, Option, Some, None, Result, Vec, Ok, Err, IfErr, refl, sym, ap, ◌∙◌, subst, append_assoc, append-nil}
+use Rattle.std.proofs.Common.{◌≡◌, ◌≤◌, ◌+◌, ◌-◌, ◌^◌, ℕ, Bool, true, false, List, [], ◌∷◌, ◌++◌, Option, Some, None, Result, Vec, Ok, Err, IfErr, refl, sym, ap, ◌∙◌, subst, append_assoc, append-nil, length, length-append, arith}
+use Rattle.std.proofs.lemmas.Bool.{false≢true}
 use Rattle.std.specs.declared.alloc.AllocError.{AllocError}
 use Rattle.std.specs.declared.alloc.Global.{Global}
 use Rattle.std.proofs.KnownBytes.{Consumes-nil, Consumes-trans, Appends-nil, Appends-trans}
 use Rattle.std.specs.Io.KnownBytes.{Appends}
-use Rattle.ref_lines.specs.Lines.{lines}
-use Rattle.ref_lines.specs.Serving.{Answers, AnswersLine, Serves, ServedSoFar, AnsweredSoFar}
-use Rattle.ref_lines.specs.inner.Held.{Gave}
+use Rattle.ref_lines.specs.Lines.{lines, whole_lines}
+use Rattle.ref_lines.specs.Serving.{Answers, AnswersLine, Serves, ServedSoFar, AnsweredSoFar, GaveAtLeast}
+use Rattle.ref_lines.specs.inner.Held.{Gave, IsUnfinished, GaveForLines}
 use Rattle.ref_lines.specs.inner.Answering.{answer_text, Served, GotAnswer}
-use Rattle.ref_lines.proofs.Cutting.{cut_lines, no_lines}
+use Rattle.ref_lines.proofs.Cutting.{cut_lines, cut_whole, cut_length, no_lines, none_whole, not_ended}
 
 pub err_always : {X E : Type 0} (r : Result X E) (P : E → Type 0) → ((e : E) → P e) → IfErr r P
 err_always (Ok x) P all = tt
@@ -27,18 +28,24 @@ module _ {S : Type 0} (may_answer : S → List ℕ → S → List ℕ → Type 0
 
   pub served_none : (s : S) (left taken : Option (List ℕ)) (held : List ℕ) (ended : Bool) → held ≡ [] → Served may_answer s s left left taken taken held ended
   served_none s left taken held ended none =
-      ([], [], [], Consumes-nil left, Appends-nil taken, (refl, refl), λ rest _. ap (λ ys. lines (ys ++ rest)) (sym none))
+      ([], [], [], Consumes-nil left, Appends-nil taken, (refl, refl), λ rest _. ap (λ ys. lines (ys ++ rest)) (sym none), λ rest _. ap (λ ys. whole_lines (ys ++ rest)) (sym none))
 
   pub served_more : (s t next : S) (left left' left'' taken taken' taken'' : Option (List ℕ)) (held after : List ℕ) (ended ended' : Bool) (answer : Result (Vec ℕ Global) AllocError)
       → Served may_answer s t left left' taken taken' held ended → GotAnswer may_answer t next left' left'' (Some answer) held after ended ended'
       → Appends taken' taken'' (answer_text answer) → Served may_answer s next left left'' taken taken'' after ended'
-  served_more s t next left left' left'' taken taken' taken'' held after ended ended' answer (bytes, text, front, consumes, appends, answers, are) (more, consumed, (line, cut, one), stays) written =
+  served_more s t next left left' left'' taken taken' taken'' held after ended ended' answer (bytes, text, front, consumes, appends, answers, are, whole) (more, consumed, (line, cut, one), stays) written =
       let step = λ (rest : List ℕ) (none : ended' ≡ true → rest ≡ []).
       let before : lines (bytes ++ (more ++ rest)) ≡ front ++ lines (held ++ (more ++ rest)) =
       are (more ++ rest) (λ e. ap (λ ys. ys ++ rest) (stays e).0 ∙ none (stays e).1) in
       let cuts : lines ((held ++ more) ++ rest) ≡ line ∷ lines (after ++ rest) = cut_lines (held ++ more) line after rest ended' cut none in
       ap lines (append_assoc bytes more rest) ∙ before ∙ ap (λ ys. front ++ lines ys) (sym (append_assoc held more rest)) ∙ ap (λ ls. front ++ ls) cuts
-      ∙ sym (append_assoc front (line ∷ []) (lines (after ++ rest))) in (
+      ∙ sym (append_assoc front (line ∷ []) (lines (after ++ rest))) in
+      let step_whole = λ (rest : List ℕ) (unended : ended' ≡ false).
+      let before : whole_lines (bytes ++ (more ++ rest)) ≡ front ++ whole_lines (held ++ (more ++ rest)) =
+      whole (more ++ rest) (not_ended ended (λ e. false≢true (sym unended ∙ (stays e).1))) in
+      let cuts : whole_lines ((held ++ more) ++ rest) ≡ line ∷ whole_lines (after ++ rest) = cut_whole (held ++ more) line after rest ended' cut unended in
+      ap whole_lines (append_assoc bytes more rest) ∙ before ∙ ap (λ ys. front ++ whole_lines ys) (sym (append_assoc held more rest)) ∙ ap (λ ls. front ++ ls) cuts
+      ∙ sym (append_assoc front (line ∷ []) (whole_lines (after ++ rest))) in (
         bytes ++ more,
         text ++ answer_text answer,
         front ++ line ∷ [],
@@ -46,12 +53,13 @@ module _ {S : Type 0} (may_answer : S → List ℕ → S → List ℕ → Type 0
         Appends-trans taken taken' taken'' text (answer_text answer) appends written,
         answers_more s front t text line next (answer_text answer) answers one,
         step,
+        step_whole,
       )
 
   pub served_all : (s t next : S) (left left' left'' taken taken' : Option (List ℕ)) (held after : List ℕ) (ended ended' : Bool)
       → Served may_answer s t left left' taken taken' held ended → GotAnswer may_answer t next left' left'' None held after ended ended'
-      → Serves may_answer s next left left'' taken taken'
-  served_all s t next left left' left'' taken taken' held after ended ended' (bytes, text, front, consumes, appends, answers, are) (more, consumed, (none, empty, end, same), stays) =
+      → Serves lines may_answer s next left left'' taken taken'
+  served_all s t next left left' left'' taken taken' held after ended ended' (bytes, text, front, consumes, appends, answers, are, whole) (more, consumed, (none, empty, end, same), stays) =
       let before : lines (bytes ++ more) ≡ front ++ lines (held ++ more) = are more (λ e. (stays e).0) in
       let all : lines (bytes ++ more) ≡ front = before ∙ ap (λ ys. front ++ lines ys) none ∙ ap (λ ls. front ++ ls) no_lines ∙ append-nil front in
       let given : Answers may_answer s (lines (bytes ++ more)) next text =
@@ -61,7 +69,7 @@ module _ {S : Type 0} (may_answer : S → List ℕ → S → List ℕ → Type 0
   -- the answers up to an error, before which more bytes may have been read
   pub served_so_far : (s t next : S) (left left' left'' taken taken' : Option (List ℕ)) (held : List ℕ) (ended : Bool)
       → Served may_answer s t left left' taken taken' held ended → Gave left' left'' ended → next ≡ t → ServedSoFar may_answer s next left left'' taken taken'
-  served_so_far s t next left left' left'' taken taken' held ended (bytes, text, front, consumes, appends, answers, are) (more, gave, none) same =
+  served_so_far s t next left left' left'' taken taken' held ended (bytes, text, front, consumes, appends, answers, are, whole) (more, gave, none) same =
       (text, (bytes ++ more, front, lines (held ++ more), Consumes-trans left left' left'' bytes more consumes gave, are more none, subst (λ x. Answers may_answer s front x text) (sym same) answers), appends)
 
   pub answered_so_far : (s t : S) (left left' taken taken' : Option (List ℕ)) → ServedSoFar may_answer s t left left' taken taken' → AnsweredSoFar may_answer s t left left'
@@ -71,8 +79,37 @@ module _ {S : Type 0} (may_answer : S → List ℕ → S → List ℕ → Type 0
   pub unwritten : (s t next : S) (left left' left'' taken taken' : Option (List ℕ)) (held after : List ℕ) (ended ended' : Bool) (answer : Result (Vec ℕ Global) AllocError)
       → Served may_answer s t left left' taken taken' held ended → GotAnswer may_answer t next left' left'' (Some answer) held after ended ended'
       → AnsweredSoFar may_answer s next left left''
-  unwritten s t next left left' left'' taken taken' held after ended ended' answer (bytes, text, front, consumes, appends, answers, are) got =
+  unwritten s t next left left' left'' taken taken' held after ended ended' answer (bytes, text, front, consumes, appends, answers, are, whole) got =
       answered_so_far s next left left'' None None
       (served_so_far s next next left left'' left'' None None after ended'
-      (served_more s t next left left' left'' None None None held after ended ended' answer (bytes, text, front, consumes, tt, answers, are) got tt)
+      (served_more s t next left left' left'' None None None held after ended ended' answer (bytes, text, front, consumes, tt, answers, are, whole) got tt)
       ([], Consumes-nil left'', λ _. refl) refl)
+
+  -- the answers up to a failed read: each line that has its end was answered
+  pub served_whole : (s t next : S) (left left' left'' taken taken' : Option (List ℕ)) (held : List ℕ) (ended : Bool)
+      → Served may_answer s t left left' taken taken' held ended → IsUnfinished left' left'' held ended → next ≡ t → Serves whole_lines may_answer s next left left'' taken taken'
+  served_whole s t next left left' left'' taken taken' held ended (bytes, text, front, consumes, appends, answers, are, whole) (more, gave, free, unended) same =
+      let all : whole_lines (bytes ++ more) ≡ front = whole more unended ∙ ap (λ ls. front ++ ls) (none_whole (held ++ more) free) ∙ append-nil front in
+      let given : Answers may_answer s (whole_lines (bytes ++ more)) next text =
+      subst (λ ls. Answers may_answer s ls next text) (sym all) (subst (λ x. Answers may_answer s front x text) (sym same) answers) in
+      (bytes ++ more, text, Consumes-trans left left' left'' bytes more consumes gave, given, appends)
+
+  -- how many lines there were
+  pub lines_more : (t next : S) (left left' left'' : Option (List ℕ)) (count : ℕ) (held after : List ℕ) (ended ended' : Bool) (answer : Result (Vec ℕ Global) AllocError)
+      → GaveForLines count left left' held → GotAnswer may_answer t next left' left'' (Some answer) held after ended ended' → GaveForLines (count + 1) left left'' after
+  lines_more t next left left' left'' count held after ended ended' answer (bytes, consumes, enough) (more, consumed, (line, cut, one), stays) = (
+    bytes ++ more,
+    Consumes-trans left left' left'' bytes more consumes consumed,
+    omega (arith, enough, cut_length (held ++ more) line after ended' cut, length-append held more, length-append bytes more),
+  )
+
+pub lines_none : (left : Option (List ℕ)) (held : List ℕ) → held ≡ [] → GaveForLines 0 left left held
+lines_none left held none = ([], Consumes-nil left, omega (arith, ap length none))
+
+pub lines_all : (left left' : Option (List ℕ)) (count : ℕ) (held : List ℕ) → GaveForLines count left left' held → 2 ^ 64 - 1 ≤ count → GaveAtLeast (2 ^ 64 - 2) left left'
+lines_all left left' count held (bytes, consumes, enough) many = (bytes, consumes, omega (arith, enough, many))
+
+-- a line that takes too many reads
+pub long_line : (left left' left'' : Option (List ℕ)) (count : ℕ) (held : List ℕ) → GaveForLines count left left' held → GaveAtLeast (2 ^ 64 - 2) left' left'' → GaveAtLeast (2 ^ 64 - 2) left left''
+long_line left left' left'' count held (bytes, consumes, enough) (more, consumed, many) =
+    (bytes ++ more, Consumes-trans left left' left'' bytes more consumes consumed, omega (arith, many, length-append bytes more))

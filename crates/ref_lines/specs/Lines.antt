@@ -12,3 +12,13 @@ lines_after (x ∷ rest) begun =
 -- the lines of bytes, without their ends
 unfoldable pub lines : List ℕ → List (List ℕ)
 lines bytes = lines_after bytes []
+
+-- those of them that end at a line feed
+abbrev pub whole_lines_after : List ℕ → List ℕ → List (List ℕ)
+whole_lines_after [] begun = []
+whole_lines_after (x ∷ rest) begun =
+    if x == 10 then begun ∷ whole_lines_after rest [] else whole_lines_after rest (begun ++ x ∷ [])
+
+-- the lines of bytes that end at a line feed
+unfoldable pub whole_lines : List ℕ → List (List ℕ)
+whole_lines bytes = whole_lines_after bytes []

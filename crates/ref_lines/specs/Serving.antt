@@ -1,5 +1,5 @@
 -- What a service answers to lines, one after another.
-use Rattle.std.specs.Prelude.{◌≡◌, ℕ, List, [], ◌∷◌, ◌++◌, ◌⊎◌, Option, codes}
+use Rattle.std.specs.Prelude.{◌≡◌, ◌≤◌, length, ℕ, List, [], ◌∷◌, ◌++◌, ◌⊎◌, Option, codes}
 use Rattle.std.specs.Io.KnownBytes.{Appends, Consumes}
 use Rattle.ref_lines.specs.Lines.{lines}
 
@@ -22,13 +22,13 @@ Answers {S} may_answer service (line ∷ more) end text =
     (next : S) × (first rest : List ℕ) × AnswersLine may_answer service line next first
     × Answers may_answer next more end rest × (text ≡ first ++ rest)
 
--- The source gave some bytes, and the sink took the answers to the lines of these. Where the source tells which bytes
--- are left, those that it gave stood before them.
-abbrev pub Serves : {S : Type 0} → (S → List ℕ → S → List ℕ → Type 0) → S → S → Option (List ℕ)
-    → Option (List ℕ) → Option (List ℕ) → Option (List ℕ) → Type 0
-Serves may_answer service end left left' taken taken' =
+-- The source gave some bytes, and the sink took the answers to the lines into which these are cut. Where the source tells
+-- which bytes are left, those that it gave stood before them.
+abbrev pub Serves : {S : Type 0} → (List ℕ → List (List ℕ)) → (S → List ℕ → S → List ℕ → Type 0)
+    → S → S → Option (List ℕ) → Option (List ℕ) → Option (List ℕ) → Option (List ℕ) → Type 0
+Serves cut may_answer service end left left' taken taken' =
     (bytes text : List ℕ) × Consumes left left' bytes
-    × Answers may_answer service (lines bytes) end text × Appends taken taken' text
+    × Answers may_answer service (cut bytes) end text × Appends taken taken' text
 
 -- The source gave some bytes, and the text is the answers to the first lines of these.
 abbrev pub AnswersSoFar : {S : Type 0} → (S → List ℕ → S → List ℕ → Type 0) → S → S
@@ -49,3 +49,8 @@ abbrev pub AnsweredSoFar : {S : Type 0} → (S → List ℕ → S → List ℕ �
     → Option (List ℕ) → Option (List ℕ) → Type 0
 AnsweredSoFar may_answer service end left left' =
     (text : List ℕ) × AnswersSoFar may_answer service end left left' text
+
+-- the source gave at least so many bytes
+abbrev pub GaveAtLeast : ℕ → Option (List ℕ) → Option (List ℕ) → Type 0
+GaveAtLeast count left left' =
+    (bytes : List ℕ) × Consumes left left' bytes × (count ≤ length bytes)

@@ -1,5 +1,5 @@
 //! Bytes that were read and not passed yet.
-ghost use Rattle.std.specs.Prelude.{◌≡◌, ◌≤◌, true, false, [], IfOk, OnErr, IsTrue};
+ghost use Rattle.std.specs.Prelude.{◌≡◌, ◌≤◌, length, true, false, [], IfOk, OnErr, IsTrue};
 ghost use Rattle.std.specs.Io.KnownBytes.{Consumes, Keeps, IsAtEnd};
 ghost use Rattle.ref_streams.specs.Bytes.{count_after};
 
@@ -48,6 +48,8 @@ impl Chunk {
         ensures end { IfOk result
             (λ _. self.new.has_ended ≡ true → (held self.new ≡ []) × IsTrue (R.ended source.new)
             × IsAtEnd (R.remaining source.new)) }
+        ensures some { IfOk result
+            (λ _. self.new.has_ended ≡ false → 1 ≤ length (held self.new)) }
         ensures kept { OnErr result (Keeps (R.remaining source.old) (R.remaining source.new)) }
         ensures count { R.failures source.new ≡ count_after result (R.failures source.old) }
     {

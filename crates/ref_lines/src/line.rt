@@ -1,8 +1,9 @@
 //! The lines of a source.
-ghost use Rattle.std.specs.Prelude.{◌≡◌, ◌≢◌, true, Bool, List, [], ℕ, ◌++◌, Err, IfOk, IfErr, OnErr, IsTrue};
+ghost use Rattle.std.specs.Prelude.{◌≡◌, ◌≢◌, true, Bool, List, [], ℕ, ◌-◌, ◌^◌, ◌++◌, Err, IfOk, IfErr, OnErr, IsTrue};
 ghost use Rattle.std.specs.Io.KnownBytes.{IsAtEnd};
 ghost use Rattle.ref_streams.specs.Bytes.{HasFailed};
-ghost use Rattle.ref_lines.specs.inner.Held.{held, IsFree, Keeps, Passes, Cuts, IsNext, GotNext, Gave};
+ghost use Rattle.ref_lines.specs.inner.Held.{held, IsFree, Keeps, Passes, Cuts, IsNext, GotNext, Gave, IsUnfinished};
+ghost use Rattle.ref_lines.specs.Serving.{GaveAtLeast};
 
 use crate::chunk::Chunk;
 use memchr::memchr;
@@ -102,7 +103,8 @@ fn pass(alloc: Global, chunk: &mut Chunk, part: &mut Part) -> bool
 
 /// The next line of what the chunk and the source have left. Linear in its bytes.
 ///
-/// `Read` where a read failed. A count of 64 bits of the reads for one line ends as `Memory`.
+/// `Read` where a read failed; then there is no line feed in what is left of the chunk and in what was read. `Memory` where a
+/// count of 64 bits of the reads for one line runs out.
 pub fn read_line<R: Source>(
     alloc: Global,
     source: &mut R,
@@ -118,6 +120,11 @@ pub fn read_line<R: Source>(
         → IsTrue (R.ended source.new) × IsAtEnd (R.remaining source.new)) }
     ensures gave { OnErr result
         (Gave (R.remaining source.old) (R.remaining source.new) chunk.old.has_ended) }
+    ensures unfinished { result ≡ Err RunError.Read
+        → IsUnfinished (R.remaining source.old) (R.remaining source.new) (held chunk.old)
+        chunk.old.has_ended }
+    ensures memory { result ≡ Err RunError.Memory
+        → GaveAtLeast (2 ^ 64 - 2) (R.remaining source.old) (R.remaining source.new) }
     ensures error { IfErr result (λ e. e ≢ RunError.Write) }
     ensures read { result ≡ Err RunError.Read
         → HasFailed (R.failures source.old) (R.failures source.new) }

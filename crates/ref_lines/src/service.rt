@@ -1,9 +1,10 @@
 //! Calls from a source to answers in a sink.
-ghost use Rattle.std.specs.Prelude.{◌≡◌, ◌≢◌, ◌++◌, ℕ, List, Err, true, IfOk, IfErr, OnOk, OnErr, IsTrue};
+ghost use Rattle.std.specs.Prelude.{◌≡◌, ◌≢◌, ◌++◌, ◌-◌, ◌^◌, ℕ, List, Err, true, IfOk, IfErr, OnOk, OnErr, IsTrue};
 ghost use Rattle.std.specs.Io.KnownBytes.{Appends, IsAtEnd};
 ghost use Rattle.ref_streams.specs.Bytes.{HasFailed};
-ghost use Rattle.ref_lines.specs.Serving.{Serves, ServedSoFar, AnsweredSoFar};
-ghost use Rattle.ref_lines.specs.inner.Held.{held, Gave};
+ghost use Rattle.ref_lines.specs.Lines.{lines, whole_lines};
+ghost use Rattle.ref_lines.specs.Serving.{Serves, ServedSoFar, AnsweredSoFar, GaveAtLeast};
+ghost use Rattle.ref_lines.specs.inner.Held.{held, Gave, IsUnfinished};
 ghost use Rattle.ref_lines.specs.inner.Answering.{answer_text, GotAnswer};
 
 use crate::chunk::Chunk;
@@ -45,6 +46,11 @@ fn next_answer<R: Source, S: Service>(
         → IfOk result
         (λ _. chunk.new.has_ended ≡ true
         → IsTrue (R.ended reader.new) × IsAtEnd (R.remaining reader.new)) }
+    ensures unfinished { result ≡ Err RunError.Read
+        → IsUnfinished (R.remaining reader.old) (R.remaining reader.new) (held chunk.old)
+        chunk.old.has_ended }
+    ensures memory { result ≡ Err RunError.Memory
+        → GaveAtLeast (2 ^ 64 - 2) (R.remaining reader.old) (R.remaining reader.new) }
     ensures error { IfErr result (λ e. e ≢ RunError.Write) }
     ensures read { result ≡ Err RunError.Read
         → HasFailed (R.failures reader.old) (R.failures reader.new) }
@@ -77,10 +83,12 @@ fn write<W: Sink>(writer: &mut W, answer: &Result<Vec<u8>, AllocError>) -> Resul
 
 /// Reads lines to the end, and writes the answer to each before the next is read.
 ///
-/// `Read` exactly where a read failed, `Write` exactly where a write did; `Memory` where a count of 64 bits runs out, of
-/// lines or of the reads for one. Before an error the service answered the first lines of what was read, and all those
-/// answers were written, but for a failed write: of the last answer then nothing is said. Where memory is refused for a line,
-/// the answer says so, and the next line is answered. Linear in the bytes, but for the answers.
+/// `Read` exactly where a read failed: then the service answered each line of what was read that has its end, and no other, and
+/// all those answers were written. `Write` exactly where a write failed: then it answered the first lines of what was read, and
+/// of the last answer nothing is said. `Memory` where a count of 64 bits runs out, of lines or of the reads for one, which takes
+/// a source that gave 2^64 - 2 bytes or more: then it answered the first lines of these, and all those answers were written.
+/// Where memory is refused for a line, the answer says so, and the next line is answered. Linear in the bytes, but for the
+/// answers.
 pub fn serve<R: Source, W: Sink, S: Service>(
     alloc: Global,
     reader: &mut R,
@@ -90,7 +98,7 @@ pub fn serve<R: Source, W: Sink, S: Service>(
     // What was written are the answers to the lines of what was read, to the end of the source.
     ensures served { IfOk result
         (λ _. (IsTrue (R.ended reader.new) × IsAtEnd (R.remaining reader.new))
-        × Serves S.may_answer service.old service.new (R.remaining reader.old)
+        × Serves lines S.may_answer service.old service.new (R.remaining reader.old)
         (R.remaining reader.new) (W.taken writer.old)
         (W.taken writer.new)) }
     ensures read { result ≡ Err RunError.Read
@@ -101,6 +109,13 @@ pub fn serve<R: Source, W: Sink, S: Service>(
         → HasFailed (W.failures writer.old) (W.failures writer.new) }
     ensures no_write_failed { result ≢ Err RunError.Write
         → W.failures writer.new ≡ W.failures writer.old }
+    // Where a read failed, what was written are the answers to each line of what was read that has its end.
+    ensures before_read { result ≡ Err RunError.Read
+        → Serves whole_lines S.may_answer service.old service.new (R.remaining reader.old)
+        (R.remaining reader.new) (W.taken writer.old)
+        (W.taken writer.new) }
+    ensures memory { result ≡ Err RunError.Memory
+        → GaveAtLeast (2 ^ 64 - 2) (R.remaining reader.old) (R.remaining reader.new) }
     // Without a failed write, what was written are the answers to the first lines of what was read.
     ensures so_far { IfErr result (λ e. e ≢ RunError.Write
         → ServedSoFar S.may_answer service.old service.new (R.remaining reader.old)

@@ -1,7 +1,6 @@
 -- What `open` reads and answers.
 use Rattle.std.proofs.Common.{◌≡◌, ℕ, List, [], ◌∷◌, ◌++◌, codes, length, Option, Some, None, option_map, option_and_then, ok_or, Result, Ok, Err, refl, sym, ap, subst, ◌∙◌}
 use Rattle.serde_json.specs.Data.{Data}
-use Rattle.serde_json.specs.Find.{get}
 use Rattle.serde_json.specs.View.{view}
 use Rattle.serde_json.specs.declared.value.Value.{Value}
 use Rattle.ref_definitions.specs.World.{World}
@@ -11,18 +10,17 @@ use Rattle.ref_definitions.specs.Pending.{given_of_builder}
 use Rattle.ref_definitions.specs.Retrievers.{map_retriever}
 use Rattle.ref_error.specs.declared.error.Error.{Error}
 use Rattle.ref_error.specs.declared.error.Error.TheVariants as error
-use Rattle.ref_calls.specs.declared.fault.Wrong.TheVariants.{MissingField, UnknownRegistry}
+use Rattle.ref_calls.specs.declared.fault.Wrong.TheVariants.{UnknownRegistry}
 use Rattle.ref_calls.specs.declared.stop.Stop.{Stop}
 use Rattle.ref_calls.specs.declared.stop.Stop.TheVariants.{Memory, Because}
 use Rattle.ref_calls.specs.Calls.{number_in}
-use Rattle.ref_calls.specs.Errors.{field_error, fault_error, IsStopOf}
-use Rattle.ref_calls.specs.Objects.{object_of}
-use Rattle.ref_calls.specs.Outcome.{IsStop, Stops}
+use Rattle.ref_calls.specs.Errors.{field_error, fault_error, with_field, IsStopOf}
+use Rattle.ref_calls.specs.Outcome.{IsStop, IsChanged, Stops}
 use Rattle.ref_serve.specs.declared.opening.Opened.{Opened}
-use Rattle.ref_serve.specs.State.{OpenRegistry, Registries, open_at, numbered_registry, registry_under}
-use Rattle.ref_serve.specs.Opening.{Opening, above_registry, parent_at, parent_of, opening_of, opened_members, pending_of, IsWorld, IsOpeningWorld, IsOpenedAs}
+use Rattle.ref_serve.specs.State.{OpenRegistry, Registries, open_at, numbered_registry, registry_in}
+use Rattle.ref_serve.specs.Opening.{Opening, Parent, AboveLayers, AboveMetaSchemas, above_registry, layers_in, opening_of, pending_of, below_meta, IsWorld, IsOpeningWorld, IsMetaWorld, IsOpenedBy, IsOpenedAs}
 use Rattle.ref_serve.specs.Answering.{IsOpened}
-use Rattle.ref_serve.specs.inner.Openings.{IsErrorOf, IsWorldOr, GivesOpened}
+use Rattle.ref_serve.specs.inner.Openings.{IsErrorOf, IsWorldOr, IsMetaWorldOr, GivesOpened}
 
 -- ---- parents
 
@@ -36,23 +34,12 @@ number_found state field (Ok n) r is =
     subst (λ m. open_at state m ≡ Some r.1) both.1 both.0
 number_found state field (Err e) r is = absurd (cc)
 
-value_found : (state : Registries) (field : List ℕ) (value : Option Data) (e : Data) (r : ℕ × OpenRegistry) → (ok_or value e >>= λ v. number_in field v >>= λ n. numbered_registry state field n) ≡ Ok r
-    → ((v : Data) × (value ≡ Some v)) × (open_at state r.0 ≡ Some r.1)
-value_found state field None e r is = absurd (cc)
-value_found state field (Some v) e r is = ((v, refl), number_found state field (number_in field v) r is)
+pub in_found : (state : Registries) (field : List ℕ) (value : Data) (r : ℕ × OpenRegistry) → registry_in state field value ≡ Ok r → open_at state r.0 ≡ Some r.1
+in_found state field value r is = number_found state field (number_in field value) r is
 
-pub under_found : (state : Registries) (d : Data) (field : List ℕ) (r : ℕ × OpenRegistry) → registry_under state d field ≡ Ok r → ((v : Data) × (get field d ≡ Some v)) × (open_at state r.0 ≡ Some r.1)
-unfolding registry_under
-under_found state d field r is = value_found state field (get field d) (field_error MissingField field) r is
-
-parent_with : (state : Registries) (d : Data) (found : Option Data) (v : Data) (r : ℕ × OpenRegistry) → found ≡ Some v → registry_under state d (codes "parent") ≡ Ok r → parent_at state d found ≡ Ok (above_registry r)
-parent_with state d found v r is under = ap (parent_at state d) is ∙ ap (λ x. x >>= λ y. Ok (above_registry y)) under
-
-pub parent_found : (state : Registries) (d : Data) (number : ℕ) (o : OpenRegistry) (world : World) (numbers : List ℕ) → registry_under state d (codes "parent") ≡ Ok (number, o) → world ≡ o.0 → numbers ≡ number ∷ o.1 → parent_of state d ≡ Ok (world, numbers)
-unfolding parent_of
-parent_found state d number o world numbers under same list =
-    let there = under_found state d (codes "parent") (number, o) under in
-    parent_with state d (get (codes "parent") d) there.0.0 (number, o) there.0.1 under ∙ ap (λ w. Ok (w, number ∷ o.1)) (sym same) ∙ ap (λ ns. Ok (world, ns)) (sym list)
+pub layers_found : (state : Registries) (value : Data) (number : ℕ) (o : OpenRegistry) (world : World) (numbers : List ℕ) → registry_in state (codes "parent") value ≡ Ok (number, o) → world ≡ o.0 → numbers ≡ number ∷ o.1 → layers_in state value ≡ Ok (world, numbers)
+layers_found state value number o world numbers found same list =
+    ap (λ x. x >>= λ r. Ok (above_registry r)) found ∙ ap (λ w. Ok (w, number ∷ o.1)) (sym same) ∙ ap (λ ns. Ok (world, ns)) (sym list)
 
 pub lent_some : {A : Type 0} (lent : Option A) (f : A → World) (x : A) (o : Option OpenRegistry) (below : OpenRegistry) → option_map f lent ≡ option_map (λ r. r.0) o → lent ≡ Some x → o ≡ Some below → f x ≡ below.0
 lent_some lent f x o below same is there =
@@ -62,44 +49,77 @@ pub lent_none : {A : Type 0} (lent : Option A) (f : A → World) (o : Option Ope
 lent_none lent f o below same is there =
     let both : None ≡ Some below.0 = sym (ap (option_map f) is) ∙ same ∙ ap (option_map (λ r. r.0)) there in absurd (cc)
 
+-- ---- errors
+
+-- what holds of a fault's error object, and of out of memory, holds of what an error stops with
+of_error : {A : Type 0} (MayAnswer : Result A Fault → Type 0) (P : Stop Value → Type 0) → ((s : Stop Value) (fault : Fault) → MayAnswer (Err fault) → IsStop s (fault_error fault) → P s) → P Memory
+    → (e : Error) (stop : Stop Value) → IsErrorOf MayAnswer e → IsStopOf e stop → P stop
+of_error M P says_fault none (error.Unretrievable uri source) stop is says = says_fault stop is.0 is.1 (says is.0 is.2)
+of_error M P says_fault none (error.PointerToNowhere pointer) stop is says = says_fault stop is.0 is.1 (says is.0 is.2)
+of_error M P says_fault none (error.InvalidPercentEncoding pointer) stop is says = says_fault stop is.0 is.1 (says is.0 is.2)
+of_error M P says_fault none (error.InvalidArrayIndex pointer index) stop is says = says_fault stop is.0 is.1 (says is.0 is.2)
+of_error M P says_fault none (error.NoSuchAnchor anchor) stop is says = says_fault stop is.0 is.1 (says is.0 is.2)
+of_error M P says_fault none (error.InvalidAnchor anchor) stop is says = says_fault stop is.0 is.1 (says is.0 is.2)
+of_error M P says_fault none (error.InvalidUri uri) stop is says = says_fault stop is.0 is.1 (says is.0 is.2)
+of_error M P says_fault none (error.UnknownSpecification specification) stop is says = says_fault stop is.0 is.1 (says is.0 is.2)
+of_error M P says_fault none (error.CircularMetaschema uri) stop is says = says_fault stop is.0 is.1 (says is.0 is.2)
+of_error M P says_fault none (error.RetrievalLimit uri limit) stop is says = says_fault stop is.0 is.1 (says is.0 is.2)
+of_error M P says_fault none (error.Memory memory) stop is says = subst P (sym says) none
+
 -- ---- worlds
 
-with_fault : (o : Opening) (stop : Stop Value) (fault : Fault) → IsOpeningWorld o (Err fault) → IsStop stop (fault_error fault) → IsWorldOr o (Err stop)
-with_fault o Memory fault is says = tt
-with_fault o (Because value) fault is says = (fault, is, says)
+with_fault : (o : Opening) (layers : OpenRegistry) (stop : Stop Value) (fault : Fault) → IsOpeningWorld o layers.0 (Err fault) → IsStop stop (fault_error fault) → IsWorldOr o layers (Err stop)
+with_fault o layers Memory fault is says = tt
+with_fault o layers (Because value) fault is says = (fault, is, says)
 
-pub world_stopped : (o : Opening) (e : Error) (stop : Stop Value) → IsErrorOf (IsOpeningWorld o) e → IsStopOf e stop → IsWorldOr o (Err stop)
-world_stopped o (error.Unretrievable uri source) stop is says = with_fault o stop is.0 is.1 (says is.0 is.2)
-world_stopped o (error.PointerToNowhere pointer) stop is says = with_fault o stop is.0 is.1 (says is.0 is.2)
-world_stopped o (error.InvalidPercentEncoding pointer) stop is says = with_fault o stop is.0 is.1 (says is.0 is.2)
-world_stopped o (error.InvalidArrayIndex pointer index) stop is says = with_fault o stop is.0 is.1 (says is.0 is.2)
-world_stopped o (error.NoSuchAnchor anchor) stop is says = with_fault o stop is.0 is.1 (says is.0 is.2)
-world_stopped o (error.InvalidAnchor anchor) stop is says = with_fault o stop is.0 is.1 (says is.0 is.2)
-world_stopped o (error.InvalidUri uri) stop is says = with_fault o stop is.0 is.1 (says is.0 is.2)
-world_stopped o (error.UnknownSpecification specification) stop is says = with_fault o stop is.0 is.1 (says is.0 is.2)
-world_stopped o (error.CircularMetaschema uri) stop is says = with_fault o stop is.0 is.1 (says is.0 is.2)
-world_stopped o (error.RetrievalLimit uri limit) stop is says = with_fault o stop is.0 is.1 (says is.0 is.2)
-world_stopped o (error.Memory memory) stop is says = subst (λ s. IsWorldOr o (Err s)) (sym says) tt
+pub world_stopped : (o : Opening) (layers : OpenRegistry) (e : Error) (stop : Stop Value) → IsErrorOf (IsOpeningWorld o layers.0) e → IsStopOf e stop → IsWorldOr o layers (Err stop)
+world_stopped o layers e stop is says = of_error (IsOpeningWorld o layers.0) (λ s. IsWorldOr o layers (Err s)) (λ s fault. with_fault o layers s fault) tt e stop is says
 
-pub world_stopped_above : (o : Opening) (parents : World) (e : Error) (stop : Stop Value) → parents ≡ o.above.0 → IsErrorOf (IsWorld (given_of_builder (map_retriever o.remote) o.limit (Some o.draft) parents) (pending_of o.documents)) e → IsStopOf e stop
-    → IsWorldOr o (Err stop)
-world_stopped_above o parents e stop same is says =
-    world_stopped o e stop (subst (λ w. IsErrorOf (IsWorld (given_of_builder (map_retriever o.remote) o.limit (Some o.draft) w) (pending_of o.documents)) e) same is) says
+pub world_stopped_above : (o : Opening) (layers : OpenRegistry) (parents : World) (e : Error) (stop : Stop Value) → parents ≡ layers.0
+    → IsErrorOf (IsWorld (given_of_builder (map_retriever o.remote) o.limit (Some o.draft) parents) (pending_of o.documents)) e → IsStopOf e stop → IsWorldOr o layers (Err stop)
+world_stopped_above o layers parents e stop same is says =
+    world_stopped o layers e stop (subst (λ w. IsErrorOf (IsWorld (given_of_builder (map_retriever o.remote) o.limit (Some o.draft) w) (pending_of o.documents)) e) same is) says
+
+with_meta_fault : (documents : List (List ℕ × Data)) (stop : Stop Value) (fault : Fault) → IsMetaWorld documents (Err fault) → IsStop stop (with_field (codes "parent") (fault_error fault)) → IsMetaWorldOr documents (Err stop)
+with_meta_fault documents Memory fault is says = tt
+with_meta_fault documents (Because value) fault is says = (fault, is, says)
+
+changed_fault : (documents : List (List ℕ × Data)) (stop result : Stop Value) (fault : Fault) → IsMetaWorld documents (Err fault) → IsStop stop (fault_error fault) → IsChanged (with_field (codes "parent")) stop result → IsMetaWorldOr documents (Err result)
+changed_fault documents Memory result fault is says change = subst (λ s. IsMetaWorldOr documents (Err s)) (sym change) tt
+changed_fault documents (Because value) result fault is says change = with_meta_fault documents result fault is (subst (λ v. IsStop result (with_field (codes "parent") v)) says change)
+
+pub meta_stopped : (documents : List (List ℕ × Data)) (e : Error) (stop result : Stop Value) → IsErrorOf (IsMetaWorld documents) e → IsStopOf e stop → IsChanged (with_field (codes "parent")) stop result → IsMetaWorldOr documents (Err result)
+meta_stopped documents e stop result is says change =
+    of_error (IsMetaWorld documents) (λ s. IsChanged (with_field (codes "parent")) s result → IsMetaWorldOr documents (Err result)) (λ s fault. changed_fault documents s result fault) (λ same. subst (λ s. IsMetaWorldOr documents (Err s)) (sym same) tt) e stop is says change
 
 -- ---- answers
 
-pub opened_one : (state : Registries) (d : Data) (o : Opening) (added : OpenRegistry) (opened : Opened) → opening_of state d ≡ Ok o → IsWorldOr o (Ok added) → view opened.result ≡ object_of (opened_members (length state) added.0)
-    → opened.registries.items ≡ Some added ∷ [] → GivesOpened (IsOpened state d) state (Ok opened)
-unfolding IsOpened
-opened_one state d o added opened is world result one =
-    subst (λ x. IsOpenedAs x state (state ++ opened.registries.items) (Ok (view opened.result))) (sym is)
-    (Ok added.0, world.0, (ap Ok result, ap (λ rs. state ++ rs) one ∙ ap (λ ns. state ++ Some (added.0, ns) ∷ []) world.1))
+pub opened_none : (state : Registries) (o : Opening) (layers : OpenRegistry) (stop : Stop Value) → IsWorldOr o layers (Err stop) → GivesOpened (IsOpenedBy (AboveLayers layers) o state) state (Err stop)
+opened_none state o layers Memory world = tt
+opened_none state o layers (Because value) (fault, world, says) = (Err fault, world, (ap Err says, refl))
 
-pub opened_none : (state : Registries) (d : Data) (o : Opening) (stop : Stop Value) → opening_of state d ≡ Ok o → IsWorldOr o (Err stop) → GivesOpened (IsOpened state d) state (Err stop)
+-- the layers of a registry of meta-schemas that gets the next number
+pub meta_layers : (state : Registries) (number : ℕ) (parent : OpenRegistry) (world : World) (numbers : List ℕ) → number ≡ length state → parent.1 ≡ [] → world ≡ parent.0 → numbers ≡ number ∷ parent.1 → (world, numbers) ≡ (below_meta state parent.0).layers
+meta_layers state number parent world numbers is none same list =
+    ap (λ w. (w, numbers)) same ∙ ap (λ ns. (parent.0, ns)) (list ∙ ap (λ n. n ∷ parent.1) is ∙ ap (λ ns. length state ∷ ns) none)
+
+pub no_meta : (state : Registries) (o : Opening) (documents : List (List ℕ × Data)) (stop : Stop Value) → IsMetaWorldOr documents (Err stop) → GivesOpened (IsOpenedBy (AboveMetaSchemas documents) o state) state (Err stop)
+no_meta state o documents Memory world = tt
+no_meta state o documents (Because value) (fault, world, says) = (Err fault, world, (ap Err says, refl))
+
+pub opened_neither : (state : Registries) (o : Opening) (documents : List (List ℕ × Data)) (parent layers : OpenRegistry) (stop : Stop Value) → IsMetaWorldOr documents (Ok parent) → layers ≡ (below_meta state parent.0).layers → IsWorldOr o layers (Err stop)
+    → GivesOpened (IsOpenedBy (AboveMetaSchemas documents) o state) state (Err stop)
+opened_neither state o documents parent layers Memory meta is world = tt
+opened_neither state o documents parent layers (Because value) meta is (fault, world, says) =
+    (Ok parent.0, meta.0, (Err fault, subst (λ l. IsOpeningWorld o l.0 (Err fault)) is world, (ap Err says, refl)))
+
+-- ---- what is asked
+
+pub gives_asked : (state : Registries) (d : Data) (p : Parent) (o : Opening) (result : Result Opened (Stop Value)) → opening_of state d ≡ Ok (p, o) → GivesOpened (IsOpenedBy p o state) state result → GivesOpened (IsOpened state d) state result
 unfolding IsOpened
-opened_none state d o Memory is world = tt
-opened_none state d o (Because value) is (fault, world, says) =
-    subst (λ x. IsOpenedAs x state state (Err (view value))) (sym is) (Err fault, world, (ap Err says, refl))
+gives_asked state d p o (Ok opened) is given = subst (λ x. IsOpenedAs x state (state ++ opened.registries.items) (Ok (view opened.result))) (sym is) given
+gives_asked state d p o (Err Memory) is given = tt
+gives_asked state d p o (Err (Because value)) is given = subst (λ x. IsOpenedAs x state state (Err (view value))) (sym is) given
 
 pub unread : (state : Registries) (d : Data) (stop : Stop Value) → Stops stop (opening_of state d) → GivesOpened (IsOpened state d) state (Err stop)
 unfolding IsOpened

@@ -17,7 +17,7 @@ use Rattle.ref_definitions.specs.World.{World}
 use Rattle.ref_definitions.specs.Fault.{Fault, as_invalid_uri}
 use Rattle.ref_definitions.specs.Preparing.{Given}
 use Rattle.ref_definitions.specs.Pending.{Addition, Pending, with_addition, with_additions, given_of_builder}
-use Rattle.ref_definitions.specs.Retrievers.{map_retriever}
+use Rattle.ref_definitions.specs.Retrievers.{default_retriever, map_retriever}
 use Rattle.ref_error.specs.declared.error.Error.{Error}
 use Rattle.ref_error.specs.declared.error.Error.TheVariants as error
 use Rattle.ref_error.specs.Errors.{SaysFault, IsFaultOf, UnlessMemory}
@@ -27,7 +27,8 @@ use Rattle.ref_index.proofs.Retrieving.{unless_memory}
 use Rattle.ref_calls.specs.inner.Given.{given_of}
 use Rattle.referencing.specs.Builder.{Builder, new_builder, holding_pending, setting_draft, limited_to, retrieving_from, addition, Adds}
 use Rattle.referencing.specs.Prepared.{given_of as given_with, IsPreparedOf}
-use Rattle.ref_serve.specs.Opening.{addition_of, pending_of, IsWorld}
+use Rattle.referencing.specs.MetaSchemas.{given_of_meta_schemas}
+use Rattle.ref_serve.specs.Opening.{addition_of, pending_of, IsWorld, IsMetaWorld}
 use Rattle.ref_serve.specs.inner.Openings.{Holds, IsErrorOf}
 
 -- ---- answers
@@ -148,4 +149,22 @@ not_prepared m limit draft parents documents old b result holds is refused =
     if_refused (IsFaultyOutcome (given_of_map b)) _ result
     (λ e faulty. world_refused (given_of_builder (map_retriever (trees_of m)) limit (Some draft) parents) (pending_of documents) holds.0 e holds.1
     (given_as (λ g. IsFaultyOutcome g e) m limit draft parents holds.0 old b holds.2 is faulty))
+    refused
+
+-- ---- meta-schemas
+
+pub meta_prepared : {R : Type 0} (documents : List (List ℕ × Data)) (b : Builder R) (result : Result World Error) → Holds [] documents b
+    → IfOk result (IsPreparedOf (given_with default_retriever.may_answer default_retriever.may_refuse b)) → IfOk result (λ world. IsMetaWorld documents (Ok world))
+meta_prepared documents b result holds ready =
+    if_so (IsPreparedOf (given_with default_retriever.may_answer default_retriever.may_refuse b)) _ result
+    (λ world prepared. world_prepared given_of_meta_schemas (pending_of documents) holds.0 world holds.1
+    (subst (λ x. IsPreparedOf (given_with default_retriever.may_answer default_retriever.may_refuse x) world) holds.2 prepared))
+    ready
+
+pub meta_refused : {R : Type 0} (documents : List (List ℕ × Data)) (b : Builder R) (result : Result World Error) → Holds [] documents b
+    → IfErr result (IsFaultyOutcome (given_with default_retriever.may_answer default_retriever.may_refuse b)) → IfErr result (IsErrorOf (IsMetaWorld documents))
+meta_refused documents b result holds refused =
+    if_refused (IsFaultyOutcome (given_with default_retriever.may_answer default_retriever.may_refuse b)) _ result
+    (λ e faulty. world_refused given_of_meta_schemas (pending_of documents) holds.0 e holds.1
+    (subst (λ x. IsFaultyOutcome (given_with default_retriever.may_answer default_retriever.may_refuse x) e) holds.2 faulty))
     refused

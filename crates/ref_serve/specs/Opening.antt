@@ -1,7 +1,7 @@
 -- What `open` gives.
-use Rattle.std.specs.Prelude.{◌≡◌, ℕ, List, [], ◌∷◌, ◌++◌, map, length, codes, Option, None, Some, unwrap_or, Result, Ok, Err}
+use Rattle.std.specs.Prelude.{◌≡◌, ℕ, List, [], ◌∷◌, ◌++◌, map, length, codes, Option, None, Some, is_some, unwrap_or, Result, Ok, Err, if◌then◌else◌}
 use Rattle.serde_json.specs.Data.{Data}
-use Rattle.serde_json.specs.Find.{get}
+use Rattle.serde_json.specs.Find.{get, as_array}
 use Rattle.ref_uri.specs.Targets.{Refusal}
 use Rattle.ref_draft.specs.declared.draft.Draft.{Draft}
 use Rattle.ref_definitions.specs.World.{Layer, World, own_layer}
@@ -10,19 +10,24 @@ use Rattle.ref_definitions.specs.Fault.{Fault, InvalidUri}
 use Rattle.ref_definitions.specs.Preparing.{Given, IsOutcome}
 use Rattle.ref_definitions.specs.Pending.{Addition, Pending, with_additions, given_of_builder}
 use Rattle.ref_definitions.specs.Retrievers.{map_retriever}
+use Rattle.referencing.specs.MetaSchemas.{given_of_meta_schemas}
 use Rattle.ref_calls.specs.Objects.{object_of, texts, whole}
-use Rattle.ref_calls.specs.Errors.{fault_error}
-use Rattle.ref_calls.specs.Calls.{number_in, draft_of, documents_at, needed_documents, under_uris}
-use Rattle.ref_serve.specs.State.{OpenRegistry, Registries, registry_under}
+use Rattle.ref_calls.specs.Errors.{fault_error, with_field}
+use Rattle.ref_calls.specs.Calls.{number_in, draft_of, documents_of, documents_at, needed_documents, under_uris}
+use Rattle.ref_serve.specs.State.{OpenRegistry, Registries, registry_in}
 
 -- ---- what is asked
 
--- the documents that are prepared, by which draft, what may be retrieved for them, up to which limit, and the layers that they
--- are above, with the numbers of their registries
+-- What a registry is to be above: the layers of an open one, with the numbers of their registries, or no layers; or meta-schemas,
+-- which are opened with it.
+pub data Parent : Type 0 where
+  AboveLayers : OpenRegistry → Parent
+  AboveMetaSchemas : List (List ℕ × Data) → Parent
+
+-- the documents that are prepared, by which draft, what may be retrieved for them, and up to which limit
 pub record Opening : Type 0 where
   pub draft : Draft
   pub limit : ℕ
-  pub above : OpenRegistry
   pub documents : List (List ℕ × Data)
   pub remote : List (List ℕ × Data)
 
@@ -35,14 +40,21 @@ limit_at (Some d) = number_in (codes "limit") d
 abbrev pub above_registry : ℕ × OpenRegistry → OpenRegistry
 above_registry r = (r.1.0, r.0 ∷ r.1.1)
 
--- the open registry under `parent`, or else no layers
-abbrev pub parent_at : Registries → Data → Option Data → Result OpenRegistry Data
-parent_at state d None = Ok ([], [])
-parent_at state d (Some value) =
-    registry_under state d (codes "parent") >>= λ r. Ok (above_registry r)
+-- the open registry with a number
+abbrev pub layers_in : Registries → Data → Result OpenRegistry Data
+layers_in state value = registry_in state (codes "parent") value >>= λ r. Ok (above_registry r)
 
-unfoldable pub parent_of : Registries → Data → Result OpenRegistry Data
-parent_of state d = parent_at state d (get (codes "parent") d)
+-- a list is that of meta-schemas, and anything else the number of an open registry
+abbrev pub parent_in : Registries → Data → Result Parent Data
+parent_in state value =
+    if is_some (as_array value)
+    then (documents_of (codes "parent") value >>= λ documents. Ok (AboveMetaSchemas documents))
+    else (layers_in state value >>= λ layers. Ok (AboveLayers layers))
+
+-- what is under `parent`, or else no layers
+abbrev pub parent_at : Registries → Option Data → Result Parent Data
+parent_at state None = Ok (AboveLayers ([], []))
+parent_at state (Some value) = parent_in state value
 
 -- the documents under `remote`, or else none, under the URIs that their texts mean
 unfoldable pub remote_of : Option Data → Result (List (List ℕ × Data)) Data
@@ -50,20 +62,15 @@ remote_of found =
     documents_at (codes "remote") found
     >>= λ documents. under_uris (codes "remote") (unwrap_or documents [])
 
-unfoldable pub opening_of : Registries → Data → Result Opening Data
+unfoldable pub opening_of : Registries → Data → Result (Parent × Opening) Data
 opening_of state d = do
   draft ← draft_of d
   limit ← limit_at (get (codes "limit") d)
-  above ← parent_of state d
+  parent ← parent_at state (get (codes "parent") d)
   documents ← needed_documents (get (codes "documents") d)
   remote ← remote_of (get (codes "remote") d)
-  Ok (record {
-    draft = draft;
-    limit = limit;
-    above = above;
-    documents = documents;
-    remote = remote;
-  })
+  Ok
+      (parent, record { draft = draft; limit = limit; documents = documents; remote = remote })
 
 -- ---- what is prepared
 
@@ -89,13 +96,17 @@ IsWorld given (Ok pending) world =
 IsWorld given (Err refusal) world = world ≡ Err (InvalidUri refusal)
 
 -- what preparing is given: what the documents want is retrieved from the map, up to the limit
-abbrev pub given_of_opening : Opening → List Pending → Given
-given_of_opening o pending =
-    given_of_builder (map_retriever o.remote) o.limit (Some o.draft) o.above.0 pending
+abbrev pub given_of_opening : Opening → World → List Pending → Given
+given_of_opening o parents pending =
+    given_of_builder (map_retriever o.remote) o.limit (Some o.draft) parents pending
 
--- the world of the documents, or the fault
-abbrev pub IsOpeningWorld : Opening → Result World Fault → Type 0
-IsOpeningWorld o world = IsWorld (given_of_opening o) (pending_of o.documents) world
+-- the world of the documents above layers, or the fault
+abbrev pub IsOpeningWorld : Opening → World → Result World Fault → Type 0
+IsOpeningWorld o parents world = IsWorld (given_of_opening o parents) (pending_of o.documents) world
+
+-- the world of meta-schemas, or the fault, as `Registry::from_meta_schemas` prepares them
+abbrev pub IsMetaWorld : List (List ℕ × Data) → Result World Fault → Type 0
+IsMetaWorld documents world = IsWorld given_of_meta_schemas (pending_of documents) world
 
 -- ---- what is answered
 
@@ -105,19 +116,59 @@ opened_members number world =
     (codes "registry", whole number)
     ∷ (codes "documents", texts (map (λ d. d.uri) (own_layer world))) ∷ []
 
--- the registry of a world is opened after the others; or there is the error of a fault, and nothing changes
-abbrev pub IsOpenedIn : Opening → Registries → Registries → Result World Fault → Result Data Data
-    → Type 0
-IsOpenedIn o state next (Ok world) outcome =
-    (outcome ≡ Ok (object_of (opened_members (length state) world)))
-    × (next ≡ state ++ Some (world, o.above.1) ∷ [])
-IsOpenedIn o state next (Err fault) outcome = (outcome ≡ Err (fault_error fault)) × (next ≡ state)
+-- What a registry is opened above: layers with the numbers of their registries; the registries that are open before it gets the
+-- next number; and the members of the result that tell of one that is opened with it.
+pub record Below : Type 0 where
+  pub layers : OpenRegistry
+  pub registries : Registries
+  pub members : List (List ℕ × Data)
 
-abbrev pub IsOpenedBy : Opening → Registries → Registries → Result Data Data → Type 0
-IsOpenedBy o state next outcome =
-    (world : Result World Fault) × IsOpeningWorld o world × IsOpenedIn o state next world outcome
+-- the layers of open registries, or none
+abbrev pub below_open : Registries → OpenRegistry → Below
+below_open state layers = record { layers = layers; registries = state; members = [] }
+
+-- the registry of meta-schemas, which gets the next number
+abbrev pub below_meta : Registries → World → Below
+below_meta state world = record {
+  layers = above_registry (length state, (world, []));
+  registries = state ++ Some (world, []) ∷ [];
+  members = (codes "parent", whole (length state)) ∷ [];
+}
+
+-- the registry of a world is opened; or there is the error of a fault, and nothing changes
+abbrev pub IsOpenedIn : Below → Registries → Registries → Result World Fault → Result Data Data
+    → Type 0
+IsOpenedIn below state next (Ok world) outcome =
+    (outcome
+    ≡ Ok (object_of (opened_members (length below.registries) world ++ below.members)))
+    × (next ≡ below.registries ++ Some (world, below.layers.1) ∷ [])
+IsOpenedIn below state next (Err fault) outcome =
+    (outcome ≡ Err (fault_error fault)) × (next ≡ state)
+
+-- the same of an outcome of preparing
+abbrev pub IsOpenedAbove : Opening → Below → Registries → Registries → Result Data Data → Type 0
+IsOpenedAbove o below state next outcome =
+    (world : Result World Fault) × IsOpeningWorld o below.layers.0 world
+    × IsOpenedIn below state next world outcome
+
+-- above the registry of meta-schemas; or there is the error of their fault, and nothing changes
+abbrev pub IsOpenedAboveMeta : Opening → Registries → Registries → Result World Fault
+    → Result Data Data → Type 0
+IsOpenedAboveMeta o state next (Ok world) outcome =
+    IsOpenedAbove o (below_meta state world) state next outcome
+IsOpenedAboveMeta o state next (Err fault) outcome =
+    (outcome ≡ Err (with_field (codes "parent") (fault_error fault))) × (next ≡ state)
+
+-- above layers, or above meta-schemas, an outcome of preparing which is first
+abbrev pub IsOpenedBy : Parent → Opening → Registries → Registries → Result Data Data → Type 0
+IsOpenedBy (AboveLayers layers) o state next outcome =
+    IsOpenedAbove o (below_open state layers) state next outcome
+IsOpenedBy (AboveMetaSchemas documents) o state next outcome =
+    (world : Result World Fault) × IsMetaWorld documents world
+    × IsOpenedAboveMeta o state next world outcome
 
 -- the same of a call that may not be readable
-abbrev pub IsOpenedAs : Result Opening Data → Registries → Registries → Result Data Data → Type 0
-IsOpenedAs (Ok o) state next outcome = IsOpenedBy o state next outcome
+abbrev pub IsOpenedAs : Result (Parent × Opening) Data → Registries → Registries
+    → Result Data Data → Type 0
+IsOpenedAs (Ok asked) state next outcome = IsOpenedBy asked.0 asked.1 state next outcome
 IsOpenedAs (Err error) state next outcome = (outcome ≡ Err error) × (next ≡ state)

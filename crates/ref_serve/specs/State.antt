@@ -25,17 +25,17 @@ without_registry [] number = []
 without_registry (slot ∷ state) zero = None ∷ state
 without_registry (slot ∷ state) (suc n) = slot ∷ without_registry state n
 
--- the number under a member, and the open registry that has it
+-- the number that a member is, and the open registry that has it
 abbrev pub numbered_registry : Registries → List ℕ → ℕ → Result (ℕ × OpenRegistry) Data
 numbered_registry state field number =
     ok_or (option_and_then (λ o. Some (number, o)) (open_at state number))
     (field_error UnknownRegistry field)
 
+abbrev pub registry_in : Registries → List ℕ → Data → Result (ℕ × OpenRegistry) Data
+registry_in state field value = number_in field value >>= numbered_registry state field
+
 unfoldable pub registry_under : Registries → Data → List ℕ → Result (ℕ × OpenRegistry) Data
-registry_under state d field = do
-  value ← required field d
-  number ← number_in field value
-  numbered_registry state field number
+registry_under state d field = required field d >>= registry_in state field
 
 -- the number of the registry of a layer: 0 is the registry itself, and its parents follow, nearest first
 abbrev pub layer_number : ℕ → List ℕ → ℕ → ℕ

@@ -1,5 +1,5 @@
 //! `open`.
-ghost use Rattle.std.specs.Prelude.{◌≡◌, ◌∷◌, ◌++◌, [], codes, map, length, Some, Ok, IfOk, IfErr, OnOk, option_map, unwrap_or};
+ghost use Rattle.std.specs.Prelude.{◌≡◌, ◌≢◌, ◌<◌, ◌+◌, ◌^◌, ◌∷◌, ◌++◌, ℕ, List, [], codes, map, length, Some, Ok, IfOk, IfErr, OnOk, option_map, unwrap_or};
 ghost use Rattle.serde_json.specs.Data.{string};
 ghost use Rattle.serde_json.specs.Find.{get, get_member};
 ghost use Rattle.serde_json.specs.View.{view, members_view};
@@ -9,17 +9,20 @@ ghost use Rattle.ref_definitions.specs.Retrievers.{map_retriever};
 ghost use Rattle.ref_definitions.specs.World.{own_layer};
 ghost use Rattle.ref_error.specs.Retrieving.{trees_of};
 ghost use Rattle.referencing.specs.Builder.{builder_of};
-ghost use Rattle.ref_calls.specs.Objects.{object_of, with_all, texts};
+ghost use Rattle.ref_calls.specs.Objects.{object_of, with_all, texts, whole};
 ghost use Rattle.ref_calls.specs.Outcome.{Answers};
 ghost use Rattle.ref_calls.specs.inner.Given.{given_of};
 ghost use Rattle.ref_serve.specs.Answering.{IsOpened};
 ghost use Rattle.ref_serve.specs.Opening as spec;
-ghost use Rattle.ref_serve.specs.inner.Openings.{above_view, opening_view, Holds, IsErrorOf, IsWorldOr, GivesOpened};
+ghost use Rattle.ref_serve.specs.inner.Openings.{above_view, parent_view, opening_view, asked_view, Holds, IsErrorOf, IsWorldOr, IsMetaWorldOr, GivesOpened};
+ghost use Rattle.ref_serve.specs.State.{Registries};
 
-use crate::registry::registry_under;
+use crate::registry::registry_in;
 use crate::state::{Open, State};
-use ref_calls::document::{Document, documents_under, members_of, needed_documents, under_uris};
-use ref_calls::fault::fault_error;
+use ref_calls::document::{
+    Document, documents_of, documents_under, members_of, needed_documents, taken, under_uris,
+};
+use ref_calls::fault::{fault_error, in_field};
 use ref_calls::field::{draft_of, number_in};
 use ref_calls::members::{Members, push_text, put_number};
 use ref_calls::stop::Stop;
@@ -41,12 +44,20 @@ struct Above {
     numbers: Vec<usize>,
 }
 
+// What a registry is to be above.
+#[derive(Drop)]
+enum Parent {
+    // An open registry, or none.
+    Layers(Option<Above>),
+    // Meta-schemas, which are opened with it.
+    MetaSchemas(Vec<Document>),
+}
+
 // What is asked for: documents, and how they are prepared.
 #[derive(Drop)]
 struct Wanted {
     draft: Draft,
     limit: usize,
-    above: Option<Above>,
     documents: Vec<Document>,
     remote: MapRetriever,
 }
@@ -84,16 +95,12 @@ fn numbers_of(alloc: Global, number: usize, below: &Open) -> Result<Vec<usize>, 
     Ok(numbers)
 }
 
-// The open registry under `parent`, where that is there.
-#[tactic(auto, unfolding(crate::specs::Opening::parent_of))]
-fn parent_of(alloc: Global, state: &mut State, tree: &Value) -> Result<Option<Above>, Stop<Value>>
-    ensures above { Answers above_view result (spec.parent_of state.old (view tree.now)) }
+// The open registry with a number.
+fn layers_in(alloc: Global, state: &mut State, value: &Value) -> Result<Option<Above>, Stop<Value>>
+    ensures above { Answers above_view result (spec.layers_in state.old (view value.now)) }
     ensures same { state.new ≡ state.old }
 {
-    if tree.get("parent").is_none() {
-        return Ok(None);
-    }
-    let (number, open) = registry_under(alloc, state, tree, "parent")?;
+    let (number, open) = registry_in(alloc, state, value, "parent")?;
     let numbers = numbers_of(alloc, number, open)?;
     match state.lend(alloc, number)? {
         Some(registry) => Ok(Some(Above { registry, numbers })),
@@ -101,25 +108,54 @@ fn parent_of(alloc: Global, state: &mut State, tree: &Value) -> Result<Option<Ab
     }
 }
 
+// The meta-schemas of a list, or the open registry with a number.
+fn parent_in(alloc: Global, state: &mut State, value: Value) -> Result<Parent, Stop<Value>>
+    ensures parent { Answers parent_view result (spec.parent_in state.old (view value)) }
+    ensures same { state.new ≡ state.old }
+{
+    if value.is_array() {
+        let documents = documents_of(alloc, value, "parent")?;
+        return Ok(Parent::MetaSchemas(documents));
+    }
+    let above = layers_in(alloc, state, &value)?;
+    Ok(Parent::Layers(above))
+}
+
+// What is under `parent`.
+fn parent_of(alloc: Global, state: &mut State, members: &mut Members) -> Result<Parent, Stop<Value>>
+    ensures parent { Answers parent_view result
+        (spec.parent_at state.old (get_member (codes "parent")
+        (members_view members.old.entries))) }
+    ensures same { state.new ≡ state.old }
+    ensures others { (other : List ℕ) → other ≢ codes "parent"
+        → get_member other (members_view members.new.entries)
+        ≡ get_member other (members_view members.old.entries) }
+{
+    match taken(members, "parent") {
+        Some(value) => parent_in(alloc, state, value),
+        None => Ok(Parent::Layers(None)),
+    }
+}
+
 // What a call asks for.
 #[tactic(auto, unfolding(crate::specs::Opening::opening_of))]
-fn wanted_of(alloc: Global, state: &mut State, tree: Value) -> Result<Wanted, Stop<Value>>
-    ensures wanted { Answers opening_view result (spec.opening_of state.old (view tree)) }
+fn wanted_of(alloc: Global, state: &mut State, tree: Value) -> Result<(Parent, Wanted), Stop<Value>>
+    ensures wanted { Answers asked_view result (spec.opening_of state.old (view tree)) }
     ensures same { state.new ≡ state.old }
 {
     let draft = draft_of(alloc, &tree)?;
     let limit = limit_of(alloc, &tree)?;
-    let above = parent_of(alloc, state, &tree)?;
     let mut members = members_of(alloc, tree);
+    let parent = parent_of(alloc, state, &mut members)?;
     let documents = needed_documents(alloc, &mut members)?;
     let remote = remote_of(alloc, &mut members)?;
-    Ok(Wanted {
+    let wanted = Wanted {
         draft,
         limit,
-        above,
         documents,
         remote,
-    })
+    };
+    Ok((parent, wanted))
 }
 
 // A builder with the documents, above a registry where there is one.
@@ -168,14 +204,13 @@ fn prepared(
         .prepare()
 }
 
-// The registry that is wanted.
-fn open_of(alloc: Global, wanted: Wanted) -> Result<Open, Stop<Value>>
-    ensures { IsWorldOr (opening_view wanted) result }
+// The registry that is wanted, above another where there is one.
+fn open_of(alloc: Global, above: Option<Above>, wanted: Wanted) -> Result<Open, Stop<Value>>
+    ensures { IsWorldOr (opening_view wanted) (above_view above) result }
 {
     let Wanted {
         draft,
         limit,
-        above,
         documents,
         remote,
     } = wanted;
@@ -186,6 +221,26 @@ fn open_of(alloc: Global, wanted: Wanted) -> Result<Open, Stop<Value>>
     match prepared(alloc, registry, documents, draft, limit, remote) {
         Ok(registry) => Ok(Open::new(registry, numbers)),
         Err(error) => Err(fault_error(alloc, &error)),
+    }
+}
+
+// The registry of meta-schemas.
+fn meta_schemas_of(alloc: Global, documents: Vec<Document>) -> Result<Registry<'static>, Error>
+    ensures ok { IfOk result
+        (λ world. spec.IsMetaWorld (map given_of documents.items) (Ok world)) }
+    ensures fault { IfErr result (IsErrorOf (spec.IsMetaWorld (map given_of documents.items))) }
+{
+    let builder = builder_of(alloc, None, documents)?;
+    builder.prepare()
+}
+
+// The open registry of meta-schemas.
+fn open_meta_schemas(alloc: Global, documents: Vec<Document>) -> Result<Open, Stop<Value>>
+    ensures { IsMetaWorldOr (map given_of documents.items) result }
+{
+    match meta_schemas_of(alloc, documents) {
+        Ok(registry) => Ok(Open::new(registry, Vec::new(alloc))),
+        Err(error) => Err(in_field(alloc, fault_error(alloc, &error), "parent")),
     }
 }
 
@@ -231,12 +286,74 @@ fn open_one(alloc: Global, number: usize, added: Open) -> Result<Opened, AllocEr
     })
 }
 
-/// Opens a registry of documents.
+// A registry and its parent, which get the next two numbers.
+fn open_both(alloc: Global, number: usize, parent: Open, added: Open) -> Result<Opened, AllocError>
+    requires next { number + 1 < 2 ^ 64 }
+    ensures result { IfOk result
+        (λ opened. view opened.result ≡ object_of (spec.opened_members (number + 1) added.0
+        ++ (codes "parent", whole number) ∷ [])) }
+    ensures both { IfOk result
+        (λ opened. opened.registries.items ≡ Some parent ∷ Some added ∷ []) }
+{
+    let mut members = Map::new(alloc);
+    put_opened(alloc, &mut members, number + 1, &added)?;
+    put_number(alloc, &mut members, "parent", number)?;
+    let mut registries = Vec::with_capacity(alloc, 2)?;
+    registries.push(Some(parent))?;
+    registries.push(Some(added))?;
+    Ok(Opened {
+        result: Value::Object(members),
+        registries,
+    })
+}
+
+// A registry above another that is open, or above none.
+fn open_above(
+    alloc: Global,
+    number: usize,
+    above: Option<Above>,
+    wanted: Wanted,
+) -> Result<Opened, Stop<Value>>
+    ensures { (state : Registries) → number ≡ length state
+        → GivesOpened
+        (spec.IsOpenedBy (spec.AboveLayers (above_view above)) (opening_view wanted) state) state
+        result }
+{
+    let added = open_of(alloc, above, wanted)?;
+    Ok(open_one(alloc, number, added)?)
+}
+
+// A registry above meta-schemas, which are opened with it.
+fn open_above_meta_schemas(
+    alloc: Global,
+    number: usize,
+    documents: Vec<Document>,
+    wanted: Wanted,
+) -> Result<Opened, Stop<Value>>
+    requires next { number + 1 < 2 ^ 64 }
+    ensures { (state : Registries) → number ≡ length state
+        → GivesOpened
+        (spec.IsOpenedBy (spec.AboveMetaSchemas (map given_of documents.items))
+        (opening_view wanted) state) state result }
+{
+    let mut parent = open_meta_schemas(alloc, documents)?;
+    let numbers = numbers_of(alloc, number, &parent)?;
+    let registry = parent.lend(alloc)?;
+    let added = open_of(alloc, Some(Above { registry, numbers }), wanted)?;
+    Ok(open_both(alloc, number, parent, added)?)
+}
+
+/// Opens a registry of documents, and with it one of meta-schemas where its parent is a list of them.
 pub fn open(alloc: Global, state: &mut State, tree: Value) -> Result<Opened, Stop<Value>>
     ensures same { state.new ≡ state.old }
     ensures opened { GivesOpened (IsOpened state.old (view tree)) state.old result }
 {
-    let wanted = wanted_of(alloc, state, tree)?;
-    let added = open_of(alloc, wanted)?;
-    Ok(open_one(alloc, state.len(), added)?)
+    let (parent, wanted) = wanted_of(alloc, state, tree)?;
+    let number = state.len();
+    match parent {
+        Parent::Layers(above) => open_above(alloc, number, above, wanted),
+        Parent::MetaSchemas(documents) => {
+            open_above_meta_schemas(alloc, number, documents, wanted)
+        }
+    }
 }

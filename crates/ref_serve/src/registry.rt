@@ -11,18 +11,16 @@ use ref_calls::stop::Stop;
 use serde_json::Value;
 use std::alloc::Global;
 
-/// The number under a member, and the open registry that has it.
-#[tactic(auto, unfolding(crate::specs::State::registry_under))]
-pub fn registry_under<'s>(
+/// The number that a member is, and the open registry that has it.
+pub fn registry_in<'s>(
     alloc: Global,
     state: &'s State,
-    tree: &Value,
+    value: &Value,
     field: &str,
 ) -> Result<(usize, &'s Open), Stop<Value>>
     ensures { Answers (λ r. (r.0, r.1.now)) result
-        (spec.registry_under state.now (view tree.now) field.now) }
+        (spec.registry_in state.now field.now (view value.now)) }
 {
-    let value = required(alloc, tree, field)?;
     let number = number_in(alloc, value, field)?;
     match state.open(number) {
         Some(open) => Ok((number, open)),
@@ -31,6 +29,7 @@ pub fn registry_under<'s>(
 }
 
 /// The open registry that is asked.
+#[tactic(auto, unfolding(crate::specs::State::registry_under))]
 pub fn registry_of<'s>(
     alloc: Global,
     state: &'s State,
@@ -39,5 +38,6 @@ pub fn registry_of<'s>(
     ensures { Answers (λ r. (r.0, r.1.now)) result
         (spec.registry_under state.now (view tree.now) (codes "registry")) }
 {
-    registry_under(alloc, state, tree, "registry")
+    let value = required(alloc, tree, "registry")?;
+    registry_in(alloc, state, value, "registry")
 }

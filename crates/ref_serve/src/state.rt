@@ -1,5 +1,5 @@
 //! The registries that are open.
-ghost use Rattle.std.specs.Prelude.{◌≡◌, ◌++◌, [], None, IfOk, OnOk, OnErr, option_map, length};
+ghost use Rattle.std.specs.Prelude.{◌≡◌, ◌<◌, ◌+◌, ◌^◌, ◌++◌, [], None, IfOk, OnOk, OnErr, option_map, length};
 ghost use Rattle.ref_serve.specs.State as spec;
 
 use referencing::Registry;
@@ -103,6 +103,7 @@ impl State {
     /// How many registries were opened.
     pub fn len(&self) -> usize
         ensures value { result ≡ length self.now }
+        ensures within { length self.now + 1 < 2 ^ 64 }
     {
         self.slots.len()
     }

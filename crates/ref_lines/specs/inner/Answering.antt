@@ -1,9 +1,9 @@
 -- The next answer of a service.
-use Rattle.std.specs.Prelude.{◌≡◌, ℕ, Bool, true, List, [], ◌++◌, Option, Some, None, Result, Ok, Err, Vec}
+use Rattle.std.specs.Prelude.{◌≡◌, ℕ, Bool, true, false, List, [], ◌++◌, Option, Some, None, Result, Ok, Err, Vec}
 use Rattle.std.specs.Io.KnownBytes.{Appends, Consumes}
 use Rattle.std.specs.declared.alloc.AllocError.{AllocError}
 use Rattle.std.specs.declared.alloc.Global.{Global}
-use Rattle.ref_lines.specs.Lines.{lines}
+use Rattle.ref_lines.specs.Lines.{lines, whole_lines}
 use Rattle.ref_lines.specs.Serving.{Answers, AnswersLine, out_of_memory}
 use Rattle.ref_lines.specs.inner.Held.{Cuts, StaysEnded}
 
@@ -28,13 +28,19 @@ AreFront bytes front held ended =
     (rest : List ℕ) → (ended ≡ true → rest ≡ [])
     → lines (bytes ++ rest) ≡ front ++ lines (held ++ rest)
 
+-- the same of the lines that end at a line feed, before the end
+abbrev pub AreWhole : List ℕ → List (List ℕ) → List ℕ → Bool → Type 0
+AreWhole bytes front held ended =
+    (rest : List ℕ) → ended ≡ false
+    → whole_lines (bytes ++ rest) ≡ front ++ whole_lines (held ++ rest)
+
 -- the lines before what is held were answered
 abbrev pub Served : {S : Type 0} → (S → List ℕ → S → List ℕ → Type 0) → S → S → Option (List ℕ)
     → Option (List ℕ) → Option (List ℕ) → Option (List ℕ) → List ℕ → Bool → Type 0
 Served may_answer service end left left' taken taken' held ended =
     (bytes text : List ℕ) × (front : List (List ℕ)) × Consumes left left' bytes
     × Appends taken taken' text × Answers may_answer service front end text
-    × AreFront bytes front held ended
+    × AreFront bytes front held ended × AreWhole bytes front held ended
 
 -- the next answer, to a line of what was held and of bytes that were read
 abbrev pub GotAnswer : {S : Type 0} → (S → List ℕ → S → List ℕ → Type 0) → S → S → Option (List ℕ)

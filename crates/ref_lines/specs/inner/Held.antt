@@ -1,5 +1,5 @@
 -- What a chunk holds, and what is read of a line.
-use Rattle.std.specs.Prelude.{◌≡◌, ◌≢◌, ℕ, ◌-◌, Bool, true, false, List, [], ◌∷◌, ◌++◌, ◌⊎◌, take, drop, Option}
+use Rattle.std.specs.Prelude.{◌≡◌, ◌≢◌, ◌≤◌, length, ℕ, ◌+◌, ◌-◌, Bool, true, false, List, [], ◌∷◌, ◌++◌, ◌⊎◌, take, drop, Option}
 use Rattle.std.specs.Io.KnownBytes.{Consumes}
 use Rattle.ref_lines.specs.declared.chunk.Chunk.{Chunk}
 use Rattle.ref_lines.specs.declared.line.Part.{Part}
@@ -58,3 +58,19 @@ GotNext left left' before after line ended ended' =
 -- some bytes were read, and none where the end was reached before
 abbrev pub Gave : Option (List ℕ) → Option (List ℕ) → Bool → Type 0
 Gave left left' ended = (bytes : List ℕ) × Consumes left left' bytes × (ended ≡ true → bytes ≡ [])
+
+-- bytes were read, and what was held goes on with them without a line feed; the end wasn't reached
+abbrev pub IsUnfinished : Option (List ℕ) → Option (List ℕ) → List ℕ → Bool → Type 0
+IsUnfinished left left' before ended =
+    (bytes : List ℕ) × Consumes left left' bytes × IsFree (before ++ bytes) × (ended ≡ false)
+
+-- a byte was read in each of so many reads, but for one that met the end
+abbrev pub GaveForReads : ℕ → Option (List ℕ) → Option (List ℕ) → Bool → Type 0
+GaveForReads count left left' ended =
+    (bytes : List ℕ) × Consumes left left' bytes × (count ≤ length bytes + 1)
+    × (ended ≡ false → count ≤ length bytes)
+
+-- a byte was read for each of so many lines, beside what is held
+abbrev pub GaveForLines : ℕ → Option (List ℕ) → Option (List ℕ) → List ℕ → Type 0
+GaveForLines count left left' held =
+    (bytes : List ℕ) × Consumes left left' bytes × (count + length held ≤ length bytes)

@@ -1,5 +1,5 @@
 -- What is seen of a call of `open`.
-use Rattle.std.specs.Prelude.{◌≡◌, ℕ, List, [], ◌++◌, map, Option, None, Some, Result, Ok, Err}
+use Rattle.std.specs.Prelude.{◌≡◌, ℕ, List, [], ◌++◌, map, codes, Option, None, Some, Result, Ok, Err}
 use Rattle.serde_json.specs.Data.{Data}
 use Rattle.serde_json.specs.View.{view}
 use Rattle.serde_json.specs.declared.value.Value.{Value}
@@ -10,11 +10,13 @@ use Rattle.ref_error.specs.Errors.{SaysFault, UnlessMemory}
 use Rattle.ref_error.specs.Retrieving.{trees_of}
 use Rattle.ref_calls.specs.declared.stop.Stop.{Stop}
 use Rattle.ref_calls.specs.declared.stop.Stop.TheVariants.{Memory, Because}
-use Rattle.ref_calls.specs.Errors.{fault_error}
+use Rattle.ref_calls.specs.Errors.{fault_error, with_field}
 use Rattle.ref_calls.specs.inner.Given.{given_of}
 use Rattle.referencing.specs.Builder.{Builder, new_builder}
 use Rattle.ref_definitions.specs.Pending.{Pending}
 use Rattle.ref_serve.specs.declared.opening.Above.{Above}
+use Rattle.ref_serve.specs.declared.opening.Parent.{Parent}
+use Rattle.ref_serve.specs.declared.opening.Parent.TheVariants.{Layers, MetaSchemas}
 use Rattle.ref_serve.specs.declared.opening.Wanted.{Wanted}
 use Rattle.ref_serve.specs.declared.opening.Opened.{Opened}
 use Rattle.ref_serve.specs.State.{OpenRegistry, Registries}
@@ -25,15 +27,21 @@ abbrev pub above_view : Option Above → OpenRegistry
 above_view None = ([], [])
 above_view (Some above) = (above.registry.now, above.numbers.items)
 
+abbrev pub parent_view : Parent → spec.Parent
+parent_view (Layers above) = spec.AboveLayers (above_view above)
+parent_view (MetaSchemas documents) = spec.AboveMetaSchemas (map given_of documents.items)
+
 abbrev pub opening_view : Wanted → spec.Opening
 opening_view w =
     record {
       draft = w.draft;
       limit = w.limit;
-      above = above_view w.above;
       documents = map given_of w.documents.items;
       remote = trees_of w.remote;
     }
+
+abbrev pub asked_view : Parent × Wanted → spec.Parent × spec.Opening
+asked_view asked = (parent_view asked.0, opening_view asked.1)
 
 -- a fault that may be the answer, unless memory ran out
 abbrev pub IsErrorOf : {A : Type 0} → (Result A Fault → Type 0) → Error → Type 0
@@ -52,9 +60,18 @@ GivesOpened may state (Ok opened) = may (state ++ opened.registries.items) (Ok (
 GivesOpened may state (Err Memory) = Unit {0}
 GivesOpened may state (Err (Because value)) = may state (Err (view value))
 
--- an open registry, or a fault's error, unless memory ran out
-abbrev pub IsWorldOr : spec.Opening → Result OpenRegistry (Stop Value) → Type 0
-IsWorldOr o (Ok added) = spec.IsOpeningWorld o (Ok added.0) × (added.1 ≡ o.above.1)
-IsWorldOr o (Err Memory) = Unit {0}
-IsWorldOr o (Err (Because value)) =
-    (fault : Fault) × spec.IsOpeningWorld o (Err fault) × (view value ≡ fault_error fault)
+-- an open registry above layers, or a fault's error, unless memory ran out
+abbrev pub IsWorldOr : spec.Opening → OpenRegistry → Result OpenRegistry (Stop Value) → Type 0
+IsWorldOr o layers (Ok added) =
+    spec.IsOpeningWorld o layers.0 (Ok added.0) × (added.1 ≡ layers.1)
+IsWorldOr o layers (Err Memory) = Unit {0}
+IsWorldOr o layers (Err (Because value)) =
+    (fault : Fault) × spec.IsOpeningWorld o layers.0 (Err fault) × (view value ≡ fault_error fault)
+
+-- the same of meta-schemas
+abbrev pub IsMetaWorldOr : List (List ℕ × Data) → Result OpenRegistry (Stop Value) → Type 0
+IsMetaWorldOr documents (Ok added) = spec.IsMetaWorld documents (Ok added.0) × (added.1 ≡ [])
+IsMetaWorldOr documents (Err Memory) = Unit {0}
+IsMetaWorldOr documents (Err (Because value)) =
+    (fault : Fault) × spec.IsMetaWorld documents (Err fault)
+    × (view value ≡ with_field (codes "parent") (fault_error fault))

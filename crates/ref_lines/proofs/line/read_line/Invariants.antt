@@ -1,6 +1,6 @@
 use Rattle.std.proofs.Common.{◌≡◌, true, IsTrue}
 use Rattle.std.specs.Io.KnownBytes.{IsAtEnd}
-use Rattle.ref_lines.specs.inner.Held.{held, Got}
+use Rattle.ref_lines.specs.inner.Held.{held, Got, GaveForReads}
 use Rattle.ref_lines.proofs.line.read_line.Given as goal
 
 abbrev pub invariant-loop : goal.invariant-loop
@@ -8,5 +8,6 @@ invariant-loop g l = record {
   got : Got (g.R.Source.remaining l.initial.source) (g.R.Source.remaining l.source) (held l.initial.chunk) (held l.chunk) l.part l.initial.chunk.has_ended l.chunk.has_ended;
   end : (l.initial.chunk.has_ended ≡ true → IsTrue (g.R.Source.ended l.initial.source) × IsAtEnd (g.R.Source.remaining l.initial.source))
       → l.chunk.has_ended ≡ true → IsTrue (g.R.Source.ended l.source) × IsAtEnd (g.R.Source.remaining l.source);
+  reads : GaveForReads l.counter (g.R.Source.remaining l.initial.source) (g.R.Source.remaining l.source) l.chunk.has_ended;
   count : g.R.Source.failures l.source ≡ g.R.Source.failures l.initial.source;
 }

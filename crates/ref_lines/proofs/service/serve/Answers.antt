@@ -1,13 +1,14 @@
-use Rattle.std.proofs.Common.{[], sym, ◌∙◌, refl}
+use Rattle.std.proofs.Common.{[], sym, ◌∙◌, refl, rules, arith}
 use Rattle.std.proofs.KnownBytes.{Consumes-nil}
 use Rattle.std.proofs.lemmas.Bool.{false≢true}
 use Rattle.ref_lines.specs.inner.Held.{held}
-use Rattle.ref_lines.proofs.Serving.{err_always, served_none, served_more, served_all, served_so_far, answered_so_far, unwritten}
+use Rattle.ref_lines.proofs.Serving.{err_always, served_none, served_more, served_all, served_so_far, served_whole, answered_so_far, unwritten, lines_none, lines_more, lines_all, long_line}
 use Rattle.ref_lines.proofs.service.serve.Goals as goal
 
 pub loop-init : goal.loop-init
 loop-init g c = record {
   served = served_none g.S.Service.may_answer c.args.service.now _ _ (held c.new-chunk.result) c.new-chunk.result.has_ended c.new-chunk.ensures.held;
+  lines = lines_none _ (held c.new-chunk.result) c.new-chunk.ensures.held;
   end = λ e. absurd (false≢true (sym c.new-chunk.ensures.ended ∙ e));
   reads = refl;
   writes = refl;
@@ -28,6 +29,8 @@ loop-preserved g c =
     record {
       served = served_more g.S.Service.may_answer c.args.service.now c.loop.service c.next_answer.new.service _ _ _ _ _ _ (held c.loop.chunk) (held c.next_answer.new.chunk) c.loop.chunk.has_ended c.next_answer.new.chunk.has_ended
           c.in-Some.answer c.loop.invariant.served next c.in_ok-write-in-Some.ensures.taken;
+      lines = lines_more g.S.Service.may_answer c.loop.service c.next_answer.new.service _ _ _ c.loop.counter (held c.loop.chunk) (held c.next_answer.new.chunk) c.loop.chunk.has_ended c.next_answer.new.chunk.has_ended
+          c.in-Some.answer c.loop.invariant.lines next;
       end = c.in_ok-answer.ensures.end c.loop.invariant.end;
       reads = c.in_ok-answer.ensures.count ∙ c.loop.invariant.reads;
       writes = c.in_ok-write-in-Some.ensures.kept ∙ c.loop.invariant.writes;
@@ -59,3 +62,14 @@ pub returns-clause-answered : goal.returns-clause-answered
 returns-clause-answered g c =
     answered_so_far g.S.Service.may_answer c.args.service.now c.loop.service _ _ _ _
     (served_so_far g.S.Service.may_answer c.args.service.now c.loop.service c.loop.service _ _ _ _ _ (held c.loop.chunk) c.loop.chunk.has_ended c.loop.invariant.served ([], Consumes-nil _, λ _. refl) refl)
+
+pub returns-in_err-answer-clause-before_read : goal.returns-in_err-answer-clause-before_read
+returns-in_err-answer-clause-before_read g c is =
+    served_whole g.S.Service.may_answer c.args.service.now c.loop.service c.next_answer.new.service _ _ _ _ _ (held c.loop.chunk) c.loop.chunk.has_ended c.loop.invariant.served
+    (c.in_err-answer.ensures.unfinished (search rules)) c.in_err-answer.ensures.stays
+
+pub returns-in_err-answer-clause-memory : goal.returns-in_err-answer-clause-memory
+returns-in_err-answer-clause-memory g c is = long_line _ _ _ c.loop.counter (held c.loop.chunk) c.loop.invariant.lines (c.in_err-answer.ensures.memory (search rules))
+
+pub returns-clause-memory : goal.returns-clause-memory
+returns-clause-memory g c _ = lines_all _ _ c.loop.counter (held c.loop.chunk) c.loop.invariant.lines (omega (arith, c.loop-test.false))

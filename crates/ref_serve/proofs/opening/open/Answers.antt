@@ -1,31 +1,31 @@
-use Rattle.std.proofs.Common.{◌≡◌, Err, length, rules, sym, ap, ◌∙◌, subst}
+use Rattle.std.proofs.Common.{◌≡◌, Ok, Err, length, map, rules, sym, ap, ◌∙◌, subst}
 use Rattle.serde_json.specs.View.{view}
-use Rattle.ref_calls.specs.Objects.{object_of}
+use Rattle.ref_calls.specs.inner.Given.{given_of}
 use Rattle.ref_serve.specs.Answering.{IsOpened}
-use Rattle.ref_serve.specs.Opening.{opened_members}
-use Rattle.ref_serve.specs.inner.Openings.{opening_view, GivesOpened}
-use Rattle.ref_serve.proofs.OpeningReads.{opened_one, opened_none, unread}
+use Rattle.ref_serve.specs.Opening.{AboveLayers, AboveMetaSchemas}
+use Rattle.ref_serve.specs.inner.Openings.{above_view, parent_view, opening_view, GivesOpened}
+use Rattle.ref_serve.proofs.OpeningReads.{gives_asked, unread}
 use Rattle.ref_serve.proofs.opening.open.Goals as goal
 
-pub returns-in_err-wanted-clause-opened : goal.returns-in_err-wanted-clause-opened
-returns-in_err-wanted-clause-opened c =
+pub returns-in_err-parent-clause-opened : goal.returns-in_err-parent-clause-opened
+returns-in_err-parent-clause-opened c =
     let state = c.args.state.now in
     let d = view c.args.tree in
-    let same : c.from_residual.result ≡ Err c.in_err-wanted.field-0.0 = search rules in
-    subst (GivesOpened (IsOpened state d) state) (sym same) (unread state d c.in_err-wanted.field-0.0 c.in_err-wanted.ensures.wanted)
+    let same : c.from_residual.result ≡ Err c.in_err-parent.field-0.0 = search rules in
+    subst (GivesOpened (IsOpened state d) state) (sym same) (unread state d c.in_err-parent.field-0.0 c.in_err-parent.ensures.wanted)
 
-pub returns-in_err-added-clause-opened : goal.returns-in_err-added-clause-opened
-returns-in_err-added-clause-opened c =
+pub returns-in-Layers-clause-opened : goal.returns-in-Layers-clause-opened
+returns-in-Layers-clause-opened c =
     let state = c.args.state.now in
-    let d = view c.args.tree in
-    let same : c.from_residual-in_err-added.result ≡ Err c.in_err-added.field-0.0 = search rules in
-    subst (GivesOpened (IsOpened state d) state) (sym same)
-    (opened_none state d (opening_view c.in_ok-wanted.wanted) c.in_err-added.field-0.0 c.in_ok-wanted.ensures.wanted c.in_err-added.ensures)
+    let wanted = opening_view c.in_ok-parent.wanted in
+    let number : c.len-number.result ≡ length state = search rules in
+    gives_asked state (view c.args.tree) (AboveLayers (above_view c.in-Layers.above)) wanted c.open_above.result
+    (c.in_ok-parent.ensures.wanted ∙ ap (λ p. Ok (parent_view p, wanted)) c.in-Layers.is) (c.open_above.ensures state number)
 
-pub returns-clause-opened : goal.returns-clause-opened
-returns-clause-opened c =
+pub returns-in-MetaSchemas-clause-opened : goal.returns-in-MetaSchemas-clause-opened
+returns-in-MetaSchemas-clause-opened c =
     let state = c.args.state.now in
-    let added = c.in_ok-added.added in
-    let number : c.len.result ≡ length state = search rules in
-    opened_one state (view c.args.tree) (opening_view c.in_ok-wanted.wanted) added c.in_ok-open_one.field-0 c.in_ok-wanted.ensures.wanted c.in_ok-added.ensures
-    (c.in_ok-open_one.ensures.result ∙ ap (λ n. object_of (opened_members n added.0)) number) c.in_ok-open_one.ensures.one
+    let wanted = opening_view c.in_ok-parent.wanted in
+    let number : c.len-number.result ≡ length state = search rules in
+    gives_asked state (view c.args.tree) (AboveMetaSchemas (map given_of c.in-MetaSchemas.documents.items)) wanted c.open_above_meta_schemas.result
+    (c.in_ok-parent.ensures.wanted ∙ ap (λ p. Ok (parent_view p, wanted)) c.in-MetaSchemas.is) (c.open_above_meta_schemas.ensures state number)

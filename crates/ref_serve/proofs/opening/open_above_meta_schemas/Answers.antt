@@ -1,0 +1,25 @@
+use Rattle.std.proofs.Common.{◌≡◌, Err, map, rules, sym, subst}
+use Rattle.ref_calls.specs.inner.Given.{given_of}
+use Rattle.ref_serve.specs.Opening.{AboveMetaSchemas, IsOpenedBy}
+use Rattle.ref_serve.specs.inner.Openings.{opening_view, GivesOpened}
+use Rattle.ref_serve.proofs.OpeningReads.{no_meta, meta_layers, opened_neither}
+use Rattle.ref_serve.proofs.opening.open_above_meta_schemas.Goals as goal
+
+pub returns-in_err-parent : goal.returns-in_err-parent
+returns-in_err-parent c state number =
+    let o = opening_view c.args.wanted in
+    let documents = map given_of c.args.documents.items in
+    let same : c.from_residual.result ≡ Err c.in_err-parent.field-0.0 = search rules in
+    subst (GivesOpened (IsOpenedBy (AboveMetaSchemas documents) o state) state) (sym same) (no_meta state o documents c.in_err-parent.field-0.0 c.in_err-parent.ensures)
+
+pub returns-in_err-added : goal.returns-in_err-added
+returns-in_err-added c state number =
+    let o = opening_view c.args.wanted in
+    let documents = map given_of c.args.documents.items in
+    let parent = c.in_ok-parent.parent in
+    let world = c.in_ok-registry.registry.now in
+    let numbers = c.in_ok-numbers.numbers.items in
+    let same : c.from_residual-in_err-added.result ≡ Err c.in_err-added.field-0.0 = search rules in
+    subst (GivesOpened (IsOpenedBy (AboveMetaSchemas documents) o state) state) (sym same)
+    (opened_neither state o documents parent (world, numbers) c.in_err-added.field-0.0 c.in_ok-parent.ensures
+    (meta_layers state c.args.number parent world numbers number c.in_ok-parent.ensures.1 c.in_ok-registry.ensures.value c.in_ok-numbers.ensures) c.in_err-added.ensures)
