@@ -1,11 +1,13 @@
 -- The columns of a row share no keyword, and before 2020-12 none has `items` or `dependencies`.
-use Rattle.std.proofs.Common.{◌≡◌, ℕ, List, [], ◌∷◌, Bool, true, false, ◌&&◌, ◌||◌, not, codes, ⊎_elim, refl, sym, ap, ◌∙◌, true≢false}
+use Rattle.std.proofs.Common.{◌≡◌, ℕ, List, [], ◌∷◌, Bool, true, false, ◌&&◌, ◌||◌, not, codes, cond, ⊎_elim, refl, sym, ap, ◌∙◌, true≢false}
 use Rattle.std.specs.Str.{bytes_eq}
 use Rattle.std.proofs.lemmas.Bool.{and_parts, not-true, or_cases}
 use Rattle.std.proofs.lemmas.Slice.Eq.{bytes_eq-Decides}
 use Rattle.ref_draft.specs.declared.draft.Draft.{Draft}
 use Rattle.ref_draft.specs.declared.draft.Draft.TheVariants.{Draft4, Draft6, Draft7, Draft201909, Draft202012, Unknown}
-use Rattle.ref_draft.specs.Keywords.{row, is_one_of, is_before_2020, is_items_or_dependencies}
+use Rattle.ref_draft.specs.declared.spec.Holding.{Holding}
+use Rattle.ref_draft.specs.declared.spec.Holding.TheVariants.{Whole, WholeObject, Elements, Members as EachMember, ElementsOrWhole, ObjectMembers, Nothing}
+use Rattle.ref_draft.specs.Keywords.{row, is_one_of, is_before_2020, is_items_or_dependencies, boolean_or_schema, holding_of}
 use Rattle.ref_draft.specs.Scan.{is_value_keyword, is_child_keyword}
 
 -- whether no keyword of the first list is in the second
@@ -39,6 +41,30 @@ child_is_no_value d k child =
     ⊎_elim (λ array. apart k (row d).arrays (row d).values tests.0 array)
     (λ map. apart k (row d).maps (row d).values tests.1 map)
     (or_cases (is_one_of k (row d).arrays) (is_one_of k (row d).maps) child)
+
+maps_apart : (d : Draft) → (are_apart (row d).maps (boolean_or_schema d) && (are_apart (row d).maps (row d).values && are_apart (row d).maps (row d).arrays)) ≡ true
+maps_apart Draft4 = refl
+maps_apart Draft6 = refl
+maps_apart Draft7 = refl
+maps_apart Draft201909 = refl
+maps_apart Draft202012 = refl
+maps_apart Unknown = refl
+
+past : (a b c m : Bool) (others : Holding) → a ≡ false → b ≡ false → c ≡ false → m ≡ true → cond a WholeObject (cond b Whole (cond c Elements (cond m EachMember others))) ≡ EachMember
+past true b c m others p q r is = absurd (true≢false p)
+past false true c m others p q r is = absurd (true≢false q)
+past false false true m others p q r is = absurd (true≢false r)
+past false false false true others p q r is = refl
+past false false false false others p q r is = absurd (true≢false (sym is))
+
+-- a keyword whose object has schemas as members holds them in no other way
+pub members_first : (d : Draft) (k : List ℕ) → is_one_of k (row d).maps ≡ true → holding_of d k ≡ EachMember
+members_first d k is =
+    let (booleans, rest) = and_parts (are_apart (row d).maps (boolean_or_schema d)) (are_apart (row d).maps (row d).values && are_apart (row d).maps (row d).arrays) (maps_apart d) in
+    let (values, arrays) = and_parts (are_apart (row d).maps (row d).values) (are_apart (row d).maps (row d).arrays) rest in
+    past (is_one_of k (boolean_or_schema d)) (is_one_of k (row d).values) (is_one_of k (row d).arrays) (is_one_of k (row d).maps)
+    (cond (is_before_2020 d && bytes_eq k (codes "items")) ElementsOrWhole (cond (is_before_2020 d && bytes_eq k (codes "dependencies")) ObjectMembers Nothing))
+    (apart k (row d).maps (boolean_or_schema d) booleans is) (apart k (row d).maps (row d).values values is) (apart k (row d).maps (row d).arrays arrays is) is
 
 -- the two keywords that hold schemas in more than one way
 abbrev both : List (List ℕ)

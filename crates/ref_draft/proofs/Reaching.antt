@@ -28,6 +28,10 @@ one_part d object Schemas part rest = refl
 one_part d object BelowItems part rest = refl
 one_part d object Other part rest = refl
 
+-- no part
+pub reached_start : (d : Draft) → HasReached d [] Schema
+reached_start d = λ object rest. refl
+
 -- one part more
 pub reached_on : (d : Draft) (parts : List Part) (reached : Reached) (part : Part) → HasReached d parts reached → HasReached d (parts ++ part ∷ []) (reached_after d reached part)
 reached_on d parts reached part has = λ object rest. ap (scan d object) (append_assoc parts (part ∷ []) rest) ∙ has object (part ∷ rest) ∙ one_part d object reached part rest

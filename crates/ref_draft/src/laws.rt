@@ -1,5 +1,5 @@
 //! Laws of the definitions. No function here does anything: its contract is the law.
-ghost use Rattle.std.specs.Prelude.{◌≡◌, ◌↔◌, true, ◌<◌, ◌∷◌, ◌++◌, [], ℕ, IsTrue, List, codes, Some, None};
+ghost use Rattle.std.specs.Prelude.{◌≡◌, ◌↔◌, true, ◌<◌, ◌∷◌, ◌++◌, [], ℕ, Bool, IsTrue, List, codes, Some, None};
 ghost use Rattle.std.specs.List.{AllByRecursion};
 ghost use Rattle.std.specs.Ordering.{nat_cmp};
 ghost use Rattle.serde_json.specs.Data.{Data, depth};
@@ -10,6 +10,9 @@ ghost use Rattle.ref_draft.specs.Names.{draft_name, draft_named};
 ghost use Rattle.ref_draft.specs.Order.{rank};
 ghost use Rattle.ref_draft.specs.Scan.{AcceptsChildren, IsAccepted, SpellsWord, is_child_keyword};
 ghost use Rattle.ref_draft.specs.ScanSteps.{scan};
+ghost use Rattle.ref_draft.specs.declared.reached.Reached.{Reached as ReachedThere};
+ghost use Rattle.ref_draft.specs.declared.reached.Reached.TheVariants.{Schema};
+ghost use Rattle.ref_draft.specs.Reached.{HasReached, accepts_at, reached_after};
 ghost use Rattle.ref_draft.specs.Beginnings.{AllEndWithin};
 ghost use Rattle.ref_draft.specs.UniqueKeys.{HasUniqueKeys};
 ghost use Rattle.ref_draft.specs.Views.{part_of};
@@ -79,6 +82,17 @@ pub fn paths_of_children_end_within()
 pub fn scan_is_accepted()
     ensures law { (d : Version) (value : Data) (parts : List Part)
         → (scan d (is_object value) parts ≡ true) ↔ IsAccepted d parts value }
+{}
+
+/// What parts lead to is read from the left: no parts lead to a schema, one part more leads where `Reached` says, and the scan
+/// accepts the parts where `Reached` accepts what they lead to.
+pub fn parts_are_read_one_by_one()
+    ensures start { (d : Version) → HasReached d [] Schema }
+    ensures more { (d : Version) (parts : List Part) (reached : ReachedThere) (part : Part)
+        → HasReached d parts reached
+        → HasReached d (parts ++ part ∷ []) (reached_after d reached part) }
+    ensures accepts { (d : Version) (object : Bool) (parts : List Part) (reached : ReachedThere)
+        → HasReached d parts reached → scan d object parts ≡ accepts_at object reached }
 {}
 
 /// A word followed by a child keyword alone isn't accepted: the parts end at an array or object of schemas.

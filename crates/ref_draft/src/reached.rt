@@ -1,9 +1,8 @@
 //! What the segments of a pointer lead to, read one after another.
-ghost use Rattle.std.specs.Prelude.{◌≡◌, ℕ, []};
+ghost use Rattle.std.specs.Prelude.{◌≡◌, ℕ};
 ghost use Rattle.ref_draft.specs.declared.draft.Draft.{Draft as Version};
-ghost use Rattle.ref_draft.specs.declared.spec.Holding.{Holding as HoldingKind};
 ghost use Rattle.ref_parts.specs.Path.{Key, Index};
-ghost use Rattle.ref_draft.specs.Reached.{HasReached, accepts_at, reached_after, reached_under};
+ghost use Rattle.ref_draft.specs.Reached.{accepts_at, reached_after, reached_under};
 
 use crate::draft::Draft;
 use crate::spec::Holding;
@@ -12,7 +11,7 @@ use crate::spec::Holding;
 /// takes the place of a list of them where they are read one after another.
 #[derive(Clone, Copy)]
 pub enum Reached {
-    /// A schema.
+    /// A schema, as where no segment was read yet.
     Schema,
     /// An array or object of schemas.
     Schemas,
@@ -23,13 +22,6 @@ pub enum Reached {
 }
 
 impl Reached {
-    /// What no segment leads to: the schema at which the base changed. It takes no memory.
-    pub fn start() -> Reached
-        ensures start { (d : Version) → HasReached d [] result }
-    {
-        Reached::Schema
-    }
-
     /// What is under a key. It takes no memory: the key is compared with keywords of the draft.
     pub fn key(self, draft: Draft, key: &str) -> Reached
         ensures value { result ≡ reached_after draft self (Key key.now) }

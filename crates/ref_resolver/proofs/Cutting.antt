@@ -1,14 +1,11 @@
 -- A text cut at its first `/`.
-use Rattle.std.proofs.Common.{◌≡◌, ◌≢◌, ℕ, suc, ◌+◌, ◌<◌, false, eqb, ltb, List, [], ◌∷◌, ◌++◌, refl, length, get_or, take, drop, All, Some, None, sym, ap, ◌∙◌, arith}
+use Rattle.std.proofs.Common.{◌≡◌, ◌≢◌, ℕ, suc, ◌+◌, ◌<◌, false, eqb, ltb, List, ◌∷◌, ◌++◌, length, get_or, take, drop, All, Some, None, sym, ap, ◌∙◌, arith}
 use Rattle.std.specs.List.{position, position_or_len}
 use Rattle.std.proofs.Math.Seq.{split_at}
 use Rattle.std.proofs.lemmas.Bool.{false≢true, cond_both, ltb-false, eqb-true}
 use Rattle.std.proofs.lemmas.List.Sums.{fails_before_first}
 use Rattle.std.proofs.lemmas.List.Quantifiers.{position-Some}
-use Rattle.std.proofs.lemmas.Bool.{ne_eqb}
 use Rattle.std.proofs.lemmas.List.{length-take, get_or-take}
-use Rattle.std.specs.List.{list_any}
-use Rattle.ref_uri.proofs.Hashes.{is_hash}
 
 other : (b : ℕ) → eqb b 47 ≡ false → b ≢ 47
 other b fails = λ slash. false≢true (sym fails ∙ ap (λ x. eqb x 47) slash)
@@ -35,8 +32,3 @@ uncut text =
     cond_both (ltb n (length text)) (Some n) None (λ o. o ≡ None → All (λ b. b ≢ 47) text)
     (λ yes none. absurd (cc))
     (λ no none k d less. other (get_or text k d) (fails_before_first (λ b. eqb b 47) text k d (omega (arith, ltb-false n (length text) no))))
-
--- a text without a `#`
-pub hashless : (text : List ℕ) → ((i : ℕ) → i < length text → get_or text i 0 ≢ 35) → list_any is_hash text ≡ false
-hashless [] none = refl
-hashless (c ∷ text) none = rw (ne_eqb c 35 (none 0 (omega arith))) (hashless text (λ i less. none (suc i) (omega arith)))

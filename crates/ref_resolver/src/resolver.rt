@@ -51,15 +51,19 @@ pub(crate) struct Target<'r, 't> {
     pub fragment: &'t str,
 }
 
-// What is before the last `#` of a reference, and its fragment. Most references have no `#`, which a search by words tells.
+// What is before the last `#` of a reference, which is the whole where there is none, and its fragment: what follows a `#` in
+// front, or else the last `#`. One search, by words.
 #[inline(always)]
 fn cut_at_hash(reference: &str) -> (&str, &str)
     ensures uri { result.0.now ≡ uri_part reference.now }
     ensures fragment { result.1.now ≡ fragment_part reference.now }
 {
-    match reference.split_once('#') {
-        Some(_) => parts(reference),
-        None => (reference, ""),
+    let Some((uri, last)) = reference.rsplit_once('#') else {
+        return (reference, "");
+    };
+    match reference.strip_prefix('#') {
+        Some(fragment) => (uri, fragment),
+        None => (uri, last),
     }
 }
 

@@ -6,16 +6,16 @@ use crate::draft::Draft;
 use crate::spec::columns::{is_array, is_map_or_defs, is_value};
 use crate::spec::{Holding, items_or_dependencies};
 
-// How a keyword holds its subschemas.
+// How a keyword holds its subschemas. Those that most schemas have come first.
 pub(crate) fn holding(keyword: &str) -> Holding
     ensures { result ≡ holding_of Draft.Draft201909 keyword.now }
 {
-    if is_value(keyword) {
+    if is_map_or_defs(keyword) {
+        Holding::Members
+    } else if is_value(keyword) {
         Holding::Whole
     } else if is_array(keyword) {
         Holding::Elements
-    } else if is_map_or_defs(keyword) {
-        Holding::Members
     } else {
         items_or_dependencies(keyword)
     }

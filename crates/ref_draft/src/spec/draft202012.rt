@@ -6,16 +6,16 @@ use crate::draft::Draft;
 use crate::spec::Holding;
 use crate::spec::columns::{is_array_or_prefix, is_map_or_defs};
 
-// How a keyword holds its subschemas.
+// How a keyword holds its subschemas. Those that most schemas have come first.
 pub(crate) fn holding(keyword: &str) -> Holding
     ensures { result ≡ holding_of Draft.Draft202012 keyword.now }
 {
-    if is_value(keyword) {
+    if is_map_or_defs(keyword) {
+        Holding::Members
+    } else if is_value(keyword) {
         Holding::Whole
     } else if is_array_or_prefix(keyword) {
         Holding::Elements
-    } else if is_map_or_defs(keyword) {
-        Holding::Members
     } else {
         Holding::Nothing
     }
