@@ -169,6 +169,7 @@ impl<'a> Index<'a> {
 
     /// The URI that a text means against a base, where that was resolved while the documents were walked, and the place that it
     /// means in these documents, where there is one. A look-up; takes no memory.
+    #[inline(always)]
     pub fn resolved(&self, base: &str, text: &str) -> Option<FoundUri<'_, 'a>>
         ensures value { MatchOption result (¬ (Contains (pairs self.now) (base.now, text.now)))
             (λ found. uri_against base.now text.now ≡ Ok found.uri.now.value) }
