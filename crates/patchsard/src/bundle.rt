@@ -18,12 +18,15 @@ use ref_parts::pointer_of;
 use ref_positions::Places;
 use ref_positions::splice::{Added, Part, with_added, with_parts};
 use ref_reading::Stop;
-use ref_reading::document::{Document, parsed};
+use ref_reading::document::parsed;
 use ref_reading::options::maps;
 use ref_uri::UriRef;
 use referencing::Registry;
 use serde_json::Value;
 use std::alloc::{AllocError, Global};
+
+// What to do where a document isn't among the given files.
+const BY_NAME: &str = "name its file or folder by --with, or a folder that has it by --map";
 
 /// Writes one document in place of several. The status is 0 where it is written, 1 where there is no bundle, 2 where a
 /// path can't be read or written, and 3 where the text that was made isn't that of the bundle.
@@ -70,7 +73,7 @@ fn bundle_above<'d>(
     match ref_bundle::bundle(rt.alloc(), &world.registry, 0) {
         Ok(bundle) => sources.write(rt, console, given, &bundle),
         Err(BundleError::Memory(_)) => Err(Stop::Memory),
-        Err(BundleError::Refused(refusal)) => sources.refuse(rt, &refusal),
+        Err(BundleError::Refused(refusal)) => sources.refuse(rt, given, &refusal),
     }
 }
 
@@ -97,11 +100,9 @@ impl<'d, 'l, 'w, 'o> Sources<'d, 'l, 'w, 'o> {
     ) -> Result<u8, Stop> {
         let needed = self.needed(rt.alloc(), bundle)?;
         if self.has_faults(rt, needed.as_slice())?
-            || self.is_incomplete(rt, bundle, needed.as_slice())?
+            || self.is_incomplete(rt, given, bundle, needed.as_slice())?
         {
-            let _ = eprintln!(rt;
-                "patchsard: not bundled; a document that is missing can be named by --with or --map"
-            );
+            let _ = eprintln!(rt; "patchsard: not bundled");
             return Ok(1);
         }
         let Some(text) = self.text(rt, given, bundle)? else {
@@ -144,6 +145,7 @@ impl<'d, 'l, 'w, 'o> Sources<'d, 'l, 'w, 'o> {
     fn is_incomplete(
         &self,
         rt: &HostRuntime,
+        given: &ArgMatches<'_>,
         bundle: &Bundle,
         needed: &[bool],
     ) -> Result<bool, Stop> {
@@ -151,7 +153,9 @@ impl<'d, 'l, 'w, 'o> Sources<'d, 'l, 'w, 'o> {
         for embedded in &bundle.embedded {
             if self.source(embedded.document).is_none() {
                 let uri = embedded.uri.as_str();
-                let _ = eprintln!(rt; "patchsard: document '{uri}' is not among the given files");
+                let _ = eprintln!(rt;
+                    "patchsard: document '{uri}' is not among the given files\n    help: {BY_NAME}"
+                );
                 is_incomplete = true;
             }
         }
@@ -160,7 +164,7 @@ impl<'d, 'l, 'w, 'o> Sources<'d, 'l, 'w, 'o> {
         for place in &places {
             if let Some(number) = self.source(place.document) {
                 if is_true(needed, number) {
-                    is_incomplete |= self.is_lost(rt, number, place, replaced)?;
+                    is_incomplete |= self.is_lost(rt, given, number, place, replaced)?;
                 }
             }
         }
@@ -171,6 +175,7 @@ impl<'d, 'l, 'w, 'o> Sources<'d, 'l, 'w, 'o> {
     fn is_lost(
         &self,
         rt: &HostRuntime,
+        given: &ArgMatches<'_>,
         number: usize,
         place: &ref_index::Place<'_>,
         replaced: Option<&str>,
@@ -178,11 +183,11 @@ impl<'d, 'l, 'w, 'o> Sources<'d, 'l, 'w, 'o> {
         let mut is_lost = false;
         for keyword in ["$ref", "$dynamicRef"] {
             if let Some(text) = place.value.get(keyword).and_then(Value::as_str) {
-                if let Some(why) = self.lost(rt.alloc(), place, text, replaced)? {
-                    let at = self.place_in(rt.alloc(), number, place.path.as_slice())?;
+                if let Some((why, help)) = self.lost(rt.alloc(), place, text, replaced)? {
+                    let at = self.place_in(rt, given, number, place.path.as_slice())?;
                     let pointer = pointer_of(rt.alloc(), place.path.as_slice())?;
                     let _ = eprintln!(rt;
-                        "{at}: error: {why}\n    {keyword} '{text}' at '{pointer}'"
+                        "{at}: error: {why}\n    {keyword} '{text}' at '{pointer}'\n    help: {help}"
                     );
                     is_lost = true;
                 }
@@ -191,28 +196,34 @@ impl<'d, 'l, 'w, 'o> Sources<'d, 'l, 'w, 'o> {
         Ok(is_lost)
     }
 
-    // Why a reference of a place has no meaning in a bundle.
+    // Why a reference of a place has no meaning in a bundle, and what to change.
     fn lost(
         &self,
         alloc: Global,
         place: &ref_index::Place<'_>,
         text: &str,
         replaced: Option<&str>,
-    ) -> Result<Option<&'static str>, Stop> {
+    ) -> Result<Option<(&'static str, &'static str)>, Stop> {
         let (front, _) = text.rsplit_once('#').unwrap_or((text, ""));
         let base = place.base.borrow();
         let uri = match self.world.registry.resolve_uri(alloc, base, front) {
             Ok(uri) => uri,
             Err(Error::Memory(_)) => return Err(Stop::Memory),
-            Err(_) => return Ok(Some("It is not a URI reference")),
+            Err(_) => {
+                return Ok(Some((
+                    "It is not a URI reference",
+                    "write it as RFC 3986 asks, with % escapes",
+                )));
+            }
         };
         if !self.world.registry.contains_resource(alloc, uri.as_str())? {
-            return Ok(Some("Its document is not among the given files"));
+            return Ok(Some(("Its document is not among the given files", BY_NAME)));
         }
         if replaced == Some(uri.as_str()) {
-            return Ok(Some(
+            return Ok(Some((
                 "It names the root by a URI in place of which its identifier gives another",
-            ));
+                "refer to the root by its identifier",
+            )));
         }
         Ok(None)
     }
@@ -359,16 +370,26 @@ impl<'d, 'l, 'w, 'o> Sources<'d, 'l, 'w, 'o> {
         if id == Some(uri) { None } else { Some(uri) }
     }
 
-    // The text of a document that was read. That of one from a map is read again.
+    // The text of a document that was read.
     fn source_text(
         &self,
         rt: &HostRuntime,
         given: &ArgMatches<'_>,
         document: usize,
     ) -> Result<Option<String>, Stop> {
-        let Some(number) = self.source(document) else {
-            return Ok(None);
-        };
+        match self.source(document) {
+            Some(number) => self.text_in(rt, given, number),
+            None => Ok(None),
+        }
+    }
+
+    // The text of what was read with this number. That of a document from a map is read again.
+    fn text_in(
+        &self,
+        rt: &HostRuntime,
+        given: &ArgMatches<'_>,
+        number: usize,
+    ) -> Result<Option<String>, Stop> {
         if let Some(document) = self.read.documents.get(number) {
             return Ok(Some(document.text.clone()?));
         }
@@ -379,10 +400,15 @@ impl<'d, 'l, 'w, 'o> Sources<'d, 'l, 'w, 'o> {
     }
 
     // Says why there is no bundle, and what to change.
-    fn refuse(&self, rt: &HostRuntime, refusal: &Refusal<'_>) -> Result<u8, Stop> {
+    fn refuse(
+        &self,
+        rt: &HostRuntime,
+        given: &ArgMatches<'_>,
+        refusal: &Refusal<'_>,
+    ) -> Result<u8, Stop> {
         let alloc = rt.alloc();
         let path = refusal.path.as_slice();
-        let place = self.place(alloc, refusal.document, path)?;
+        let place = self.place(rt, given, refusal.document, path)?;
         let pointer = pointer_of(alloc, path)?;
         let problem = &refusal.problem;
         let text = text_of(alloc, problem)?;
@@ -390,7 +416,7 @@ impl<'d, 'l, 'w, 'o> Sources<'d, 'l, 'w, 'o> {
         if !pointer.is_empty() {
             let _ = eprintln!(rt; "    at '{pointer}'");
         }
-        self.say_other(rt, problem)?;
+        self.say_other(rt, given, problem)?;
         let _ = eprintln!(rt; "    help: {}", advice(problem));
         Ok(1)
     }
@@ -399,14 +425,15 @@ impl<'d, 'l, 'w, 'o> Sources<'d, 'l, 'w, 'o> {
     fn say_other(
         &self,
         rt: &HostRuntime,
+        given: &ArgMatches<'_>,
         problem: &ref_bundle::Problem<'_>,
-    ) -> Result<(), AllocError> {
+    ) -> Result<(), Stop> {
         let other = match problem {
             ref_bundle::Problem::SharedUri { document, path, .. } => {
-                self.place(rt.alloc(), *document, path.as_slice())?
+                self.place(rt, given, *document, path.as_slice())?
             }
             ref_bundle::Problem::ShadowedUri { document, .. } => {
-                self.place(rt.alloc(), *document, &[])?
+                self.place(rt, given, *document, &[])?
             }
             _ => return Ok(()),
         };
@@ -417,30 +444,36 @@ impl<'d, 'l, 'w, 'o> Sources<'d, 'l, 'w, 'o> {
     // The file, the line and the column of a place of a document.
     fn place(
         &self,
-        alloc: Global,
+        rt: &HostRuntime,
+        given: &ArgMatches<'_>,
         document: usize,
         path: &[JsonPointerSegment<'_>],
-    ) -> Result<String, AllocError> {
+    ) -> Result<String, Stop> {
         match self.source(document) {
-            Some(number) => self.place_in(alloc, number, path),
-            None => String::from_str(alloc, "a document that is not among the given files"),
+            Some(number) => self.place_in(rt, given, number, path),
+            None => Ok(String::from_str(
+                rt.alloc(),
+                "a document that is not among the given files",
+            )?),
         }
     }
 
     // The same of what was read with this number.
     fn place_in(
         &self,
-        alloc: Global,
+        rt: &HostRuntime,
+        given: &ArgMatches<'_>,
         number: usize,
         path: &[JsonPointerSegment<'_>],
-    ) -> Result<String, AllocError> {
+    ) -> Result<String, Stop> {
+        let alloc = rt.alloc();
         let name = self.read.name(number);
-        match self.read.documents.get(number) {
-            Some(document) => {
-                let (line, column) = position(alloc, document, path)?;
-                format!(in alloc; "{name}:{line}:{column}")
+        match self.text_in(rt, given, number)? {
+            Some(text) => {
+                let (line, column) = position(alloc, text.as_str(), path)?;
+                Ok(format!(in alloc; "{name}:{line}:{column}")?)
             }
-            None => String::from_str(alloc, name),
+            None => Ok(String::from_str(alloc, name)?),
         }
     }
 }
@@ -557,15 +590,15 @@ fn definitions(draft: Draft) -> &'static str {
     }
 }
 
-// The line and the column of a place in a document.
+// The line and the column of a place in a document's text.
 fn position(
     alloc: Global,
-    document: &Document,
+    text: &str,
     path: &[JsonPointerSegment<'_>],
 ) -> Result<(usize, usize), AllocError> {
     let mut places = Places::new(alloc)?;
     let place = place_of(&mut places, path)?;
-    let located = places.locate(alloc, document.text.as_str())?;
+    let located = places.locate(alloc, text)?;
     match located.value(place) {
         Some(position) => Ok((position.line(), position.column())),
         None => Ok((1, 1)),

@@ -42,8 +42,8 @@ pub data Problem : Type 0 where
   SharedUri : List ℕ → ℕ → List Part → Problem
   -- a place refers to a document by its URI, in place of which its root's identifier gives another one
   ReplacedUri : List ℕ → List ℕ → Problem
-  -- a place refers to a place of a parent by a URI against which that place's identifier gives this URI, which the document
-  -- with this number has
+  -- a place refers to a place of a parent by a URI against which that place's identifier gives this URI, which a place of the
+  -- document with this number has
   ShadowedUri : List ℕ → List ℕ → ℕ → Problem
 
 -- a problem, with the document and the path that it is at

@@ -1,7 +1,7 @@
 //! The bundle of a document with those that it needs.
 ghost use Rattle.std.specs.Prelude.{◌≡◌, ◌==◌, ◌&&◌, [], ◌∷◌, ◌++◌, OnOk, map, slice_get, Some, filter, not, IfOk, IfErr, Ok};
 ghost use Rattle.std.specs.List.{AllByRecursion};
-ghost use Rattle.ref_bundle.specs.Bundle.{embedded_document, bundle_among, bundle_at, bundle_of, to_embed};
+ghost use Rattle.ref_bundle.specs.Bundle.{embedded_document, bundle_among, bundle_at, bundle_of};
 ghost use Rattle.ref_bundle.specs.Saying.{embedded_said, bundle_said, IsRefusalOf};
 ghost use Rattle.ref_bundle.specs.inner.Reach.{is_marked, IsReach};
 ghost use Rattle.ref_bundle.specs.inner.Seen.{numbered_document, layer_in, part_document, numbered_part, HasPlaces, AreOwn};

@@ -59,14 +59,14 @@ pub enum Problem<'r> {
         base: Rc<Uri>,
     },
     /// The place refers to a place of a parent by a URI against which the identifier of that place gives another URI, which
-    /// a document has. A name that is looked up under the first is looked up under the second too, so it may be one of
-    /// that document, which need not be in the bundle. Give the document another URI.
+    /// a schema of the registry's own documents has. A name that is looked up under the first is looked up under the second
+    /// too, so it may be one of that schema, whose document need not be in the bundle. Give the schema another identifier.
     ShadowedUri {
         /// The URI that the place refers to.
         uri: Rc<Uri>,
         /// The URI that the identifier of the parent's place gives against it.
         base: Rc<Uri>,
-        /// The number of the document that has this URI.
+        /// The number of the document of the schema that has this URI.
         document: usize,
     },
 }

@@ -2,11 +2,11 @@
 ghost use Rattle.std.specs.Prelude.{◌≡◌, [], ◌∷◌, codes, true, false, Some, None};
 ghost use Rattle.ref_parts.specs.Path.{Key, Index};
 ghost use Rattle.ref_draft.specs.declared.draft.Draft.TheVariants.{Draft4, Draft7, Draft201909, Draft202012, Unknown};
-ghost use Rattle.ref_definitions.specs.Rows.{at, yes, text, whole_number, empty, one, two, three, list, pair};
+ghost use Rattle.ref_definitions.specs.Rows.{at, yes, text, whole_number, empty, one, two, three, pair};
 ghost use Rattle.ref_bundle.specs.Needed.{numbers_of_needed};
 ghost use Rattle.ref_bundle.specs.Embedding.{embedded_tree, NotAnObject, IdentifierBesideRef, NotAnIdentifier, NotKept};
 ghost use Rattle.ref_bundle.specs.Embedding.{UntoldDraft, ResolvedAgain};
-ghost use Rattle.ref_bundle.specs.Bundle.{bundle_at, embedded_document, NoDocument, NotEmbedded, NoMap, KeyTaken, SharedUri};
+ghost use Rattle.ref_bundle.specs.Bundle.{embedded_document, NoDocument, NotEmbedded, NoMap, KeyTaken, SharedUri};
 ghost use Rattle.ref_bundle.specs.Bundle.{ReplacedUri, ShadowedUri};
 ghost use Rattle.ref_bundle.specs.Rows.{bundle, refused_bundle, bundle_of_first, bundle_above, new, refers_to_s, with_definition};
 ghost use Rattle.ref_bundle.specs.Rows.{renamed_root, listed_as};

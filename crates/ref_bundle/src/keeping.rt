@@ -1,5 +1,5 @@
 //! The bundles of a registry's documents, of which the laws speak.
-ghost use Rattle.std.specs.Prelude.{◌≡◌, ℕ, drop, slice_get, Some, Ok};
+ghost use Rattle.std.specs.Prelude.{◌≡◌, drop, slice_get, Some, Ok};
 ghost use Rattle.serde_json.specs.View.{view};
 ghost use Rattle.ref_draft.specs.Children.{InKeyOrder};
 ghost use Rattle.ref_definitions.specs.World.{Document, own_layer};

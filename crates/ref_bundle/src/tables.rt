@@ -6,7 +6,7 @@ ghost use Rattle.ref_parts.specs.Segment.{part_of};
 ghost use Rattle.ref_definitions.specs.World.{Layer};
 ghost use Rattle.ref_bundle.specs.Needed.{document_under};
 ghost use Rattle.ref_bundle.specs.Bundle.{is_site, sites_of_uris, borne_in, other_bearer};
-ghost use Rattle.ref_bundle.specs.inner.Seen.{seen_spot, own_uri_of, numbered_document, layer_in, HasPlaces, AreOwn};
+ghost use Rattle.ref_bundle.specs.inner.Seen.{seen_spot, numbered_document, layer_in, HasPlaces, AreOwn};
 ghost use Rattle.ref_bundle.specs.inner.Tables.{site_of, table_entries_of, table_of, entry_under, is_other, is_other_in};
 ghost use Rattle.ref_bundle.specs.inner.Tables.{AreTables, borne_at};
 

@@ -1,5 +1,5 @@
 //! The URIs that places have and refer to.
-ghost use Rattle.std.specs.Prelude.{◌≡◌, [], ◌++◌, map, codes, None, Some, option_map, option_and_then, if◌then◌else◌, IfOk};
+ghost use Rattle.std.specs.Prelude.{◌≡◌, [], ◌++◌, map, None, Some, option_map, option_and_then, if◌then◌else◌, IfOk};
 ghost use Rattle.std.specs.Prelude.{OnOk};
 ghost use Rattle.std.specs.Option.{option_to_list};
 ghost use Rattle.std.specs.Result.{result_ok};

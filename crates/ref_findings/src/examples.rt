@@ -4,7 +4,7 @@ ghost use Rattle.ref_parts.specs.Path.{Key, Index};
 ghost use Rattle.ref_draft.specs.declared.draft.Draft.TheVariants.{Draft7, Draft202012};
 ghost use Rattle.ref_uri.specs.Targets.{parse_refusal};
 ghost use Rattle.ref_definitions.specs.Fault.{PointerToNowhere, NoSuchAnchor};
-ghost use Rattle.ref_definitions.specs.Rows.{yes, text, empty, one, two, list, pair};
+ghost use Rattle.ref_definitions.specs.Rows.{yes, text, empty, one, two, pair};
 ghost use Rattle.ref_findings.specs.Findings.{findings, references, NotJson, InvalidUri, MissingDocument, LeadsNowhere, Unchecked, UnknownDialect, DuplicateIdentifier, DuplicateAnchor};
 ghost use Rattle.ref_findings.specs.Rows.{source, unread_source, finding_on, finding_whole};
 

@@ -1,15 +1,14 @@
 //! What is wrong at a place, text by text.
-ghost use Rattle.std.specs.Prelude.{◌≡◌, ◌==◌, ◌||◌, [], IfOk, map, not, bytes_eq, option_map, option_copied, Some, Ok};
+ghost use Rattle.std.specs.Prelude.{◌≡◌, ◌==◌, ◌||◌, [], IfOk, map, not, bytes_eq, option_copied, Some, Ok};
 ghost use Rattle.std.specs.List.{list_any};
 ghost use Rattle.ref_draft.specs.Keywords.{is_unknown};
 ghost use Rattle.ref_draft.specs.Schema.{trimmed_text, from_schema_uri};
-ghost use Rattle.ref_uri.specs.Targets.{target};
 ghost use Rattle.ref_error.specs.Errors.{SaysFault};
 ghost use Rattle.ref_definitions.specs.Places.{base_within};
 ghost use Rattle.ref_definitions.specs.Fault.{Fault};
 ghost use Rattle.ref_definitions.specs.Lookup.{lookup};
 ghost use Rattle.ref_resolver.specs.Layered.{world_in};
-ghost use Rattle.ref_findings.specs.Bearers.{first_under, other_bearer};
+ghost use Rattle.ref_findings.specs.Bearers.{other_bearer};
 ghost use Rattle.ref_findings.specs.Findings.{is_among, is_meta_schema, missing_problem, by_fault, by_target, is_dialect, by_dialect, reference_problem, schema_problem, uri_problem, by_base, name_problem};
 ghost use Rattle.ref_findings.specs.inner.Meanings.{IsMaybe, IsWhy, IsBearer, is_unretrievable};
 ghost use Rattle.ref_findings.specs.inner.Meanings as meanings;

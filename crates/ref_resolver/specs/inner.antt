@@ -1,5 +1,5 @@
--- What no public clause cites: definitions that private functions and the invariants of types speak of. A reader who wants
--- to know what this crate promises need not read them.
+-- What no clause of a public call cites: definitions that private functions, and the laws by which resolvers are equal, speak
+-- of. A reader who wants to know what a call promises need not read them.
 pub mod Located
 pub mod Walking
 pub mod Scoped

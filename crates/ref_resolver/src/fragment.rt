@@ -1,6 +1,6 @@
 //! What a fragment means in the resource at a place: what a pointer leads to, or what an anchor names, a dynamic one by
 //! the dynamic scope.
-ghost use Rattle.std.specs.Prelude.{◌≡◌, [], ◌∷◌, List, ℕ, IfOk, IfErr, MatchOption, None, Ok};
+ghost use Rattle.std.specs.Prelude.{◌≡◌, [], List, ℕ, IfOk, IfErr, MatchOption, None, Ok};
 ghost use Rattle.std.specs.Result.{result_ok};
 ghost use Rattle.serde_json.specs.View.{view};
 ghost use Rattle.ref_draft.specs.Anchors.{Plain};

@@ -1,14 +1,10 @@
 //! The walk along the pointer of a reference's fragment (RFC 6901), with the base URI along it.
-ghost use Rattle.std.specs.Prelude.{◌≡◌, ◌≢◌, ◌==◌, ◌∷◌, ◌++◌, [], All, position, IfOk, IfErr, IfSome, MatchOption, option_map, ok_or, Ok, None, if◌then◌else◌};
+ghost use Rattle.std.specs.Prelude.{◌≡◌, ◌≢◌, ◌==◌, ◌∷◌, ◌++◌, All, position, IfOk, IfErr, MatchOption, option_map, ok_or, Ok, None, if◌then◌else◌};
 ghost use Rattle.serde_json.specs.View.{view};
 ghost use Rattle.ref_parts.specs.Pointer.{slash, tokens};
-ghost use Rattle.ref_draft.specs.Views.{part_of};
 ghost use Rattle.ref_draft.specs.Schema.{identifier};
-ghost use Rattle.ref_draft.specs.Children.{is_object};
-ghost use Rattle.ref_draft.specs.ScanSteps.{scan};
-ghost use Rattle.ref_definitions.specs.Places.{base_within};
 ghost use Rattle.ref_definitions.specs.Pointers as world;
-ghost use Rattle.ref_definitions.specs.Fault.{PointerToNowhere, InvalidArrayIndex, InvalidPercentEncoding, as_invalid_uri};
+ghost use Rattle.ref_definitions.specs.Fault.{PointerToNowhere, InvalidArrayIndex, InvalidPercentEncoding};
 ghost use Rattle.ref_error.specs.Errors.{IsFaultOf, SaysOrMemory};
 ghost use Rattle.ref_resolver.specs.inner.Walking.{along_of, accepted_id, stepped_into, stepped_along, passed_along, leads_to, pointed_to};
 

@@ -2,7 +2,6 @@
 ghost use Rattle.std.specs.Prelude.{◌≡◌, ℕ, List, Some, true, [], ◌++◌, codes, if◌then◌else◌, IfOk, IfErr, IfSome, MatchOption, Ok, Err, None};
 ghost use Rattle.std.specs.Fmt.{WritesOnOk};
 ghost use Rattle.std.specs.List.{join_by};
-ghost use Rattle.std.specs.Result.{result_ok};
 ghost use Rattle.serde_json.specs.View.{view};
 ghost use Rattle.ref_uri.specs.Targets.{uri_against, target, uri_part, fragment_part};
 ghost use Rattle.ref_definitions.specs.Fault.{as_invalid_uri};
@@ -27,7 +26,6 @@ use crate::located::Located;
 use ref_draft::{Draft, ResourceRef};
 use ref_error::Error;
 use ref_parts::list::List;
-use ref_uri::parts::parts;
 use ref_uri::{Uri, UriRef};
 use serde_json::Value;
 use std::alloc::{AllocError, Global};

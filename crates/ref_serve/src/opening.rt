@@ -1,6 +1,5 @@
 //! `open`.
 ghost use Rattle.std.specs.Prelude.{◌≡◌, ◌≢◌, ◌<◌, ◌+◌, ◌^◌, ◌∷◌, ◌++◌, ℕ, List, [], codes, map, length, Some, Ok, IfOk, IfErr, OnOk, option_map, unwrap_or};
-ghost use Rattle.serde_json.specs.Data.{string};
 ghost use Rattle.serde_json.specs.Find.{get, get_member};
 ghost use Rattle.serde_json.specs.View.{view, members_view};
 ghost use Rattle.ref_definitions.specs.Fault.{as_invalid_uri};

@@ -1,12 +1,12 @@
 //! Where a value is found.
-ghost use Rattle.std.specs.Prelude.{◌≡◌, ◌∷◌, ◌++◌, [], codes, map, Some, None, IfOk, IfErr, OnOk, IfSome, Option};
-ghost use Rattle.std.specs.Prelude.{option_map, string_bytes};
-ghost use Rattle.serde_json.specs.Data.{Data, string};
+ghost use Rattle.std.specs.Prelude.{◌≡◌, ◌∷◌, [], codes, map, Some, None, IfOk, IfErr, OnOk, Option};
+ghost use Rattle.std.specs.Prelude.{option_map};
+ghost use Rattle.serde_json.specs.Data.{string};
 ghost use Rattle.serde_json.specs.View.{view, members_view};
 ghost use Rattle.ref_parts.specs.Pointer.{pointer_text};
 ghost use Rattle.ref_parts.specs.Segment.{part_of};
 ghost use Rattle.ref_error.specs.Errors.{IsFaultOf};
-ghost use Rattle.ref_resolver.specs.Locations.{IsWhere, StandsAt};
+ghost use Rattle.ref_resolver.specs.Locations.{IsWhere};
 ghost use Rattle.ref_resolver.specs.Resolving.{resolver_of, world_of};
 ghost use Rattle.ref_calls.specs.Objects.{with_all, whole};
 ghost use Rattle.ref_serve.specs.Results as results;
