@@ -13,7 +13,7 @@ pub struct Entry<'a> {
     /// The number of its document.
     pub document: usize,
     /// Its path there.
-    pub path: Vec<JsonPointerSegment<'static>>,
+    pub path: Vec<JsonPointerSegment<'a>>,
     pub draft: Draft,
     pub base: Rc<Uri>,
 }

@@ -47,10 +47,10 @@ pub fn segments_of<'w>(
 }
 
 // The segment, with a key of its own.
-fn copy_of(
+fn copy_of<'a>(
     alloc: Global,
     segment: &JsonPointerSegment<'_>,
-) -> Result<JsonPointerSegment<'static>, AllocError>
+) -> Result<JsonPointerSegment<'a>, AllocError>
     ensures { IfOk result (λ part. part_of part ≡ part_of segment.now) }
 {
     match segment {
@@ -63,9 +63,9 @@ fn copy_of(
 }
 
 // Adds the last part of the path, and returns the path before it, where there is one.
-fn push_owned<'n, 'w>(
+fn push_owned<'n, 'w, 'a>(
     alloc: Global,
-    parts: &mut Vec<JsonPointerSegment<'static>>,
+    parts: &mut Vec<JsonPointerSegment<'a>>,
     path: &'n JsonPointerNode<'w>,
 ) -> Result<Option<&'n JsonPointerNode<'w>>, AllocError>
     ensures { IfOk result
@@ -82,10 +82,10 @@ fn push_owned<'n, 'w>(
 }
 
 /// The path, copied. Linear in its keys; takes memory for the list and for each key.
-pub fn owned(
+pub fn owned<'a>(
     alloc: Global,
     path: &JsonPointerNode<'_>,
-) -> Result<Vec<JsonPointerSegment<'static>>, AllocError>
+) -> Result<Vec<JsonPointerSegment<'a>>, AllocError>
     ensures value { IfOk result (λ parts. map part_of parts.items ≡ path.now) }
 {
     let mut parts = Vec::new(alloc);

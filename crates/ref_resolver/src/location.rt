@@ -65,7 +65,7 @@ fn lent_part<'p>(part: &'p JsonPointerSegment<'_>) -> JsonPointerSegment<'p>
 // A path, whose keys are lent. Takes memory for the list.
 fn lent<'p>(
     alloc: Global,
-    path: &'p [JsonPointerSegment<'static>],
+    path: &'p [JsonPointerSegment<'_>],
 ) -> Result<Vec<JsonPointerSegment<'p>>, AllocError>
     ensures { IfOk result (λ parts. map part_of parts.items ≡ map part_of path.now) }
 {
