@@ -432,8 +432,8 @@ impl<'d, 'l, 'w, 'o> Sources<'d, 'l, 'w, 'o> {
             ref_bundle::Problem::SharedUri { document, path, .. } => {
                 self.place(rt, given, *document, path.as_slice())?
             }
-            ref_bundle::Problem::ShadowedUri { document, .. } => {
-                self.place(rt, given, *document, &[])?
+            ref_bundle::Problem::ShadowedUri { document, path, .. } => {
+                self.place(rt, given, *document, path.as_slice())?
             }
             _ => return Ok(()),
         };
@@ -511,9 +511,15 @@ fn text_of(alloc: Global, problem: &ref_bundle::Problem<'_>) -> Result<String, A
         }
         ref_bundle::Problem::ShadowedUri { uri, base, .. } => {
             format!(in alloc;
-                "It refers to '{}' outside, whose identifier gives '{}', the URI of another document",
+                "It refers to a name in '{}' outside, whose identifier gives '{}', the URI of another schema",
                 uri.as_str(),
                 base.as_str()
+            )
+        }
+        ref_bundle::Problem::AddedMember { uri, key } => {
+            format!(in alloc;
+                "It refers to '{key}' at the root of '{}', which has another value in a bundle",
+                uri.as_str()
             )
         }
     }
@@ -528,7 +534,13 @@ fn advice(problem: &ref_bundle::Problem<'_>) -> &'static str {
         ref_bundle::Problem::KeyTaken { .. } => "rename that definition",
         ref_bundle::Problem::SharedUri { .. } => "give one of them another identifier",
         ref_bundle::Problem::ReplacedUri { .. } => "refer to the document by its identifier",
-        ref_bundle::Problem::ShadowedUri { .. } => "give that other document another identifier",
+        ref_bundle::Problem::ShadowedUri { .. } => "give that other schema another identifier",
+        ref_bundle::Problem::AddedMember { key, .. } if *key == "$schema" => {
+            "give that document the $schema of its draft, or refer to something else"
+        }
+        ref_bundle::Problem::AddedMember { .. } => {
+            "give that document this URI as its identifier, or refer to something else"
+        }
     }
 }
 

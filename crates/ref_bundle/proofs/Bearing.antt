@@ -15,9 +15,9 @@ use Rattle.ref_parts.specs.declared.path.JsonPointerSegment.{JsonPointerSegment}
 use Rattle.ref_parts.specs.inner.Alike.{part_equivalence}
 use Rattle.ref_definitions.specs.World.{Document, Layer}
 use Rattle.ref_definitions.specs.Places.{Place, places}
-use Rattle.ref_definitions.specs.Resources.{last_under, resource_of, resources_in, own_uri}
-use Rattle.ref_bundle.specs.Needed.{counted_documents, numbered_uris, document_under}
-use Rattle.ref_bundle.specs.Bundle.{Site, is_site, sites_of_uris, borne_in, other_bearer}
+use Rattle.ref_definitions.specs.Resources.{last_under, resource_of, own_uri}
+use Rattle.ref_bundle.specs.Needed.{counted_documents, Site, borne_in, sites_of_uris}
+use Rattle.ref_bundle.specs.Bundle.{is_site, other_bearer}
 use Rattle.ref_bundle.specs.inner.Seen.{Seen, see, seen_in}
 use Rattle.ref_bundle.specs.inner.Tables.{site_of, table_entries_of, table_of, entry_under, borne_at, is_other}
 use Rattle.ref_bundle.specs.declared.tables.Site as rust
@@ -48,49 +48,14 @@ under_last uri bs =
 pub found : (uri : List ℕ) (es : List (Entry rust.Site)) (bs : List (List ℕ × Site)) → table_of es ≡ map entry_under bs → option_map site_of (last_value uri [] es) ≡ option_map (λ b. b.1) (last_under uri bs)
 found uri es bs is = sym (tabled_last uri es) ∙ ap (last_value uri []) is ∙ under_last uri bs
 
--- ---- the document that a URI means
+-- ---- entries with their places
 
 sited : ℕ → List ℕ × Place → List ℕ × Site
 sited n r = (r.0, (n, r.1.path))
 
-number_of : List ℕ × Site → List ℕ × ℕ
-number_of b = (b.0, b.1.0)
-
-with_number : (n : ℕ) (rs : List (List ℕ × Place)) → map (λ r. (r.0, n)) rs ≡ map number_of (map (sited n) rs)
-unfolding number_of sited
-with_number n [] = refl
-with_number n (r ∷ rs) = ap (λ l. (r.0, n) ∷ l) (with_number n rs)
-
 sited_is : (n : ℕ) (rs : List (List ℕ × Place)) → map (λ r. (r.0, (n, r.1.path))) rs ≡ map (sited n) rs
 unfolding sited
 sited_is n rs = refl
-
-all_with_numbers : (es : List (ℕ × Document)) → flat_map numbered_uris es ≡ map number_of (flat_map borne_in es)
-all_with_numbers [] = refl
-all_with_numbers (e ∷ es) =
-    ap (λ l. l ++ flat_map numbered_uris es) (with_number e.0 (resources_in e.1) ∙ ap (map number_of) (sym (sited_is e.0 (resources_in e.1))))
-    ∙ ap (λ l. map number_of (borne_in e) ++ l) (all_with_numbers es)
-    ∙ sym (map-append number_of (borne_in e) (flat_map borne_in es))
-
-of_entry : (o : Option (List ℕ × Site)) → option_map (λ (s : Site). s.0) (option_map (λ (b : List ℕ × Site). b.1) o) ≡ option_map (λ (e : List ℕ × ℕ). e.1) (option_map number_of o)
-unfolding number_of
-of_entry None = refl
-of_entry (Some b) = refl
-
-same_last : (uri : List ℕ) (bs : List (List ℕ × Site)) → last_under uri (map number_of bs) ≡ option_map number_of (last_under uri bs)
-unfolding number_of
-same_last uri bs = last_mapped number_of (λ e. bytes_eq e.0 uri) (λ b. bytes_eq b.0 uri) (λ b. refl) bs
-
-pub document_is : (layer : Layer) (uri : List ℕ) (es : List (Entry rust.Site)) → table_of es ≡ map entry_under (sites_of_uris layer) → option_map (λ s. s.document) (last_value uri [] es) ≡ document_under layer uri
-document_is layer uri es is =
-    of_site (last_value uri [] es)
-    ∙ ap (option_map (λ (s : Site). s.0)) (found uri es (sites_of_uris layer) is)
-    ∙ of_entry (last_under uri (sites_of_uris layer))
-    ∙ ap (option_map (λ (e : List ℕ × ℕ). e.1)) (sym (same_last uri (sites_of_uris layer)) ∙ ap (last_under uri) (sym (all_with_numbers (counted_documents 0 layer))))
-  where
-    of_site : (o : Option rust.Site) → option_map (λ (s : rust.Site). s.document) o ≡ option_map (λ (s : Site). s.0) (option_map site_of o)
-    of_site None = refl
-    of_site (Some s) = refl
 
 -- ---- the other bearer of a URI
 

@@ -1,5 +1,5 @@
 -- The first of joined lists.
-use Rattle.std.proofs.Common.{◌≡◌, ℕ, zero, suc, ◌+◌, ◌<◌, Bool, true, false, ◌==◌, cond, is_some, slice_get, true≢false, List, [], ◌∷◌, ◌++◌, map, flat_map, take, length, get_or, Option, Some, None, option_map, refl, ap, sym, ◌∙◌, append-nil, arith}
+use Rattle.std.proofs.Common.{◌≡◌, ℕ, zero, suc, ◌+◌, ◌<◌, Bool, true, false, ◌==◌, eqb-true, cond, is_some, slice_get, true≢false, List, [], ◌∷◌, ◌++◌, map, flat_map, take, length, get_or, Option, Some, None, option_map, refl, ap, sym, ◌∙◌, append-nil, arith}
 use Rattle.std.specs.Option.{option_to_list, option_map_or}
 use Rattle.std.proofs.lemmas.List.Concat.{flat_map-append}
 use Rattle.ref_definitions.specs.World.{Document, Layer, World}
@@ -7,8 +7,12 @@ use Rattle.ref_definitions.specs.Places.{Place, places}
 use Rattle.serde_json.specs.Data.{Data, null, boolean, number, string, array, object}
 use Rattle.serde_json.specs.Find.{as_object}
 use Rattle.ref_parts.specs.Path.{path_eq}
-use Rattle.ref_bundle.specs.Needed.{document_under}
-use Rattle.ref_bundle.specs.Bundle.{Problem, at_path, place_problems, place_refusals, reference_problems, reference_problems_by, replaced_in, map_refusals, shared_uri, sites_of_uris}
+use Rattle.ref_parts.specs.Segment.{part_of}
+use Rattle.ref_parts.specs.declared.path.JsonPointerSegment.{JsonPointerSegment}
+use Rattle.ref_draft.specs.declared.draft.Draft.{Draft}
+use Rattle.ref_bundle.specs.Needed.{Site, sites_of_uris, site_under, Reference}
+use Rattle.ref_bundle.specs.Embedding.{is_added_under}
+use Rattle.ref_bundle.specs.Bundle.{Problem, AddedMember, first_key, added_in, at_path, place_problems, place_refusals, shadowed_uri, embedded_problems, reference_problems, reference_problems_by, map_refusals, shared_uri}
 use Rattle.ref_bundle.specs.inner.Seen.{Seen, see, seen_in, own_uri_of}
 use Rattle.ref_bundle.specs.inner.First.{first, refusals_seen, shared_seen, taken_in}
 use Rattle.ref_bundle.proofs.Lists.{joined_more}
@@ -61,23 +65,33 @@ found_here f v (y ∷ xs) (suc i) x a within is before here =
 
 -- ---- the refusals of places
 
-pub of_places : (layer : Layer) (world : World) (top : ℕ) (e : ℕ × Document) → flat_map (refusals_seen layer world top e.1.uri) (seen_in e) ≡ place_refusals layer world top e
+pub of_places : (layer : Layer) (world : World) (top e : ℕ × Document) → flat_map (refusals_seen layer world top e.1.uri) (seen_in e) ≡ place_refusals layer world top e
 of_places layer world top e = of_list (places e.1)
   where
     of_list : (ps : List Place) → flat_map (refusals_seen layer world top e.1.uri) (map (see e.0) ps) ≡ flat_map (λ p. map (at_path e.0 p.path) (place_problems layer world top e p)) ps
     of_list [] = refl
     of_list (p ∷ ps) = ap (λ l. map (at_path e.0 p.path) (place_problems layer world top e p) ++ l) (of_list ps)
 
--- ---- the refusals of URIs and definitions
+-- ---- the refusals of references and definitions
 
-pub replaced_is : (layer : Layer) (world : World) (top : ℕ) (uri : List ℕ) (n : ℕ) (d : Document) → document_under layer uri ≡ Some n → (n == top) ≡ false → slice_get layer n ≡ Some d
-    → replaced_in uri d ≡ reference_problems layer world top uri
-replaced_is layer world top uri n d under other at =
-    sym (ap (reference_problems_by layer world top uri) under ∙ ap (λ b. cond b [] (option_map_or (replaced_in uri) (slice_get layer n) [])) other ∙ ap (λ o. option_map_or (replaced_in uri) o []) at)
+pub embedded_is : (layer : Layer) (world : World) (top : ℕ × Document) (r : Reference) (s : Site) (d : Document) → site_under layer r.uri ≡ Some s → (s.0 == top.0) ≡ false → slice_get layer s.0 ≡ Some d
+    → embedded_problems top.1.draft r s.1 d ≡ reference_problems layer world top r
+embedded_is layer world top r s d under other at =
+    let f = embedded_problems top.1.draft r s.1 in
+    sym (ap (reference_problems_by layer world top r) under ∙ ap (λ b. cond b [] (option_map_or f (slice_get layer s.0) [])) other ∙ ap (λ o. option_map_or f o []) at)
 
-pub replaced_not : (layer : Layer) (world : World) (top : ℕ) (uri : List ℕ) (n : ℕ) → document_under layer uri ≡ Some n → (n == top) ≡ false → slice_get layer n ≡ None → [] ≡ reference_problems layer world top uri
-replaced_not layer world top uri n under other at =
-    sym (ap (reference_problems_by layer world top uri) under ∙ ap (λ b. cond b [] (option_map_or (replaced_in uri) (slice_get layer n) [])) other ∙ ap (λ o. option_map_or (replaced_in uri) o []) at)
+pub embedded_not : (layer : Layer) (world : World) (top : ℕ × Document) (r : Reference) (s : Site) → site_under layer r.uri ≡ Some s → (s.0 == top.0) ≡ false → slice_get layer s.0 ≡ None → [] ≡ reference_problems layer world top r
+embedded_not layer world top r s under other at =
+    let f = embedded_problems top.1.draft r s.1 in
+    sym (ap (reference_problems_by layer world top r) under ∙ ap (λ b. cond b [] (option_map_or f (slice_get layer s.0) [])) other ∙ ap (λ o. option_map_or f o []) at)
+
+pub of_top : (layer : Layer) (world : World) (top : ℕ × Document) (r : Reference) (s : Site) → site_under layer r.uri ≡ Some s → (s.0 == top.0) ≡ true → [] ≡ reference_problems layer world top r
+of_top layer world top r s under same =
+    sym (ap (reference_problems_by layer world top r) under ∙ ap (λ b. cond b [] (option_map_or (embedded_problems top.1.draft r s.1) (slice_get layer s.0) [])) same)
+
+pub of_parent : (layer : Layer) (world : World) (top : ℕ × Document) (r : Reference) → site_under layer r.uri ≡ None → shadowed_uri layer world r ≡ first (reference_problems layer world top r)
+of_parent layer world top r under =
+    sym (ap (λ o. first (reference_problems_by layer world top r o)) under ∙ first_option (shadowed_uri layer world r))
 
 pub map_is : (top : ℕ) (keyword : List ℕ) (value : Data) (es : List (ℕ × Document)) → is_some (as_object value) ≡ true → flat_map (taken_in top keyword value) es ≡ map_refusals top keyword (Some value) es
 map_is top keyword null es is = absurd (true≢false (sym is))
@@ -99,3 +113,20 @@ shared_parts layer uri s =
     let f : List ℕ → List Problem = shared_uri (sites_of_uris layer) (s.document, s.path) in
     ap (λ l. flat_map f l ++ flat_map f (option_to_list (own_uri_of s))) (root_list (path_eq s.path []) uri)
     ∙ sym (flat_map-append f (cond (path_eq s.path []) (uri ∷ []) []) (option_to_list (own_uri_of s)))
+
+-- a pointer to what is added
+pub added_is : (draft : Draft) (r : Reference) (d : Document) (key : List ℕ) (o : Option (List ℕ)) → first_key r.fragment ≡ Some key → o ≡ cond (is_added_under draft d key) (Some key) None
+    → option_map (AddedMember r.uri) o ≡ first (added_in draft r d)
+added_is draft r d key o begins is =
+    let f : List ℕ → List Problem = λ k. cond (is_added_under draft d k) (AddedMember r.uri k ∷ []) [] in
+    ap (option_map (AddedMember r.uri)) is ∙ by_test (is_added_under draft d key) ∙ sym (ap (λ k. first (option_map_or f k [])) begins)
+  where
+    by_test : (b : Bool) → option_map (AddedMember r.uri) (cond b (Some key) None) ≡ first (cond b (AddedMember r.uri key ∷ []) [])
+    by_test true = refl
+    by_test false = refl
+
+-- a path of no parts
+pub empty_path : (path : List JsonPointerSegment) (b : Bool) → b ≡ (length path == 0) → path_eq (map part_of path) [] ≡ b
+empty_path [] b is = sym is
+empty_path (p ∷ path) true is = absurd (omega (arith, eqb-true (length (p ∷ path)) 0 (sym is)))
+empty_path (p ∷ path) false is = refl

@@ -11,9 +11,9 @@ use Rattle.ref_uri.specs.Targets.{Refusal}
 use Rattle.ref_draft.proofs.Lists.{all_map}
 use Rattle.ref_definitions.specs.World.{Document, Layer, World}
 use Rattle.ref_definitions.specs.Places.{Place, root, child_place, children_with, levels_below, places}
-use Rattle.ref_bundle.specs.Needed.{counted_documents, document_under, targets_from, targets, referred_in, referred_from, is_among, numbers, with_referred, numbers_of_needed, needed_documents}
+use Rattle.ref_bundle.specs.Needed.{counted_documents, document_under, targets_from, targets, referred_in, referred_from, is_among, numbers, with_referred, numbers_of_needed, needed_documents, sites_of_uris, Reference, references}
 use Rattle.ref_bundle.specs.Embedding.{obstacle, Obstacle}
-use Rattle.ref_bundle.specs.Bundle.{Bundle, BundleRefusal, NotEmbedded, NoDocument, shared_uri, sites_of_uris, uris_of, reference_problems, place_problems, place_refusals, at_path, root_refusals, refusals_in, refusals, to_embed, unless_refused, bundle_of, bundle_among}
+use Rattle.ref_bundle.specs.Bundle.{Bundle, BundleRefusal, NotEmbedded, NoDocument, shared_uri, uris_of, reference_problems, place_problems, place_refusals, at_path, root_refusals, refusals_in, refusals, to_embed, unless_refused, bundle_of, bundle_among}
 use Rattle.ref_bundle.proofs.LawMerges.{nothing_below}
 use Rattle.ref_bundle.proofs.LawEntries.{each_none, none_of, front_empty, back_empty}
 use Rattle.ref_bundle.proofs.LawNeeded.{each_in}
@@ -50,13 +50,13 @@ is_other m n false is other = is
 
 pub no_obstacle : (layer : Layer) (world : World) (n : ℕ) (top : Document) (x : ℕ × Document) → refusals_in layer world (n, top) (to_embed layer n) x ≡ [] → ¬ (x.0 ≡ n) → obstacle top x.1 ≡ None
 no_obstacle layer world n top x none other =
-    let first = front_empty (whole_refusals (n, top) (to_embed layer n) x) (place_refusals layer world n x) none in
+    let first = front_empty (whole_refusals (n, top) (to_embed layer n) x) (place_refusals layer world (n, top) x) none in
     no_obstacle_by x.0 (obstacle top x.1)
     (sym (ap (λ b. cond b (root_refusals (n, top) (to_embed layer n)) (map (λ o. at_path x.0 [] (NotEmbedded o)) (option_to_list (obstacle top x.1)))) (is_other x.0 n (x.0 == n) refl other)) ∙ first)
 
 pub no_root_refusal : (layer : Layer) (world : World) (n : ℕ) (top : Document) → refusals_in layer world (n, top) (to_embed layer n) (n, top) ≡ [] → root_refusals (n, top) (to_embed layer n) ≡ []
 no_root_refusal layer world n top none =
-    let first = front_empty (whole_refusals (n, top) (to_embed layer n) (n, top)) (place_refusals layer world n (n, top)) none in
+    let first = front_empty (whole_refusals (n, top) (to_embed layer n) (n, top)) (place_refusals layer world (n, top) (n, top)) none in
     sym (ap (λ b. cond b (root_refusals (n, top) (to_embed layer n)) (map (λ o. at_path n [] (NotEmbedded o)) (option_to_list (obstacle top top)))) (eq-eqb n n refl)) ∙ first
 
 pub none_mapped : {X Y : Type 0} (f : X → Y) (xs : List X) → map f xs ≡ [] → xs ≡ []
@@ -64,24 +64,24 @@ none_mapped f [] is = refl
 none_mapped f (x ∷ xs) is = absurd (let e : f x ∷ map f xs ≡ [] = is in cc)
 
 -- no problem of a place of a needed document
-pub no_problem : (layer : Layer) (world : World) (n : ℕ) (top : Document) (x : ℕ × Document) (p : Place) → refusals_in layer world (n, top) (to_embed layer n) x ≡ [] → Contains (places x.1) p → place_problems layer world n x p ≡ []
+pub no_problem : (layer : Layer) (world : World) (n : ℕ) (top : Document) (x : ℕ × Document) (p : Place) → refusals_in layer world (n, top) (to_embed layer n) x ≡ [] → Contains (places x.1) p → place_problems layer world (n, top) x p ≡ []
 no_problem layer world n top x p none there =
-    let rest = back_empty (whole_refusals (n, top) (to_embed layer n) x) (place_refusals layer world n x) none in
-    none_mapped (at_path x.0 p.path) (place_problems layer world n x p)
-    (each_in (λ q. map (at_path x.0 q.path) (place_problems layer world n x q) ≡ []) (places x.1) p
-    (each_none (λ q. map (at_path x.0 q.path) (place_problems layer world n x q)) (places x.1) rest) there)
+    let rest = back_empty (whole_refusals (n, top) (to_embed layer n) x) (place_refusals layer world (n, top) x) none in
+    none_mapped (at_path x.0 p.path) (place_problems layer world (n, top) x p)
+    (each_in (λ q. map (at_path x.0 q.path) (place_problems layer world (n, top) x q) ≡ []) (places x.1) p
+    (each_none (λ q. map (at_path x.0 q.path) (place_problems layer world (n, top) x q)) (places x.1) rest) there)
 
-pub not_shared : (layer : Layer) (world : World) (n : ℕ) (x : ℕ × Document) (p : Place) (uri : List ℕ) → place_problems layer world n x p ≡ [] → Contains (uris_of x.1 p) uri → shared_uri (sites_of_uris layer) (x.0, p.path) uri ≡ []
-not_shared layer world n x p uri none there =
+pub not_shared : (layer : Layer) (world : World) (top x : ℕ × Document) (p : Place) (uri : List ℕ) → place_problems layer world top x p ≡ [] → Contains (uris_of x.1 p) uri → shared_uri (sites_of_uris layer) (x.0, p.path) uri ≡ []
+not_shared layer world top x p uri none there =
     each_in (λ u. shared_uri (sites_of_uris layer) (x.0, p.path) u ≡ []) (uris_of x.1 p) uri
     (each_none (shared_uri (sites_of_uris layer) (x.0, p.path)) (uris_of x.1 p)
-    (front_empty (flat_map (shared_uri (sites_of_uris layer) (x.0, p.path)) (uris_of x.1 p)) (flat_map (reference_problems layer world n) (targets p)) none)) there
+    (front_empty (flat_map (shared_uri (sites_of_uris layer) (x.0, p.path)) (uris_of x.1 p)) (flat_map (reference_problems layer world top) (references p)) none)) there
 
-pub no_reference_problem : (layer : Layer) (world : World) (n : ℕ) (x : ℕ × Document) (p : Place) (uri : List ℕ) → place_problems layer world n x p ≡ [] → Contains (targets p) uri → reference_problems layer world n uri ≡ []
-no_reference_problem layer world n x p uri none there =
-    each_in (λ u. reference_problems layer world n u ≡ []) (targets p) uri
-    (each_none (reference_problems layer world n) (targets p)
-    (back_empty (flat_map (shared_uri (sites_of_uris layer) (x.0, p.path)) (uris_of x.1 p)) (flat_map (reference_problems layer world n) (targets p)) none)) there
+pub no_reference_problem : (layer : Layer) (world : World) (top x : ℕ × Document) (p : Place) (r : Reference) → place_problems layer world top x p ≡ [] → Contains (references p) r → reference_problems layer world top r ≡ []
+no_reference_problem layer world top x p r none there =
+    each_in (λ q. reference_problems layer world top q ≡ []) (references p) r
+    (each_none (reference_problems layer world top) (references p)
+    (back_empty (flat_map (shared_uri (sites_of_uris layer) (x.0, p.path)) (uris_of x.1 p)) (flat_map (reference_problems layer world top) (references p)) none)) there
 
 -- ---- where a root is no object, nothing is to be embedded
 

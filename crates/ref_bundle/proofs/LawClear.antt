@@ -1,20 +1,21 @@
 -- Which URIs mean in a bundle what they meant: those that needed places refer to, and those that they have.
-use Rattle.std.proofs.Common.{◌≡◌, ℕ, Bool, true, false, not, cond, ◌&&◌, ◌==◌, eqb-true, eq-eqb, List, [], ◌∷◌, Option, Some, None, Ok, bytes_eq, slice_get, refl, sym, ap, subst, ◌∙◌, true≢false}
+use Rattle.std.proofs.Common.{◌≡◌, ℕ, Bool, true, false, not, cond, ◌&&◌, ◌==◌, eqb-true, eq-eqb, List, [], ◌∷◌, Option, Some, None, option_map, Ok, bytes_eq, slice_get, refl, sym, ap, subst, ◌∙◌, true≢false}
 use Rattle.std.specs.List.{AllByRecursion, Contains}
 use Rattle.std.specs.Option.{option_map_or}
 use Rattle.ref_draft.proofs.Lists.{all_filter}
 use Rattle.ref_definitions.specs.World.{Document, Layer}
 use Rattle.ref_definitions.specs.Places.{Place, places}
-use Rattle.ref_bundle.specs.Needed.{counted_documents, document_under, targets, is_among, numbers_of_needed, needed_documents}
+use Rattle.ref_parts.specs.Path.{Part, path_eq}
+use Rattle.ref_bundle.specs.Needed.{counted_documents, Site, site_under, document_under, Reference, references, targets, is_among, numbers_of_needed, needed_documents}
 use Rattle.ref_bundle.specs.Embedding.{base_uri}
-use Rattle.ref_bundle.specs.Bundle.{ReplacedUri, uris_of, replaced_in, reference_problems_by, to_embed}
-use Rattle.ref_bundle.proofs.LawEntries.{IsFree}
+use Rattle.ref_bundle.specs.Bundle.{ReplacedUri, uris_of, replaced_in, added_in, embedded_problems, reference_problems_by, to_embed}
+use Rattle.ref_bundle.proofs.LawEntries.{IsFree, front_empty}
 use Rattle.ref_bundle.proofs.LawBorne.{IsPut}
 use Rattle.ref_bundle.proofs.LawEmbedded.{base_is}
 use Rattle.ref_bundle.proofs.LawMeans.{IsNoAlias}
 use Rattle.ref_bundle.proofs.LawPlaces.{put_in}
-use Rattle.ref_bundle.proofs.LawNeeded.{each_in, counted_one, counted_kept, IsAlone, alone_among, document_bears, none_bears}
-use Rattle.ref_bundle.proofs.LawClosed.{got_at, passes_kept, kept_in, target_needed}
+use Rattle.ref_bundle.proofs.LawNeeded.{each_in, in_mapped, counted_one, counted_kept, IsAlone, alone_among, site_bears, none_bears}
+use Rattle.ref_bundle.proofs.LawClosed.{got_at, in_map, passes_kept, kept_in, target_needed}
 use Rattle.ref_bundle.proofs.LawBundled.{none_in, no_problem, no_reference_problem}
 use Rattle.ref_bundle.proofs.LawFacts.{IsMade, root_counted, needed_counted, embedded_needed, others_free, put_of, all_of}
 use Rattle.ref_bundle.proofs.LawMeaning.{IsClear, borne_by_none, borne_by_root, borne_by_embedded}
@@ -87,25 +88,35 @@ not_both true true uri base none is = refl
 not_both true false uri base none is = absurd (let e : ReplacedUri uri base ∷ [] ≡ [] = none in cc)
 not_both false b uri base none is = absurd (true≢false (sym is))
 
-stays_by : (layer : Layer) (n : ℕ) (uri : List ℕ) (x : ℕ × Document) (b : Bool) → (x.0 == n) ≡ b → cond b [] (option_map_or (replaced_in uri) (slice_get layer x.0) []) ≡ [] → slice_get layer x.0 ≡ Some x.1 → Stays n x uri
-stays_by layer n uri x true same none at other own = absurd (other (eqb-true x.0 n same))
-stays_by layer n uri x false same none at other own =
-    not_both (bytes_eq x.1.uri uri) (bytes_eq (base_uri x.1) uri) uri (base_uri x.1) (sym (ap (λ o. option_map_or (replaced_in uri) o []) at) ∙ none) own
+stays_by : (layer : Layer) (n : ℕ) (top : Document) (r : Reference) (path : List Part) (x : ℕ × Document) (b : Bool) → (x.0 == n) ≡ b → cond b [] (option_map_or (embedded_problems top.draft r path) (slice_get layer x.0) []) ≡ [] → slice_get layer x.0 ≡ Some x.1 → Stays n x r.uri
+stays_by layer n top r path x true same none at other own = absurd (other (eqb-true x.0 n same))
+stays_by layer n top r path x false same none at other own =
+    let all : embedded_problems top.draft r path x.1 ≡ [] = sym (ap (λ o. option_map_or (embedded_problems top.draft r path) o []) at) ∙ none in
+    not_both (bytes_eq x.1.uri r.uri) (bytes_eq (base_uri x.1) r.uri) r.uri (base_uri x.1) (front_empty (replaced_in r.uri x.1) (cond (path_eq path []) (added_in top.draft r x.1) []) all) own
 
-clear_target_by : (layer : Layer) (n : ℕ) (top : Document) → IsMade layer n top → (e : ℕ × Document) (p : Place) (uri : List ℕ) → Contains (needed_documents layer n) e → Contains (places e.1) p → Contains (targets p) uri
-    → (o : Option ℕ) → document_under layer uri ≡ o → IsClear layer n top (to_embed layer n) uri
-clear_target_by layer n top is e p uri need place target None means = clear_free layer n top is uri (none_bears layer uri means)
-clear_target_by layer n top is e p uri need place target (Some k) means =
-    let found = document_bears layer uri k means in
+clear_reference_by : (layer : Layer) (n : ℕ) (top : Document) → IsMade layer n top → (e : ℕ × Document) (p : Place) (r : Reference) → Contains (needed_documents layer n) e → Contains (places e.1) p → Contains (references p) r
+    → (o : Option Site) → site_under layer r.uri ≡ o → IsClear layer n top (to_embed layer n) r.uri
+clear_reference_by layer n top is e p r need place refers None means = clear_free layer n top is r.uri (none_bears layer r.uri means)
+clear_reference_by layer n top is e p r need place refers (Some s) means =
+    let found = site_bears layer r.uri s means in
     let x = found.0 in
-    let own : document_under layer uri ≡ Some x.0 = means ∙ ap (λ m. Some m) (sym found.2) in
+    let own : document_under layer r.uri ≡ Some x.0 = ap (option_map (λ (t : Site). t.0)) means ∙ ap (λ m. Some m) (sym found.2) in
     let bearer = found.3 in
     let at = got_at layer x bearer.document in
-    let x_needed = target_needed layer (n, top) e x p uri (root_counted layer n top is.at) need place target own bearer.document in
-    let none : reference_problems_by layer is.world n uri (Some x.0) ≡ [] =
-    sym (ap (reference_problems_by layer is.world n uri) own) ∙ no_reference_problem layer is.world n e p uri (no_problem layer is.world n top e p (none_in layer is.world n top e is.unrefused need) place) target in
-    clear_borne layer n top is x found.1 uri x_needed bearer.place bearer.bears (stays_by layer n uri x (x.0 == n) refl none at)
+    let target : Contains (targets p) r.uri = in_map (λ (q : Reference). q.uri) (references p) r refers in
+    let x_needed = target_needed layer (n, top) e x p r.uri (root_counted layer n top is.at) need place target own bearer.document in
+    let none : reference_problems_by layer is.world (n, top) r (Some s) ≡ [] =
+    sym (ap (reference_problems_by layer is.world (n, top) r) means) ∙ no_reference_problem layer is.world (n, top) e p r (no_problem layer is.world n top e p (none_in layer is.world n top e is.unrefused need) place) refers in
+    let of_x : cond (x.0 == n) [] (option_map_or (embedded_problems top.draft r s.1) (slice_get layer x.0) []) ≡ [] =
+    subst (λ m. cond (m == n) [] (option_map_or (embedded_problems top.draft r s.1) (slice_get layer m) []) ≡ []) (sym found.2) none in
+    clear_borne layer n top is x found.1 r.uri x_needed bearer.place bearer.bears (stays_by layer n top r s.1 x (x.0 == n) refl of_x at)
+
+pub clear_reference : (layer : Layer) (n : ℕ) (top : Document) → IsMade layer n top → (e : ℕ × Document) (p : Place) (r : Reference) → Contains (needed_documents layer n) e → Contains (places e.1) p → Contains (references p) r
+    → IsClear layer n top (to_embed layer n) r.uri
+clear_reference layer n top is e p r need place refers = clear_reference_by layer n top is e p r need place refers (site_under layer r.uri) refl
 
 pub clear_target : (layer : Layer) (n : ℕ) (top : Document) → IsMade layer n top → (e : ℕ × Document) (p : Place) (uri : List ℕ) → Contains (needed_documents layer n) e → Contains (places e.1) p → Contains (targets p) uri
     → IsClear layer n top (to_embed layer n) uri
-clear_target layer n top is e p uri need place target = clear_target_by layer n top is e p uri need place target (document_under layer uri) refl
+clear_target layer n top is e p uri need place target =
+    let from = in_mapped (λ (q : Reference). q.uri) (references p) uri target in
+    subst (IsClear layer n top (to_embed layer n)) from.2 (clear_reference layer n top is e p from.0 need place from.1)

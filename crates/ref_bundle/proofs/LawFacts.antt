@@ -82,7 +82,7 @@ embedded_needed layer n x there =
 pub others_free : (layer : Layer) (n : ℕ) (top : Document) → IsMade layer n top → (x : ℕ × Document) (p : Place) (uri : List ℕ) → Contains (needed_documents layer n) x → Contains (places x.1) p → Contains (uris_of x.1 p) uri
     → AllByRecursion (λ e. ¬ (e.0 ≡ x.0) → IsFree uri e.1) (counted_documents 0 layer)
 others_free layer n top is x p uri need place bears =
-    free_but layer (x.0, p.path) uri (not_shared layer is.world n x p uri (no_problem layer is.world n top x p (none_in layer is.world n top x is.unrefused need) place) bears)
+    free_but layer (x.0, p.path) uri (not_shared layer is.world (n, top) x p uri (no_problem layer is.world n top x p (none_in layer is.world n top x is.unrefused need) place) bears)
 
 -- ---- the bases of documents that are embedded differ
 

@@ -10,23 +10,23 @@ use Rattle.ref_parts.specs.Pointer.{unescape, tokens}
 use Rattle.ref_draft.specs.declared.draft.Draft.{Draft}
 use Rattle.ref_draft.specs.Children.{is_object}
 use Rattle.ref_definitions.specs.Results.{◌>>=◌}
-use Rattle.ref_definitions.specs.World.{Document, World}
-use Rattle.ref_definitions.specs.Places.{Place, root}
+use Rattle.ref_definitions.specs.World.{Document, Layer, World}
+use Rattle.ref_definitions.specs.Places.{root}
 use Rattle.ref_definitions.specs.Fault.{Fault, PointerToNowhere, InvalidPercentEncoding, as_invalid_uri}
 use Rattle.ref_definitions.specs.Bases.{Along, along_part}
 use Rattle.ref_definitions.specs.Pointers.{walked_along}
 use Rattle.ref_definitions.specs.Lookup.{Resolver, at_fragment}
 use Rattle.ref_bundle.specs.Embedding.{base_uri}
 use Rattle.ref_bundle.specs.Bundle.{definitions_keyword, definitions_of, member_of, to_embed}
-use Rattle.ref_bundle.specs.Kept.{to_definitions, to_embedded, AddedDefinitionsWereFaults}
+use Rattle.ref_bundle.specs.Kept.{GoesIntoDefinitions, to_definitions, to_embedded}
 use Rattle.ref_bundle.proofs.LawWalk.{object_step, walk_there}
 use Rattle.ref_bundle.proofs.LawTree.{NoneTaken}
 use Rattle.ref_bundle.proofs.LawPlaces.{HasRoom, HasRoomFor}
 use Rattle.ref_bundle.proofs.LawNeeded.{each_in}
-use Rattle.ref_bundle.proofs.LawFacts.{made, room}
+use Rattle.ref_bundle.proofs.LawFacts.{IsMade, room}
 use Rattle.ref_bundle.proofs.LawPointers.{AnswerOf, few_of}
 
-abbrev IsFault : {A : Type 0} → Result A Fault → Type 0
+abbrev pub IsFault : {A : Type 0} → Result A Fault → Type 0
 IsFault {A} r = (fault : Fault) × (r ≡ Err fault)
 
 -- a token that is no key of an object
@@ -85,9 +85,8 @@ fragment_fault : (world : World) (r : Resolver) (top : Document) (text : List �
     → IsFault (at_fragment world r (root top) (47 ∷ text))
 fragment_fault world r top text walk = pointed_fault r top.draft (47 ∷ text) r.base text top.tree (walk (record { base = r.base; since = [] })) (is_utf8 (percent_decode text))
 
-at_root : (world : World) (r : Resolver) (top : Document) (p : Place) (fragment text : List ℕ) → p ≡ root top → fragment ≡ 47 ∷ text → IsFault (at_fragment world r (root top) (47 ∷ text)) → IsFault (at_fragment world r p fragment)
-at_root world r top p fragment text is begins fault =
-    subst (λ q. IsFault (at_fragment world r q fragment)) (sym is) (subst (λ f. IsFault (at_fragment world r (root top) f)) (sym begins) fault)
+at_text : (world : World) (r : Resolver) (top : Document) (fragment text : List ℕ) → fragment ≡ 47 ∷ text → IsFault (at_fragment world r (root top) (47 ∷ text)) → IsFault (at_fragment world r (root top) fragment)
+at_text world r top fragment text begins fault = subst (λ f. IsFault (at_fragment world r (root top) f)) (sym begins) fault
 
 by_map : (draft : Draft) (keyword key pointer : List ℕ) (along : Along) (tree : Data) (rest : List (List ℕ)) (list : List (List ℕ)) → is_object tree ≡ true
     → (get keyword tree ≡ None) ⊎ ((few : Members) × (get keyword tree ≡ Some (object few)) × (get_member key few ≡ None)) → map unescape list ≡ keyword ∷ key ∷ rest → IsWalkFault draft pointer along tree list
@@ -107,13 +106,13 @@ has_room : (top : Document) (es : List (ℕ × Document)) (e : ℕ × Document) 
 has_room top [] e there room_ = absurd (omega (arith, there.1))
 has_room top (x ∷ es) e there room_ = room_
 
-pub were_faults : AddedDefinitionsWereFaults
-were_faults layer parents n top bundle is r p fragment (to_definitions e there own none begins) =
-    let has = has_room top (to_embed layer n) e there (room layer n top (made layer parents n top bundle is).0) in
-    at_root (layer ∷ parents) r top p fragment begins.text own begins.is
+pub were_faults : (layer : Layer) (parents : World) (n : ℕ) (top : Document) → IsMade layer n top → (r : Resolver) (fragment : List ℕ) → GoesIntoDefinitions layer n top fragment → IsFault (at_fragment (layer ∷ parents) r (root top) fragment)
+were_faults layer parents n top is r fragment (to_definitions e there none begins) =
+    let has = has_room top (to_embed layer n) e there (room layer n top is) in
+    at_text (layer ∷ parents) r top fragment begins.text begins.is
     (fragment_fault (layer ∷ parents) r top begins.text (λ along. to_nothing top.draft (definitions_keyword top.draft) (47 ∷ begins.text) along top.tree begins.rest (tokens (percent_decode begins.text)) has.object none begins.first))
-were_faults layer parents n top bundle is r p fragment (to_embedded e there own begins) =
-    let has = has_room top (to_embed layer n) e there (room layer n top (made layer parents n top bundle is).0) in
-    at_root (layer ∷ parents) r top p fragment begins.text own begins.is
+were_faults layer parents n top is r fragment (to_embedded e there begins) =
+    let has = has_room top (to_embed layer n) e there (room layer n top is) in
+    at_text (layer ∷ parents) r top fragment begins.text begins.is
     (fragment_fault (layer ∷ parents) r top begins.text
     (λ along. by_map top.draft (definitions_keyword top.draft) (base_uri e.1) (47 ∷ begins.text) along top.tree begins.rest (tokens (percent_decode begins.text)) has.object (free_map top (to_embed layer n) e has there) begins.first))

@@ -3,7 +3,7 @@
 -- 1. Values and drafts: an embedded document has its draft still, and its places have their values, but for what was added.
 -- 2. A dynamic anchor: its identifier against the URI that it was found under gives the same base, and the entries of the scope are
 --    those that were there, each moved to its place in the bundle.
--- 3. A pointer goes the way that it went, unless it goes into what was added (`pointed_value` over `LawPointers`).
+-- 3. A pointer goes the way that it went, unless it goes into definitions that were added, where it was a fault (`LawPointers`, `LawFaults`).
 -- 4. A fragment is empty, a pointer or a name; a look-up is the URI's place and its fragment. `keeps_references` puts them together.
 use Rattle.std.proofs.Common.{◌≡◌, ℕ, Bool, true, false, not, cond, ◌&&◌, ◌||◌, ◌==◌, eqb-true, List, [], ◌∷◌, ◌++◌, flat_map, filter, length, Option, Some, None, Result, Ok, Err, ok_or, bytes_eq, ◌⊎◌, inl, inr, ⊎_elim, refl, sym, ap, subst, ◌∙◌, true≢false, arith}
 use Rattle.std.specs.List.{AllByRecursion, Contains, last_or, list_any}
@@ -23,8 +23,8 @@ use Rattle.ref_definitions.specs.Pointers.{pointed_value}
 use Rattle.ref_definitions.specs.Lookup.{Resolver, Found, moved_resolver, in_scope, fault_of, entry_of, is_dynamic, unless_fault, entry_found, outermost, by_scope, named_found, pointer_found, at_fragment, lookup}
 use Rattle.ref_definitions.proofs.Alone.{first_or_later}
 use Rattle.ref_bundle.specs.Embedding.{base_uri, embedded_tree, is_uri_of, has_dynamic_anchor}
-use Rattle.ref_bundle.specs.Bundle.{Bundle, to_embed, bundle_of}
-use Rattle.ref_bundle.specs.Kept.{world_of_bundle, place_in, IsValueNow, the_same, an_embedded, the_root, IsAnswerNow, GoesIntoAdded, PointsIntoAdded, IsBorneByNeeded, KeepsReferences}
+use Rattle.ref_bundle.specs.Bundle.{Bundle, is_name, to_embed, bundle_of}
+use Rattle.ref_bundle.specs.Kept.{world_of_bundle, place_in, IsValueNow, the_same, an_embedded, the_root, IsAnswerNow, GoesIntoDefinitions, PointsIntoDefinitions, IsBorneByNeeded, KeepsReferences}
 use Rattle.ref_bundle.proofs.LawAlike.{AreAlike, BothAlike, last_alike, alike_append}
 use Rattle.ref_bundle.proofs.LawEmbedded.{identifier_embedded, given_back, uri_given}
 use Rattle.ref_bundle.proofs.LawPut.{IsEmbeddable, embeddable, draft_embedded}
@@ -35,7 +35,8 @@ use Rattle.ref_bundle.proofs.LawBundled.{none_in, no_obstacle}
 use Rattle.ref_bundle.proofs.LawFacts.{IsMade, made, embedded_needed, put_of, all_of, room}
 use Rattle.ref_bundle.proofs.LawAnchors.{IsNowUnder, same_under, embedded_under, root_under, IsFoundNow, found_same, found_embedded, found_root, NameFound, ResultAlike, IsSafe, Meaning, nothing, of_own, of_parent, meaning, anchor_now}
 use Rattle.ref_bundle.proofs.LawPointers.{AnswerOf, equal_answer, embedded_pointed, root_pointed}
-use Rattle.ref_bundle.proofs.LawSafe.{safe_scope, safe_base, safe_target}
+use Rattle.ref_bundle.proofs.LawFaults.{were_faults}
+use Rattle.ref_bundle.proofs.LawSafe.{IsUnadded, IsSafeTarget, safe_scope, safe_base, safe_target}
 
 -- what is known of an embedded document
 able_of : (layer : Layer) (n : ℕ) (top : Document) → IsMade layer n top → (e : ℕ × Document) → Contains (to_embed layer n) e → IsEmbeddable top e.1
@@ -228,47 +229,54 @@ anchor_answer layer parents n top is r safe (Err f) (Err g) both = both
 
 -- ---- a pointer
 
-pointed_now : (layer : Layer) (n : ℕ) (top : Document) → IsMade layer n top → (r : Resolver) (uri pointer text : List ℕ) (q p : Place) → IsNowUnder top (to_embed layer n) uri q p
+-- a pointer from the root goes into definitions that were added
+abbrev GoesFrom : Layer → ℕ → Document → Place → List ℕ → Type 0
+GoesFrom layer n top p fragment = (p ≡ root top) × GoesIntoDefinitions layer n top fragment
+
+pointed_now : (layer : Layer) (n : ℕ) (top : Document) → IsMade layer n top → (r : Resolver) (uri pointer text : List ℕ) (q p : Place) → IsNowUnder top (to_embed layer n) uri q p → IsUnadded layer n top uri (47 ∷ text)
     → IsAnswerNow layer n top (bundle_of top (to_embed layer n)) (AnswerOf r q.draft (pointed_value q.draft pointer r.base q.value text)) (AnswerOf r p.draft (pointed_value p.draft pointer r.base p.value text))
-    ⊎ GoesIntoAdded layer n top p (47 ∷ text)
-pointed_now layer n top is r uri pointer text q p (same_under v d b) =
+    ⊎ GoesFrom layer n top p (47 ∷ text)
+pointed_now layer n top is r uri pointer text q p (same_under v d b) plain =
     inl (equal_answer layer n top (bundle_of top (to_embed layer n)) _ _
     (ap (λ x. AnswerOf r x (pointed_value x pointer r.base q.value text)) d ∙ ap (λ x. AnswerOf r p.draft (pointed_value p.draft pointer r.base x text)) v))
-pointed_now layer n top is r uri pointer text q p (embedded_under e there now before at) =
+pointed_now layer n top is r uri pointer text q p (embedded_under e there now before at) plain =
     let bundle = bundle_of top (to_embed layer n) in
     let answer = λ (x : Place). AnswerOf r x.draft (pointed_value x.draft pointer r.base x.value text) in
     let here : answer q ≡ AnswerOf r e.1.draft (pointed_value e.1.draft pointer r.base (embedded_tree top.draft e.1) text) =
     ap answer now ∙ ap (λ x. AnswerOf r x (pointed_value x pointer r.base (embedded_tree top.draft e.1) text)) (put_of layer n top is e there).same_draft in
-    subst (λ a. IsAnswerNow layer n top bundle a (answer p) ⊎ GoesIntoAdded layer n top p (47 ∷ text)) (sym here)
-    (subst (λ x. IsAnswerNow layer n top bundle (AnswerOf r e.1.draft (pointed_value e.1.draft pointer r.base (embedded_tree top.draft e.1) text)) (answer x) ⊎ GoesIntoAdded layer n top x (47 ∷ text)) (sym before)
-    (embedded_pointed layer n top bundle e there (able_of layer n top is e there) r pointer r.base text))
-pointed_now layer n top is r uri pointer text q p (root_under now before) =
+    inl (subst (λ a. IsAnswerNow layer n top bundle a (answer p)) (sym here)
+    (subst (λ x. IsAnswerNow layer n top bundle (AnswerOf r e.1.draft (pointed_value e.1.draft pointer r.base (embedded_tree top.draft e.1) text)) (answer x)) (sym before)
+    (embedded_pointed layer n top bundle e there (able_of layer n top is e there) r pointer r.base text (λ key first. plain e there at key first))))
+pointed_now layer n top is r uri pointer text q p (root_under now before) plain =
     let es = to_embed layer n in
     let bundle = bundle_of top es in
     let answer = λ (x : Place). AnswerOf r x.draft (pointed_value x.draft pointer r.base x.value text) in
-    subst (λ x. IsAnswerNow layer n top bundle (answer x) (answer p) ⊎ GoesIntoAdded layer n top p (47 ∷ text)) (sym now)
-    (subst (λ x. IsAnswerNow layer n top bundle (answer (root (joined top es))) (answer x) ⊎ GoesIntoAdded layer n top x (47 ∷ text)) (sym before)
+    subst (λ x. IsAnswerNow layer n top bundle (answer x) (answer p) ⊎ GoesFrom layer n top p (47 ∷ text)) (sym now)
+    (⊎_elim
+    (λ same. inl (subst (λ x. IsAnswerNow layer n top bundle (answer (root (joined top es))) (answer x)) (sym before) same))
+    (λ goes. inr (before, goes))
     (root_pointed layer n top es refl (room layer n top is) (all_of (λ e. IsEmbeddable top e.1) es (able_of layer n top is)) r pointer r.base text))
 
 -- ---- a fragment
 
-by_mark : (layer : Layer) (parents : World) (n : ℕ) (top : Document) → IsMade layer n top → (r : Resolver) → IsSafe layer parents n top r.base → AllByRecursion (IsSafe layer parents n top) r.scope → (uri : List ℕ) (q p : Place) → IsNowUnder top (to_embed layer n) uri q p
-    → (c : ℕ) (text : List ℕ) (b : Bool) → (c == 47) ≡ b
+by_mark : (layer : Layer) (parents : World) (n : ℕ) (top : Document) → IsMade layer n top → (r : Resolver) → AllByRecursion (IsSafe layer parents n top) r.scope → (uri : List ℕ) (q p : Place) → IsNowUnder top (to_embed layer n) uri q p
+    → (c : ℕ) (text : List ℕ) → (is_name (c ∷ text) ≡ true → IsSafe layer parents n top r.base) → IsUnadded layer n top uri (c ∷ text) → (b : Bool) → (c == 47) ≡ b
     → IsAnswerNow layer n top (bundle_of top (to_embed layer n))
     (cond b (pointed_value q.draft (c ∷ text) r.base q.value text >>= λ to. Ok (pointer_found r q.draft to)) (anchor ((joined top (to_embed layer n) ∷ []) ∷ parents) r.base (c ∷ text) >>= λ m. named_found ((joined top (to_embed layer n) ∷ []) ∷ parents) r m m.kind))
     (cond b (pointed_value p.draft (c ∷ text) r.base p.value text >>= λ to. Ok (pointer_found r p.draft to)) (anchor (layer ∷ parents) r.base (c ∷ text) >>= λ k. named_found (layer ∷ parents) r k k.kind))
-    ⊎ GoesIntoAdded layer n top p (c ∷ text)
-by_mark layer parents n top is r own safe uri q p now c text true mark =
-    subst (λ d. IsAnswerNow layer n top (bundle_of top (to_embed layer n)) (AnswerOf r q.draft (pointed_value q.draft (c ∷ text) r.base q.value text)) (AnswerOf r p.draft (pointed_value p.draft (c ∷ text) r.base p.value text)) ⊎ GoesIntoAdded layer n top p (d ∷ text)) (sym (eqb-true c 47 mark))
-    (pointed_now layer n top is r uri (c ∷ text) text q p now)
-by_mark layer parents n top is r own safe uri q p now c text false mark =
-    inl (anchor_answer layer parents n top is r safe (anchor ((joined top (to_embed layer n) ∷ []) ∷ parents) r.base (c ∷ text)) (anchor (layer ∷ parents) r.base (c ∷ text)) (anchor_now layer parents n top is r.base (c ∷ text) own))
+    ⊎ GoesFrom layer n top p (c ∷ text)
+by_mark layer parents n top is r safe uri q p now c text named plain true mark =
+    let slash : c ≡ 47 = eqb-true c 47 mark in
+    subst (λ d. IsAnswerNow layer n top (bundle_of top (to_embed layer n)) (AnswerOf r q.draft (pointed_value q.draft (c ∷ text) r.base q.value text)) (AnswerOf r p.draft (pointed_value p.draft (c ∷ text) r.base p.value text)) ⊎ GoesFrom layer n top p (d ∷ text)) (sym slash)
+    (pointed_now layer n top is r uri (c ∷ text) text q p now (subst (λ d. IsUnadded layer n top uri (d ∷ text)) slash plain))
+by_mark layer parents n top is r safe uri q p now c text named plain false mark =
+    inl (anchor_answer layer parents n top is r safe (anchor ((joined top (to_embed layer n) ∷ []) ∷ parents) r.base (c ∷ text)) (anchor (layer ∷ parents) r.base (c ∷ text)) (anchor_now layer parents n top is r.base (c ∷ text) (named (ap not mark))))
 
-fragment_now : (layer : Layer) (parents : World) (n : ℕ) (top : Document) → IsMade layer n top → (r : Resolver) → IsSafe layer parents n top r.base → AllByRecursion (IsSafe layer parents n top) r.scope → (uri : List ℕ) (q p : Place) → IsNowUnder top (to_embed layer n) uri q p
-    → (fragment : List ℕ)
-    → IsAnswerNow layer n top (bundle_of top (to_embed layer n)) (at_fragment ((joined top (to_embed layer n) ∷ []) ∷ parents) r q fragment) (at_fragment (layer ∷ parents) r p fragment) ⊎ GoesIntoAdded layer n top p fragment
-fragment_now layer parents n top is r own safe uri q p now [] = let place = under_now layer n top is uri q p now in inl (place.value, place.draft, refl)
-fragment_now layer parents n top is r own safe uri q p now (c ∷ text) = by_mark layer parents n top is r own safe uri q p now c text (c == 47) refl
+fragment_now : (layer : Layer) (parents : World) (n : ℕ) (top : Document) → IsMade layer n top → (r : Resolver) → AllByRecursion (IsSafe layer parents n top) r.scope → (uri : List ℕ) (q p : Place) → IsNowUnder top (to_embed layer n) uri q p
+    → (fragment : List ℕ) → (is_name fragment ≡ true → IsSafe layer parents n top r.base) → IsUnadded layer n top uri fragment
+    → IsAnswerNow layer n top (bundle_of top (to_embed layer n)) (at_fragment ((joined top (to_embed layer n) ∷ []) ∷ parents) r q fragment) (at_fragment (layer ∷ parents) r p fragment) ⊎ GoesFrom layer n top p fragment
+fragment_now layer parents n top is r safe uri q p now [] named plain = let place = under_now layer n top is uri q p now in inl (place.value, place.draft, refl)
+fragment_now layer parents n top is r safe uri q p now (c ∷ text) named plain = by_mark layer parents n top is r safe uri q p now c text named plain (c == 47) refl
 
 -- ---- the look-up
 
@@ -276,12 +284,19 @@ moved_safe_by : (layer : Layer) (parents : World) (n : ℕ) (top : Document) (ba
 moved_safe_by layer parents n top base scope true own safe = (own, safe)
 moved_safe_by layer parents n top base scope false own safe = safe
 
+-- a reference whose pointer goes into definitions that were added
+record IsInto (layer : Layer) (parents : World) (n : ℕ) (top : Document) (base reference : List ℕ) : Type 0 where
+  uri : List ℕ
+  to : target base reference ≡ Ok uri
+  place : Place
+  meant : meant_place (layer ∷ parents) uri ≡ Some place
+  goes : GoesFrom layer n top place (fragment_part reference)
+
 abbrev IsOutcome : Layer → World → ℕ → Document → List ℕ → List ℕ → Result Found Fault → Result Found Fault → Type 0
 IsOutcome layer parents n top base reference now before =
-    IsAnswerNow layer n top (bundle_of top (to_embed layer n)) now before
-    ⊎ PointsIntoAdded layer parents n top base reference
+    IsAnswerNow layer n top (bundle_of top (to_embed layer n)) now before ⊎ IsInto layer parents n top base reference
 
-meant_now : (layer : Layer) (parents : World) (n : ℕ) (top : Document) → IsMade layer n top → (r : Resolver) (reference uri : List ℕ) → target r.base reference ≡ Ok uri → IsSafe layer parents n top uri → IsSafe layer parents n top r.base → AllByRecursion (IsSafe layer parents n top) r.scope
+meant_now : (layer : Layer) (parents : World) (n : ℕ) (top : Document) → IsMade layer n top → (r : Resolver) (reference uri : List ℕ) → target r.base reference ≡ Ok uri → IsSafeTarget layer parents n top uri (fragment_part reference) → IsSafe layer parents n top r.base → AllByRecursion (IsSafe layer parents n top) r.scope
     → (a b : Option Place) → meant_place (layer ∷ parents) uri ≡ b → Meaning layer parents top (to_embed layer n) uri a b
     → IsOutcome layer parents n top r.base reference
     (ok_or a (not_retrieved uri) >>= λ place. at_fragment ((joined top (to_embed layer n) ∷ []) ∷ parents) (moved_resolver r uri) place (fragment_part reference))
@@ -295,16 +310,16 @@ meant_now layer parents n top is r reference uri to safe own scope a b means_ (o
     subst (λ o. IsOutcome layer parents n top r.base reference (ok_or o (not_retrieved uri) >>= λ x. at_fragment ((joined top (to_embed layer n) ∷ []) ∷ parents) (moved_resolver r uri) x (fragment_part reference)) (ok_or b (not_retrieved uri) >>= λ x. at_fragment (layer ∷ parents) (moved_resolver r uri) x (fragment_part reference))) (sym now)
     (subst (λ o. IsOutcome layer parents n top r.base reference (at_fragment ((joined top (to_embed layer n) ∷ []) ∷ parents) (moved_resolver r uri) q (fragment_part reference)) (ok_or o (not_retrieved uri) >>= λ x. at_fragment (layer ∷ parents) (moved_resolver r uri) x (fragment_part reference))) (sym before)
     (⊎_elim (λ answer. inl answer) (λ added. inr (record { uri = uri; to = to; place = p; meant = means_ ∙ before; goes = added }))
-    (fragment_now layer parents n top is (moved_resolver r uri) safe moved_scope uri q p place (fragment_part reference))))
+    (fragment_now layer parents n top is (moved_resolver r uri) moved_scope uri q p place (fragment_part reference) safe.named safe.unadded)))
 meant_now layer parents n top is r reference uri to safe own scope a b means_ (of_parent p now before none outside) =
     let moved_scope = moved_safe_by layer parents n top r.base r.scope ((length r.scope == 0) || not (bytes_eq uri r.base)) own scope in
     subst (λ o. IsOutcome layer parents n top r.base reference (ok_or o (not_retrieved uri) >>= λ x. at_fragment ((joined top (to_embed layer n) ∷ []) ∷ parents) (moved_resolver r uri) x (fragment_part reference)) (ok_or b (not_retrieved uri) >>= λ x. at_fragment (layer ∷ parents) (moved_resolver r uri) x (fragment_part reference))) (sym now)
     (subst (λ o. IsOutcome layer parents n top r.base reference (at_fragment ((joined top (to_embed layer n) ∷ []) ∷ parents) (moved_resolver r uri) p (fragment_part reference)) (ok_or o (not_retrieved uri) >>= λ x. at_fragment (layer ∷ parents) (moved_resolver r uri) x (fragment_part reference))) (sym before)
     (⊎_elim (λ answer. inl answer) (λ added. inr (record { uri = uri; to = to; place = p; meant = means_ ∙ before; goes = added }))
-    (fragment_now layer parents n top is (moved_resolver r uri) safe moved_scope uri p p (same_under refl refl refl) (fragment_part reference))))
+    (fragment_now layer parents n top is (moved_resolver r uri) moved_scope uri p p (same_under refl refl refl) (fragment_part reference) safe.named safe.unadded)))
 
 target_now : (layer : Layer) (parents : World) (n : ℕ) (top : Document) → IsMade layer n top → (r : Resolver) (reference : List ℕ) → IsSafe layer parents n top r.base → AllByRecursion (IsSafe layer parents n top) r.scope
-    → ((uri : List ℕ) → target r.base reference ≡ Ok uri → IsSafe layer parents n top uri) → (t : Result (List ℕ) Refusal) → target r.base reference ≡ t
+    → ((uri : List ℕ) → target r.base reference ≡ Ok uri → IsSafeTarget layer parents n top uri (fragment_part reference)) → (t : Result (List ℕ) Refusal) → target r.base reference ≡ t
     → IsOutcome layer parents n top r.base reference
     (as_invalid_uri t >>= λ uri. ok_or (meant_place ((joined top (to_embed layer n) ∷ []) ∷ parents) uri) (not_retrieved uri) >>= λ place. at_fragment ((joined top (to_embed layer n) ∷ []) ∷ parents) (moved_resolver r uri) place (fragment_part reference))
     (as_invalid_uri t >>= λ uri. ok_or (meant_place (layer ∷ parents) uri) (not_retrieved uri) >>= λ place. at_fragment (layer ∷ parents) (moved_resolver r uri) place (fragment_part reference))
@@ -313,7 +328,7 @@ target_now layer parents n top is r reference own scope safe (Ok uri) to =
 target_now layer parents n top is r reference own scope safe (Err refusal) to = inl refl
 
 lookup_now : (layer : Layer) (parents : World) (n : ℕ) (top : Document) → IsMade layer n top → (r : Resolver) (reference : List ℕ) → IsSafe layer parents n top r.base → AllByRecursion (IsSafe layer parents n top) r.scope
-    → ((uri : List ℕ) → target r.base reference ≡ Ok uri → IsSafe layer parents n top uri)
+    → ((uri : List ℕ) → target r.base reference ≡ Ok uri → IsSafeTarget layer parents n top uri (fragment_part reference))
     → IsOutcome layer parents n top r.base reference (lookup ((joined top (to_embed layer n) ∷ []) ∷ parents) r reference) (lookup (layer ∷ parents) r reference)
 unfolding lookup
 lookup_now layer parents n top is r reference own scope safe = target_now layer parents n top is r reference own scope safe (target r.base reference) refl
@@ -322,12 +337,35 @@ scope_safe : (layer : Layer) (parents : World) (n : ℕ) (top : Document) → Is
 scope_safe layer parents n top is [] each = tt
 scope_safe layer parents n top is (uri ∷ scope) each = (safe_scope layer parents n top is uri each.0, scope_safe layer parents n top is scope each.1)
 
+-- such a reference was a fault
+was_fault : (world : World) (r : Resolver) (reference uri : List ℕ) (p : Place) (fault : Fault) → target r.base reference ≡ Ok uri → meant_place world uri ≡ Some p → at_fragment world (moved_resolver r uri) p (fragment_part reference) ≡ Err fault
+    → lookup world r reference ≡ Err fault
+unfolding lookup
+was_fault world r reference uri p fault to means_ at =
+    ap (λ t. as_invalid_uri t >>= λ u. ok_or (meant_place world u) (not_retrieved u) >>= λ place. at_fragment world (moved_resolver r u) place (fragment_part reference)) to
+    ∙ ap (λ o. ok_or o (not_retrieved uri) >>= λ place. at_fragment world (moved_resolver r uri) place (fragment_part reference)) means_
+    ∙ at
+
+into_definitions : (layer : Layer) (parents : World) (n : ℕ) (top : Document) → IsMade layer n top → (r : Resolver) (reference : List ℕ) → IsInto layer parents n top r.base reference → PointsIntoDefinitions layer parents n top r reference
+into_definitions layer parents n top is r reference into =
+    let means_ : meant_place (layer ∷ parents) into.uri ≡ Some (root top) = into.meant ∙ ap (λ p. Some p) into.goes.0 in
+    let fault = were_faults layer parents n top is (moved_resolver r into.uri) (fragment_part reference) into.goes.1 in
+    record {
+      uri = into.uri;
+      to = into.to;
+      meant = means_;
+      goes = into.goes.1;
+      fault = fault.0;
+      was = was_fault (layer ∷ parents) r reference into.uri (root top) fault.0 into.to means_ fault.1;
+    }
+
 -- a bundle keeps every reference
 pub keeps_references : KeepsReferences
 keeps_references layer parents n top bundle is e p base reference scope need there has refers borne_ =
     let both = made layer parents n top bundle is in
     let r : Resolver = record { base = base; scope = scope } in
     subst (λ b. IsAnswerNow layer n top b (lookup (world_of_bundle top b parents) r reference) (lookup (layer ∷ parents) r reference)
-    ⊎ PointsIntoAdded layer parents n top base reference) (sym both.2)
+    ⊎ PointsIntoDefinitions layer parents n top r reference) (sym both.2)
+    (⊎_elim (λ answer. inl answer) (λ into. inr (into_definitions layer parents n top both.0 r reference into))
     (lookup_now layer parents n top both.0 r reference (safe_base layer parents n top both.0 e p base need there has) (scope_safe layer parents n top both.0 scope borne_)
-    (λ uri to. safe_target layer parents n top both.0 both.1 e p base uri reference need there has refers to))
+    (λ uri to. safe_target layer parents n top both.0 both.1 e p base uri reference need there has refers to)))

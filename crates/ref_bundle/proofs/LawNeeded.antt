@@ -10,8 +10,8 @@ use Rattle.ref_definitions.specs.World.{Document, Layer}
 use Rattle.ref_definitions.specs.Places.{Place, root, places}
 use Rattle.ref_definitions.specs.Resources.{own_uri, resource_of, resources_in, last_under}
 use Rattle.ref_definitions.proofs.Alone.{first_or_later}
-use Rattle.ref_bundle.specs.Needed.{counted_documents, numbered_uris, document_under}
-use Rattle.ref_bundle.specs.Bundle.{SharedUri, Site, is_site, borne_in, sites_of_uris, shared_uri, uris_of}
+use Rattle.ref_bundle.specs.Needed.{counted_documents, Site, borne_in, sites_of_uris, site_under, document_under}
+use Rattle.ref_bundle.specs.Bundle.{SharedUri, is_site, shared_uri, uris_of}
 use Rattle.ref_bundle.proofs.LawEntries.{IsFree, free, each_none, filter_flat, all_left, all_right, not_first, not_later}
 
 -- ---- documents with their numbers
@@ -142,7 +142,7 @@ and_true : (b : Bool) → (b && true) ≡ b
 and_true true = refl
 and_true false = refl
 
-other_number : (m n : ℕ) (b : Bool) → (m == n) ≡ b → ¬ (m ≡ n) → b ≡ false
+pub other_number : (m n : ℕ) (b : Bool) → (m == n) ≡ b → ¬ (m ≡ n) → b ≡ false
 other_number m n true is other = absurd (other (eqb-true m n is))
 other_number m n false is other = refl
 
@@ -215,38 +215,53 @@ bearer_in d uri q there =
     (found.0, found.1, Contains-append_right (cond (path_eq found.0.path []) (d.uri ∷ []) []) (option_to_list (own_uri found.0)) uri (own_entry uri found.0 q (own_uri found.0) found.2)))
     (first_or_later (d.uri, root d) (flat_map resource_of (places d)) (uri, q) there)
 
-numbered : (o : Option (List ℕ × ℕ)) (k : ℕ) → option_map (λ (e : List ℕ × ℕ). e.1) o ≡ Some k → (e : List ℕ × ℕ) × (o ≡ Some e) × (e.1 ≡ k)
+sited : (o : Option (List ℕ × Site)) (s : Site) → option_map (λ (e : List ℕ × Site). e.1) o ≡ Some s → (e : List ℕ × Site) × (o ≡ Some e) × (e.1 ≡ s)
+sited None s is = absurd (let x : None ≡ Some s = is in cc)
+sited (Some e) s is = (e, refl, let x : Some e.1 ≡ Some s = is in cc)
+
+-- the last entry under a URI is one of it
+pub site_entry : (layer : Layer) (uri : List ℕ) (s : Site) → site_under layer uri ≡ Some s → (e : List ℕ × Site) × (e.1 ≡ s) × IsKeptThere (λ (f : List ℕ × Site). bytes_eq f.0 uri) (sites_of_uris layer) e
+site_entry layer uri s is =
+    let last = sited (last_under uri (sites_of_uris layer)) s is in
+    (last.0, last.2, kept last.0 (last_kept (λ (e : List ℕ × Site). bytes_eq e.0 uri) (sites_of_uris layer) last.0 None last.1))
+  where
+    kept : (e : List ℕ × Site) → (None ≡ Some e) ⊎ IsKeptThere (λ (f : List ℕ × Site). bytes_eq f.0 uri) (sites_of_uris layer) e → IsKeptThere (λ (f : List ℕ × Site). bytes_eq f.0 uri) (sites_of_uris layer) e
+    kept e (inl none) = absurd (let x : None ≡ Some e = none in cc)
+    kept e (inr there) = there
+
+pub site_bears : (layer : Layer) (uri : List ℕ) (s : Site) → site_under layer uri ≡ Some s → (x : ℕ × Document) × (p : Place) × (x.0 ≡ s.0) × IsBearer layer uri x p
+site_bears layer uri s is =
+    let found = site_entry layer uri s is in
+    let e = found.0 in
+    let of_document = in_one_of borne_in (counted_documents 0 layer) e found.2.there in
+    let entry = in_mapped (λ (r : List ℕ × Place). (r.0, (of_document.0.0, r.1.path))) (resources_in of_document.0.1) e of_document.2 in
+    let uris : entry.0.0 ≡ uri = ap (λ (f : List ℕ × Site). f.0) entry.2 ∙ (bytes_eq-Decides e.0 uri).0 found.2.passes in
+    let bearer = bearer_in of_document.0.1 uri entry.0.1 (subst (λ u. Contains (resources_in of_document.0.1) (u, entry.0.1)) uris entry.1) in
+    (of_document.0, bearer.0, ap (λ (f : List ℕ × Site). f.1.0) entry.2 ∙ ap (λ (t : Site). t.0) found.1, record { document = of_document.1; place = bearer.1; bears = bearer.2 })
+
+numbered : (o : Option Site) (k : ℕ) → option_map (λ (s : Site). s.0) o ≡ Some k → (s : Site) × (o ≡ Some s) × (s.0 ≡ k)
 numbered None k is = absurd (let x : None ≡ Some k = is in cc)
-numbered (Some e) k is = (e, refl, let x : Some e.1 ≡ Some k = is in cc)
+numbered (Some s) k is = (s, refl, let x : Some s.0 ≡ Some k = is in cc)
 
 pub document_bears : (layer : Layer) (uri : List ℕ) (k : ℕ) → document_under layer uri ≡ Some k → (x : ℕ × Document) × (p : Place) × (x.0 ≡ k) × IsBearer layer uri x p
 document_bears layer uri k is =
-    let entries = flat_map numbered_uris (counted_documents 0 layer) in
-    let last = numbered (last_under uri entries) k is in
-    by_kept last.0 last.2 (last_kept (λ (e : List ℕ × ℕ). bytes_eq e.0 uri) entries last.0 None last.1)
-  where
-    by_kept : (e : List ℕ × ℕ) → e.1 ≡ k → (None ≡ Some e) ⊎ IsKeptThere (λ (f : List ℕ × ℕ). bytes_eq f.0 uri) (flat_map numbered_uris (counted_documents 0 layer)) e → (x : ℕ × Document) × (p : Place) × (x.0 ≡ k) × IsBearer layer uri x p
-    by_kept e own (inl none) = absurd (let x : None ≡ Some e = none in cc)
-    by_kept e own (inr kept) =
-        let of_document = in_one_of numbered_uris (counted_documents 0 layer) e kept.there in
-        let entry = in_mapped (λ (r : List ℕ × Place). (r.0, of_document.0.0)) (resources_in of_document.0.1) e of_document.2 in
-        let uris : entry.0.0 ≡ uri = ap (λ (f : List ℕ × ℕ). f.0) entry.2 ∙ (bytes_eq-Decides e.0 uri).0 kept.passes in
-        let bearer = bearer_in of_document.0.1 uri entry.0.1 (subst (λ u. Contains (resources_in of_document.0.1) (u, entry.0.1)) uris entry.1) in
-        (of_document.0, bearer.0, ap (λ (f : List ℕ × ℕ). f.1) entry.2 ∙ own, record { document = of_document.1; place = bearer.1; bears = bearer.2 })
+    let s = numbered (site_under layer uri) k is in
+    let found = site_bears layer uri s.0 s.1 in
+    (found.0, found.1, found.2 ∙ s.2, found.3)
 
--- a URI that means no document belongs to none
-no_number : (o : Option (List ℕ × ℕ)) → option_map (λ (e : List ℕ × ℕ). e.1) o ≡ None → o ≡ None
-no_number None is = refl
-no_number (Some e) is = absurd (let x : Some e.1 ≡ None = is in cc)
+-- a URI that means no place belongs to no document
+no_entry : (o : Option (List ℕ × Site)) → option_map (λ (e : List ℕ × Site). e.1) o ≡ None → o ≡ None
+no_entry None is = refl
+no_entry (Some e) is = absurd (let x : Some e.1 ≡ None = is in cc)
 
-each_without : (uri : List ℕ) (es : List (ℕ × Document)) → AllByRecursion (λ e. filter (λ (f : List ℕ × ℕ). bytes_eq f.0 uri) (numbered_uris e) ≡ []) es → AllByRecursion (λ e. IsFree uri e.1) es
+each_without : (uri : List ℕ) (es : List (ℕ × Document)) → AllByRecursion (λ e. filter (λ (f : List ℕ × Site). bytes_eq f.0 uri) (borne_in e) ≡ []) es → AllByRecursion (λ e. IsFree uri e.1) es
 each_without uri [] none = tt
 each_without uri (e ∷ es) none =
-    (free uri e.1 (kept_of_mapped (λ (f : List ℕ × ℕ). bytes_eq f.0 uri) (λ r. bytes_eq r.0 uri) (λ r. (r.0, e.0)) (resources_in e.1) (λ r. refl) none.0), each_without uri es none.1)
+    (free uri e.1 (kept_of_mapped (λ (f : List ℕ × Site). bytes_eq f.0 uri) (λ r. bytes_eq r.0 uri) (λ r. (r.0, (e.0, r.1.path))) (resources_in e.1) (λ r. refl) none.0), each_without uri es none.1)
 
-pub none_bears : (layer : Layer) (uri : List ℕ) → document_under layer uri ≡ None → AllByRecursion (λ e. IsFree uri e.1) (counted_documents 0 layer)
+pub none_bears : (layer : Layer) (uri : List ℕ) → site_under layer uri ≡ None → AllByRecursion (λ e. IsFree uri e.1) (counted_documents 0 layer)
 none_bears layer uri is =
-    let test = λ (f : List ℕ × ℕ). bytes_eq f.0 uri in
-    let none = last_none (filter test (flat_map numbered_uris (counted_documents 0 layer))) (no_number (last_under uri (flat_map numbered_uris (counted_documents 0 layer))) is) in
+    let test = λ (f : List ℕ × Site). bytes_eq f.0 uri in
+    let none = last_none (filter test (sites_of_uris layer)) (no_entry (last_under uri (sites_of_uris layer)) is) in
     each_without uri (counted_documents 0 layer)
-    (each_none (λ e. filter test (numbered_uris e)) (counted_documents 0 layer) (sym (filter_flat test numbered_uris (counted_documents 0 layer)) ∙ none))
+    (each_none (λ e. filter test (borne_in e)) (counted_documents 0 layer) (sym (filter_flat test borne_in (counted_documents 0 layer)) ∙ none))

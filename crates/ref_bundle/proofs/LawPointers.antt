@@ -1,12 +1,13 @@
 -- Where pointers lead in a bundle.
-use Rattle.std.proofs.Common.{◌≡◌, ◌≢◌, ℕ, Bool, true, false, cond, List, [], ◌∷◌, map, codes, Option, Some, None, is_some, option_and_then, Result, Ok, Err, bytes_eq, ◌⊎◌, inl, inr, ⊎_elim, refl, sym, ap, subst, ◌∙◌, true≢false, arith}
+use Rattle.std.proofs.Common.{◌≡◌, ℕ, Bool, true, false, not, cond, ◌&&◌, ◌||◌, List, [], ◌∷◌, map, codes, slice_get, Option, Some, None, is_some, option_map, option_and_then, Result, Ok, Err, bytes_eq, ◌⊎◌, inl, inr, ⊎_elim, refl, sym, ap, subst, ◌∙◌, true≢false, arith}
 use Rattle.std.specs.List.{AllByRecursion, Contains}
+use Rattle.std.specs.Option.{option_map_or}
 use Rattle.std.specs.Str.{is_utf8}
 use Rattle.std.proofs.lemmas.Slice.Eq.{bytes_eq-Decides}
 use Rattle.std.proofs.lemmas.List.Elements.{Contains-append_right}
 use Rattle.percent_encoding.specs.Percent.{percent_decode}
 use Rattle.serde_json.specs.Data.{Data, null, boolean, number, string, array, object, Members, put}
-use Rattle.serde_json.specs.Find.{get, get_member, as_object}
+use Rattle.serde_json.specs.Find.{get, get_member, as_object, as_str}
 use Rattle.serde_json.proofs.Views.{get_member-put_other}
 use Rattle.ref_parts.specs.Path.{Key}
 use Rattle.ref_parts.specs.Pointer.{unescape, tokens}
@@ -21,14 +22,13 @@ use Rattle.ref_uri.proofs.Meanings.{against_without_scheme}
 use Rattle.ref_uri.proofs.OnLiterals.{ref_uri_on_literals}
 use Rattle.ref_definitions.specs.Results.{◌>>=◌}
 use Rattle.ref_definitions.specs.World.{Document, Layer}
-use Rattle.ref_definitions.specs.Places.{root}
 use Rattle.ref_definitions.specs.Fault.{Fault, InvalidPercentEncoding, as_invalid_uri}
 use Rattle.ref_definitions.specs.Bases.{Along, along_part}
 use Rattle.ref_definitions.specs.Pointers.{walked_along, pointed_value}
 use Rattle.ref_definitions.specs.Lookup.{Resolver, Found, pointer_found}
-use Rattle.ref_bundle.specs.Embedding.{base_uri, added_schema, embedded_tree}
-use Rattle.ref_bundle.specs.Bundle.{Bundle, definitions_keyword, definitions_of, members_or_none, with_all, member_of, tree_with, bundle_of, to_embed}
-use Rattle.ref_bundle.specs.Kept.{IsValueNow, the_same, an_embedded, the_root, the_definitions, IsAnswerNow, BeginsWith, GoesIntoAdded, into_definitions, to_identifier, to_schema, to_definitions, to_embedded}
+use Rattle.ref_bundle.specs.Embedding.{base_uri, added_schema, embedded_tree, has_other_identifier, is_added_under}
+use Rattle.ref_bundle.specs.Bundle.{Bundle, first_key, definitions_keyword, definitions_of, members_or_none, with_all, member_of, tree_with, bundle_of, to_embed}
+use Rattle.ref_bundle.specs.Kept.{IsValueNow, the_same, an_embedded, the_root, the_definitions, IsAnswerNow, BeginsWith, GoesIntoDefinitions, to_definitions, to_embedded}
 use Rattle.ref_bundle.proofs.LawEmbedded.{given_back}
 use Rattle.ref_bundle.proofs.LawPut.{apart, IsEmbeddable, get_embedded, id_embedded, object_embedded, schema_text_same, get_with}
 use Rattle.ref_bundle.proofs.LawPlaces.{HasRoom, HasRoomFor}
@@ -97,7 +97,7 @@ id_scheme Draft201909 = no_dollar_id_scheme
 id_scheme Draft202012 = no_dollar_id_scheme
 id_scheme Unknown = no_dollar_id_scheme
 
--- ---- from an embedded document's root
+-- ---- what a pointer begins with
 
 begins : (text : List ℕ) (token : List ℕ) (more : List (List ℕ)) (key : List ℕ) → tokens (percent_decode text) ≡ token ∷ more → unescape token ≡ key → BeginsWith (47 ∷ text) (key ∷ [])
 begins text token more key is same = record { text = text; rest = map unescape more; is = refl; first = ap (map unescape) is ∙ ap (λ k. k ∷ map unescape more) same }
@@ -106,68 +106,77 @@ begins_two : (text : List ℕ) (token second : List ℕ) (more : List (List ℕ)
 begins_two text token second more key other is same also =
     record { text = text; rest = map unescape more; is = refl; first = ap (map unescape) is ∙ ap (λ k. k ∷ unescape second ∷ map unescape more) same ∙ ap (λ k. key ∷ k ∷ map unescape more) also }
 
--- what is found is a text, or something else
-text_or_other : (found : Option Data) (text : List ℕ) → (found ≡ Some (string text)) ⊎ (found ≢ Some (string text))
-text_or_other None text = inr (λ is. absurd (let e : None ≡ Some (string text) = is in cc))
-text_or_other (Some null) text = inr (λ is. absurd (let e : Some null ≡ Some (string text) = is in cc))
-text_or_other (Some (boolean b)) text = inr (λ is. absurd (let e : Some (boolean b) ≡ Some (string text) = is in cc))
-text_or_other (Some (number n)) text = inr (λ is. absurd (let e : Some (number n) ≡ Some (string text) = is in cc))
-text_or_other (Some (array ds)) text = inr (λ is. absurd (let e : Some (array ds) ≡ Some (string text) = is in cc))
-text_or_other (Some (object ms)) text = inr (λ is. absurd (let e : Some (object ms) ≡ Some (string text) = is in cc))
-text_or_other (Some (string own)) text = by_text (bytes_eq own text) refl
+-- ---- from an embedded document's root
+
+-- a member of which the bundle has the same text
+same_text : (o : Option Data) (uri : List ℕ) → not (option_map_or (λ text. bytes_eq text uri) (option_and_then as_str o) false) ≡ false → o ≡ Some (string uri)
+same_text None uri is = absurd (true≢false is)
+same_text (Some null) uri is = absurd (true≢false is)
+same_text (Some (boolean b)) uri is = absurd (true≢false is)
+same_text (Some (number n)) uri is = absurd (true≢false is)
+same_text (Some (array ds)) uri is = absurd (true≢false is)
+same_text (Some (object ms)) uri is = absurd (true≢false is)
+same_text (Some (string own)) uri is = by_test (bytes_eq own uri) refl is
   where
-    by_text : (b : Bool) → bytes_eq own text ≡ b → (Some (string own) ≡ Some (string text)) ⊎ (Some (string own) ≢ Some (string text))
-    by_text true same = inl (ap (λ t. Some (string t)) ((bytes_eq-Decides own text).0 same))
-    by_text false same = inr (λ is. apart own text same (let e : Some (string own) ≡ Some (string text) = is in cc))
+    by_test : (b : Bool) → bytes_eq own uri ≡ b → not b ≡ false → Some (string own) ≡ Some (string uri)
+    by_test true same other = ap (λ t. Some (string t)) ((bytes_eq-Decides own uri).0 same)
+    by_test false same other = absurd (true≢false other)
 
-embedded_step : (layer : Layer) (n : ℕ) (top : Document) (bundle : Bundle) (e : ℕ × Document) → Contains (to_embed layer n) e → IsEmbeddable top e.1 → (r : Resolver) (pointer : List ℕ) (along : Along) (text token : List ℕ) (more : List (List ℕ))
-    → tokens (percent_decode text) ≡ token ∷ more → (b c : Bool) → bytes_eq (unescape token) (id_keyword e.1.draft) ≡ b → bytes_eq (unescape token) (codes "$schema") ≡ c → (o : Option (List ℕ)) → added_schema top.draft e.1 ≡ o
-    → IsAnswerNow layer n top bundle (AnswerOf r e.1.draft (walked_along e.1.draft pointer along (embedded_tree top.draft e.1) (token ∷ more))) (AnswerOf r e.1.draft (walked_along e.1.draft pointer along e.1.tree (token ∷ more)))
-    ⊎ GoesIntoAdded layer n top (root e.1) (47 ∷ text)
-embedded_step layer n top bundle e there able r pointer along text token more is true c same also o added =
-    let key : unescape token ≡ id_keyword e.1.draft = (bytes_eq-Decides (unescape token) (id_keyword e.1.draft)).0 same in
-    ⊎_elim
-    (λ own. inl (equal_answer layer n top bundle _ _
-    (ap (AnswerOf r e.1.draft) (walk_alike e.1.draft pointer along (embedded_tree top.draft e.1) e.1.tree token more (object_embedded top.draft e.1 ∙ able.object) able.object
-    (subst (λ k. get k (embedded_tree top.draft e.1) ≡ get k e.1.tree) (sym key) (id_embedded top.draft e.1 able.object ∙ sym own))))))
-    (λ other. inr (to_identifier e there refl other (begins text token more (id_keyword e.1.draft) is key)))
-    (text_or_other (get (id_keyword e.1.draft) e.1.tree) (base_uri e.1))
-embedded_step layer n top bundle e there able r pointer along text token more is false true same also (Some schema) added =
-    inr (to_schema e there refl (ap is_some added) (begins text token more (codes "$schema") is ((bytes_eq-Decides (unescape token) (codes "$schema")).0 also)))
-embedded_step layer n top bundle e there able r pointer along text token more is false true same also None added =
-    inl (equal_answer layer n top bundle _ _
-    (ap (AnswerOf r e.1.draft) (walk_alike e.1.draft pointer along (embedded_tree top.draft e.1) e.1.tree token more (object_embedded top.draft e.1 ∙ able.object) able.object
-    (subst (λ k. get k (embedded_tree top.draft e.1) ≡ get k e.1.tree) (sym ((bytes_eq-Decides (unescape token) (codes "$schema")).0 also)) (schema_text_same top.draft e.1 added)))))
-embedded_step layer n top bundle e there able r pointer along text token more is false false same also o added =
-    inl (equal_answer layer n top bundle _ _
-    (ap (AnswerOf r e.1.draft) (walk_alike e.1.draft pointer along (embedded_tree top.draft e.1) e.1.tree token more (object_embedded top.draft e.1 ∙ able.object) able.object
-    (get_embedded top.draft e.1 (unescape token) (apart (unescape token) (id_keyword e.1.draft) same) (apart (unescape token) (codes "$schema") also)))))
+not_some : {X : Type 0} (o : Option X) → is_some o ≡ false → o ≡ None
+not_some None is = refl
+not_some (Some x) is = absurd (true≢false is)
 
-embedded_tokens : (layer : Layer) (n : ℕ) (top : Document) (bundle : Bundle) (e : ℕ × Document) → Contains (to_embed layer n) e → IsEmbeddable top e.1 → (r : Resolver) (pointer : List ℕ) (along : Along) (text : List ℕ) (list : List (List ℕ))
-    → tokens (percent_decode text) ≡ list
+-- a key under which nothing is added
+embedded_member : (top : Document) (e : ℕ × Document) → IsEmbeddable top e.1 → (key : List ℕ) (b c : Bool) → bytes_eq key (id_keyword e.1.draft) ≡ b → bytes_eq key (codes "$schema") ≡ c
+    → ((b && has_other_identifier e.1) || (c && is_some (added_schema top.draft e.1))) ≡ false → get key (embedded_tree top.draft e.1) ≡ get key e.1.tree
+embedded_member top e able key true c own also plain =
+    let keyword : key ≡ id_keyword e.1.draft = (bytes_eq-Decides key (id_keyword e.1.draft)).0 own in
+    subst (λ k. get k (embedded_tree top.draft e.1) ≡ get k e.1.tree) (sym keyword)
+    (id_embedded top.draft e.1 able.object ∙ sym (same_text (get (id_keyword e.1.draft) e.1.tree) (base_uri e.1) (neither (has_other_identifier e.1) (c && is_some (added_schema top.draft e.1)) plain)))
+  where
+    neither : (a b : Bool) → (a || b) ≡ false → a ≡ false
+    neither true b is = absurd (true≢false is)
+    neither false b is = refl
+embedded_member top e able key false true own also plain =
+    subst (λ k. get k (embedded_tree top.draft e.1) ≡ get k e.1.tree) (sym ((bytes_eq-Decides key (codes "$schema")).0 also))
+    (schema_text_same top.draft e.1 (not_some (added_schema top.draft e.1) plain))
+embedded_member top e able key false false own also plain =
+    get_embedded top.draft e.1 key (apart key (id_keyword e.1.draft) own) (apart key (codes "$schema") also)
+
+embedded_tokens : (layer : Layer) (n : ℕ) (top : Document) (bundle : Bundle) (e : ℕ × Document) → Contains (to_embed layer n) e → IsEmbeddable top e.1 → (r : Resolver) (pointer : List ℕ) (along : Along) (list : List (List ℕ))
+    → ((key : List ℕ) → option_map unescape (slice_get list 0) ≡ Some key → is_added_under top.draft e.1 key ≡ false)
     → IsAnswerNow layer n top bundle (AnswerOf r e.1.draft (walked_along e.1.draft pointer along (embedded_tree top.draft e.1) list)) (AnswerOf r e.1.draft (walked_along e.1.draft pointer along e.1.tree list))
-    ⊎ GoesIntoAdded layer n top (root e.1) (47 ∷ text)
-embedded_tokens layer n top bundle e there able r pointer along text [] is = inl (an_embedded e there refl refl, refl, refl)
-embedded_tokens layer n top bundle e there able r pointer along text (token ∷ more) is =
-    embedded_step layer n top bundle e there able r pointer along text token more is (bytes_eq (unescape token) (id_keyword e.1.draft)) (bytes_eq (unescape token) (codes "$schema")) refl refl (added_schema top.draft e.1) refl
+embedded_tokens layer n top bundle e there able r pointer along [] plain = (an_embedded e there refl refl, refl, refl)
+embedded_tokens layer n top bundle e there able r pointer along (token ∷ more) plain =
+    equal_answer layer n top bundle _ _
+    (ap (AnswerOf r e.1.draft) (walk_alike e.1.draft pointer along (embedded_tree top.draft e.1) e.1.tree token more (object_embedded top.draft e.1 ∙ able.object) able.object
+    (embedded_member top e able (unescape token) (bytes_eq (unescape token) (id_keyword e.1.draft)) (bytes_eq (unescape token) (codes "$schema")) refl refl (plain (unescape token) refl))))
+
+embedded_decoded : (layer : Layer) (n : ℕ) (top : Document) (bundle : Bundle) (e : ℕ × Document) → Contains (to_embed layer n) e → IsEmbeddable top e.1 → (r : Resolver) (pointer base text : List ℕ) (b : Bool)
+    → ((key : List ℕ) → cond b (option_map unescape (slice_get (tokens (percent_decode text)) 0)) None ≡ Some key → is_added_under top.draft e.1 key ≡ false)
+    → IsAnswerNow layer n top bundle (AnswerOf r e.1.draft (cond b (walked_along e.1.draft pointer (record { base = base; since = [] }) (embedded_tree top.draft e.1) (tokens (percent_decode text))) (Err (InvalidPercentEncoding pointer))))
+    (AnswerOf r e.1.draft (cond b (walked_along e.1.draft pointer (record { base = base; since = [] }) e.1.tree (tokens (percent_decode text))) (Err (InvalidPercentEncoding pointer))))
+embedded_decoded layer n top bundle e there able r pointer base text true plain =
+    embedded_tokens layer n top bundle e there able r pointer (record { base = base; since = [] }) (tokens (percent_decode text)) plain
+embedded_decoded layer n top bundle e there able r pointer base text false plain = refl
+
+-- a pointer to nothing that is added is percent-decoded, and goes the way that it went
+pub embedded_pointed : (layer : Layer) (n : ℕ) (top : Document) (bundle : Bundle) (e : ℕ × Document) → Contains (to_embed layer n) e → IsEmbeddable top e.1 → (r : Resolver) (pointer base text : List ℕ)
+    → ((key : List ℕ) → first_key (47 ∷ text) ≡ Some key → is_added_under top.draft e.1 key ≡ false)
+    → IsAnswerNow layer n top bundle (AnswerOf r e.1.draft (pointed_value e.1.draft pointer base (embedded_tree top.draft e.1) text)) (AnswerOf r e.1.draft (pointed_value e.1.draft pointer base e.1.tree text))
+embedded_pointed layer n top bundle e there able r pointer base text plain =
+    embedded_decoded layer n top bundle e there able r pointer base text (is_utf8 (percent_decode text)) plain
+
+-- ---- from the root
 
 -- a pointer is percent-decoded, and then walked
-pub either_pointed : (layer : Layer) (n : ℕ) (top : Document) (bundle : Bundle) (r : Resolver) (draft : Draft) (pointer base text : List ℕ) (w v : Data) (A : Type 0)
+either_pointed : (layer : Layer) (n : ℕ) (top : Document) (bundle : Bundle) (r : Resolver) (draft : Draft) (pointer base text : List ℕ) (w v : Data) (A : Type 0)
     → IsAnswerNow layer n top bundle (AnswerOf r draft (walked_along draft pointer (record { base = base; since = [] }) w (tokens (percent_decode text)))) (AnswerOf r draft (walked_along draft pointer (record { base = base; since = [] }) v (tokens (percent_decode text)))) ⊎ A
     → (b : Bool) → is_utf8 (percent_decode text) ≡ b
     → IsAnswerNow layer n top bundle (AnswerOf r draft (cond b (walked_along draft pointer (record { base = base; since = [] }) w (tokens (percent_decode text))) (Err (InvalidPercentEncoding pointer))))
     (AnswerOf r draft (cond b (walked_along draft pointer (record { base = base; since = [] }) v (tokens (percent_decode text))) (Err (InvalidPercentEncoding pointer)))) ⊎ A
 either_pointed layer n top bundle r draft pointer base text w v A both true is = both
 either_pointed layer n top bundle r draft pointer base text w v A both false is = inl refl
-
-pub embedded_pointed : (layer : Layer) (n : ℕ) (top : Document) (bundle : Bundle) (e : ℕ × Document) → Contains (to_embed layer n) e → IsEmbeddable top e.1 → (r : Resolver) (pointer base text : List ℕ)
-    → IsAnswerNow layer n top bundle (AnswerOf r e.1.draft (pointed_value e.1.draft pointer base (embedded_tree top.draft e.1) text)) (AnswerOf r e.1.draft (pointed_value e.1.draft pointer base e.1.tree text))
-    ⊎ GoesIntoAdded layer n top (root e.1) (47 ∷ text)
-embedded_pointed layer n top bundle e there able r pointer base text =
-    either_pointed layer n top bundle r e.1.draft pointer base text (embedded_tree top.draft e.1) e.1.tree (GoesIntoAdded layer n top (root e.1) (47 ∷ text))
-    (embedded_tokens layer n top bundle e there able r pointer (record { base = base; since = [] }) text (tokens (percent_decode text)) refl) (is_utf8 (percent_decode text)) refl
-
--- ---- from the root
 
 -- what the root has under the keyword of definitions
 more_there : (top : Document) (e : ℕ × Document) (es : List (ℕ × Document)) → is_object top.tree ≡ true → get (definitions_keyword top.draft) (tree_with top (e ∷ es)) ≡ Some (object (with_all (map (member_of top.draft) (e ∷ es)) (definitions_of top)))
@@ -197,7 +206,7 @@ few_of top few is = ap (λ o. members_or_none (option_and_then as_object o)) is
 in_definitions : (layer : Layer) (n : ℕ) (top : Document) (e : ℕ × Document) (es : List (ℕ × Document)) → to_embed layer n ≡ e ∷ es → is_object top.tree ≡ true → AllByRecursion (λ x. IsEmbeddable top x.1) (e ∷ es) → (few : Members) → get (definitions_keyword top.draft) top.tree ≡ Some (object few)
     → (r : Resolver) (pointer : List ℕ) (along : Along) (text token : List ℕ) (more : List (List ℕ)) → tokens (percent_decode text) ≡ token ∷ more → unescape token ≡ definitions_keyword top.draft
     → IsAnswerNow layer n top (bundle_of top (e ∷ es)) (AnswerOf r top.draft (walked_along top.draft pointer along (tree_with top (e ∷ es)) (token ∷ more))) (AnswerOf r top.draft (walked_along top.draft pointer along top.tree (token ∷ more)))
-    ⊎ GoesIntoAdded layer n top (root top) (47 ∷ text)
+    ⊎ GoesIntoDefinitions layer n top (47 ∷ text)
 in_definitions layer n top e es are is able few had r pointer along text token [] first own =
     let all = with_all (map (member_of top.draft) (e ∷ es)) (definitions_of top) in
     let now : get (definitions_keyword top.draft) (tree_with top (e ∷ es)) ≡ Some (object all) = more_there top e es is in
@@ -217,7 +226,7 @@ in_definitions layer n top e es are is able few had r pointer along text token (
     let ids : identifier top.draft (object all) ≡ identifier top.draft (object few) =
     same_identifier top (e ∷ es) (definitions_of top) able ∙ ap (λ ms. identifier top.draft (object ms)) (few_of top few had) in
     ⊎_elim
-    (λ added. inr (into_definitions (to_embedded added.0 (subst (λ l. Contains l added.0) (sym are) added.1) refl (begins_two text token second more (definitions_keyword top.draft) (base_uri added.0.1) first own added.2))))
+    (λ added. inr (to_embedded added.0 (subst (λ l. Contains l added.0) (sym are) added.1) (begins_two text token second more (definitions_keyword top.draft) (base_uri added.0.1) first own added.2)))
     (λ other. inl (equal_answer layer n top (bundle_of top (e ∷ es)) _ _
     (ap (AnswerOf r top.draft)
     (walk_through top.draft pointer along (tree_with top (e ∷ es)) top.tree token second more (object all) (object few) (object_top top (e ∷ es) ∙ is) is at_now at_before refl refl ids
@@ -228,9 +237,9 @@ root_step : (layer : Layer) (n : ℕ) (top : Document) (e : ℕ × Document) (es
     → (r : Resolver) (pointer : List ℕ) (along : Along) (text token : List ℕ) (more : List (List ℕ)) → tokens (percent_decode text) ≡ token ∷ more → (b : Bool) → bytes_eq (unescape token) (definitions_keyword top.draft) ≡ b
     → (get (definitions_keyword top.draft) top.tree ≡ None) ⊎ ((few : Members) × (get (definitions_keyword top.draft) top.tree ≡ Some (object few)))
     → IsAnswerNow layer n top (bundle_of top (e ∷ es)) (AnswerOf r top.draft (walked_along top.draft pointer along (tree_with top (e ∷ es)) (token ∷ more))) (AnswerOf r top.draft (walked_along top.draft pointer along top.tree (token ∷ more)))
-    ⊎ GoesIntoAdded layer n top (root top) (47 ∷ text)
+    ⊎ GoesIntoDefinitions layer n top (47 ∷ text)
 root_step layer n top e es are room able r pointer along text token more first true own (inl none) =
-    inr (into_definitions (to_definitions e (subst (λ l. Contains l e) (sym are) (0, omega arith, refl)) refl none (begins text token more (definitions_keyword top.draft) first ((bytes_eq-Decides (unescape token) (definitions_keyword top.draft)).0 own))))
+    inr (to_definitions e (subst (λ l. Contains l e) (sym are) (0, omega arith, refl)) none (begins text token more (definitions_keyword top.draft) first ((bytes_eq-Decides (unescape token) (definitions_keyword top.draft)).0 own)))
 root_step layer n top e es are room able r pointer along text token more first true own (inr some) =
     in_definitions layer n top e es are room.object able some.0 some.1 r pointer along text token more first ((bytes_eq-Decides (unescape token) (definitions_keyword top.draft)).0 own)
 root_step layer n top e es are room able r pointer along text token more first false own has =
@@ -242,15 +251,15 @@ root_step layer n top e es are room able r pointer along text token more first f
 root_tokens : (layer : Layer) (n : ℕ) (top : Document) (e : ℕ × Document) (es : List (ℕ × Document)) → to_embed layer n ≡ e ∷ es → HasRoom top (e ∷ es) → AllByRecursion (λ x. IsEmbeddable top x.1) (e ∷ es)
     → (r : Resolver) (pointer : List ℕ) (along : Along) (text : List ℕ) (list : List (List ℕ)) → tokens (percent_decode text) ≡ list
     → IsAnswerNow layer n top (bundle_of top (e ∷ es)) (AnswerOf r top.draft (walked_along top.draft pointer along (tree_with top (e ∷ es)) list)) (AnswerOf r top.draft (walked_along top.draft pointer along top.tree list))
-    ⊎ GoesIntoAdded layer n top (root top) (47 ∷ text)
+    ⊎ GoesIntoDefinitions layer n top (47 ∷ text)
 root_tokens layer n top e es are room able r pointer along text [] is = inl (the_root refl refl, refl, refl)
 root_tokens layer n top e es are room able r pointer along text (token ∷ more) is =
     root_step layer n top e es are room able r pointer along text token more is (bytes_eq (unescape token) (definitions_keyword top.draft)) refl room.has_map
 
 pub root_pointed : (layer : Layer) (n : ℕ) (top : Document) (es : List (ℕ × Document)) → to_embed layer n ≡ es → HasRoomFor top es → AllByRecursion (λ x. IsEmbeddable top x.1) es → (r : Resolver) (pointer base text : List ℕ)
     → IsAnswerNow layer n top (bundle_of top es) (AnswerOf r top.draft (pointed_value top.draft pointer base (tree_with top es) text)) (AnswerOf r top.draft (pointed_value top.draft pointer base top.tree text))
-    ⊎ GoesIntoAdded layer n top (root top) (47 ∷ text)
+    ⊎ GoesIntoDefinitions layer n top (47 ∷ text)
 root_pointed layer n top [] are room able r pointer base text = inl (same_answer layer n top (bundle_of top []) (AnswerOf r top.draft (pointed_value top.draft pointer base top.tree text)))
 root_pointed layer n top (e ∷ es) are room able r pointer base text =
-    either_pointed layer n top (bundle_of top (e ∷ es)) r top.draft pointer base text (tree_with top (e ∷ es)) top.tree (GoesIntoAdded layer n top (root top) (47 ∷ text))
+    either_pointed layer n top (bundle_of top (e ∷ es)) r top.draft pointer base text (tree_with top (e ∷ es)) top.tree (GoesIntoDefinitions layer n top (47 ∷ text))
     (root_tokens layer n top e es are room able r pointer (record { base = base; since = [] }) text (tokens (percent_decode text)) refl) (is_utf8 (percent_decode text)) refl

@@ -1,11 +1,14 @@
 -- A bundle has no fault and no open want.
 use Rattle.std.proofs.Common.{◌≡◌, ℕ, true, false, not, List, [], ◌∷◌, ◌++◌, flat_map, map, filter, drop, codes, Option, Some, None, is_some, option_map, option_and_then, Result, Ok, Err, ⊎_elim, refl, sym, ap, subst, ◌∙◌, append-nil, true≢false, arith}
 use Rattle.std.specs.List.{AllByRecursion, Contains}
+use Rattle.std.specs.Option.{option_to_list}
+use Rattle.std.specs.Result.{result_ok}
+use Rattle.std.proofs.lemmas.List.{map-append}
 use Rattle.std.proofs.lemmas.List.Elements.{Contains-append_right, Contains-append_left, Contains-append_cases}
 use Rattle.serde_json.specs.Data.{Data}
 use Rattle.ref_parts.specs.Path.{Part}
 use Rattle.ref_draft.specs.Schema.{text_under}
-use Rattle.ref_uri.specs.Targets.{Refusal, target}
+use Rattle.ref_uri.specs.Targets.{Refusal, target, fragment_part}
 use Rattle.ref_draft.proofs.Lists.{all_append}
 use Rattle.ref_definitions.specs.World.{Document, Layer, World}
 use Rattle.ref_definitions.specs.Places.{Place, root, places}
@@ -15,7 +18,8 @@ use Rattle.ref_definitions.proofs.Alone.{first_or_later, in_joined}
 use Rattle.ref_definitions.proofs.AtOrBelow.{place_has_base}
 use Rattle.ref_bundle.specs.Merges.{IsMerge, ended, from_first, from_second, IsMergeOf}
 use Rattle.ref_definitions.specs.Moving.{below_path}
-use Rattle.ref_bundle.specs.Needed.{dynamic_reference_at, meant_uris, targets_from, targets, needed_documents}
+use Rattle.ref_bundle.specs.Needed as refers
+use Rattle.ref_bundle.specs.Needed.{reference_of, reference_under, meta_schema_of, targets_from, targets, needed_documents}
 use Rattle.ref_bundle.specs.Bundle.{Bundle, to_embed, bundle_of}
 use Rattle.ref_bundle.specs.Kept.{IsBundle, document_of_bundle, world_of_bundle, place_in, places_of_embedded, places_of_root}
 use Rattle.ref_bundle.proofs.LawAlike.{BothAlike}
@@ -43,21 +47,35 @@ merge_of_all P all (part ∷ parts) merge each = merge_all P all part merge.0 me
 
 -- ---- what a place wants is among its targets
 
-in_meant : (cause : Cause) (o : Option (Result (List ℕ) Refusal)) (w : Want) → Contains (wants_of_text cause o) w → Contains (meant_uris o) w.uri
-in_meant cause None w there = absurd (omega (arith, there.1))
-in_meant cause (Some (Ok uri)) w there =
-    ⊎_elim (λ same. (0, omega arith, ap (λ (v : Want). v.uri) same)) (λ later. absurd (omega (arith, later.1))) (first_or_later (record { cause = cause; uri = uri }) [] w there)
-in_meant cause (Some (Err refusal)) w there = absurd (omega (arith, there.1))
+-- a URI that is wanted for a text is that of a reference
+wanted : (cause : Cause) (o : Option (Result (List ℕ) Refusal)) (w : Want) → Contains (wants_of_text cause o) w → o ≡ Some (Ok w.uri)
+wanted cause None w there = absurd (omega (arith, there.1))
+wanted cause (Some (Ok uri)) w there =
+    ⊎_elim (λ same. ap (λ (v : Want). Some (Ok v.uri)) same) (λ later. absurd (omega (arith, later.1))) (first_or_later (record { cause = cause; uri = uri }) [] w there)
+wanted cause (Some (Err refusal)) w there = absurd (omega (arith, there.1))
+
+by_text : (base : List ℕ) (o : Option (List ℕ)) (uri : List ℕ) → option_map (target base) o ≡ Some (Ok uri) → Contains (map (λ (r : refers.Reference). r.uri) (option_to_list (option_and_then (reference_of base) o))) uri
+by_text base None uri is = absurd (let e : None ≡ Some (Ok uri) = is in cc)
+by_text base (Some text) uri is =
+    let means_ : target base text ≡ Ok uri = let e : Some (target base text) ≡ Some (Ok uri) = is in cc in
+    subst (λ t. Contains (map (λ (r : refers.Reference). r.uri) (option_to_list (option_map (λ u. record { uri = u; fragment = fragment_part text }) (result_ok t)))) uri) (sym means_) (0, omega arith, refl)
+
+by_meta : (o : Option (Result (List ℕ) Refusal)) (uri : List ℕ) → o ≡ Some (Ok uri) → Contains (map (λ (r : refers.Reference). r.uri) (option_to_list (option_map (λ u. record { uri = u; fragment = [] }) (option_and_then (λ named. result_ok named) o)))) uri
+by_meta o uri is =
+    subst (λ t. Contains (map (λ (r : refers.Reference). r.uri) (option_to_list (option_map (λ u. record { uri = u; fragment = [] }) (option_and_then (λ named. result_ok named) t)))) uri) (sym is) (0, omega arith, refl)
 
 want_is_target : (base : List ℕ) (value : Data) (w : Want) → Contains (wants_at (Ok base) value) w → Contains (targets_from (Ok base) value) w.uri
 want_is_target base value w there =
-    let plain = meant_uris (reference_at base value) in
-    let dynamic = meant_uris (dynamic_reference_at base value) in
-    let meta = meant_uris (schema_at value) in
-    ⊎_elim
-    (λ here. Contains-append_left (plain ++ dynamic) meta w.uri (Contains-append_left plain dynamic w.uri (in_meant Reference (reference_at base value) w here)))
-    (λ later. Contains-append_right (plain ++ dynamic) meta w.uri (in_meant MetaSchema (schema_at value) w later))
-    (Contains-append_cases (wants_of_text Reference (reference_at base value)) (wants_of_text MetaSchema (schema_at value)) w there)
+    let uris = map (λ (r : refers.Reference). r.uri) in
+    let plain = option_to_list (reference_under (codes "$ref") base value) in
+    let dynamic = option_to_list (reference_under (codes "$dynamicRef") base value) in
+    let meta = option_to_list (meta_schema_of value) in
+    let parts : uris ((plain ++ dynamic) ++ meta) ≡ (uris plain ++ uris dynamic) ++ uris meta = map-append (λ (r : refers.Reference). r.uri) (plain ++ dynamic) meta ∙ ap (λ l. l ++ uris meta) (map-append (λ (r : refers.Reference). r.uri) plain dynamic) in
+    subst (λ l. Contains l w.uri) (sym parts)
+    (⊎_elim
+    (λ here. Contains-append_left (uris plain ++ uris dynamic) (uris meta) w.uri (Contains-append_left (uris plain) (uris dynamic) w.uri (by_text base (text_under (codes "$ref") value) w.uri (wanted Reference (reference_at base value) w here))))
+    (λ later. Contains-append_right (uris plain ++ uris dynamic) (uris meta) w.uri (by_meta (schema_at value) w.uri (wanted MetaSchema (schema_at value) w later)))
+    (Contains-append_cases (wants_of_text Reference (reference_at base value)) (wants_of_text MetaSchema (schema_at value)) w there))
 
 -- ---- places that refer alike
 

@@ -1,33 +1,33 @@
 -- The URIs that a look-up from a needed place asks for are safe: its target, its base, and those of its scope.
-use Rattle.std.proofs.Common.{◌≡◌, ℕ, zero, suc, Bool, true, false, not, cond, ◌&&◌, ◌==◌, eq-eqb, List, [], ◌∷◌, ◌++◌, flat_map, map, filter, codes, Option, Some, None, option_map, option_and_then, Result, Ok, bytes_eq, ◌⊎◌, inl, inr, ⊎_elim, refl, sym, ap, subst, ◌∙◌, true≢false, arith}
+use Rattle.std.proofs.Common.{◌≡◌, ℕ, zero, suc, Bool, true, false, not, cond, ◌&&◌, ◌==◌, eq-eqb, eqb-true, slice_get, List, [], ◌∷◌, ◌++◌, flat_map, map, filter, codes, Option, Some, None, option_map, option_and_then, Result, Ok, bytes_eq, ◌⊎◌, inl, inr, ⊎_elim, refl, sym, ap, subst, ◌∙◌, true≢false, arith}
 use Rattle.std.specs.List.{AllByRecursion, Contains, last_or}
 use Rattle.std.specs.Option.{option_map_or, option_to_list}
 use Rattle.std.specs.Result.{result_ok}
 use Rattle.std.proofs.lemmas.Slice.Eq.{bytes_eq-Decides}
 use Rattle.std.proofs.lemmas.List.Elements.{Contains-append_right, Contains-append_left, Contains-append_cases}
-use Rattle.serde_json.specs.Data.{depth}
+use Rattle.serde_json.specs.Data.{Data, depth}
 use Rattle.ref_parts.specs.Path.{Part, path_eq}
 use Rattle.ref_draft.specs.Schema.{text_under}
-use Rattle.ref_uri.specs.Targets.{Refusal, target, uri_against}
+use Rattle.ref_uri.specs.Targets.{Refusal, target, fragment_part, uri_against}
 use Rattle.ref_draft.proofs.Lists.{all_append}
 use Rattle.ref_definitions.specs.World.{Document, Layer, World}
 use Rattle.ref_definitions.specs.Places.{Place, root, identifier_of, base_within, children_of, levels_below, places}
 use Rattle.ref_definitions.specs.Resources.{own_uri, resource_of, resources_in, resources, last_under, meant_place}
-use Rattle.ref_definitions.specs.Wants.{reference_at, schema_at}
 use Rattle.ref_definitions.proofs.Alone.{first_or_later, in_joined}
 use Rattle.ref_definitions.proofs.Differ.{GoesOn, on_with}
-use Rattle.ref_bundle.specs.Needed.{counted_documents, document_under, dynamic_reference_at, meant_uris, targets_from, targets, needed_documents}
-use Rattle.ref_bundle.specs.Embedding.{base_uri}
-use Rattle.ref_bundle.specs.Bundle.{ShadowedUri, borne_in, sites_of_uris, uris_of, identified_from, shadowed_uri, reference_problems, reference_problems_by}
+use Rattle.ref_bundle.specs.Needed.{counted_documents, Site, borne_in, sites_of_uris, site_under, Reference, reference_of, reference_under, meta_schema_of, references_from, references, needed_documents}
+use Rattle.ref_bundle.specs.Embedding.{base_uri, is_added_under}
+use Rattle.ref_bundle.specs.Bundle.{Problem, ShadowedUri, AddedMember, is_site, uris_of, replaced_in, identified_from, is_name, shadowed_uri, first_key, added_in, embedded_problems, reference_problems, reference_problems_by, to_embed}
 use Rattle.ref_bundle.specs.Kept.{IsBorneByNeeded, RefersBy}
-use Rattle.ref_bundle.proofs.LawEntries.{borne_by, IsFree, IsOther, AllOther, each_none, filter_flat, other_levels, not_first, not_later}
+use Rattle.ref_bundle.proofs.LawEntries.{borne_by, IsFree, IsOther, AllOther, back_empty, each_none, filter_flat, other_levels, not_first, not_later}
 use Rattle.ref_bundle.proofs.LawEmbedded.{base_is}
-use Rattle.ref_bundle.proofs.LawNeeded.{is_of_another, each_in, in_one_of, last_none, none_of_shared, document_bears, none_bears}
-use Rattle.ref_bundle.proofs.LawClosed.{passes_kept}
+use Rattle.ref_bundle.proofs.Numbers.{and_left, and_right}
+use Rattle.ref_bundle.proofs.LawNeeded.{is_of_another, other_number, each_in, in_one_of, last_none, none_of_shared, site_entry, site_bears, none_bears}
+use Rattle.ref_bundle.proofs.LawClosed.{got_at, passes_kept}
 use Rattle.ref_bundle.proofs.LawBundled.{none_in, no_problem, not_shared, no_reference_problem}
-use Rattle.ref_bundle.proofs.LawFacts.{IsMade, root_base, needed_counted, base_borne}
-use Rattle.ref_bundle.proofs.LawClear.{Stays, clear_borne, clear_target}
-use Rattle.ref_bundle.proofs.LawMeaning.{no_entries_were}
+use Rattle.ref_bundle.proofs.LawFacts.{IsMade, root_base, needed_counted, embedded_needed, base_borne}
+use Rattle.ref_bundle.proofs.LawClear.{Stays, clear_borne, clear_reference}
+use Rattle.ref_bundle.proofs.LawMeaning.{IsClear, no_entries_were}
 use Rattle.ref_bundle.proofs.LawAnchors.{own_base, IsSafe, none_bear, last_is}
 
 -- ---- paths of places below a root
@@ -125,7 +125,7 @@ no_alias_borne : (layer : Layer) (n : ℕ) (top : Document) → IsMade layer n t
 no_alias_borne layer n top is x q uri need there own alias =
     let d = x.1 in
     let root_bears : Contains (uris_of d (root d)) uri = (0, omega arith, alias) in
-    let none = not_shared layer is.world n x (root d) uri (no_problem layer is.world n top x (root d) (none_in layer is.world n top x is.unrefused need) (0, omega arith, refl)) root_bears in
+    let none = not_shared layer is.world (n, top) x (root d) uri (no_problem layer is.world n top x (root d) (none_in layer is.world n top x is.unrefused need) (0, omega arith, refl)) root_bears in
     let filtered = last_none (filter (is_of_another uri (x.0, [])) (sites_of_uris layer)) (none_of_shared (sites_of_uris layer) (last_or None (filter (is_of_another uri (x.0, [])) (sites_of_uris layer))) uri none) in
     let here : filter (is_of_another uri (x.0, [])) (borne_in x) ≡ [] =
     each_in (λ e. filter (is_of_another uri (x.0, [])) (borne_in e) ≡ []) (counted_documents 0 layer) x
@@ -173,21 +173,29 @@ safe_base layer parents n top is x p base need there has =
 
 -- ---- the target of a reference
 
-in_meant : (base uri reference : List ℕ) (o : Option (List ℕ)) → o ≡ Some reference → target base reference ≡ Ok uri → Contains (meant_uris (option_map (target base) o)) uri
-in_meant base uri reference o is means_ =
-    subst (λ t. Contains (meant_uris (option_map (target base) t)) uri) (sym is) (subst (λ t. Contains (meant_uris (Some t)) uri) (sym means_) (0, omega arith, refl))
+listed_there : (o : Option Reference) (r : Reference) → o ≡ Some r → Contains (option_to_list o) r
+listed_there o r is = subst (λ p. Contains (option_to_list p) r) (sym is) (0, omega arith, refl)
 
-target_of : (p : Place) (base uri reference : List ℕ) → p.base ≡ Ok base → RefersBy p.value reference → target base reference ≡ Ok uri → Contains (targets p) uri
-target_of p base uri reference has (inl plain) means_ =
-    let first = meant_uris (reference_at base p.value) in
-    let second = meant_uris (dynamic_reference_at base p.value) in
-    subst (λ b. Contains (targets_from b p.value) uri) (sym has)
-    (Contains-append_left (first ++ second) (meant_uris (schema_at p.value)) uri (Contains-append_left first second uri (in_meant base uri reference (text_under (codes "$ref") p.value) plain means_)))
-target_of p base uri reference has (inr dynamic) means_ =
-    let first = meant_uris (reference_at base p.value) in
-    let second = meant_uris (dynamic_reference_at base p.value) in
-    subst (λ b. Contains (targets_from b p.value) uri) (sym has)
-    (Contains-append_left (first ++ second) (meant_uris (schema_at p.value)) uri (Contains-append_right first second uri (in_meant base uri reference (text_under (codes "$dynamicRef") p.value) dynamic means_)))
+under_key : (key base uri reference : List ℕ) (value : Data) → text_under key value ≡ Some reference → target base reference ≡ Ok uri → reference_under key base value ≡ Some (record { uri = uri; fragment = fragment_part reference })
+under_key key base uri reference value there means_ =
+    let given : Result (List ℕ) Refusal → Option Reference = λ t. option_map (λ u. record { uri = u; fragment = fragment_part reference }) (result_ok t) in
+    ap (option_and_then (reference_of base)) there ∙ ap given means_
+
+reference_there : (p : Place) (base uri reference : List ℕ) → p.base ≡ Ok base → RefersBy p.value reference → target base reference ≡ Ok uri → Contains (references p) (record { uri = uri; fragment = fragment_part reference })
+reference_there p base uri reference has (inl plain) means_ =
+    let r : Reference = record { uri = uri; fragment = fragment_part reference } in
+    let first = option_to_list (reference_under (codes "$ref") base p.value) in
+    let second = option_to_list (reference_under (codes "$dynamicRef") base p.value) in
+    subst (λ b. Contains (references_from b p.value) r) (sym has)
+    (Contains-append_left (first ++ second) (option_to_list (meta_schema_of p.value)) r
+    (Contains-append_left first second r (listed_there (reference_under (codes "$ref") base p.value) r (under_key (codes "$ref") base uri reference p.value plain means_))))
+reference_there p base uri reference has (inr dynamic) means_ =
+    let r : Reference = record { uri = uri; fragment = fragment_part reference } in
+    let first = option_to_list (reference_under (codes "$ref") base p.value) in
+    let second = option_to_list (reference_under (codes "$dynamicRef") base p.value) in
+    subst (λ b. Contains (references_from b p.value) r) (sym has)
+    (Contains-append_left (first ++ second) (option_to_list (meta_schema_of p.value)) r
+    (Contains-append_right first second r (listed_there (reference_under (codes "$dynamicRef") base p.value) r (under_key (codes "$dynamicRef") base uri reference p.value dynamic means_))))
 
 -- ---- a place of a parent that a URI means
 
@@ -233,47 +241,129 @@ parent_named : (parents : World) (uri other : List ℕ) (p : Place) → meant_pl
 parent_named [] uri other p is own = absurd (let e : None ≡ Some p = is in cc)
 parent_named (layer ∷ parents) uri other p is own = named_by uri other p layer parents (last_under uri (resources layer)) refl is own (λ above. parent_named parents uri other p above own)
 
--- ---- a URI of no own document
+-- ---- a URI of no own place
 
-no_document_by : (layer : Layer) (uri : List ℕ) (o : Option ℕ) → last_under uri (resources layer) ≡ None → document_under layer uri ≡ o → o ≡ None
-no_document_by layer uri None none is = refl
-no_document_by layer uri (Some k) none is =
-    let found = document_bears layer uri k is in
+no_place_by : (layer : Layer) (uri : List ℕ) (o : Option Site) → last_under uri (resources layer) ≡ None → site_under layer uri ≡ o → o ≡ None
+no_place_by layer uri None none is = refl
+no_place_by layer uri (Some s) none is =
+    let found = site_bears layer uri s is in
     absurd (not_free found.0.1 found.1 uri found.3.place found.3.bears (each_in (λ e. IsFree uri e.1) (counted_documents 0 layer) found.0 (none_bear layer uri none) found.3.document))
 
-no_document : (layer : Layer) (uri : List ℕ) → last_under uri (resources layer) ≡ None → document_under layer uri ≡ None
-no_document layer uri none = no_document_by layer uri (document_under layer uri) none refl
+no_place : (layer : Layer) (uri : List ℕ) → last_under uri (resources layer) ≡ None → site_under layer uri ≡ None
+no_place layer uri none = no_place_by layer uri (site_under layer uri) none refl
 
 none_listed : {X : Type 0} (o : Option X) → option_to_list o ≡ [] → o ≡ None
 none_listed None is = refl
 none_listed (Some x) is = absurd (let e : x ∷ [] ≡ [] = is in cc)
 
-none_there : (uri other : List ℕ) (o : Option ℕ) → option_map (ShadowedUri uri other) o ≡ None → o ≡ None
+none_there : (uri other : List ℕ) (o : Option Site) → option_map (λ (s : Site). ShadowedUri uri other s.0 s.1) o ≡ None → o ≡ None
 none_there uri other None is = refl
-none_there uri other (Some n) is = absurd (let e : Some (ShadowedUri uri other n) ≡ None = is in cc)
+none_there uri other (Some s) is = absurd (let e : Some (ShadowedUri uri other s.0 s.1) ≡ None = is in cc)
 
--- where a place of a parent is meant without a problem, no own document has its own URI
-unshadowed : (layer : Layer) (parents : World) (n : ℕ) (uri other : List ℕ) (p : Place) → reference_problems layer (layer ∷ parents) n uri ≡ [] → last_under uri (resources layer) ≡ None
-    → meant_place parents uri ≡ Some p → own_uri p ≡ Some other → last_under other (resources layer) ≡ None
-unshadowed layer parents n uri other p no_problems none of_parent own =
+-- where a name in a place of a parent has no problem, no own place has that place's own URI
+unshadowed : (layer : Layer) (parents : World) (top : ℕ × Document) (r : Reference) (other : List ℕ) (p : Place) → reference_problems layer (layer ∷ parents) top r ≡ [] → is_name r.fragment ≡ true → last_under r.uri (resources layer) ≡ None
+    → meant_place parents r.uri ≡ Some p → own_uri p ≡ Some other → last_under other (resources layer) ≡ None
+unshadowed layer parents top r other p no_problems named none of_parent own =
     ⊎_elim
     (λ same. ap (λ u. last_under u (resources layer)) same ∙ none)
     (λ from.
-    let meant : meant_place (layer ∷ parents) uri ≡ Some p = ap (λ o. option_map_or (λ (e : List ℕ × Place). Some e.1) o (meant_place parents uri)) none ∙ of_parent in
-    let shadowed : shadowed_uri layer (layer ∷ parents) uri ≡ None =
-    none_listed (shadowed_uri layer (layer ∷ parents) uri) (sym (ap (reference_problems_by layer (layer ∷ parents) n uri) (no_document layer uri none)) ∙ no_problems) in
-    let base : option_and_then (identified_from uri) (meant_place (layer ∷ parents) uri) ≡ Some other = ap (option_and_then (identified_from uri)) meant ∙ from in
-    let there : option_map (ShadowedUri uri other) (document_under layer other) ≡ None =
-    sym (ap (option_and_then (λ b. option_map (ShadowedUri uri b) (document_under layer b))) base) ∙ shadowed in
-    no_entries_were other layer (none_bears layer other (none_there uri other (document_under layer other) there)))
-    (parent_named parents uri other p of_parent own)
+    let meant : meant_place (layer ∷ parents) r.uri ≡ Some p = ap (λ o. option_map_or (λ (e : List ℕ × Place). Some e.1) o (meant_place parents r.uri)) none ∙ of_parent in
+    let shadowed : shadowed_uri layer (layer ∷ parents) r ≡ None =
+    none_listed (shadowed_uri layer (layer ∷ parents) r) (sym (ap (reference_problems_by layer (layer ∷ parents) top r) (no_place layer r.uri none)) ∙ no_problems) in
+    let shadow : List ℕ → Option Problem = λ b. option_map (λ (s : Site). ShadowedUri r.uri b s.0 s.1) (site_under layer b) in
+    let base : option_and_then (identified_from r.uri) (meant_place (layer ∷ parents) r.uri) ≡ Some other = ap (option_and_then (identified_from r.uri)) meant ∙ from in
+    let there : shadow other ≡ None =
+    sym (ap (λ b. cond b (option_and_then shadow (option_and_then (identified_from r.uri) (meant_place (layer ∷ parents) r.uri))) None) named ∙ ap (option_and_then shadow) base) ∙ shadowed in
+    no_entries_were other layer (none_bears layer other (none_there r.uri other (site_under layer other) there)))
+    (parent_named parents r.uri other p of_parent own)
+
+-- ---- what is added at the root of an embedded document
+
+-- a fragment whose first key isn't added at the root of an embedded document that a URI means
+abbrev pub IsUnadded : Layer → ℕ → Document → List ℕ → List ℕ → Type 0
+IsUnadded layer n top uri fragment =
+    (e : ℕ × Document) → Contains (to_embed layer n) e → uri ≡ base_uri e.1 → (key : List ℕ) → first_key fragment ≡ Some key → is_added_under top.draft e.1 key ≡ false
+
+none_passes : {X : Type 0} (test : X → Bool) (xs : List X) → filter test xs ≡ [] → AllByRecursion (λ x. test x ≡ false) xs
+none_passes test [] none = tt
+none_passes test (x ∷ xs) none = (not_first x (filter test xs) (test x) none, none_passes test xs (not_later x (filter test xs) (test x) none))
+
+both_true : (a b : Bool) → (a && not b) ≡ false → a ≡ true → b ≡ true
+both_true true true none is = refl
+both_true true false none is = absurd (true≢false none)
+both_true false b none is = absurd (true≢false (sym is))
+
+-- the only place with its base URI is its root
+record IsAtRoot (layer : Layer) (uri : List ℕ) (e : ℕ × Document) : Type 0 where
+  site : Site
+  under : site_under layer uri ≡ Some site
+  number : site.0 ≡ e.0
+  path : path_eq site.1 [] ≡ true
+
+at_root_by : (layer : Layer) (n : ℕ) (e : ℕ × Document) (uri : List ℕ) → Contains (counted_documents 0 layer) e → Contains (uris_of e.1 (root e.1)) uri → filter (is_of_another uri (e.0, [])) (sites_of_uris layer) ≡ []
+    → (o : Option Site) → site_under layer uri ≡ o → IsAtRoot layer uri e
+at_root_by layer n e uri own bears none None is =
+    absurd (not_free e.1 (root e.1) uri (0, omega arith, refl) bears (each_in (λ x. IsFree uri x.1) (counted_documents 0 layer) e (none_bears layer uri is) own))
+at_root_by layer n e uri own bears none (Some s) is =
+    let entry = site_entry layer uri s is in
+    let other : (bytes_eq entry.0.0 uri && not (is_site entry.0.1 (e.0, []))) ≡ false =
+    each_in (λ x. is_of_another uri (e.0, []) x ≡ false) (sites_of_uris layer) entry.0 (none_passes (is_of_another uri (e.0, [])) (sites_of_uris layer) none) entry.2.there in
+    let here : is_site s (e.0, []) ≡ true = ap (λ (t : Site). is_site t (e.0, [])) (sym entry.1) ∙ both_true (bytes_eq entry.0.0 uri) (is_site entry.0.1 (e.0, [])) other entry.2.passes in
+    record { site = s; under = is; number = eqb-true s.0 e.0 (and_left (s.0 == e.0) (path_eq s.1 []) here); path = and_right (s.0 == e.0) (path_eq s.1 []) here }
+
+at_root : (layer : Layer) (n : ℕ) (top : Document) → IsMade layer n top → (e : ℕ × Document) → Contains (to_embed layer n) e → IsAtRoot layer (base_uri e.1) e
+at_root layer n top is e there =
+    let need = embedded_needed layer n e there in
+    let own = needed_counted layer n e need.0 in
+    let uri = base_uri e.1 in
+    let bears = base_borne e.1 uri (root_base layer e is.no_fault own) in
+    let none = not_shared layer is.world (n, top) e (root e.1) uri (no_problem layer is.world n top e (root e.1) (none_in layer is.world n top e is.unrefused need.0) (0, omega arith, refl)) bears in
+    let filtered = last_none (filter (is_of_another uri (e.0, [])) (sites_of_uris layer)) (none_of_shared (sites_of_uris layer) (last_or None (filter (is_of_another uri (e.0, [])) (sites_of_uris layer))) uri none) in
+    at_root_by layer n e uri own bears filtered (site_under layer uri) refl
+
+-- a reference without a problem to its root has no problem of what is added there
+no_added : (layer : Layer) (world : World) (n : ℕ) (top : Document) (e : ℕ × Document) (r : Reference) → ¬ (e.0 ≡ n) → slice_get layer e.0 ≡ Some e.1 → IsAtRoot layer r.uri e → reference_problems layer world (n, top) r ≡ [] → added_in top.draft r e.1 ≡ []
+no_added layer world n top e r other at here none =
+    let s = here.site in
+    let f = embedded_problems top.draft r s.1 in
+    let apart_ : (s.0 == n) ≡ false = ap (λ m. m == n) here.number ∙ other_number e.0 n (e.0 == n) refl other in
+    let got : slice_get layer s.0 ≡ Some e.1 = ap (slice_get layer) here.number ∙ at in
+    let all : embedded_problems top.draft r s.1 e.1 ≡ [] =
+    sym (ap (reference_problems_by layer world (n, top) r) here.under ∙ ap (λ b. cond b [] (option_map_or f (slice_get layer s.0) [])) apart_ ∙ ap (λ o. option_map_or f o []) got) ∙ none in
+    sym (ap (λ b. cond b (added_in top.draft r e.1) []) here.path) ∙ back_empty (replaced_in r.uri e.1) (cond (path_eq s.1 []) (added_in top.draft r e.1) []) all
+
+none_added : (r : Reference) (key : List ℕ) (b : Bool) → cond b (AddedMember r.uri key ∷ []) [] ≡ [] → b ≡ false
+none_added r key b is = not_first (AddedMember r.uri key) [] b is
+
+unadded : (layer : Layer) (n : ℕ) (top : Document) → (is : IsMade layer n top) → (r : Reference) → reference_problems layer is.world (n, top) r ≡ [] → IsUnadded layer n top r.uri r.fragment
+unadded layer n top is r none e there at key first =
+    let need = embedded_needed layer n e there in
+    let got = got_at layer e (needed_counted layer n e need.0) in
+    let quiet : added_in top.draft r e.1 ≡ [] =
+    no_added layer is.world n top e r need.1 got (subst (λ u. IsAtRoot layer u e) (sym at) (at_root layer n top is e there)) none in
+    none_added r key (is_added_under top.draft e.1 key)
+    (sym (ap (λ o. option_map_or (λ (k : List ℕ). cond (is_added_under top.draft e.1 k) (AddedMember r.uri k ∷ []) []) o []) first) ∙ quiet)
+
+-- ---- the target
+
+-- a URI with a fragment that mean in the bundle what they meant
+pub record IsSafeTarget (layer : Layer) (parents : World) (n : ℕ) (top : Document) (uri fragment : List ℕ) : Type 0 where
+  pub clear : IsClear layer n top (to_embed layer n) uri
+  pub named : is_name fragment ≡ true → IsSafe layer parents n top uri
+  pub unadded : IsUnadded layer n top uri fragment
 
 pub safe_target : (layer : Layer) (parents : World) (n : ℕ) (top : Document) → (is : IsMade layer n top) → is.world ≡ layer ∷ parents → (x : ℕ × Document) (p : Place) (base uri reference : List ℕ) → Contains (needed_documents layer n) x → Contains (places x.1) p
-    → p.base ≡ Ok base → RefersBy p.value reference → target base reference ≡ Ok uri → IsSafe layer parents n top uri
+    → p.base ≡ Ok base → RefersBy p.value reference → target base reference ≡ Ok uri → IsSafeTarget layer parents n top uri (fragment_part reference)
 safe_target layer parents n top is of_world x p base uri reference need there has refers means_ =
-    let to = target_of p base uri reference has refers means_ in
-    let none = no_reference_problem layer is.world n x p uri (no_problem layer is.world n top x p (none_in layer is.world n top x is.unrefused need) there) to in
+    let r : Reference = record { uri = uri; fragment = fragment_part reference } in
+    let to = reference_there p base uri reference has refers means_ in
+    let none = no_reference_problem layer is.world (n, top) x p r (no_problem layer is.world n top x p (none_in layer is.world n top x is.unrefused need) there) to in
+    let clear_ = clear_reference layer n top is x p r need there to in
     record {
-      clear = clear_target layer n top is x p uri need there to;
-      outside = λ q other own_none of_parent own. unshadowed layer parents n uri other q (subst (λ w. reference_problems layer w n uri ≡ []) of_world none) own_none of_parent own;
+      clear = clear_;
+      named = λ named. record {
+        clear = clear_;
+        outside = λ q other own_none of_parent own. unshadowed layer parents (n, top) r other q (subst (λ w. reference_problems layer w (n, top) r ≡ []) of_world none) named own_none of_parent own;
+      };
+      unadded = unadded layer n top is r none;
     }

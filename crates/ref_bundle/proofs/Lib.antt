@@ -35,5 +35,6 @@ pub mod Bearing
 pub mod Pairs
 pub mod Gathering
 pub mod Firsts
+pub mod Keys
 pub mod Whole
 pub mod Texts

@@ -1,7 +1,7 @@
 -- The texts of problems with two parts in them, as they are written from the front.
 use Rattle.std.proofs.Common.{◌≡◌, ℕ, List, ◌++◌, codes, decimal, append_assoc}
 use Rattle.ref_parts.specs.Path.{Part}
-use Rattle.ref_bundle.specs.Bundle.{SharedUri, ReplacedUri, ShadowedUri}
+use Rattle.ref_bundle.specs.Bundle.{SharedUri, ReplacedUri, ShadowedUri, AddedMember}
 use Rattle.ref_bundle.specs.Saying.{problem_text}
 
 abbrev has : List ℕ
@@ -22,5 +22,11 @@ gives = codes "' gives the URI '"
 abbrev which : List ℕ
 which = codes "', which document "
 
-pub shadowed : (uri base : List ℕ) (document : ℕ) → codes "the identifier of '" ++ (uri ++ (gives ++ (base ++ (which ++ (decimal document ++ codes " has"))))) ≡ problem_text (ShadowedUri uri base document)
-shadowed uri base document = simp append_assoc
+pub shadowed : (uri base : List ℕ) (document : ℕ) (path : List Part) → codes "the identifier of '" ++ (uri ++ (gives ++ (base ++ (which ++ (decimal document ++ codes " has"))))) ≡ problem_text (ShadowedUri uri base document path)
+shadowed uri base document path = simp append_assoc
+
+abbrev of_document : List ℕ
+of_document = codes "' of the document '"
+
+pub added : (uri key : List ℕ) → codes "the pointer leads to the member '" ++ (key ++ (of_document ++ (uri ++ codes "', which has another value in a bundle"))) ≡ problem_text (AddedMember uri key)
+added uri key = simp append_assoc

@@ -1,19 +1,22 @@
 -- One document in place of several (2020-12 Core, 9.3), or why there is none.
-use Rattle.std.specs.Prelude.{ℕ, ◌==◌, Bool, not, ◌&&◌, if◌then◌else◌, List, [], ◌∷◌, ◌++◌, flat_map, map, filter, codes, bytes_eq, slice_get, is_some, Option, Some, None, option_map, option_and_then, Result, Ok, Err}
+use Rattle.std.specs.Prelude.{ℕ, ◌==◌, Bool, false, not, ◌&&◌, if◌then◌else◌, List, [], ◌∷◌, ◌++◌, flat_map, map, filter, codes, bytes_eq, slice_get, is_some, Option, Some, None, option_map, option_and_then, Result, Ok, Err}
 use Rattle.std.specs.List.{last_or}
 use Rattle.std.specs.Option.{option_map_or, option_to_list}
 use Rattle.std.specs.Result.{result_ok}
+use Rattle.std.specs.Str.{is_utf8}
+use Rattle.percent_encoding.specs.Percent.{percent_decode}
 use Rattle.serde_json.specs.Data.{Data, object, Members, no_members, put}
 use Rattle.serde_json.specs.Find.{get, get_member, as_object}
 use Rattle.ref_parts.specs.Path.{Part, Key, path_eq}
+use Rattle.ref_parts.specs.Pointer.{slash, unescape, tokens}
 use Rattle.ref_draft.specs.declared.draft.Draft.{Draft}
 use Rattle.ref_draft.specs.Keywords.{id_keyword, is_before_2019}
 use Rattle.ref_uri.specs.Targets.{uri_against}
 use Rattle.ref_definitions.specs.World.{Document, Layer, World, own_layer}
 use Rattle.ref_definitions.specs.Places.{Place, identifier_of, places}
-use Rattle.ref_definitions.specs.Resources.{own_uri, resources_in, meant_place}
-use Rattle.ref_bundle.specs.Needed.{counted_documents, document_under, targets, needed_documents}
-use Rattle.ref_bundle.specs.Embedding.{Obstacle, base_uri, added_schema, embedded_tree, with_member, obstacle}
+use Rattle.ref_definitions.specs.Resources.{own_uri, meant_place}
+use Rattle.ref_bundle.specs.Needed.{Site, sites_of_uris, site_under, Reference, references, needed_documents}
+use Rattle.ref_bundle.specs.Embedding.{Obstacle, base_uri, added_schema, embedded_tree, with_member, is_added_under, obstacle}
 
 -- a document that a bundle has under its definitions: its number, its base URI, whether a member for it was added or
 -- the one there replaced, and the `$schema` that was added
@@ -42,9 +45,12 @@ pub data Problem : Type 0 where
   SharedUri : List ℕ → ℕ → List Part → Problem
   -- a place refers to a document by its URI, in place of which its root's identifier gives another one
   ReplacedUri : List ℕ → List ℕ → Problem
-  -- a place refers to a place of a parent by a URI against which that place's identifier gives this URI, which a place of the
-  -- document with this number has
-  ShadowedUri : List ℕ → List ℕ → ℕ → Problem
+  -- a place refers to a name in a place of a parent, by a URI against which that place's identifier gives this URI, which
+  -- an own place has: its document and path
+  ShadowedUri : List ℕ → List ℕ → ℕ → List Part → Problem
+  -- a place refers with a pointer to the member under this key of the root of the document with this URI, where the bundle
+  -- adds that member, or has another value
+  AddedMember : List ℕ → List ℕ → Problem
 
 -- a problem, with the document and the path that it is at
 pub record BundleRefusal : Type 0 where
@@ -95,21 +101,9 @@ embedded_document draft e = record {
 
 -- ---- the refusals
 
--- a place of a layer: the number of its document, and its path there
-abbrev pub Site : Type 0
-Site = ℕ × List Part
-
 -- whether two are one
 abbrev pub is_site : Site → Site → Bool
 is_site s t = (s.0 == t.0) && path_eq s.1 t.1
-
--- the URIs that identify places of a document, each with its place
-abbrev pub borne_in : ℕ × Document → List (List ℕ × Site)
-borne_in e = map (λ r. (r.0, (e.0, r.1.path))) (resources_in e.1)
-
--- those of a layer
-abbrev pub sites_of_uris : Layer → List (List ℕ × Site)
-sites_of_uris layer = flat_map borne_in (counted_documents 0 layer)
 
 -- the last of the other places that have a URI
 abbrev pub other_bearer : List (List ℕ × Site) → List ℕ → Site → Option Site
@@ -137,35 +131,65 @@ replaced_in uri d =
 abbrev pub identified_from : List ℕ → Place → Option (List ℕ)
 identified_from uri p = option_and_then (λ id. result_ok (uri_against uri id)) (identifier_of p)
 
--- the problem of a URI that a place refers to, where it means a place of a parent and an own document has the URI that
--- the identifier of that place gives: a name that is looked up under the first may be one of that document
-abbrev pub shadowed_uri : Layer → World → List ℕ → Option Problem
-shadowed_uri layer world uri =
-    option_and_then (λ base. option_map (ShadowedUri uri base) (document_under layer base))
-    (option_and_then (identified_from uri) (meant_place world uri))
+-- whether a fragment is a name: not empty, and no pointer
+abbrev pub is_name : List ℕ → Bool
+is_name [] = false
+is_name (c ∷ text) = not (c == slash)
 
--- the problems of a URI that a place refers to, by the own document that it means, or else by the place of a parent
-abbrev pub reference_problems_by : Layer → World → ℕ → List ℕ → Option ℕ → List Problem
-reference_problems_by layer world top uri None = option_to_list (shadowed_uri layer world uri)
-reference_problems_by layer world top uri (Some n) =
-    if n == top then [] else option_map_or (replaced_in uri) (slice_get layer n) []
+-- the problem of a name in a place of a parent, where an own place has the URI that the identifier of that place gives: the
+-- name, which is looked up under the first URI, may be one of the own place
+abbrev pub shadowed_uri : Layer → World → Reference → Option Problem
+shadowed_uri layer world r =
+    if is_name r.fragment then
+    option_and_then
+    (λ base. option_map (λ s. ShadowedUri r.uri base s.0 s.1) (site_under layer base))
+    (option_and_then (identified_from r.uri) (meant_place world r.uri))
+    else None
 
-abbrev pub reference_problems : Layer → World → ℕ → List ℕ → List Problem
-reference_problems layer world top uri =
-    reference_problems_by layer world top uri (document_under layer uri)
+-- the first key of a fragment that is a pointer (RFC 6901, sections 3, 4 and 6)
+abbrev pub first_key : List ℕ → Option (List ℕ)
+first_key [] = None
+first_key (c ∷ text) =
+    if (c == slash) && is_utf8 (percent_decode text) then
+    option_map unescape (slice_get (tokens (percent_decode text)) 0)
+    else None
 
--- the problems of a place of a needed document: of the URIs that it has, then of those that it refers to
-abbrev pub place_problems : Layer → World → ℕ → ℕ × Document → Place → List Problem
+-- the problem of a pointer from the root of an embedded document to what is added there, or has another value
+abbrev pub added_in : Draft → Reference → Document → List Problem
+added_in draft r d =
+    option_map_or
+    (λ key. if is_added_under draft d key then AddedMember r.uri key ∷ [] else [])
+    (first_key r.fragment) []
+
+-- the problems of a reference to a place of an embedded document, below a root of this draft
+abbrev pub embedded_problems : Draft → Reference → List Part → Document → List Problem
+embedded_problems draft r path d =
+    replaced_in r.uri d ++ (if path_eq path [] then added_in draft r d else [])
+
+-- the problems of a reference, by the own place that its URI means, or else by the place of a parent
+abbrev pub reference_problems_by : Layer → World → ℕ × Document → Reference → Option Site
+    → List Problem
+reference_problems_by layer world top r None = option_to_list (shadowed_uri layer world r)
+reference_problems_by layer world top r (Some s) =
+    if s.0 == top.0 then []
+    else option_map_or (embedded_problems top.1.draft r s.1) (slice_get layer s.0) []
+
+abbrev pub reference_problems : Layer → World → ℕ × Document → Reference → List Problem
+reference_problems layer world top r =
+    reference_problems_by layer world top r (site_under layer r.uri)
+
+-- the problems of a place of a needed document: of the URIs that it has, then of what it refers to
+abbrev pub place_problems : Layer → World → ℕ × Document → ℕ × Document → Place → List Problem
 place_problems layer world top e p =
     flat_map (shared_uri (sites_of_uris layer) (e.0, p.path)) (uris_of e.1 p)
-    ++ flat_map (reference_problems layer world top) (targets p)
+    ++ flat_map (reference_problems layer world top) (references p)
 
 -- a problem at a path of a document
 abbrev pub at_path : ℕ → List Part → Problem → BundleRefusal
 at_path number path problem = record { document = number; path = path; problem = problem }
 
 -- the refusals of the places of a needed document
-abbrev pub place_refusals : Layer → World → ℕ → ℕ × Document → List BundleRefusal
+abbrev pub place_refusals : Layer → World → ℕ × Document → ℕ × Document → List BundleRefusal
 place_refusals layer world top e =
     flat_map (λ p. map (at_path e.0 p.path) (place_problems layer world top e p)) (places e.1)
 
@@ -197,7 +221,7 @@ abbrev pub refusals_in : Layer → World → ℕ × Document → List (ℕ × Do
 refusals_in layer world top es e =
     (if e.0 == top.0 then root_refusals top es
     else map (λ o. at_path e.0 [] (NotEmbedded o)) (option_to_list (obstacle top.1 e.1)))
-    ++ place_refusals layer world top.0 e
+    ++ place_refusals layer world top e
 
 -- all of them, in the order of documents and places
 abbrev pub refusals : Layer → World → ℕ × Document → List (ℕ × Document) → List BundleRefusal

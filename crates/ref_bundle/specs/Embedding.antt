@@ -1,15 +1,15 @@
 -- How a document is in a bundle: with its base URI as its identifier, and its draft's `$schema` where that is needed (2020-12
 -- Core, 9.3.1).
-use Rattle.std.specs.Prelude.{ℕ, Bool, false, not, ◌&&◌, ◌==◌, if◌then◌else◌, List, codes, bytes_eq, is_some, Option, Some, None, Result, Ok, Err}
+use Rattle.std.specs.Prelude.{ℕ, Bool, false, not, ◌&&◌, ◌||◌, ◌==◌, if◌then◌else◌, List, codes, bytes_eq, is_some, Option, Some, None, Result, Ok, Err}
 use Rattle.std.specs.List.{list_any}
-use Rattle.std.specs.Option.{unwrap_or}
+use Rattle.std.specs.Option.{unwrap_or, option_map_or}
 use Rattle.std.specs.Result.{result_ok}
 use Rattle.serde_json.specs.Data.{Data, null, boolean, number, string, array, object, put}
 use Rattle.serde_json.specs.Find.{get}
 use Rattle.ref_draft.specs.declared.draft.Draft.{Draft}
 use Rattle.ref_draft.specs.declared.draft.Draft.TheVariants.{Draft4, Draft6, Draft7, Draft201909, Draft202012, Unknown}
 use Rattle.ref_draft.specs.Keywords.{id_keyword, is_before_2019}
-use Rattle.ref_draft.specs.Schema.{trimmed_text, detect, identifier, begins_with_hash}
+use Rattle.ref_draft.specs.Schema.{text_under, trimmed_text, detect, identifier, begins_with_hash}
 use Rattle.ref_draft.specs.Order.{rank}
 use Rattle.ref_draft.specs.Children.{is_object}
 use Rattle.ref_uri.specs.Targets.{Refusal, uri_against}
@@ -66,6 +66,19 @@ abbrev pub embedded_tree : Draft → Document → Data
 embedded_tree draft d =
     with_schema (added_schema draft d)
     (with_member (id_keyword d.draft) (string (base_uri d)) d.tree)
+
+-- whether a bundle has another identifier for a document than its own: one was added, or its text is another
+abbrev pub has_other_identifier : Document → Bool
+has_other_identifier d =
+    not
+    (option_map_or (λ text. bytes_eq text (base_uri d)) (text_under (id_keyword d.draft) d.tree)
+    false)
+
+-- whether the member under a key of a document's root is added below a root of this draft, or has another value there
+abbrev pub is_added_under : Draft → Document → List ℕ → Bool
+is_added_under draft d key =
+    (bytes_eq key (id_keyword d.draft) && has_other_identifier d)
+    || (bytes_eq key (codes "$schema") && is_some (added_schema draft d))
 
 -- why a document can't be embedded
 pub data Obstacle : Type 0 where

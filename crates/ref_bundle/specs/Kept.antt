@@ -1,13 +1,12 @@
 -- What a bundle keeps of the documents that it is made of.
-use Rattle.std.specs.Prelude.{◌≡◌, ◌≢◌, ℕ, List, [], ◌∷◌, ◌++◌, map, filter, drop, not, ◌==◌, slice_get, codes, is_some, Some, None, Result, Ok, Err, IsTrue, ◌⊎◌}
+use Rattle.std.specs.Prelude.{◌≡◌, ℕ, List, [], ◌∷◌, ◌++◌, map, filter, drop, not, ◌==◌, slice_get, codes, Some, None, Result, Ok, Err, ◌⊎◌}
 use Rattle.std.specs.List.{AllByRecursion, Contains}
 use Rattle.std.specs.List.Sorted.{IsStrictlyIncreasing}
 use Rattle.percent_encoding.specs.Percent.{percent_decode}
-use Rattle.serde_json.specs.Data.{Data, string}
+use Rattle.serde_json.specs.Data.{Data}
 use Rattle.serde_json.specs.Find.{get}
 use Rattle.ref_parts.specs.Path.{Part, Key}
 use Rattle.ref_parts.specs.Pointer.{unescape, tokens}
-use Rattle.ref_draft.specs.Keywords.{id_keyword}
 use Rattle.ref_draft.specs.Schema.{text_under}
 use Rattle.ref_draft.specs.Children.{InKeyOrder, with_draft}
 use Rattle.ref_uri.specs.Targets.{target, fragment_part}
@@ -16,11 +15,11 @@ use Rattle.ref_definitions.specs.Places.{Place, root, child_place, places}
 use Rattle.ref_definitions.specs.Resources.{meant_place}
 use Rattle.ref_definitions.specs.Wants.{faults, open_wants}
 use Rattle.ref_definitions.specs.Fault.{Fault}
-use Rattle.ref_definitions.specs.Lookup.{Resolver, Found, at_fragment, lookup}
+use Rattle.ref_definitions.specs.Lookup.{Resolver, Found, lookup}
 use Rattle.ref_bundle.specs.Merges.{IsMergeOf}
 use Rattle.ref_definitions.specs.Moving.{below_path}
 use Rattle.ref_bundle.specs.Needed.{referred_from, numbers_of_needed, needed_documents}
-use Rattle.ref_bundle.specs.Embedding.{base_uri, added_schema, embedded_tree}
+use Rattle.ref_bundle.specs.Embedding.{base_uri, embedded_tree}
 use Rattle.ref_bundle.specs.Bundle.{Bundle, bundle_at, definitions_keyword, uris_of, to_embed}
 
 -- the bundle as a document: under the root's URI, of the root's draft
@@ -116,32 +115,15 @@ pub record BeginsWith (fragment : List ℕ) (keys : List (List ℕ)) : Type 0 wh
 
 -- A pointer from the root, where documents are embedded: to definitions that it didn't have, or to an embedded document
 -- among them.
-pub data GoesIntoDefinitions (layer : Layer) (number : ℕ) (top : Document) (p : Place)
+pub data GoesIntoDefinitions (layer : Layer) (number : ℕ) (top : Document)
     (fragment : List ℕ) : Type 0 where
-  to_definitions : (e : ℕ × Document) → Contains (to_embed layer number) e → p ≡ root top
+  to_definitions : (e : ℕ × Document) → Contains (to_embed layer number) e
       → get (definitions_keyword top.draft) top.tree ≡ None
       → BeginsWith fragment (definitions_keyword top.draft ∷ [])
-      → GoesIntoDefinitions layer number top p fragment
-  to_embedded : (e : ℕ × Document) → Contains (to_embed layer number) e → p ≡ root top
+      → GoesIntoDefinitions layer number top fragment
+  to_embedded : (e : ℕ × Document) → Contains (to_embed layer number) e
       → BeginsWith fragment (definitions_keyword top.draft ∷ base_uri e.1 ∷ [])
-      → GoesIntoDefinitions layer number top p fragment
-
--- the bundle has another identifier for a document than its own: one was added, or its text is another
-abbrev pub HasOtherIdentifier : Document → Type 0
-HasOtherIdentifier d = get (id_keyword d.draft) d.tree ≢ Some (string (base_uri d))
-
--- A pointer from a place that goes into what was added: such a one, or one from an embedded document's root to an
--- identifier that is another, or to the `$schema` that was added.
-pub data GoesIntoAdded (layer : Layer) (number : ℕ) (top : Document) (p : Place)
-    (fragment : List ℕ) : Type 0 where
-  into_definitions : GoesIntoDefinitions layer number top p fragment
-      → GoesIntoAdded layer number top p fragment
-  to_identifier : (e : ℕ × Document) → Contains (to_embed layer number) e → p ≡ root e.1
-      → HasOtherIdentifier e.1 → BeginsWith fragment (id_keyword e.1.draft ∷ [])
-      → GoesIntoAdded layer number top p fragment
-  to_schema : (e : ℕ × Document) → Contains (to_embed layer number) e → p ≡ root e.1
-      → IsTrue (is_some (added_schema top.draft e.1)) → BeginsWith fragment (codes "$schema" ∷ [])
-      → GoesIntoAdded layer number top p fragment
+      → GoesIntoDefinitions layer number top fragment
 
 -- a text that a value has under `$ref` or `$dynamicRef`
 abbrev pub RefersBy : Data → List ℕ → Type 0
@@ -158,17 +140,18 @@ pub record IsBorneByNeeded (layer : Layer) (number : ℕ) (uri : List ℕ) : Typ
   pub bears : Contains (uris_of document.1 place) uri
   pub stays : document.1.uri ≡ uri → base_uri document.1 ≡ uri
 
--- a reference from a base whose pointer goes into what was added
-pub record PointsIntoAdded (layer : Layer) (parents : World) (number : ℕ) (top : Document)
-    (base reference : List ℕ) : Type 0 where
+-- a reference whose pointer goes into definitions that were added, and whose look-up among the documents was a fault
+pub record PointsIntoDefinitions (layer : Layer) (parents : World) (number : ℕ) (top : Document)
+    (r : Resolver) (reference : List ℕ) : Type 0 where
   pub uri : List ℕ
-  pub to : target base reference ≡ Ok uri
-  pub place : Place
-  pub meant : meant_place (layer ∷ parents) uri ≡ Some place
-  pub goes : GoesIntoAdded layer number top place (fragment_part reference)
+  pub to : target r.base reference ≡ Ok uri
+  pub meant : meant_place (layer ∷ parents) uri ≡ Some (root top)
+  pub goes : GoesIntoDefinitions layer number top (fragment_part reference)
+  pub fault : Fault
+  pub was : lookup (layer ∷ parents) r reference ≡ Err fault
 
 -- A reference of a place of a needed document, from its base and a scope of URIs that needed places have: the look-up in the
--- bundle answers what it answered, unless its pointer goes into what was added.
+-- bundle answers what it answered, or its pointer goes into definitions that were added, and it was a fault.
 abbrev pub KeepsReferences : Type 0
 KeepsReferences =
     (layer : Layer) (parents : World) (number : ℕ) (top : Document) (bundle : Bundle)
@@ -180,16 +163,7 @@ KeepsReferences =
     → let r : Resolver = record { base = base; scope = scope } in
     IsAnswerNow layer number top bundle
     (lookup (world_of_bundle top bundle parents) r reference) (lookup (layer ∷ parents) r reference)
-    ⊎ PointsIntoAdded layer parents number top base reference
-
--- Among the documents, a pointer into definitions that were added was a fault.
-abbrev pub AddedDefinitionsWereFaults : Type 0
-AddedDefinitionsWereFaults =
-    (layer : Layer) (parents : World) (number : ℕ) (top : Document) (bundle : Bundle)
-    → IsBundle layer parents number top bundle
-    → (r : Resolver) (p : Place) (fragment : List ℕ)
-    → GoesIntoDefinitions layer number top p fragment
-    → (fault : Fault) × (at_fragment (layer ∷ parents) r p fragment ≡ Err fault)
+    ⊎ PointsIntoDefinitions layer parents number top r reference
 
 -- ---- what is embedded
 

@@ -1,48 +1,78 @@
 -- Which of a registry's own documents a bundle needs (2020-12 Core, 9.3).
-use Rattle.std.specs.Prelude.{ℕ, zero, suc, ◌==◌, Bool, ◌||◌, List, [], ◌∷◌, ◌++◌, flat_map, map, filter, length, codes, slice_get, Option, Some, None, option_map, Result, Ok, Err}
+use Rattle.std.specs.Prelude.{ℕ, zero, suc, ◌==◌, Bool, ◌||◌, List, [], ◌∷◌, ◌++◌, flat_map, map, filter, length, codes, slice_get, Option, option_map, option_and_then, Result, Ok, Err}
 use Rattle.std.specs.List.{list_any}
 use Rattle.std.specs.Option.{option_map_or, option_to_list}
+use Rattle.std.specs.Result.{result_ok}
 use Rattle.serde_json.specs.Data.{Data}
+use Rattle.ref_parts.specs.Path.{Part}
 use Rattle.ref_draft.specs.Schema.{text_under}
-use Rattle.ref_uri.specs.Targets.{Refusal, target}
+use Rattle.ref_uri.specs.Targets.{Refusal, target, fragment_part}
 use Rattle.ref_definitions.specs.World.{Document, Layer}
 use Rattle.ref_definitions.specs.Places.{Place, places}
 use Rattle.ref_definitions.specs.Resources.{resources_in, last_under}
-use Rattle.ref_definitions.specs.Wants.{reference_at, schema_at}
+use Rattle.ref_definitions.specs.Wants.{schema_at}
 
 -- documents with their numbers, counted from this one on
 abbrev pub counted_documents : ℕ → Layer → List (ℕ × Document)
 counted_documents number [] = []
 counted_documents number (d ∷ ds) = (number, d) ∷ counted_documents (suc number) ds
 
--- the URIs that identify places of a document, each with its number
-abbrev pub numbered_uris : ℕ × Document → List (List ℕ × ℕ)
-numbered_uris e = map (λ r. (r.0, e.0)) (resources_in e.1)
+-- a place of a layer: the number of its document, and its path there
+abbrev pub Site : Type 0
+Site = ℕ × List Part
 
--- the number of the document that a URI means: that of the place which is last under it
+-- the URIs that identify places of a document, each with its place
+abbrev pub borne_in : ℕ × Document → List (List ℕ × Site)
+borne_in e = map (λ r. (r.0, (e.0, r.1.path))) (resources_in e.1)
+
+-- those of a layer
+abbrev pub sites_of_uris : Layer → List (List ℕ × Site)
+sites_of_uris layer = flat_map borne_in (counted_documents 0 layer)
+
+-- the place that a URI means: the last under it
+abbrev pub site_under : Layer → List ℕ → Option Site
+site_under layer uri = option_map (λ e. e.1) (last_under uri (sites_of_uris layer))
+
+-- the number of its document
 abbrev pub document_under : Layer → List ℕ → Option ℕ
-document_under layer uri =
-    option_map (λ e. e.1) (last_under uri (flat_map numbered_uris (counted_documents 0 layer)))
+document_under layer uri = option_map (λ s. s.0) (site_under layer uri)
 
--- what the text under `$dynamicRef` of a place refers to (2020-12 Core, 8.2.3.2)
-abbrev pub dynamic_reference_at : List ℕ → Data → Option (Result (List ℕ) Refusal)
-dynamic_reference_at base value = option_map (target base) (text_under (codes "$dynamicRef") value)
+-- what a place refers to: a URI, and a fragment of what that means
+pub record Reference : Type 0 where
+  pub uri : List ℕ
+  pub fragment : List ℕ
 
--- the URI that a text means, where there is one and it means one
-abbrev pub meant_uris : Option (Result (List ℕ) Refusal) → List (List ℕ)
-meant_uris None = []
-meant_uris (Some (Ok uri)) = uri ∷ []
-meant_uris (Some (Err refusal)) = []
+-- what a text refers to from a base, where it means a URI
+abbrev pub reference_of : List ℕ → List ℕ → Option Reference
+reference_of base text =
+    option_map (λ uri. record { uri = uri; fragment = fragment_part text })
+    (result_ok (target base text))
 
--- the URIs that the texts of a place with this base mean: under `$ref`, `$dynamicRef`, and under `$schema` that of a
--- custom meta-schema
+-- the same of the text that a value has under a key
+abbrev pub reference_under : List ℕ → List ℕ → Data → Option Reference
+reference_under key base value = option_and_then (reference_of base) (text_under key value)
+
+-- the custom meta-schema that a value names under `$schema`, as a whole
+abbrev pub meta_schema_of : Data → Option Reference
+meta_schema_of value =
+    option_map (λ uri. record { uri = uri; fragment = [] })
+    (option_and_then (λ named. result_ok named) (schema_at value))
+
+-- what a place with this base refers to by its value, in this order (2020-12 Core, 8.2.3)
+abbrev pub references_from : Result (List ℕ) Refusal → Data → List Reference
+references_from (Ok base) value =
+    option_to_list (reference_under (codes "$ref") base value)
+    ++ option_to_list (reference_under (codes "$dynamicRef") base value)
+    ++ option_to_list (meta_schema_of value)
+references_from (Err refusal) value = []
+
+abbrev pub references : Place → List Reference
+references p = references_from p.base p.value
+
+-- the URIs of what it refers to
 abbrev pub targets_from : Result (List ℕ) Refusal → Data → List (List ℕ)
-targets_from (Ok base) value =
-    meant_uris (reference_at base value) ++ meant_uris (dynamic_reference_at base value)
-    ++ meant_uris (schema_at value)
-targets_from (Err refusal) value = []
+targets_from base value = map (λ r. r.uri) (references_from base value)
 
--- those of a place
 abbrev pub targets : Place → List (List ℕ)
 targets p = targets_from p.base p.value
 

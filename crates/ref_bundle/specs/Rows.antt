@@ -25,12 +25,15 @@ bundle_of_first layer = shown_bundle (bundle_at (layer ∷ []) 0)
 abbrev pub bundle_above : Document → Layer → Shown
 bundle_above parent layer = shown_bundle (bundle_at (layer ∷ (parent ∷ []) ∷ []) 0)
 
--- a document of 2020-12, and one that refers to `s`
+-- a document of 2020-12, one that has a reference, and one that refers to `s`
 abbrev pub new : Literal → Data → Document
 new uri tree = at Draft202012 uri tree
 
+abbrev pub refers_to : Literal → Document
+refers_to reference = new "http://a/r" (one "$ref" (text reference))
+
 abbrev pub refers_to_s : Document
-refers_to_s = new "http://a/r" (one "$ref" (text "s"))
+refers_to_s = refers_to "s"
 
 -- a root that refers to `s`, with this as its one definition
 abbrev pub with_definition : Literal → Data → Data

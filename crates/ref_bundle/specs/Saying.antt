@@ -34,8 +34,9 @@ problem_said (problems.KeyTaken uri) = bundle.KeyTaken uri.value
 problem_said (problems.SharedUri uri document path) =
     bundle.SharedUri uri.value document (map part_of path.items)
 problem_said (problems.ReplacedUri uri base) = bundle.ReplacedUri uri.value base.value
-problem_said (problems.ShadowedUri uri base document) =
-    bundle.ShadowedUri uri.value base.value document
+problem_said (problems.ShadowedUri uri base document path) =
+    bundle.ShadowedUri uri.value base.value document (map part_of path.items)
+problem_said (problems.AddedMember uri key) = bundle.AddedMember uri.value key.now
 
 -- a refusal
 abbrev pub refusal_said : rust_refusal.Refusal → BundleRefusal
@@ -92,9 +93,12 @@ problem_text (bundle.SharedUri uri document path) =
 problem_text (bundle.ReplacedUri uri base) =
     codes "the identifier of the document '" ++ uri ++ codes "' replaces that URI by '" ++ base
     ++ codes "'"
-problem_text (bundle.ShadowedUri uri base document) =
+problem_text (bundle.ShadowedUri uri base document path) =
     codes "the identifier of '" ++ uri ++ codes "' gives the URI '" ++ base
     ++ codes "', which document " ++ decimal document ++ codes " has"
+problem_text (bundle.AddedMember uri key) =
+    codes "the pointer leads to the member '" ++ key ++ codes "' of the document '" ++ uri
+    ++ codes "', which has another value in a bundle"
 
 -- of a refusal
 abbrev pub refusal_text : BundleRefusal → List ℕ

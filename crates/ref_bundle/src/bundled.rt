@@ -1,5 +1,5 @@
 //! What a bundle is.
-use ref_uri::Uri;
+use referencing::Uri;
 use serde_json::Value;
 use std::rc::Rc;
 

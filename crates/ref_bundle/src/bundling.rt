@@ -16,8 +16,7 @@ use crate::own::{Own, owns_of};
 use crate::reach::{all_referred, reach};
 use crate::refusing::{at_root, first_refusal, is_marked};
 use crate::tables::{Bearers, bearers_of};
-use ref_draft::Draft;
-use referencing::Registry;
+use referencing::{Draft, Registry};
 use std::alloc::{AllocError, Global};
 
 // Whether a document is needed, and isn't the root.

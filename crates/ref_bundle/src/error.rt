@@ -1,7 +1,5 @@
 //! Why there is no bundle.
-use ref_draft::Draft;
-use ref_parts::path::JsonPointerSegment;
-use ref_uri::Uri;
+use referencing::{Draft, JsonPointerSegment, Uri};
 use std::alloc::AllocError;
 use std::fmt;
 use std::rc::Rc;
@@ -58,9 +56,10 @@ pub enum Problem<'r> {
         /// The URI that the document's root has.
         base: Rc<Uri>,
     },
-    /// The place refers to a place of a parent by a URI against which the identifier of that place gives another URI, which
-    /// a schema of the registry's own documents has. A name that is looked up under the first is looked up under the second
-    /// too, so it may be one of that schema, whose document need not be in the bundle. Give the schema another identifier.
+    /// The place refers to a name in a place of a parent, by a URI against which the identifier of that place gives another
+    /// URI, which a schema of the registry's own documents has. A name that is looked up under the first is looked up under
+    /// the second too, so it may be one of that schema, whose document need not be in the bundle. Give the schema another
+    /// identifier.
     ShadowedUri {
         /// The URI that the place refers to.
         uri: Rc<Uri>,
@@ -68,6 +67,17 @@ pub enum Problem<'r> {
         base: Rc<Uri>,
         /// The number of the document of the schema that has this URI.
         document: usize,
+        /// The path of that schema there.
+        path: Vec<JsonPointerSegment<'r>>,
+    },
+    /// The place refers with a pointer to a member of the root of another document, or to what is below it, and the bundle
+    /// adds that member or gives it another value: the identifier, which is the document's base URI there, or the `$schema`
+    /// of its draft. Write the member into the document, as the bundle has it, or refer to something else.
+    AddedMember {
+        /// The URI of the document.
+        uri: Rc<Uri>,
+        /// The key of the member.
+        key: &'static str,
     },
 }
 
@@ -145,10 +155,17 @@ impl fmt::Display for Problem<'_> {
                 uri,
                 base,
                 document,
+                ..
             } => {
                 write!(
                     f,
                     "the identifier of '{uri}' gives the URI '{base}', which document {document} has"
+                )
+            }
+            Problem::AddedMember { uri, key } => {
+                write!(
+                    f,
+                    "the pointer leads to the member '{key}' of the document '{uri}', which has another value in a bundle"
                 )
             }
         }

@@ -7,8 +7,8 @@ ghost use Rattle.ref_bundle.specs.Needed.{numbers_of_needed};
 ghost use Rattle.ref_bundle.specs.Embedding.{embedded_tree, NotAnObject, IdentifierBesideRef, NotAnIdentifier, NotKept};
 ghost use Rattle.ref_bundle.specs.Embedding.{UntoldDraft, ResolvedAgain};
 ghost use Rattle.ref_bundle.specs.Bundle.{embedded_document, NoDocument, NotEmbedded, NoMap, KeyTaken, SharedUri};
-ghost use Rattle.ref_bundle.specs.Bundle.{ReplacedUri, ShadowedUri};
-ghost use Rattle.ref_bundle.specs.Rows.{bundle, refused_bundle, bundle_of_first, bundle_above, new, refers_to_s, with_definition};
+ghost use Rattle.ref_bundle.specs.Bundle.{ReplacedUri, ShadowedUri, AddedMember};
+ghost use Rattle.ref_bundle.specs.Rows.{bundle, refused_bundle, bundle_of_first, bundle_above, new, refers_to, refers_to_s, with_definition};
 ghost use Rattle.ref_bundle.specs.Rows.{renamed_root, listed_as};
 
 /// Bundles of documents of 2020-12.
@@ -125,6 +125,51 @@ pub fn obstacles()
         ≡ refused_bundle 1 [] (NotEmbedded (UntoldDraft Draft4)) }
 {}
 
+/// Pointers to what is added at the root of an embedded document, or has another value there; and pointers that go elsewhere.
+pub fn added_members()
+    ensures identifier { bundle_of_first (refers_to "s#/$id" ∷ new "http://a/s" empty ∷ [])
+        ≡ refused_bundle 0 [] (AddedMember (codes "http://a/s") (codes "$id")) }
+    ensures percent_encoded { bundle_of_first (refers_to "s#/%24id" ∷ new "http://a/s" empty ∷ [])
+        ≡ refused_bundle 0 [] (AddedMember (codes "http://a/s") (codes "$id")) }
+    ensures below_the_identifier { bundle_of_first (refers_to "s#/$id/x" ∷ new "http://a/s" empty ∷ [])
+        ≡ refused_bundle 0 [] (AddedMember (codes "http://a/s") (codes "$id")) }
+    ensures relative_identifier { bundle_of_first
+        (refers_to "k/s#/$id" ∷ new "http://a/q" (one "$id" (text "k/s")) ∷ [])
+        ≡ refused_bundle 0 [] (AddedMember (codes "http://a/k/s") (codes "$id")) }
+    ensures from_itself { bundle_of_first
+        (refers_to_s ∷ new "http://a/s" (one "not" (one "$dynamicRef" (text "#/$id"))) ∷ [])
+        ≡ refused_bundle 1 (Key (codes "not") ∷ [])
+        (AddedMember (codes "http://a/s") (codes "$id")) }
+    ensures draft_4 { bundle_of_first (refers_to "s#/id"
+        ∷ at Draft4 "http://a/s" (one "$schema" (text "http://json-schema.org/draft-04/schema#"))
+        ∷ [])
+        ≡ refused_bundle 0 [] (AddedMember (codes "http://a/s") (codes "id")) }
+    ensures schema { bundle_of_first
+        (refers_to "s#/$schema" ∷ at Draft7 "http://a/s" (one "$id" (text "http://a/s")) ∷ [])
+        ≡ refused_bundle 0 [] (AddedMember (codes "http://a/s") (codes "$schema")) }
+    ensures no_schema_added { bundle_of_first
+        (refers_to "s#/$schema" ∷ new "http://a/s" (one "$id" (text "http://a/s")) ∷ [])
+        ≡ bundle (two "$defs" (one "http://a/s" (one "$id" (text "http://a/s"))) "$ref"
+        (text "s#/$schema")) (1 ∷ []) }
+    ensures same_identifier { bundle_of_first
+        (refers_to "s#/$id" ∷ new "http://a/s" (one "$id" (text "http://a/s")) ∷ [])
+        ≡ bundle (two "$defs" (one "http://a/s" (one "$id" (text "http://a/s"))) "$ref"
+        (text "s#/$id")) (1 ∷ []) }
+    ensures other_key { bundle_of_first (refers_to "s#/~0id" ∷ new "http://a/s" empty ∷ [])
+        ≡ bundle (two "$defs" (one "http://a/s" (one "$id" (text "http://a/s"))) "$ref"
+        (text "s#/~0id")) (1 ∷ []) }
+    ensures below_the_root { bundle_of_first
+        (refers_to "t#/$id" ∷ new "http://a/s" (one "not" (one "$id" (text "t"))) ∷ [])
+        ≡ bundle (two "$defs" (one "http://a/s"
+        (two "$id" (text "http://a/s") "not" (one "$id" (text "t")))) "$ref"
+        (text "t#/$id")) (1 ∷ []) }
+    ensures of_the_root { bundle_of_first (refers_to "#/$id" ∷ [])
+        ≡ bundle (one "$ref" (text "#/$id")) [] }
+    ensures by_an_alias { bundle_of_first
+        (refers_to "q#/$id" ∷ new "http://a/q" (one "$id" (text "k/s")) ∷ [])
+        ≡ refused_bundle 0 [] (ReplacedUri (codes "http://a/q") (codes "http://a/k/s")) }
+{}
+
 /// Roots that can't have definitions, and places that would mean others.
 pub fn refusals()
     ensures no_document { bundle_of_first [] ≡ refused_bundle 0 [] NoDocument }
@@ -148,14 +193,21 @@ pub fn refusals()
         (refers_to_s ∷ new "http://a/s" (one "$id" (text "http://b/t")) ∷ [])
         ≡ refused_bundle 0 [] (ReplacedUri (codes "http://a/s") (codes "http://b/t")) }
     ensures shadowed { bundle_above (new "http://a/s" (one "$id" (text "http://b/t")))
+        (refers_to "s#n" ∷ new "http://a/u" (one "not" (one "$id" (text "http://b/t"))) ∷ [])
+        ≡ refused_bundle 0 []
+        (ShadowedUri (codes "http://a/s") (codes "http://b/t") 1 (Key (codes "not") ∷ [])) }
+    ensures shadowed_as_a_whole { bundle_above (new "http://a/s" (one "$id" (text "http://b/t")))
         (refers_to_s ∷ new "http://b/t" empty ∷ [])
-        ≡ refused_bundle 0 [] (ShadowedUri (codes "http://a/s") (codes "http://b/t") 1) }
+        ≡ bundle (one "$ref" (text "s")) [] }
+    ensures shadowed_by_a_pointer { bundle_above (new "http://a/s" (one "$id" (text "http://b/t")))
+        (refers_to "s#/x" ∷ new "http://b/t" empty ∷ [])
+        ≡ bundle (one "$ref" (text "s#/x")) [] }
     ensures shadowed_by_none { bundle_above (new "http://a/s" (one "$id" (text "http://b/t")))
-        (refers_to_s ∷ new "http://a/u" empty ∷ [])
-        ≡ bundle (one "$ref" (text "s")) [] }
+        (refers_to "s#n" ∷ new "http://a/u" empty ∷ [])
+        ≡ bundle (one "$ref" (text "s#n")) [] }
     ensures meant_by_its_identifier { bundle_above (new "http://b/t" (one "$id" (text "http://a/s")))
-        (refers_to_s ∷ new "http://b/t" empty ∷ [])
-        ≡ bundle (one "$ref" (text "s")) [] }
+        (refers_to "s#n" ∷ new "http://b/t" empty ∷ [])
+        ≡ bundle (one "$ref" (text "s#n")) [] }
     ensures of_the_root { bundle_of_first
         (new "http://a/r" (three "$id" (text "http://b/t") "$ref" (text "http://a/s") "not"
         (one "$ref" (text "http://a/r"))) ∷ new "http://a/s" empty ∷ []) ≡ bundle renamed_root (1 ∷ []) }

@@ -2,10 +2,10 @@
 ghost use Rattle.std.specs.Prelude.{◌≡◌, [], ◌∷◌, codes, true, None};
 ghost use Rattle.ref_definitions.specs.Fault.{PointerToNowhere};
 ghost use Rattle.ref_definitions.specs.Rows.{yes, text, empty, one, two};
-ghost use Rattle.ref_bundle.specs.Rows.{new, refers_to_s, with_definition, listed_as};
+ghost use Rattle.ref_bundle.specs.Rows.{new, refers_to, refers_to_s, with_definition, listed_as};
 ghost use Rattle.ref_bundle.specs.KeptRows.{value, fault, both, alike};
 ghost use Rattle.ref_bundle.specs.Kept.{IsBundle, HaveMergedPlaces, HaveNoFault, HaveNoOpenWant};
-ghost use Rattle.ref_bundle.specs.Kept.{KeepsReferences, AddedDefinitionsWereFaults, EmbedWhatIsNeeded};
+ghost use Rattle.ref_bundle.specs.Kept.{KeepsReferences, EmbedWhatIsNeeded};
 
 /// The places of a bundle are those of the root and of each embedded document, merged, each document's in their order. The
 /// roots have what was added. The paths of the other places of an embedded document go on from that of its root; their values,
@@ -24,10 +24,9 @@ pub fn bundles_are_prepared()
 /// each scope of URIs that needed places have: the look-up in the bundle from the place's base answers what it answered among
 /// the documents, with the same draft, base and scope, or the same fault. The value is the same, but that an embedded document
 /// as a whole has its identifier and its `$schema`, and the root and its definitions have the embedded documents. Only a
-/// pointer that goes into what was added may return something else.
+/// pointer into definitions that the bundler added, which was a fault, may return something else.
 pub fn bundles_keep_references()
     ensures law { KeepsReferences }
-    ensures definitions { AddedDefinitionsWereFaults }
 {}
 
 /// A bundle embeds exactly what is needed: each document once, in the order of documents. A document that needs none is its own
@@ -38,7 +37,7 @@ pub fn bundles_embed_what_is_needed()
 
 /// A bundle of two documents, and look-ups in bundles, beside those among the documents: below an embedded root and of it as
 /// a whole, by an anchor below a relative identifier, by a dynamic anchor, of the root's definitions, of definitions that it
-/// didn't have, and of nothing.
+/// didn't have, of an identifier that stays, and of nothing.
 pub fn look_ups_in_bundles()
     ensures a_bundle { IsBundle (refers_to_s ∷ new "http://a/s" empty ∷ []) [] 0 refers_to_s
         (record {
@@ -73,6 +72,9 @@ pub fn look_ups_in_bundles()
           value (one "http://a/s" (one "$id" (text "http://a/s"))) (codes "http://a/r"),
           fault (PointerToNowhere (codes "/$defs")),
         ) }
+    ensures the_same_identifier { both (refers_to "s#/$id")
+        (new "http://a/s" (one "$id" (text "http://a/s")) ∷ []) "http://a/r" "s#/$id"
+        ≡ alike "http://a/s" (text "http://a/s") }
     ensures nowhere { both refers_to_s (new "http://a/s" empty ∷ []) "http://a/s" "#/not"
         ≡ (fault (PointerToNowhere (codes "/not")), fault (PointerToNowhere (codes "/not"))) }
 {}

@@ -3,21 +3,17 @@ ghost use Rattle.std.specs.Prelude.{◌≡◌, [], ◌∷◌, ◌++◌, map, opt
 ghost use Rattle.std.specs.List.{AllByRecursion, Contains};
 ghost use Rattle.std.specs.Option.{option_to_list};
 ghost use Rattle.ref_definitions.specs.World.{Document as WorldDocument, own_layer};
-ghost use Rattle.ref_index.specs.Document.{document_of};
+ghost use Rattle.referencing.specs.Document.{document_of};
 ghost use Rattle.ref_definitions.specs.Places.{Place as WorldPlace, places};
 ghost use Rattle.ref_definitions.specs.Listing.{own_places};
 ghost use Rattle.ref_parts.specs.Path.{value_at};
-ghost use Rattle.ref_index.specs.Listing.{listed_of};
+ghost use Rattle.referencing.specs.ListedPlaces.{listed_of};
 ghost use Rattle.ref_bundle.specs.Needed.{counted_documents};
 ghost use Rattle.ref_bundle.specs.declared.own.Own.{Own};
 ghost use Rattle.ref_bundle.specs.inner.Seen.{seen_spot, seen_in, see_listed, put_last, put_place, gathered_places};
 ghost use Rattle.ref_bundle.specs.inner.Seen.{numbered_document, HasPlaces};
 
-use ref_draft::Draft;
-use ref_index::Document;
-use ref_parts::path::JsonPointerSegment;
-use ref_uri::Uri;
-use referencing::{Error, Place, Registry};
+use referencing::{Document, Draft, Error, JsonPointerSegment, Place, Registry, Uri};
 use serde_json::Value;
 use std::alloc::{AllocError, Global};
 use std::rc::Rc;

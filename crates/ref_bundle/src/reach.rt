@@ -9,24 +9,22 @@ ghost use Rattle.ref_bundle.specs.inner.Reach.{state, is_marked, added_document,
 
 use crate::own::{Own, Spot};
 use crate::tables::Bearers;
-use crate::uris::targets;
-use ref_uri::Uri;
+use crate::uris::{Reference, references};
 use std::alloc::{AllocError, Global};
-use std::rc::Rc;
 
-// Adds the documents that URIs mean.
+// Adds the documents that references mean.
 fn push_meant(
     numbers: &mut Vec<usize>,
     bearers: &Bearers<'_, '_>,
-    uris: &[Rc<Uri>],
+    references: &[Reference<'_>],
 ) -> Result<(), AllocError>
     ensures { (layer : Layer) → AreTables layer bearers.now
         → OnOk result (numbers.new.items ≡ numbers.old.items
         ++ flat_map (λ uri. option_to_list (document_under layer uri))
-        (map (λ u. u.value) uris.now)) }
+        (map (λ r. r.uri.value) references.now)) }
 {
-    for uri in uris {
-        if let Some(number) = bearers.document_under(uri.as_str()) {
+    for reference in references {
+        if let Some(number) = bearers.document_under(reference.uri.as_str()) {
             numbers.push(number)?;
         }
     }
@@ -46,8 +44,8 @@ fn referred(
 {
     let mut numbers = Vec::new(alloc);
     for spot in places {
-        let uris = targets(alloc, spot)?;
-        push_meant(&mut numbers, bearers, uris.as_slice())?;
+        let references = references(alloc, spot)?;
+        push_meant(&mut numbers, bearers, references.as_slice())?;
     }
     Ok(numbers)
 }

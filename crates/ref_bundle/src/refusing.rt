@@ -8,7 +8,8 @@ ghost use Rattle.ref_parts.specs.Segment.{part_of};
 ghost use Rattle.ref_definitions.specs.World.{Layer};
 ghost use Rattle.ref_bundle.specs.Embedding.{obstacle};
 ghost use Rattle.ref_bundle.specs.Bundle as bundle;
-ghost use Rattle.ref_bundle.specs.Bundle.{at_path, sites_of_uris, shared_uri, shadowed_uri, reference_problems, replaced_in, place_refusals};
+ghost use Rattle.ref_bundle.specs.Needed.{sites_of_uris};
+ghost use Rattle.ref_bundle.specs.Bundle.{at_path, shared_uri, place_refusals};
 ghost use Rattle.ref_bundle.specs.Bundle.{map_refusals, root_refusals, refusals_in};
 ghost use Rattle.ref_bundle.specs.Saying.{problem_said, refusal_said};
 ghost use Rattle.ref_bundle.specs.inner.Reach.{is_marked};
@@ -20,11 +21,10 @@ ghost use Rattle.ref_bundle.specs.inner.First.{first, shared_seen, references_se
 use crate::embedding::{Part, definitions_keyword, obstacle, part_of};
 use crate::error::{Problem, Refusal};
 use crate::own::{Own, Spot};
+use crate::referring::reference_problems;
 use crate::tables::Bearers;
-use crate::uris::{base_uri, identified, own_uri, root_uri, targets};
-use ref_index::reference::shared;
-use ref_parts::path::JsonPointerSegment;
-use ref_uri::Uri;
+use crate::uris::{own_uri, root_uri};
+use referencing::{JsonPointerSegment, Uri};
 use serde_json::Value;
 use std::alloc::{AllocError, Global};
 use std::borrow::CowStr;
@@ -41,12 +41,12 @@ pub(crate) fn at_root<'r>(alloc: Global, document: usize, problem: Problem<'r>) 
     }
 }
 
-// A copy of a path, whose keys are lent.
-fn copied<'r>(
+/// A copy of a path, whose keys are lent.
+pub(crate) fn copied<'r>(
     alloc: Global,
     path: &[JsonPointerSegment<'r>],
 ) -> Result<Vec<JsonPointerSegment<'r>>, AllocError>
-    ensures { IfOk result (λ copy. map part_of copy.items ≡ map part_of path.now) }
+    ensures value { IfOk result (λ copy. map part_of copy.items ≡ map part_of path.now) }
 {
     let copy = path.to_vec(alloc)?;
     Ok(copy)
@@ -84,7 +84,7 @@ fn shared_uri<'r>(
         return Ok(None);
     };
     Ok(Some(Problem::SharedUri {
-        uri: shared(alloc, uri.clone()?)?,
+        uri: Rc::new(alloc, uri.clone()?)?,
         document: site.document,
         path: copied(alloc, site.path.as_slice())?,
     }))
@@ -107,111 +107,12 @@ fn shared_uris<'r>(
     }
 }
 
-// The problem of a URI that is that of a document, in place of which its root's identifier gives another.
-fn replaced_in<'r>(
-    alloc: Global,
-    own: &Own<'_>,
-    uri: &Rc<Uri>,
-) -> Result<Option<Problem<'r>>, AllocError>
-    requires { HasPlaces own.now }
-    ensures { IfOk result
-        (λ o. option_map problem_said o ≡ first (replaced_in uri.now.value (document_in own.now))) }
-{
-    if own.uri.as_str() != uri.as_str() {
-        return Ok(None);
-    }
-    let base = base_uri(alloc, own)?;
-    if base.as_str() == uri.as_str() {
-        return Ok(None);
-    }
-    Ok(Some(Problem::ReplacedUri {
-        uri: uri.clone()?,
-        base,
-    }))
-}
-
-// The problem of a URI that a place refers to, where it means a place of a parent.
-fn shadowed<'r>(
-    alloc: Global,
-    bearers: &Bearers<'_, '_>,
-    uri: &Rc<Uri>,
-) -> Result<Option<Problem<'r>>, AllocError>
-    ensures { (layer : Layer) → AreTables layer bearers.now
-        → IfOk result (λ o. option_map problem_said o
-        ≡ shadowed_uri layer bearers.now.registry.now uri.now.value) }
-{
-    let Some(base) = identified(alloc, bearers.registry, uri)? else {
-        return Ok(None);
-    };
-    let Some(document) = bearers.document_under(base.as_str()) else {
-        return Ok(None);
-    };
-    Ok(Some(Problem::ShadowedUri {
-        uri: uri.clone()?,
-        base,
-        document,
-    }))
-}
-
-// The problem of a URI that a place refers to, where it is that of a document below a root with this number, or means a
-// place of a parent.
-fn reference_problem<'r>(
-    alloc: Global,
-    bearers: &Bearers<'_, '_>,
-    owns: &[Own<'_>],
-    top: usize,
-    uri: &Rc<Uri>,
-) -> Result<Option<Problem<'r>>, AllocError>
-    requires own { AreOwn owns.now }
-    requires tables { AreTables (layer_in owns.now) bearers.now }
-    ensures { IfOk result
-        (λ o. option_map problem_said o
-        ≡ first
-        (reference_problems (layer_in owns.now) bearers.now.registry.now top uri.now.value)) }
-{
-    let Some(number) = bearers.document_under(uri.as_str()) else {
-        return shadowed(alloc, bearers, uri);
-    };
-    if number == top {
-        return Ok(None);
-    }
-    match owns.get(number) {
-        Some(own) => replaced_in(alloc, own, uri),
-        None => Ok(None),
-    }
-}
-
-// The first problem of the URIs that a place refers to.
-fn reference_problems<'r>(
-    alloc: Global,
-    bearers: &Bearers<'_, '_>,
-    owns: &[Own<'_>],
-    top: usize,
-    spot: &Spot<'_>,
-) -> Result<Option<Problem<'r>>, AllocError>
-    requires own { AreOwn owns.now }
-    requires tables { AreTables (layer_in owns.now) bearers.now }
-    ensures { IfOk result
-        (λ o. option_map problem_said o
-        ≡ first
-        (references_seen (layer_in owns.now) bearers.now.registry.now top
-        (seen_spot spot.now))) }
-{
-    let uris = targets(alloc, spot)?;
-    for uri in &uris {
-        if let Some(problem) = reference_problem(alloc, bearers, owns, top, uri)? {
-            return Ok(Some(problem));
-        }
-    }
-    Ok(None)
-}
-
 // The first problem of a place.
 fn place_problem<'r>(
     alloc: Global,
     bearers: &Bearers<'r, '_>,
     owns: &[Own<'r>],
-    top: usize,
+    top: &Part<'_>,
     own: &Own<'r>,
     spot: &Spot<'r>,
 ) -> Result<Option<Problem<'r>>, AllocError>
@@ -219,7 +120,7 @@ fn place_problem<'r>(
     requires tables { AreTables (layer_in owns.now) bearers.now }
     ensures { IfOk result (λ o. option_map problem_said o
         ≡ first (shared_seen (layer_in owns.now) own.now.uri.now (seen_spot spot.now)
-        ++ references_seen (layer_in owns.now) bearers.now.registry.now top
+        ++ references_seen (layer_in owns.now) bearers.now.registry.now (numbered_part top.now)
         (seen_spot spot.now))) }
 {
     match shared_uris(alloc, bearers, own, spot)? {
@@ -250,7 +151,7 @@ fn place_refusal<'r>(
     alloc: Global,
     bearers: &Bearers<'r, '_>,
     owns: &[Own<'r>],
-    top: usize,
+    top: &Part<'_>,
     own: &Own<'r>,
     spot: &Spot<'r>,
 ) -> Result<Option<Refusal<'r>>, AllocError>
@@ -258,7 +159,8 @@ fn place_refusal<'r>(
     requires tables { AreTables (layer_in owns.now) bearers.now }
     ensures { IfOk result (λ o. option_map refusal_said o
         ≡ first
-        (refusals_seen (layer_in owns.now) bearers.now.registry.now top own.now.uri.now
+        (refusals_seen (layer_in owns.now) bearers.now.registry.now (numbered_part top.now)
+        own.now.uri.now
         (seen_spot spot.now))) }
 {
     match place_problem(alloc, bearers, owns, top, own, spot)? {
@@ -272,7 +174,7 @@ fn places_refusal<'r>(
     alloc: Global,
     bearers: &Bearers<'r, '_>,
     owns: &[Own<'r>],
-    top: usize,
+    top: &Part<'_>,
     own: &Own<'r>,
 ) -> Result<Option<Refusal<'r>>, AllocError>
     requires own { AreOwn owns.now }
@@ -280,7 +182,7 @@ fn places_refusal<'r>(
     requires places { HasPlaces own.now }
     ensures { IfOk result (λ o. option_map refusal_said o
         ≡ first
-        (place_refusals (layer_in owns.now) bearers.now.registry.now top
+        (place_refusals (layer_in owns.now) bearers.now.registry.now (numbered_part top.now)
         (numbered_document own.now))) }
 {
     for spot in &own.places {
@@ -481,7 +383,7 @@ fn refusal_in<'r>(
 {
     match whole_refusal(alloc, top, parts, own)? {
         Some(refusal) => Ok(Some(refusal)),
-        None => places_refusal(alloc, bearers, owns, top.number, own),
+        None => places_refusal(alloc, bearers, owns, top, own),
     }
 }
 

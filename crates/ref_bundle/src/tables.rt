@@ -4,17 +4,15 @@ ghost use Rattle.std.specs.List.{AllByRecursion};
 ghost use Rattle.ref_parts.specs.Path.{part_eq, path_eq};
 ghost use Rattle.ref_parts.specs.Segment.{part_of};
 ghost use Rattle.ref_definitions.specs.World.{Layer};
-ghost use Rattle.ref_bundle.specs.Needed.{document_under};
-ghost use Rattle.ref_bundle.specs.Bundle.{is_site, sites_of_uris, borne_in, other_bearer};
+ghost use Rattle.ref_bundle.specs.Needed.{borne_in, sites_of_uris, site_under, document_under};
+ghost use Rattle.ref_bundle.specs.Bundle.{is_site, other_bearer};
 ghost use Rattle.ref_bundle.specs.inner.Seen.{seen_spot, numbered_document, layer_in, HasPlaces, AreOwn};
 ghost use Rattle.ref_bundle.specs.inner.Tables.{site_of, table_entries_of, table_of, entry_under, is_other, is_other_in};
 ghost use Rattle.ref_bundle.specs.inner.Tables.{AreTables, borne_at};
 
 use crate::own::{Own, Spot};
 use crate::uris::own_uri;
-use ref_parts::SortedTable;
-use ref_parts::path::JsonPointerSegment;
-use referencing::Registry;
+use referencing::{JsonPointerSegment, Registry, SortedTable};
 use std::alloc::{AllocError, Global};
 
 /// A place: the number of its document, and its path there.
@@ -238,12 +236,20 @@ pub(crate) fn bearers_of<'r, 'a>(
 }
 
 impl<'r> Bearers<'r, '_> {
+    /// The place that a URI means.
+    pub fn site_under(&self, uri: &str) -> Option<&Site<'r>>
+        ensures value { (layer : Layer) → AreTables layer self.now
+            → option_map (λ s. site_of s.now) result ≡ site_under layer uri.now }
+    {
+        self.last.get(uri, "").0
+    }
+
     /// The number of the document that a URI means.
     pub fn document_under(&self, uri: &str) -> Option<usize>
         ensures value { (layer : Layer) → AreTables layer self.now
             → result ≡ document_under layer uri.now }
     {
-        let site = self.last.get(uri, "").0?;
+        let site = self.site_under(uri)?;
         Some(site.document)
     }
 

@@ -10,22 +10,25 @@ ghost use Rattle.ref_uri.specs.Reference.{with_fragment};
 ghost use Rattle.ref_uri.specs.Targets.{uri_against, target, uri_of};
 ghost use Rattle.ref_definitions.specs.Resources.{meant_place};
 ghost use Rattle.ref_definitions.specs.Wants.{schema_at};
-ghost use Rattle.ref_bundle.specs.Needed.{targets_from};
+ghost use Rattle.ref_bundle.specs.Needed.{reference_of, reference_under, meta_schema_of, references_from, targets_from};
 ghost use Rattle.ref_bundle.specs.Embedding.{base_uri};
 ghost use Rattle.ref_bundle.specs.Bundle.{identified_from};
-ghost use Rattle.ref_bundle.specs.inner.Seen.{seen_spot, own_uri_of, document_in, HasPlaces};
+ghost use Rattle.ref_bundle.specs.inner.Seen.{seen_spot, seen_reference, own_uri_of, document_in, HasPlaces};
 
 use crate::own::{Own, Spot};
-use ref_draft::{Draft, ResourceRef};
-use ref_index::reference::shared;
-use ref_parts::list::List;
-use ref_uri::parts::uri_part;
-use ref_uri::uri::{from_str, resolve_against};
-use ref_uri::{Uri, UriFault};
-use referencing::Registry;
+use ref_uri::parts::{parts, uri_part};
+use referencing::uri::{from_str, resolve_against};
+use referencing::{Draft, List, Registry, ResourceRef, Uri, UriFault};
 use serde_json::Value;
 use std::alloc::{AllocError, Global};
 use std::rc::Rc;
+
+/// What a text of a place refers to: a URI, and a fragment of what that means.
+#[derive(Drop)]
+pub(crate) struct Reference<'v> {
+    pub uri: Rc<Uri>,
+    pub fragment: &'v str,
+}
 
 // The URI that a text means against a base, where it means one.
 fn resolved(alloc: Global, base: &Rc<Uri>, text: &str) -> Result<Option<Rc<Uri>>, AllocError>
@@ -33,7 +36,7 @@ fn resolved(alloc: Global, base: &Rc<Uri>, text: &str) -> Result<Option<Rc<Uri>>
         (λ o. option_map (λ u. u.value) o ≡ result_ok (uri_against base.now.value text.now)) }
 {
     match resolve_against(alloc, base.borrow(), text) {
-        Ok(uri) => Ok(Some(shared(alloc, uri)?)),
+        Ok(uri) => Ok(Some(Rc::new(alloc, uri)?)),
         Err(UriFault::Invalid(_)) => Ok(None),
         Err(UriFault::Memory(error)) => Err(error),
     }
@@ -58,7 +61,7 @@ fn without_fragment(alloc: Global, uri: Uri) -> Result<Rc<Uri>, AllocError>
     if let Err(error) = uri.set_fragment(None) {
         unreachable!("{error}");
     }
-    shared(alloc, uri)
+    Ok(Rc::new(alloc, uri)?)
 }
 
 // The URI that a text names a meta-schema by, where it means one.
@@ -80,19 +83,35 @@ fn text_under<'v>(value: &'v Value, key: &str) -> Option<&'v str>
     value.get(key).and_then(Value::as_str)
 }
 
-// The URI that the text under a key refers to, where there is one and it means one.
-fn reference(
+// What a text refers to from a base, where it means a URI.
+fn reference_of<'v>(
     alloc: Global,
     base: &Rc<Uri>,
-    value: &Value,
+    text: &'v str,
+) -> Result<Option<Reference<'v>>, AllocError>
+    ensures { IfOk result
+        (λ o. option_map seen_reference o ≡ reference_of base.now.value text.now) }
+{
+    let (_, fragment) = parts(text);
+    match target(alloc, base, text)? {
+        Some(uri) => Ok(Some(Reference { uri, fragment })),
+        None => Ok(None),
+    }
+}
+
+// The same of the text that a value has under a key.
+fn reference_under<'v>(
+    alloc: Global,
+    base: &Rc<Uri>,
+    value: &'v Value,
     key: &str,
-) -> Result<Option<Rc<Uri>>, AllocError>
-    ensures { IfOk result (λ o. option_map (λ u. u.value) o
-        ≡ option_and_then (λ text. result_ok (target base.now.value text))
-        (text_under key.now (view value.now))) }
+) -> Result<Option<Reference<'v>>, AllocError>
+    ensures { IfOk result
+        (λ o. option_map seen_reference o
+        ≡ reference_under key.now base.now.value (view value.now)) }
 {
     match text_under(value, key) {
-        Some(text) => target(alloc, base, text),
+        Some(text) => reference_of(alloc, base, text),
         None => Ok(None),
     }
 }
@@ -110,29 +129,54 @@ fn dialect(alloc: Global, value: &Value) -> Result<Option<Rc<Uri>>, AllocError>
     }
 }
 
-// Adds a URI, where there is one.
-fn push(uris: &mut Vec<Rc<Uri>>, uri: Option<Rc<Uri>>) -> Result<(), AllocError>
-    ensures { OnOk result (uris.new.items ≡ uris.old.items ++ option_to_list uri) }
+// The custom meta-schema that a value names, as a whole.
+fn meta_schema_of<'v>(alloc: Global, value: &'v Value) -> Result<Option<Reference<'v>>, AllocError>
+    ensures { IfOk result
+        (λ o. option_map seen_reference o ≡ meta_schema_of (view value.now)) }
 {
-    if let Some(uri) = uri {
-        uris.push(uri)?;
+    match dialect(alloc, value)? {
+        Some(uri) => Ok(Some(Reference { uri, fragment: "" })),
+        None => Ok(None),
+    }
+}
+
+// Adds a reference, where there is one.
+fn push<'v>(
+    references: &mut Vec<Reference<'v>>,
+    reference: Option<Reference<'v>>,
+) -> Result<(), AllocError>
+    ensures { OnOk result
+        (map seen_reference references.new.items
+        ≡ map seen_reference references.old.items
+        ++ option_to_list (option_map seen_reference reference.entry)) }
+{
+    if let Some(reference) = reference {
+        references.push(reference)?;
     }
     Ok(())
 }
 
-/// The URIs that the texts of a place mean: under `$ref`, `$dynamicRef`, and under `$schema` that of a custom meta-schema.
-pub(crate) fn targets(alloc: Global, spot: &Spot<'_>) -> Result<Vec<Rc<Uri>>, AllocError>
-    ensures value { IfOk result (λ uris. map (λ u. u.value) uris.items
+/// What a place refers to: by the texts under `$ref` and `$dynamicRef`, and by `$schema` a custom meta-schema.
+pub(crate) fn references<'v>(
+    alloc: Global,
+    spot: &Spot<'v>,
+) -> Result<Vec<Reference<'v>>, AllocError>
+    ensures value { IfOk result (λ references. map seen_reference references.items
+        ≡ references_from (seen_spot spot.now).base (seen_spot spot.now).value) }
+    ensures uris { IfOk result (λ references. map (λ r. r.uri.value) references.items
         ≡ targets_from (seen_spot spot.now).base (seen_spot spot.now).value) }
 {
-    let mut uris = Vec::new(alloc);
-    push(&mut uris, reference(alloc, &spot.base, spot.value, "$ref")?)?;
+    let mut references = Vec::new(alloc);
     push(
-        &mut uris,
-        reference(alloc, &spot.base, spot.value, "$dynamicRef")?,
+        &mut references,
+        reference_under(alloc, &spot.base, spot.value, "$ref")?,
     )?;
-    push(&mut uris, dialect(alloc, spot.value)?)?;
-    Ok(uris)
+    push(
+        &mut references,
+        reference_under(alloc, &spot.base, spot.value, "$dynamicRef")?,
+    )?;
+    push(&mut references, meta_schema_of(alloc, spot.value)?)?;
+    Ok(references)
 }
 
 /// The URI that the identifier of a place gives against one that means the place in a registry or its parents.
@@ -183,6 +227,6 @@ pub(crate) fn base_uri(alloc: Global, own: &Own<'_>) -> Result<Rc<Uri>, AllocErr
 {
     match own.places.first() {
         Some(root) => root.base.clone(),
-        None => shared(alloc, own.uri.clone()?),
+        None => Ok(Rc::new(alloc, own.uri.clone()?)?),
     }
 }

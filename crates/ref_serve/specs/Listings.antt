@@ -10,7 +10,7 @@ use Rattle.ref_definitions.specs.Listing.{Listed, own_places}
 use Rattle.ref_vocabularies.specs.Vocabularies.{Known, Core, Applicator, Unevaluated, Validation, Metadata, Format, FormatAnnotation, Content, FormatAssertion, Standard, VocabularySet, all_known, contains, find_vocabularies}
 use Rattle.ref_lint.specs.Dangling.{DanglingReference, dangling}
 use Rattle.ref_bundle.specs.Embedding.{Obstacle, NotAnObject, IdentifierBesideRef, NotAnIdentifier, NotKept, UntoldDraft, ResolvedAgain}
-use Rattle.ref_bundle.specs.Bundle.{Bundle, BundleRefusal, Problem, NoDocument, NotEmbedded, NoMap, KeyTaken, SharedUri, ReplacedUri, ShadowedUri, bundle_at}
+use Rattle.ref_bundle.specs.Bundle.{Bundle, BundleRefusal, Problem, NoDocument, NotEmbedded, NoMap, KeyTaken, SharedUri, ReplacedUri, ShadowedUri, AddedMember, bundle_at}
 use Rattle.ref_bundle.specs.Saying.{refusal_text}
 use Rattle.ref_draft.specs.Names.{draft_name}
 use Rattle.ref_calls.specs.Objects.{object_of, list_of, texts, whole}
@@ -115,7 +115,8 @@ problem_name NoMap = codes "NoMap"
 problem_name (KeyTaken uri) = codes "KeyTaken"
 problem_name (SharedUri uri document path) = codes "SharedUri"
 problem_name (ReplacedUri uri base) = codes "ReplacedUri"
-problem_name (ShadowedUri uri base document) = codes "ShadowedUri"
+problem_name (ShadowedUri uri base document path) = codes "ShadowedUri"
+problem_name (AddedMember uri key) = codes "AddedMember"
 
 -- the members of a refusal's error
 abbrev pub refusal_members : BundleRefusal → List (List ℕ × Data)

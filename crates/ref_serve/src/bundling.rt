@@ -42,6 +42,7 @@ fn problem_name(problem: &Problem<'_>) -> &'static str
         Problem::SharedUri { .. } => "SharedUri",
         Problem::ReplacedUri { .. } => "ReplacedUri",
         Problem::ShadowedUri { .. } => "ShadowedUri",
+        Problem::AddedMember { .. } => "AddedMember",
     }
 }
 

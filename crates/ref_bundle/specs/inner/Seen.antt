@@ -13,11 +13,12 @@ use Rattle.ref_uri.specs.Targets.{Refusal}
 use Rattle.ref_definitions.specs.World.{Document, Layer}
 use Rattle.ref_definitions.specs.Places.{Place, places}
 use Rattle.ref_definitions.specs.Listing.{Listed}
-use Rattle.ref_bundle.specs.Needed.{counted_documents}
+use Rattle.ref_bundle.specs.Needed.{counted_documents, Reference}
 use Rattle.ref_bundle.specs.Embedding.{base_uri}
 use Rattle.ref_bundle.specs.declared.own.Spot.{Spot}
 use Rattle.ref_bundle.specs.declared.own.Own.{Own}
 use Rattle.ref_bundle.specs.declared.embedding.Part as rust_part
+use Rattle.ref_bundle.specs.declared.uris.Reference as rust_reference
 
 -- a place with the number of its document
 pub record Seen : Type 0 where
@@ -50,6 +51,10 @@ seen_spot s =
 -- the URI that it has by its own identifier
 abbrev pub own_uri_of : Seen → Option (List ℕ)
 own_uri_of s = option_and_then (λ id. result_ok s.base) (identifier s.draft s.value)
+
+-- what a place refers to
+abbrev pub seen_reference : rust_reference.Reference → Reference
+seen_reference r = record { uri = r.uri.value; fragment = r.fragment.now }
 
 -- ---- documents
 

@@ -5,7 +5,8 @@ use Rattle.std.specs.declared.alloc.Global.{Global}
 use Rattle.ref_parts.specs.Segment.{part_of}
 use Rattle.ref_parts.specs.Table.{Entry, last_value}
 use Rattle.ref_definitions.specs.World.{Layer}
-use Rattle.ref_bundle.specs.Bundle.{Site, is_site, sites_of_uris}
+use Rattle.ref_bundle.specs.Needed.{Site, sites_of_uris}
+use Rattle.ref_bundle.specs.Bundle.{is_site}
 use Rattle.ref_bundle.specs.inner.Seen.{Seen, own_uri_of}
 use Rattle.ref_bundle.specs.declared.tables.Site as rust_site
 use Rattle.ref_bundle.specs.declared.tables.Bearers as rust_bearers

@@ -1,7 +1,7 @@
 use Rattle.std.proofs.Common.{◌≡◌, None, Some, Ok, IfOk, IfErr, map, slice_get, ap, sym, subst, ◌∙◌, rules}
 use Rattle.std.specs.List.{AllByRecursion}
-use Rattle.ref_index.proofs.Looking.{got}
 use Rattle.ref_definitions.specs.World.{own_layer}
+use Rattle.ref_bundle.proofs.Lists.{got}
 use Rattle.ref_bundle.specs.Needed.{counted_documents}
 use Rattle.ref_bundle.specs.Bundle.{bundle_among}
 use Rattle.ref_bundle.specs.Saying.{bundle_said, IsRefusalOf}

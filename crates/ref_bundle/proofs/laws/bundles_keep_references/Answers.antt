@@ -1,6 +1,5 @@
 use Rattle.ref_bundle.proofs.LawLookups.{keeps_references}
-use Rattle.ref_bundle.proofs.LawFaults.{were_faults}
 use Rattle.ref_bundle.proofs.laws.bundles_keep_references.Goals as goal
 
 pub returns : goal.returns
-returns c = record { law = keeps_references; definitions = were_faults }
+returns c = record { law = keeps_references }

@@ -13,5 +13,6 @@ returns c = record {
   dynamic_anchor = refl;
   the_definitions = refl;
   new_definitions = refl;
+  the_same_identifier = refl;
   nowhere = refl;
 }

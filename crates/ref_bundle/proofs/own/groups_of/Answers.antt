@@ -2,7 +2,7 @@ use Rattle.std.proofs.Common.{◌≡◌, ◌∷◌, [], map, option_map, ap, sym
 use Rattle.std.specs.Option.{option_to_list}
 use Rattle.std.specs.Vec.Iter.{into_iter_items}
 use Rattle.std.proofs.lemmas.List.{nil_from_length}
-use Rattle.ref_index.specs.Listing.{listed_of}
+use Rattle.referencing.specs.ListedPlaces.{listed_of}
 use Rattle.ref_definitions.specs.World.{own_layer}
 use Rattle.ref_bundle.specs.inner.Seen.{seen_spot, see_listed, all_seen, gathered_places}
 use Rattle.ref_bundle.proofs.Gathering.{gathered_append, all_gathered, items}

@@ -1,7 +1,7 @@
 use Rattle.std.proofs.Common.{◌≡◌, [], map, length}
 use Rattle.std.specs.Vec.Iter.{into_iter_items, into_iter_len}
 use Rattle.ref_definitions.specs.Listing.{own_places}
-use Rattle.ref_index.specs.Listing.{listed_of}
+use Rattle.referencing.specs.ListedPlaces.{listed_of}
 use Rattle.ref_definitions.specs.World.{own_layer}
 use Rattle.ref_bundle.specs.inner.Seen.{seen_spot, all_seen, gathered_places}
 use Rattle.ref_bundle.proofs.own.groups_of.Given as goal

@@ -1,8 +1,8 @@
 use Rattle.std.specs.Prelude.{slice_get, MatchOption}
 use Rattle.std.proofs.Common.{◌≡◌, ◌++◌, ◌∷◌, [], Some, None, refl, sym, subst, ◌∙◌, rules}
-use Rattle.ref_index.specs.Document.{document_of}
-use Rattle.ref_index.proofs.Looking.{got}
+use Rattle.referencing.specs.Document.{document_of}
 use Rattle.ref_definitions.specs.World.{own_layer}
+use Rattle.ref_bundle.proofs.Lists.{got}
 use Rattle.ref_bundle.specs.declared.own.Own.{Own}
 use Rattle.ref_bundle.specs.inner.Seen.{numbered_document}
 use Rattle.ref_bundle.proofs.Gathering.{document_at}

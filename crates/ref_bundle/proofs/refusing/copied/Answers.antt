@@ -7,4 +7,4 @@ use Rattle.ref_bundle.proofs.refusing.copied.Goals as goal
 pub returns : goal.returns
 returns c =
     let copies : AllZip (λ s copy. part_of copy ≡ part_of s) c.args.path.now c.in_ok-copy.copy.items = search rules in
-    copied_parts c.args.path.now c.in_ok-copy.copy.items copies
+    record { value = copied_parts c.args.path.now c.in_ok-copy.copy.items copies }

@@ -1,7 +1,7 @@
 use Rattle.std.proofs.Common.{◌≡◌, map, flat_map, take, None}
-use Rattle.ref_bundle.specs.inner.Seen.{seen_spot, layer_in}
+use Rattle.ref_bundle.specs.inner.Seen.{seen_spot, layer_in, numbered_part}
 use Rattle.ref_bundle.specs.inner.First.{first, refusals_seen}
 use Rattle.ref_bundle.proofs.refusing.places_refusal.Given as goal
 
 abbrev pub invariant-loop-spot : goal.invariant-loop-spot
-invariant-loop-spot l = first (flat_map (refusals_seen (layer_in l.owns) l.bearers.registry.now l.top l.own.uri.now) (map seen_spot (take l.spot-index l.spot-items))) ≡ None
+invariant-loop-spot l = first (flat_map (refusals_seen (layer_in l.owns) l.bearers.registry.now (numbered_part l.top) l.own.uri.now) (map seen_spot (take l.spot-index l.spot-items))) ≡ None

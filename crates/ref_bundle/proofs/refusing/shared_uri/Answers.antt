@@ -1,7 +1,8 @@
 use Rattle.std.proofs.Common.{◌≡◌, ◌++◌, [], ◌∷◌, Option, Some, map, flat_map, option_map, ap, sym, ◌∙◌, rules}
 use Rattle.std.specs.Option.{option_map_or, option_to_list}
 use Rattle.ref_parts.specs.Segment.{part_of}
-use Rattle.ref_bundle.specs.Bundle.{Problem, SharedUri, Site, sites_of_uris, shared_uri, other_bearer}
+use Rattle.ref_bundle.specs.Needed.{Site, sites_of_uris}
+use Rattle.ref_bundle.specs.Bundle.{Problem, SharedUri, shared_uri, other_bearer}
 use Rattle.ref_bundle.specs.inner.Tables.{site_of}
 use Rattle.ref_bundle.specs.inner.First.{first}
 use Rattle.ref_bundle.proofs.refusing.shared_uri.Goals as goal
@@ -12,7 +13,7 @@ returns c =
     let other = c.in-Some-other.site.now in
     let at : Site = (c.args.spot.now.document, map part_of c.args.spot.now.path.items) in
     let f : Option Site → Option Problem = λ o. first (option_map_or (λ s. SharedUri u s.0 s.1 ∷ []) o [] ++ []) in
-    let copy : c.in_ok-shared.field-0.value ≡ u = search rules in
+    let copy : c.in_ok-new.field-0.value ≡ u = search rules in
     let path : map part_of c.in_ok-copied.field-0.items ≡ map part_of other.path.items = search rules in
     let given : option_map (λ u. u.now) c.args.uri ≡ Some u = search rules in
     let spot : map part_of c.as_slice.result.now ≡ map part_of c.args.spot.now.path.items = search rules in

@@ -1,7 +1,8 @@
 use Rattle.std.proofs.Common.{◌≡◌, [], None, Some, cond, IfOk, flat_map, option_map, ap, sym, subst, ◌∙◌, rules}
 use Rattle.std.specs.Option.{option_to_list}
 use Rattle.ref_parts.specs.Path.{path_eq}
-use Rattle.ref_bundle.specs.Bundle.{sites_of_uris, shared_uri}
+use Rattle.ref_bundle.specs.Needed.{sites_of_uris}
+use Rattle.ref_bundle.specs.Bundle.{shared_uri}
 use Rattle.ref_bundle.specs.Saying.{problem_said}
 use Rattle.ref_bundle.specs.inner.Seen.{seen_spot, own_uri_of}
 use Rattle.ref_bundle.specs.inner.First.{first}

@@ -2,7 +2,8 @@ use Rattle.std.proofs.Common.{◌≡◌, [], false, not, None, Some, option_map,
 use Rattle.std.specs.Option.{option_map_or}
 use Rattle.ref_parts.specs.Segment.{part_of}
 use Rattle.ref_parts.specs.Table.{last_value}
-use Rattle.ref_bundle.specs.Bundle.{Site, is_site}
+use Rattle.ref_bundle.specs.Needed.{Site}
+use Rattle.ref_bundle.specs.Bundle.{is_site}
 use Rattle.ref_bundle.specs.inner.Tables.{site_of}
 use Rattle.ref_bundle.proofs.Bearing.{tabled_last}
 use Rattle.ref_bundle.proofs.tables.is_other_in.Goals as goal

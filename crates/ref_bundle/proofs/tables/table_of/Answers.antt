@@ -1,5 +1,5 @@
 use Rattle.std.proofs.Common.{map, flat_map, filter, option_map, ap, ◌∙◌, arith}
-use Rattle.ref_bundle.specs.Bundle.{borne_in}
+use Rattle.ref_bundle.specs.Needed.{borne_in}
 use Rattle.ref_bundle.specs.inner.Seen.{numbered_document}
 use Rattle.ref_bundle.specs.inner.Tables.{table_of, entry_under, is_other}
 use Rattle.ref_bundle.proofs.Lists.{taken_all}

@@ -1,5 +1,5 @@
 use Rattle.std.proofs.Common.{◌≡◌, map, flat_map, filter, take, option_map}
-use Rattle.ref_bundle.specs.Bundle.{borne_in}
+use Rattle.ref_bundle.specs.Needed.{borne_in}
 use Rattle.ref_bundle.specs.inner.Seen.{numbered_document}
 use Rattle.ref_bundle.specs.inner.Tables.{table_entries_of, table_of, entry_under, is_other}
 use Rattle.ref_bundle.proofs.tables.table_of.Given as goal

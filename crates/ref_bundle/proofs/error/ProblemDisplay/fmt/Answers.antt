@@ -1,7 +1,7 @@
 use Rattle.std.proofs.Common.{map}
 use Rattle.std.proofs.Output.{has_written_of_eq}
 use Rattle.ref_parts.specs.Segment.{part_of}
-use Rattle.ref_bundle.proofs.Texts.{shared, replaced, shadowed}
+use Rattle.ref_bundle.proofs.Texts.{shared, replaced, shadowed, added}
 use Rattle.ref_bundle.proofs.error.ProblemDisplay.fmt.Goals as goal
 
 pub returns-in-SharedUri-clause-writes : goal.returns-in-SharedUri-clause-writes
@@ -14,4 +14,8 @@ returns-in-ReplacedUri-clause-writes g c plain ok =
 
 pub returns-in-ShadowedUri-clause-writes : goal.returns-in-ShadowedUri-clause-writes
 returns-in-ShadowedUri-clause-writes g c plain ok =
-    rw c.in-ShadowedUri.is (has_written_of_eq _ _ _ _ _ (shadowed _ _ _) (c.write-in-ShadowedUri.ensures.writes plain ok))
+    rw c.in-ShadowedUri.is (has_written_of_eq _ _ _ _ _ (shadowed _ _ _ (map part_of c.in-ShadowedUri.path.items)) (c.write-in-ShadowedUri.ensures.writes plain ok))
+
+pub returns-in-AddedMember-clause-writes : goal.returns-in-AddedMember-clause-writes
+returns-in-AddedMember-clause-writes g c plain ok =
+    rw c.in-AddedMember.is (has_written_of_eq _ _ _ _ _ (added _ _) (c.write-in-AddedMember.ensures.writes plain ok))

@@ -1,7 +1,8 @@
 use Rattle.std.proofs.Common.{◌≡◌, [], true, false, None, Some, option_map, map, filter, ap, sym, ◌∙◌, rules}
 use Rattle.ref_parts.specs.Segment.{part_of}
 use Rattle.ref_parts.specs.Table.{last_value}
-use Rattle.ref_bundle.specs.Bundle.{Site, is_site, sites_of_uris}
+use Rattle.ref_bundle.specs.Needed.{Site, sites_of_uris}
+use Rattle.ref_bundle.specs.Bundle.{is_site}
 use Rattle.ref_bundle.specs.inner.Tables.{site_of, is_other, entry_under}
 use Rattle.ref_bundle.proofs.Bearing.{found, last_is_other, other_in_table, no_other, last_there, last_missing, copied_site}
 use Rattle.ref_bundle.proofs.tables.Bearers.other.Goals as goal
