@@ -1,10 +1,8 @@
 // A client of `patchsard serve`: a line out for each call, a line in for each answer. Node 18 and later, no package.
-//
 //     const patchsard = new Patchsard();
 //     const registry = await patchsard.open([["https://example.com/order", order]]);
 //     const { value, base, scope } = await registry.lookup("https://example.com/order", "#/$defs/item");
 //     patchsard.end();
-//
 // `value` is the caller's own object, not a copy; each document is to have a URI of its own. An error of the protocol is thrown as an `Error` with its `name` and its further members.
 import { spawn } from "node:child_process";
 import { createInterface } from "node:readline";
@@ -26,11 +24,9 @@ export class Patchsard {
         this.process.on("close", (status) => end(new Error(`${program} has ended, with status ${status}`)));
     }
     call(call, members) {
-        return new Promise((resolve, reject) => {
-            if (this.ended) return reject(this.ended);
-            this.#waiting.push({ resolve, reject });
-            this.process.stdin.write(JSON.stringify({ call, ...members }) + "\n");
-        });
+        if (this.ended) return Promise.reject(this.ended);
+        this.process.stdin.write(JSON.stringify({ call, ...members }) + "\n");
+        return new Promise((resolve, reject) => this.#waiting.push({ resolve, reject }));
     }
     // `retrieve` takes the URI of a document that isn't there, and answers a schema or a promise of one; `parent` is a registry.
     async open(documents, { retrieve, parent, ...members } = {}) {
@@ -50,19 +46,15 @@ export class Patchsard {
 
 class Registry {
     constructor(patchsard, number, documents, parent) { Object.assign(this, { patchsard, number, documents, parent }); }
+    // A list of references is one call, and gets a list: in each one's place what it leads to, or `{ error }`.
     async lookup(base, reference, scope = []) {
-        return this.#found(await this.patchsard.call("lookup", { registry: this.number, base, scope, reference }));
-    }
-    // One line for all: in each one's place what it leads to, or `{ error }`.
-    async lookupAll(base, reference, scope = []) {
-        const all = await this.patchsard.call("lookup", { registry: this.number, base, scope, reference });
-        return all.map((it) => (it.error ? it : this.#found(it)));
+        const answer = await this.patchsard.call("lookup", { registry: this.number, base, scope, reference });
+        return Array.isArray(answer) ? answer.map((it) => (it.error ? it : this.#found(it))) : this.#found(answer);
     }
     close() { return this.patchsard.call("close", { registry: this.number }); }
     #found(answer) {
-        let owner = this;
-        while (owner.number !== answer.registry) owner = owner.parent;
+        if (answer.registry !== this.number) return this.parent.#found(answer);
         const tokens = answer.pointer.split("/").slice(1).map((it) => it.replaceAll("~1", "/").replaceAll("~0", "~"));
-        return { ...answer, value: tokens.reduce((value, token) => value[token], owner.documents[answer.document]) };
+        return { ...answer, value: tokens.reduce((value, token) => value[token], this.documents[answer.document]) };
     }
 }

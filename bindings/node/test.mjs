@@ -23,7 +23,7 @@ test("a look-up answers the caller's own object", async () => {
 
 test("many references in one line", async () => {
     const registry = await patchsard.open([[base, order]]);
-    const [found, missing] = await registry.lookupAll(base, ["#/examples/0", "#/$defs/itme"]);
+    const [found, missing] = await registry.lookup(base, ["#/examples/0", "#/$defs/itme"]);
     assert.equal(found.value, order.examples[0]);
     assert.equal(missing.error.name, "PointerToNowhere");
 });

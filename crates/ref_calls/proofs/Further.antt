@@ -3,8 +3,8 @@ use Rattle.std.proofs.Common.{◌≡◌, ℕ, List, [], ◌∷◌, ◌++◌, Res
 use Rattle.serde_json.specs.Data.{Data}
 use Rattle.serde_json.specs.declared.value.Value.{Value}
 use Rattle.ref_definitions.specs.Results.{◌>>=◌}
-use Rattle.ref_calls.specs.declared.stop.Stop.{Stop}
-use Rattle.ref_calls.specs.declared.stop.Stop.TheVariants.{Memory, Because}
+use Rattle.ref_json.specs.declared.stop.Stop.{Stop}
+use Rattle.ref_json.specs.declared.stop.Stop.TheVariants.{Memory, Because}
 use Rattle.ref_calls.specs.Errors.{in_field, with_field, at_index, with_index}
 use Rattle.ref_calls.specs.Outcome.{Stops, IsChanged}
 

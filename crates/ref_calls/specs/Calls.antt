@@ -1,10 +1,8 @@
 -- A call: which one an object is, and its members.
-use Rattle.std.specs.Prelude.{◌≡◌, ◌≤◌, length, ℕ, suc, Bool, false, ◌||◌, List, [], ◌∷◌, codes, Option, Some, None, option_map, option_and_then, Result, Ok, Err, ok_or, is_some, bytes_eq, if◌then◌else◌}
+use Rattle.std.specs.Prelude.{ℕ, suc, Bool, false, ◌||◌, List, [], ◌∷◌, codes, Option, Some, None, option_map, option_and_then, Result, Ok, Err, ok_or, is_some, bytes_eq, if◌then◌else◌}
 use Rattle.std.specs.List.{list_any}
-use Rattle.std.specs.Str.{is_utf8}
 use Rattle.serde_json.specs.Data.{Data, Items, no_items, item, Members, no_members, member}
 use Rattle.serde_json.specs.Find.{get, as_bool, as_str, as_array, as_object, as_number, as_u64}
-use Rattle.serde_json.specs.Read.{read}
 use Rattle.ref_uri.specs.Targets.{uri_of}
 use Rattle.ref_draft.specs.declared.draft.Draft.{Draft}
 use Rattle.ref_draft.specs.declared.draft.Draft.TheVariants.{Draft202012}
@@ -13,21 +11,10 @@ use Rattle.ref_definitions.specs.Results.{◌>>=◌}
 use Rattle.ref_definitions.specs.Fault.{as_invalid_uri}
 use Rattle.ref_calls.specs.declared.call.Call.{Call}
 use Rattle.ref_calls.specs.declared.call.Call.TheVariants.{Open, Lookup, Recursive, Enter, Follow, Places, Dangling, Vocabularies, Bundle, Close}
-use Rattle.ref_calls.specs.declared.stop.Stop.{Stop}
-use Rattle.ref_calls.specs.declared.stop.Stop.TheVariants.{Memory, Because}
 use Rattle.ref_calls.specs.declared.fault.Wrong.TheVariants.{UnknownField, MissingField, InvalidField}
 use Rattle.ref_calls.specs.Errors.{plain_error, with_field, field_error, as_error, in_field, at_index}
 
 -- ---- the whole
-
--- the tree that serde_json reads; bytes that are no UTF-8 are no JSON (RFC 8259, section 8.1)
-abbrev pub tree_of : List ℕ → Option Data
-tree_of bytes = if is_utf8 bytes then read bytes else None
-
--- a line is no JSON, which is seen at a byte of it or at its end; or memory ran out
-abbrev pub IsNotJson : List ℕ → Stop ℕ → Type 0
-IsNotJson line Memory = Unit {0}
-IsNotJson line (Because offset) = (tree_of line ≡ None) × (offset ≤ length line)
 
 -- the call that a name means
 abbrev pub call_named : List ℕ → Option Call

@@ -8,8 +8,8 @@ use Rattle.ref_error.specs.declared.error.Error.TheVariants as error
 use Rattle.ref_error.specs.Errors.{SaysFault}
 use Rattle.ref_calls.specs.declared.fault.Wrong.{Wrong}
 use Rattle.ref_calls.specs.declared.fault.Wrong.TheVariants.{UnknownField, MissingField, InvalidField, UnknownRegistry}
-use Rattle.ref_calls.specs.declared.stop.Stop.{Stop}
-use Rattle.ref_calls.specs.declared.stop.Stop.TheVariants.{Memory}
+use Rattle.ref_json.specs.declared.stop.Stop.{Stop}
+use Rattle.ref_json.specs.declared.stop.Stop.TheVariants.{Memory}
 use Rattle.ref_calls.specs.Outcome.{IsStop}
 use Rattle.ref_calls.specs.Objects.{object_of, whole}
 

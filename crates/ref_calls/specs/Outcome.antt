@@ -1,10 +1,11 @@
--- What a call gives that may run out of memory.
-use Rattle.std.specs.Prelude.{◌≡◌, Result, Ok, Err}
+-- What a call gives that may run out of memory: a value, or an error object.
+use Rattle.std.specs.Prelude.{◌≡◌, Result}
 use Rattle.serde_json.specs.Data.{Data}
 use Rattle.serde_json.specs.View.{view}
 use Rattle.serde_json.specs.declared.value.Value.{Value}
-use Rattle.ref_calls.specs.declared.stop.Stop.{Stop}
-use Rattle.ref_calls.specs.declared.stop.Stop.TheVariants.{Memory, Because}
+use Rattle.ref_json.specs.declared.stop.Stop.{Stop}
+use Rattle.ref_json.specs.declared.stop.Stop.TheVariants.{Memory, Because}
+use Rattle.ref_json.specs.Outcome as json
 
 -- it stops with this error object, or memory ran out
 abbrev pub IsStop : Stop Value → Data → Type 0
@@ -13,13 +14,11 @@ IsStop (Because value) error = view value ≡ error
 
 -- the definition gives this error object, unless memory ran out
 abbrev pub Stops : {Y : Type 0} → Stop Value → Result Y Data → Type 0
-Stops Memory defined = Unit {0}
-Stops (Because value) defined = defined ≡ Err (view value)
+Stops stop defined = json.Stops view stop defined
 
 -- A call returned what the definition gives, unless memory ran out: its value as the function sees it, or its error object.
 abbrev pub Answers : {X Y : Type 0} → (X → Y) → Result X (Stop Value) → Result Y Data → Type 0
-Answers seen (Ok x) defined = defined ≡ Ok (seen x)
-Answers seen (Err stop) defined = Stops stop defined
+Answers seen result defined = json.Answers seen view result defined
 
 -- a stop that is changed: its error object so, and out of memory stays
 abbrev pub IsChanged : (Data → Data) → Stop Value → Stop Value → Type 0

@@ -1,46 +1,15 @@
-//! The tree that a line is, and the line that an answer is.
-ghost use Rattle.std.specs.Prelude.{◌≡◌, ◌≤◌, length, Some, option_map, codes, IfOk, IfErr, OnOk};
+//! The line that an answer is.
+ghost use Rattle.std.specs.Prelude.{◌≡◌, option_map, codes, IfOk, OnOk};
 ghost use Rattle.serde_json.specs.View.{view, members_view};
 ghost use Rattle.serde_json.specs.Find.{get};
 ghost use Rattle.serde_json.specs.Data.{Data};
 ghost use Rattle.ref_calls.specs.Objects.{answer_of, id_member, with_all, IsLineOf};
-ghost use Rattle.ref_calls.specs.Calls as spec;
 ghost use Rattle.ref_calls.specs.Outcome.{IsStop};
 
 use crate::members::Members;
-use crate::stop::Stop;
-use serde_json::{Error, Map, Value, put};
+use ref_json::Stop;
+use serde_json::{Map, Value, put};
 use std::alloc::{AllocError, Global};
-
-// Where in a line it can't be read as JSON, in bytes: its length where more would have to follow.
-fn offset_of(line: &[u8], error: &Error) -> usize
-    ensures { result ≤ length line.now }
-{
-    if error.is_eof() {
-        return line.len();
-    }
-    error.column().saturating_sub(1).min(line.len())
-}
-
-/// The tree that a line is.
-///
-/// `Because` where it is no JSON, with a place in the line, in bytes from its beginning: at or just past what can't be read,
-/// or its length where more would have to follow. `Memory` where memory is refused. Linear in the line.
-pub fn tree_of(alloc: Global, line: &[u8]) -> Result<Value, Stop<usize>>
-    ensures tree { IfOk result (λ v. spec.tree_of line.now ≡ Some (view v)) }
-    ensures not_json { IfErr result (spec.IsNotJson line.now) }
-{
-    match Value::from_slice(alloc, line) {
-        Ok(tree) => Ok(tree),
-        Err(e) => {
-            if e.is_memory() {
-                Err(Stop::Memory)
-            } else {
-                Err(Stop::Because(offset_of(line, &e)))
-            }
-        }
-    }
-}
 
 /// The value that the answer gives back.
 pub fn id_of(tree: &Value) -> Result<Option<Value>, AllocError>

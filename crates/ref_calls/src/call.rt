@@ -5,7 +5,7 @@ ghost use Rattle.ref_calls.specs.Calls as spec;
 ghost use Rattle.ref_calls.specs.Outcome.{IsStop, Answers};
 
 use crate::fault::{Wrong, field_error, in_field, plain_error};
-use crate::stop::Stop;
+use ref_json::Stop;
 use serde_json::{Map, Value};
 use std::alloc::Global;
 

@@ -10,7 +10,7 @@ ghost use Rattle.ref_calls.specs.inner.Given.{given_of};
 use crate::fault::{Wrong, at_index, field_error};
 use crate::field::uri_in;
 use crate::members::Members;
-use crate::stop::Stop;
+use ref_json::Stop;
 use ref_uri::Uri;
 use serde_json::{Map, Value};
 use std::alloc::{AllocError, Global};

@@ -9,9 +9,9 @@ ghost use Rattle.ref_calls.specs.Errors as spec;
 ghost use Rattle.ref_calls.specs.Outcome.{IsStop, IsChanged};
 
 use crate::members::{Members, put_number, put_text};
-use crate::stop::Stop;
 use ref_error::Error;
 use ref_error::laws::errors_say_faults;
+use ref_json::Stop;
 use serde_json::{Map, Value, put};
 use std::alloc::{AllocError, Global};
 

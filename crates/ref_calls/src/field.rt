@@ -8,9 +8,9 @@ ghost use Rattle.ref_calls.specs.Calls as spec;
 ghost use Rattle.ref_calls.specs.Outcome.{Answers};
 
 use crate::fault::{Wrong, at_index, fault_error, field_error, in_field};
-use crate::stop::Stop;
 use ref_draft::Draft;
 use ref_error::Error;
+use ref_json::Stop;
 use ref_parts::list::List;
 use ref_uri::Uri;
 use ref_uri::uri::from_str;

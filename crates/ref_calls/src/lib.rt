@@ -10,9 +10,7 @@ pub mod document;
 pub mod fault;
 pub mod field;
 pub mod members;
-pub mod stop;
 
 pub use call::{Call, call_of};
 pub use fault::Wrong;
 pub use members::Members;
-pub use stop::Stop;

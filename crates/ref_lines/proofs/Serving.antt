@@ -5,8 +5,9 @@ use Rattle.std.specs.declared.alloc.AllocError.{AllocError}
 use Rattle.std.specs.declared.alloc.Global.{Global}
 use Rattle.std.proofs.KnownBytes.{Consumes-nil, Consumes-trans, Appends-nil, Appends-trans}
 use Rattle.std.specs.Io.KnownBytes.{Appends}
+use Rattle.ref_streams.specs.Bytes.{AppendsFront}
 use Rattle.ref_lines.specs.Lines.{lines, whole_lines}
-use Rattle.ref_lines.specs.Serving.{Answers, AnswersLine, Serves, ServedSoFar, AnsweredSoFar, GaveAtLeast}
+use Rattle.ref_lines.specs.Serving.{Answers, AnswersLine, Serves, ServedSoFar, ServedInPart, AnsweredSoFar, GaveAtLeast}
 use Rattle.ref_lines.specs.inner.Held.{Gave, IsUnfinished, GaveForLines}
 use Rattle.ref_lines.specs.inner.Answering.{answer_text, Served, GotAnswer}
 use Rattle.ref_lines.proofs.Cutting.{cut_lines, cut_whole, cut_length, no_lines, none_whole, not_ended}
@@ -84,6 +85,16 @@ module _ {S : Type 0} (may_answer : S → List ℕ → S → List ℕ → Type 0
       (served_so_far s next next left left'' left'' None None after ended'
       (served_more s t next left left' left'' None None None held after ended ended' answer (bytes, text, front, consumes, tt, answers, are, whole) got tt)
       ([], Consumes-nil left'', λ _. refl) refl)
+
+  -- the answers up to one of which a beginning was written
+  pub served_in_part : (s t next : S) (left left' left'' taken taken' taken'' : Option (List ℕ)) (held after : List ℕ) (ended ended' : Bool) (answer : Result (Vec ℕ Global) AllocError)
+      → Served may_answer s t left left' taken taken' held ended → GotAnswer may_answer t next left' left'' (Some answer) held after ended ended'
+      → AppendsFront taken' taken'' (answer_text answer) → ServedInPart may_answer s next left left'' taken taken''
+  served_in_part s t next left left' left'' taken taken' taken'' held after ended ended' answer (bytes, text, front, consumes, appends, answers, are, whole) (more, consumed, (line, cut, one), stays) began =
+      let cuts : lines (held ++ more) ≡ line ∷ lines (after ++ []) =
+      sym (ap lines (append-nil (held ++ more))) ∙ cut_lines (held ++ more) line after [] ended' cut (λ _. refl) in
+      let all : lines (bytes ++ more) ≡ front ++ line ∷ lines (after ++ []) = are more (λ e. (stays e).0) ∙ ap (λ ls. front ++ ls) cuts in
+      (bytes ++ more, line, text, answer_text answer, front, lines (after ++ []), t, taken', Consumes-trans left left' left'' bytes more consumes consumed, all, answers, one, appends, began)
 
   -- the answers up to a failed read: each line that has its end was answered
   pub served_whole : (s t next : S) (left left' left'' taken taken' : Option (List ℕ)) (held : List ℕ) (ended : Bool)

@@ -1,6 +1,7 @@
 -- What a service answers to lines, one after another.
 use Rattle.std.specs.Prelude.{◌≡◌, ◌≤◌, length, ℕ, List, [], ◌∷◌, ◌++◌, ◌⊎◌, Option, codes}
 use Rattle.std.specs.Io.KnownBytes.{Appends, Consumes}
+use Rattle.ref_streams.specs.Bytes.{AppendsFront}
 use Rattle.ref_lines.specs.Lines.{lines}
 
 -- the answer where memory is refused, with its end
@@ -43,6 +44,17 @@ abbrev pub ServedSoFar : {S : Type 0} → (S → List ℕ → S → List ℕ →
 ServedSoFar may_answer service end left left' taken taken' =
     (text : List ℕ) × AnswersSoFar may_answer service end left left' text
     × Appends taken taken' text
+
+-- The sink took the answers to the first lines of what the source gave, and a beginning of the answer to the line after these.
+abbrev pub ServedInPart : {S : Type 0} → (S → List ℕ → S → List ℕ → Type 0) → S → S
+    → Option (List ℕ) → Option (List ℕ) → Option (List ℕ) → Option (List ℕ) → Type 0
+ServedInPart {S} may_answer service end left left' taken taken' =
+    (bytes line text answer : List ℕ) × (answered others : List (List ℕ)) × (before : S)
+    × (between : Option (List ℕ)) × Consumes left left' bytes
+    × (lines bytes ≡ answered ++ line ∷ others)
+    × Answers may_answer service answered before text
+    × AnswersLine may_answer before line end answer
+    × Appends taken between text × AppendsFront between taken' answer
 
 -- The service is as the answers to the first lines of what the source gave leave it.
 abbrev pub AnsweredSoFar : {S : Type 0} → (S → List ℕ → S → List ℕ → Type 0) → S → S

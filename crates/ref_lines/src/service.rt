@@ -1,9 +1,9 @@
 //! Calls from a source to answers in a sink.
 ghost use Rattle.std.specs.Prelude.{◌≡◌, ◌≢◌, ◌++◌, ◌-◌, ◌^◌, ℕ, List, Err, true, IfOk, IfErr, OnOk, OnErr, IsTrue};
 ghost use Rattle.std.specs.Io.KnownBytes.{Appends, IsAtEnd};
-ghost use Rattle.ref_streams.specs.Bytes.{HasFailed};
+ghost use Rattle.ref_streams.specs.Bytes.{HasFailed, AppendsFront};
 ghost use Rattle.ref_lines.specs.Lines.{lines, whole_lines};
-ghost use Rattle.ref_lines.specs.Serving.{Serves, ServedSoFar, AnsweredSoFar, GaveAtLeast};
+ghost use Rattle.ref_lines.specs.Serving.{Serves, ServedSoFar, ServedInPart, AnsweredSoFar, GaveAtLeast};
 ghost use Rattle.ref_lines.specs.inner.Held.{held, Gave, IsUnfinished};
 ghost use Rattle.ref_lines.specs.inner.Answering.{answer_text, GotAnswer};
 
@@ -67,6 +67,8 @@ fn next_answer<R: Source, S: Service>(
 fn write<W: Sink>(writer: &mut W, answer: &Result<Vec<u8>, AllocError>) -> Result<(), RunError>
     ensures taken { OnOk result
         (Appends (W.taken writer.old) (W.taken writer.new) (answer_text answer.now)) }
+    ensures front { OnErr result
+        (AppendsFront (W.taken writer.old) (W.taken writer.new) (answer_text answer.now)) }
     ensures kept { OnOk result (W.failures writer.new ≡ W.failures writer.old) }
     ensures error { IfErr result
         (λ e. (e ≡ RunError.Write) × HasFailed (W.failures writer.old) (W.failures writer.new)) }
@@ -85,7 +87,7 @@ fn write<W: Sink>(writer: &mut W, answer: &Result<Vec<u8>, AllocError>) -> Resul
 ///
 /// `Read` exactly where a read failed: then the service answered each line of what was read that has its end, and no other, and
 /// all those answers were written. `Write` exactly where a write failed: then it answered the first lines of what was read, and
-/// of what was written nothing is said. `Memory` where a count of 64 bits runs out, of lines or of the reads for one, which takes
+/// all those answers were written but for an end of the last. `Memory` where a count of 64 bits runs out, of lines or of the reads for one, which takes
 /// a source that gave 2^64 - 2 bytes or more: then it answered the first lines of these, and all those answers were written.
 /// Where memory is refused for a line, the answer says so, and the next line is answered. All this is said of a source and a
 /// sink that tell their bytes; standard input and output tell none. Linear in the bytes, but for the answers.
@@ -114,6 +116,12 @@ pub fn serve<R: Source, W: Sink, S: Service>(
         → Serves whole_lines S.may_answer service.old service.new (R.remaining reader.old)
         (R.remaining reader.new) (W.taken writer.old)
         (W.taken writer.new) }
+    // Where a write failed, what was written are the answers to the first lines of what was read, and a beginning of the
+    // answer to the next.
+    ensures in_part { result ≡ Err RunError.Write
+        → ServedInPart S.may_answer service.old service.new (R.remaining reader.old)
+        (R.remaining reader.new)
+        (W.taken writer.old) (W.taken writer.new) }
     ensures memory { result ≡ Err RunError.Memory
         → GaveAtLeast (2 ^ 64 - 2) (R.remaining reader.old) (R.remaining reader.new) }
     // Without a failed write, what was written are the answers to the first lines of what was read.

@@ -59,15 +59,15 @@ none_or : {A : Type 0} (P : A → Type 0) (b : Bool) (o : Option A) → IfSome o
 none_or P true o h = tt
 none_or P false o h = h
 
-document_without_floats : (d : Data) → HoldsNoFloat d → IfSome (document_of d) (λ e. HoldsNoFloat e.tree)
+document_without_floats : (d : Data) → HoldsNoFloat d → IfSome (document_of d) (λ e. HoldsNoFloat e.1)
 document_without_floats d h =
-    none_or (λ e. HoldsNoFloat e.tree) (is_some (at 2 d)) _
-    (some_any (λ e. HoldsNoFloat e.tree) (at 0 d) _ (λ u. some_any (λ e. HoldsNoFloat e.tree) (as_str u) _ (λ s. some_mapped HoldsNoFloat (λ e. HoldsNoFloat e.tree) (at 1 d) (λ t. record { uri = s; tree = t }) (at_without_floats 1 d h) (λ t p. p))))
+    none_or (λ e. HoldsNoFloat e.1) (is_some (at 2 d)) _
+    (some_any (λ e. HoldsNoFloat e.1) (at 0 d) _ (λ u. some_any (λ e. HoldsNoFloat e.1) (as_str u) _ (λ s. some_mapped HoldsNoFloat (λ e. HoldsNoFloat e.1) (at 1 d) (λ t. (s, t)) (at_without_floats 1 d h) (λ t p. p))))
 
 retrievable_without_floats : (d : Data) → HoldsNoFloat d → IfSome (retrievable_of d) (λ e. HoldsNoFloat e.1)
 retrievable_without_floats d h =
-    some_bound (λ e. HoldsNoFloat e.tree) (λ e. HoldsNoFloat e.1) (document_of d) _ (document_without_floats d h)
-    (λ e p. some_mapped (λ _. HoldsNoFloat e.tree) (λ x. HoldsNoFloat x.1) (result_ok (uri_of e.uri)) (λ uri. (uri, e.tree)) (if_so (result_ok (uri_of e.uri)) p) (λ uri q. q))
+    some_bound (λ e. HoldsNoFloat e.1) (λ e. HoldsNoFloat e.1) (document_of d) _ (document_without_floats d h)
+    (λ e p. some_mapped (λ _. HoldsNoFloat e.1) (λ x. HoldsNoFloat x.1) (result_ok (uri_of e.0)) (λ uri. (uri, e.1)) (if_so (result_ok (uri_of e.0)) p) (λ uri q. q))
   where
     if_so : {A P : Type 0} (o : Option A) → P → IfSome o (λ _. P)
     if_so None p = tt
@@ -90,9 +90,9 @@ module _ {B : Type 0} (f : Data → Option B) (P : B → Type 0) (each : (d : Da
 
 documents_without_floats : (d : Data) → HoldsNoFloat d → IfSome (documents_of d) HoldNoFloats
 unfolding documents_of
-documents_without_floats d h = list_without_floats document_of (λ e. HoldsNoFloat e.tree) document_without_floats d h
+documents_without_floats d h = list_without_floats document_of (λ e. HoldsNoFloat e.1) document_without_floats d h
 
-remote_without_floats : (d : Data) → HoldsNoFloat d → IfSome (remote_of d) (AllByRecursion (λ e. HoldsNoFloat e.1))
+remote_without_floats : (d : Data) → HoldsNoFloat d → IfSome (remote_of d) HoldNoFloats
 unfolding remote_of
 remote_without_floats d h = list_without_floats retrievable_of (λ e. HoldsNoFloat e.1) retrievable_without_floats d h
 
@@ -119,10 +119,10 @@ request_without_floats d r is =
     let read = request-read d r is in
     let field = λ (k : List ℕ). under_without_floats k d read.0 in
     let documents = some_bound HoldsNoFloat HoldNoFloats (get (codes "documents") d) documents_of (field (codes "documents")) documents_without_floats in
-    let remote = read_optional (AllByRecursion (λ e. HoldsNoFloat e.1)) bad.Remote remote_of (get (codes "remote") d) r.remote (weaker _ remote_without_floats (field (codes "remote"))) read.1.remote in
+    let remote = read_optional HoldNoFloats bad.Remote remote_of (get (codes "remote") d) r.remote (weaker _ remote_without_floats (field (codes "remote"))) read.1.remote in
     let meta = read_optional HoldNoFloats bad.Meta documents_of (get (codes "meta") d) r.meta (weaker _ documents_without_floats (field (codes "meta"))) read.1.meta in
     record {
       documents = read_from HoldNoFloats bad.Documents _ r.documents documents read.1.documents;
-      remote = unwrapped (AllByRecursion (λ e. HoldsNoFloat e.1)) r.remote [] remote tt;
+      remote = unwrapped HoldNoFloats r.remote [] remote tt;
       meta = unwrapped HoldNoFloats r.meta [] meta tt;
     }

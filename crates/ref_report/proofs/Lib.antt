@@ -1,5 +1,4 @@
 mod Options
-mod Texts
 mod Trees
 mod Scopes
 mod Requests
@@ -8,6 +7,6 @@ mod WorldsWithoutFloats
 mod StepsWithoutFloats
 mod OneWorld
 mod SomeWorld
-mod Building
+mod Asked
 mod Reports
 mod Lines

@@ -3,23 +3,20 @@ use Rattle.std.proofs.Common.{◌≡◌, ℕ, List, [], Option, Some, None, unwr
 use Rattle.std.specs.declared.alloc.AllocError.{AllocError}
 use Rattle.ref_uri.specs.Targets.{Refusal}
 use Rattle.ref_definitions.specs.World.{World}
-use Rattle.ref_definitions.specs.Fault.{Fault, InvalidUri, as_invalid_uri}
+use Rattle.ref_definitions.specs.Fault.{Fault}
 use Rattle.ref_definitions.specs.Preparing.{Given}
 use Rattle.ref_definitions.specs.Pending.{Pending}
 use Rattle.ref_definitions.specs.Follow.{Followed}
 use Rattle.ref_error.specs.declared.error.Error.{Error}
 use Rattle.ref_error.specs.declared.error.Error.TheVariants as error
-use Rattle.ref_error.specs.Errors.{SaysFault, IsFaultOf, UnlessMemory}
-use Rattle.ref_index.specs.Retrieval.{IsFaultyOutcome}
-use Rattle.ref_index.proofs.Retrieving.{unless_memory}
-use Rattle.referencing.specs.Prepared.{IsPreparedOf}
+use Rattle.ref_error.specs.Errors.{SaysFault, UnlessMemory}
 use Rattle.referencing.specs.Following.{SaysStepFault}
 use Rattle.ref_report.specs.declared.request.BadRequest.{BadRequest}
 use Rattle.ref_report.specs.Request.{Document, Request}
 use Rattle.referencing.specs.MetaSchemas.{given_of_meta_schemas}
-use Rattle.ref_report.specs.Worlds.{pending_of, above_parents, IsWorld, AreParents, given_of_request}
+use Rattle.ref_worlds.specs.Worlds.{pending_of, above_parents, IsWorld}
+use Rattle.ref_report.specs.Worlds.{AreParents, given_of_request}
 use Rattle.ref_report.specs.Report.{Report, IsReportAbove, IsReadReport, world_report}
-use Rattle.ref_report.specs.inner.Faults.{IsErrorOf}
 use Rattle.ref_definitions.proofs.Outcomes.{IsDetermined, map_is_determined, default_is_determined, one_outcome}
 
 -- ---- there is one
@@ -44,19 +41,6 @@ one_report (Ok r) a b (one, first, is) (other, second, is') =
 one_report (Err bad) a b is is' = is ∙ sym is'
 
 -- ---- what errors say
-
-pub unless_fault : {A : Type 0} (r : Result A Fault) (e : Error) → IsFaultOf r e → UnlessMemory ((fault : Fault) × (r ≡ Err fault) × SaysFault e fault) e
-unless_fault r (error.Unretrievable uri source) is = is
-unless_fault r (error.PointerToNowhere pointer) is = is
-unless_fault r (error.InvalidPercentEncoding pointer) is = is
-unless_fault r (error.InvalidArrayIndex pointer index) is = is
-unless_fault r (error.NoSuchAnchor anchor) is = is
-unless_fault r (error.InvalidAnchor anchor) is = is
-unless_fault r (error.InvalidUri uri) is = is
-unless_fault r (error.UnknownSpecification specification) is = is
-unless_fault r (error.CircularMetaschema uri) is = is
-unless_fault r (error.RetrievalLimit uri limit) is = is
-unless_fault r (error.Memory memory) is = tt
 
 pub unless_step : (r : Result Followed (ℕ × Fault)) (n : ℕ) (e : Error) → SaysStepFault r n e → UnlessMemory ((fault : Fault) × (r ≡ Err (n, fault)) × SaysFault e fault) e
 unless_step r n (error.Unretrievable uri source) is = is
@@ -83,20 +67,3 @@ given_no_memory (error.UnknownSpecification specification) other is = is
 given_no_memory (error.CircularMetaschema uri) other is = is
 given_no_memory (error.RetrievalLimit uri limit) other is = is
 given_no_memory (error.Memory memory) other is = absurd (other memory refl)
-
--- ---- what is prepared
-
-pub world_prepared : (given : List Pending → Given) (pending : Result (List Pending) Refusal) (ps : List Pending) (world : World) → pending ≡ Ok ps → IsPreparedOf (given ps) world → IsWorld given pending (Ok world)
-world_prepared given pending ps world is (layer, outcome, ready, same) = subst (λ p. IsWorld given p (Ok world)) (sym is) (Ok layer, outcome, ap Ok same)
-
-pub world_refused : (given : List Pending → Given) (pending : Result (List Pending) Refusal) (ps : List Pending) (e : Error) → pending ≡ Ok ps → IsFaultyOutcome (given ps) e → IsErrorOf (IsWorld given pending) e
-world_refused given pending ps e is faulty =
-    unless_memory e (λ said. (said.0, subst (λ p. IsWorld given p (Err said.0)) (sym is) (Err said.0, said.1, refl), said.2)) faulty
-
-refusal_world : (given : List Pending → Given) (pending : Result (List Pending) Refusal) (fault : Fault) → as_invalid_uri pending ≡ Err fault → IsWorld given pending (Err fault)
-refusal_world given (Ok ps) fault is = absurd (cc)
-refusal_world given (Err refusal) fault is = let same : InvalidUri refusal ≡ fault = cc in ap Err (sym same)
-
-pub text_refused : (given : List Pending → Given) (pending : Result (List Pending) Refusal) (e : Error) → IsFaultOf (as_invalid_uri pending) e → IsErrorOf (IsWorld given pending) e
-text_refused given pending e is =
-    unless_memory e (λ said. (said.0, refusal_world given pending said.0 said.1, said.2)) (unless_fault (as_invalid_uri pending) e is)

@@ -1,5 +1,5 @@
 -- What holds of an answer, where there is one.
-use Rattle.std.proofs.Common.{Bool, true, false, cond, List, [], ◌∷◌, flat_map, Option, Some, None, IfSome, option_map, option_and_then, unwrap_or, Result, Ok, Err, IfOk, IfErr, ok_or}
+use Rattle.std.proofs.Common.{Bool, true, false, cond, List, [], ◌∷◌, flat_map, Option, Some, None, IfSome, option_map, option_and_then, unwrap_or, Result, Ok, Err, IfOk, ok_or}
 use Rattle.std.specs.List.{AllByRecursion, last_or}
 use Rattle.std.specs.Option.{option_or}
 use Rattle.ref_definitions.specs.Results.{◌>>=◌}
@@ -54,11 +54,3 @@ last_of_all P o (x ∷ xs) h each = last_of_all P (Some x) xs each.0 each.1
 pub all_joined : {A B : Type 0} (P : A → Type 0) (Q : B → Type 0) (f : A → List B) (xs : List A) → ((x : A) → P x → AllByRecursion Q (f x)) → AllByRecursion P xs → AllByRecursion Q (flat_map f xs)
 all_joined P Q f [] next each = tt
 all_joined P Q f (x ∷ xs) next each = all_append Q (f x) (flat_map f xs) (next x each.0) (all_joined P Q f xs next each.1)
-
-pub if_so : {A E : Type 0} (P Q : A → Type 0) (r : Result A E) → ((x : A) → P x → Q x) → IfOk r P → IfOk r Q
-if_so P Q (Ok x) next p = next x p
-if_so P Q (Err e) next p = tt
-
-pub if_refused : {A E : Type 0} (P Q : E → Type 0) (r : Result A E) → ((e : E) → P e → Q e) → IfErr r P → IfErr r Q
-if_refused P Q (Ok x) next p = tt
-if_refused P Q (Err e) next p = next e p

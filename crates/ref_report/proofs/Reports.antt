@@ -16,21 +16,23 @@ use Rattle.ref_report.specs.declared.status.Status.{Status}
 use Rattle.ref_report.specs.declared.request.BadRequest.TheVariants as bad
 use Rattle.ref_streams.specs.declared.error.RunError.{RunError}
 use Rattle.ref_report.specs.Report.{Report, line, done_report, followed_report, lint_lines, with_lines, steps_of, IsRequestReport, IsReadReport, IsReport}
-use Rattle.ref_report.specs.Request.{Request, tree_of, request_of, read_request}
+use Rattle.ref_report.specs.Request.{Request, request_of, read_request}
+use Rattle.ref_json.specs.Text.{tree_of}
 use Rattle.ref_report.specs.Worlds.{AreParents, IsWorldAbove}
 use Rattle.ref_report.specs.Run.{Reports}
-use Rattle.ref_report.specs.inner.Faults.{IsErrorOf, IsReportOn}
+use Rattle.ref_worlds.specs.Worlds.{IsErrorOf}
+use Rattle.ref_report.specs.inner.Faults.{IsReportOn}
 use Rattle.ref_report.specs.inner.Floats.{HoldsNoFloat}
 use Rattle.ref_report.specs.inner.View.{report_view}
 use Rattle.ref_report.proofs.OneWorld.{given_no_memory, unless_step}
 
-pub report_of_tree : (bytes : List ℕ) (d : Data) (r : Report) → Some d ≡ tree_of bytes → IsReadReport (request_of d) r → IsReport bytes r
+pub report_of_tree : (bytes : List ℕ) (d : Data) (r : Report) → tree_of bytes ≡ Some d → IsReadReport (request_of d) r → IsReport bytes r
 unfolding IsReport read_request
-report_of_tree bytes d r is read = subst (λ o. IsReadReport (ok_or o bad.NotJson >>= request_of) r) is read
+report_of_tree bytes d r is read = subst (λ o. IsReadReport (ok_or o bad.NotJson >>= request_of) r) (sym is) read
 
-pub report_of_none : (bytes : List ℕ) (r : Report) → None ≡ tree_of bytes → IsReadReport (Err bad.NotJson) r → IsReport bytes r
+pub report_of_none : (bytes : List ℕ) (r : Report) → tree_of bytes ≡ None → IsReadReport (Err bad.NotJson) r → IsReport bytes r
 unfolding IsReport read_request
-report_of_none bytes r is read = subst (λ o. IsReadReport (ok_or o bad.NotJson >>= request_of) r) is read
+report_of_none bytes r is read = subst (λ o. IsReadReport (ok_or o bad.NotJson >>= request_of) r) (sym is) read
 
 -- a status that was answered, with what was written for it
 pub reports_by : (bytes : List ℕ) (r : declared.Report) (left left' taken taken' : Option (List ℕ)) (ended : Type 0) (result : Result Status RunError) → ended → Consumes left left' bytes → IsReport bytes (report_view r)

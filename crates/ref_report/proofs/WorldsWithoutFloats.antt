@@ -13,7 +13,8 @@ use Rattle.ref_definitions.specs.Preparing.{Retriever, Given, IsRun, begun, retr
 use Rattle.ref_definitions.specs.Pending.{Addition, Pending, pending_of, with_pending, with_addition, with_additions, document_of, builder_draft, given_of_builder}
 use Rattle.ref_definitions.specs.Retrievers.{map_retriever, default_retriever}
 use Rattle.ref_report.specs.Request.{Document, Request}
-use Rattle.ref_report.specs.Worlds as worlds
+use Rattle.ref_worlds.specs.Worlds as worlds
+use Rattle.ref_report.specs.Worlds.{AreParents, IsWorldAbove}
 use Rattle.ref_report.specs.inner.Floats.{HoldsNoFloat, HoldNoFloats, RequestHoldsNoFloat, LayerHoldsNoFloat, WorldHoldsNoFloat}
 use Rattle.ref_report.proofs.Options.{if_bound, if_any, last_of_all}
 
@@ -45,7 +46,7 @@ all_added ps (d ∷ ds) each h =
     let a : Addition = worlds.addition_of d in
     if_bound PendingHoldNoFloats PendingHoldNoFloats (with_addition ps a) (λ next. with_additions next (map worlds.addition_of ds))
     (if_bound (λ p. HoldsNoFloat p.tree) PendingHoldNoFloats (pending_of a) (λ p. Ok (with_pending ps p))
-    (if_any (λ p. HoldsNoFloat p.tree) (uri_of (trimmed_text d.uri)) (λ uri. Ok (record { uri = uri; tree = d.tree; draft = None })) (λ uri. h.0))
+    (if_any (λ p. HoldsNoFloat p.tree) (uri_of (trimmed_text d.0)) (λ uri. Ok (record { uri = uri; tree = d.1; draft = None })) (λ uri. h.0))
     (λ p plain. one_more ps p each plain))
     (λ next plain. all_added next ds plain h.1)
 
@@ -93,10 +94,10 @@ built : (retriever : Retriever) (limit : ℕ) (draft : Option Draft) (parents wo
 built retriever limit draft parents world ds answers above each is =
     world_by (given_of_builder retriever limit draft parents) parents world (worlds.pending_of ds) (λ ps. answers) (λ ps. refl) (λ ps h. as_documents (builder_draft draft) ps h) above (all_added [] ds tt each) is
 
-parents_without_floats : (meta : Option (List Document)) (parents : World) → HoldNoFloats (unwrap_or meta []) → worlds.AreParents meta (Ok parents) → WorldHoldsNoFloat parents
+parents_without_floats : (meta : Option (List Document)) (parents : World) → HoldNoFloats (unwrap_or meta []) → AreParents meta (Ok parents) → WorldHoldsNoFloat parents
 parents_without_floats None parents each is = let same : [] ≡ parents = cc in subst WorldHoldsNoFloat same tt
 parents_without_floats (Some ds) parents each is = built default_retriever 10000 None [] parents ds (λ uri tree never. absurd never) tt each is
 
-pub world_without_floats : (r : Request) (parents world : World) → RequestHoldsNoFloat r → worlds.AreParents r.meta (Ok parents) → worlds.IsWorldAbove r parents (Ok world) → WorldHoldsNoFloat world
+pub world_without_floats : (r : Request) (parents world : World) → RequestHoldsNoFloat r → AreParents r.meta (Ok parents) → IsWorldAbove r parents (Ok world) → WorldHoldsNoFloat world
 world_without_floats r parents world h above is =
     built (map_retriever (unwrap_or r.remote [])) (unwrap_or r.limit 10000) r.draft parents world r.documents (map_answers (unwrap_or r.remote []) h.remote) (parents_without_floats r.meta parents h.meta above) h.documents is

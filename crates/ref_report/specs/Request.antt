@@ -1,11 +1,10 @@
 -- A request: the fields of one JSON object.
 use Rattle.std.specs.Prelude.{ℕ, Bool, true, ◌&&◌, ◌||◌, List, [], ◌∷◌, codes, Option, Some, None, option_map, option_and_then, Result, Ok, Err, ok_or, is_some, bytes_eq, if◌then◌else◌}
 use Rattle.std.specs.Result.{result_ok}
-use Rattle.std.specs.Str.{is_utf8}
 use Rattle.serde_json.specs.Data.{Data, null, boolean, number, string, array, object, Items, no_items, item, Members, no_members, member}
 use Rattle.serde_json.specs.Find.{get, at, as_bool, as_str, as_array, as_object, as_number, as_u64}
-use Rattle.serde_json.specs.Read.{read}
 use Rattle.serde_json.specs.Written.{has_float}
+use Rattle.ref_json.specs.Text.{tree_of}
 use Rattle.ref_uri.specs.Targets.{uri_of}
 use Rattle.ref_draft.specs.declared.draft.Draft.{Draft}
 use Rattle.ref_draft.specs.Names.{draft_named}
@@ -13,10 +12,9 @@ use Rattle.ref_report.specs.declared.request.BadRequest.{BadRequest}
 use Rattle.ref_report.specs.declared.request.BadRequest.TheVariants as bad
 use Rattle.ref_definitions.specs.Results.{◌>>=◌}
 
--- a document, and the text of the URI under which it is added
-pub record Document : Type 0 where
-  pub uri : List ℕ
-  pub tree : Data
+-- a document: the text of the URI under which it is added, and its tree
+abbrev pub Document : Type 0
+Document = List ℕ × Data
 
 -- a step: a text is looked up, null is a recursive lookup, an object is entered
 pub data Step : Type 0 where
@@ -53,8 +51,7 @@ abbrev pub document_of : Data → Option Document
 document_of d =
     if is_some (at 2 d) then None
     else option_and_then
-    (λ u. option_and_then (λ s. option_map (λ t. record { uri = s; tree = t }) (at 1 d))
-    (as_str u))
+    (λ u. option_and_then (λ text. option_map (λ tree. (text, tree)) (at 1 d)) (as_str u))
     (at 0 d)
 
 -- a list of `[text, schema]`
@@ -64,7 +61,7 @@ documents_of d = list_of document_of d
 -- a tree under the URI that its text means
 abbrev pub retrievable_of : Data → Option (List ℕ × Data)
 retrievable_of d =
-    option_and_then (λ e. option_map (λ uri. (uri, e.tree)) (result_ok (uri_of e.uri)))
+    option_and_then (λ e. option_map (λ uri. (uri, e.1)) (result_ok (uri_of e.0)))
     (document_of d)
 
 -- a list of such
@@ -125,10 +122,6 @@ are_fields no_members = true
 are_fields (member k d ms) = is_field k && are_fields ms
 
 -- ---- the whole
-
--- the tree that serde_json reads; bytes that are no UTF-8 are no JSON (RFC 8259, section 8.1)
-abbrev pub tree_of : List ℕ → Option Data
-tree_of bytes = if is_utf8 bytes then read bytes else None
 
 -- the fields of an object, or the first that is bad
 unfoldable pub fields_of : Data → Result Request BadRequest

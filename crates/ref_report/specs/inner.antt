@@ -1,7 +1,5 @@
 -- What stands here need not be believed: no clause of a call reaches it. These definitions say what private functions answer.
-pub mod Outcome
 pub mod View
-pub mod Builders
 pub mod Faults
 pub mod Floats
 pub mod Lines

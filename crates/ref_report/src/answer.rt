@@ -12,8 +12,8 @@ ghost use Rattle.ref_report.specs.inner.View.{request_view, step_view, report_vi
 use crate::lint::push_dangling;
 use crate::report::{Report, bad_report, done_report, fault_report, step_report};
 use crate::request::{BadRequest, Request, Step, request_of};
-use crate::stop::Stop;
 use crate::worlds::{parent_of, world_of};
+use ref_json::{Stop, tree_of};
 use referencing::{Draft, Registry, Uri, follow};
 use serde_json::Value;
 use std::alloc::{AllocError, Global};
@@ -23,25 +23,10 @@ use std::alloc::{AllocError, Global};
 pub fn answer(alloc: Global, bytes: &[u8]) -> Result<Report, AllocError>
     ensures report { IfOk result (λ r. IsReport bytes.now (report_view r)) }
 {
-    match tree_of(alloc, bytes)? {
-        Some(tree) => answer_tree(alloc, &tree),
-        None => bad_report(alloc, BadRequest::NotJson),
-    }
-}
-
-// The tree that the bytes are, unless they are no JSON.
-fn tree_of(alloc: Global, bytes: &[u8]) -> Result<Option<Value>, AllocError>
-    ensures { IfOk result (λ o. option_map view o ≡ spec.tree_of bytes.now) }
-{
-    match Value::from_slice(alloc, bytes) {
-        Ok(tree) => Ok(Some(tree)),
-        Err(e) => {
-            if e.is_memory() {
-                Err(AllocError)
-            } else {
-                Ok(None)
-            }
-        }
+    match tree_of(alloc, bytes) {
+        Ok(tree) => answer_tree(alloc, &tree),
+        Err(Stop::Memory) => Err(AllocError),
+        Err(Stop::Because(_)) => bad_report(alloc, BadRequest::NotJson),
     }
 }
 
@@ -70,7 +55,7 @@ fn answer_request(alloc: Global, request: Request<'_>) -> Result<Report, AllocEr
         limit,
         lint,
     } = request;
-    let parent = match parent_of(alloc, &meta) {
+    let parent = match parent_of(alloc, meta) {
         Ok(parent) => parent,
         Err(error) => return fault_report(alloc, "meta", error),
     };

@@ -13,7 +13,6 @@ mod request;
 pub mod run;
 mod scan;
 pub mod status;
-mod stop;
 mod worlds;
 
 pub use ref_streams::{Failed, Input, MemorySink, MemorySource, Output, RunError, Sink, Source};

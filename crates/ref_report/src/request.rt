@@ -3,12 +3,12 @@ ghost use Rattle.std.specs.Prelude.{◌≡◌, IfOk, option_map, map};
 ghost use Rattle.serde_json.specs.View.{view, members_view};
 ghost use Rattle.ref_error.specs.Retrieving.{trees_of};
 ghost use Rattle.ref_report.specs.Request as spec;
-ghost use Rattle.ref_report.specs.inner.Outcome.{Answers};
+ghost use Rattle.ref_json.specs.Outcome.{Answers};
 ghost use Rattle.ref_report.specs.inner.View.{document_view, documents_view, step_view, request_view};
 ghost use Rattle.ref_report.specs.declared.request.BadRequest.TheVariants as bad;
 
 use crate::scan::has_float;
-use crate::stop::Stop;
+use ref_json::Stop;
 use referencing::uri::from_str;
 use referencing::{Draft, Uri, UriFault};
 use serde_json::{Map, Value};

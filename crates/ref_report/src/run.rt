@@ -1,8 +1,8 @@
 //! One request from a source to a report in a sink.
-ghost use Rattle.std.specs.Prelude.{◌≡◌, Ok, Err, IfOk, OnOk, IfErr, ◌≢◌, IsTrue, string_bytes};
+ghost use Rattle.std.specs.Prelude.{◌≡◌, Ok, Err, IfOk, OnOk, OnErr, IfErr, ◌≢◌, IsTrue, string_bytes};
 ghost use Rattle.std.specs.Io.KnownBytes.{Appends, IsAtEnd};
-ghost use Rattle.ref_streams.specs.Bytes.{HasFailed};
-ghost use Rattle.ref_report.specs.Run.{Reports};
+ghost use Rattle.ref_streams.specs.Bytes.{HasFailed, AppendsFront};
+ghost use Rattle.ref_report.specs.Run.{Reports, ReportsInPart};
 
 use crate::answer::answer;
 use crate::report::Report;
@@ -14,8 +14,8 @@ use std::alloc::Global;
 
 /// Reads one request to the end, makes its whole report, and writes it. The status is that of the report.
 ///
-/// `Read` exactly where a read failed, `Write` only where a write did, `Memory` where a growth is refused. Where it returns neither a status nor `Write`, nothing was written; of what a failed
-/// write left nothing is said.
+/// `Read` exactly where a read failed, `Write` only where a write did, `Memory` where a growth is refused. Where it returns neither a status nor `Write`, nothing was written; a failed write
+/// left a beginning of the report.
 ///
 /// Takes memory for the bytes, the tree, the request, what is prepared and followed, and the report; documents are lent, and
 /// what can be retrieved is copied. Reading ends over every source: each read before the end lengthens a vector. Costs what
@@ -39,6 +39,10 @@ pub fn run<R: Source, W: Sink>(
         → R.failures reader.new ≡ R.failures reader.old }
     ensures write { result ≡ Err RunError.Write
         → HasFailed (W.failures writer.old) (W.failures writer.new) }
+    // A failed write left a beginning of the report on all that was read.
+    ensures in_part { result ≡ Err RunError.Write
+        → ReportsInPart (R.remaining reader.old) (R.remaining reader.new) (W.taken writer.old)
+        (W.taken writer.new) }
     // Without a status and without a failed write nothing was written.
     ensures nothing_written { IfErr result (λ e. e ≢ RunError.Write → writer.new ≡ writer.old) }
 {
@@ -50,6 +54,8 @@ pub fn run<R: Source, W: Sink>(
 fn write_report<W: Sink>(writer: &mut W, report: &Report) -> Result<Status, RunError>
     ensures status { IfOk result (λ status. status ≡ report.now.status) }
     ensures taken { OnOk result (Appends (W.taken writer.old) (W.taken writer.new)
+        (string_bytes report.now.text)) }
+    ensures front { OnErr result (AppendsFront (W.taken writer.old) (W.taken writer.new)
         (string_bytes report.now.text)) }
     ensures error { IfErr result (λ e. (e ≡ RunError.Write)
         × HasFailed (W.failures writer.old) (W.failures writer.new)) }

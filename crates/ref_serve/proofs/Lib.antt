@@ -6,4 +6,3 @@ pub mod KnownVocabularies
 pub mod Replying
 pub mod Steps
 pub mod OpeningReads
-pub mod OpeningWorlds

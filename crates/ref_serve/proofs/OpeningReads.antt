@@ -1,26 +1,28 @@
 -- What `open` reads and answers.
-use Rattle.std.proofs.Common.{◌≡◌, ℕ, List, [], ◌∷◌, ◌++◌, codes, length, Option, Some, None, option_map, option_and_then, ok_or, Result, Ok, Err, refl, sym, ap, subst, ◌∙◌}
+use Rattle.std.proofs.Common.{◌≡◌, ℕ, List, [], ◌∷◌, ◌++◌, codes, length, Option, Some, None, option_map, option_and_then, ok_or, unwrap_or, Result, Ok, Err, refl, sym, ap, subst, ◌∙◌}
 use Rattle.serde_json.specs.Data.{Data}
 use Rattle.serde_json.specs.View.{view}
 use Rattle.serde_json.specs.declared.value.Value.{Value}
+use Rattle.ref_uri.specs.Targets.{Refusal}
 use Rattle.ref_definitions.specs.World.{World}
 use Rattle.ref_definitions.specs.Results.{◌>>=◌}
 use Rattle.ref_definitions.specs.Fault.{Fault}
-use Rattle.ref_definitions.specs.Pending.{given_of_builder}
-use Rattle.ref_definitions.specs.Retrievers.{map_retriever}
+use Rattle.ref_definitions.specs.Pending.{Pending}
 use Rattle.ref_error.specs.declared.error.Error.{Error}
 use Rattle.ref_error.specs.declared.error.Error.TheVariants as error
 use Rattle.ref_calls.specs.declared.fault.Wrong.TheVariants.{UnknownRegistry}
-use Rattle.ref_calls.specs.declared.stop.Stop.{Stop}
-use Rattle.ref_calls.specs.declared.stop.Stop.TheVariants.{Memory, Because}
+use Rattle.ref_json.specs.declared.stop.Stop.{Stop}
+use Rattle.ref_json.specs.declared.stop.Stop.TheVariants.{Memory, Because}
 use Rattle.ref_calls.specs.Calls.{number_in}
 use Rattle.ref_calls.specs.Errors.{field_error, fault_error, with_field, IsStopOf}
 use Rattle.ref_calls.specs.Outcome.{IsStop, IsChanged, Stops}
 use Rattle.ref_serve.specs.declared.opening.Opened.{Opened}
 use Rattle.ref_serve.specs.State.{OpenRegistry, Registries, open_at, numbered_registry, registry_in}
-use Rattle.ref_serve.specs.Opening.{Opening, Parent, AboveLayers, AboveMetaSchemas, above_registry, layers_in, opening_of, pending_of, below_meta, IsWorld, IsOpeningWorld, IsMetaWorld, IsOpenedBy, IsOpenedAs}
+use Rattle.ref_serve.specs.Opening.{Opening, Parent, AboveLayers, AboveMetaSchemas, above_registry, layers_in, opening_of, given_of_opening, below_meta, IsOpeningWorld, IsMetaWorld, IsOpenedBy, IsOpenedAs}
+use Rattle.referencing.specs.MetaSchemas.{given_of_meta_schemas}
+use Rattle.ref_worlds.specs.Worlds.{pending_of, IsWorld, IsErrorOf}
 use Rattle.ref_serve.specs.Answering.{IsOpened}
-use Rattle.ref_serve.specs.inner.Openings.{IsErrorOf, IsWorldOr, IsMetaWorldOr, GivesOpened}
+use Rattle.ref_serve.specs.inner.Openings.{layers_at, IsWorldOr, IsMetaWorldOr, GivesOpened}
 
 -- ---- parents
 
@@ -37,17 +39,12 @@ number_found state field (Err e) r is = absurd (cc)
 pub in_found : (state : Registries) (field : List ℕ) (value : Data) (r : ℕ × OpenRegistry) → registry_in state field value ≡ Ok r → open_at state r.0 ≡ Some r.1
 in_found state field value r is = number_found state field (number_in field value) r is
 
-pub layers_found : (state : Registries) (value : Data) (number : ℕ) (o : OpenRegistry) (world : World) (numbers : List ℕ) → registry_in state (codes "parent") value ≡ Ok (number, o) → world ≡ o.0 → numbers ≡ number ∷ o.1 → layers_in state value ≡ Ok (world, numbers)
-layers_found state value number o world numbers found same list =
-    ap (λ x. x >>= λ r. Ok (above_registry r)) found ∙ ap (λ w. Ok (w, number ∷ o.1)) (sym same) ∙ ap (λ ns. Ok (world, ns)) (sym list)
-
-pub lent_some : {A : Type 0} (lent : Option A) (f : A → World) (x : A) (o : Option OpenRegistry) (below : OpenRegistry) → option_map f lent ≡ option_map (λ r. r.0) o → lent ≡ Some x → o ≡ Some below → f x ≡ below.0
-lent_some lent f x o below same is there =
-    let both : Some (f x) ≡ Some below.0 = sym (ap (option_map f) is) ∙ same ∙ ap (option_map (λ r. r.0)) there in cc
-
-pub lent_none : {A : Type 0} (lent : Option A) (f : A → World) (o : Option OpenRegistry) (below : OpenRegistry) → option_map f lent ≡ option_map (λ r. r.0) o → lent ≡ None → o ≡ Some below → ⊥
-lent_none lent f o below same is there =
-    let both : None ≡ Some below.0 = sym (ap (option_map f) is) ∙ same ∙ ap (option_map (λ r. r.0)) there in absurd (cc)
+pub layers_found : (state : Registries) (value : Data) (number : ℕ) (o : OpenRegistry) (numbers : List ℕ) → registry_in state (codes "parent") value ≡ Ok (number, o) → numbers ≡ number ∷ o.1 → layers_in state value ≡ Ok (layers_at state numbers)
+layers_found state value number o numbers found list =
+    let there : open_at state number ≡ Some o = in_found state (codes "parent") value (number, o) found in
+    ap (λ x. x >>= λ r. Ok (above_registry r)) found
+    ∙ ap (λ x. Ok (unwrap_or (option_map (λ r. r.0) x) [], number ∷ o.1)) (sym there)
+    ∙ ap (λ ns. Ok (layers_at state ns)) (sym list)
 
 -- ---- errors
 
@@ -72,13 +69,11 @@ with_fault : (o : Opening) (layers : OpenRegistry) (stop : Stop Value) (fault : 
 with_fault o layers Memory fault is says = tt
 with_fault o layers (Because value) fault is says = (fault, is, says)
 
-pub world_stopped : (o : Opening) (layers : OpenRegistry) (e : Error) (stop : Stop Value) → IsErrorOf (IsOpeningWorld o layers.0) e → IsStopOf e stop → IsWorldOr o layers (Err stop)
-world_stopped o layers e stop is says = of_error (IsOpeningWorld o layers.0) (λ s. IsWorldOr o layers (Err s)) (λ s fault. with_fault o layers s fault) tt e stop is says
-
-pub world_stopped_above : (o : Opening) (layers : OpenRegistry) (parents : World) (e : Error) (stop : Stop Value) → parents ≡ layers.0
-    → IsErrorOf (IsWorld (given_of_builder (map_retriever o.remote) o.limit (Some o.draft) parents) (pending_of o.documents)) e → IsStopOf e stop → IsWorldOr o layers (Err stop)
-world_stopped_above o layers parents e stop same is says =
-    world_stopped o layers e stop (subst (λ w. IsErrorOf (IsWorld (given_of_builder (map_retriever o.remote) o.limit (Some o.draft) w) (pending_of o.documents)) e) same is) says
+pub world_stopped : (o : Opening) (layers : OpenRegistry) (added : Result (List Pending) Refusal) (e : Error) (stop : Stop Value) → added ≡ pending_of o.documents
+    → IsErrorOf (IsWorld (given_of_opening o layers.0) added) e → IsStopOf e stop → IsWorldOr o layers (Err stop)
+world_stopped o layers added e stop same is says =
+    of_error (IsOpeningWorld o layers.0) (λ s. IsWorldOr o layers (Err s)) (λ s fault. with_fault o layers s fault) tt e stop
+    (subst (λ p. IsErrorOf (IsWorld (given_of_opening o layers.0) p) e) same is) says
 
 with_meta_fault : (documents : List (List ℕ × Data)) (stop : Stop Value) (fault : Fault) → IsMetaWorld documents (Err fault) → IsStop stop (with_field (codes "parent") (fault_error fault)) → IsMetaWorldOr documents (Err stop)
 with_meta_fault documents Memory fault is says = tt
@@ -88,9 +83,11 @@ changed_fault : (documents : List (List ℕ × Data)) (stop result : Stop Value)
 changed_fault documents Memory result fault is says change = subst (λ s. IsMetaWorldOr documents (Err s)) (sym change) tt
 changed_fault documents (Because value) result fault is says change = with_meta_fault documents result fault is (subst (λ v. IsStop result (with_field (codes "parent") v)) says change)
 
-pub meta_stopped : (documents : List (List ℕ × Data)) (e : Error) (stop result : Stop Value) → IsErrorOf (IsMetaWorld documents) e → IsStopOf e stop → IsChanged (with_field (codes "parent")) stop result → IsMetaWorldOr documents (Err result)
-meta_stopped documents e stop result is says change =
-    of_error (IsMetaWorld documents) (λ s. IsChanged (with_field (codes "parent")) s result → IsMetaWorldOr documents (Err result)) (λ s fault. changed_fault documents s result fault) (λ same. subst (λ s. IsMetaWorldOr documents (Err s)) (sym same) tt) e stop is says change
+pub meta_stopped : (documents : List (List ℕ × Data)) (added : Result (List Pending) Refusal) (e : Error) (stop result : Stop Value) → added ≡ pending_of documents
+    → IsErrorOf (IsWorld given_of_meta_schemas added) e → IsStopOf e stop → IsChanged (with_field (codes "parent")) stop result → IsMetaWorldOr documents (Err result)
+meta_stopped documents added e stop result same is says change =
+    of_error (IsMetaWorld documents) (λ s. IsChanged (with_field (codes "parent")) s result → IsMetaWorldOr documents (Err result)) (λ s fault. changed_fault documents s result fault) (λ none. subst (λ s. IsMetaWorldOr documents (Err s)) (sym none) tt) e stop
+    (subst (λ p. IsErrorOf (IsWorld given_of_meta_schemas p) e) same is) says change
 
 -- ---- answers
 

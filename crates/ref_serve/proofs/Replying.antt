@@ -1,16 +1,17 @@
 -- Replies to calls that change no registry.
-use Rattle.std.proofs.Common.{◌≡◌, ℕ, List, Option, Some, Result, Ok, Err, IfOk, codes, refl, sym, subst}
+use Rattle.std.proofs.Common.{◌≡◌, ℕ, List, Option, Some, Result, Ok, Err, codes, refl, sym, subst}
 use Rattle.serde_json.specs.Data.{Data}
 use Rattle.serde_json.specs.Find.{get}
 use Rattle.serde_json.specs.View.{view}
 use Rattle.serde_json.specs.declared.value.Value.{Value}
 use Rattle.ref_calls.specs.declared.call.Call.{Call}
 use Rattle.ref_calls.specs.declared.call.Call.TheVariants.{Open, Lookup, Recursive, Enter, Follow, Places, Dangling, Vocabularies, Bundle, Close}
-use Rattle.ref_calls.specs.declared.stop.Stop.{Stop}
-use Rattle.ref_calls.specs.declared.stop.Stop.TheVariants.{Memory, Because}
+use Rattle.ref_json.specs.declared.stop.Stop.{Stop}
+use Rattle.ref_json.specs.declared.stop.Stop.TheVariants.{Memory, Because}
 use Rattle.ref_serve.specs.declared.answer.Reply.{Reply}
 use Rattle.ref_serve.specs.State.{Registries}
-use Rattle.ref_calls.specs.Calls.{call_of, tree_of}
+use Rattle.ref_json.specs.Text.{tree_of}
+use Rattle.ref_calls.specs.Calls.{call_of}
 use Rattle.ref_calls.specs.Objects.{answer_of, IsLineOf}
 use Rattle.ref_serve.specs.Results.{Gives}
 use Rattle.ref_serve.specs.Answering.{IsResult, IsReply, IsReplyTo, IsAnswerTo, IsAnswer}
@@ -42,10 +43,6 @@ stopped call state d Memory given = tt
 stopped call state d (Because value) given = (given, refl)
 
 -- ---- lines
-
-pub ok_map : {X E : Type 0} (result : Result X E) (P Q : X → Type 0) → ((x : X) → P x → Q x) → IfOk result P → IfOk result Q
-ok_map (Ok x) P Q more given = more x given
-ok_map (Err e) P Q more given = tt
 
 pub answered : (state next : Registries) (line text : List ℕ) (tree : Option Data) → tree ≡ tree_of line → IsAnswerTo state line tree next text → IsAnswer state line next text
 unfolding IsAnswer

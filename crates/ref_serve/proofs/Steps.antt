@@ -18,8 +18,8 @@ use Rattle.ref_resolver.specs.Locations.{StandsAt}
 use Rattle.ref_resolver.proofs.Faults.{fault_ends}
 use Rattle.referencing.specs.declared.steps.Step.{Step}
 use Rattle.referencing.specs.Following.{step_of, SaysStepFault}
-use Rattle.ref_calls.specs.declared.stop.Stop.{Stop}
-use Rattle.ref_calls.specs.declared.stop.Stop.TheVariants.{Memory, Because}
+use Rattle.ref_json.specs.declared.stop.Stop.{Stop}
+use Rattle.ref_json.specs.declared.stop.Stop.TheVariants.{Memory, Because}
 use Rattle.ref_calls.specs.Objects.{object_of}
 use Rattle.ref_calls.specs.Calls.{each_item}
 use Rattle.ref_calls.proofs.Further.{in_front, in_front_push, first_read}

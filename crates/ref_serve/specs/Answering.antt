@@ -6,7 +6,8 @@ use Rattle.ref_calls.specs.declared.call.Call.{Call}
 use Rattle.ref_calls.specs.declared.call.Call.TheVariants.{Open, Lookup, Recursive, Enter, Follow, Places, Dangling, Vocabularies, Bundle, Close}
 use Rattle.ref_calls.specs.Objects.{object_of, answer_of, IsLineOf}
 use Rattle.ref_calls.specs.Errors.{not_json}
-use Rattle.ref_calls.specs.Calls.{tree_of, call_of}
+use Rattle.ref_json.specs.Text.{tree_of}
+use Rattle.ref_calls.specs.Calls.{call_of}
 use Rattle.ref_serve.specs.State.{OpenRegistry, Registries, registry_under, without_registry}
 use Rattle.ref_serve.specs.Opening.{opening_of, IsOpenedAs}
 use Rattle.ref_serve.specs.Results.{IsLookup, IsRecursiveCall, enter_result}

@@ -23,6 +23,11 @@ abbrev pub site_members : ℕ → List Part → List (List ℕ × Data)
 site_members document path =
     (codes "document", whole document) ∷ (codes "pointer", string (pointer_text path)) ∷ []
 
+-- what is listed of the registry that is asked
+abbrev pub registry_list : (World → Data) → Registries → Data → Result Data Data
+registry_list list state d =
+    registry_under state d (codes "registry") >>= λ registry. Ok (list registry.1.0)
+
 -- ---- places
 
 -- a base; each own place of a registry has one, so the empty text of a refused one is in no answer
@@ -43,9 +48,7 @@ places_list world = list_of (map place_object (own_places (own_layer world)))
 
 -- `places`
 unfoldable pub places_result : Registries → Data → Result Data Data
-places_result state d = do
-  registry ← registry_under state d (codes "registry")
-  Ok (places_list registry.1.0)
+places_result state d = registry_list places_list state d
 
 -- ---- dangling
 
@@ -61,9 +64,7 @@ dangling_list world = list_of (map dangling_object (dangling world))
 
 -- `dangling`
 unfoldable pub dangling_result : Registries → Data → Result Data Data
-dangling_result state d = do
-  registry ← registry_under state d (codes "registry")
-  Ok (dangling_list registry.1.0)
+dangling_result state d = registry_list dangling_list state d
 
 -- ---- vocabularies
 

@@ -2,15 +2,15 @@
 use Rattle.std.specs.Prelude.{◌≡◌, ℕ, List, [], ◌∷◌, ◌++◌, map, length, codes, Option, None, Some, is_some, unwrap_or, Result, Ok, Err, if◌then◌else◌}
 use Rattle.serde_json.specs.Data.{Data}
 use Rattle.serde_json.specs.Find.{get, as_array}
-use Rattle.ref_uri.specs.Targets.{Refusal}
 use Rattle.ref_draft.specs.declared.draft.Draft.{Draft}
-use Rattle.ref_definitions.specs.World.{Layer, World, own_layer}
+use Rattle.ref_definitions.specs.World.{World, own_layer}
 use Rattle.ref_definitions.specs.Results.{◌>>=◌}
-use Rattle.ref_definitions.specs.Fault.{Fault, InvalidUri}
-use Rattle.ref_definitions.specs.Preparing.{Given, IsOutcome}
-use Rattle.ref_definitions.specs.Pending.{Addition, Pending, with_additions, given_of_builder}
+use Rattle.ref_definitions.specs.Fault.{Fault}
+use Rattle.ref_definitions.specs.Preparing.{Given}
+use Rattle.ref_definitions.specs.Pending.{Pending, given_of_builder}
 use Rattle.ref_definitions.specs.Retrievers.{map_retriever}
 use Rattle.referencing.specs.MetaSchemas.{given_of_meta_schemas}
+use Rattle.ref_worlds.specs.Worlds.{pending_of, IsWorld}
 use Rattle.ref_calls.specs.Objects.{object_of, texts, whole}
 use Rattle.ref_calls.specs.Errors.{fault_error, with_field}
 use Rattle.ref_calls.specs.Calls.{number_in, draft_of, documents_of, documents_at, needed_documents, under_uris}
@@ -73,27 +73,6 @@ opening_of state d = do
       (parent, record { draft = draft; limit = limit; documents = documents; remote = remote })
 
 -- ---- what is prepared
-
--- a document is added as a value: its draft is detected
-abbrev pub addition_of : List ℕ × Data → Addition
-addition_of e = record { text = e.0; tree = e.1; draft = None }
-
--- the pending documents of a list, or why the text of one means no URI
-abbrev pub pending_of : List (List ℕ × Data) → Result (List Pending) Refusal
-pending_of documents = with_additions [] (map addition_of documents)
-
--- the layer of an outcome, before its parents
-abbrev pub above_parents : World → Result Layer Fault → Result World Fault
-above_parents parents (Ok layer) = Ok (layer ∷ parents)
-above_parents parents (Err fault) = Err fault
-
--- the fault of the first text that means no URI, or else an outcome of preparing
-abbrev pub IsWorld : (List Pending → Given) → Result (List Pending) Refusal → Result World Fault
-    → Type 0
-IsWorld given (Ok pending) world =
-    (outcome : Result Layer Fault) × IsOutcome (given pending) outcome
-    × (world ≡ above_parents (given pending).parents outcome)
-IsWorld given (Err refusal) world = world ≡ Err (InvalidUri refusal)
 
 -- what preparing is given: what the documents want is retrieved from the map, up to the limit
 abbrev pub given_of_opening : Opening → World → List Pending → Given

@@ -17,8 +17,8 @@ use Rattle.ref_resolver.specs.declared.location.Location.{Location}
 use Rattle.ref_resolver.specs.Locations.{StandsAt}
 use Rattle.ref_draft.specs.Names.{draft_name}
 use Rattle.ref_calls.specs.declared.fault.Wrong.TheVariants.{InvalidField}
-use Rattle.ref_calls.specs.declared.stop.Stop.{Stop}
-use Rattle.ref_calls.specs.declared.stop.Stop.TheVariants.{Memory, Because}
+use Rattle.ref_json.specs.declared.stop.Stop.{Stop}
+use Rattle.ref_json.specs.declared.stop.Stop.TheVariants.{Memory, Because}
 use Rattle.ref_calls.specs.Objects.{object_of, list_of, texts, whole}
 use Rattle.ref_calls.specs.Errors.{field_error, fault_error, as_error, at_index}
 use Rattle.ref_calls.specs.Calls.{required, text_in, each_item, is_set, base_of, scope_of, draft_of, schema_of}

@@ -10,7 +10,7 @@ ghost use Rattle.ref_serve.specs.inner.Seen.{asked_view};
 use crate::registry::registry_of;
 use crate::state::{Open, State};
 use ref_calls::field::{base_of, is_set, scope_of};
-use ref_calls::stop::Stop;
+use ref_json::Stop;
 use referencing::Resolver;
 use serde_json::Value;
 use std::alloc::Global;

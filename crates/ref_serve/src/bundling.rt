@@ -14,7 +14,7 @@ use ref_bundle::{BundleError, Obstacle, Problem, Refusal, bundle};
 use ref_calls::fault::error_members;
 use ref_calls::field::{number_in, required};
 use ref_calls::members::{object_of, put_text};
-use ref_calls::stop::Stop;
+use ref_json::Stop;
 use serde_json::Value;
 use std::alloc::{AllocError, Global};
 

@@ -16,7 +16,7 @@ use crate::registry::registry_of;
 use crate::state::State;
 use ref_calls::fault::fault_error;
 use ref_calls::field::{draft_of, schema_of};
-use ref_calls::stop::Stop;
+use ref_json::Stop;
 use referencing::{Draft, Error, Resolver};
 use serde_json::{Map, Value};
 use std::alloc::{AllocError, Global};

@@ -22,7 +22,7 @@ use crate::state::State;
 use ref_calls::fault::{Wrong, at_index, fault_members, field_error};
 use ref_calls::field::{draft_of, items_in, required};
 use ref_calls::members::put_number;
-use ref_calls::stop::Stop;
+use ref_json::Stop;
 use referencing::{Draft, Error, Resolver, Step};
 use serde_json::{Map, Value};
 use std::alloc::{AllocError, Global};

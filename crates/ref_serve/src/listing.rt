@@ -12,7 +12,7 @@ use crate::registry::registry_of;
 use crate::state::State;
 use ref_calls::fault::fault_members;
 use ref_calls::members::put_text;
-use ref_calls::stop::Stop;
+use ref_json::Stop;
 use ref_lint::{Dangling, dangling};
 use referencing::{Place, Registry};
 use serde_json::{Map, Value, put};

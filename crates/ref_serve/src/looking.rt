@@ -15,7 +15,7 @@ use crate::state::State;
 use ref_calls::fault::{Wrong, at_index, fault_error, field_error};
 use ref_calls::field::{required, text_in};
 use ref_calls::members::object_of;
-use ref_calls::stop::Stop;
+use ref_json::Stop;
 use referencing::{Error, Resolver};
 use serde_json::{Map, Value};
 use std::alloc::Global;

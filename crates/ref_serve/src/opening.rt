@@ -1,19 +1,15 @@
 //! `open`.
-ghost use Rattle.std.specs.Prelude.{◌≡◌, ◌≢◌, ◌<◌, ◌+◌, ◌^◌, ◌∷◌, ◌++◌, ℕ, List, [], codes, map, length, Some, Ok, IfOk, IfErr, OnOk, option_map, unwrap_or};
+ghost use Rattle.std.specs.Prelude.{◌≡◌, ◌≢◌, ◌<◌, ◌+◌, ◌^◌, ◌∷◌, ◌++◌, ℕ, List, [], codes, map, length, Some, IfOk, OnOk, option_map, unwrap_or};
 ghost use Rattle.serde_json.specs.Find.{get, get_member};
 ghost use Rattle.serde_json.specs.View.{view, members_view};
-ghost use Rattle.ref_definitions.specs.Fault.{as_invalid_uri};
-ghost use Rattle.ref_definitions.specs.Pending.{given_of_builder};
-ghost use Rattle.ref_definitions.specs.Retrievers.{map_retriever};
 ghost use Rattle.ref_definitions.specs.World.{own_layer};
 ghost use Rattle.ref_error.specs.Retrieving.{trees_of};
-ghost use Rattle.referencing.specs.Builder.{builder_of};
 ghost use Rattle.ref_calls.specs.Objects.{object_of, with_all, texts, whole};
 ghost use Rattle.ref_calls.specs.Outcome.{Answers};
 ghost use Rattle.ref_calls.specs.inner.Given.{given_of};
 ghost use Rattle.ref_serve.specs.Answering.{IsOpened};
 ghost use Rattle.ref_serve.specs.Opening as spec;
-ghost use Rattle.ref_serve.specs.inner.Openings.{above_view, parent_view, opening_view, asked_view, Holds, IsErrorOf, IsWorldOr, IsMetaWorldOr, GivesOpened};
+ghost use Rattle.ref_serve.specs.inner.Openings.{layers_at, parent_view, opening_view, asked_view, IsWorldOr, IsMetaWorldOr, GivesOpened};
 ghost use Rattle.ref_serve.specs.State.{Registries};
 
 use crate::registry::registry_in;
@@ -24,8 +20,9 @@ use ref_calls::document::{
 use ref_calls::fault::{fault_error, in_field};
 use ref_calls::field::{draft_of, number_in};
 use ref_calls::members::{Members, push_text, put_number};
-use ref_calls::stop::Stop;
-use referencing::{DEFAULT_RETRIEVAL_LIMIT, Draft, Error, MapRetriever, Registry, RegistryBuilder};
+use ref_json::Stop;
+use ref_worlds::{registry_from, registry_from_meta_schemas};
+use referencing::{DEFAULT_RETRIEVAL_LIMIT, Draft, MapRetriever, Registry};
 use serde_json::{Map, Value, put};
 use std::alloc::{AllocError, Global};
 
@@ -36,18 +33,11 @@ pub struct Opened {
     pub registries: Vec<Option<Open>>,
 }
 
-// What a registry is above: a registry with the numbers of its parents, itself the first.
-#[derive(Drop)]
-struct Above {
-    registry: &'static Registry<'static>,
-    numbers: Vec<usize>,
-}
-
 // What a registry is to be above.
 #[derive(Drop)]
 enum Parent {
-    // An open registry, or none.
-    Layers(Option<Above>),
+    // The open registry with the first of these numbers, whose parents have the others; or none.
+    Layers(Vec<usize>),
     // Meta-schemas, which are opened with it.
     MetaSchemas(Vec<Document>),
 }
@@ -94,53 +84,46 @@ fn numbers_of(alloc: Global, number: usize, below: &Open) -> Result<Vec<usize>, 
     Ok(numbers)
 }
 
-// The open registry with a number.
-fn layers_in(alloc: Global, state: &mut State, value: &Value) -> Result<Option<Above>, Stop<Value>>
-    ensures above { Answers above_view result (spec.layers_in state.old (view value.now)) }
-    ensures same { state.new ≡ state.old }
+// The numbers of the open registry with a number and of its parents.
+fn layers_in(alloc: Global, state: &State, value: &Value) -> Result<Vec<usize>, Stop<Value>>
+    ensures { Answers (λ numbers. layers_at state.now numbers.items) result
+        (spec.layers_in state.now (view value.now)) }
 {
     let (number, open) = registry_in(alloc, state, value, "parent")?;
-    let numbers = numbers_of(alloc, number, open)?;
-    match state.lend(alloc, number)? {
-        Some(registry) => Ok(Some(Above { registry, numbers })),
-        None => Ok(None),
-    }
+    Ok(numbers_of(alloc, number, open)?)
 }
 
 // The meta-schemas of a list, or the open registry with a number.
-fn parent_in(alloc: Global, state: &mut State, value: Value) -> Result<Parent, Stop<Value>>
-    ensures parent { Answers parent_view result (spec.parent_in state.old (view value)) }
-    ensures same { state.new ≡ state.old }
+fn parent_in(alloc: Global, state: &State, value: Value) -> Result<Parent, Stop<Value>>
+    ensures { Answers (parent_view state.now) result (spec.parent_in state.now (view value)) }
 {
     if value.is_array() {
         let documents = documents_of(alloc, value, "parent")?;
         return Ok(Parent::MetaSchemas(documents));
     }
-    let above = layers_in(alloc, state, &value)?;
-    Ok(Parent::Layers(above))
+    let numbers = layers_in(alloc, state, &value)?;
+    Ok(Parent::Layers(numbers))
 }
 
 // What is under `parent`.
-fn parent_of(alloc: Global, state: &mut State, members: &mut Members) -> Result<Parent, Stop<Value>>
-    ensures parent { Answers parent_view result
-        (spec.parent_at state.old (get_member (codes "parent")
+fn parent_of(alloc: Global, state: &State, members: &mut Members) -> Result<Parent, Stop<Value>>
+    ensures parent { Answers (parent_view state.now) result
+        (spec.parent_at state.now (get_member (codes "parent")
         (members_view members.old.entries))) }
-    ensures same { state.new ≡ state.old }
     ensures others { (other : List ℕ) → other ≢ codes "parent"
         → get_member other (members_view members.new.entries)
         ≡ get_member other (members_view members.old.entries) }
 {
     match taken(members, "parent") {
         Some(value) => parent_in(alloc, state, value),
-        None => Ok(Parent::Layers(None)),
+        None => Ok(Parent::Layers(Vec::new(alloc))),
     }
 }
 
 // What a call asks for.
 #[tactic(auto, unfolding(crate::specs::Opening::opening_of))]
-fn wanted_of(alloc: Global, state: &mut State, tree: Value) -> Result<(Parent, Wanted), Stop<Value>>
-    ensures wanted { Answers asked_view result (spec.opening_of state.old (view tree)) }
-    ensures same { state.new ≡ state.old }
+fn wanted_of(alloc: Global, state: &State, tree: Value) -> Result<(Parent, Wanted), Stop<Value>>
+    ensures { Answers (asked_view state.now) result (spec.opening_of state.now (view tree)) }
 {
     let draft = draft_of(alloc, &tree)?;
     let limit = limit_of(alloc, &tree)?;
@@ -157,55 +140,31 @@ fn wanted_of(alloc: Global, state: &mut State, tree: Value) -> Result<(Parent, W
     Ok((parent, wanted))
 }
 
-// A builder with the documents, above a registry where there is one.
-fn builder_of(
+// The open registry with the first of the numbers, for the rest of the program, where there is one.
+fn lent_first(
     alloc: Global,
-    above: Option<&'static Registry<'static>>,
-    documents: Vec<Document>,
-) -> Result<RegistryBuilder<'static>, Error>
-    ensures ok { IfOk result
-        (λ b. Holds (unwrap_or (option_map (λ r. r.now) above.entry) [])
-        (map given_of documents.items)
-        (builder_of b)) }
-    ensures fault { IfErr result
-        (IsErrorOf (λ answer. as_invalid_uri (spec.pending_of (map given_of documents.items))
-        ≡ answer)) }
+    state: &mut State,
+    numbers: &[usize],
+) -> Result<Option<&'static Registry<'static>>, AllocError>
+    ensures registry { IfOk result
+        (λ r. unwrap_or (option_map (λ r. r.now) r) [] ≡ (layers_at state.old numbers.now).0) }
+    ensures same { state.new ≡ state.old }
 {
-    match above {
-        Some(registry) => registry.extend(alloc, documents),
-        None => Registry::new(alloc).extend(documents),
+    match numbers.first() {
+        Some(number) => state.lend(alloc, *number),
+        None => Ok(None),
     }
 }
 
-// The registry of documents.
-fn prepared(
+// The registry that is wanted, above another where there is one, and the numbers of its parents.
+fn open_of(
     alloc: Global,
     above: Option<&'static Registry<'static>>,
-    documents: Vec<Document>,
-    draft: Draft,
-    limit: usize,
-    remote: MapRetriever,
-) -> Result<Registry<'static>, Error>
-    ensures ok { IfOk result
-        (λ world. spec.IsWorld
-        (given_of_builder (map_retriever (trees_of remote)) limit (Some draft)
-        (unwrap_or (option_map (λ r. r.now) above.entry) [])) (spec.pending_of (map given_of documents.items)) (Ok world)) }
-    ensures fault { IfErr result
-        (IsErrorOf (spec.IsWorld (given_of_builder (map_retriever (trees_of remote)) limit
-        (Some draft) (unwrap_or (option_map (λ r. r.now) above.entry) [])) (spec.pending_of
-        (map given_of documents.items)))) }
-{
-    let builder = builder_of(alloc, above, documents)?;
-    builder
-        .retriever(remote)
-        .retrieval_limit(limit)
-        .draft(draft)
-        .prepare()
-}
-
-// The registry that is wanted, above another where there is one.
-fn open_of(alloc: Global, above: Option<Above>, wanted: Wanted) -> Result<Open, Stop<Value>>
-    ensures { IsWorldOr (opening_view wanted) (above_view above) result }
+    numbers: Vec<usize>,
+    wanted: Wanted,
+) -> Result<Open, Stop<Value>>
+    ensures { IsWorldOr (opening_view wanted)
+        (unwrap_or (option_map (λ r. r.now) above.entry) [], numbers.items) result }
 {
     let Wanted {
         draft,
@@ -213,31 +172,17 @@ fn open_of(alloc: Global, above: Option<Above>, wanted: Wanted) -> Result<Open, 
         documents,
         remote,
     } = wanted;
-    let (registry, numbers) = match above {
-        Some(above) => (Some(above.registry), above.numbers),
-        None => (None, Vec::new(alloc)),
-    };
-    match prepared(alloc, registry, documents, draft, limit, remote) {
+    match registry_from(alloc, above, documents, draft, limit, remote) {
         Ok(registry) => Ok(Open::new(registry, numbers)),
         Err(error) => Err(fault_error(alloc, &error)),
     }
-}
-
-// The registry of meta-schemas.
-fn meta_schemas_of(alloc: Global, documents: Vec<Document>) -> Result<Registry<'static>, Error>
-    ensures ok { IfOk result
-        (λ world. spec.IsMetaWorld (map given_of documents.items) (Ok world)) }
-    ensures fault { IfErr result (IsErrorOf (spec.IsMetaWorld (map given_of documents.items))) }
-{
-    let builder = builder_of(alloc, None, documents)?;
-    builder.prepare()
 }
 
 // The open registry of meta-schemas.
 fn open_meta_schemas(alloc: Global, documents: Vec<Document>) -> Result<Open, Stop<Value>>
     ensures { IsMetaWorldOr (map given_of documents.items) result }
 {
-    match meta_schemas_of(alloc, documents) {
+    match registry_from_meta_schemas(alloc, documents) {
         Ok(registry) => Ok(Open::new(registry, Vec::new(alloc))),
         Err(error) => Err(in_field(alloc, fault_error(alloc, &error), "parent")),
     }
@@ -306,19 +251,22 @@ fn open_both(alloc: Global, number: usize, parent: Open, added: Open) -> Result<
     })
 }
 
-// A registry above another that is open, or above none.
+// A registry above another that is open, or above none. That one is lent only once all else of the call was read, since it is
+// kept for the rest of the program from then on.
 fn open_above(
     alloc: Global,
-    number: usize,
-    above: Option<Above>,
+    state: &mut State,
+    numbers: Vec<usize>,
     wanted: Wanted,
 ) -> Result<Opened, Stop<Value>>
-    ensures { (state : Registries) → number ≡ length state
-        → GivesOpened
-        (spec.IsOpenedBy (spec.AboveLayers (above_view above)) (opening_view wanted) state) state
-        result }
+    ensures same { state.new ≡ state.old }
+    ensures opened { GivesOpened
+        (spec.IsOpenedBy (spec.AboveLayers (layers_at state.old numbers.items))
+        (opening_view wanted) state.old) state.old result }
 {
-    let added = open_of(alloc, above, wanted)?;
+    let number = state.len();
+    let above = lent_first(alloc, state, numbers.as_slice())?;
+    let added = open_of(alloc, above, numbers, wanted)?;
     Ok(open_one(alloc, number, added)?)
 }
 
@@ -338,7 +286,7 @@ fn open_above_meta_schemas(
     let mut parent = open_meta_schemas(alloc, documents)?;
     let numbers = numbers_of(alloc, number, &parent)?;
     let registry = parent.lend(alloc)?;
-    let added = open_of(alloc, Some(Above { registry, numbers }), wanted)?;
+    let added = open_of(alloc, Some(registry), numbers, wanted)?;
     Ok(open_both(alloc, number, parent, added)?)
 }
 
@@ -348,11 +296,10 @@ pub fn open(alloc: Global, state: &mut State, tree: Value) -> Result<Opened, Sto
     ensures opened { GivesOpened (IsOpened state.old (view tree)) state.old result }
 {
     let (parent, wanted) = wanted_of(alloc, state, tree)?;
-    let number = state.len();
     match parent {
-        Parent::Layers(above) => open_above(alloc, number, above, wanted),
+        Parent::Layers(numbers) => open_above(alloc, state, numbers, wanted),
         Parent::MetaSchemas(documents) => {
-            open_above_meta_schemas(alloc, number, documents, wanted)
+            open_above_meta_schemas(alloc, state.len(), documents, wanted)
         }
     }
 }

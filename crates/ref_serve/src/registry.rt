@@ -7,7 +7,7 @@ ghost use Rattle.ref_serve.specs.State as spec;
 use crate::state::{Open, State};
 use ref_calls::fault::{Wrong, field_error};
 use ref_calls::field::{number_in, required};
-use ref_calls::stop::Stop;
+use ref_json::Stop;
 use serde_json::Value;
 use std::alloc::Global;
 

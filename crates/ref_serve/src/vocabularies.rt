@@ -12,7 +12,7 @@ use crate::registry::registry_of;
 use crate::state::State;
 use ref_calls::field::{draft_of, schema_of};
 use ref_calls::members::{object_of, push_text};
-use ref_calls::stop::Stop;
+use ref_json::Stop;
 use referencing::{Vocabulary, VocabularySet};
 use serde_json::Value;
 use std::alloc::{AllocError, Global};

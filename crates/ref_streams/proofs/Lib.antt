@@ -1,1 +1,2 @@
 pub mod ReadsAgain
+mod Writing

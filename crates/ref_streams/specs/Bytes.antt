@@ -1,5 +1,5 @@
 -- What a source and a sink of bytes tell of their calls.
-use Rattle.std.specs.Prelude.{◌≡◌, ℕ, ◌+◌, ◌-◌, ◌^◌, ◌<◌, ◌⊎◌, min, Result, Ok, Err}
+use Rattle.std.specs.Prelude.{◌≡◌, ℕ, ◌+◌, ◌-◌, ◌^◌, ◌<◌, ◌⊎◌, min, List, ◌++◌, Option, None, Some, Result, Ok, Err}
 
 -- the greatest count of failed calls
 abbrev pub most : ℕ
@@ -17,3 +17,10 @@ count_after (Err e) n = one_more n
 -- a call failed between the two counts; at its greatest value a count no longer tells, and this counts as met
 abbrev pub HasFailed : ℕ → ℕ → Type 0
 HasFailed before after = (before < after) ⊎ (after ≡ most)
+
+-- known bytes grow by a beginning of these
+abbrev pub AppendsFront : Option (List ℕ) → Option (List ℕ) → List ℕ → Type 0
+AppendsFront None new bytes = Unit {0}
+AppendsFront (Some old) None bytes = ⊥
+AppendsFront (Some old) (Some new) bytes =
+    (front rest : List ℕ) × (bytes ≡ front ++ rest) × (new ≡ old ++ front)

@@ -1,11 +1,11 @@
 //! Where a report's bytes go.
 ghost use Rattle.std.specs.Prelude.{◌≡◌, ◌+◌, ◌<◌, ℕ, List, Option, Some, OnOk, OnErr, length, vec_len, vec_capacity, ◌++◌};
 ghost use Rattle.std.specs.Io.KnownBytes.{Appends};
-ghost use Rattle.ref_streams.specs.Bytes.{count_after};
+ghost use Rattle.ref_streams.specs.Bytes.{count_after, AppendsFront};
 
 use crate::source::Failed;
 use std::alloc::Global;
-use std::io::Write;
+use std::io::{ErrorKind, Write};
 
 /// What bytes are written to.
 pub trait Sink {
@@ -15,9 +15,10 @@ pub trait Sink {
     // How many writes failed. It stays at the greatest `u64`.
     ghost failures: { Self → ℕ };
 
-    /// Writes all of the bytes. Of one that fails nothing is said of what was written.
+    /// Writes all of the bytes. One that fails wrote a beginning of them.
     fn write_all(&mut self, bytes: &[u8]) -> Result<(), Failed>
         ensures bytes { OnOk result (Appends (taken self.old) (taken self.new) bytes.now) }
+        ensures front { OnErr result (AppendsFront (taken self.old) (taken self.new) bytes.now) }
         ensures count { failures self.new ≡ count_after result (failures self.old) };
 }
 
@@ -48,6 +49,8 @@ impl Sink for MemorySink {
 
     fn write_all(&mut self, bytes: &[u8]) -> Result<(), Failed>
         ensures bytes { OnOk result (self.new.bytes.items ≡ self.old.bytes.items ++ bytes.now) }
+        ensures front { OnErr result
+            (AppendsFront (Some self.old.bytes.items) (Some self.new.bytes.items) bytes.now) }
         ensures count { self.new.failures ≡ count_after result self.old.failures }
         ensures refused { OnErr result (vec_capacity self.old.bytes
             < vec_len self.old.bytes + length bytes.now) }
@@ -90,10 +93,48 @@ impl<W: Write + Drop> Sink for Output<W> {
     ghost failures = { λ s. s.failures };
 
     fn write_all(&mut self, bytes: &[u8]) -> Result<(), Failed> {
-        if self.writer.write_all(bytes).is_ok() && self.writer.flush().is_ok() {
+        match write_flushed(&mut self.writer, bytes) {
+            Ok(()) => Ok(()),
+            Err(failed) => {
+                self.failures = self.failures.saturating_add(1);
+                Err(failed)
+            }
+        }
+    }
+}
+
+// Writes all of the bytes, and flushes them.
+fn write_flushed<W: Write>(writer: &mut W, bytes: &[u8]) -> Result<(), Failed>
+    ensures bytes { OnOk result
+        (Appends (W.contents writer.old) (W.contents writer.new) bytes.now) }
+    ensures front { OnErr result
+        (AppendsFront (W.contents writer.old) (W.contents writer.new) bytes.now) }
+{
+    write_whole(writer, bytes)?;
+    match writer.flush() {
+        Ok(()) => Ok(()),
+        Err(_) => Err(Failed),
+    }
+}
+
+// Writes all of the bytes, in as many writes as that takes. A write that a signal interrupted is made again.
+fn write_whole<W: Write>(writer: &mut W, bytes: &[u8]) -> Result<(), Failed>
+    ensures bytes { OnOk result
+        (Appends (W.contents writer.old) (W.contents writer.new) bytes.now) }
+    ensures front { OnErr result
+        (AppendsFront (W.contents writer.old) (W.contents writer.new) bytes.now) }
+{
+    let mut rest = bytes;
+    for _ in 0..u64::MAX {
+        if rest.is_empty() {
             return Ok(());
         }
-        self.failures = self.failures.saturating_add(1);
-        Err(Failed)
+        match writer.write(rest) {
+            Ok(0) => return Err(Failed),
+            Ok(n) => rest = &rest[n..],
+            Err(e) if e.kind() == ErrorKind::Interrupted => {}
+            Err(_) => return Err(Failed),
+        }
     }
+    Err(Failed)
 }

@@ -12,12 +12,12 @@ HoldsNoFloat d = has_float d ≡ false
 
 -- nor is one in the trees of documents
 abbrev pub HoldNoFloats : List Document → Type 0
-HoldNoFloats ds = AllByRecursion (λ d. HoldsNoFloat d.tree) ds
+HoldNoFloats ds = AllByRecursion (λ d. HoldsNoFloat d.1) ds
 
 -- nor in those of a request: its documents, what can be retrieved, and its meta-schemas
 pub record RequestHoldsNoFloat (r : Request) : Type 0 where
   pub documents : HoldNoFloats r.documents
-  pub remote : AllByRecursion (λ e. HoldsNoFloat e.1) (unwrap_or r.remote [])
+  pub remote : HoldNoFloats (unwrap_or r.remote [])
   pub meta : HoldNoFloats (unwrap_or r.meta [])
 
 -- nor in those of a layer

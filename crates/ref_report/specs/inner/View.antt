@@ -13,7 +13,7 @@ use Rattle.ref_report.specs.Report as report
 
 -- what is seen of a document
 abbrev pub document_view : Bor (List ℕ) × Bor Value → request.Document
-document_view d = record { uri = d.0.now; tree = view d.1.now }
+document_view d = (d.0.now, view d.1.now)
 
 -- of documents
 abbrev pub documents_view : List (Bor (List ℕ) × Bor Value) → List request.Document

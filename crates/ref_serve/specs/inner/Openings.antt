@@ -1,35 +1,34 @@
 -- What is seen of a call of `open`.
-use Rattle.std.specs.Prelude.{◌≡◌, ℕ, List, [], ◌++◌, map, codes, Option, None, Some, Result, Ok, Err}
+use Rattle.std.specs.Prelude.{◌≡◌, ℕ, List, [], ◌++◌, map, codes, Option, option_map, option_and_then, slice_get, unwrap_or, Result, Ok, Err}
 use Rattle.serde_json.specs.Data.{Data}
 use Rattle.serde_json.specs.View.{view}
 use Rattle.serde_json.specs.declared.value.Value.{Value}
 use Rattle.ref_definitions.specs.World.{World}
 use Rattle.ref_definitions.specs.Fault.{Fault}
-use Rattle.ref_error.specs.declared.error.Error.{Error}
-use Rattle.ref_error.specs.Errors.{SaysFault, UnlessMemory}
 use Rattle.ref_error.specs.Retrieving.{trees_of}
-use Rattle.ref_calls.specs.declared.stop.Stop.{Stop}
-use Rattle.ref_calls.specs.declared.stop.Stop.TheVariants.{Memory, Because}
+use Rattle.ref_json.specs.declared.stop.Stop.{Stop}
+use Rattle.ref_json.specs.declared.stop.Stop.TheVariants.{Memory, Because}
 use Rattle.ref_calls.specs.Errors.{fault_error, with_field}
 use Rattle.ref_calls.specs.inner.Given.{given_of}
-use Rattle.referencing.specs.Builder.{Builder, new_builder}
-use Rattle.ref_definitions.specs.Pending.{Pending}
-use Rattle.ref_serve.specs.declared.opening.Above.{Above}
 use Rattle.ref_serve.specs.declared.opening.Parent.{Parent}
 use Rattle.ref_serve.specs.declared.opening.Parent.TheVariants.{Layers, MetaSchemas}
 use Rattle.ref_serve.specs.declared.opening.Wanted.{Wanted}
 use Rattle.ref_serve.specs.declared.opening.Opened.{Opened}
-use Rattle.ref_serve.specs.State.{OpenRegistry, Registries}
+use Rattle.ref_serve.specs.State.{OpenRegistry, Registries, open_at}
 use Rattle.ref_serve.specs.Opening as spec
 
--- what a new registry is above
-abbrev pub above_view : Option Above → OpenRegistry
-above_view None = ([], [])
-above_view (Some above) = (above.registry.now, above.numbers.items)
+-- the world of the open registry with a number, or that without layers
+abbrev pub world_at : Registries → Option ℕ → World
+world_at state number =
+    unwrap_or (option_map (λ o. o.0) (option_and_then (λ n. open_at state n) number)) []
 
-abbrev pub parent_view : Parent → spec.Parent
-parent_view (Layers above) = spec.AboveLayers (above_view above)
-parent_view (MetaSchemas documents) = spec.AboveMetaSchemas (map given_of documents.items)
+-- what a new registry is above: the open registry with the first of these numbers
+abbrev pub layers_at : Registries → List ℕ → OpenRegistry
+layers_at state numbers = (world_at state (slice_get numbers 0), numbers)
+
+abbrev pub parent_view : Registries → Parent → spec.Parent
+parent_view state (Layers numbers) = spec.AboveLayers (layers_at state numbers.items)
+parent_view state (MetaSchemas documents) = spec.AboveMetaSchemas (map given_of documents.items)
 
 abbrev pub opening_view : Wanted → spec.Opening
 opening_view w =
@@ -40,18 +39,8 @@ opening_view w =
       remote = trees_of w.remote;
     }
 
-abbrev pub asked_view : Parent × Wanted → spec.Parent × spec.Opening
-asked_view asked = (parent_view asked.0, opening_view asked.1)
-
--- a fault that may be the answer, unless memory ran out
-abbrev pub IsErrorOf : {A : Type 0} → (Result A Fault → Type 0) → Error → Type 0
-IsErrorOf MayAnswer e = UnlessMemory ((fault : Fault) × MayAnswer (Err fault) × SaysFault e fault) e
-
--- a new builder above parents, to which documents were added
-abbrev pub Holds : {R : Type 0} → World → List (List ℕ × Data) → Builder R → Type 0
-Holds parents documents b =
-    (pending : List Pending) × (spec.pending_of documents ≡ Ok pending)
-    × (b ≡ new_builder b.retriever parents pending)
+abbrev pub asked_view : Registries → Parent × Wanted → spec.Parent × spec.Opening
+asked_view state asked = (parent_view state asked.0, opening_view asked.1)
 
 -- what is opened, and the registries with it after the others, unless memory ran out
 abbrev pub GivesOpened : (Registries → Result Data Data → Type 0) → Registries

@@ -3,8 +3,8 @@ use Rattle.std.specs.Prelude.{◌≡◌, ℕ, List, ◌++◌, Option, None, Some
 use Rattle.serde_json.specs.Data.{Data}
 use Rattle.serde_json.specs.View.{view}
 use Rattle.serde_json.specs.declared.value.Value.{Value}
-use Rattle.ref_calls.specs.declared.stop.Stop.{Stop}
-use Rattle.ref_calls.specs.declared.stop.Stop.TheVariants.{Memory, Because}
+use Rattle.ref_json.specs.declared.stop.Stop.{Stop}
+use Rattle.ref_json.specs.declared.stop.Stop.TheVariants.{Memory, Because}
 use Rattle.ref_serve.specs.declared.answer.Reply.{Reply}
 use Rattle.ref_calls.specs.declared.call.Call.{Call}
 use Rattle.ref_serve.specs.Answering.{IsResult}

@@ -8,8 +8,8 @@ use Rattle.ref_definitions.specs.Lookup.{Found as WorldFound}
 use Rattle.ref_definitions.specs.Follow as world
 use Rattle.ref_resolver.specs.Locations.{StandsAt}
 use Rattle.ref_resolver.specs.Resolving.{resolver_of}
-use Rattle.ref_calls.specs.declared.stop.Stop.{Stop}
-use Rattle.ref_calls.specs.declared.stop.Stop.TheVariants.{Memory, Because}
+use Rattle.ref_json.specs.declared.stop.Stop.{Stop}
+use Rattle.ref_json.specs.declared.stop.Stop.TheVariants.{Memory, Because}
 use Rattle.ref_calls.specs.Objects.{object_of}
 use Rattle.ref_serve.specs.declared.following.Followed.{Followed}
 use Rattle.ref_serve.specs.Following.{step_members}

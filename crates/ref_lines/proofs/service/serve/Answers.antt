@@ -2,7 +2,7 @@ use Rattle.std.proofs.Common.{[], sym, ◌∙◌, refl, rules, arith}
 use Rattle.std.proofs.KnownBytes.{Consumes-nil}
 use Rattle.std.proofs.lemmas.Bool.{false≢true}
 use Rattle.ref_lines.specs.inner.Held.{held}
-use Rattle.ref_lines.proofs.Serving.{err_always, served_none, served_more, served_all, served_so_far, served_whole, answered_so_far, unwritten, lines_none, lines_more, lines_all, long_line}
+use Rattle.ref_lines.proofs.Serving.{err_always, served_none, served_more, served_all, served_so_far, served_whole, answered_so_far, served_in_part, unwritten, lines_none, lines_more, lines_all, long_line}
 use Rattle.ref_lines.proofs.service.serve.Goals as goal
 
 pub loop-init : goal.loop-init
@@ -73,3 +73,9 @@ returns-in_err-answer-clause-memory g c is = long_line _ _ _ c.loop.counter (hel
 
 pub returns-clause-memory : goal.returns-clause-memory
 returns-clause-memory g c _ = lines_all _ _ c.loop.counter (held c.loop.chunk) c.loop.invariant.lines (omega (arith, c.loop-test.false))
+
+pub returns-in_err-write-in-Some-clause-in_part : goal.returns-in_err-write-in-Some-clause-in_part
+returns-in_err-write-in-Some-clause-in_part g c is =
+    let next = rw c.in-Some.is at c.in_ok-answer.ensures.next in
+    served_in_part g.S.Service.may_answer c.args.service.now c.loop.service c.next_answer.new.service _ _ _ _ _ _ (held c.loop.chunk) (held c.next_answer.new.chunk) c.loop.chunk.has_ended c.next_answer.new.chunk.has_ended
+    c.in-Some.answer c.loop.invariant.served next c.in_err-write-in-Some.ensures.front

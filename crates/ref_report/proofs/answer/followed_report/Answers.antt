@@ -1,8 +1,8 @@
 use Rattle.std.proofs.Common.{map}
+use Rattle.std.proofs.lemmas.Result.{IfOk-weaker}
 use Rattle.ref_definitions.specs.Follow.{followed_steps}
 use Rattle.referencing.specs.Following.{step_of, followed_of}
 use Rattle.ref_report.specs.inner.View.{report_view}
-use Rattle.ref_report.proofs.Options.{if_so}
 use Rattle.ref_report.proofs.StepsWithoutFloats.{ends_without_floats}
 use Rattle.ref_report.proofs.Reports.{last_without_floats, step_is, done_is}
 use Rattle.ref_report.proofs.answer.followed_report.Goals as goal
@@ -14,10 +14,10 @@ done_report-requires c =
 pub returns-in-Ok : goal.returns-in-Ok
 returns-in-Ok c =
     let answer = followed_steps c.args.registry.now c.args.base (map step_of c.args.steps.now) in
-    if_so _ _ c.done_report.result (λ report is. done_is answer (followed_of c.in-Ok.followed) (report_view report) c.in-Ok.ensures.ok is) c.done_report.ensures
+    IfOk-weaker c.done_report.result _ _ (λ report is. done_is answer (followed_of c.in-Ok.followed) (report_view report) c.in-Ok.ensures.ok is) c.done_report.ensures
 
 pub returns-in-Err : goal.returns-in-Err
 returns-in-Err c =
     let answer = followed_steps c.args.registry.now c.args.base (map step_of c.args.steps.now) in
     let fault = c.in-Err.fault in
-    if_so _ _ c.step_report.result (λ report is. step_is answer fault.step fault.error (report_view report) c.in-Err.ensures.fault is) c.step_report.ensures
+    IfOk-weaker c.step_report.result _ _ (λ report is. step_is answer fault.step fault.error (report_view report) c.in-Err.ensures.fault is) c.step_report.ensures

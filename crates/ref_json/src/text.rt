@@ -1,0 +1,38 @@
+//! The tree that a text is.
+ghost use Rattle.std.specs.Prelude.{◌≡◌, ◌≤◌, length, Some, IfOk, IfErr};
+ghost use Rattle.serde_json.specs.View.{view};
+ghost use Rattle.ref_json.specs.Text as spec;
+
+use crate::stop::Stop;
+use serde_json::{Error, Value};
+use std::alloc::Global;
+
+// Where bytes can't be read as JSON: their length where more would have to follow.
+fn offset_of(bytes: &[u8], error: &Error) -> usize
+    ensures { result ≤ length bytes.now }
+{
+    if error.is_eof() {
+        return bytes.len();
+    }
+    error.column().saturating_sub(1).min(bytes.len())
+}
+
+/// The tree that bytes are.
+///
+/// `Because` where they are no JSON, with a place of a text of one line, in bytes from its beginning: at or just past what can't
+/// be read, or its length where more would have to follow. `Memory` where memory is refused. Linear in the bytes.
+pub fn tree_of(alloc: Global, bytes: &[u8]) -> Result<Value, Stop<usize>>
+    ensures tree { IfOk result (λ v. spec.tree_of bytes.now ≡ Some (view v)) }
+    ensures not_json { IfErr result (spec.IsNotJson bytes.now) }
+{
+    match Value::from_slice(alloc, bytes) {
+        Ok(tree) => Ok(tree),
+        Err(e) => {
+            if e.is_memory() {
+                Err(Stop::Memory)
+            } else {
+                Err(Stop::Because(offset_of(bytes, &e)))
+            }
+        }
+    }
+}
