@@ -14,7 +14,7 @@ use Rattle.referencing.specs.Following.{SaysStepFault}
 use Rattle.ref_report.specs.declared.request.BadRequest.{BadRequest}
 use Rattle.ref_report.specs.Request.{Document, Request}
 use Rattle.referencing.specs.MetaSchemas.{given_of_meta_schemas}
-use Rattle.ref_worlds.specs.Worlds.{pending_of, above_parents, IsWorld}
+use Rattle.ref_registries.specs.Worlds.{pending_of, above_parents, IsWorld}
 use Rattle.ref_report.specs.Worlds.{AreParents, given_of_request}
 use Rattle.ref_report.specs.Report.{Report, IsReportAbove, IsReadReport, world_report}
 use Rattle.ref_definitions.proofs.Outcomes.{IsDetermined, map_is_determined, default_is_determined, one_outcome}

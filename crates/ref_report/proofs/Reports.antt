@@ -20,7 +20,7 @@ use Rattle.ref_report.specs.Request.{Request, request_of, read_request}
 use Rattle.ref_json.specs.Text.{tree_of}
 use Rattle.ref_report.specs.Worlds.{AreParents, IsWorldAbove}
 use Rattle.ref_report.specs.Run.{Reports}
-use Rattle.ref_worlds.specs.Worlds.{IsErrorOf}
+use Rattle.ref_registries.specs.Worlds.{IsErrorOf}
 use Rattle.ref_report.specs.inner.Faults.{IsReportOn}
 use Rattle.ref_report.specs.inner.Floats.{HoldsNoFloat}
 use Rattle.ref_report.specs.inner.View.{report_view}

@@ -13,7 +13,7 @@ use Rattle.referencing.specs.MetaSchemas.{given_of_meta_schemas}
 use Rattle.ref_report.specs.declared.request.BadRequest.{BadRequest}
 use Rattle.ref_report.specs.Report.{Report, bad_report, fault_report, world_report, IsReportAbove, IsReadReport}
 use Rattle.ref_report.specs.Request.{Document, Request}
-use Rattle.ref_worlds.specs.Worlds.{pending_of, above_parents, IsWorld}
+use Rattle.ref_registries.specs.Worlds.{pending_of, above_parents, IsWorld}
 use Rattle.ref_report.specs.Worlds.{AreParents, given_of_request}
 
 -- an answer or a refusal for each URI

@@ -13,7 +13,7 @@ use Rattle.ref_definitions.specs.Preparing.{Retriever, Given, IsRun, begun, retr
 use Rattle.ref_definitions.specs.Pending.{Addition, Pending, pending_of, with_pending, with_addition, with_additions, document_of, builder_draft, given_of_builder}
 use Rattle.ref_definitions.specs.Retrievers.{map_retriever, default_retriever}
 use Rattle.ref_report.specs.Request.{Document, Request}
-use Rattle.ref_worlds.specs.Worlds as worlds
+use Rattle.ref_registries.specs.Worlds as worlds
 use Rattle.ref_report.specs.Worlds.{AreParents, IsWorldAbove}
 use Rattle.ref_report.specs.inner.Floats.{HoldsNoFloat, HoldNoFloats, RequestHoldsNoFloat, LayerHoldsNoFloat, WorldHoldsNoFloat}
 use Rattle.ref_report.proofs.Options.{if_bound, if_any, last_of_all}

@@ -6,7 +6,7 @@ use Rattle.ref_definitions.specs.Preparing.{Given}
 use Rattle.ref_definitions.specs.Pending.{Pending, given_of_builder}
 use Rattle.ref_definitions.specs.Retrievers.{map_retriever}
 use Rattle.referencing.specs.MetaSchemas.{given_of_meta_schemas}
-use Rattle.ref_worlds.specs.Worlds.{pending_of, IsWorld}
+use Rattle.ref_registries.specs.Worlds.{pending_of, IsWorld}
 use Rattle.ref_report.specs.Request.{Document, Request}
 
 -- the parents of a request's documents: its meta-schemas, where it has some

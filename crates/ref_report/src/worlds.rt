@@ -3,12 +3,12 @@ ghost use Rattle.std.specs.Prelude.{◌≡◌, [], IfOk, IfErr, Ok, option_map, 
 ghost use Rattle.ref_definitions.specs.Pending.{given_of_builder};
 ghost use Rattle.ref_definitions.specs.Retrievers.{map_retriever};
 ghost use Rattle.ref_error.specs.Retrieving.{trees_of};
-ghost use Rattle.ref_worlds.specs.Worlds.{pending_of, IsWorld, IsErrorOf};
+ghost use Rattle.ref_registries.specs.Worlds.{pending_of, IsWorld, IsErrorOf};
 ghost use Rattle.ref_report.specs.Worlds.{AreParents};
 ghost use Rattle.ref_report.specs.inner.View.{documents_view};
 
 use crate::request::Document;
-use ref_worlds::{registry_from, registry_from_meta_schemas};
+use ref_registries::{registry_from, registry_from_meta_schemas};
 use referencing::{DEFAULT_RETRIEVAL_LIMIT, Draft, Error, MapRetriever, Registry, Uri};
 use serde_json::Value;
 use std::alloc::{AllocError, Global};

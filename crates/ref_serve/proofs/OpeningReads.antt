@@ -20,7 +20,7 @@ use Rattle.ref_serve.specs.declared.opening.Opened.{Opened}
 use Rattle.ref_serve.specs.State.{OpenRegistry, Registries, open_at, numbered_registry, registry_in}
 use Rattle.ref_serve.specs.Opening.{Opening, Parent, AboveLayers, AboveMetaSchemas, above_registry, layers_in, opening_of, given_of_opening, below_meta, IsOpeningWorld, IsMetaWorld, IsOpenedBy, IsOpenedAs}
 use Rattle.referencing.specs.MetaSchemas.{given_of_meta_schemas}
-use Rattle.ref_worlds.specs.Worlds.{pending_of, IsWorld, IsErrorOf}
+use Rattle.ref_registries.specs.Worlds.{pending_of, IsWorld, IsErrorOf}
 use Rattle.ref_serve.specs.Answering.{IsOpened}
 use Rattle.ref_serve.specs.inner.Openings.{layers_at, IsWorldOr, IsMetaWorldOr, GivesOpened}
 

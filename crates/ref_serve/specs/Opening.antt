@@ -10,7 +10,7 @@ use Rattle.ref_definitions.specs.Preparing.{Given}
 use Rattle.ref_definitions.specs.Pending.{Pending, given_of_builder}
 use Rattle.ref_definitions.specs.Retrievers.{map_retriever}
 use Rattle.referencing.specs.MetaSchemas.{given_of_meta_schemas}
-use Rattle.ref_worlds.specs.Worlds.{pending_of, IsWorld}
+use Rattle.ref_registries.specs.Worlds.{pending_of, IsWorld}
 use Rattle.ref_calls.specs.Objects.{object_of, texts, whole}
 use Rattle.ref_calls.specs.Errors.{fault_error, with_field}
 use Rattle.ref_calls.specs.Calls.{number_in, draft_of, documents_of, documents_at, needed_documents, under_uris}

@@ -21,7 +21,7 @@ use ref_calls::fault::{fault_error, in_field};
 use ref_calls::field::{draft_of, number_in};
 use ref_calls::members::{Members, push_text, put_number};
 use ref_json::Stop;
-use ref_worlds::{registry_from, registry_from_meta_schemas};
+use ref_registries::{registry_from, registry_from_meta_schemas};
 use referencing::{DEFAULT_RETRIEVAL_LIMIT, Draft, MapRetriever, Registry};
 use serde_json::{Map, Value, put};
 use std::alloc::{AllocError, Global};

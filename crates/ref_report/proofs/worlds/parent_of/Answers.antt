@@ -1,8 +1,8 @@
 use Rattle.std.proofs.Common.{Ok, subst}
 use Rattle.referencing.specs.MetaSchemas.{given_of_meta_schemas}
 use Rattle.referencing.proofs.Adding.{passed_on}
-use Rattle.ref_worlds.specs.Worlds.{IsWorld, IsErrorOf}
-use Rattle.ref_worlds.proofs.Given.{pending_seen}
+use Rattle.ref_registries.specs.Worlds.{IsWorld, IsErrorOf}
+use Rattle.ref_registries.proofs.Given.{pending_seen}
 use Rattle.ref_report.specs.inner.View.{document_view}
 use Rattle.ref_report.proofs.worlds.parent_of.Goals as goal
 

@@ -1,8 +1,8 @@
 use Rattle.std.proofs.Common.{[], Ok, unwrap_or, ap, rules}
 use Rattle.std.proofs.lemmas.Result.{IfOk-weaker, IfErr-weaker}
 use Rattle.ref_error.specs.Retrieving.{trees_of}
-use Rattle.ref_worlds.specs.Worlds.{IsWorld, IsErrorOf}
-use Rattle.ref_worlds.proofs.Given.{pending_seen}
+use Rattle.ref_registries.specs.Worlds.{IsWorld, IsErrorOf}
+use Rattle.ref_registries.proofs.Given.{pending_seen}
 use Rattle.ref_report.specs.inner.View.{document_view}
 use Rattle.ref_report.proofs.Asked.{as_asked}
 use Rattle.ref_report.proofs.worlds.world_of.Goals as goal

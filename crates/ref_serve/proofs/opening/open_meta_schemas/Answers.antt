@@ -1,7 +1,7 @@
 use Rattle.std.proofs.Common.{Ok, map, sym, subst, rules}
 use Rattle.referencing.specs.MetaSchemas.{given_of_meta_schemas}
-use Rattle.ref_worlds.specs.Worlds.{IsWorld}
-use Rattle.ref_worlds.proofs.Given.{pending_seen}
+use Rattle.ref_registries.specs.Worlds.{IsWorld}
+use Rattle.ref_registries.proofs.Given.{pending_seen}
 use Rattle.ref_calls.specs.inner.Given.{given_of}
 use Rattle.ref_serve.specs.inner.Openings.{IsMetaWorldOr}
 use Rattle.ref_serve.proofs.OpeningReads.{meta_stopped}

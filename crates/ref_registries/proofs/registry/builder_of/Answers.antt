@@ -1,8 +1,8 @@
 use Rattle.std.proofs.Common.{[], length, refl, ap, ◌∙◌}
 use Rattle.std.proofs.lemmas.Result.{IfOk-weaker, IfErr-weaker}
 use Rattle.referencing.specs.Builder.{builder_of, new_builder}
-use Rattle.ref_worlds.proofs.Building.{held, refused}
-use Rattle.ref_worlds.proofs.registry.builder_of.Goals as goal
+use Rattle.ref_registries.proofs.Building.{held, refused}
+use Rattle.ref_registries.proofs.registry.builder_of.Goals as goal
 
 pub returns-in-Some-clause-ok : goal.returns-in-Some-clause-ok
 returns-in-Some-clause-ok g c =

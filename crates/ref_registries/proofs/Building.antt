@@ -24,9 +24,9 @@ use Rattle.ref_index.proofs.Retrieving.{unless_memory}
 use Rattle.referencing.specs.Builder.{Builder, new_builder, holding_pending, setting_draft, limited_to, retrieving_from, Adds}
 use Rattle.referencing.specs.Prepared.{given_of, IsPreparedOf}
 use Rattle.referencing.specs.MetaSchemas.{given_of_meta_schemas}
-use Rattle.ref_worlds.specs.Worlds.{IsWorld, IsErrorOf}
-use Rattle.ref_worlds.specs.inner.Holding.{Holds}
-use Rattle.ref_worlds.proofs.Faults.{unless_fault}
+use Rattle.ref_registries.specs.Worlds.{IsWorld, IsErrorOf}
+use Rattle.ref_registries.specs.inner.Holding.{Holds}
+use Rattle.ref_registries.proofs.Faults.{unless_fault}
 
 -- ---- what is added
 

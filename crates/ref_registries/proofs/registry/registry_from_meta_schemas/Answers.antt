@@ -1,6 +1,6 @@
 use Rattle.referencing.specs.Builder.{builder_of}
-use Rattle.ref_worlds.proofs.Building.{world_prepared, world_refused, given_meta_schemas}
-use Rattle.ref_worlds.proofs.registry.registry_from_meta_schemas.Goals as goal
+use Rattle.ref_registries.proofs.Building.{world_prepared, world_refused, given_meta_schemas}
+use Rattle.ref_registries.proofs.registry.registry_from_meta_schemas.Goals as goal
 
 pub returns-clause-ok : goal.returns-clause-ok
 returns-clause-ok g c =

@@ -2,7 +2,7 @@
 use Rattle.std.proofs.Common.{◌≡◌, ℕ, List, [], ◌∷◌, map, refl, ap}
 use Rattle.serde_json.specs.Data.{Data}
 use Rattle.ref_definitions.specs.Pending.{with_additions}
-use Rattle.ref_worlds.specs.Worlds.{addition_of, pending_of}
+use Rattle.ref_registries.specs.Worlds.{addition_of, pending_of}
 
 fused : {A : Type 0} (seen : A → List ℕ × Data) (ds : List A) → map (λ d. addition_of (seen d)) ds ≡ map addition_of (map seen ds)
 fused seen [] = refl

@@ -6,8 +6,8 @@ ghost use Rattle.ref_definitions.specs.Retrievers.{map_retriever};
 ghost use Rattle.ref_error.specs.Retrieving.{trees_of};
 ghost use Rattle.referencing.specs.Builder.{builder_of};
 ghost use Rattle.referencing.specs.MetaSchemas.{given_of_meta_schemas};
-ghost use Rattle.ref_worlds.specs.Worlds.{pending_of_documents, IsWorld, IsErrorOf};
-ghost use Rattle.ref_worlds.specs.inner.Holding.{Holds};
+ghost use Rattle.ref_registries.specs.Worlds.{pending_of_documents, IsWorld, IsErrorOf};
+ghost use Rattle.ref_registries.specs.inner.Holding.{Holds};
 
 use referencing::{Draft, Error, IntoRegistryResource, MapRetriever, Registry, RegistryBuilder};
 use std::alloc::Global;

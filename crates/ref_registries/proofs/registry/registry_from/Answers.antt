@@ -1,7 +1,7 @@
 use Rattle.std.proofs.Common.{ap, ◌∙◌}
 use Rattle.referencing.specs.Builder.{builder_of, setting_draft, limited_to}
-use Rattle.ref_worlds.proofs.Building.{world_prepared, world_refused, given_as}
-use Rattle.ref_worlds.proofs.registry.registry_from.Goals as goal
+use Rattle.ref_registries.proofs.Building.{world_prepared, world_refused, given_as}
+use Rattle.ref_registries.proofs.registry.registry_from.Goals as goal
 
 pub returns-clause-ok : goal.returns-clause-ok
 returns-clause-ok g c =
