@@ -1,11 +1,5 @@
 //! `patchsard bundle`.
 use crate::console::Console;
-use crate::describe::Describer;
-use crate::given::{Given, read_file};
-use crate::lint::order_of;
-use crate::pointer::place_of;
-use crate::spots::spots_of;
-use crate::world::{World, faulty_of, outside_of, world_above};
 use crate::write::write_file;
 use clap::ArgMatches;
 use ref_bundle::{Bundle, BundleError, Embedded, Obstacle, Refusal};
@@ -17,6 +11,11 @@ use ref_parts::path::JsonPointerSegment;
 use ref_parts::pointer_of;
 use ref_positions::Places;
 use ref_positions::splice::{Added, Part, with_added, with_parts};
+use ref_project::describe::{Describer, order_of};
+use ref_project::given::{Given, faulty_of, read_file};
+use ref_project::pointer::place_of;
+use ref_project::spots::spots_of;
+use ref_project::world::{World, outside_of, world_above};
 use ref_reading::Stop;
 use ref_reading::document::parsed;
 use ref_reading::options::maps;

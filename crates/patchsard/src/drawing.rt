@@ -1,16 +1,10 @@
 //! `patchsard graph`.
 use crate::console::Console;
-use crate::given::{Given, read_given};
-use crate::world::{World, bearers, faulty_of, without_fragment, world_of};
 use clap::ArgMatches;
-use ref_draft::Draft;
-use ref_findings::{Finding, Problem};
-use ref_messages::{Edge, Graph, Node, push_dot, push_mermaid};
+use ref_messages::{push_dot, push_mermaid};
+use ref_project::given::read_given;
+use ref_project::graph::graph_of;
 use ref_reading::Stop;
-use ref_uri::Uri;
-use serde_json::Value;
-use std::alloc::{AllocError, Global};
-use std::collections::BTreeMap;
 
 /// Draws which file refers to which. The status is 0, or 2 where a path couldn't be read.
 pub fn draw(
@@ -19,154 +13,11 @@ pub fn draw(
     given: &ArgMatches<'_>,
 ) -> Result<u8, Stop> {
     let read = read_given(rt, given)?;
-    let graph = drawn(rt, &read)?;
+    let graph = graph_of(rt, &read)?;
     if given.get_str("format") == Some("dot") {
         push_dot(&mut console.out, &graph)?;
     } else {
         push_mermaid(&mut console.out, &graph)?;
     }
     Ok(if read.has_failed { 2 } else { 0 })
-}
-
-fn drawn(rt: &HostRuntime, given: &Given) -> Result<Graph, Stop> {
-    let alloc = rt.alloc();
-    let list = given.findings(alloc)?;
-    let faulty = faulty_of(alloc, given.len(), list.as_slice())?;
-    let world = world_of(rt, given, faulty.as_slice())?;
-    let mut drawing = Drawing::new(alloc, given, &world)?;
-    drawing.add_references(&world)?;
-    drawing.add_broken(list.as_slice())?;
-    Ok(drawing.finish()?)
-}
-
-// What is drawn so far.
-#[derive(Drop)]
-struct Drawing {
-    alloc: Global,
-    nodes: Vec<Node>,
-    // The node of each source, by the source's number.
-    numbers: Vec<usize>,
-    // The node of each URI that a document has.
-    bearers: BTreeMap<String, usize>,
-    // How many references there are between two nodes, and how many of them are unresolvable.
-    edges: BTreeMap<(usize, usize), (usize, usize)>,
-}
-
-impl Drawing {
-    // The documents alone: files by their paths, and what was read from maps by its URI.
-    fn new(alloc: Global, given: &Given, world: &World<'_>) -> Result<Drawing, Stop> {
-        let mut nodes = Vec::new(alloc);
-        let mut numbers = vec![in alloc; 0usize; given.len()]?;
-        for (node, number) in world.sources.iter().enumerate() {
-            let name = given.name(*number);
-            push_node(alloc, &mut nodes, name, false)?;
-            if let Some(slot) = numbers.get_mut(*number) {
-                *slot = node;
-            }
-        }
-        Ok(Drawing {
-            alloc,
-            nodes,
-            numbers,
-            bearers: bearers(alloc, world)?,
-            edges: BTreeMap::new(alloc),
-        })
-    }
-
-    // Adds the references of the documents.
-    fn add_references(&mut self, world: &World<'_>) -> Result<(), AllocError> {
-        for place in world.places(self.alloc)? {
-            if place.document >= world.sources.len() {
-                continue;
-            }
-            if let Some(reference) = place.value.get("$ref").and_then(Value::as_str) {
-                let uri = world
-                    .registry
-                    .resolve_uri(self.alloc, place.base.borrow(), reference);
-                if let Ok(uri) = uri {
-                    self.add(place.document, reference, &uri)?;
-                }
-            }
-        }
-        Ok(())
-    }
-
-    // Adds a reference from a document to a URI.
-    fn add(&mut self, from: usize, reference: &str, uri: &Uri) -> Result<(), AllocError> {
-        let to = self.target(from, reference, without_fragment(uri.as_str()))?;
-        let counts = self.edges.entry((from, to))?.or_insert((0, 0));
-        counts.0 = counts.0.saturating_add(1);
-        Ok(())
-    }
-
-    // The node that a reference points into: the document's own where it is a fragment alone.
-    fn target(&mut self, from: usize, reference: &str, uri: &str) -> Result<usize, AllocError> {
-        if reference.starts_with('#') {
-            return Ok(from);
-        }
-        self.node(uri)
-    }
-
-    // The node that has a URI: one that is missing where there is none.
-    fn node(&mut self, uri: &str) -> Result<usize, AllocError> {
-        if let Some(node) = self.bearers.get(uri) {
-            return Ok(*node);
-        }
-        let node = self.nodes.len();
-        let is_missing = Draft::from_schema_uri(uri) == Draft::Unknown;
-        push_node(self.alloc, &mut self.nodes, uri, is_missing)?;
-        self.bearers
-            .insert(String::from_str(self.alloc, uri)?, node)?;
-        Ok(node)
-    }
-
-    // Counts the unresolvable references.
-    fn add_broken(&mut self, findings: &[Finding<'_>]) -> Result<(), AllocError> {
-        for finding in findings {
-            match &finding.problem {
-                Problem::MissingDocument { uri } => self.count_broken(finding, uri)?,
-                Problem::LeadsNowhere { uri, .. } => self.count_broken(finding, uri)?,
-                _ => {}
-            }
-        }
-        Ok(())
-    }
-
-    fn count_broken(&mut self, finding: &Finding<'_>, uri: &Uri) -> Result<(), AllocError> {
-        let from = self.numbers.get(finding.source).copied().unwrap_or(0);
-        let to = self.target(from, finding.text.unwrap_or(""), uri.as_str())?;
-        if let Some(counts) = self.edges.get_mut(&(from, to)) {
-            counts.1 = counts.1.saturating_add(1);
-        }
-        Ok(())
-    }
-
-    fn finish(self) -> Result<Graph, AllocError> {
-        let mut edges = Vec::new(self.alloc);
-        for ((from, to), (count, broken)) in self.edges {
-            edges.push(Edge {
-                from,
-                to,
-                count,
-                broken,
-            })?;
-        }
-        Ok(Graph {
-            nodes: self.nodes,
-            edges,
-        })
-    }
-}
-
-fn push_node(
-    alloc: Global,
-    nodes: &mut Vec<Node>,
-    name: &str,
-    is_missing: bool,
-) -> Result<(), AllocError> {
-    nodes.push(Node {
-        name: String::from_str(alloc, name)?,
-        is_missing,
-    })?;
-    Ok(())
 }

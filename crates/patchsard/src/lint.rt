@@ -1,12 +1,12 @@
 //! `patchsard lint`.
 use crate::console::Console;
-use crate::describe::Describer;
-use crate::given::{Given, read_given};
-use crate::rules::RULES;
-use crate::spots::spots_of;
 use clap::ArgMatches;
-use ref_findings::{Finding, Problem};
+use ref_findings::Finding;
 use ref_messages::{Level, Message, push_annotation, push_line, push_sarif, push_text};
+use ref_project::describe::{Describer, order_of};
+use ref_project::given::{Given, read_given};
+use ref_project::rules::RULES;
+use ref_project::spots::spots_of;
 use ref_reading::Stop;
 use std::alloc::{AllocError, Global};
 use std::io;
@@ -106,24 +106,6 @@ fn list_all(
     Ok(count)
 }
 
-/// The numbers of the findings that are listed, by file, line and column.
-pub fn order_of(
-    alloc: Global,
-    describer: &Describer<'_>,
-    list: &[Finding<'_>],
-    is_verbose: bool,
-) -> Result<Vec<(usize, usize, usize, usize)>, AllocError> {
-    let mut order = Vec::new(alloc);
-    for (number, finding) in list.iter().enumerate() {
-        if is_verbose || !matches!(finding.problem, Problem::Unchecked { .. }) {
-            let (line, column) = describer.place(number, finding);
-            order.push((finding.source, line, column, number))?;
-        }
-    }
-    order.sort_unstable();
-    Ok(order)
-}
-
 fn form_of(given: &ArgMatches<'_>) -> Form {
     match given.get_str("format") {
         Some("json") => Form::Lines,
@@ -133,6 +115,7 @@ fn form_of(given: &ArgMatches<'_>) -> Form {
     }
 }
 
+// Prints messages on the findings with these numbers, and counts them.
 fn print<'d>(
     alloc: Global,
     console: &mut Console<'_>,
@@ -141,23 +124,49 @@ fn print<'d>(
     list: &[Finding<'d>],
     (order, count): (&[(usize, usize, usize, usize)], &mut Count),
 ) -> Result<(), Stop> {
-    let mut messages = Vec::new(alloc);
+    if form == Form::Sarif {
+        print_log(alloc, console, describer, list, (order, count))?;
+    } else {
+        print_each(alloc, console, form, describer, list, (order, count))?;
+    }
+    console.finish()
+}
+
+fn print_each<'d>(
+    alloc: Global,
+    console: &mut Console<'_>,
+    form: Form,
+    describer: &mut Describer<'d>,
+    list: &[Finding<'d>],
+    (order, count): (&[(usize, usize, usize, usize)], &mut Count),
+) -> Result<(), Stop> {
     for place in order {
-        let Some(finding) = list.get(place.3) else {
-            continue;
-        };
-        let message = describer.message(place.3, finding)?;
-        count.add(message.level);
-        if form == Form::Sarif {
-            keep(&mut messages, message)?;
-        } else {
+        if let Some(finding) = list.get(place.3) {
+            let message = describer.message(place.3, finding)?;
+            count.add(message.level);
             push_message(alloc, console, form, &message)?;
         }
     }
-    if form == Form::Sarif {
-        push_sarif(alloc, &mut console.out, "0.1.0", RULES, messages.as_slice())?;
+    Ok(())
+}
+
+// Prints all as one log in SARIF.
+fn print_log<'d>(
+    alloc: Global,
+    console: &mut Console<'_>,
+    describer: &mut Describer<'d>,
+    list: &[Finding<'d>],
+    (order, count): (&[(usize, usize, usize, usize)], &mut Count),
+) -> Result<(), AllocError> {
+    let mut messages = Vec::new(alloc);
+    for place in order {
+        if let Some(finding) = list.get(place.3) {
+            let message = describer.message(place.3, finding)?;
+            count.add(message.level);
+            keep(&mut messages, message)?;
+        }
     }
-    console.finish()
+    push_sarif(alloc, &mut console.out, "0.1.0", RULES, messages.as_slice())
 }
 
 fn keep<'m>(messages: &mut Vec<Message<'m>>, message: Message<'m>) -> Result<(), AllocError> {

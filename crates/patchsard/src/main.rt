@@ -1,30 +1,20 @@
-//! Lints, follows, bundles, lists and draws the references of folders of JSON Schema files. What is found is
-//! `ref_findings`, where it stands in a file
-//! `ref_positions`, and how it is printed `ref_messages`; here is what reads files, asks these, and writes.
+//! Lints, follows, bundles, lists and draws the references of folders of JSON Schema files. What files are read is
+//! `ref_reading`, what is found in them `ref_project`, and how it is printed `ref_messages`; here is a file for each subcommand,
+//! which asks these, and writes.
 #![tactic(auto)]
 
 mod bundle;
-mod command;
 mod console;
-mod describe;
 mod drawing;
-mod given;
 mod lint;
 mod places;
-mod pointer;
 mod resolve;
-mod resources;
-mod rules;
 mod serve;
-mod shown;
-mod spots;
-mod suggestions;
-mod world;
 mod write;
 
 use crate::console::Console;
 use clap::ArgMatches;
-use ref_reading::Stop;
+use ref_reading::{Stop, command};
 use std::process::ExitCode;
 use std::{env, io};
 
@@ -36,16 +26,20 @@ fn main(rt: HostRuntime) -> ExitCode {
     ExitCode::from(status)
 }
 
-fn run(rt: &HostRuntime) -> Result<u8, Stop> {
-    let words = match env::args(rt) {
-        Ok(words) => words,
-        Err(error) if error.kind() == io::ErrorKind::OutOfMemory => return Err(Stop::Memory),
+// The words of the command line.
+fn words_of(rt: &HostRuntime) -> Result<Vec<String>, Stop> {
+    match env::args(rt) {
+        Ok(words) => Ok(words.collect(rt.alloc())?),
+        Err(error) if error.kind() == io::ErrorKind::OutOfMemory => Err(Stop::Memory),
         Err(_) => {
             let _ = eprintln!(rt; "patchsard: an argument is not UTF-8");
-            return Err(Stop::Reported);
+            Err(Stop::Reported)
         }
-    };
-    let words: Vec<String> = words.collect(rt.alloc())?;
+    }
+}
+
+fn run(rt: &HostRuntime) -> Result<u8, Stop> {
+    let words = words_of(rt)?;
     let command = command::patchsard(rt.alloc())?;
     match command.try_get_matches_from(words.as_slice()) {
         Ok(matches) => asked(rt, &matches),
@@ -58,25 +52,48 @@ fn run(rt: &HostRuntime) -> Result<u8, Stop> {
     }
 }
 
-// What a subcommand answers.
+// Goes to the folder that is asked for, answers the subcommand, and prints what is not printed yet.
 fn asked(rt: &HostRuntime, matches: &ArgMatches<'_>) -> Result<u8, Stop> {
     if let Some(folder) = matches.get_str("directory") {
         console::go_to(rt, folder)?;
     }
     let mut console = Console::new(rt);
-    let status = match matches.subcommand() {
-        Some(("lint", given)) => lint::lint(rt, &mut console, given)?,
-        Some(("resolve", given)) => resolve::resolve(rt, &mut console, given)?,
-        Some(("bundle", given)) => bundle::bundle(rt, &mut console, given)?,
-        Some(("places", given)) => places::places(rt, &mut console, given)?,
-        Some(("serve", _)) => serve::serve_calls(rt)?,
-        Some((_, given)) => drawing::draw(rt, &mut console, given)?,
-        None => {
-            let help = command::patchsard(rt.alloc())?.render_help()?;
-            let _ = eprint!(rt; "{help}");
-            2
-        }
-    };
+    let status = answered(rt, &mut console, matches)?;
     console.finish()?;
     Ok(status)
+}
+
+fn answered(
+    rt: &HostRuntime,
+    console: &mut Console<'_>,
+    matches: &ArgMatches<'_>,
+) -> Result<u8, Stop> {
+    match matches.subcommand() {
+        Some((name, given)) => answer(rt, console, name, given),
+        None => without_subcommand(rt),
+    }
+}
+
+// What a subcommand answers.
+fn answer(
+    rt: &HostRuntime,
+    console: &mut Console<'_>,
+    name: &str,
+    given: &ArgMatches<'_>,
+) -> Result<u8, Stop> {
+    match name {
+        "lint" => lint::lint(rt, console, given),
+        "resolve" => resolve::resolve(rt, console, given),
+        "bundle" => bundle::bundle(rt, console, given),
+        "places" => places::places(rt, console, given),
+        "serve" => serve::serve_calls(rt),
+        _ => drawing::draw(rt, console, given),
+    }
+}
+
+// Says how the program is called.
+fn without_subcommand(rt: &HostRuntime) -> Result<u8, Stop> {
+    let help = command::patchsard(rt.alloc())?.render_help()?;
+    let _ = eprint!(rt; "{help}");
+    Ok(2)
 }

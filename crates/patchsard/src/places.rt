@@ -1,17 +1,13 @@
 //! `patchsard places`.
 
 use crate::console::Console;
-use crate::given::{Given, read_given};
-use crate::pointer::place_of;
-use crate::world::{World, faulty_of, world_of};
 use clap::ArgMatches;
-use ref_draft::Draft;
 use ref_index::Place;
-use ref_parts::pointer_of;
-use ref_positions::{Places, Position};
+use ref_project::given::{Given, read_given};
+use ref_project::listing::push_document;
+use ref_project::world::{World, world_of};
 use ref_reading::{Document, Stop};
-use serde_json::Value;
-use std::alloc::{AllocError, Global};
+use std::alloc::Global;
 
 /// Lists each subschema of files. The status is 0, 1 where a file has no places for a fault of its own, and 2 where a
 /// path couldn't be read.
@@ -27,8 +23,7 @@ pub fn places(
 
 fn listed(rt: &HostRuntime, console: &mut Console<'_>, given: &Given) -> Result<u8, Stop> {
     let alloc = rt.alloc();
-    let list = given.findings(alloc)?;
-    let faulty = faulty_of(alloc, given.len(), list.as_slice())?;
+    let faulty = given.faulty(alloc)?;
     let world = world_of(rt, given, faulty.as_slice())?;
     let documents = given.documents.as_slice();
     list_all(alloc, console, documents, &world)?;
@@ -62,7 +57,8 @@ fn list_all(
         let count = count_of(rest, number);
         if let Some(document) = documents.get(*source) {
             let own = rest.get(..count).unwrap_or(rest);
-            list_document(alloc, console, document, own)?;
+            push_document(alloc, &mut console.out, document, own)?;
+            console.pass()?;
         }
         rest = rest.get(count..).unwrap_or(&[]);
     }
@@ -79,71 +75,4 @@ fn count_of(places: &[Place<'_>], document: usize) -> usize {
         count = count.saturating_add(1);
     }
     count
-}
-
-fn list_document(
-    alloc: Global,
-    console: &mut Console<'_>,
-    document: &Document,
-    places: &[Place<'_>],
-) -> Result<(), Stop> {
-    if document.value().is_none() {
-        return Ok(());
-    }
-    let mut asked = Places::new(alloc)?;
-    let numbers = numbers_of(alloc, &mut asked, places)?;
-    let located = asked.locate(alloc, document.text.as_str())?;
-    for (place, number) in places.iter().zip(numbers.iter()) {
-        let position = located.value(*number);
-        push_place(alloc, &mut console.out, document, place, position)?;
-        console.pass()?;
-    }
-    Ok(())
-}
-
-fn numbers_of(
-    alloc: Global,
-    asked: &mut Places,
-    places: &[Place<'_>],
-) -> Result<Vec<usize>, AllocError> {
-    let mut numbers = Vec::new(alloc);
-    for place in places {
-        numbers.push(place_of(asked, place.path.as_slice())?)?;
-    }
-    Ok(numbers)
-}
-
-fn push_place(
-    alloc: Global,
-    out: &mut String,
-    document: &Document,
-    place: &Place<'_>,
-    position: Option<Position<'_>>,
-) -> Result<(), AllocError> {
-    let (line, column) = match position {
-        Some(position) => (position.line(), position.column()),
-        None => (1, 1),
-    };
-    let pointer = pointer_of(alloc, place.path.as_slice())?;
-    let file = document.shown.as_str();
-    let draft = place.draft.name();
-    let base = place.base.as_str();
-    write!(
-        out,
-        "{file}:{line}:{column}: '{pointer}' draft {draft} base {base}"
-    )?;
-    push_names(out, place.draft, place.value)?;
-    out.push('\n')
-}
-
-// The identifier and the anchors of a place.
-fn push_names(out: &mut String, draft: Draft, value: &Value) -> Result<(), AllocError> {
-    if let Some(id) = value.get(draft.id_keyword()).and_then(Value::as_str) {
-        write!(out, " id '{id}'")?;
-    }
-    for anchor in draft.anchors(value) {
-        let name = anchor.name();
-        write!(out, " anchor '{name}'")?;
-    }
-    Ok(())
 }

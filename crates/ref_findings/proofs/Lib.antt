@@ -11,3 +11,5 @@ pub mod Dialects
 pub mod Missing
 pub mod Duplicates
 pub mod Retrieving
+pub mod Refused
+pub mod Plain

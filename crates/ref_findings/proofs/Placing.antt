@@ -1,6 +1,8 @@
 -- The program's places as the definitions see them.
-use Rattle.std.proofs.Common.{◌≡◌, ℕ, List, ◌++◌, ◌||◌, false, Some, option_map, ap, ◌∙◌}
-use Rattle.std.specs.Prelude.{option_and_then}
+use Rattle.std.proofs.Common.{◌≡◌, ℕ, List, [], ◌++◌, ◌||◌, false, Some, None, ◌&&◌, not, bytes_eq, option_map, flat_map, codes, append-nil, ap, ◌∙◌}
+use Rattle.std.specs.Prelude.{option_and_then, if◌then◌else◌}
+use Rattle.std.specs.Option.{option_map_or}
+use Rattle.ref_definitions.specs.Resources.{own_uri}
 use Rattle.serde_json.specs.Data.{Data}
 use Rattle.ref_parts.specs.Path.{Part}
 use Rattle.ref_draft.specs.declared.draft.Draft.{Draft}
@@ -8,7 +10,10 @@ use Rattle.ref_draft.specs.Children.{Walked}
 use Rattle.ref_uri.specs.Targets.{target}
 use Rattle.ref_definitions.specs.Places.{base_within, child_place}
 use Rattle.ref_definitions.specs.Wants.{reference_at, schema_at, schema_uri}
-use Rattle.ref_findings.specs.Places.{nearest_of, is_refused, is_faulty}
+use Rattle.ref_draft.specs.Keywords.{id_keyword}
+use Rattle.ref_findings.specs.Places.{nearest_of, nearest_base, is_refused, is_faulty}
+use Rattle.ref_findings.specs.Bearers.{Site, is_root}
+use Rattle.ref_findings.specs.Findings.{Known, Finding, uri_problem, by_base, reference_problem, schema_problem, finding_at, source_findings, identifier_findings, reference_findings, schema_findings, anchor_finding, anchor_findings, findings_at}
 use Rattle.ref_findings.specs.declared.place.Place as rust
 use Rattle.ref_findings.specs.inner.Plain.{IsPlain}
 use Rattle.ref_findings.specs.inner.Seen.{place_of, place_with}
@@ -24,3 +29,23 @@ pub plain_sound : (path : List Part) (value : Data) (draft : Draft) (outer : Lis
 plain_sound path value draft outer plain =
     ap (λ id. is_refused (Some (base_within outer id)) || (is_refused (reference_at (nearest_of outer (base_within outer id)) value) || is_refused (schema_at value))) plain.2
     ∙ ap (λ text. is_refused (option_map (target outer) text) || is_refused (schema_at value)) plain.0 ∙ ap (λ text. is_refused (option_and_then schema_uri text)) plain.1
+
+none_after : (first a b c d : List Finding) → a ≡ [] → b ≡ [] → c ≡ [] → d ≡ [] → first ++ (a ++ (b ++ (c ++ d))) ≡ first
+none_after first a b c d no_a no_b no_c no_d = rw (no_a, no_b, no_c, no_d) (append-nil first)
+
+-- a place below the root doesn't have the URI of its source
+pub below_root : (k : Known) (number : ℕ) (s : Site) → is_root s.1 ≡ false → source_findings k number s ≡ []
+below_root k number s below =
+    ap (λ b. finding_at s None (option_and_then (uri_problem k number) (if b && not (option_map_or (λ own. bytes_eq own s.1.outer) (own_uri s.1) false) then Some s.1.outer else None))) below
+
+-- at a place without a text that findings are about, at most the URI of its source is wrong
+pub plain_findings : (k : Known) (number source : ℕ) (path : List Part) (value : Data) (draft : Draft) (outer : List ℕ) → IsPlain draft value
+    → findings_at k number (source, place_with path value draft outer) ≡ source_findings k number (source, place_with path value draft outer)
+plain_findings k number source path value draft outer plain =
+    let p = place_with path value draft outer in
+    let s : Site = (source, p) in
+    none_after (source_findings k number s) (identifier_findings k number s) (reference_findings k s) (schema_findings k s) (anchor_findings k number s)
+    (ap (λ id. finding_at s (Some (id_keyword draft)) (option_and_then (λ i. by_base k number p.base) id)) plain.2)
+    (ap (λ text. finding_at s (Some (codes "$ref")) (option_and_then (reference_problem k (nearest_base p)) text)) plain.0)
+    (ap (λ text. finding_at s (Some (codes "$schema")) (option_and_then (schema_problem k) text)) plain.1)
+    (ap (flat_map (anchor_finding k number s)) plain.3)

@@ -16,9 +16,9 @@ use std::rc::Rc;
 /// The URI that a text means, or why it means none.
 pub(crate) type Meaning = Result<Rc<Uri>, UriError>;
 
-// The URI that a text means against a base.
-fn resolved(alloc: Global, base: &Rc<Uri>, text: &str) -> Result<Meaning, AllocError>
-    ensures { IfOk result (IsMeaning (uri_against base.now.value text.now)) }
+/// The URI that a text means against a base.
+pub(crate) fn resolved(alloc: Global, base: &Rc<Uri>, text: &str) -> Result<Meaning, AllocError>
+    ensures value { IfOk result (IsMeaning (uri_against base.now.value text.now)) }
 {
     match resolve_against(alloc, base.borrow(), text) {
         Ok(uri) => Ok(Ok(shared(alloc, uri)?)),

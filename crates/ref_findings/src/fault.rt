@@ -2,16 +2,18 @@
 ghost use Rattle.std.specs.Prelude.{◌≡◌, map, Some, IfOk, option_map};
 ghost use Rattle.std.specs.List.{list_any};
 ghost use Rattle.serde_json.specs.View.{view};
+ghost use Rattle.ref_uri.specs.Targets.{target};
 ghost use Rattle.ref_definitions.specs.Places.{base_within};
 ghost use Rattle.ref_definitions.specs.Wants.{reference_at, schema_at};
 ghost use Rattle.ref_findings.specs.Places.{is_refused, is_faulty};
 ghost use Rattle.ref_findings.specs.inner.Seen.{place_of};
 
-use crate::base::{base_of, meta_schema_uri, nearest_base, target_of};
+use crate::base::{base_of, meta_schema_uri, nearest_base};
 use crate::finding::text_under;
 use crate::place::Place;
 use ref_draft::Draft;
-use ref_uri::Uri;
+use ref_uri::parts::uri_part;
+use ref_uri::{Uri, UriRef};
 use serde_json::Value;
 use std::alloc::{AllocError, Global};
 use std::rc::Rc;
@@ -31,16 +33,26 @@ fn is_identifier_faulty(
     Ok(base.is_err())
 }
 
-// Whether its reference means no URI.
-fn is_reference_faulty(alloc: Global, base: &Rc<Uri>, value: &Value) -> Result<bool, AllocError>
-    ensures { IfOk result
-        (λ faulty. faulty ≡ is_refused (reference_at base.now.value (view value.now))) }
+// Whether a reference means no URI against a base. It isn't resolved: what is a URI reference means a URI against each base.
+fn is_target_refused(base: &Uri, reference: &str) -> bool
+    ensures { result ≡ is_refused (Some (target base.now reference.now)) }
 {
-    let Some(reference) = text_under(value, "$ref") else {
-        return Ok(false);
-    };
-    let target = target_of(alloc, base, reference)?;
-    Ok(target.is_err())
+    if reference.starts_with('#') {
+        return false;
+    }
+    let has_scheme = base.has_scheme();
+    prove!(has_scheme);
+    UriRef::parse(uri_part(reference)).is_err()
+}
+
+// Whether its reference means no URI.
+fn is_reference_faulty(base: &Uri, value: &Value) -> bool
+    ensures { result ≡ is_refused (reference_at base.now (view value.now)) }
+{
+    match text_under(value, "$ref") {
+        Some(reference) => is_target_refused(base, reference),
+        None => false,
+    }
 }
 
 // Whether its `$schema`, where that is no known draft, means no URI.
@@ -67,7 +79,7 @@ fn is_faulty(alloc: Global, place: &Place<'_>) -> Result<bool, AllocError>
     let id = place.id();
     let of_identifier = is_identifier_faulty(alloc, &place.outer, id)?;
     let base = nearest_base(alloc, &place.outer, id)?;
-    let of_reference = is_reference_faulty(alloc, &base, place.value)?;
+    let of_reference = is_reference_faulty(&base, place.value);
     let of_schema = is_schema_faulty(alloc, place.value)?;
     Ok(of_identifier || (of_reference || of_schema))
 }

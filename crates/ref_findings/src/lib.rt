@@ -16,6 +16,7 @@ mod problem;
 mod site;
 mod source;
 mod survey;
+mod texts;
 mod walk;
 
 pub use finding::{Bearer, Finding, Problem, Report};

@@ -86,6 +86,9 @@ fn add_source_uri<'v>(
         (AllZip IsFindingOf list.new.items
         (fs ++ source_findings (known_in known.now) number (site_of site.now))) }
 {
+    if !site.place.is_root() {
+        return Ok(());
+    }
     let own = own_uri(alloc, site.place)?;
     let Some(uri) = source_uri(site.place, own.as_ref()) else {
         return Ok(());
@@ -219,6 +222,9 @@ fn add_site<'v>(
         (fs ++ findings_at (known_in known.now) number (site_of site.now))) }
 {
     add_source_uri(alloc, list, known, number, site)?;
+    if site.place.is_plain() {
+        return Ok(());
+    }
     add_identifier(alloc, list, known, number, site)?;
     add_reference(alloc, list, known, site)?;
     add_schema(alloc, list, known, site)?;

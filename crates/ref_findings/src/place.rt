@@ -1,11 +1,12 @@
 //! A place where a schema is.
-ghost use Rattle.std.specs.Prelude.{◌≡◌, true, false, None, [], map, option_map};
+ghost use Rattle.std.specs.Prelude.{◌≡◌, true, map, option_map};
 ghost use Rattle.serde_json.specs.View.{view};
-ghost use Rattle.ref_draft.specs.Schema.{text_under as text_in, identifier};
+ghost use Rattle.ref_draft.specs.Schema.{text_under as text_in};
 ghost use Rattle.ref_draft.specs.Anchors.{anchors as anchors_of};
-ghost use Rattle.ref_findings.specs.inner.Plain.{IsPlain};
+ghost use Rattle.ref_findings.specs.inner.Plain.{IsPlain, AreAmong};
 
 use crate::finding::text_under;
+use crate::texts::{Texts, texts_of};
 use ref_draft::{AnchorIter, Draft, ResourceRef};
 use ref_parts::path::JsonPointerNode;
 use ref_uri::Uri;
@@ -19,58 +20,8 @@ pub(crate) struct Place<'v> {
     pub value: &'v Value,
     pub draft: Draft,
     pub outer: Rc<Uri>,
-    // Whether it has no text that findings are about, as most places: then none is looked for again.
-    is_plain: bool,
-    ghost plain: { is_plain ≡ true → IsPlain draft (view value.now) },
-}
-
-// Whether a value has a text under a keyword.
-fn has_text(value: &Value, keyword: &str) -> bool
-    ensures { result ≡ false → text_in keyword.now (view value.now) ≡ None }
-{
-    match text_under(value, keyword) {
-        Some(_) => true,
-        None => false,
-    }
-}
-
-// Whether it has an identifier.
-fn has_id(value: &Value, draft: Draft) -> bool
-    ensures { result ≡ false → identifier draft (view value.now) ≡ None }
-{
-    match ResourceRef::new(value, draft).id() {
-        Some(_) => true,
-        None => false,
-    }
-}
-
-// Whether it has an anchor.
-fn has_anchor(value: &Value, draft: Draft) -> bool
-    ensures { result ≡ false → anchors_of draft (view value.now) ≡ [] }
-{
-    match draft.anchors(value) {
-        AnchorIter::Empty => false,
-        _ => true,
-    }
-}
-
-// Whether it has no text that findings are about.
-fn lacks_texts(value: &Value, draft: Draft) -> bool
-    ensures { result ≡ true → IsPlain draft (view value.now) }
-{
-    if has_text(value, "$ref") {
-        return false;
-    }
-    if has_text(value, "$schema") {
-        return false;
-    }
-    if has_id(value, draft) {
-        return false;
-    }
-    if has_anchor(value, draft) {
-        return false;
-    }
-    true
+    texts: Texts,
+    ghost among: { AreAmong texts draft (view value.now) },
 }
 
 impl<'v> Place<'v> {
@@ -89,13 +40,13 @@ impl<'v> Place<'v> {
     ) -> Place<'v>
         ensures value { place_of result ≡ place_with path.entry (view value.now) draft outer.value }
     {
-        let is_plain = lacks_texts(value, draft);
+        let texts = texts_of(value, draft);
         Place {
             path,
             value,
             draft,
             outer,
-            is_plain,
+            texts,
         }
     }
 
@@ -103,14 +54,14 @@ impl<'v> Place<'v> {
     pub fn is_plain(&self) -> bool
         ensures value { result ≡ true → IsPlain self.now.draft (view self.now.value.now) }
     {
-        self.is_plain
+        self.texts.is_empty()
     }
 
     /// The identifier of its value. Takes no memory.
     pub fn id(&self) -> Option<&'v str>
         ensures value { option_map (λ text. text.now) result ≡ identifier_of (place_of self.now) }
     {
-        if self.is_plain() {
+        if !self.texts.id {
             return None;
         }
         ResourceRef::new(self.value, self.draft).id()
@@ -121,7 +72,7 @@ impl<'v> Place<'v> {
         ensures value { option_map (λ text. text.now) result
             ≡ text_in (codes "$ref") (place_of self.now).value }
     {
-        if self.is_plain() {
+        if !self.texts.reference {
             return None;
         }
         text_under(self.value, "$ref")
@@ -132,7 +83,7 @@ impl<'v> Place<'v> {
         ensures value { option_map (λ text. text.now) result
             ≡ text_in (codes "$schema") (place_of self.now).value }
     {
-        if self.is_plain() {
+        if !self.texts.schema {
             return None;
         }
         text_under(self.value, "$schema")
@@ -143,7 +94,7 @@ impl<'v> Place<'v> {
         ensures value { map anchor_name (anchors_left result)
             ≡ anchors_of (place_of self.now).draft (place_of self.now).value }
     {
-        if self.is_plain() {
+        if !self.texts.anchor {
             return AnchorIter::Empty;
         }
         self.draft.anchors(self.value)

@@ -1,6 +1,7 @@
 //! What is wrong at a place, text by text.
 ghost use Rattle.std.specs.Prelude.{◌≡◌, ◌==◌, ◌||◌, [], IfOk, map, not, bytes_eq, option_copied, Some, Ok};
 ghost use Rattle.std.specs.List.{list_any};
+ghost use Rattle.ref_uri.specs.Targets.{target};
 ghost use Rattle.ref_draft.specs.Keywords.{is_unknown};
 ghost use Rattle.ref_draft.specs.Schema.{trimmed_text, from_schema_uri};
 ghost use Rattle.ref_error.specs.Errors.{SaysFault};
@@ -10,20 +11,20 @@ ghost use Rattle.ref_definitions.specs.Lookup.{lookup};
 ghost use Rattle.ref_resolver.specs.Layered.{world_in};
 ghost use Rattle.ref_findings.specs.Bearers.{other_bearer};
 ghost use Rattle.ref_findings.specs.Findings.{is_among, is_meta_schema, missing_problem, by_fault, by_target, is_dialect, by_dialect, reference_problem, schema_problem, uri_problem, by_base, name_problem};
-ghost use Rattle.ref_findings.specs.inner.Meanings.{IsMaybe, IsWhy, IsBearer, is_unretrievable};
+ghost use Rattle.ref_findings.specs.inner.Meanings.{IsMeaning, IsMaybe, IsWhy, IsBearer, is_unretrievable};
 ghost use Rattle.ref_findings.specs.inner.Meanings as meanings;
 ghost use Rattle.ref_findings.specs.inner.Seen.{known_in};
 
-use crate::base::{base_of, meta_schema_uri, target_of};
+use crate::base::{Meaning, base_of, meta_schema_uri, target_of};
 use crate::finding::{Bearer, Problem};
 use crate::site::Site;
 use ref_draft::{Draft, trim_hashes};
 use ref_error::Error;
 use ref_index::path::segments_of;
-use ref_parts::SortedTable;
+use ref_parts::{List, SortedTable};
 use ref_resolver::{Layers, Resolver};
 use ref_uri::Uri;
-use ref_uri::parts::parts;
+use ref_uri::parts::{parts, uri_part};
 use referencing::meta;
 use std::alloc::{AllocError, Global};
 use std::rc::Rc;
@@ -94,16 +95,15 @@ fn is_unretrievable(error: &Error) -> bool
 fn fault_at(
     alloc: Global,
     layers: Layers<'_>,
-    base: &Uri,
+    base: &Rc<Uri>,
     reference: &str,
 ) -> Result<Option<Error>, AllocError>
     ensures { IfOk result
         (IsWhy
         (lookup (world_in layers.entry)
-        (record { base = base.now; scope = [] }) reference.now)) }
+        (record { base = base.now.value; scope = [] }) reference.now)) }
 {
-    let base = base.clone()?;
-    let resolver = Resolver::new(alloc, layers, base)?;
+    let resolver = Resolver::from_parts(layers, base.clone()?, List::new());
     match resolver.lookup(alloc, reference) {
         Ok(_) => Ok(None),
         Err(Error::Memory(error)) => Err(error),
@@ -163,6 +163,22 @@ impl<'k, 'v> Known<'k, 'v> {
         }
     }
 
+    // The URI that a reference points into, which isn't resolved again where it was for the index.
+    fn target(&self, alloc: Global, base: &Rc<Uri>, reference: &str) -> Result<Meaning, AllocError>
+        ensures { IfOk result (IsMeaning (target base.now.value reference.now)) }
+    {
+        if reference.starts_with('#') {
+            return Ok(Ok(base.clone()?));
+        }
+        match self
+            .layers
+            .resolved_uri(&base.borrow(), uri_part(reference))
+        {
+            Some(uri) => Ok(Ok(uri.clone()?)),
+            None => target_of(alloc, base, reference),
+        }
+    }
+
     /// What is wrong with a text under `$ref`, from a base.
     pub fn of_reference(
         &self,
@@ -173,7 +189,7 @@ impl<'k, 'v> Known<'k, 'v> {
         ensures value { IfOk result
             (IsMaybe (reference_problem (known_in self.now) base.now.value reference.now)) }
     {
-        match target_of(alloc, base, reference)? {
+        match self.target(alloc, base, reference)? {
             Ok(uri) => self.followed(alloc, base, reference, uri),
             Err(error) => Ok(Some(Problem::InvalidUri(error))),
         }

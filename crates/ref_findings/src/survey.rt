@@ -172,6 +172,15 @@ fn push_sites<'p, 'v>(
     Ok(())
 }
 
+// How many places there are.
+fn count_of(surveys: &[Survey<'_, '_>]) -> usize {
+    let mut count: usize = 0;
+    for survey in surveys {
+        count = count.saturating_add(survey.places.len());
+    }
+    count
+}
+
 /// The places of all sources, one source after another, with the numbers of these.
 pub(crate) fn sites_of<'p, 'v>(
     alloc: Global,
@@ -182,7 +191,7 @@ pub(crate) fn sites_of<'p, 'v>(
         ≡ flat_map numbered_sites
         (enumerate_from 0 (map (λ s. (seen_survey s).places) surveys.now))) }
 {
-    let mut sites = Vec::new(alloc);
+    let mut sites = Vec::with_capacity(alloc, count_of(surveys))?;
     for (number, survey) in surveys.iter().enumerate() {
         push_sites(&mut sites, number, survey.places.as_slice())?;
     }

@@ -1,19 +1,19 @@
 //! The places of a source where schemas stand.
-ghost use Rattle.std.specs.Prelude.{◌≡◌, ◌<◌, List, [], ◌∷◌, ◌++◌, map, length, slice_get, Some, IfOk, OnOk};
+ghost use Rattle.std.specs.Prelude.{◌≡◌, ◌<◌, List, [], ◌∷◌, ◌++◌, map, length, slice_get, Some, IfOk, IfSome, OnOk};
 ghost use Rattle.serde_json.specs.View.{view};
 ghost use Rattle.ref_draft.specs.Children.{walked_children};
-ghost use Rattle.ref_draft.specs.Views.{walked_child};
+ghost use Rattle.ref_parts.specs.Path.{Key};
+ghost use Rattle.ref_draft.specs.Views.{segment_parts, walked_child};
 ghost use Rattle.ref_definitions.specs.Places.{child_place, root};
 ghost use Rattle.ref_findings.specs.Places.{children_near, places_near};
 ghost use Rattle.ref_findings.specs.declared.place.Place.{Place};
-ghost use Rattle.ref_findings.specs.inner.Seen.{place_of};
+ghost use Rattle.ref_findings.specs.inner.Seen.{place_of, IsKeywordBelow};
 
 use crate::base::nearest_base;
 use crate::place::Place;
 use ref_draft::{Child, Draft};
-use ref_index::path::path_below;
 use ref_index::reference::shared;
-use ref_parts::path::JsonPointerNode;
+use ref_parts::path::{JsonPointerNode, JsonPointerSegment};
 use ref_uri::Uri;
 use serde_json::Value;
 use std::alloc::{AllocError, Global};
@@ -27,17 +27,63 @@ fn push<'v>(places: &mut Vec<Place<'v>>, place: Place<'v>) -> Result<(), AllocEr
     Ok(())
 }
 
+// A keyword of a schema, with its path: children under one keyword, which stand one after another, share it.
+#[derive(Drop)]
+struct Keyword<'v> {
+    text: &'v str,
+    path: JsonPointerNode<'v>,
+}
+
+// The path of a keyword below a path: that of the last one where it is the same.
+fn keyword_path<'v>(
+    alloc: Global,
+    path: &JsonPointerNode<'v>,
+    last: &mut Option<Keyword<'v>>,
+    text: &'v str,
+) -> Result<JsonPointerNode<'v>, AllocError>
+    requires { IfSome last.old (IsKeywordBelow path.now) }
+    ensures value { IfOk result (λ below. below ≡ path.now ++ Key text.now ∷ []) }
+    ensures last { IfSome last.new (IsKeywordBelow path.now) }
+{
+    if let Some(keyword) = last {
+        if keyword.text == text {
+            return keyword.path.clone();
+        }
+    }
+    let below = path.push(alloc, text)?;
+    let path = below.clone()?;
+    *last = Some(Keyword { text, path });
+    Ok(below)
+}
+
+// The path of what a keyword holds: under an index or a key, or the keyword's value itself.
+fn path_within<'v>(
+    alloc: Global,
+    keyword: JsonPointerNode<'v>,
+    segment: Option<JsonPointerSegment<'v>>,
+) -> Result<JsonPointerNode<'v>, AllocError>
+    ensures { IfOk result (λ within. within ≡ keyword.entry ++ segment_parts segment.entry) }
+{
+    match segment {
+        Some(segment) => keyword.push(alloc, segment),
+        None => Ok(keyword),
+    }
+}
+
 // Adds a child of a place after the others.
 fn push_child<'v>(
     alloc: Global,
     places: &mut Vec<Place<'v>>,
     path: &JsonPointerNode<'v>,
+    last: &mut Option<Keyword<'v>>,
     child: Child<'v>,
     base: &Rc<Uri>,
 ) -> Result<(), AllocError>
-    ensures { OnOk result
+    requires { IfSome last.old (IsKeywordBelow path.now) }
+    ensures added { OnOk result
         ((p : Place) × (places.new.items ≡ places.old.items ++ p ∷ [])
         × (place_of p ≡ child_place path.now base.now.value (walked_child child.entry))) }
+    ensures last { IfSome last.new (IsKeywordBelow path.now) }
 {
     let Child {
         keyword,
@@ -46,7 +92,8 @@ fn push_child<'v>(
         draft,
     } = child;
     let outer = base.clone()?;
-    let path = path_below(alloc, path, keyword, segment)?;
+    let keyword = keyword_path(alloc, path, last, keyword)?;
+    let path = path_within(alloc, keyword, segment)?;
     let place = Place::new(path, value, draft, outer);
     push(places, place)
 }
@@ -66,8 +113,9 @@ fn push_children<'v>(
         ≡ map (child_place path.now base.now.value)
         (walked_children draft (view value.now)))) }
 {
+    let mut last = None;
     for child in draft.walk_children(alloc, value)? {
-        push_child(alloc, places, path, child, base)?;
+        push_child(alloc, places, path, &mut last, child, base)?;
     }
     Ok(())
 }
@@ -126,5 +174,6 @@ pub(crate) fn places_of<'v>(
         push_below(alloc, &mut places, head)?;
         head += 1;
     }
+    places.shrink_to_fit();
     Ok(places)
 }

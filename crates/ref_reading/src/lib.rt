@@ -3,6 +3,7 @@
 #![tactic(auto)]
 
 mod buffer;
+pub mod command;
 pub mod document;
 pub mod files;
 pub mod maps;

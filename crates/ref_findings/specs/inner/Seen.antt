@@ -1,9 +1,9 @@
 -- The program's places, tables and sources as the definitions see them.
-use Rattle.std.specs.Prelude.{◌≡◌, ℕ, Bool, List, [], ◌∷◌, map, flat_map, reverse, if◌then◌else◌}
+use Rattle.std.specs.Prelude.{◌≡◌, ℕ, Bool, List, [], ◌∷◌, ◌++◌, map, flat_map, reverse, if◌then◌else◌}
 use Rattle.std.specs.List.{AllByRecursion}
 use Rattle.std.specs.Option.{option_to_list}
 use Rattle.ref_parts.specs.Table.{Entry}
-use Rattle.ref_parts.specs.Path.{Part}
+use Rattle.ref_parts.specs.Path.{Part, Key}
 use Rattle.serde_json.specs.Data.{Data}
 use Rattle.ref_definitions.specs.World.{Document, Layer}
 use Rattle.ref_definitions.specs.Resources.{own_uri}
@@ -13,6 +13,7 @@ use Rattle.ref_draft.specs.declared.draft.Draft.{Draft}
 use Rattle.ref_definitions.specs.Places.{Place, base_within}
 use Rattle.ref_resolver.specs.Layered.{world_in}
 use Rattle.ref_findings.specs.declared.place.Place as rust
+use Rattle.ref_findings.specs.declared.walk.Keyword as rust_keyword
 use Rattle.ref_findings.specs.declared.site.Site as rust_site
 use Rattle.ref_findings.specs.declared.survey.Survey as rust_survey
 use Rattle.ref_findings.specs.declared.problem.Known as rust_known
@@ -35,6 +36,10 @@ place_with path value draft outer =
 -- that of the program
 abbrev pub place_of : rust.Place → Place
 place_of p = place_with p.path (view p.value.now) p.draft p.outer.value
+
+-- a keyword with its path, right below a path
+abbrev pub IsKeywordBelow : List Part → rust_keyword.Keyword → Type 0
+IsKeywordBelow path k = k.path ≡ path ++ Key k.text.now ∷ []
 
 -- a place with the number of its source
 abbrev pub site_of : rust_site.Site → Site

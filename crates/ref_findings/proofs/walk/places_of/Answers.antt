@@ -39,4 +39,5 @@ loop-head-preserved c =
 pub returns : goal.returns
 returns c =
     let d : Document = record { uri = c.args.uri.now; tree = view c.args.value.now; draft = c.args.draft } in
-    record { value = ends d (map place_of c.loop-head.places.items) c.loop-head.head (omega (arith, length-map c.loop-head.places.items place_of)) c.loop-head.invariant }
+    let queue = c.loop-head.places.items in
+    record { value = ap (map place_of) c.shrink_to_fit.ensures.items ∙ ends d (map place_of queue) c.loop-head.head (omega (arith, length-map queue place_of)) c.loop-head.invariant }

@@ -3,4 +3,4 @@ use Rattle.std.proofs.lemmas.Grind.{common_steps}
 use Rattle.ref_findings.proofs.walk.push_children.Goals as goal
 
 pub loop-child-preserved : goal.loop-child-preserved
-loop-child-preserved c = grind (arith, common_steps)
+loop-child-preserved c = (grind (arith, common_steps), c.push_child.ensures.last)

@@ -1,7 +1,7 @@
-use Rattle.std.proofs.Common.{◌≡◌, true, sym, rules}
+use Rattle.std.proofs.Common.{◌≡◌, false, sym, rules}
 use Rattle.ref_findings.proofs.place.Place.schema.Goals as goal
 
-pub returns-then-is_plain : goal.returns-then-is_plain
-returns-then-is_plain c =
-    let plain : c.is_plain.result ≡ true = search rules in
-    record { value = sym (c.is_plain.ensures.value plain).1 }
+pub returns-then-not-self : goal.returns-then-not-self
+returns-then-not-self c =
+    let lacks : c.args.self.now.texts.schema ≡ false = search rules in
+    record { value = sym (c.args.self.now.among.1 lacks) }

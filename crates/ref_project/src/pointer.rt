@@ -18,6 +18,21 @@ pub fn place_of(places: &mut Places, path: &[JsonPointerSegment<'_>]) -> Result<
     Ok(place)
 }
 
+/// The line and the column at the end of a path in a text, or its beginning where it has no such place.
+pub fn position(
+    alloc: Global,
+    text: &str,
+    path: &[JsonPointerSegment<'_>],
+) -> Result<(usize, usize), AllocError> {
+    let mut places = Places::new(alloc)?;
+    let place = place_of(&mut places, path)?;
+    let located = places.locate(alloc, text)?;
+    match located.value(place) {
+        Some(position) => Ok((position.line(), position.column())),
+        None => Ok((1, 1)),
+    }
+}
+
 /// The path that a pointer means in a value (RFC 6901, 4). `PointerToNowhere` where it leads to none.
 pub fn path_to<'p>(
     alloc: Global,

@@ -1,13 +1,15 @@
 //! What a reference leads to, as it is printed.
+use crate::follow::Found;
 use crate::given::Given;
-use crate::pointer::{path_to, place_of};
-use crate::resolve::Found;
+use crate::pointer::{path_to, position};
 use crate::world::{World, without_fragment};
 use percent_encoding::percent_decode_str;
+use ref_draft::Draft;
 use ref_index::Place;
 use ref_parts::pointer_of;
-use ref_positions::Places;
 use ref_reading::Stop;
+use referencing::Resolver;
+use serde_json::Value;
 use std::alloc::{AllocError, Global};
 
 /// Adds the value that was found, and where it stands: its file, line, column and pointer, its draft, its base URI and
@@ -20,17 +22,26 @@ pub fn push_found(
     found: Found<'_>,
 ) -> Result<(), Stop> {
     let (value, resolver, draft) = found.resolved.into_inner();
+    push_value(alloc, out, value)?;
+    push_place(alloc, out, given, world, found.uri.as_str())?;
+    push_scope(out, draft, &resolver)?;
+    Ok(())
+}
+
+fn push_value(alloc: Global, out: &mut String, value: &Value) -> Result<(), Stop> {
     let text = value.to_string_pretty(alloc)?;
     out.push_str(text.as_str())?;
     out.push('\n')?;
-    push_place(alloc, out, given, world, found.uri.as_str())?;
+    Ok(())
+}
+
+fn push_scope(out: &mut String, draft: Draft, resolver: &Resolver<'_>) -> Result<(), AllocError> {
     let (name, base) = (draft.name(), resolver.base_uri());
     write!(out, "draft {name}\nbase {}\nscope", base.as_str())?;
     for uri in resolver.dynamic_scope().iter() {
         write!(out, " {}", uri.as_str())?;
     }
-    out.push('\n')?;
-    Ok(())
+    out.push('\n')
 }
 
 // Adds where the place stands that a URI means.
@@ -42,8 +53,9 @@ fn push_place(
     uri: &str,
 ) -> Result<(), AllocError> {
     let fragment = fragment_of(alloc, uri)?;
-    for place in world.places(alloc)? {
-        if place.base.as_str() == without_fragment(uri) && is_meant(&place, fragment.as_str()) {
+    let places = world.places(alloc)?;
+    for place in &places {
+        if place.base.as_str() == without_fragment(uri) && is_meant(place, fragment.as_str()) {
             let mut pointer = pointer_of(alloc, place.path.as_slice())?;
             if fragment.as_str().starts_with('/') {
                 pointer.push_str(fragment.as_str())?;
@@ -112,12 +124,6 @@ fn push_line(
     let Ok(path) = path_to(alloc, document.value(), pointer) else {
         return write!(out, "at {name}: '{pointer}'\n");
     };
-    let mut places = Places::new(alloc)?;
-    let place = place_of(&mut places, path.as_slice())?;
-    let located = places.locate(alloc, document.text.as_str())?;
-    let (line, column) = match located.value(place) {
-        Some(position) => (position.line(), position.column()),
-        None => (1, 1),
-    };
+    let (line, column) = position(alloc, document.text.as_str(), path.as_slice())?;
     write!(out, "at {name}:{line}:{column}: '{pointer}'\n")
 }

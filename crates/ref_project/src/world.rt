@@ -36,48 +36,56 @@ pub struct World<'d> {
     pub sources: Vec<usize>,
 }
 
-/// The registry of what was read. A document that is no JSON or has a text that means no URI counts as an empty one; of
-/// those under one URI the first is taken. Refuses with a text on standard error.
+/// The registry of what was read. A document that is no JSON or is faulty counts as an empty one; of those under one URI
+/// the first is taken. Refuses with a text on standard error.
 pub fn world_of<'d>(
     rt: &HostRuntime,
     given: &'d Given,
     faulty: &[bool],
 ) -> Result<World<'d>, Stop> {
-    match prepared(rt.alloc(), given, faulty) {
-        Ok(world) => Ok(world),
-        Err(Error::Memory(_)) => Err(Stop::Memory),
-        Err(error) => {
-            let _ = eprintln!(rt; "patchsard: {error}");
-            Err(Stop::Reported)
-        }
+    let sources = first_of_each(rt.alloc(), given)?;
+    match prepared(rt.alloc(), given, faulty, sources.as_slice()) {
+        Ok(registry) => Ok(World { registry, sources }),
+        Err(error) => Err(stopped(rt, &error)),
     }
 }
 
-fn prepared<'d>(alloc: Global, given: &'d Given, faulty: &[bool]) -> Result<World<'d>, Error> {
-    let sources = first_of_each(alloc, given)?;
-    let builder = Registry::new(alloc)
-        .draft(given.draft)
-        .retrieval_limit(usize::MAX);
-    let builder = filled(builder, given, faulty, sources.as_slice())?;
-    let registry = builder.retriever(StandIns).prepare()?;
-    Ok(World { registry, sources })
+// Why the program stops where a registry is refused.
+fn stopped(rt: &HostRuntime, error: &Error) -> Stop {
+    if error.is_memory() {
+        return Stop::Memory;
+    }
+    let _ = eprintln!(rt; "patchsard: {error}");
+    Stop::Reported
 }
 
-fn filled<'d>(
-    builder: RegistryBuilder<'d>,
+// The registry of the documents with these numbers.
+fn prepared<'d>(
+    alloc: Global,
     given: &'d Given,
     faulty: &[bool],
     numbers: &[usize],
-) -> Result<RegistryBuilder<'d>, Error> {
-    let mut builder = builder;
+) -> Result<Registry<'d>, Error> {
+    let mut builder = Registry::new(alloc)
+        .draft(given.draft)
+        .retrieval_limit(usize::MAX);
     for number in numbers {
-        if let Some(uri) = given.uri(*number) {
-            let is_faulty = faulty.get(*number).copied().unwrap_or(false);
-            let value = given.sound_value(*number, is_faulty);
-            builder = builder.add(uri.as_str(), value)?;
-        }
+        builder = with_document(builder, given, faulty, *number)?;
     }
-    Ok(builder)
+    builder.retriever(StandIns).prepare()
+}
+
+// The builder with the document that has a number.
+fn with_document<'d>(
+    builder: RegistryBuilder<'d>,
+    given: &'d Given,
+    faulty: &[bool],
+    number: usize,
+) -> Result<RegistryBuilder<'d>, Error> {
+    match given.uri(number) {
+        Some(uri) => builder.add(uri.as_str(), given.sound_value(number, faulty)),
+        None => Ok(builder),
+    }
 }
 
 /// The same above another registry, with copies of the values.
@@ -87,13 +95,10 @@ pub fn world_above<'d, 'o: 'd>(
     given: &Given,
     faulty: &[bool],
 ) -> Result<World<'d>, Stop> {
-    match prepared_above(rt.alloc(), above, given, faulty) {
-        Ok(world) => Ok(world),
-        Err(Error::Memory(_)) => Err(Stop::Memory),
-        Err(error) => {
-            let _ = eprintln!(rt; "patchsard: {error}");
-            Err(Stop::Reported)
-        }
+    let sources = first_of_each(rt.alloc(), given)?;
+    match prepared_above(rt.alloc(), above, given, faulty, sources.as_slice()) {
+        Ok(registry) => Ok(World { registry, sources }),
+        Err(error) => Err(stopped(rt, &error)),
     }
 }
 
@@ -102,32 +107,30 @@ fn prepared_above<'d, 'o: 'd>(
     above: &'d Registry<'o>,
     given: &Given,
     faulty: &[bool],
-) -> Result<World<'d>, Error> {
-    let sources = first_of_each(alloc, given)?;
-    let builder = above
+    numbers: &[usize],
+) -> Result<Registry<'d>, Error> {
+    let mut builder = above
         .extend(alloc, NONE)?
         .draft(given.draft)
         .retrieval_limit(usize::MAX);
-    let builder = with_copies(builder, given, faulty, sources.as_slice())?;
-    let registry = builder.retriever(StandIns).prepare()?;
-    Ok(World { registry, sources })
+    for number in numbers {
+        builder = with_copy(builder, given, faulty, *number)?;
+    }
+    builder.retriever(StandIns).prepare()
 }
 
-fn with_copies<'d>(
+// The builder with a copy of the document that has a number.
+fn with_copy<'d>(
     builder: RegistryBuilder<'d>,
     given: &Given,
     faulty: &[bool],
-    numbers: &[usize],
+    number: usize,
 ) -> Result<RegistryBuilder<'d>, Error> {
-    let mut builder = builder;
-    for number in numbers {
-        if let Some(uri) = given.uri(*number) {
-            let is_faulty = faulty.get(*number).copied().unwrap_or(false);
-            let value = given.sound_value(*number, is_faulty).clone()?;
-            builder = builder.add(uri.as_str(), value)?;
-        }
-    }
-    Ok(builder)
+    let Some(uri) = given.uri(number) else {
+        return Ok(builder);
+    };
+    let value = given.sound_value(number, faulty).clone()?;
+    builder.add(uri.as_str(), value)
 }
 
 // No documents.
@@ -138,11 +141,7 @@ const NONE: [(&str, Value); 0] = [];
 pub fn outside_of(rt: &HostRuntime, findings: &[Finding<'_>]) -> Result<Registry<'static>, Stop> {
     match outside(rt.alloc(), findings) {
         Ok(registry) => Ok(registry),
-        Err(Error::Memory(_)) => Err(Stop::Memory),
-        Err(error) => {
-            let _ = eprintln!(rt; "patchsard: {error}");
-            Err(Stop::Reported)
-        }
+        Err(error) => Err(stopped(rt, &error)),
     }
 }
 
@@ -184,28 +183,12 @@ fn first_of_each(alloc: Global, given: &Given) -> Result<Vec<usize>, AllocError>
     Ok(numbers)
 }
 
-/// Which sources have a text that means no URI.
-pub fn faulty_of(
-    alloc: Global,
-    count: usize,
-    findings: &[Finding<'_>],
-) -> Result<Vec<bool>, AllocError> {
-    let mut faulty = vec![in alloc; false; count]?;
-    for finding in findings {
-        if let Problem::InvalidUri(_) = &finding.problem {
-            if let Some(flag) = faulty.get_mut(finding.source) {
-                *flag = true;
-            }
-        }
-    }
-    Ok(faulty)
-}
-
 /// The number of the document that has each URI: its own, and those of the places in it. Those in place of what isn't
 /// there are left out.
 pub fn bearers(alloc: Global, world: &World<'_>) -> Result<BTreeMap<String, usize>, AllocError> {
     let mut bearers = BTreeMap::new(alloc);
-    for place in world.places(alloc)? {
+    let places = world.places(alloc)?;
+    for place in &places {
         if place.document < world.sources.len() && !bearers.contains_key(place.base.as_str()) {
             let uri = String::from_str(alloc, place.base.as_str())?;
             bearers.insert(uri, place.document)?;

@@ -36,8 +36,16 @@ impl<'t> Spots<'t> {
     }
 }
 
-// What is asked of each file.
-type Asked = Vec<Option<Places>>;
+// What is asked of files.
+#[derive(Drop)]
+struct Asked {
+    alloc: Global,
+    // By the numbers of the files, where something in one is asked for.
+    files: Vec<Option<Places>>,
+    // By the numbers of the findings, the place in the file.
+    own: Vec<usize>,
+    first: Vec<usize>,
+}
 
 /// Where findings stand.
 pub fn spots_of<'t>(
@@ -45,27 +53,39 @@ pub fn spots_of<'t>(
     documents: &'t [Document],
     findings: &[Finding<'_>],
 ) -> Result<Spots<'t>, AllocError> {
-    let mut asked = Vec::with_capacity(alloc, documents.len())?;
-    for _ in documents {
-        asked.push(None)?;
-    }
-    let mut own = Vec::new(alloc);
-    let mut first = Vec::new(alloc);
-    for finding in findings {
-        own.push(ask_own(alloc, &mut asked, finding)?)?;
-        first.push(ask_first(alloc, documents, &mut asked, finding)?)?;
-    }
+    let asked = asked_of(alloc, documents, findings)?;
+    let located = located(alloc, documents, asked.files.as_slice())?;
     Ok(Spots {
-        located: located(alloc, documents, &asked)?,
-        own,
-        first,
+        located,
+        own: asked.own,
+        first: asked.first,
     })
+}
+
+fn asked_of(
+    alloc: Global,
+    documents: &[Document],
+    findings: &[Finding<'_>],
+) -> Result<Asked, AllocError> {
+    let mut asked = Asked {
+        alloc,
+        files: Vec::new(alloc),
+        own: Vec::new(alloc),
+        first: Vec::new(alloc),
+    };
+    for _ in documents {
+        asked.files.push(None)?;
+    }
+    for finding in findings {
+        asked.add(documents, finding)?;
+    }
+    Ok(asked)
 }
 
 fn located<'t>(
     alloc: Global,
     documents: &'t [Document],
-    asked: &Asked,
+    asked: &[Option<Places>],
 ) -> Result<Vec<Option<Located<'t>>>, AllocError> {
     let mut all = Vec::with_capacity(alloc, documents.len())?;
     for (document, places) in documents.iter().zip(asked.iter()) {
@@ -85,51 +105,50 @@ fn located_in<'t>(
     }
 }
 
-fn ask_own(alloc: Global, asked: &mut Asked, finding: &Finding<'_>) -> Result<usize, AllocError> {
-    ask(
-        alloc,
-        asked,
-        finding.source,
-        finding.path.as_slice(),
-        finding.keyword,
-    )
-}
-
-// Asks for a place of a file, and for the value under a keyword there.
-fn ask(
-    alloc: Global,
-    asked: &mut Asked,
-    source: usize,
-    path: &[JsonPointerSegment<'_>],
-    keyword: Option<&str>,
-) -> Result<usize, AllocError> {
-    let Some(slot) = asked.get_mut(source) else {
-        return Ok(0);
-    };
-    if slot.is_none() {
-        *slot = Some(Places::new(alloc)?);
+impl Asked {
+    // Asks for the place of a finding, and for that of the first bearer that it clashes with.
+    fn add(&mut self, documents: &[Document], finding: &Finding<'_>) -> Result<(), AllocError> {
+        let own = self.ask(finding.source, finding.path.as_slice(), finding.keyword)?;
+        self.own.push(own)?;
+        let first = self.ask_first(documents, finding)?;
+        self.first.push(first)?;
+        Ok(())
     }
-    let Some(places) = slot else {
-        return Ok(0);
-    };
-    let place = place_of(places, path)?;
-    match keyword {
-        Some(keyword) => places.member(place, keyword),
-        None => Ok(place),
-    }
-}
 
-fn ask_first(
-    alloc: Global,
-    documents: &[Document],
-    asked: &mut Asked,
-    finding: &Finding<'_>,
-) -> Result<usize, AllocError> {
-    let Some(bearer) = first_of(&finding.problem) else {
-        return Ok(0);
-    };
-    let keyword = keyword_of(documents, bearer, finding.keyword);
-    ask(alloc, asked, bearer.source, bearer.path.as_slice(), keyword)
+    // Asks for a place of a file, and for the value under a keyword there.
+    fn ask(
+        &mut self,
+        source: usize,
+        path: &[JsonPointerSegment<'_>],
+        keyword: Option<&str>,
+    ) -> Result<usize, AllocError> {
+        let Some(slot) = self.files.get_mut(source) else {
+            return Ok(0);
+        };
+        if slot.is_none() {
+            *slot = Some(Places::new(self.alloc)?);
+        }
+        let Some(places) = slot else {
+            return Ok(0);
+        };
+        let place = place_of(places, path)?;
+        match keyword {
+            Some(keyword) => places.member(place, keyword),
+            None => Ok(place),
+        }
+    }
+
+    fn ask_first(
+        &mut self,
+        documents: &[Document],
+        finding: &Finding<'_>,
+    ) -> Result<usize, AllocError> {
+        let Some(bearer) = first_of(&finding.problem) else {
+            return Ok(0);
+        };
+        let keyword = keyword_of(documents, bearer, finding.keyword);
+        self.ask(bearer.source, bearer.path.as_slice(), keyword)
+    }
 }
 
 /// The first bearer that a problem is a clash with.

@@ -178,6 +178,24 @@ impl<'d> Describer<'d> {
     }
 }
 
+/// The numbers of the findings that are listed, by file, line and column.
+pub fn order_of(
+    alloc: Global,
+    describer: &Describer<'_>,
+    list: &[Finding<'_>],
+    is_verbose: bool,
+) -> Result<Vec<(usize, usize, usize, usize)>, AllocError> {
+    let mut order = Vec::new(alloc);
+    for (number, finding) in list.iter().enumerate() {
+        if is_verbose || !matches!(finding.problem, Problem::Unchecked { .. }) {
+            let (line, column) = describer.place(number, finding);
+            order.push((finding.source, line, column, number))?;
+        }
+    }
+    order.sort_unstable();
+    Ok(order)
+}
+
 fn level_of(problem: &Problem<'_>) -> Level {
     if problem.is_note() {
         Level::Note

@@ -1,7 +1,7 @@
 //! What a command line asks to be read.
 use clap::ArgMatches;
 use ref_draft::Draft;
-use ref_findings::{Finding, Held, Report, Source, as_sources, gather, report};
+use ref_findings::{Finding, Held, Problem, Report, Source, as_sources, gather, report};
 use ref_reading::document::{Document, read_all};
 use ref_reading::files::{Listing, list_file, list_given};
 use ref_reading::options::{maps, reading_of};
@@ -91,6 +91,23 @@ fn sources_of<'d>(alloc: Global, documents: &'d [Document]) -> Result<Vec<Source
     Ok(sources)
 }
 
+/// Which of so many documents have a text that means no URI, by what is wrong with them.
+pub fn faulty_of(
+    alloc: Global,
+    count: usize,
+    findings: &[Finding<'_>],
+) -> Result<Vec<bool>, AllocError> {
+    let mut faulty = vec![in alloc; false; count]?;
+    for finding in findings {
+        if let Problem::InvalidUri(_) = &finding.problem {
+            if let Some(flag) = faulty.get_mut(finding.source) {
+                *flag = true;
+            }
+        }
+    }
+    Ok(faulty)
+}
+
 impl Given {
     /// What is wrong with the files, and how many references they have.
     pub fn report<'d>(&'d self, alloc: Global) -> Result<Report<'d>, AllocError> {
@@ -103,6 +120,12 @@ impl Given {
     pub fn findings<'d>(&'d self, alloc: Global) -> Result<Vec<Finding<'d>>, AllocError> {
         let report = self.report(alloc)?;
         Ok(report.findings)
+    }
+
+    /// Which documents have a text that means no URI, by their numbers.
+    pub fn faulty(&self, alloc: Global) -> Result<Vec<bool>, AllocError> {
+        let list = self.findings(alloc)?;
+        faulty_of(alloc, self.len(), list.as_slice())
     }
 
     /// Keeps the files to the end of the program, which is faster than to free their values one by one, and answers how
@@ -137,9 +160,9 @@ impl Given {
         }
     }
 
-    /// The value of the document with a number, or an empty one where it has a fault.
-    pub fn sound_value(&self, number: usize, is_faulty: bool) -> &Value {
-        if is_faulty {
+    /// The value of the document with a number, or an empty one where it is among the faulty ones.
+    pub fn sound_value(&self, number: usize, faulty: &[bool]) -> &Value {
+        if faulty.get(number).copied().unwrap_or(false) {
             return &self.empty;
         }
         match self.value(number) {

@@ -1,0 +1,355 @@
+//! The command line.
+use clap::{Arg, ArgAction, Command};
+use std::alloc::{AllocError, Global};
+
+// The subcommands, in the order of the help.
+#[derive(Clone, Copy)]
+enum Subcommand {
+    Lint,
+    Resolve,
+    Bundle,
+    Places,
+    Graph,
+    Serve,
+}
+
+const SUBCOMMANDS: [Subcommand; 6] = [
+    Subcommand::Lint,
+    Subcommand::Resolve,
+    Subcommand::Bundle,
+    Subcommand::Places,
+    Subcommand::Graph,
+    Subcommand::Serve,
+];
+
+// What may stand on a command line.
+#[derive(Clone, Copy)]
+enum Word {
+    Directory,
+    Paths,
+    ReferringFile,
+    RootFile,
+    Reference,
+    From,
+    With,
+    Exclude,
+    Verbose,
+    Format,
+    Language,
+    Output,
+    Minify,
+    Base,
+    Draft,
+    Map,
+}
+
+// How a word is given.
+#[derive(Clone, Copy)]
+enum Kind {
+    // By its place, once.
+    Place,
+    // By its place, once or more.
+    Places,
+    // By its name, with a value.
+    Value,
+    // By its name, with a value, and again.
+    Values,
+    // By its name alone.
+    Flag,
+}
+
+// A word: its name, what its value is called, and its help.
+#[derive(Clone, Copy)]
+struct Row<'c> {
+    name: &'c str,
+    value: &'c str,
+    kind: Kind,
+    help: &'c str,
+}
+
+const FORMATS: &[&str] = &["text", "json", "sarif", "github"];
+
+const DRAWINGS: &[&str] = &["mermaid", "dot"];
+
+const DRAFTS: &[&str] = &["4", "6", "7", "2019-09", "2020-12"];
+
+/// The whole command line.
+pub fn patchsard<'c>(alloc: Global) -> Result<Command<'c>, AllocError> {
+    let mut command = without_subcommands(alloc)?;
+    for subcommand in SUBCOMMANDS {
+        command = with_subcommand(alloc, command, subcommand)?;
+    }
+    Ok(command)
+}
+
+fn without_subcommands<'c>(alloc: Global) -> Result<Command<'c>, AllocError> {
+    Command::new(alloc, "patchsard")
+        .version("0.1.0")
+        .about("Lints, follows, bundles, lists and draws the references of JSON Schema files")
+        .arg_required_else_help(true)
+        .bin_name("patchsard")?
+        .arg(arg_of(alloc, Word::Directory))
+}
+
+fn with_subcommand<'c>(
+    alloc: Global,
+    command: Command<'c>,
+    subcommand: Subcommand,
+) -> Result<Command<'c>, AllocError> {
+    let subcommand = command_of(alloc, subcommand)?;
+    command.subcommand(subcommand)
+}
+
+fn command_of<'c>(alloc: Global, subcommand: Subcommand) -> Result<Command<'c>, AllocError> {
+    let mut command = described(alloc, subcommand);
+    for word in words_of(subcommand) {
+        command = command.arg(arg_of(alloc, *word))?;
+    }
+    Ok(command)
+}
+
+// A subcommand without its words.
+fn described<'c>(alloc: Global, subcommand: Subcommand) -> Command<'c> {
+    let command = Command::new(alloc, name_of(subcommand)).about(about(subcommand));
+    let status = status_of(subcommand);
+    if status.is_empty() {
+        return command;
+    }
+    command.after_help(status)
+}
+
+fn name_of<'c>(subcommand: Subcommand) -> &'c str {
+    match subcommand {
+        Subcommand::Lint => "lint",
+        Subcommand::Resolve => "resolve",
+        Subcommand::Bundle => "bundle",
+        Subcommand::Places => "places",
+        Subcommand::Graph => "graph",
+        Subcommand::Serve => "serve",
+    }
+}
+
+fn about<'c>(subcommand: Subcommand) -> &'c str {
+    match subcommand {
+        Subcommand::Lint => "Lists what is wrong with the references of schema files",
+        Subcommand::Resolve => "Follows one reference from a place of a file",
+        Subcommand::Bundle =>
+            "Writes a schema file with all documents that it needs as one document",
+        Subcommand::Places => {
+            "Lists each subschema of schema files: file, line and column, pointer, draft, base URI, identifier and anchors"
+        }
+        Subcommand::Graph => "Draws which file refers to which, with what is broken in red",
+        Subcommand::Serve => {
+            "Answers calls of other programs: one JSON object a line in, one a line out"
+        }
+    }
+}
+
+// What the help says at its end.
+fn status_of<'c>(subcommand: Subcommand) -> &'c str {
+    match subcommand {
+        Subcommand::Lint => {
+            "Exit status: 0 where nothing is wrong, 1 where something is, 2 where a path can't be read or the command line is wrong."
+        }
+        Subcommand::Bundle => {
+            "Exit status: 0 where the bundle is written, 1 where there is none, 2 where a path can't be read or written or the command line is wrong, 3 where the text that was made isn't that of the bundle."
+        }
+        Subcommand::Serve => {
+            "docs/PROTOCOL.md describes the calls. Exit status: 0 where standard input ends, 2 where it can't be read, standard output can't be written, or the command line is wrong."
+        }
+        _ => "",
+    }
+}
+
+// The words of a subcommand, in the order of the help.
+fn words_of(subcommand: Subcommand) -> &'static [Word] {
+    match subcommand {
+        Subcommand::Lint => &[
+            Word::Paths,
+            Word::Exclude,
+            Word::Verbose,
+            Word::Format,
+            Word::Base,
+            Word::Draft,
+            Word::Map,
+        ],
+        Subcommand::Resolve => &[
+            Word::ReferringFile,
+            Word::Reference,
+            Word::From,
+            Word::With,
+            Word::Base,
+            Word::Draft,
+            Word::Map,
+        ],
+        Subcommand::Bundle => &[
+            Word::RootFile,
+            Word::With,
+            Word::Output,
+            Word::Minify,
+            Word::Base,
+            Word::Draft,
+            Word::Map,
+        ],
+        Subcommand::Places => &[
+            Word::Paths,
+            Word::Exclude,
+            Word::Base,
+            Word::Draft,
+            Word::Map,
+        ],
+        Subcommand::Graph => &[
+            Word::Paths,
+            Word::Exclude,
+            Word::Language,
+            Word::Base,
+            Word::Draft,
+            Word::Map,
+        ],
+        Subcommand::Serve => &[],
+    }
+}
+
+// The word as the parser takes it.
+fn arg_of<'c>(alloc: Global, word: Word) -> Arg<'c> {
+    let arg = plain_arg(alloc, row_of(word));
+    match word {
+        Word::Directory => arg.short('C'),
+        Word::Output => arg.short('o'),
+        Word::Verbose => arg.short('v'),
+        Word::From => arg.default_value("").allow_hyphen_values(true),
+        Word::Format => arg.value_parser(FORMATS).default_value("text"),
+        Word::Language => arg.value_parser(DRAWINGS).default_value("mermaid"),
+        Word::Draft => arg.value_parser(DRAFTS).default_value("2020-12"),
+        _ => arg,
+    }
+}
+
+fn plain_arg<'c>(alloc: Global, row: Row<'c>) -> Arg<'c> {
+    let arg = Arg::new(alloc, row.name).help(row.help);
+    match row.kind {
+        Kind::Place => arg
+            .value_name(row.value)
+            .required(true)
+            .action(ArgAction::Set),
+        Kind::Places => arg
+            .value_name(row.value)
+            .required(true)
+            .action(ArgAction::Append)
+            .num_args(1..),
+        Kind::Value => arg
+            .long(row.name)
+            .value_name(row.value)
+            .action(ArgAction::Set),
+        Kind::Values => arg
+            .long(row.name)
+            .value_name(row.value)
+            .action(ArgAction::Append),
+        Kind::Flag => arg.long(row.name).action(ArgAction::SetTrue),
+    }
+}
+
+fn told<'c>(name: &'c str, value: &'c str, kind: Kind, help: &'c str) -> Row<'c> {
+    Row {
+        name,
+        value,
+        kind,
+        help,
+    }
+}
+
+fn row_of<'c>(word: Word) -> Row<'c> {
+    match word {
+        Word::Directory => told(
+            "directory",
+            "FOLDER",
+            Kind::Value,
+            "Run as if started in this folder",
+        ),
+        Word::Paths => told(
+            "paths",
+            "PATH",
+            Kind::Places,
+            "A file, or a folder: all files below it that end in .json, without hidden folders and links",
+        ),
+        Word::ReferringFile => told(
+            "file",
+            "FILE",
+            Kind::Place,
+            "The file that has the reference",
+        ),
+        Word::RootFile => told(
+            "file",
+            "FILE",
+            Kind::Place,
+            "The schema file that becomes the root of the bundle",
+        ),
+        Word::Reference => told(
+            "reference",
+            "REF",
+            Kind::Place,
+            "The reference, as the value of a $ref",
+        ),
+        Word::From => told(
+            "from",
+            "POINTER",
+            Kind::Value,
+            "The place in the file that it is followed from, as a JSON pointer",
+        ),
+        Word::With => told(
+            "with",
+            "PATH",
+            Kind::Values,
+            "Another file or folder that references may lead into; may be repeated",
+        ),
+        Word::Exclude => told(
+            "exclude",
+            "PATH",
+            Kind::Values,
+            "Leave out this file, or what is below this folder; may be repeated",
+        ),
+        Word::Verbose => told(
+            "verbose",
+            "",
+            Kind::Flag,
+            "Also list references that were not checked",
+        ),
+        Word::Format => told("format", "FORMAT", Kind::Value, "How findings are printed"),
+        Word::Language => told(
+            "format",
+            "FORMAT",
+            Kind::Value,
+            "The language of the drawing",
+        ),
+        Word::Output => told(
+            "output",
+            "OUT",
+            Kind::Value,
+            "The file to write, in place of standard output; it stays as it was where there is no bundle",
+        ),
+        Word::Minify => told(
+            "minify",
+            "",
+            Kind::Flag,
+            "Write the bundle on one line, with the members of objects in byte order of their keys",
+        ),
+        Word::Base => told(
+            "base",
+            "URI",
+            Kind::Value,
+            "The URI of the folder given, below which files have theirs by their paths; without it they have file: URIs",
+        ),
+        Word::Draft => told(
+            "draft",
+            "DRAFT",
+            Kind::Value,
+            "The draft of files that name none",
+        ),
+        Word::Map => told(
+            "map",
+            "PREFIX=FOLDER",
+            Kind::Values,
+            "Read documents under URIs that begin so from this folder; may be repeated",
+        ),
+    }
+}
