@@ -1,5 +1,5 @@
-//! Bundles: one self-contained document in place of several of a registry. It uses the public calls of `referencing`
-//! alone.
+//! Bundles: one self-contained document in place of several of a registry. It uses public calls and clauses alone: those of
+//! `referencing`, and of `ref_uri` and `ref_parts` for URIs and pointers.
 //!
 //! Read `specs/Needed.antt`, `specs/Embedding.antt` and `specs/Bundle.antt` first: which documents a bundle needs, how they
 //! are in it, and what refuses one is said there over the plain documents.
