@@ -9,11 +9,10 @@ use ref_findings::{Finding, Problem};
 use ref_messages::push_text;
 use ref_parts::path::JsonPointerSegment;
 use ref_parts::pointer_of;
-use ref_positions::Places;
 use ref_positions::splice::{Added, Part, with_added, with_parts};
 use ref_project::describe::{Describer, order_of};
 use ref_project::given::{Given, faulty_of, read_file};
-use ref_project::pointer::place_of;
+use ref_project::pointer::position;
 use ref_project::spots::spots_of;
 use ref_project::world::{World, outside_of, world_above};
 use ref_reading::Stop;
@@ -598,20 +597,5 @@ fn definitions(draft: Draft) -> &'static str {
     match draft {
         Draft::Draft4 | Draft::Draft6 | Draft::Draft7 => "definitions",
         _ => "$defs",
-    }
-}
-
-// The line and the column of a place in a document's text.
-fn position(
-    alloc: Global,
-    text: &str,
-    path: &[JsonPointerSegment<'_>],
-) -> Result<(usize, usize), AllocError> {
-    let mut places = Places::new(alloc)?;
-    let place = place_of(&mut places, path)?;
-    let located = places.locate(alloc, text)?;
-    match located.value(place) {
-        Some(position) => Ok((position.line(), position.column())),
-        None => Ok((1, 1)),
     }
 }
