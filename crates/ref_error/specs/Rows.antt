@@ -6,7 +6,7 @@ use Rattle.ref_uri.specs.Targets.{parse_refusal}
 use Rattle.ref_uri.specs.declared.error.UriError.TheVariants.{Parse}
 use Rattle.ref_uri.specs.declared.error.ParseError.TheVariants.{Syntax}
 use Rattle.ref_definitions.specs.Fault as fault
-use Rattle.ref_error.specs.Errors.{reason_text, retrieve_error_text, error_text, SaysFault, IsFaultOf}
+use Rattle.ref_error.specs.Errors.{reason_text, retrieve_error_text, error_text, IsForReason, SaysFault, IsFaultOf, IsMemory, SaysOrMemory}
 use Rattle.ref_error.specs.declared.error.Reason.TheVariants.{NotFetched, NoDocument, NotSupported, Text}
 use Rattle.ref_error.specs.declared.error.RetrieveError.TheVariants as retrieve_error
 use Rattle.ref_error.specs.declared.error.Error.TheVariants.{Unretrievable, PointerToNowhere, InvalidPercentEncoding, InvalidArrayIndex, NoSuchAnchor, InvalidAnchor, InvalidUri, UnknownSpecification, CircularMetaschema, RetrievalLimit, Memory}
@@ -74,3 +74,15 @@ pub record FaultRows : Type 0 where
   pub fault_of_a_refusal : (u : String Global) → string_bytes u ≡ codes "a b"
       → IsFaultOf {A = List ℕ} (Err (fault.InvalidUri (parse_refusal (codes "a b"))))
       (InvalidUri (Parse u true Syntax))
+  pub for_its_reason : (uri : String Global)
+      → IsForReason (Unretrievable uri (retrieve_error.Refused NotFetched)) NotFetched
+  pub for_no_other_reason : (uri : String Global)
+      → IsForReason (Unretrievable uri (retrieve_error.Refused NotFetched)) NotSupported → ⊥
+  pub for_memory_no_reason : (uri : String Global) (e : AllocError)
+      → IsForReason (Unretrievable uri (retrieve_error.Memory e)) NotFetched → ⊥
+  pub without_a_source : (u : String Global) → IsForReason (UnknownSpecification u) NotFetched
+  pub memory : (e : AllocError) → IsMemory (Memory e)
+  pub no_memory : (p : String Global) → IsMemory (NoSuchAnchor p) → ⊥
+  pub says_or_memory : (e : AllocError) (f : fault.Fault) → SaysOrMemory f (Memory e)
+  pub says_another : (p : String Global) → string_bytes p ≡ codes "/a"
+      → SaysOrMemory (fault.PointerToNowhere (codes "")) (PointerToNowhere p) → ⊥

@@ -114,9 +114,9 @@ impl<'r> Resolver<'r> {
         &self.scope
     }
 
-    /// The URI that a text means against a base (RFC 3986, 5.2), in normal form. Fails as `InvalidUri` for a base
-    /// without a scheme and a text that is no URI reference, and as `Memory`. A look-up where that was resolved before;
-    /// else it takes memory for the URI.
+    /// The URI that a text means against a base (RFC 3986, 5.2), in normal form, whatever was resolved before. Where it
+    /// was, the code takes no memory, which no clause says. Refuses as `InvalidUri` a base without a scheme and a text
+    /// that is no URI reference, and as `Memory` where there is none for the URI.
     pub fn resolve_uri(&self, alloc: Global, base: UriRef<'_>, uri: &str) -> Result<Rc<Uri>, Error>
         ensures ok { IfOk result (λ u. uri_against base.entry uri.now ≡ Ok u.value) }
         ensures fault { IfErr result (IsFaultOf (as_invalid_uri (uri_against base.entry uri.now))) }

@@ -1,6 +1,9 @@
 use Rattle.std.proofs.Common.{◌≡◌, refl, sym, ◌∙◌, codes, Ok, Err}
 use Rattle.ref_uri.specs.Targets.{parse_refusal}
 use Rattle.ref_definitions.specs.Fault as fault
+use Rattle.ref_error.specs.declared.error.Reason.TheVariants.{NotFetched, NotSupported}
+use Rattle.ref_error.specs.declared.error.RetrieveError.TheVariants as retrieve_error
+use Rattle.ref_error.specs.declared.error.RetrieveError.TheVariants.{Refused}
 use Rattle.ref_error.proofs.laws.fault_rows.Goals as goal
 
 pub returns : goal.returns
@@ -15,5 +18,13 @@ returns c = record {
     memory_in_any_case = λ e. tt;
     no_fault_of_an_answer = λ p is. let e : Ok (codes "a") ≡ Err is.0 = is.1 in cc;
     fault_of_a_refusal = λ u is. (fault.InvalidUri (parse_refusal (codes "a b")), refl, (is, refl, refl));
+    for_its_reason = λ uri. refl;
+    for_no_other_reason = λ uri is. let other : Refused NotFetched ≡ Refused NotSupported = is in cc;
+    for_memory_no_reason = λ uri e is. let other : retrieve_error.Memory e ≡ Refused NotFetched = is in cc;
+    without_a_source = λ u. tt;
+    memory = λ e. tt;
+    no_memory = λ p is. is;
+    says_or_memory = λ e f. tt;
+    says_another = λ p is says. let other : codes "/a" ≡ codes "" = sym is ∙ says in cc;
   };
 }
