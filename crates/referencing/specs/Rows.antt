@@ -8,15 +8,16 @@ use Rattle.ref_uri.specs.declared.error.UriError.TheVariants.{Parse}
 use Rattle.ref_uri.specs.declared.error.ParseError.TheVariants.{Syntax}
 use Rattle.ref_definitions.specs.Fault as fault
 use Rattle.ref_definitions.specs.Places.{root}
-use Rattle.ref_definitions.specs.Rows.{at, world, yes, empty, c_is_true, given_alone, given_with, look, found_value, resolver}
+use Rattle.ref_definitions.specs.Rows.{at, world, yes, empty, refers_to_b, b_refers_to_c, c_is_true, given_alone, given_with, look, found_value, resolver}
 use Rattle.ref_error.specs.declared.error.Error.TheVariants.{PointerToNowhere, NoSuchAnchor, InvalidUri, RetrievalLimit, Memory}
 use Rattle.ref_index.specs.Retrieval.{IsFaultyOutcome}
 use Rattle.ref_resolver.specs.declared.resolver.Resolved.{Resolved}
+use Rattle.ref_resolver.specs.Layered.{IsHeld}
 use Rattle.ref_resolver.specs.Resolving.{found_of}
 use Rattle.referencing.specs.declared.answer.AnswerError.TheVariants as answer_error
-use Rattle.referencing.specs.Prepared.{IsPreparedOf, LimitIsUsedUp}
+use Rattle.referencing.specs.Prepared.{IsPrepared, ReferencesAreRetrieved, IsPreparedOf, AreComplete, LimitIsUsedUp}
 use Rattle.referencing.specs.MetaSchemas.{IsMetaSchemaFault}
-use Rattle.referencing.specs.Following.{IsStepFaultOf}
+use Rattle.referencing.specs.Following.{IsStepFaultOf, ReachesStep}
 use Rattle.referencing.specs.Listed.{AnswersPlace, Agrees}
 use Rattle.referencing.specs.Answering.{IsFailureOf}
 
@@ -35,6 +36,19 @@ pub record PreparingRows : Type 0 where
       → IsMetaSchemaFault (Err (parse_refusal (codes "a b"))) (InvalidUri (Parse u true Syntax))
   pub no_other_fault_of_a_meta_schema : (p : String Global)
       → ¬ (IsMetaSchemaFault (Err (parse_refusal (codes "a b"))) (NoSuchAnchor p))
+  pub complete : AreComplete (given_alone (c_is_true ∷ []))
+  pub not_complete : ¬ (AreComplete (given_alone (refers_to_b ∷ [])))
+  pub nothing_open : IsPrepared (world (c_is_true ∷ []))
+  pub a_want_open : ¬ (IsPrepared (world (refers_to_b ∷ [])))
+  pub retrieved : ReferencesAreRetrieved (world (refers_to_b ∷ b_refers_to_c ∷ c_is_true ∷ []))
+  pub not_retrieved : ¬ (ReferencesAreRetrieved (world (refers_to_b ∷ [])))
+
+-- which pairs were resolved when documents were prepared
+pub record HeldRows : Type 0 where
+  pub held : IsHeld (world (refers_to_b ∷ [])) (codes "http://a/r") (codes "b")
+  pub held_by_a_parent : IsHeld ((c_is_true ∷ []) ∷ world (refers_to_b ∷ []))
+      (codes "http://a/r") (codes "b")
+  pub not_held : ¬ (IsHeld (world (c_is_true ∷ [])) (codes "http://a/c") (codes "b"))
 
 -- which errors following may return
 pub record StepRows : Type 0 where
@@ -50,6 +64,22 @@ pub record StepRows : Type 0 where
   pub no_step : (p : String Global)
       → ¬ (IsFailureOf (given_alone (c_is_true ∷ [])) (codes "http://a/c") []
       (answer_error.Follow (record { step = 0; error = PointerToNowhere p })))
+  pub failed_preparing : (uri : String Global) → string_bytes uri ≡ codes "http://a/b"
+      → IsFailureOf (given_with 0) (codes "http://a/c") []
+      (answer_error.Prepare (RetrievalLimit uri 0))
+  pub no_failed_preparing : (uri : String Global)
+      → ¬ (IsFailureOf (given_alone (c_is_true ∷ [])) (codes "http://a/c") []
+      (answer_error.Prepare (RetrievalLimit uri 0)))
+  pub no_memory_for_the_copy : (e : AllocError)
+      → IsFailureOf (given_alone (c_is_true ∷ [])) (codes "http://a/c") (look "#" ∷ [])
+      (answer_error.Memory e)
+  pub no_copy_where_a_step_fails : (e : AllocError)
+      → ¬ (IsFailureOf (given_alone (c_is_true ∷ [])) (codes "http://a/c") (look "#/x" ∷ [])
+      (answer_error.Memory e))
+  pub reached : ReachesStep (world (c_is_true ∷ [])) (codes "http://a/c")
+      (look "#" ∷ look "#/x" ∷ []) 1
+  pub not_reached : ¬ (ReachesStep (world (c_is_true ∷ [])) (codes "http://a/c")
+      (look "#/x" ∷ look "#" ∷ []) 1)
 
 -- which answers are a place's
 pub record PlaceRows : Type 0 where

@@ -5,7 +5,7 @@ ghost use Rattle.std.specs.declared.alloc.Global as global;
 ghost use Rattle.std.specs.declared.rc.Rc as rc;
 ghost use Rattle.serde_json.specs.View.{view};
 ghost use Rattle.ref_draft.specs.Views.{resource, resource_ref};
-ghost use Rattle.referencing.specs.Rows.{PreparingRows, StepRows, PlaceRows};
+ghost use Rattle.referencing.specs.Rows.{PreparingRows, HeldRows, StepRows, PlaceRows};
 
 use crate::input::IntoRegistryResource;
 use ref_draft::{Resource, ResourceRef};
@@ -41,12 +41,18 @@ pub fn resources_are_added_with_their_drafts()
         ≡ Some (resource_ref r).draft) }
 {}
 
-/// Rows of what preparing may return, of its faults and of those of meta-schemas, and of a limit that is used up.
+/// Rows of what preparing may return, of its faults and of those of meta-schemas, of a limit that is used up, and of documents in
+/// which nothing is wanted.
 pub fn preparing_rows()
     ensures rows { PreparingRows }
 {}
 
-/// Rows of the faults of steps, and of the errors of preparing and following at once.
+/// Rows of which pairs were resolved when documents were prepared.
+pub fn held_rows()
+    ensures rows { HeldRows }
+{}
+
+/// Rows of which steps are reached, of their faults, and of the errors of preparing and following at once.
 pub fn step_rows()
     ensures rows { StepRows }
 {}

@@ -4,15 +4,18 @@ use Rattle.std.specs.declared.alloc.Global.{Global}
 use Rattle.ref_uri.specs.Targets.{parse_refusal}
 use Rattle.ref_definitions.specs.Fault as fault
 use Rattle.ref_definitions.specs.World.{Layer}
+use Rattle.ref_definitions.specs.Places.{root}
 use Rattle.ref_definitions.specs.Pending.{Pending}
+use Rattle.ref_definitions.specs.Wants.{Want}
 use Rattle.ref_definitions.specs.Preparing.{begun, ready, limited, IsOutcome}
 use Rattle.ref_definitions.specs.Closure.{IsUsedUp}
-use Rattle.ref_definitions.specs.Rows.{world, given_alone, given_with, refers_to_b, c_is_true}
+use Rattle.ref_definitions.specs.Rows.{world, resolver, given_alone, given_with, refers_to_b, b_refers_to_c, c_is_true}
 use Rattle.ref_definitions.proofs.Closure.{documents_alone, outcome_laws}
 use Rattle.ref_definitions.proofs.Retrieval.{want_of_b}
 use Rattle.ref_definitions.proofs.OnLiterals.{world_on_literals}
 use Rattle.ref_error.specs.declared.error.Error.TheVariants.{NoSuchAnchor}
 use Rattle.ref_error.specs.Errors.{SaysFault}
+use Rattle.referencing.proofs.Retrieved.{retrieved_of}
 use Rattle.referencing.proofs.laws.preparing_rows.Goals as goal
 
 abbrev the_answer : Result Layer fault.Fault → Result Layer fault.Fault
@@ -20,6 +23,9 @@ the_answer answer = answer
 
 abbrev the_pending : Result (List Pending) fault.Fault → Result (List Pending) fault.Fault
 the_pending answer = answer
+
+abbrev the_wants : List Want → List Want
+the_wants wants = wants
 
 abbrev alone : Layer
 alone = c_is_true ∷ []
@@ -44,6 +50,9 @@ is_limit : IsOutcome (given_with 0) (Err (fault.RetrievalLimit (codes "http://a/
 unfolding world_on_literals
 is_limit = limited (refers_to_b ∷ []) want_of_b [] begun refl refl
 
+one_want : the_wants (want_of_b ∷ []) ≡ [] → ⊥
+one_want is = cc
+
 pub returns : goal.returns
 unfolding world_on_literals
 returns c = record {
@@ -56,5 +65,11 @@ returns c = record {
     not_used_up = λ uri is. omega (arith, is.is);
     refused_uri_of_a_meta_schema = λ u is. (fault.InvalidUri (parse_refusal (codes "a b")), refl, (is, refl, refl));
     no_other_fault_of_a_meta_schema = λ p is. no_anchor p is.0 is.1 is.2;
+    complete = (refl, refl);
+    not_complete = λ is. one_want is.1;
+    nothing_open = record { no_fault = refl; no_want = refl };
+    a_want_open = λ is. one_want is.no_want;
+    retrieved = retrieved_of (world (refers_to_b ∷ b_refers_to_c ∷ c_is_true ∷ [])) (record { no_fault = refl; no_want = refl });
+    not_retrieved = λ is. is refers_to_b (root refers_to_b) (resolver "http://a/r" []) (codes "b") (0, omega (arith), refl) (0, omega (arith), refl) refl refl (codes "http://a/b") _ refl;
   };
 }
