@@ -13,3 +13,4 @@ pub mod Duplicates
 pub mod Retrieving
 pub mod Refused
 pub mod Plain
+pub mod Noted

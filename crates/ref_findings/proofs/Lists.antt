@@ -101,12 +101,3 @@ joined_step f v xs i x within is =
 pub joined_end : {X Y A : Type 0} (f : ℕ × Y → List A) (v : X → Y) (xs : List X) (i : ℕ) → length xs ≤ i
     → flat_map f (enumerate_from 0 (map v (take i xs))) ≡ flat_map f (enumerate_from 0 (map v xs))
 joined_end f v xs i all = ap (λ l. flat_map f (enumerate_from 0 (map v l))) (take_all i xs all)
-
-all_here : {X Y : Type 0} (P : Y → Type 0) (f : X → Y) (xs : List X) (i : ℕ) (d : X) → AllByRecursion P (map f xs) → i < length xs → P (f (get_or xs i d))
-all_here P f [] i d all within = absurd (omega (arith, within))
-all_here P f (x ∷ xs) zero d all within = all.0
-all_here P f (x ∷ xs) (suc i) d all within = all_here P f xs i d all.1 (omega (arith, within))
-
--- what holds of each of a list holds of the one at a place
-pub all_at : {X Y : Type 0} (P : Y → Type 0) (f : X → Y) (xs : List X) (i : ℕ) (x : X) → AllByRecursion P (map f xs) → i < length xs → x ≡ get_or xs i x → P (f x)
-all_at P f xs i x all within is = subst (λ y. P (f y)) (sym is) (all_here P f xs i x all within)

@@ -65,10 +65,12 @@ same_places d is =
     let both = neither (is_faulty (root d)) (list_any is_faulty (levels_near (depth d.tree) (root d ∷ []))) is in
     ap (λ l. root d ∷ l) (same_levels (depth d.tree) (root d ∷ []) (root_sound d both.0) both.1)
 
+pub faultless_document : (d : Document) → list_any is_faulty (places_near d) ≡ false → flat_map (λ p. faults_at p.base p.value) (places d) ≡ []
+faultless_document d is = ap (flat_map (λ p. faults_at p.base p.value)) (same_places d is) ∙ faultless (places_near d) is
+
 document_faultless : (d : Document) → list_any is_faulty (places_near d) ≡ false → faults (d ∷ []) ≡ []
 document_faultless d is =
-    append-nil (flat_map (λ p. faults_at p.base p.value) (places d))
-    ∙ ap (flat_map (λ p. faults_at p.base p.value)) (same_places d is) ∙ faultless (places_near d) is
+    append-nil (flat_map (λ p. faults_at p.base p.value) (places d)) ∙ faultless_document d is
 
 -- a layer without a fault, and one document more that has none
 pub faultless_more : (layer : Layer) (d : Document) → faults layer ≡ [] → list_any is_faulty (places_near d) ≡ false → faults (layer ++ d ∷ []) ≡ []

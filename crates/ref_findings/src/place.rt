@@ -1,5 +1,6 @@
 //! A place where a schema is.
-ghost use Rattle.std.specs.Prelude.{◌≡◌, true, map, option_map};
+ghost use Rattle.std.specs.Prelude.{◌≡◌, true, map, option_map, IfOk};
+ghost use Rattle.ref_index.specs.Listed.{place_of as visited_place};
 ghost use Rattle.serde_json.specs.View.{view};
 ghost use Rattle.ref_draft.specs.Schema.{text_under as text_in};
 ghost use Rattle.ref_draft.specs.Anchors.{anchors as anchors_of};
@@ -8,9 +9,11 @@ ghost use Rattle.ref_findings.specs.inner.Plain.{IsPlain, AreAmong};
 use crate::finding::text_under;
 use crate::texts::{Texts, texts_of};
 use ref_draft::{AnchorIter, Draft, ResourceRef};
+use ref_index::queue::{ValueRef, Visit};
 use ref_parts::path::JsonPointerNode;
 use ref_uri::Uri;
 use serde_json::Value;
+use std::alloc::AllocError;
 use std::rc::Rc;
 
 /// A place where a schema is: its path, value and draft, and the base URI around it.
@@ -98,6 +101,20 @@ impl<'v> Place<'v> {
             return AnchorIter::Empty;
         }
         self.draft.anchors(self.value)
+    }
+
+    /// Its visit, as an index takes it. Shares its path and URI; takes no memory.
+    pub fn visit(&self) -> Result<Visit<'v, 'v>, AllocError>
+        ensures value { IfOk result (λ visit. visited_place visit ≡ place_of self.now) }
+    {
+        let path = self.path.clone()?;
+        let outer = self.outer.clone()?;
+        Ok(Visit {
+            path,
+            value: ValueRef::Lent(self.value),
+            draft: self.draft,
+            outer,
+        })
     }
 
     /// Whether it is the root of its source. Takes no memory.

@@ -1,11 +1,14 @@
 //! The places of sources, and the index of those sources that are sound.
-ghost use Rattle.std.specs.Prelude.{◌≡◌, [], ◌∷◌, ◌++◌, map, flat_map, IfOk, OnOk};
-ghost use Rattle.std.specs.List.{enumerate_from};
+ghost use Rattle.std.specs.Prelude.{◌≡◌, List, [], ◌∷◌, ◌++◌, map, flat_map, true, Some, IfOk, OnOk};
+ghost use Rattle.std.specs.List.{AllByRecursion, enumerate_from};
 ghost use Rattle.serde_json.specs.View.{view};
 ghost use Rattle.ref_definitions.specs.World.{document};
+ghost use Rattle.ref_definitions.specs.Places.{Place as WorldPlace};
 ghost use Rattle.ref_definitions.specs.Wants.{faults};
 ghost use Rattle.ref_findings.specs.Bearers.{numbered_sites};
 ghost use Rattle.ref_findings.specs.Entries.{source_of};
+ghost use Rattle.ref_index.specs.Listed.{AreNoted, place_of as visited_place};
+ghost use Rattle.ref_index.specs.Visits.{ChildrenStandAt};
 ghost use Rattle.ref_findings.specs.inner.Seen.{place_of, site_of, seen_survey, survey_in, sound_in, AreSurveys};
 
 use crate::fault::is_any_faulty;
@@ -14,6 +17,7 @@ use crate::site::Site;
 use crate::source::Source;
 use crate::walk::places_of;
 use ref_draft::Draft;
+use ref_index::queue::Visit;
 use ref_index::walked::Walked;
 use ref_index::{Contents, Document, Index};
 use ref_uri::UriFault;
@@ -26,6 +30,7 @@ pub(crate) struct Survey<'s, 'v> {
     pub source: &'s Source<'v>,
     pub places: Vec<Place<'v>>,
     pub is_sound: bool,
+    ghost stand: { AllByRecursion ChildrenStandAt (map place_of places.items) },
 }
 
 // The source with its places.
@@ -70,25 +75,76 @@ pub(crate) fn surveys_of<'s, 'v>(
     Ok(surveys)
 }
 
+// Adds a visit after the others.
+fn push_visit<'v>(
+    visits: &mut Vec<Visit<'v, 'v>>,
+    visit: Visit<'v, 'v>,
+) -> Result<(), AllocError>
+    ensures { OnOk result (visits.new.items ≡ visits.old.items ++ visit.entry ∷ []) }
+{
+    visits.push(visit)?;
+    Ok(())
+}
+
+// Those of these places that an index has something of, as it visits them.
+fn visits_of<'v>(
+    alloc: Global,
+    places: &[Place<'v>],
+) -> Result<Vec<Visit<'v, 'v>>, AllocError>
+    ensures { IfOk result
+        (λ visits. AreNoted (map place_of places.now) (map visited_place visits.items)) }
+{
+    let mut visits = Vec::new(alloc);
+    for place in places {
+        if !place.is_plain() {
+            let visit = place.visit()?;
+            push_visit(&mut visits, visit)?;
+        }
+    }
+    Ok(visits)
+}
+
+// The same of those below the first.
+fn visits_below<'v>(
+    alloc: Global,
+    places: &[Place<'v>],
+) -> Result<Vec<Visit<'v, 'v>>, AllocError>
+    ensures { (first : WorldPlace) (below : List WorldPlace)
+        → map place_of places.now ≡ first ∷ below
+        → IfOk result (λ visits. AreNoted below (map visited_place visits.items)) }
+{
+    match places.split_first() {
+        Some((_, below)) => visits_of(alloc, below),
+        None => Ok(Vec::new(alloc)),
+    }
+}
+
 // The documents with one more after them, which has no fault.
 fn with_document<'v>(
     alloc: Global,
     draft: Draft,
     walked: Walked<'v>,
-    source: &Source<'v>,
+    survey: &Survey<'_, 'v>,
     value: &'v Value,
 ) -> Result<Walked<'v>, AllocError>
-    requires { faults (walked ++ document draft source.now.uri (view value.now) ∷ []) ≡ [] }
+    requires survey { seen_survey survey.now ≡ survey_in draft (source_of survey.now.source.now) }
+    requires sound { survey.now.is_sound ≡ true }
+    requires value { (source_of survey.now.source.now).tree ≡ Some (view value.now) }
+    requires faultless { faults
+        (walked ++ document draft survey.now.source.now.uri (view value.now) ∷ [])
+        ≡ [] }
     ensures { IfOk result
-        (λ more. more ≡ walked.entry ++ document draft source.now.uri (view value.now) ∷ []) }
+        (λ more. more
+        ≡ walked.entry ++ document draft survey.now.source.now.uri (view value.now) ∷ []) }
 {
-    let uri = source.uri.clone()?;
+    let noted = visits_below(alloc, survey.places.as_slice())?;
+    let uri = survey.source.uri.clone()?;
     let document = Document {
         uri,
         contents: Contents::Borrowed(value),
         draft: draft.detect(value),
     };
-    match walked.append(alloc, document) {
+    match walked.append_listed(alloc, document, noted.as_slice()) {
         Ok(walked) => Ok(walked),
         Err(UriFault::Memory(error)) => Err(error),
         Err(UriFault::Invalid(error)) => unreachable!("{error}"),
@@ -112,7 +168,7 @@ fn with_source<'v>(
         return Ok(walked);
     }
     match survey.source.value {
-        Some(value) => with_document(alloc, draft, walked, survey.source, value),
+        Some(value) => with_document(alloc, draft, walked, survey, value),
         None => Ok(walked),
     }
 }

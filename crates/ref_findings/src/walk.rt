@@ -1,10 +1,12 @@
 //! The places of a source where schemas stand.
 ghost use Rattle.std.specs.Prelude.{◌≡◌, ◌<◌, List, [], ◌∷◌, ◌++◌, map, length, slice_get, Some, IfOk, IfSome, OnOk};
 ghost use Rattle.serde_json.specs.View.{view};
-ghost use Rattle.ref_draft.specs.Children.{walked_children};
+ghost use Rattle.ref_draft.specs.Children.{AllStand, walked_children};
 ghost use Rattle.ref_parts.specs.Path.{Key};
 ghost use Rattle.ref_draft.specs.Views.{segment_parts, walked_child};
+ghost use Rattle.std.specs.List.{AllByRecursion};
 ghost use Rattle.ref_definitions.specs.Places.{child_place, root};
+ghost use Rattle.ref_index.specs.Visits.{ChildrenStandAt};
 ghost use Rattle.ref_findings.specs.Places.{children_near, places_near};
 ghost use Rattle.ref_findings.specs.declared.place.Place.{Place};
 ghost use Rattle.ref_findings.specs.inner.Seen.{place_of, IsKeywordBelow};
@@ -107,11 +109,13 @@ fn push_children<'v>(
     draft: Draft,
     base: &Rc<Uri>,
 ) -> Result<(), AllocError>
-    ensures { OnOk result
+    ensures added { OnOk result
         ((more : List Place) × (places.new.items ≡ places.old.items ++ more)
         × (map place_of more
         ≡ map (child_place path.now base.now.value)
         (walked_children draft (view value.now)))) }
+    ensures stand { OnOk result
+        (AllStand (view value.now) (walked_children draft (view value.now))) }
 {
     let mut last = None;
     for child in draft.walk_children(alloc, value)? {
@@ -127,10 +131,12 @@ fn push_below<'v>(
     number: usize,
 ) -> Result<(), AllocError>
     requires { number < length places.old.items }
-    ensures { (p : Place) → slice_get places.old.items number ≡ Some p
+    ensures added { (p : Place) → slice_get places.old.items number ≡ Some p
         → OnOk result
         ((more : List Place) × (places.new.items ≡ places.old.items ++ more)
         × (map place_of more ≡ children_near (place_of p))) }
+    ensures stand { (p : Place) → slice_get places.old.items number ≡ Some p
+        → OnOk result (ChildrenStandAt (place_of p)) }
 {
     let place = &places[number];
     let base = nearest_base(alloc, &place.outer, place.id())?;
@@ -165,6 +171,8 @@ pub(crate) fn places_of<'v>(
     ensures value { IfOk result
         (λ places. map place_of places.items
         ≡ places_near (record { uri = uri.now; tree = view value.now; draft = draft })) }
+    ensures stand { IfOk result
+        (λ places. AllByRecursion ChildrenStandAt (map place_of places.items)) }
 {
     let root = root_of(alloc, uri, value, draft)?;
     let mut places = Vec::new(alloc);

@@ -3,6 +3,7 @@ pub mod Holding
 pub mod Paths
 pub mod Visiting
 pub mod Walking
+pub mod Noting
 pub mod Looking
 pub mod Numbering
 pub mod Layers

@@ -3,6 +3,7 @@ pub mod Document
 pub mod Found
 pub mod Visits
 pub mod Index
+pub mod Listed
 pub mod Listing
 pub mod Retrieval
 pub mod inner

@@ -77,15 +77,30 @@ ChildrenCame path value draft base queue after =
     × (map place_of more ≡ map (child_place path base) (walked_children draft value))
     × AllStand value (walked_children draft value)
 
+-- what was found has that of a place too, and where it is a root under a URI of its document
+abbrev pub AddsPlace : ℕ → Option (List ℕ) → Place → Found → Found → Type 0
+AddsPlace number under p old new =
+    (layer : Layer) (rs : List (List ℕ × Place)) (ns : List Named) (ws : List Want)
+    (ps : List Pair)
+    → Holds layer old rs ns ws ps → StandsIn layer number p
+    → Holds layer new (rs ++ resources_at under p) (ns ++ names_at under p) (ws ++ wants_of p)
+    (ps ++ pairs_at p)
+
+-- what was found has that of places of a document too, after that of its root under its URI
+abbrev pub AddsPlaces : Document → ℕ → List Place → Found → Found → Type 0
+AddsPlaces d number visited old new =
+    (layer : Layer) (rs : List (List ℕ × Place)) (ns : List Named) (ws : List Want)
+    (ps : List Pair)
+    → slice_get layer number ≡ Some d → Holds layer old rs ns ws ps
+    → Holds layer new (rs ++ (d.uri, root d) ∷ flat_map resource_of visited)
+    (ns ++ (named_under d.uri (root d) ++ flat_map names_of visited))
+    (ws ++ flat_map wants_of visited) (ps ++ flat_map pairs_at visited)
+
 -- A place was visited: what it is identified by, is named and wants was added, it has no fault, and its children came
 -- to the queue.
 pub record IsVisited (number : ℕ) (under : Option (List ℕ)) (v : Visit) (old new : Found)
     (queue after : List Visit) : Type 0 where
-  pub added : (layer : Layer) (rs : List (List ℕ × Place)) (ns : List Named) (ws : List Want)
-      (ps : List Pair)
-      → Holds layer old rs ns ws ps → StandsIn layer number (place_of v)
-      → Holds layer new (rs ++ resources_at under (place_of v)) (ns ++ names_at under (place_of v))
-      (ws ++ wants_of (place_of v)) (ps ++ pairs_at (place_of v))
+  pub added : AddsPlace number under (place_of v) old new
   pub faultless : faults_of (place_of v) ≡ []
   pub more : List Visit
   pub grown : after ≡ queue ++ more
@@ -100,12 +115,7 @@ ChildrenStandAt p = AllStand p.value (walked_children p.draft p.value)
 -- fault, and their children are at their paths.
 pub record IsWalked (d : Document) (number : ℕ) (old new : Found)
     (visited : List Place) : Type 0 where
-  pub added : (layer : Layer) (rs : List (List ℕ × Place)) (ns : List Named) (ws : List Want)
-      (ps : List Pair)
-      → slice_get layer number ≡ Some d → Holds layer old rs ns ws ps
-      → Holds layer new (rs ++ (d.uri, root d) ∷ flat_map resource_of visited)
-      (ns ++ (named_under d.uri (root d) ++ flat_map names_of visited))
-      (ws ++ flat_map wants_of visited) (ps ++ flat_map pairs_at visited)
+  pub added : AddsPlaces d number visited old new
   pub faultless : flat_map faults_of visited ≡ []
   pub children : AllByRecursion ChildrenStandAt visited
 

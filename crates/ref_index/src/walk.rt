@@ -297,8 +297,8 @@ fn add_meta_schema(alloc: Global, found: &mut Found<'_>, value: &Value) -> Resul
     Ok(())
 }
 
-// Adds what a place is identified by, is named and wants, and returns its base.
-fn settle<'w, 'a: 'w>(
+/// Adds what a place is identified by, is named and wants, and returns its base.
+pub(crate) fn settle<'w, 'a: 'w>(
     alloc: Global,
     found: &mut Found<'a>,
     number: usize,

@@ -1,15 +1,19 @@
 //! Documents that are walked one after another.
-ghost use Rattle.std.specs.Prelude.{◌≡◌, ◌∷◌, ◌++◌, ◌≤◌, [], map, take, length, slice_get, Some, None, true, false, OnOk, IfOk, IfErr, MatchOption};
+ghost use Rattle.std.specs.Prelude.{◌≡◌, ◌∷◌, ◌++◌, ◌≤◌, [], map, flat_map, take, length, slice_get, Some, None, true, false, OnOk, IfOk, IfErr, IfSome, MatchOption};
 ghost use Rattle.std.specs.List.{AllByRecursion};
 ghost use Rattle.ref_definitions.specs.Wants.{Want as Wanted, faults, wants, is_open};
 ghost use Rattle.ref_index.specs.Document.{document_of};
 ghost use Rattle.ref_index.specs.Found.{want_of};
-ghost use Rattle.ref_index.specs.Visits.{IsFirstFault, IsFound};
+ghost use Rattle.ref_index.specs.Listed.{IsListingOf, place_of};
+ghost use Rattle.ref_index.specs.Visits.{IsFirstFault, IsFound, IsWalked, faults_of};
+ghost use Rattle.ref_definitions.specs.Places.{places};
 
 use crate::document::Document;
 use crate::found::{Found, Want};
 use crate::index::Index;
+use crate::listed::note;
 use crate::open::first_open;
+use crate::queue::Visit;
 use crate::walk::walk;
 use ref_uri::UriFault;
 use std::alloc::{AllocError, Global};
@@ -23,6 +27,28 @@ fn push<'a>(documents: &mut Vec<Document<'a>>, document: Document<'a>) -> Result
     Ok(())
 }
 
+// Adds what the places of a document are identified by, are named and want: by the places that are listed, or else by a walk.
+fn walk_or_note<'a>(
+    alloc: Global,
+    found: &mut Found<'a>,
+    number: usize,
+    document: &Document<'a>,
+    listed: Option<&[Visit<'a, 'a>]>,
+) -> Result<(), UriFault>
+    requires { IfSome listed
+        (λ below. IsListingOf (document_of document.now) (map place_of below.now)) }
+    ensures ok { OnOk result
+        (IsWalked (document_of document.now) number found.old found.new
+        (places (document_of document.now))) }
+    ensures fault { IfErr result
+        (IsFirstFault (flat_map faults_of (places (document_of document.now)))) }
+{
+    match listed {
+        Some(below) => note(alloc, found, number, document, below),
+        None => walk(alloc, found, number, document),
+    }
+}
+
 // Adds a document after the others, and what its places are identified by, are named and want after what was found in them.
 // Of what was found and of the documents nothing is said after a refusal: both are to be let go.
 fn walk_next<'a>(
@@ -30,8 +56,11 @@ fn walk_next<'a>(
     documents: &mut Vec<Document<'a>>,
     found: &mut Found<'a>,
     document: Document<'a>,
+    listed: Option<&[Visit<'a, 'a>]>,
 ) -> Result<(), UriFault>
-    requires { IsFound (map document_of documents.old.items) found.old }
+    requires found { IsFound (map document_of documents.old.items) found.old }
+    requires listed { IfSome listed
+        (λ below. IsListingOf (document_of document) (map place_of below.now)) }
     ensures documents { OnOk result
         (map document_of documents.new.items
         ≡ map document_of documents.old.items ++ document_of document.entry ∷ []) }
@@ -42,7 +71,7 @@ fn walk_next<'a>(
 {
     let number = documents.len();
     push(documents, document)?;
-    walk(alloc, found, number, &documents[number])
+    walk_or_note(alloc, found, number, &documents[number], listed)
 }
 
 /// Documents that were walked, of which none has a fault, and what was found in them. Contracts see the documents.
@@ -89,11 +118,47 @@ impl<'a> Walked<'a> {
         ensures fault { IfErr result
             (IsFirstFault (faults (self.entry ++ document_of document.entry ∷ []))) }
     {
+        self.appended(alloc, document, None)
+    }
+
+    /// The same, where the document is borrowed and the caller has walked over its places already: those below its root that
+    /// have an identifier, an anchor, or a text under `$ref` or `$schema` are listed in their order, and no other is visited.
+    ///
+    /// Refuses where memory is refused, since a document whose places are listed is to have no fault.
+    pub fn append_listed(
+        self,
+        alloc: Global,
+        document: Document<'a>,
+        below: &[Visit<'a, 'a>],
+    ) -> Result<Walked<'a>, UriFault>
+        requires { IsListingOf (document_of document) (map place_of below.now) }
+        ensures value { IfOk result
+            (λ walked. walked ≡ self.entry ++ document_of document.entry ∷ []) }
+        ensures fault { IfErr result
+            (IsFirstFault (faults (self.entry ++ document_of document.entry ∷ []))) }
+    {
+        self.appended(alloc, document, Some(below))
+    }
+
+    // These documents and one after them, which is walked, or whose places are listed.
+    fn appended(
+        self,
+        alloc: Global,
+        document: Document<'a>,
+        listed: Option<&[Visit<'a, 'a>]>,
+    ) -> Result<Walked<'a>, UriFault>
+        requires { IfSome listed
+            (λ below. IsListingOf (document_of document) (map place_of below.now)) }
+        ensures value { IfOk result
+            (λ walked. walked ≡ self.entry ++ document_of document.entry ∷ []) }
+        ensures fault { IfErr result
+            (IsFirstFault (faults (self.entry ++ document_of document.entry ∷ []))) }
+    {
         let Walked {
             mut documents,
             mut found,
         } = self;
-        walk_next(alloc, &mut documents, &mut found, document)?;
+        walk_next(alloc, &mut documents, &mut found, document, listed)?;
         Ok(Walked { documents, found })
     }
 

@@ -6,8 +6,8 @@ use Rattle.ref_findings.specs.inner.Seen.{Survey}
 use Rattle.ref_findings.proofs.Sound.{faultless_more, sound_places}
 use Rattle.ref_findings.proofs.survey.with_source.Goals as goal
 
-pub with_document-requires : goal.with_document-requires
-with_document-requires c =
+pub with_document-requires-clause-faultless : goal.with_document-requires-clause-faultless
+with_document-requires-clause-faultless c =
     let s = source_of c.args.survey.now.source.now in
     let tree : s.tree ≡ Some (view c.in-Some.value.now) = search rules in
     let truth : c.args.survey.now.is_sound ≡ true = search rules in

@@ -1,6 +1,6 @@
 use Rattle.std.proofs.Common.{◌≡◌}
+use Rattle.ref_index.proofs.Noting.{all_at}
 use Rattle.ref_findings.specs.inner.Seen.{Survey, seen_survey, survey_in}
-use Rattle.ref_findings.proofs.Lists.{all_at}
 use Rattle.ref_findings.proofs.survey.with_sources.Goals as goal
 
 pub with_source-requires-clause-survey : goal.with_source-requires-clause-survey

@@ -23,9 +23,9 @@ returns-clause-found c =
     let same = c.index.ensures ∙ get_or_from_slice_get c.push.new.documents.items c.len-number.result document c.index.result.now at in
     let layered : map document_of c.push.new.documents.items ≡ layer ++ document_of document ∷ [] = ap (map document_of) items ∙ map-append document_of old (document ∷ []) in
     let counted : c.len-number.result ≡ length layer = number ∙ sym (length-map old document_of) in
-    on_ok c.walk.result
-    (λ walk. subst (λ l. IsFound l c.walk.new.found) (sym layered)
-    (found_more layer (document_of document) c.args.found.now c.walk.new.found c.requires
-    (subst (λ n. IsWalked (document_of document) n c.args.found.now c.walk.new.found (places (document_of document))) counted
-    (subst (λ d. IsWalked (document_of d) c.len-number.result c.args.found.now c.walk.new.found (places (document_of d))) same walk))))
-    c.walk.ensures.ok
+    on_ok c.walk_or_note.result
+    (λ walk. subst (λ l. IsFound l c.walk_or_note.new.found) (sym layered)
+    (found_more layer (document_of document) c.args.found.now c.walk_or_note.new.found c.requires.found
+    (subst (λ n. IsWalked (document_of document) n c.args.found.now c.walk_or_note.new.found (places (document_of document))) counted
+    (subst (λ d. IsWalked (document_of d) c.len-number.result c.args.found.now c.walk_or_note.new.found (places (document_of d))) same walk))))
+    c.walk_or_note.ensures.ok

@@ -1,0 +1,52 @@
+use Rattle.std.proofs.Common.{◌≡◌, ◌∙◌, ◌∷◌, ◌++◌, [], Some, ap, subst, sym, map, flat_map, take, length, ◌<◌, rules, arith}
+use Rattle.std.proofs.lemmas.List.{take_all}
+use Rattle.ref_parts.specs.Path.{value_at}
+use Rattle.ref_definitions.specs.Places.{Place, places, root}
+use Rattle.ref_index.specs.Document.{document_of}
+use Rattle.ref_index.specs.Visits.{AddsPlace, AddsPlaces, faults_of}
+use Rattle.ref_index.specs.inner.Queue.{place_of}
+use Rattle.ref_index.proofs.Noting.{memory_alone, noted_faultless, noted_stand, all_at, taken_more, all_walked}
+use Rattle.ref_index.proofs.Walking.{adds_root, adds_more}
+use Rattle.ref_index.proofs.listed.note.Goals as goal
+
+pub returns-in_err-settle-clause-fault : goal.returns-in_err-settle-clause-fault
+returns-in_err-settle-clause-fault c =
+    let d = document_of c.args.document.now in
+    let none : faults_of (place_of c.in_ok-root.root) ≡ [] = ap faults_of c.in_ok-root.ensures ∙ (noted_faultless d (map place_of c.args.below.now) c.requires).0 in
+    let fault = memory_alone _ (flat_map faults_of (places d)) c.in_err-settle.field-0.0 none c.in_err-settle.ensures.fault in
+    search rules
+
+pub loop-place-init : goal.loop-place-init
+loop-place-init c =
+    let d = document_of c.args.document.now in
+    let v = c.in_ok-root.root in
+    let under : v.outer.value ≡ d.uri = ap (λ p. p.outer) c.in_ok-root.ensures in
+    let added : AddsPlace c.args.number (Some d.uri) (place_of v) c.args.found.now c.settle.new.found =
+    subst (λ u. AddsPlace c.args.number (Some u) (place_of v) c.args.found.now c.settle.new.found) under c.in_ok-settle.ensures.added in
+    subst (λ p. AddsPlaces d c.args.number (p ∷ []) c.args.found.now c.settle.new.found) c.in_ok-root.ensures (adds_root d c.args.number c.args.found.now c.settle.new.found (place_of v) c.in_ok-root.ensures added)
+
+pub returns-in_err-settle-2-clause-fault : goal.returns-in_err-settle-2-clause-fault
+returns-in_err-settle-2-clause-fault c =
+    let d = document_of c.args.document.now in
+    let below = map place_of c.args.below.now in
+    let none = all_at (λ p. faults_of p ≡ []) place_of c.args.below.now c.loop-place.place-index c.place-item.result (noted_faultless d below c.requires).1 c.loop-place-test.true c.place-item.is in
+    let fault = memory_alone _ (flat_map faults_of (places d)) c.in_err-settle-2.field-0.0 none c.in_err-settle-2.ensures.fault in
+    search rules
+
+pub loop-place-preserved : goal.loop-place-preserved
+loop-place-preserved c =
+    let d = document_of c.args.document.now in
+    let vs = c.args.below.now in
+    let i = c.loop-place.place-index in
+    let v = c.place-item.result in
+    let at = all_at (λ (p : Place). value_at d.tree p.path ≡ Some p.value) place_of vs i v (noted_stand d (map place_of vs) c.requires).1 c.loop-place-test.true c.place-item.is in
+    subst (λ l. AddsPlaces d c.args.number (root d ∷ l) c.args.found.now c.settle-in-loop-place.new.found) (sym (taken_more vs i v c.loop-place-test.true c.place-item.is))
+    (adds_more d c.args.number c.args.found.now c.loop-place.found c.settle-in-loop-place.new.found (root d ∷ map place_of (take i vs)) (place_of v) at c.loop-place.invariant c.in_ok-settle-2.ensures.added)
+
+pub returns-clause-ok : goal.returns-clause-ok
+returns-clause-ok c =
+    let d = document_of c.args.document.now in
+    let vs = c.args.below.now in
+    let all : take c.loop-place.place-index vs ≡ vs = take_all c.loop-place.place-index vs (omega arith) in
+    all_walked d c.args.number c.args.found.now c.loop-place.found (map place_of vs) c.requires
+    (subst (λ l. AddsPlaces d c.args.number (root d ∷ map place_of l) c.args.found.now c.loop-place.found) all c.loop-place.invariant)
