@@ -1,10 +1,11 @@
 //! Paths as lists of segments, whose keys are lent or owned: an index of places stands beside the documents, and owns the
 //! keys of its paths.
-ghost use Rattle.std.specs.Prelude.{◌≡◌, [], ◌∷◌, ◌++◌, map, IfOk, MatchOption};
+ghost use Rattle.std.specs.Prelude.{◌≡◌, [], ◌∷◌, ◌++◌, map, IfOk, OnOk, MatchOption};
 ghost use Rattle.ref_parts.specs.Path.{Key};
 ghost use Rattle.ref_parts.specs.Segment.{part_of};
 ghost use Rattle.ref_draft.specs.Views.{segment_parts};
 ghost use Rattle.ref_parts.specs.declared.path.JsonPointerSegment.{JsonPointerSegment as Segment};
+ghost use Rattle.ref_index.specs.inner.Below.{parts_of, tail_parts};
 
 use ref_parts::path::{JsonPointerNode, JsonPointerSegment};
 use std::alloc::{AllocError, Global};
@@ -111,5 +112,113 @@ pub fn path_below<'w>(
     match segment {
         Some(segment) => keyword.push(alloc, segment),
         None => Ok(keyword),
+    }
+}
+
+/// What follows the path of a place in that of a child: a keyword, and the index or key after it, where there is one.
+#[derive(Drop)]
+pub struct Tail<'w> {
+    pub keyword: &'w str,
+    pub segment: Option<JsonPointerSegment<'w>>,
+}
+
+/// The path of a place: that of the place above it, and what follows. What follows gets a link only where a child of the
+/// place needs it, and most places have none. Above the root there is no place, and nothing follows.
+#[derive(Drop)]
+pub struct Below<'w> {
+    pub above: JsonPointerNode<'w>,
+    pub tail: Option<Tail<'w>>,
+}
+
+// The segment, copied, where there is one: a key that is lent stays lent.
+fn segment_copied<'w>(
+    segment: &Option<JsonPointerSegment<'w>>,
+) -> Result<Option<JsonPointerSegment<'w>>, AllocError>
+    ensures { IfOk result (λ copy. segment_parts copy ≡ segment_parts segment.now) }
+{
+    match segment {
+        Some(segment) => Ok(Some(segment.clone()?)),
+        None => Ok(None),
+    }
+}
+
+// Adds the parts of a tail: a key that is lent stays lent.
+fn push_tail<'w>(parts: &mut Vec<JsonPointerSegment<'w>>, tail: &Tail<'w>) -> Result<(), AllocError>
+    ensures { OnOk result
+        (map part_of parts.new.items ≡ map part_of parts.old.items ++ tail_parts tail.now) }
+{
+    parts.push(tail.keyword.into())?;
+    if let Some(segment) = &tail.segment {
+        parts.push(segment.clone()?)?;
+    }
+    Ok(())
+}
+
+// Adds the parts of a tail, with keys of their own.
+fn push_owned_tail<'a>(
+    alloc: Global,
+    parts: &mut Vec<JsonPointerSegment<'a>>,
+    tail: &Tail<'_>,
+) -> Result<(), AllocError>
+    ensures { OnOk result
+        (map part_of parts.new.items ≡ map part_of parts.old.items ++ tail_parts tail.now) }
+{
+    let keyword = String::from_str(alloc, tail.keyword)?;
+    parts.push(JsonPointerSegment::Key(CowStr::Owned(keyword)))?;
+    if let Some(segment) = &tail.segment {
+        parts.push(copy_of(alloc, segment)?)?;
+    }
+    Ok(())
+}
+
+impl<'w> Below<'w> {
+    /// The same path. Takes no memory.
+    pub fn copied(&self) -> Result<Below<'w>, AllocError>
+        ensures value { IfOk result (λ copy. parts_of copy ≡ parts_of self.now) }
+    {
+        let above = self.above.clone()?;
+        let Some(Tail { keyword, segment }) = &self.tail else {
+            return Ok(Below { above, tail: None });
+        };
+        let segment = segment_copied(segment)?;
+        let tail = Some(Tail {
+            keyword: *keyword,
+            segment,
+        });
+        Ok(Below { above, tail })
+    }
+
+    /// The path with links for what follows. Takes memory for one or two.
+    pub fn linked(&self, alloc: Global) -> Result<JsonPointerNode<'w>, AllocError>
+        ensures value { IfOk result (λ path. path ≡ parts_of self.now) }
+    {
+        let Some(Tail { keyword, segment }) = &self.tail else {
+            return self.above.clone();
+        };
+        let segment = segment_copied(segment)?;
+        path_below(alloc, &self.above, *keyword, segment)
+    }
+
+    /// The segments of the path, from the root on: each is copied, and a key that is lent stays lent. Linear in their
+    /// number; takes memory for the list.
+    pub fn segments(&self, alloc: Global) -> Result<Vec<JsonPointerSegment<'w>>, AllocError>
+        ensures value { IfOk result (λ parts. map part_of parts.items ≡ parts_of self.now) }
+    {
+        let mut parts = segments_of(alloc, &self.above)?;
+        if let Some(tail) = &self.tail {
+            push_tail(&mut parts, tail)?;
+        }
+        Ok(parts)
+    }
+
+    /// The path, copied. Linear in its keys; takes memory for the list and for each key.
+    pub fn owned<'a>(&self, alloc: Global) -> Result<Vec<JsonPointerSegment<'a>>, AllocError>
+        ensures value { IfOk result (λ parts. map part_of parts.items ≡ parts_of self.now) }
+    {
+        let mut parts = owned(alloc, &self.above)?;
+        if let Some(tail) = &self.tail {
+            push_owned_tail(alloc, &mut parts, tail)?;
+        }
+        Ok(parts)
     }
 }

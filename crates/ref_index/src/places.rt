@@ -11,7 +11,6 @@ ghost use Rattle.ref_index.specs.declared.queue.Visit.{Visit};
 
 use crate::document::Document;
 use crate::index::Index;
-use crate::path::segments_of;
 use crate::queue::Visit;
 use crate::reference::shared;
 use crate::walk::{push_children, push_visit, root_of};
@@ -75,7 +74,7 @@ fn place_at<'w, 'a: 'w>(
     ensures { (place_of visit.now).base ≡ Ok base.now.value
         → IfOk result (λ place. listed_of place ≡ listed_place number (place_of visit.now)) }
 {
-    let path = segments_of(alloc, &visit.path)?;
+    let path = visit.path.segments(alloc)?;
     let base = base.clone()?;
     Ok(Place {
         document: number,
@@ -108,7 +107,7 @@ fn list_next<'w, 'a: 'w>(
     let id = ResourceRef::new(visit.value.get(), visit.draft).id();
     let base = base_in(alloc, index, &visit.outer, id)?;
     let place = place_at(alloc, number, visit, &base)?;
-    let path = visit.path.clone()?;
+    let path = visit.path.copied()?;
     let (value, draft) = (visit.value, visit.draft);
     places.push(place)?;
     push_children(alloc, queue, &path, value, draft, &base)

@@ -5,8 +5,8 @@ ghost use Rattle.ref_index.specs.Contents.{tree_of};
 ghost use Rattle.ref_index.specs.inner.Queue.{value_of};
 
 use crate::document::Contents;
+use crate::path::Below;
 use ref_draft::Draft;
-use ref_parts::path::JsonPointerNode;
 use ref_uri::Uri;
 use serde_json::Value;
 use std::rc::Rc;
@@ -54,7 +54,7 @@ impl<'w, 'a: 'w> ValueRef<'w, 'a> {
 /// A place that was found: its path, value and draft, and the base around it. Its own identifier is applied at its visit.
 #[derive(Drop)]
 pub struct Visit<'w, 'a> {
-    pub path: JsonPointerNode<'w>,
+    pub path: Below<'w>,
     pub value: ValueRef<'w, 'a>,
     pub draft: Draft,
     pub outer: Rc<Uri>,

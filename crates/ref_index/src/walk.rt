@@ -14,6 +14,7 @@ ghost use Rattle.ref_definitions.specs.Cached.{Pair, pairs_of_identifier, pairs_
 ghost use Rattle.ref_definitions.specs.Wants.{Want as Wanted, Reference, MetaSchema, reference_at, schema_at, wants_of_text, refusals_of, wants_at, faults_at};
 ghost use Rattle.ref_index.specs.Contents.{tree_of};
 ghost use Rattle.ref_index.specs.Found.{Holds, IsEntryOf, IsNumberOf};
+ghost use Rattle.ref_index.specs.inner.Below.{parts_of};
 ghost use Rattle.ref_index.specs.inner.Queue.{place_of, value_of};
 ghost use Rattle.ref_index.specs.declared.queue.Visit.{Visit};
 ghost use Rattle.ref_index.specs.Document.{document_of};
@@ -22,7 +23,7 @@ ghost use Rattle.ref_index.specs.Visits.{meta_schema_uri, IsFirstFault, StandsIn
 use crate::document::Document;
 use crate::entry::Entry;
 use crate::found::{Cause, Found};
-use crate::path::{owned, path_below};
+use crate::path::{Below, Tail};
 use crate::queue::{ValueRef, Visit};
 use crate::reference::shared;
 use ref_draft::{AnchorIter, Child, Draft, ResourceRef};
@@ -62,7 +63,7 @@ fn entry_of<'a>(
         → (place_of place.now).base ≡ Ok base.now.value
         → IfOk result (λ entry. IsEntryOf layer entry (place_of place.now)) }
 {
-    let path = owned(alloc, &place.path)?;
+    let path = place.path.owned(alloc)?;
     let base = base.clone()?;
     Ok(Entry {
         lent: place.value.lent(),
@@ -333,7 +334,6 @@ pub(crate) fn settle<'w, 'a: 'w>(
 
 // Adds a child of a place to the queue, with its value.
 fn push_child<'w, 'a>(
-    alloc: Global,
     queue: &mut Vec<Visit<'w, 'a>>,
     path: &JsonPointerNode<'w>,
     child: Child<'w>,
@@ -351,9 +351,10 @@ fn push_child<'w, 'a>(
         draft,
     } = child;
     let outer = base.clone()?;
-    let path = path_below(alloc, path, keyword, segment)?;
+    let above = path.clone()?;
+    let tail = Some(Tail { keyword, segment });
     queue.push(Visit {
-        path,
+        path: Below { above, tail },
         value,
         draft,
         outer,
@@ -365,18 +366,23 @@ fn push_child<'w, 'a>(
 fn push_lent<'w, 'a: 'w>(
     alloc: Global,
     queue: &mut Vec<Visit<'w, 'a>>,
-    path: &JsonPointerNode<'w>,
+    path: &Below<'w>,
     value: &'a Value,
     draft: Draft,
     base: &Rc<Uri>,
 ) -> Result<(), AllocError>
     ensures { OnOk result
-        (ChildrenCame path.now
+        (ChildrenCame (parts_of path.now)
         (view value.now) draft base.now.value queue.old.items queue.new.items) }
 {
-    for child in draft.walk_children(alloc, value)? {
+    let children = draft.walk_children(alloc, value)?;
+    if children.is_empty() {
+        return Ok(());
+    }
+    let path = path.linked(alloc)?;
+    for child in children {
         let value = ValueRef::Lent(child.value);
-        push_child(alloc, queue, path, child, value, base)?;
+        push_child(queue, &path, child, value, base)?;
     }
     Ok(())
 }
@@ -385,18 +391,23 @@ fn push_lent<'w, 'a: 'w>(
 fn push_kept<'w, 'a>(
     alloc: Global,
     queue: &mut Vec<Visit<'w, 'a>>,
-    path: &JsonPointerNode<'w>,
+    path: &Below<'w>,
     value: &'w Value,
     draft: Draft,
     base: &Rc<Uri>,
 ) -> Result<(), AllocError>
     ensures { OnOk result
-        (ChildrenCame path.now
+        (ChildrenCame (parts_of path.now)
         (view value.now) draft base.now.value queue.old.items queue.new.items) }
 {
-    for child in draft.walk_children(alloc, value)? {
+    let children = draft.walk_children(alloc, value)?;
+    if children.is_empty() {
+        return Ok(());
+    }
+    let path = path.linked(alloc)?;
+    for child in children {
         let value = ValueRef::Kept(child.value);
-        push_child(alloc, queue, path, child, value, base)?;
+        push_child(queue, &path, child, value, base)?;
     }
     Ok(())
 }
@@ -405,13 +416,13 @@ fn push_kept<'w, 'a>(
 pub(crate) fn push_children<'w, 'a: 'w>(
     alloc: Global,
     queue: &mut Vec<Visit<'w, 'a>>,
-    path: &JsonPointerNode<'w>,
+    path: &Below<'w>,
     value: ValueRef<'w, 'a>,
     draft: Draft,
     base: &Rc<Uri>,
 ) -> Result<(), AllocError>
     ensures { OnOk result
-        (ChildrenCame path.now
+        (ChildrenCame (parts_of path.now)
         (value_of value.entry) draft base.now.value queue.old.items queue.new.items) }
 {
     match value {
@@ -451,7 +462,7 @@ fn visit<'w, 'a: 'w>(
 {
     let place = &queue[head];
     let base = settle(alloc, found, number, place, under)?;
-    let path = place.path.clone()?;
+    let path = place.path.copied()?;
     let (value, draft) = (place.value, place.draft);
     push_children(alloc, queue, &path, value, draft, &base)?;
     Ok(())
@@ -466,7 +477,10 @@ pub(crate) fn root_of<'w, 'a>(
 {
     let uri = document.uri.clone()?;
     Ok(Visit {
-        path: JsonPointerNode::new(),
+        path: Below {
+            above: JsonPointerNode::new(),
+            tail: None,
+        },
         value: ValueRef::root(&document.contents),
         draft: document.draft,
         outer: shared(alloc, uri)?,

@@ -6,6 +6,7 @@ use Rattle.ref_draft.specs.Schema.{identifier}
 use Rattle.ref_definitions.specs.World.{Document}
 use Rattle.ref_definitions.specs.Places.{Place, base_within, children_of, levels_below, places}
 use Rattle.ref_definitions.specs.Listing.{Listed, listed_place}
+use Rattle.ref_index.specs.inner.Below.{parts_of}
 use Rattle.ref_index.specs.declared.queue.ValueRef.{ValueRef}
 use Rattle.ref_index.specs.declared.queue.ValueRef.TheVariants.{Lent, Kept}
 use Rattle.ref_index.specs.declared.queue.Visit.{Visit}
@@ -18,7 +19,7 @@ value_of (Kept value) = view value.now
 -- the place of a visit
 abbrev pub place_of : Visit → Place
 place_of v = record {
-  path = v.path;
+  path = parts_of v.path;
   value = value_of v.value;
   draft = v.draft;
   outer = v.outer.value;

@@ -2,6 +2,7 @@ use Rattle.std.proofs.Common.{◌≡◌, ◌∙◌, Ok, sym, ap, subst, map, opt
 use Rattle.std.proofs.lemmas.Option.{get_or_from_slice_get}
 use Rattle.ref_draft.specs.Children.{walked_children}
 use Rattle.ref_definitions.specs.Places.{child_place, children_with}
+use Rattle.ref_index.specs.inner.Below.{parts_of}
 use Rattle.ref_index.specs.inner.Queue.{place_of, value_of}
 use Rattle.ref_index.specs.Visits.{IsVisited}
 use Rattle.ref_index.proofs.walk.visit.Goals as goal
@@ -11,7 +12,7 @@ returns-clause-ok c = λ v at.
     let w = c.index-place.result.now in
     let same : w ≡ v = c.index-place.ensures ∙ get_or_from_slice_get c.args.queue.now.items c.args.head v w at in
     let based : (place_of w).base ≡ Ok c.in_ok-base.base.value = c.in_ok-base.ensures.base in
-    let path : c.in_ok-path.path ≡ w.path = search rules in
+    let path : parts_of c.in_ok-path.path ≡ parts_of w.path = c.in_ok-path.ensures.value in
     let pushed = c.in_ok-push_children.ensures in
     let visited : IsVisited c.args.number (option_map (λ u. u.now.value) c.args.under) w c.args.found.now c.settle.new.found c.args.queue.now.items c.push_children.new.queue.items = record {
       added = c.in_ok-base.ensures.added;
