@@ -9,6 +9,7 @@ ghost use Rattle.ref_findings.specs.inner.Plain.{IsPlain, AreAmong};
 use crate::finding::text_under;
 use crate::texts::{Texts, texts_of};
 use ref_draft::{AnchorIter, Draft, ResourceRef};
+use ref_index::path::Below;
 use ref_index::queue::{ValueRef, Visit};
 use ref_parts::path::JsonPointerNode;
 use ref_uri::Uri;
@@ -107,10 +108,10 @@ impl<'v> Place<'v> {
     pub fn visit(&self) -> Result<Visit<'v, 'v>, AllocError>
         ensures value { IfOk result (λ visit. visited_place visit ≡ place_of self.now) }
     {
-        let path = self.path.clone()?;
+        let above = self.path.clone()?;
         let outer = self.outer.clone()?;
         Ok(Visit {
-            path,
+            path: Below { above, tail: None },
             value: ValueRef::Lent(self.value),
             draft: self.draft,
             outer,
