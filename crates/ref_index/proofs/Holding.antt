@@ -8,6 +8,7 @@ use Rattle.ref_definitions.specs.Places.{Place}
 use Rattle.ref_definitions.specs.Anchors.{Named, named_under}
 use Rattle.ref_definitions.specs.World.{Layer}
 use Rattle.ref_index.specs.declared.entry.Entry.{Entry}
+use Rattle.ref_index.specs.Spots.{numbered}
 use Rattle.ref_index.specs.Found.{IsNumberOf, name_entry}
 
 -- a URI more among those that identify places
@@ -17,11 +18,11 @@ known_more true false = refl
 known_more false true = refl
 known_more false false = refl
 
-pub known_with : (u uri : List ℕ) (p : Place) (rs : List (List ℕ × Place)) (old new : Bool) → old ≡ list_any (λ (r : List ℕ × Place). bytes_eq r.0 u) rs → new ≡ cond (bytes_eq uri u) true old
-    → new ≡ list_any (λ (r : List ℕ × Place). bytes_eq r.0 u) (rs ++ (uri, p) ∷ [])
-known_with u uri p rs old new was is =
-    is ∙ ap (λ b. cond (bytes_eq uri u) true b) was ∙ sym (known_more (list_any (λ (r : List ℕ × Place). bytes_eq r.0 u) rs) (bytes_eq uri u))
-    ∙ sym (list_any-append (λ (r : List ℕ × Place). bytes_eq r.0 u) rs ((uri, p) ∷ []))
+pub known_with : (u uri : List ℕ) (number : ℕ) (p : Place) (rs : List (ℕ × (List ℕ × Place))) (old new : Bool) → old ≡ list_any (λ (r : ℕ × (List ℕ × Place)). bytes_eq r.1.0 u) rs → new ≡ cond (bytes_eq uri u) true old
+    → new ≡ list_any (λ (r : ℕ × (List ℕ × Place)). bytes_eq r.1.0 u) (rs ++ (number, (uri, p)) ∷ [])
+known_with u uri number p rs old new was is =
+    is ∙ ap (λ b. cond (bytes_eq uri u) true b) was ∙ sym (known_more (list_any (λ (r : ℕ × (List ℕ × Place)). bytes_eq r.1.0 u) rs) (bytes_eq uri u))
+    ∙ sym (list_any-append (λ (r : ℕ × (List ℕ × Place)). bytes_eq r.1.0 u) rs ((number, (uri, p)) ∷ []))
 
 -- one more at the end of each list
 pub zip_push : {A B : Type 0} (R : A → B → Type 0) (xs : List A) (ys : List B) (x : A) (y : B) → AllZip R xs ys → R x y → AllZip R (xs ++ x ∷ []) (ys ++ y ∷ [])
@@ -31,12 +32,12 @@ zip_push R (v ∷ xs) [] x y all here = absurd all
 zip_push R (v ∷ xs) (w ∷ ys) x y all here = (all.0, zip_push R xs ys x y all.1 here)
 
 -- an entry's number, where the entries are the same
-pub number_kept : (layer : Layer) (before after : List Entry) (n : ℕ) (p : Place) → after ≡ before → IsNumberOf layer before n p → IsNumberOf layer after n p
-number_kept layer before after n p same is = subst (λ es. IsNumberOf layer es n p) (sym same) is
+pub number_kept : (layer : Layer) (before after : List Entry) (number n : ℕ) (p : Place) → after ≡ before → IsNumberOf layer before number n p → IsNumberOf layer after number n p
+number_kept layer before after number n p same is = subst (λ es. IsNumberOf layer es number n p) (sym same) is
 
 -- two anchors of a place
-pub two_names : (uri : List ℕ) (p : Place) (ns : List Named) (resource : Tagged) (a b : List ℕ × Kind) → a ∷ b ∷ [] ≡ anchors resource.draft resource.contents → resource ≡ tagged_value p.draft p.value
-    → (ns ++ name_entry uri p a ∷ []) ++ name_entry uri p b ∷ [] ≡ ns ++ named_under uri p
-two_names uri p ns resource a b are is =
-    append_assoc ns (name_entry uri p a ∷ []) (name_entry uri p b ∷ [])
-    ∙ ap (λ l. ns ++ map (name_entry uri p) l) (are ∙ ap (λ (t : Tagged). anchors t.draft t.contents) is)
+pub two_names : (number : ℕ) (uri : List ℕ) (p : Place) (ns : List (ℕ × Named)) (resource : Tagged) (a b : List ℕ × Kind) → a ∷ b ∷ [] ≡ anchors resource.draft resource.contents → resource ≡ tagged_value p.draft p.value
+    → (ns ++ (number, name_entry uri p a) ∷ []) ++ (number, name_entry uri p b) ∷ [] ≡ ns ++ numbered number (named_under uri p)
+two_names number uri p ns resource a b are is =
+    append_assoc ns ((number, name_entry uri p a) ∷ []) ((number, name_entry uri p b) ∷ [])
+    ∙ ap (λ l. ns ++ numbered number (map (name_entry uri p) l)) (are ∙ ap (λ (t : Tagged). anchors t.draft t.contents) is)

@@ -1,3 +1,4 @@
+pub mod Spots
 pub mod Queues
 pub mod Holding
 pub mod Paths

@@ -1,5 +1,5 @@
 -- The last entry that a table has is that of the last place in the definition's list.
-use Rattle.std.proofs.Common.{◌≡◌, ℕ, zero, suc, arith, Ok, Bool, true, false, ◌&&◌, cond, List, [], ◌∷◌, map, filter, Option, Some, None, option_map, option_copied, MatchOption, Bor, length, refl, sym, ap, ◌∙◌, subst, bytes_eq}
+use Rattle.std.proofs.Common.{◌≡◌, ℕ, zero, suc, arith, Ok, Bool, true, false, ◌&&◌, cond, List, [], ◌∷◌, map, filter, Option, Some, None, option_map, option_copied, MatchOption, IfSome, Bor, length, refl, sym, ap, ◌∙◌, subst, bytes_eq}
 use Rattle.std.specs.Prelude.{slice_get}
 use Rattle.std.specs.Slice.{IsItemAt}
 use Rattle.std.proofs.lemmas.Option.{slice_get_past, slice_get_read}
@@ -7,17 +7,20 @@ use Rattle.std.specs.List.{AllZip, Contains, last_or}
 use Rattle.std.proofs.Math.Bool.{and-true}
 use Rattle.std.proofs.lemmas.Slice.Eq.{bytes_eq-Decides}
 use Rattle.ref_uri.specs.Targets.{uri_against}
+use Rattle.ref_parts.specs.Path.{Part}
 use Rattle.ref_parts.specs.Table as table
 use Rattle.ref_parts.specs.Table.{is_under, last_value}
 use Rattle.ref_definitions.specs.World.{Layer}
 use Rattle.ref_definitions.specs.Places.{Place}
 use Rattle.ref_definitions.specs.Resources.{last_under, resources}
-use Rattle.ref_definitions.specs.Anchors.{Named, last_named}
+use Rattle.ref_definitions.specs.Anchors.{Named}
 use Rattle.ref_definitions.specs.Cached.{Pair}
 use Rattle.ref_index.specs.declared.entry.Entry.{Entry}
 use Rattle.ref_index.specs.declared.entry.NamedEntry.{NamedEntry}
 use Rattle.ref_index.specs.declared.found.ResolvedUri.{ResolvedUri}
+use Rattle.ref_index.specs.Spots.{Spot, numbered_resources, last_resource, spot_of}
 use Rattle.ref_index.specs.Found.{IsEntryOf, IsNumberOf, kind_of}
+use Rattle.ref_index.proofs.Spots.{last_resource_is}
 use Rattle.ref_index.specs.Index.{IsResourceIn, IsNameIn, IsPairIn, IsFoundAt, IsFoundWhere}
 
 -- ---- lists of the same places
@@ -56,25 +59,25 @@ last_both R (a ∷ xs) (b ∷ bs) o u all both = last_both R xs bs (Some a) (Som
 
 -- ---- in a table
 
-uri_test : (layer : Layer) (entries : List Entry) (uri : List ℕ) (e : table.Entry ℕ) (r : List ℕ × Place) → IsResourceIn layer entries e r → is_under uri [] e ≡ bytes_eq r.0 uri
+uri_test : (layer : Layer) (entries : List Entry) (uri : List ℕ) (e : table.Entry ℕ) (r : ℕ × (List ℕ × Place)) → IsResourceIn layer entries e r → is_under uri [] e ≡ bytes_eq r.1.0 uri
 uri_test layer entries uri e r (first, second, is) =
-    ap (λ k. bytes_eq k uri && bytes_eq e.1 []) first ∙ ap (λ k. bytes_eq r.0 uri && bytes_eq k []) second ∙ and-true (bytes_eq r.0 uri)
+    ap (λ k. bytes_eq k uri && bytes_eq e.1 []) first ∙ ap (λ k. bytes_eq r.1.0 uri && bytes_eq k []) second ∙ and-true (bytes_eq r.1.0 uri)
 
-name_test : (layer : Layer) (entries : List Entry) (uri name : List ℕ) (e : table.Entry NamedEntry) (n : Named) → IsNameIn layer entries e n → is_under uri name e ≡ (bytes_eq n.uri uri && bytes_eq n.name name)
+name_test : (layer : Layer) (entries : List Entry) (uri name : List ℕ) (e : table.Entry NamedEntry) (n : ℕ × Named) → IsNameIn layer entries e n → is_under uri name e ≡ (bytes_eq n.1.uri uri && bytes_eq n.1.name name)
 name_test layer entries uri name e n (first, second, kind, is) =
-    ap (λ k. bytes_eq k uri && bytes_eq e.1 name) first ∙ ap (λ k. bytes_eq n.uri uri && bytes_eq k name) second
+    ap (λ k. bytes_eq k uri && bytes_eq e.1 name) first ∙ ap (λ k. bytes_eq n.1.uri uri && bytes_eq k name) second
 
-pub uri_both : (layer : Layer) (entries : List Entry) (uri : List ℕ) (es : List (table.Entry ℕ)) (rs : List (List ℕ × Place)) → AllZip (IsResourceIn layer entries) es rs
-    → Both (IsResourceIn layer entries) (last_or None (filter (is_under uri []) es)) (last_under uri rs)
+pub uri_both : (layer : Layer) (entries : List Entry) (uri : List ℕ) (es : List (table.Entry ℕ)) (rs : List (ℕ × (List ℕ × Place))) → AllZip (IsResourceIn layer entries) es rs
+    → Both (IsResourceIn layer entries) (last_or None (filter (is_under uri []) es)) (last_or None (filter (λ (r : ℕ × (List ℕ × Place)). bytes_eq r.1.0 uri) rs))
 uri_both layer entries uri es rs all =
-    last_both (IsResourceIn layer entries) (filter (is_under uri []) es) (filter (λ r. bytes_eq r.0 uri) rs) None None
-    (filtered (IsResourceIn layer entries) (is_under uri []) (λ r. bytes_eq r.0 uri) (uri_test layer entries uri) es rs all) tt
+    last_both (IsResourceIn layer entries) (filter (is_under uri []) es) (filter (λ r. bytes_eq r.1.0 uri) rs) None None
+    (filtered (IsResourceIn layer entries) (is_under uri []) (λ r. bytes_eq r.1.0 uri) (uri_test layer entries uri) es rs all) tt
 
-pub name_both : (layer : Layer) (entries : List Entry) (uri name : List ℕ) (es : List (table.Entry NamedEntry)) (ns : List Named) → AllZip (IsNameIn layer entries) es ns
-    → Both (IsNameIn layer entries) (last_or None (filter (is_under uri name) es)) (last_named uri name ns)
+pub name_both : (layer : Layer) (entries : List Entry) (uri name : List ℕ) (es : List (table.Entry NamedEntry)) (ns : List (ℕ × Named)) → AllZip (IsNameIn layer entries) es ns
+    → Both (IsNameIn layer entries) (last_or None (filter (is_under uri name) es)) (last_or None (filter (λ (n : ℕ × Named). bytes_eq n.1.uri uri && bytes_eq n.1.name name) ns))
 name_both layer entries uri name es ns all =
-    last_both (IsNameIn layer entries) (filter (is_under uri name) es) (filter (λ n. bytes_eq n.uri uri && bytes_eq n.name name) ns) None None
-    (filtered (IsNameIn layer entries) (is_under uri name) (λ n. bytes_eq n.uri uri && bytes_eq n.name name) (name_test layer entries uri name) es ns all) tt
+    last_both (IsNameIn layer entries) (filter (is_under uri name) es) (filter (λ n. bytes_eq n.1.uri uri && bytes_eq n.1.name name) ns) None None
+    (filtered (IsNameIn layer entries) (is_under uri name) (λ n. bytes_eq n.1.uri uri && bytes_eq n.1.name name) (name_test layer entries uri name) es ns all) tt
 
 pair_test : (by_uri : List (table.Entry ℕ)) (base text : List ℕ) (e : table.Entry ResolvedUri) (p : Pair) → IsPairIn by_uri e p → is_under base text e ≡ (bytes_eq p.0 base && bytes_eq p.1 text)
 pair_test by_uri base text e p (first, second, is, number) =
@@ -149,46 +152,63 @@ some_found R f (Some a) None v both is = absurd both
 some_found R f (Some a) (Some b) v both is = (b, refl, a, (cc), both)
 
 -- the entry with a number that was found
-pub name_found : (layer : Layer) (entries : List Entry) (o : Option (table.Entry NamedEntry)) (u : Option Named) (v : NamedEntry) → Both (IsNameIn layer entries) o u → option_map (λ e. e.2) o ≡ Some v
-    → (n : Named) × (u ≡ Some n) × (kind_of v.is_dynamic ≡ n.kind) × IsNumberOf layer entries v.entry n.place
+pub name_found : (layer : Layer) (entries : List Entry) (o : Option (table.Entry NamedEntry)) (u : Option (ℕ × Named)) (v : NamedEntry) → Both (IsNameIn layer entries) o u → option_map (λ e. e.2) o ≡ Some v
+    → (n : ℕ × Named) × (u ≡ Some n) × (kind_of v.is_dynamic ≡ n.1.kind) × IsNumberOf layer entries n.0 v.entry n.1.place
 name_found layer entries o u v both is =
     let (n, found, a, same, at) = some_found (IsNameIn layer entries) (λ e. e.2) o u v both is in
-    (n, found, subst (λ v. kind_of v.is_dynamic ≡ n.kind) same at.2, subst (λ v. IsNumberOf layer entries v.entry n.place) same at.3)
+    (n, found, subst (λ v. kind_of v.is_dynamic ≡ n.1.kind) same at.2, subst (λ v. IsNumberOf layer entries n.0 v.entry n.1.place) same at.3)
 
-pub resource_found : (layer : Layer) (entries : List Entry) (o : Option (table.Entry ℕ)) (u : Option (List ℕ × Place)) (v : ℕ) → Both (IsResourceIn layer entries) o u → option_map (λ e. e.2) o ≡ Some v
-    → (r : List ℕ × Place) × (u ≡ Some r) × IsNumberOf layer entries v r.1
+pub resource_found : (layer : Layer) (entries : List Entry) (o : Option (table.Entry ℕ)) (u : Option (ℕ × (List ℕ × Place))) (v : ℕ) → Both (IsResourceIn layer entries) o u → option_map (λ e. e.2) o ≡ Some v
+    → (r : ℕ × (List ℕ × Place)) × (u ≡ Some r) × IsNumberOf layer entries r.0 v r.1.1
 resource_found layer entries o u v both is =
     let (r, found, a, same, at) = some_found (IsResourceIn layer entries) (λ e. e.2) o u v both is in
-    (r, found, subst (λ w. IsNumberOf layer entries w r.1) same at.2)
+    (r, found, subst (λ w. IsNumberOf layer entries r.0 w r.1.1) same at.2)
 
-pub tells : (layer : Layer) (entries : List Entry) (n : ℕ) (p : Place) (e : Entry) → IsNumberOf layer entries n p → slice_get entries n ≡ Some e → IsEntryOf layer e p
-tells layer entries n p e is at =
+pub tells : (layer : Layer) (entries : List Entry) (number n : ℕ) (p : Place) (e : Entry) → IsNumberOf layer entries number n p → slice_get entries n ≡ Some e → IsEntryOf layer e p × (e.document ≡ number)
+tells layer entries number n p e is at =
     let same : is.0 ≡ e = some_is is.0 e (sym is.1 ∙ at) in
-    subst (λ x. IsEntryOf layer x p) same is.2
+    subst (λ x. IsEntryOf layer x p × (x.document ≡ number)) same (is.2, is.3)
+
+-- and so it says where the place stands
+abbrev spot : ℕ → List Part → Option Spot
+spot number path = Some (record { document = number; path = path })
+
+pub stands_at : (layer : Layer) (number : ℕ) (p : Place) (e : Entry) → IsEntryOf layer e p → e.document ≡ number → spot number p.path ≡ Some (spot_of e)
+stands_at layer number p e is same = ap (λ n. spot n p.path) (sym same) ∙ ap (spot e.document) (sym is.path.path)
 
 -- an element that is lent
 pub got : {A : Type 0} (xs : List A) (i : ℕ) (r : Option (Bor A)) → IsItemAt xs i r → option_copied r ≡ slice_get xs i
 got xs i None (is, lent, within, past, more) = sym (slice_get_past xs i past)
 got xs i (Some b) (is, lent, within, there, more) = sym (slice_get_read xs (length xs) i b.now refl there.0 lent)
 
-pub entry_there : (layer : Layer) (entries : List Entry) (n : ℕ) (p : Place) (result : Option (Bor Entry)) (None_is : Type 0) (Some_is : Entry → Type 0) → IsNumberOf layer entries n p → option_copied result ≡ slice_get entries n
-    → ((e : Entry) → IsEntryOf layer e p → Some_is e) → MatchOption result None_is (λ e. Some_is e.now)
-entry_there layer entries n p None None_is Some_is is same then = absurd (none_is_some is.0 (same ∙ is.1))
-entry_there layer entries n p (Some b) None_is Some_is is same then = then b.now (tells layer entries n p b.now is (sym same))
+pub entry_there : (layer : Layer) (entries : List Entry) (number n : ℕ) (p : Place) (result : Option (Bor Entry)) (None_is : Type 0) (Some_is : Entry → Type 0) → IsNumberOf layer entries number n p → option_copied result ≡ slice_get entries n
+    → ((e : Entry) → IsEntryOf layer e p → e.document ≡ number → Some_is e) → MatchOption result None_is (λ e. Some_is e.now)
+entry_there layer entries number n p None None_is Some_is is same then = absurd (none_is_some is.0 (same ∙ is.1))
+entry_there layer entries number n p (Some b) None_is Some_is is same then = let at = tells layer entries number n p b.now is (sym same) in then b.now at.0 at.1
+
+-- what holds of an entry in any case holds where there is one
+pub where_there : {A : Type 0} (o : Option A) (None_is : Type 0) (P : A → Type 0) → MatchOption o ⊥ P → MatchOption o None_is P
+where_there None None_is P is = absurd is
+where_there (Some x) None_is P is = is
+
+pub if_there : {A : Type 0} (o : Option A) (P : A → Type 0) → MatchOption o ⊥ P → IfSome o P
+if_there None P is = absurd is
+if_there (Some x) P is = is
 
 -- the entry with a number that a table of resources has, or there is none
-by_number : (layer : Layer) (entries : List Entry) (o : Option (table.Entry ℕ)) (u : Option (List ℕ × Place)) (result : Option (Bor Entry)) → Both (IsResourceIn layer entries) o u
-    → MatchOption (option_map (λ e. e.2) o) (result ≡ None) (λ n. option_copied result ≡ slice_get entries n) → IsFoundWhere layer result u
+by_number : (layer : Layer) (entries : List Entry) (o : Option (table.Entry ℕ)) (u : Option (ℕ × (List ℕ × Place))) (result : Option (Bor Entry)) → Both (IsResourceIn layer entries) o u
+    → MatchOption (option_map (λ e. e.2) o) (result ≡ None) (λ n. option_copied result ≡ slice_get entries n) → IsFoundWhere layer result (option_map (λ (r : ℕ × (List ℕ × Place)). r.1) u)
 by_number layer entries None None result both same = subst (λ r. IsFoundWhere layer r None) (sym same) refl
 by_number layer entries None (Some r) result both same = absurd both
 by_number layer entries (Some e) None result both same = absurd both
 by_number layer entries (Some e) (Some r) result both same =
-    entry_there layer entries e.2 r.1 result (Some r ≡ None) (λ x. IsFoundAt layer x (Some r)) both.2 same (λ x tells. (r, refl, tells))
+    entry_there layer entries r.0 e.2 r.1.1 result (Some r.1 ≡ None) (λ x. IsFoundAt layer x (Some r.1)) both.2 same (λ x tells number. (r.1, refl, tells))
 
-pub place_found : (layer : Layer) (entries : List Entry) (uri : List ℕ) (by_uri : List (table.Entry ℕ)) (result : Option (Bor Entry)) → AllZip (IsResourceIn layer entries) by_uri (resources layer)
+pub place_found : (layer : Layer) (entries : List Entry) (uri : List ℕ) (by_uri : List (table.Entry ℕ)) (result : Option (Bor Entry)) → AllZip (IsResourceIn layer entries) by_uri (numbered_resources layer)
     → MatchOption (last_value uri [] by_uri) (result ≡ None) (λ n. option_copied result ≡ slice_get entries n) → IsFoundWhere layer result (last_under uri (resources layer))
 place_found layer entries uri by_uri result all same =
-    by_number layer entries (last_or None (filter (is_under uri []) by_uri)) (last_under uri (resources layer)) result (uri_both layer entries uri by_uri (resources layer) all) same
+    subst (IsFoundWhere layer result) (sym (last_resource_is uri layer))
+    (by_number layer entries (last_or None (filter (is_under uri []) by_uri)) (last_resource uri layer) result (uri_both layer entries uri by_uri (numbered_resources layer) all) same)
 
 -- a pair that none was found of is none of the list
 pub pair_absent : (by_uri : List (table.Entry ℕ)) (base text : List ℕ) (ps : List Pair) (o : Option (table.Entry ResolvedUri)) → Both (IsPairIn by_uri) o (last_pair base text ps) → option_map (λ e. e.2) o ≡ None → ¬ (Contains ps (base, text))

@@ -17,6 +17,7 @@ use Rattle.ref_index.specs.declared.queue.Visit.{Visit}
 use Rattle.ref_index.specs.inner.Queue.{place_of}
 use Rattle.ref_index.specs.Listed.{IsLeftOut, AreNoted, none, noted, left_out, IsListingOf}
 use Rattle.ref_index.specs.Visits.{AddsPlaces, AllStandIn, ChildrenStandAt, IsFirstFault, IsWalked, faults_of, names_of, wants_of}
+use Rattle.ref_index.specs.Spots.{numbered}
 use Rattle.ref_index.proofs.Visiting.{holds_same}
 
 same_lists : {A : Type 0} (f : Place → List A) → ((p : Place) → IsLeftOut p → f p ≡ []) → (ps qs : List Place) → AreNoted ps qs → flat_map f qs ≡ flat_map f ps
@@ -57,11 +58,11 @@ memory_alone fs gs (Memory error) empty is = tt
 
 pub all_walked : (d : Document) (number : ℕ) (old new : Found) (below : List Place) → IsListingOf d below → AddsPlaces d number (root d ∷ below) old new → IsWalked d number old new (places d)
 all_walked d number old new below is adds = record {
-  added = λ layer rs ns ws ps numbered held.
-      holds_same layer new _ _ _ _ _ _ _ _ (ap (λ l. rs ++ (d.uri, root d) ∷ l) (same_lists resource_of (λ p left. left.resource) (places d) (root d ∷ below) is.noted))
-      (ap (λ l. ns ++ (named_under d.uri (root d) ++ l)) (same_lists names_of (λ p left. left.name) (places d) (root d ∷ below) is.noted))
+  added = λ layer rs ns ws ps there held.
+      holds_same layer new _ _ _ _ _ _ _ _ (ap (λ l. rs ++ numbered number ((d.uri, root d) ∷ l)) (same_lists resource_of (λ p left. left.resource) (places d) (root d ∷ below) is.noted))
+      (ap (λ l. ns ++ numbered number (named_under d.uri (root d) ++ l)) (same_lists names_of (λ p left. left.name) (places d) (root d ∷ below) is.noted))
       (ap (λ l. ws ++ l) (same_lists wants_of (λ p left. left.want) (places d) (root d ∷ below) is.noted))
-      (ap (λ l. ps ++ l) (same_lists pairs_at (λ p left. left.pair) (places d) (root d ∷ below) is.noted)) (adds layer rs ns ws ps numbered held);
+      (ap (λ l. ps ++ l) (same_lists pairs_at (λ p left. left.pair) (places d) (root d ∷ below) is.noted)) (adds layer rs ns ws ps there held);
   faultless = is.faultless;
   children = by_each ChildrenStandAt (places d) is.children;
 }

@@ -18,13 +18,13 @@ use Rattle.ref_index.specs.Visits.{IsFirstFault}
 
 -- ---- the same lists under other names
 
-pub on_same : {A E : Type 0} (r : Result A E) (layer : Layer) (f : Found) (rs rs' : List (List ℕ × Place)) (ns ns' : List Named) (ws ws' : List Want) (ps ps' : List Pair) → rs ≡ rs' → ns ≡ ns' → ws ≡ ws' → ps ≡ ps'
+pub on_same : {A E : Type 0} (r : Result A E) (layer : Layer) (f : Found) (rs rs' : List (ℕ × (List ℕ × Place))) (ns ns' : List (ℕ × Named)) (ws ws' : List Want) (ps ps' : List Pair) → rs ≡ rs' → ns ≡ ns' → ws ≡ ws' → ps ≡ ps'
     → OnOk r (Holds layer f rs ns ws ps) → OnOk r (Holds layer f rs' ns' ws' ps')
 on_same r layer f rs rs' ns ns' ws ws' ps ps' a b c d held =
     subst (λ x. OnOk r (Holds layer f x ns' ws' ps')) a
     (subst (λ x. OnOk r (Holds layer f rs x ws' ps')) b (subst (λ x. OnOk r (Holds layer f rs ns x ps')) c (subst (λ x. OnOk r (Holds layer f rs ns ws x)) d held)))
 
-pub holds_same : (layer : Layer) (f : Found) (rs rs' : List (List ℕ × Place)) (ns ns' : List Named) (ws ws' : List Want) (ps ps' : List Pair) → rs ≡ rs' → ns ≡ ns' → ws ≡ ws' → ps ≡ ps'
+pub holds_same : (layer : Layer) (f : Found) (rs rs' : List (ℕ × (List ℕ × Place))) (ns ns' : List (ℕ × Named)) (ws ws' : List Want) (ps ps' : List Pair) → rs ≡ rs' → ns ≡ ns' → ws ≡ ws' → ps ≡ ps'
     → Holds layer f rs ns ws ps → Holds layer f rs' ns' ws' ps'
 holds_same layer f rs rs' ns ns' ws ws' ps ps' a b c d held =
     subst (λ x. Holds layer f x ns' ws' ps') a

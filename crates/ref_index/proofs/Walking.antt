@@ -24,6 +24,8 @@ use Rattle.ref_index.specs.declared.queue.Visit.{Visit}
 use Rattle.ref_index.specs.inner.Below.{parts_of}
 use Rattle.ref_index.specs.inner.Queue.{place_of, value_of, IsQueue}
 use Rattle.ref_index.specs.Visits.{AddsPlace, AddsPlaces, IsFirstFault, IsVisited, IsWalked, AllStandIn, ChildrenStandAt, IsAt, faults_of, names_of, wants_of}
+use Rattle.ref_index.specs.Spots.{numbered}
+use Rattle.ref_index.proofs.Spots.{numbered_behind}
 use Rattle.ref_index.proofs.Visiting.{holds_same}
 use Rattle.ref_index.proofs.Queues.{at_root, step, at_end, beginning}
 
@@ -95,20 +97,25 @@ added_more : {A : Type 0} (f : Place → List A) (front : List A) (x : List A) (
 added_more f front x visited p =
     append_assoc front (x ++ flat_map f visited) (f p) ∙ ap (λ l. front ++ l) (flat_map_more f x visited p)
 
+numbered_added : {A : Type 0} (f : Place → List A) (number : ℕ) (front : List (ℕ × A)) (x : List A) (visited : List Place) (p : Place)
+    → (front ++ numbered number (x ++ flat_map f visited)) ++ numbered number (f p) ≡ front ++ numbered number (x ++ flat_map f (visited ++ p ∷ []))
+numbered_added f number front x visited p =
+    numbered_behind number front (x ++ flat_map f visited) (f p) ∙ ap (λ l. front ++ numbered number l) (flat_map_more f x visited p)
+
 pub adds_more : (d : Document) (number : ℕ) (old new newer : Found) (visited : List Place) (p : Place) → value_at d.tree p.path ≡ Some p.value
     → AddsPlaces d number visited old new → AddsPlace number None p new newer → AddsPlaces d number (visited ++ p ∷ []) old newer
-adds_more d number old new newer visited p at walk visit = λ layer rs ns ws ps numbered held.
-    holds_same layer newer _ _ _ _ _ _ _ _ (added_more resource_of rs ((d.uri, root d) ∷ []) visited p)
-    (added_more names_of ns (named_under d.uri (root d)) visited p) (added_more wants_of ws [] visited p)
-    (added_more pairs_at ps [] visited p) (visit layer _ _ _ _ (walk layer rs ns ws ps numbered held) (record { document = d; numbered = numbered; value = at }))
+adds_more d number old new newer visited p at walk visit = λ layer rs ns ws ps there held.
+    holds_same layer newer _ _ _ _ _ _ _ _ (numbered_added resource_of number rs ((d.uri, root d) ∷ []) visited p)
+    (numbered_added names_of number ns (named_under d.uri (root d)) visited p) (added_more wants_of ws [] visited p)
+    (added_more pairs_at ps [] visited p) (visit layer _ _ _ _ (walk layer rs ns ws ps there held) (record { document = d; numbered = there; value = at }))
 
 pub adds_root : (d : Document) (number : ℕ) (old new : Found) (p : Place) → p ≡ root d → AddsPlace number (Some d.uri) p old new → AddsPlaces d number (p ∷ []) old new
-adds_root d number old new p is visit = λ layer rs ns ws ps numbered held.
+adds_root d number old new p is visit = λ layer rs ns ws ps there held.
     holds_same layer new _ _ _ _ _ _ _ _
-    (ap (λ q. rs ++ (d.uri, q) ∷ resource_of p) is ∙ ap (λ l. rs ++ (d.uri, root d) ∷ l) (sym (append-nil (resource_of p))))
-    (ap (λ q. ns ++ (named_under d.uri q ++ names_of p)) is ∙ ap (λ l. ns ++ (named_under d.uri (root d) ++ l)) (sym (append-nil (names_of p))))
+    (ap (λ q. rs ++ numbered number ((d.uri, q) ∷ resource_of p)) is ∙ ap (λ l. rs ++ numbered number ((d.uri, root d) ∷ l)) (sym (append-nil (resource_of p))))
+    (ap (λ q. ns ++ numbered number (named_under d.uri q ++ names_of p)) is ∙ ap (λ l. ns ++ numbered number (named_under d.uri (root d) ++ l)) (sym (append-nil (names_of p))))
     (ap (λ l. ws ++ l) (sym (append-nil (wants_of p)))) (ap (λ l. ps ++ l) (sym (append-nil (pairs_at p))))
-    (visit layer rs ns ws ps held (record { document = d; numbered = numbered; value = subst (λ q. value_at d.tree q.path ≡ Some q.value) (sym is) refl }))
+    (visit layer rs ns ws ps held (record { document = d; numbered = there; value = subst (λ q. value_at d.tree q.path ≡ Some q.value) (sym is) refl }))
 
 pub walked_more : (d : Document) (number : ℕ) (old new newer : Found) (visited : List Place) (v : Visit) (queue after : List Visit) → value_at d.tree (place_of v).path ≡ Some (place_of v).value
     → IsWalked d number old new visited → IsVisited number None v new newer queue after → IsWalked d number old newer (visited ++ place_of v ∷ [])

@@ -39,15 +39,17 @@ pub record IsEntryOf (layer : Layer) (e : Entry) (p : Place) : Type 0 where
   pub draft : e.draft ≡ p.draft
   pub base : p.base ≡ Ok e.base.value
 
--- the entry with a number tells a place
-abbrev pub IsNumberOf : Layer → List Entry → ℕ → Place → Type 0
-IsNumberOf layer entries n p = (e : Entry) × (slice_get entries n ≡ Some e) × IsEntryOf layer e p
+-- the entry with a number tells a place of the document with this number
+abbrev pub IsNumberOf : Layer → List Entry → ℕ → ℕ → Place → Type 0
+IsNumberOf layer entries number n p =
+    (e : Entry) × (slice_get entries n ≡ Some e) × IsEntryOf layer e p × (e.document ≡ number)
 
 -- a number under a URI is that of a resource's entry
-abbrev pub IsResourceOf : Layer → List Entry → String Global × String Global × ℕ → List ℕ × Place
+abbrev pub IsResourceOf : Layer → List Entry → String Global × String Global × ℕ
+    → ℕ × (List ℕ × Place)
     → Type 0
 IsResourceOf layer entries t r =
-    (string_bytes t.0 ≡ r.0) × (string_bytes t.1 ≡ []) × IsNumberOf layer entries t.2 r.1
+    (string_bytes t.0 ≡ r.1.0) × (string_bytes t.1 ≡ []) × IsNumberOf layer entries r.0 t.2 r.1.1
 
 -- an anchor's kind
 abbrev pub kind_of : Bool → Kind
@@ -59,11 +61,11 @@ abbrev pub name_entry : List ℕ → Place → List ℕ × Kind → Named
 name_entry uri p a = record { uri = uri; name = a.0; kind = a.1; place = p }
 
 -- an entry under a URI and a name is that of an anchor
-abbrev pub IsNameOf : Layer → List Entry → String Global × String Global × NamedEntry → Named
+abbrev pub IsNameOf : Layer → List Entry → String Global × String Global × NamedEntry → ℕ × Named
     → Type 0
 IsNameOf layer entries t n =
-    (string_bytes t.0 ≡ n.uri) × (string_bytes t.1 ≡ n.name) × (kind_of t.2.is_dynamic ≡ n.kind)
-    × IsNumberOf layer entries t.2.entry n.place
+    (string_bytes t.0 ≡ n.1.uri) × (string_bytes t.1 ≡ n.1.name)
+    × (kind_of t.2.is_dynamic ≡ n.1.kind) × IsNumberOf layer entries n.0 t.2.entry n.1.place
 
 -- why a URI is wanted
 abbrev pub cause_of : Cause → wants.Cause
@@ -83,13 +85,13 @@ IsPairOf t p =
 abbrev pub is_same : Rc (List ℕ) Global → Rc (List ℕ) Global → Bool
 is_same u v = bytes_eq u.value v.value
 
--- What was found is these resources, names and wants, and the URIs of these pairs, in their order; the set of URIs is that of
--- the resources.
-pub record Holds (layer : Layer) (f : Found) (resources : List (List ℕ × Place))
-    (names : List Named) (wants : List Wanted) (pairs : List Pair) : Type 0 where
+-- What was found is these resources and names, each of the document with its number, these wants, and the URIs of these pairs,
+-- in their order; the set of URIs is that of the resources.
+pub record Holds (layer : Layer) (f : Found) (resources : List (ℕ × (List ℕ × Place)))
+    (names : List (ℕ × Named)) (wants : List Wanted) (pairs : List Pair) : Type 0 where
   pub by_uri : AllZip (IsResourceOf layer f.entries.items) f.resources.items resources
   pub by_name : AllZip (IsNameOf layer f.entries.items) f.names.items names
   pub wanted : map want_of f.wants.items ≡ wants
   pub by_pair : AllZip IsPairOf f.resolved.items pairs
   pub known : (uri : Rc (List ℕ) Global)
-      → contains is_same f.identified uri ≡ list_any (λ r. bytes_eq r.0 uri.value) resources
+      → contains is_same f.identified uri ≡ list_any (λ r. bytes_eq r.1.0 uri.value) resources

@@ -9,25 +9,26 @@ use Rattle.ref_parts.specs.Table.{last_value}
 use Rattle.ref_definitions.specs.World.{Document, Layer}
 use Rattle.ref_definitions.specs.Agreement.{ChildrenStand}
 use Rattle.ref_definitions.specs.Places.{Place}
-use Rattle.ref_definitions.specs.Resources.{resources}
-use Rattle.ref_definitions.specs.Anchors.{Named, names}
+use Rattle.ref_definitions.specs.Anchors.{Named}
 use Rattle.ref_definitions.specs.Cached.{Pair, pairs}
 use Rattle.ref_index.specs.declared.entry.Entry.{Entry}
 use Rattle.ref_index.specs.declared.entry.NamedEntry.{NamedEntry}
 use Rattle.ref_index.specs.declared.entry.FoundName.{FoundName}
 use Rattle.ref_index.specs.declared.found.ResolvedUri.{ResolvedUri}
+use Rattle.ref_index.specs.Spots.{numbered_resources, numbered_names}
 use Rattle.ref_index.specs.inner.NormalUris.{HaveNormalUris}
 use Rattle.ref_index.specs.Found.{IsEntryOf, IsNumberOf, kind_of}
 
 -- an entry under a URI and the empty text is that of a resource
-abbrev pub IsResourceIn : Layer → List Entry → table.Entry ℕ → List ℕ × Place → Type 0
-IsResourceIn layer entries e r = (e.0 ≡ r.0) × (e.1 ≡ []) × IsNumberOf layer entries e.2 r.1
+abbrev pub IsResourceIn : Layer → List Entry → table.Entry ℕ → ℕ × (List ℕ × Place) → Type 0
+IsResourceIn layer entries e r =
+    (e.0 ≡ r.1.0) × (e.1 ≡ []) × IsNumberOf layer entries r.0 e.2 r.1.1
 
 -- an entry under a URI and a name is that of an anchor
-abbrev pub IsNameIn : Layer → List Entry → table.Entry NamedEntry → Named → Type 0
+abbrev pub IsNameIn : Layer → List Entry → table.Entry NamedEntry → ℕ × Named → Type 0
 IsNameIn layer entries e n =
-    (e.0 ≡ n.uri) × (e.1 ≡ n.name) × (kind_of e.2.is_dynamic ≡ n.kind)
-    × IsNumberOf layer entries e.2.entry n.place
+    (e.0 ≡ n.1.uri) × (e.1 ≡ n.1.name) × (kind_of e.2.is_dynamic ≡ n.1.kind)
+    × IsNumberOf layer entries n.0 e.2.entry n.1.place
 
 -- an entry under a base and a text is the URI that the text means against the base, with the number that the table of
 -- resources has for the URI
@@ -42,13 +43,13 @@ abbrev pub numbered_uri : List (table.Entry ℕ) → String Global × String Glo
 numbered_uri by_uri t =
     (t.0, t.1, record { uri = t.2.uri; entry = last_value t.2.uri.value [] by_uri })
 
--- the tables hold the resources and the names of the documents, and what is resolved of them, in their order; the children
--- of the documents' places are at their paths; and where the index says so, the documents' URIs are in normal form
+-- the tables hold the resources and the names of the documents, each in its document, and what is resolved of them, in their
+-- order; the children of the documents' places are at their paths; and where the index says so, the documents' URIs are in normal form
 pub record IsIndexOf (layer : Layer) (entries : List Entry) (by_uri : List (table.Entry ℕ))
     (by_name : List (table.Entry NamedEntry)) (by_pair : List (table.Entry ResolvedUri))
     (is_normal : Bool) : Type 0 where
-  pub resource : AllZip (IsResourceIn layer entries) by_uri (resources layer)
-  pub name : AllZip (IsNameIn layer entries) by_name (names layer)
+  pub resource : AllZip (IsResourceIn layer entries) by_uri (numbered_resources layer)
+  pub name : AllZip (IsNameIn layer entries) by_name (numbered_names layer)
   pub pair : AllZip (IsPairIn by_uri) by_pair (pairs layer)
   pub children : (d : Document) → Contains layer d → ChildrenStand d
   pub normal : is_normal ≡ true → HaveNormalUris layer

@@ -1,5 +1,6 @@
 pub mod Contents
 pub mod Document
+pub mod Spots
 pub mod Found
 pub mod Visits
 pub mod Index

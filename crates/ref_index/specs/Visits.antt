@@ -11,8 +11,8 @@ use Rattle.ref_uri.specs.declared.error.UriFault.{UriFault}
 use Rattle.ref_uri.specs.declared.error.UriFault.TheVariants.{Invalid, Memory}
 use Rattle.ref_definitions.specs.World.{Document, Layer}
 use Rattle.ref_definitions.specs.Places.{Place, root, child_place, children_of}
-use Rattle.ref_definitions.specs.Resources.{resource_of, resources}
-use Rattle.ref_definitions.specs.Anchors.{Named, named_under, named_at, names}
+use Rattle.ref_definitions.specs.Resources.{resource_of}
+use Rattle.ref_definitions.specs.Anchors.{Named, named_under, named_at}
 use Rattle.ref_definitions.specs.Cached.{Pair, pairs_at, pairs}
 use Rattle.ref_definitions.specs.Wants.{Want, wants_at, faults_at, wants, faults}
 use Rattle.ref_definitions.specs.Agreement.{ChildrenStand}
@@ -20,6 +20,7 @@ use Rattle.ref_draft.specs.Children.{AllStand, walked_children}
 use Rattle.ref_draft.specs.declared.draft.Draft.{Draft}
 use Rattle.ref_index.specs.declared.found.Found.{Found}
 use Rattle.ref_index.specs.declared.queue.Visit.{Visit}
+use Rattle.ref_index.specs.Spots.{numbered, numbered_resources, numbered_names}
 use Rattle.ref_index.specs.Found.{Holds}
 use Rattle.ref_index.specs.inner.Queue.{place_of, value_of, IsQueue}
 
@@ -80,20 +81,20 @@ ChildrenCame path value draft base queue after =
 -- what was found has that of a place too, and where it is a root under a URI of its document
 abbrev pub AddsPlace : ℕ → Option (List ℕ) → Place → Found → Found → Type 0
 AddsPlace number under p old new =
-    (layer : Layer) (rs : List (List ℕ × Place)) (ns : List Named) (ws : List Want)
+    (layer : Layer) (rs : List (ℕ × (List ℕ × Place))) (ns : List (ℕ × Named)) (ws : List Want)
     (ps : List Pair)
     → Holds layer old rs ns ws ps → StandsIn layer number p
-    → Holds layer new (rs ++ resources_at under p) (ns ++ names_at under p) (ws ++ wants_of p)
-    (ps ++ pairs_at p)
+    → Holds layer new (rs ++ numbered number (resources_at under p))
+    (ns ++ numbered number (names_at under p)) (ws ++ wants_of p) (ps ++ pairs_at p)
 
 -- what was found has that of places of a document too, after that of its root under its URI
 abbrev pub AddsPlaces : Document → ℕ → List Place → Found → Found → Type 0
 AddsPlaces d number visited old new =
-    (layer : Layer) (rs : List (List ℕ × Place)) (ns : List Named) (ws : List Want)
+    (layer : Layer) (rs : List (ℕ × (List ℕ × Place))) (ns : List (ℕ × Named)) (ws : List Want)
     (ps : List Pair)
     → slice_get layer number ≡ Some d → Holds layer old rs ns ws ps
-    → Holds layer new (rs ++ (d.uri, root d) ∷ flat_map resource_of visited)
-    (ns ++ (named_under d.uri (root d) ++ flat_map names_of visited))
+    → Holds layer new (rs ++ numbered number ((d.uri, root d) ∷ flat_map resource_of visited))
+    (ns ++ numbered number (named_under d.uri (root d) ++ flat_map names_of visited))
     (ws ++ flat_map wants_of visited) (ps ++ flat_map pairs_at visited)
 
 -- A place was visited: what it is identified by, is named and wants was added, it has no fault, and its children came
@@ -133,6 +134,6 @@ pub record IsAt (d : Document) (number : ℕ) (old new : Found) (queue : List Vi
 
 -- What was found in documents is all that they have, none has a fault, and the children of their places are at their paths.
 pub record IsFound (layer : Layer) (f : Found) : Type 0 where
-  pub held : Holds layer f (resources layer) (names layer) (wants layer) (pairs layer)
+  pub held : Holds layer f (numbered_resources layer) (numbered_names layer) (wants layer) (pairs layer)
   pub faultless : faults layer ≡ []
   pub children : (d : Document) → Contains layer d → ChildrenStand d

@@ -11,6 +11,7 @@ ghost use Rattle.ref_definitions.specs.Anchors.{Named, named_under};
 ghost use Rattle.ref_definitions.specs.Cached.{Pair};
 ghost use Rattle.ref_definitions.specs.Wants.{Want as Wanted};
 ghost use Rattle.ref_uri.specs.Targets.{uri_against};
+ghost use Rattle.ref_index.specs.Spots.{numbered};
 ghost use Rattle.ref_index.specs.Found.{Holds, IsNumberOf, cause_of, is_same, kind_of, name_entry};
 
 use crate::entry::{Entry, NamedEntry};
@@ -79,7 +80,7 @@ impl<'a> Found<'a> {
 
     /// Adds the entry of a place, and returns its number.
     pub fn add_entry(&mut self, entry: Entry<'a>) -> Result<usize, AllocError>
-        ensures added { (layer : Layer) (rs : List (List ℕ × Place)) (ns : List Named)
+        ensures added { (layer : Layer) (rs : List (ℕ × (List ℕ × Place))) (ns : List (ℕ × Named))
             (ws : List Wanted) (ps : List Pair)
             → Holds layer self.old rs ns ws ps → OnOk result (Holds layer self.new rs ns ws ps) }
         ensures entry { IfOk result
@@ -98,10 +99,10 @@ impl<'a> Found<'a> {
         uri: &Rc<Uri>,
         entry: usize,
     ) -> Result<(), AllocError>
-        ensures added { (layer : Layer) (rs : List (List ℕ × Place)) (ns : List Named)
-            (ws : List Wanted) (ps : List Pair) (p : Place)
-            → Holds layer self.old rs ns ws ps → IsNumberOf layer self.old.entries.items entry p
-            → OnOk result (Holds layer self.new (rs ++ (uri.now.value, p) ∷ []) ns ws ps) }
+        ensures added { (layer : Layer) (rs : List (ℕ × (List ℕ × Place))) (ns : List (ℕ × Named))
+            (ws : List Wanted) (ps : List Pair) (p : Place) (number : ℕ)
+            → Holds layer self.old rs ns ws ps → IsNumberOf layer self.old.entries.items number entry p
+            → OnOk result (Holds layer self.new (rs ++ (number, (uri.now.value, p)) ∷ []) ns ws ps) }
         ensures entries { OnOk result (self.new.entries.items ≡ self.old.entries.items) }
     {
         identify(&mut self.identified, uri)?;
@@ -118,12 +119,12 @@ impl<'a> Found<'a> {
         entry: usize,
         anchor: Anchor<'_>,
     ) -> Result<(), AllocError>
-        ensures added { (layer : Layer) (rs : List (List ℕ × Place)) (ns : List Named)
-            (ws : List Wanted) (ps : List Pair) (p : Place)
-            → Holds layer self.old rs ns ws ps → IsNumberOf layer self.old.entries.items entry p
+        ensures added { (layer : Layer) (rs : List (ℕ × (List ℕ × Place))) (ns : List (ℕ × Named))
+            (ws : List Wanted) (ps : List Pair) (p : Place) (number : ℕ)
+            → Holds layer self.old rs ns ws ps → IsNumberOf layer self.old.entries.items number entry p
             → OnOk result
             (Holds layer self.new rs
-            (ns ++ name_entry uri.now p (anchor_name anchor.entry) ∷ []) ws ps) }
+            (ns ++ (number, name_entry uri.now p (anchor_name anchor.entry)) ∷ []) ws ps) }
         ensures entries { OnOk result (self.new.entries.items ≡ self.old.entries.items) }
     {
         let is_dynamic = is_dynamic(&anchor);
@@ -142,11 +143,11 @@ impl<'a> Found<'a> {
         entry: usize,
         resource: ResourceRef<'_>,
     ) -> Result<(), AllocError>
-        ensures added { (layer : Layer) (rs : List (List ℕ × Place)) (ns : List Named)
-            (ws : List Wanted) (ps : List Pair) (p : Place)
-            → Holds layer self.old rs ns ws ps → IsNumberOf layer self.old.entries.items entry p
+        ensures added { (layer : Layer) (rs : List (ℕ × (List ℕ × Place))) (ns : List (ℕ × Named))
+            (ws : List Wanted) (ps : List Pair) (p : Place) (number : ℕ)
+            → Holds layer self.old rs ns ws ps → IsNumberOf layer self.old.entries.items number entry p
             → resource_ref resource.entry ≡ tagged_value p.draft p.value
-            → OnOk result (Holds layer self.new rs (ns ++ named_under uri.now p) ws ps) }
+            → OnOk result (Holds layer self.new rs (ns ++ numbered number (named_under uri.now p)) ws ps) }
         ensures entries { OnOk result (self.new.entries.items ≡ self.old.entries.items) }
     {
         match resource.draft().anchors(resource.contents()) {
@@ -161,7 +162,7 @@ impl<'a> Found<'a> {
 
     /// Adds a want.
     pub fn add_want(&mut self, cause: Cause, uri: Rc<Uri>) -> Result<(), AllocError>
-        ensures added { (layer : Layer) (rs : List (List ℕ × Place)) (ns : List Named)
+        ensures added { (layer : Layer) (rs : List (ℕ × (List ℕ × Place))) (ns : List (ℕ × Named))
             (ws : List Wanted) (ps : List Pair)
             → Holds layer self.old rs ns ws ps
             → OnOk result
@@ -180,7 +181,7 @@ impl<'a> Found<'a> {
         text: &str,
         uri: &Rc<Uri>,
     ) -> Result<(), AllocError>
-        ensures added { (layer : Layer) (rs : List (List ℕ × Place)) (ns : List Named)
+        ensures added { (layer : Layer) (rs : List (ℕ × (List ℕ × Place))) (ns : List (ℕ × Named))
             (ws : List Wanted) (ps : List Pair)
             → Holds layer self.old rs ns ws ps → uri_against base.now text.now ≡ Ok uri.now.value
             → OnOk result (Holds layer self.new rs ns ws (ps ++ (base.now, text.now) ∷ [])) }

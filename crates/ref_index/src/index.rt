@@ -12,6 +12,7 @@ ghost use Rattle.ref_definitions.specs.Anchors.{last_named, names};
 ghost use Rattle.ref_definitions.specs.Cached.{pairs};
 ghost use Rattle.ref_definitions.specs.Wants.{Want};
 ghost use Rattle.ref_index.specs.Document.{document_of};
+ghost use Rattle.ref_index.specs.Spots.{numbered_resources, numbered_names, spot_under, spot_named, spot_of};
 ghost use Rattle.ref_index.specs.Found.{Holds, IsEntryOf};
 ghost use Rattle.ref_index.specs.inner.NormalUris.{IsNormalUri, HaveNormalUris};
 ghost use Rattle.ref_index.specs.Index.{IsFoundAt, IsFoundWhere, IsNamedAt, numbered_uri};
@@ -68,8 +69,8 @@ impl<'a> Index<'a> {
     ) -> Result<Index<'a>, AllocError>
         requires held { (wants : List Want)
             × Holds (map document_of documents.items) found
-            (resources (map document_of documents.items))
-            (names (map document_of documents.items)) wants
+            (numbered_resources (map document_of documents.items))
+            (numbered_names (map document_of documents.items)) wants
             (pairs (map document_of documents.items)) }
         requires children { (d : WorldDocument) → Contains (map document_of documents.items) d
             → ChildrenStand d }
@@ -130,6 +131,7 @@ impl<'a> Index<'a> {
     pub fn resource(&self, uri: &str) -> Option<&Entry<'a>>
         ensures value { MatchOption result (last_under uri.now (resources self.now) ≡ None)
             (λ e. IsFoundAt self.now e.now (last_under uri.now (resources self.now))) }
+        ensures spot { IfSome result (λ e. spot_under uri.now self.now ≡ Some (spot_of e.now)) }
     {
         let number = self.by_uri.get(uri, "").0?;
         self.entries.get(*number)
@@ -161,6 +163,8 @@ impl<'a> Index<'a> {
     pub fn named(&self, uri: &str, name: &str) -> Option<FoundName<'_, 'a>>
         ensures value { MatchOption result (last_named uri.now name.now (names self.now) ≡ None)
             (λ e. IsNamedAt self.now e (last_named uri.now name.now (names self.now))) }
+        ensures spot { IfSome result
+            (λ e. spot_named uri.now name.now self.now ≡ Some (spot_of e.entry.now)) }
     {
         let named = self.by_name.get(uri, name).0?;
         let entry = self.entries.get(named.entry)?;

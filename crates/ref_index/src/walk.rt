@@ -13,6 +13,7 @@ ghost use Rattle.ref_definitions.specs.Anchors.{Named, named_at};
 ghost use Rattle.ref_definitions.specs.Cached.{Pair, pairs_of_identifier, pairs_of_reference, reference_pairs, pairs_at};
 ghost use Rattle.ref_definitions.specs.Wants.{Want as Wanted, Reference, MetaSchema, reference_at, schema_at, wants_of_text, refusals_of, wants_at, faults_at};
 ghost use Rattle.ref_index.specs.Contents.{tree_of};
+ghost use Rattle.ref_index.specs.Spots.{numbered};
 ghost use Rattle.ref_index.specs.Found.{Holds, IsEntryOf, IsNumberOf};
 ghost use Rattle.ref_index.specs.inner.Below.{parts_of};
 ghost use Rattle.ref_index.specs.inner.Queue.{place_of, value_of};
@@ -59,9 +60,10 @@ fn entry_of<'a>(
     place: &Visit<'_, 'a>,
     base: &Rc<Uri>,
 ) -> Result<Entry<'a>, AllocError>
-    ensures { (layer : Layer) → StandsIn layer number (place_of place.now)
+    ensures entry { (layer : Layer) → StandsIn layer number (place_of place.now)
         → (place_of place.now).base ≡ Ok base.now.value
         → IfOk result (λ entry. IsEntryOf layer entry (place_of place.now)) }
+    ensures document { IfOk result (λ entry. entry.document ≡ number) }
 {
     let path = place.path.owned(alloc)?;
     let base = base.clone()?;
@@ -93,14 +95,14 @@ fn add_under(
     entry: usize,
     resource: ResourceRef<'_>,
 ) -> Result<(), AllocError>
-    ensures added { (layer : Layer) (rs : List (List ℕ × Place)) (ns : List Named)
-        (ws : List Wanted) (ps : List Pair) (p : Place)
-        → Holds layer found.old rs ns ws ps → IsNumberOf layer found.old.entries.items entry p
+    ensures added { (layer : Layer) (rs : List (ℕ × (List ℕ × Place))) (ns : List (ℕ × Named))
+        (ws : List Wanted) (ps : List Pair) (p : Place) (number : ℕ)
+        → Holds layer found.old rs ns ws ps → IsNumberOf layer found.old.entries.items number entry p
         → resource_ref resource.entry ≡ tagged_value p.draft p.value
         → OnOk result
         (Holds layer found.new
-        (rs ++ under_document (option_map (λ u. u.now.value) under.entry) p)
-        (ns ++ names_under (option_map (λ u. u.now.value) under.entry) p) ws ps) }
+        (rs ++ numbered number (under_document (option_map (λ u. u.now.value) under.entry) p))
+        (ns ++ numbered number (names_under (option_map (λ u. u.now.value) under.entry) p)) ws ps) }
     ensures entries { OnOk result (found.new.entries.items ≡ found.old.entries.items) }
 {
     let Some(uri) = under else {
@@ -118,12 +120,12 @@ fn add_identified(
     base: &Rc<Uri>,
     entry: usize,
 ) -> Result<(), AllocError>
-    ensures added { (layer : Layer) (rs : List (List ℕ × Place)) (ns : List Named)
-        (ws : List Wanted) (ps : List Pair) (p : Place)
-        → Holds layer found.old rs ns ws ps → IsNumberOf layer found.old.entries.items entry p
+    ensures added { (layer : Layer) (rs : List (ℕ × (List ℕ × Place))) (ns : List (ℕ × Named))
+        (ws : List Wanted) (ps : List Pair) (p : Place) (number : ℕ)
+        → Holds layer found.old rs ns ws ps → IsNumberOf layer found.old.entries.items number entry p
         → option_map (λ text. text.now) id.entry ≡ identifier p.draft p.value
         → p.base ≡ Ok base.now.value
-        → OnOk result (Holds layer found.new (rs ++ resource_of p) ns ws ps) }
+        → OnOk result (Holds layer found.new (rs ++ numbered number (resource_of p)) ns ws ps) }
     ensures entries { OnOk result (found.new.entries.items ≡ found.old.entries.items) }
 {
     if id.is_some() {
@@ -141,13 +143,13 @@ fn add_by_base(
     entry: usize,
     resource: ResourceRef<'_>,
 ) -> Result<(), AllocError>
-    ensures { (layer : Layer) (rs : List (List ℕ × Place)) (ns : List Named) (ws : List Wanted)
-        (ps : List Pair) (p : Place)
-        → Holds layer found.old rs ns ws ps → IsNumberOf layer found.old.entries.items entry p
+    ensures { (layer : Layer) (rs : List (ℕ × (List ℕ × Place))) (ns : List (ℕ × Named)) (ws : List Wanted)
+        (ps : List Pair) (p : Place) (number : ℕ)
+        → Holds layer found.old rs ns ws ps → IsNumberOf layer found.old.entries.items number entry p
         → resource_ref resource.entry ≡ tagged_value p.draft p.value
         → option_map (λ text. text.now) id.entry ≡ identifier p.draft p.value
         → p.base ≡ Ok base.now.value
-        → OnOk result (Holds layer found.new (rs ++ resource_of p) (ns ++ named_at p) ws ps) }
+        → OnOk result (Holds layer found.new (rs ++ numbered number (resource_of p)) (ns ++ numbered number (named_at p)) ws ps) }
 {
     add_identified(alloc, found, id, base, entry)?;
     found.add_names(alloc, base.as_str(), entry, resource)
@@ -163,7 +165,7 @@ fn add_place<'w, 'a: 'w>(
     id: Option<&str>,
     base: &Rc<Uri>,
 ) -> Result<(), AllocError>
-    ensures { (layer : Layer) (rs : List (List ℕ × Place)) (ns : List Named) (ws : List Wanted)
+    ensures { (layer : Layer) (rs : List (ℕ × (List ℕ × Place))) (ns : List (ℕ × Named)) (ws : List Wanted)
         (ps : List Pair)
         → Holds layer found.old rs ns ws ps → StandsIn layer number (place_of place.now)
         → option_map (λ text. text.now) id.entry
@@ -172,9 +174,9 @@ fn add_place<'w, 'a: 'w>(
         → OnOk result
         (Holds layer found.new
         (rs
-        ++ resources_at (option_map (λ u. u.now.value) under.entry)
-        (place_of place.now))
-        (ns ++ names_at (option_map (λ u. u.now.value) under.entry) (place_of place.now)) ws ps) }
+        ++ numbered number (resources_at (option_map (λ u. u.now.value) under.entry)
+        (place_of place.now)))
+        (ns ++ numbered number (names_at (option_map (λ u. u.now.value) under.entry) (place_of place.now))) ws ps) }
 {
     let resource = ResourceRef::new(place.value.get(), place.draft);
     if under.is_none() && id.is_none() && !has_anchors(resource) {
@@ -194,7 +196,7 @@ fn add_base(
     id: Option<&str>,
     base: &Rc<Uri>,
 ) -> Result<(), AllocError>
-    ensures { (layer : Layer) (rs : List (List ℕ × Place)) (ns : List Named) (ws : List Wanted)
+    ensures { (layer : Layer) (rs : List (ℕ × (List ℕ × Place))) (ns : List (ℕ × Named)) (ws : List Wanted)
         (ps : List Pair)
         → Holds layer found.old rs ns ws ps
         → base_within outer.now.value (option_map (λ text. text.now) id.entry)
@@ -219,7 +221,7 @@ fn referred(
     reference: &str,
 ) -> Result<Rc<Uri>, UriFault>
     ensures ok { IfOk result (λ uri. uri_target base.now.value reference.now ≡ Ok uri.value) }
-    ensures added { (layer : Layer) (rs : List (List ℕ × Place)) (ns : List Named)
+    ensures added { (layer : Layer) (rs : List (ℕ × (List ℕ × Place))) (ns : List (ℕ × Named))
         (ws : List Wanted) (ps : List Pair)
         → Holds layer found.old rs ns ws ps
         → OnOk result
@@ -244,7 +246,7 @@ fn add_reference(
     value: &Value,
     base: &Rc<Uri>,
 ) -> Result<(), UriFault>
-    ensures added { (layer : Layer) (rs : List (List ℕ × Place)) (ns : List Named)
+    ensures added { (layer : Layer) (rs : List (ℕ × (List ℕ × Place))) (ns : List (ℕ × Named))
         (ws : List Wanted) (ps : List Pair)
         → Holds layer found.old rs ns ws ps
         → OnOk result
@@ -278,7 +280,7 @@ fn schema_uri(alloc: Global, text: &str) -> Result<Rc<Uri>, UriFault>
 
 // Adds what a text under `$schema` names, where that is no known draft.
 fn add_meta_schema(alloc: Global, found: &mut Found<'_>, value: &Value) -> Result<(), UriFault>
-    ensures added { (layer : Layer) (rs : List (List ℕ × Place)) (ns : List Named)
+    ensures added { (layer : Layer) (rs : List (ℕ × (List ℕ × Place))) (ns : List (ℕ × Named))
         (ws : List Wanted) (ps : List Pair)
         → Holds layer found.old rs ns ws ps
         → OnOk result
@@ -307,15 +309,15 @@ pub(crate) fn settle<'w, 'a: 'w>(
     under: Option<&Rc<Uri>>,
 ) -> Result<Rc<Uri>, UriFault>
     ensures base { IfOk result (λ base. (place_of place.now).base ≡ Ok base.value) }
-    ensures added { (layer : Layer) (rs : List (List ℕ × Place)) (ns : List Named)
+    ensures added { (layer : Layer) (rs : List (ℕ × (List ℕ × Place))) (ns : List (ℕ × Named))
         (ws : List Wanted) (ps : List Pair)
         → Holds layer found.old rs ns ws ps → StandsIn layer number (place_of place.now)
         → OnOk result
         (Holds layer found.new
         (rs
-        ++ resources_at (option_map (λ u. u.now.value) under.entry)
-        (place_of place.now))
-        (ns ++ names_at (option_map (λ u. u.now.value) under.entry) (place_of place.now))
+        ++ numbered number (resources_at (option_map (λ u. u.now.value) under.entry)
+        (place_of place.now)))
+        (ns ++ numbered number (names_at (option_map (λ u. u.now.value) under.entry) (place_of place.now)))
         (ws ++ wants_at (place_of place.now).base (place_of place.now).value) (ps ++ pairs_at (place_of place.now))) }
     ensures faultless { OnOk result
         (faults_at (place_of place.now).base (place_of place.now).value ≡ []) }

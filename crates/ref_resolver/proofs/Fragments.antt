@@ -22,7 +22,7 @@ pointer_there w r p l fragment text at is =
     ∙ ap (λ d. at_pointer r d fragment p.value text) (sym at.draft)
     ∙ ap (λ v. at_pointer r l.entry.now.draft fragment v text) (sym at.value)
 
-no_name : (c : ℕ) (text : List ℕ) (t : Bool) → eqb c 47 ≡ t → not t ≡ false → ((rest : List ℕ) → c ∷ text ≡ 47 ∷ rest → ⊥) → ⊥
+pub no_name : (c : ℕ) (text : List ℕ) (t : Bool) → eqb c 47 ≡ t → not t ≡ false → ((rest : List ℕ) → c ∷ text ≡ 47 ∷ rest → ⊥) → ⊥
 no_name c text true is name none = none text (ap (λ x. x ∷ text) ((Decides-eqb c 47).0 is))
 no_name c text false is name none = cc
 

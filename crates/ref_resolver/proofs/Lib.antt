@@ -13,3 +13,4 @@ pub mod Undecoded
 pub mod Based
 pub mod Cutting
 pub mod Standing
+pub mod Spotting

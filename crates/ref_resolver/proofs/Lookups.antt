@@ -1,6 +1,6 @@
 -- A lookup, by what its URI means; and the recursive one, URI by URI of the scope.
-use Rattle.std.proofs.Common.{◌≡◌, ℕ, suc, ◌+◌, arith, true, false, List, [], ◌∷◌, drop, take, codes, Some, None, Result, Ok, Err, cond, refl, sym, ap, ◌∙◌}
-use Rattle.std.specs.List.{prefix_len, last_or}
+use Rattle.std.proofs.Common.{◌≡◌, ℕ, suc, ◌+◌, arith, Bool, true, false, List, [], ◌∷◌, drop, take, codes, Some, None, Result, Ok, Err, cond, refl, sym, ap, ◌∙◌}
+use Rattle.std.specs.List.{take_while, prefix_len, last_or}
 use Rattle.std.specs.Option.{ok_or, unwrap_or}
 use Rattle.ref_uri.specs.Targets.{target, fragment_part}
 use Rattle.ref_definitions.specs.Results.{◌>>=◌}
@@ -73,6 +73,13 @@ marked_step first a more is =
 
 pub marked_turn : (first f : Found) (answer : Result Found Fault) (more : List (Result Found Fault)) → answer ≡ Ok f → is_marked f.value ≡ true → outermost_marked (Ok first) (answer ∷ more) ≡ outermost_marked (Ok f) more
 marked_turn first f answer more is marked = ap (λ a. outermost_marked (Ok first) (a ∷ more)) is ∙ marked_step (Ok first) (Ok f) more marked
+
+-- the last of a longest beginning that passes a test, or else another
+pub while_step : {X : Type 0} (test : X → Bool) (x d : X) (xs : List X) → test x ≡ true → unwrap_or (last_or None (take_while test (x ∷ xs))) d ≡ unwrap_or (last_or None (take_while test xs)) x
+while_step test x d xs is = let n = prefix_len test xs in rw is (ap (λ k. unwrap_or (last_or None (take k (x ∷ xs))) d) (one_more n) ∙ last_from x d (take n xs))
+
+pub while_ended : {X : Type 0} (test : X → Bool) (x d : X) (xs : List X) → test x ≡ false → unwrap_or (last_or None (take_while test (x ∷ xs))) d ≡ d
+while_ended test x d xs is = rw is refl
 
 unmarked_step : (first a : Result Found Fault) (more : List (Result Found Fault)) → answers_marked a ≡ false → outermost_marked first (a ∷ more) ≡ unless_fault_behind (a ∷ more) first
 unmarked_step first a more is = rw is refl

@@ -50,6 +50,13 @@ pub walk_turn : (draft : Draft) (pointer : List ℕ) (passed : Passed) (value : 
 walk_turn draft pointer passed value text token more cut none =
     ap (λ x. passed_along draft pointer passed value (tokens x)) cut ∙ ap (passed_along draft pointer passed value) (slice_split_at (λ b. eqb b 47) token 47 more (plain token none) refl)
 
+-- the tokens of a text, by its first `/`
+pub tokens_turn : (text token more : List ℕ) → text ≡ token ++ (47 ∷ more) → All (λ b. b ≢ 47) token → tokens text ≡ token ∷ tokens more
+tokens_turn text token more cut none = ap tokens cut ∙ slice_split_at (λ b. eqb b 47) token 47 more (plain token none) refl
+
+pub tokens_last : (text : List ℕ) → All (λ b. b ≢ 47) text → tokens text ≡ text ∷ []
+tokens_last text none = slice_split_none (λ b. eqb b 47) text (plain text none)
+
 one_step : (answer : Result (Data × Passed) Fault) → (answer >>= λ s. Ok (s.0, s.1)) ≡ answer
 one_step (Ok s) = refl
 one_step (Err fault) = refl

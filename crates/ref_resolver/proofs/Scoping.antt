@@ -52,6 +52,19 @@ pub taken : (r : Resolver) (e x : List ℕ × Named) (m : Meaning) (more : List 
 taken r e x m more is =
     goes_on r e m more (x ∷ []) is ∙ ap (λ y. unless_fault (flat_map fault_of more) (entry_found r y)) (last_from x e (filter dynamic (flat_map entry_of more)))
 
+-- the last entry alone, of a meaning that is no fault
+last_on : (e : List ℕ × Named) (m : Meaning) (more : List Meaning) (es : List (List ℕ × Named)) → dynamic_of m ≡ Ok es
+    → outermost e (flat_map entry_of (m ∷ more)) ≡ unwrap_or (last_or None (es ++ filter dynamic (flat_map entry_of more))) e
+last_on e m more es is =
+    let (none, same) = no_fault (fault_of m) (filter dynamic (entry_of m)) es is in
+    ap (λ xs. unwrap_or (last_or None xs) e) (filter-append dynamic (entry_of m) (flat_map entry_of more) ∙ ap (λ xs. xs ++ filter dynamic (flat_map entry_of more)) same)
+
+pub last_passed : (e : List ℕ × Named) (m : Meaning) (more : List Meaning) → dynamic_of m ≡ Ok [] → outermost e (flat_map entry_of (m ∷ more)) ≡ outermost e (flat_map entry_of more)
+last_passed e m more is = last_on e m more [] is
+
+pub last_taken : (e x : List ℕ × Named) (m : Meaning) (more : List Meaning) → dynamic_of m ≡ Ok (x ∷ []) → outermost e (flat_map entry_of (m ∷ more)) ≡ outermost x (flat_map entry_of more)
+last_taken e x m more is = last_on e m more (x ∷ []) is ∙ last_from x e (filter dynamic (flat_map entry_of more))
+
 -- a fault ends it
 pub ended : (r : Resolver) (e : List ℕ × Named) (m : Meaning) (more : List Meaning) (fault : Fault) → dynamic_of m ≡ Err fault → from_here r e (m ∷ more) ≡ Err fault
 ended r e m more fault is =

@@ -1,10 +1,11 @@
 //! What a fragment means in the resource at a place: what a pointer leads to, or what an anchor names, a dynamic one by
 //! the dynamic scope.
-ghost use Rattle.std.specs.Prelude.{◌≡◌, [], List, ℕ, IfOk, IfErr, MatchOption, None, Ok};
+ghost use Rattle.std.specs.Prelude.{◌≡◌, [], List, ℕ, IfOk, IfErr, IfSome, MatchOption, option_and_then, None, Some, Ok};
 ghost use Rattle.std.specs.Result.{result_ok};
 ghost use Rattle.serde_json.specs.View.{view};
 ghost use Rattle.ref_draft.specs.Anchors.{Plain};
 ghost use Rattle.ref_definitions.specs.World.{World};
+ghost use Rattle.ref_definitions.specs.Resources.{own_uri, meant_place};
 ghost use Rattle.ref_definitions.specs.Anchors.{Named, anchor, named_by_identifier, named_entry, not_named};
 ghost use Rattle.ref_definitions.specs.Fault.{not_retrieved};
 ghost use Rattle.ref_definitions.specs.Lookup.{by_scope, in_scope, named_found};
@@ -46,10 +47,13 @@ pub(crate) fn not_named(alloc: Global, name: &str) -> Error
 
 // The base of the place that a URI means, where that place has an identifier.
 pub(crate) fn identified_base<'r>(layers: &Layers<'r>, uri: &str) -> Option<&'r str>
-    ensures { (name : List ℕ)
+    ensures value { (name : List ℕ)
         → MatchOption result (named_by_identifier (world_in layers.now) uri.now name ≡ None)
         (λ base. named_by_identifier (world_in layers.now) uri.now name
         ≡ named_entry (world_in layers.now) base.now name) }
+    ensures base { IfSome result
+        (λ base. option_and_then own_uri (meant_place (world_in layers.now) uri.now)
+        ≡ Some base.now) }
 {
     let place = layers.resource(uri)?;
     if ResourceRef::new(place.value, place.entry.draft)

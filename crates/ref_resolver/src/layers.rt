@@ -1,12 +1,14 @@
 //! The documents that references lead into, layer by layer.
-ghost use Rattle.std.specs.Prelude.{◌≡◌, ◌∷◌, map, IfOk, IfErr, IfSome, MatchOption, IsSome, is_some, None, Ok};
+ghost use Rattle.std.specs.Prelude.{◌≡◌, ◌∷◌, map, IfOk, IfErr, IfSome, MatchOption, IsSome, is_some, Some, None, Ok};
 ghost use Rattle.ref_uri.specs.Targets.{uri_against};
 ghost use Rattle.ref_definitions.specs.Resources.{meant_place};
 ghost use Rattle.ref_definitions.specs.Anchors.{named_entry};
 ghost use Rattle.ref_definitions.specs.Fault.{as_invalid_uri};
 ghost use Rattle.ref_error.specs.Errors.{IsFaultOf};
+ghost use Rattle.ref_index.specs.Spots.{spot_of};
 ghost use Rattle.ref_resolver.specs.inner.Located.{IsMeant, IsMeantAt, IsNamed, IsNamedAt};
 ghost use Rattle.ref_resolver.specs.Layered.{world_in, IsHeld};
+ghost use Rattle.ref_resolver.specs.Locations.{uri_spot, name_spot};
 
 use crate::located::{
     Located, LocatedName, Numbered, NumberedName, is_resource_above, named_above, named_in,
@@ -55,6 +57,9 @@ impl<'r> Layers<'r> {
     pub(crate) fn numbered_resource(&self, uri: &str) -> Option<Numbered<'r>>
         ensures value { MatchOption result (meant_place (world_in self.now) uri.now ≡ None)
             (IsMeantAt (world_in self.now) (meant_place (world_in self.now) uri.now)) }
+        ensures spot { IfSome result
+            (λ l. uri_spot (world_in self.now) uri.now
+            ≡ Some (l.layer, spot_of l.place.entry.now)) }
     {
         let Some(place) = resource_in(self.own, uri) else {
             return resource_above(self.parents, uri);
@@ -106,6 +111,9 @@ impl<'r> Layers<'r> {
     pub(crate) fn numbered_name(&self, uri: &str, name: &str) -> Option<NumberedName<'r>>
         ensures value { MatchOption result (named_entry (world_in self.now) uri.now name.now ≡ None)
             (IsNamedAt (world_in self.now) (named_entry (world_in self.now) uri.now name.now)) }
+        ensures spot { IfSome result
+            (λ l. name_spot (world_in self.now) uri.now name.now
+            ≡ Some (l.place.layer, spot_of l.place.place.entry.now)) }
     {
         let Some(found) = named_in(self.own, uri, name) else {
             return named_above(self.parents, uri, name);

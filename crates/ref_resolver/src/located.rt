@@ -1,5 +1,5 @@
 //! Places that were looked up, with their values.
-ghost use Rattle.std.specs.Prelude.{◌≡◌, ℕ, List, ◌∷◌, Option, map, option_map, MatchOption, IfSome, IsSome, is_some, None, Ok};
+ghost use Rattle.std.specs.Prelude.{◌≡◌, ℕ, List, ◌∷◌, Option, map, option_map, MatchOption, IfSome, IsSome, is_some, Some, None, Ok};
 ghost use Rattle.ref_uri.specs.Targets.{uri_against};
 ghost use Rattle.ref_definitions.specs.World.{Layer};
 ghost use Rattle.ref_definitions.specs.Places.{Place};
@@ -7,7 +7,9 @@ ghost use Rattle.ref_definitions.specs.Resources.{last_under, resources, meant_p
 ghost use Rattle.ref_definitions.specs.Anchors.{last_named, names, named_entry};
 ghost use Rattle.ref_index.specs.Found.{IsEntryOf};
 ghost use Rattle.ref_index.specs.Index.{IsFoundWhere};
+ghost use Rattle.ref_index.specs.Spots.{spot_under, spot_named, spot_of};
 ghost use Rattle.ref_resolver.specs.Layered.{IsHeld};
+ghost use Rattle.ref_resolver.specs.Locations.{uri_spot_from, name_spot_from};
 ghost use Rattle.ref_resolver.specs.inner.Located.{IsLocatedIn, IsMeantIn, IsMeantAt, IsNamedIn, IsNamedAt};
 
 use ref_index::{Entry, Index, NamedEntry};
@@ -46,8 +48,9 @@ pub struct NumberedName<'r> {
 // The place of an entry.
 #[inline(always)]
 fn place_at<'r>(index: &'r Index<'r>, entry: &'r Entry<'r>) -> Option<Located<'r>>
-    ensures { (p : Place) → IsEntryOf index.now entry.now p
+    ensures place { (p : Place) → IsEntryOf index.now entry.now p
         → MatchOption result ⊥ (λ l. IsLocatedIn index.now l p) }
+    ensures entry { IfSome result (λ l. l.entry.now ≡ entry.now) }
 {
     let value = index.value(entry)?;
     Some(Located { value, entry })
@@ -59,8 +62,10 @@ pub(crate) fn place_of<'r>(
     index: &'r Index<'r>,
     entry: Option<&'r Entry<'r>>,
 ) -> Option<Located<'r>>
-    ensures { (found : Option (List ℕ × Place)) → IsFoundWhere index.now entry.entry found
+    ensures place { (found : Option (List ℕ × Place)) → IsFoundWhere index.now entry.entry found
         → MatchOption result (found ≡ None) (IsMeantIn index.now (option_map (λ e. e.1) found)) }
+    ensures entry { IfSome result
+        (λ l. option_map (λ e. e.now) entry.entry ≡ Some l.entry.now) }
 {
     place_at(index, entry?)
 }
@@ -70,6 +75,7 @@ pub(crate) fn place_of<'r>(
 pub(crate) fn resource_in<'r>(index: &'r Index<'r>, uri: &str) -> Option<Located<'r>>
     ensures value { MatchOption result (last_under uri.now (resources index.now) ≡ None)
         (IsMeantIn index.now (option_map (λ e. e.1) (last_under uri.now (resources index.now)))) }
+    ensures spot { IfSome result (λ l. spot_under uri.now index.now ≡ Some (spot_of l.entry.now)) }
 {
     place_of(index, index.resource(uri))
 }
@@ -81,6 +87,9 @@ pub(crate) fn resource_above<'r>(parents: &'r [&'r Index<'r>], uri: &str) -> Opt
     ensures value { (own : Layer)
         → MatchOption result (meant_place (map (λ p. p.now) parents.now) uri.now ≡ None)
         (IsMeantAt (own ∷ map (λ p. p.now) parents.now) (meant_place (map (λ p. p.now) parents.now) uri.now)) }
+    ensures spot { IfSome result
+        (λ l. uri_spot_from 1 (map (λ p. p.now) parents.now) uri.now
+        ≡ Some (l.layer, spot_of l.place.entry.now)) }
 {
     let mut number = 0;
     while number < parents.len() {
@@ -111,6 +120,8 @@ pub(crate) fn is_resource_above(parents: &[&Index<'_>], uri: &str) -> bool
 pub(crate) fn named_in<'r>(index: &'r Index<'r>, uri: &str, name: &str) -> Option<LocatedName<'r>>
     ensures value { MatchOption result (last_named uri.now name.now (names index.now) ≡ None)
         (IsNamedIn index.now (last_named uri.now name.now (names index.now))) }
+    ensures spot { IfSome result
+        (λ l. spot_named uri.now name.now index.now ≡ Some (spot_of l.place.entry.now)) }
 {
     let found = index.named(uri, name)?;
     let place = place_at(index, found.entry)?;
@@ -131,6 +142,9 @@ pub(crate) fn named_above<'r>(
     ensures value { (own : Layer)
         → MatchOption result (named_entry (map (λ p. p.now) parents.now) uri.now name.now ≡ None)
         (IsNamedAt (own ∷ map (λ p. p.now) parents.now) (named_entry (map (λ p. p.now) parents.now) uri.now name.now)) }
+    ensures spot { IfSome result
+        (λ l. name_spot_from 1 (map (λ p. p.now) parents.now) uri.now name.now
+        ≡ Some (l.place.layer, spot_of l.place.place.entry.now)) }
 {
     let mut number = 0;
     while number < parents.len() {

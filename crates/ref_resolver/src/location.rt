@@ -1,6 +1,7 @@
 //! Where the value is that a reference leads to, so that a user who keeps the documents finds it there.
-ghost use Rattle.std.specs.Prelude.{◌≡◌, ℕ, List, [], ◌∷◌, ◌++◌, true, map, string_bytes, MatchOption, None, Some, Ok, Err, IfOk, IfErr, OnOk};
+ghost use Rattle.std.specs.Prelude.{◌≡◌, ℕ, List, [], ◌∷◌, ◌++◌, true, map, string_bytes, MatchOption, IfSome, None, Some, Ok, Err, IfOk, IfErr, OnOk};
 ghost use Rattle.std.specs.Result.{result_ok};
+ghost use Rattle.percent_encoding.specs.Percent.{percent_decode};
 ghost use Rattle.serde_json.specs.View.{view};
 ghost use Rattle.serde_json.specs.Data.{Data};
 ghost use Rattle.ref_parts.specs.Path.{Part, Key, value_at};
@@ -16,9 +17,10 @@ ghost use Rattle.ref_draft.specs.declared.reached.Reached.TheVariants.{Schema};
 ghost use Rattle.ref_definitions.specs.Lookup.{Resolver as Start, lookup, moved_resolver, named_found};
 ghost use Rattle.ref_definitions.specs.Recursive.{lookup_recursive};
 ghost use Rattle.ref_error.specs.Errors.{IsFaultOf};
+ghost use Rattle.ref_index.specs.Spots.{spot_of};
 ghost use Rattle.ref_resolver.specs.Layered.{world_in};
 ghost use Rattle.ref_resolver.specs.inner.Located.{IsLocated, IsLocatedAt, IsNamedAt};
-ghost use Rattle.ref_resolver.specs.Locations.{StandsAt, IsWhere, EndsAt};
+ghost use Rattle.ref_resolver.specs.Locations.{StandsAt, IsWhere, EndsAt, anchor_spot, naming_uri, parts_along, with_parts, located, recursive_reference, told_by};
 ghost use Rattle.ref_resolver.specs.inner.Names.{is_name};
 ghost use Rattle.ref_resolver.specs.Resolving.{resolver_of, world_of, at_pointer};
 ghost use Rattle.ref_resolver.specs.inner.Walking.{along_of, passed_along, stepped_along};
@@ -78,8 +80,10 @@ fn lent<'p>(
 
 // Where a place is.
 fn location_of<'r>(alloc: Global, found: Numbered<'r>) -> Result<Location<'r>, AllocError>
-    ensures { (w : World) (p : Place) → IsLocatedAt w found.entry p
+    ensures there { (w : World) (p : Place) → IsLocatedAt w found.entry p
         → IfOk result (λ l. StandsAt w l p.value) }
+    ensures spot { IfOk result
+        (λ l. told_by l ≡ (found.entry.layer, spot_of found.entry.place.entry.now)) }
 {
     let entry = found.place.entry;
     let path = lent(alloc, entry.path.as_slice())?;
@@ -92,10 +96,13 @@ fn location_of<'r>(alloc: Global, found: Numbered<'r>) -> Result<Location<'r>, A
 
 // The entry that a name under a URI means, as `meaning` has it, with the number of its layer.
 fn numbered_meaning<'r>(layers: &Layers<'r>, uri: &str, name: &str) -> Option<NumberedName<'r>>
-    ensures { MatchOption result
+    ensures value { MatchOption result
         (anchor (world_in layers.now) uri.now name.now ≡ Err (not_named name.now))
         (IsNamedAt (world_in layers.now)
         (result_ok (anchor (world_in layers.now) uri.now name.now))) }
+    ensures spot { IfSome result
+        (λ l. anchor_spot (world_in layers.now) uri.now name.now
+        ≡ Some (l.place.layer, spot_of l.place.place.entry.now)) }
 {
     match layers.numbered_name(uri, name) {
         Some(found) => Some(found),
@@ -161,6 +168,12 @@ fn step_on<'v>(
     ensures path { (start : Data)
         → value_at start (map part_of path.old.items) ≡ Some (view along.entry.value.now)
         → IfOk result (λ a. value_at start (map part_of path.new.items) ≡ Some (view a.value.now)) }
+    ensures parts { (more : List (List ℕ))
+        → IfOk result
+        (λ a. map part_of path.new.items
+        ++ parts_along walk.now.pointer.now (view a.value.now) more
+        ≡ map part_of path.old.items
+        ++ parts_along walk.now.pointer.now (view along.entry.value.now) (token.now ∷ more)) }
     ensures fault { IfErr result
         (IsFaultOf
         (stepped_along walk.now.draft walk.now.pointer.now (along_of along.entry)
@@ -186,6 +199,10 @@ fn walk_on(
         (passed_along walk.entry.draft walk.entry.pointer.now
         (record { base = base.value; reached = Schema }) (view value.now)
         (tokens text.now))) }
+    ensures parts { OnOk result
+        (map part_of path.new.items
+        ≡ map part_of path.old.items
+        ++ parts_along walk.entry.pointer.now (view value.now) (tokens text.now)) }
     ensures fault { IfErr result
         (IsFaultOf
         (passed_along walk.entry.draft walk.entry.pointer.now
@@ -220,6 +237,11 @@ fn follow_on(
         (EndsAt start path.new.items
         (pointed_value walk.entry.draft walk.entry.pointer.now base.value
         (view value.now) text.now)) }
+    ensures parts { OnOk result
+        (map part_of path.new.items
+        ≡ map part_of path.old.items
+        ++ parts_along walk.entry.pointer.now (view value.now)
+        (tokens (percent_decode text.now))) }
     ensures fault { IfErr result
         (IsFaultOf
         (pointed_value walk.entry.draft walk.entry.pointer.now base.value
@@ -247,6 +269,12 @@ fn location_along<'r>(
         (IsWhere (world_in layers.entry)
         (at_pointer r found.entry.place.entry.now.draft pointer.now
         (view found.entry.place.value.now) text.now)) }
+    ensures spot { IfOk result
+        (λ l. told_by l
+        ≡ with_parts
+        (parts_along pointer.now (view found.entry.place.value.now)
+        (tokens (percent_decode text.now)))
+        (found.entry.layer, spot_of found.entry.place.entry.now)) }
     ensures fault { (r : Start) → r.base ≡ base.value
         → IfErr result
         (IsFaultOf
@@ -289,6 +317,9 @@ impl<'r> Resolver<'r> {
         ensures ok { IfOk result
             (IsWhere (world_of self.now)
             (lookup (world_of self.now) (resolver_of self.now) reference.now)) }
+        ensures spot { IfOk result
+            (λ l. located (world_of self.now) (resolver_of self.now) reference.now
+            ≡ Some (told_by l)) }
         ensures fault { IfErr result
             (IsFaultOf (lookup (world_of self.now) (resolver_of self.now) reference.now)) }
     {
@@ -311,6 +342,10 @@ impl<'r> Resolver<'r> {
         ensures ok { IfOk result
             (IsWhere (world_of self.now)
             (lookup_recursive (world_of self.now) (resolver_of self.now))) }
+        ensures spot { IfOk result
+            (λ l. located (world_of self.now) (resolver_of self.now)
+            (recursive_reference (world_of self.now) (resolver_of self.now))
+            ≡ Some (told_by l)) }
         ensures fault { IfErr result
             (IsFaultOf (lookup_recursive (world_of self.now) (resolver_of self.now))) }
     {
@@ -331,6 +366,12 @@ impl<'r> Resolver<'r> {
             → IfOk result
             (IsWhere (world_of self.now)
             (lookup (world_of self.now) (resolver_of self.now) reference)) }
+        ensures spot { (reference : List ℕ)
+            → target (resolver_of self.now).base reference ≡ Ok uri.value
+            → fragment_part reference ≡ name.now → is_name name.now ≡ true
+            → IfOk result
+            (λ l. located (world_of self.now) (resolver_of self.now) reference
+            ≡ Some (told_by l)) }
         ensures fault { (reference : List ℕ)
             → target (resolver_of self.now).base reference ≡ Ok uri.value
             → fragment_part reference ≡ name.now → is_name name.now ≡ true
@@ -360,6 +401,13 @@ impl<'r> Resolver<'r> {
             (IsWhere (world_of self.now)
             (named_found (world_of self.now)
             (moved_resolver (resolver_of self.now) uri.value) n n.kind)) }
+        ensures spot { (n : Named) → n.name ≡ name.now → n.kind ≡ Dynamic
+            → IsLocated found.entry n.place → anchor (world_of self.now) uri.value name.now ≡ Ok n
+            → IfOk result
+            (λ l. anchor_spot (world_of self.now)
+            (naming_uri (world_of self.now) (moved_resolver (resolver_of self.now) uri.value) n
+            n.kind) name.now
+            ≡ Some (told_by l)) }
         ensures fault { (n : Named) → n.name ≡ name.now → n.kind ≡ Dynamic
             → IsLocated found.entry n.place → anchor (world_of self.now) uri.value name.now ≡ Ok n
             → IfErr result

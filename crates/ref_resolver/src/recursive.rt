@@ -4,6 +4,7 @@ ghost use Rattle.serde_json.specs.View.{view};
 ghost use Rattle.ref_definitions.specs.Lookup.{lookup};
 ghost use Rattle.ref_definitions.specs.Recursive.{is_marked, lookup_recursive};
 ghost use Rattle.ref_error.specs.Errors.{IsFaultOf};
+ghost use Rattle.ref_resolver.specs.Locations.{recursive_reference};
 ghost use Rattle.ref_resolver.specs.Resolving.{resolver_of, world_of, found_of, world_found};
 
 use crate::resolver::{Resolved, Resolver};
@@ -45,6 +46,8 @@ impl<'r> Resolver<'r> {
             (λ t. lookup_recursive (world_of self.now) (resolver_of self.now) ≡ Ok (found_of t.0)) }
         ensures reference { IfOk result
             (λ t. lookup (world_of self.now) (resolver_of self.now) t.1.now ≡ Ok (found_of t.0)) }
+        ensures text { IfOk result
+            (λ t. recursive_reference (world_of self.now) (resolver_of self.now) ≡ t.1.now) }
         ensures world { IfOk result (λ t. world_found t.0 ≡ world_of self.now) }
         ensures fault { IfErr result
             (IsFaultOf (lookup_recursive (world_of self.now) (resolver_of self.now))) }

@@ -1,8 +1,6 @@
 -- References of the own places of a prepared world.
-use Rattle.std.proofs.Common.{◌≡◌, ℕ, List, [], ◌∷◌, sym, subst, arith}
-use Rattle.std.specs.List.{Contains}
-use Rattle.ref_definitions.specs.World.{Document, World, own_layer}
-use Rattle.ref_definitions.specs.Places.{Place, places}
+use Rattle.std.proofs.Common.{[], ◌∷◌, sym, subst, arith}
+use Rattle.ref_definitions.specs.World.{World}
 use Rattle.ref_definitions.specs.Preparing.{Given}
 use Rattle.ref_definitions.proofs.References.{references_are_retrieved}
 use Rattle.referencing.specs.Prepared.{IsPrepared, IsPreparedOf, ReferencesAreRetrieved}

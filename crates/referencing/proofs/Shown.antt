@@ -1,5 +1,5 @@
 -- What a registry shows for debugging.
-use Rattle.std.proofs.Common.{◌≡◌, refl, subst, ℕ, ◌∷◌, ◌++◌, length, codes, decimal, append_assoc}
+use Rattle.std.proofs.Common.{◌≡◌, subst, ℕ, ◌∷◌, ◌++◌, length, codes, decimal, append_assoc}
 use Rattle.ref_definitions.specs.World.{Layer, World}
 use Rattle.referencing.specs.Prepared.{registry_text}
 

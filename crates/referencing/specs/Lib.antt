@@ -45,6 +45,7 @@ pub use Rattle.ref_draft.specs.declared.spec.walk.Child
 pub use Rattle.ref_error.specs.Errors
 pub use Rattle.ref_error.specs.Retrieving
 pub use Rattle.ref_error.specs.declared.error.Error
+pub use Rattle.ref_index.specs.Spots
 pub use Rattle.ref_index.specs.Document
 pub use Rattle.ref_index.specs.Contents
 pub use Rattle.ref_index.specs.Retrieval

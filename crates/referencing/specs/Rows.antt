@@ -1,18 +1,22 @@
 -- Worked rows of what the calls of a registry answer, for texts that stand for any.
-use Rattle.std.specs.Prelude.{◌≡◌, true, codes, [], ◌∷◌, Ok, Err, String, string_bytes}
+use Rattle.std.specs.Prelude.{◌≡◌, ℕ, true, codes, List, [], ◌∷◌, Option, Some, None, Ok, Err, String, string_bytes}
 use Rattle.std.specs.declared.alloc.AllocError.{AllocError}
 use Rattle.std.specs.declared.alloc.Global.{Global}
-use Rattle.ref_draft.specs.declared.draft.Draft.TheVariants.{Draft7}
+use Rattle.ref_draft.specs.declared.draft.Draft.TheVariants.{Draft7, Draft202012}
 use Rattle.ref_uri.specs.Targets.{parse_refusal}
 use Rattle.ref_uri.specs.declared.error.UriError.TheVariants.{Parse}
 use Rattle.ref_uri.specs.declared.error.ParseError.TheVariants.{Syntax}
 use Rattle.ref_definitions.specs.Fault as fault
+use Rattle.ref_parts.specs.Path.{Part, Key}
+use Rattle.ref_definitions.specs.World.{World}
 use Rattle.ref_definitions.specs.Places.{root}
-use Rattle.ref_definitions.specs.Rows.{at, world, yes, empty, refers_to_b, b_refers_to_c, c_is_true, given_alone, given_with, look, found_value, resolver}
+use Rattle.ref_definitions.specs.Rows.{at, world, yes, empty, text, one, two, refers_to_b, b_refers_to_c, c_is_true, given_alone, given_with, look, found_value, resolver}
 use Rattle.ref_error.specs.declared.error.Error.TheVariants.{PointerToNowhere, NoSuchAnchor, InvalidUri, RetrievalLimit, Memory}
 use Rattle.ref_index.specs.Retrieval.{IsFaultyOutcome}
+use Rattle.ref_index.specs.Spots.{Spot}
 use Rattle.ref_resolver.specs.declared.resolver.Resolved.{Resolved}
 use Rattle.ref_resolver.specs.Layered.{IsHeld}
+use Rattle.ref_resolver.specs.Locations.{located, recursive_reference}
 use Rattle.ref_resolver.specs.Resolving.{found_of}
 use Rattle.referencing.specs.declared.answer.AnswerError.TheVariants as answer_error
 use Rattle.referencing.specs.Prepared.{IsPrepared, ReferencesAreRetrieved, IsPreparedOf, AreComplete, LimitIsUsedUp}
@@ -96,3 +100,38 @@ pub record PlaceRows : Type 0 where
   pub no_other_value : (r : Resolved)
       → found_of r ≡ found_value empty Draft7 (resolver "http://a/r" (codes "http://a/r" ∷ []))
       → ¬ (Agrees (at Draft7 "http://a/r" yes ∷ []) (codes "http://a/r") [] (Ok r))
+
+-- where the values stand that references lead to: two documents with equal values; two equal places of one document, one of
+-- which is named; two documents with the same identifier and anchor; and a parent
+abbrev pub equal_documents : World
+equal_documents = world (at Draft202012 "http://a/r" yes ∷ at Draft202012 "http://a/s" yes ∷ [])
+
+abbrev pub equal_places : World
+equal_places =
+    world (at Draft202012 "http://a/r" (one "$defs" (two "a" yes "b" yes)) ∷ [])
+
+abbrev pub one_identifier : World
+one_identifier =
+    world
+    (at Draft202012 "http://a/r" (two "$anchor" (text "x") "$id" (text "k"))
+    ∷ at Draft202012 "http://a/s" (two "$anchor" (text "x") "$id" (text "k")) ∷ [])
+
+-- a path in the document with a number, of the layer with a number
+abbrev pub spot : ℕ → ℕ → List Part → Option (ℕ × Spot)
+spot layer document path = Some (layer, record { document = document; path = path })
+
+pub record LocationRows : Type 0 where
+  pub first_of_two : located equal_documents (resolver "http://a/r" []) (codes "#") ≡ spot 0 0 []
+  pub second_of_two : located equal_documents (resolver "http://a/r" []) (codes "s") ≡ spot 0 1 []
+  pub not_the_other : ¬ (located equal_documents (resolver "http://a/r" []) (codes "s")
+      ≡ spot 0 0 [])
+  pub by_pointer : located equal_places (resolver "http://a/r" []) (codes "#/$defs/b")
+      ≡ spot 0 0 (Key (codes "$defs") ∷ Key (codes "b") ∷ [])
+  pub last_identifier : located one_identifier (resolver "http://a/k" []) (codes "#") ≡ spot 0 1 []
+  pub last_anchor : located one_identifier (resolver "http://a/k" []) (codes "#x") ≡ spot 0 1 []
+  pub own_anchor : located one_identifier (resolver "http://a/r" []) (codes "#x") ≡ spot 0 0 []
+  pub of_a_parent : located ((c_is_true ∷ []) ∷ equal_documents) (resolver "http://a/c" [])
+      (codes "s") ≡ spot 1 1 []
+  pub nowhere : located equal_documents (resolver "http://a/r" []) (codes "t") ≡ None
+  pub not_marked : recursive_reference equal_documents
+      (resolver "http://a/r" (codes "http://a/s" ∷ [])) ≡ codes "#"

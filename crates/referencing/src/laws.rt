@@ -5,7 +5,7 @@ ghost use Rattle.std.specs.declared.alloc.Global as global;
 ghost use Rattle.std.specs.declared.rc.Rc as rc;
 ghost use Rattle.serde_json.specs.View.{view};
 ghost use Rattle.ref_draft.specs.Views.{resource, resource_ref};
-ghost use Rattle.referencing.specs.Rows.{PreparingRows, HeldRows, StepRows, PlaceRows};
+ghost use Rattle.referencing.specs.Rows.{PreparingRows, HeldRows, StepRows, PlaceRows, LocationRows};
 
 use crate::input::IntoRegistryResource;
 use ref_draft::{Resource, ResourceRef};
@@ -60,4 +60,9 @@ pub fn step_rows()
 /// Rows of which answers are a place's, and agree with the places below a resource.
 pub fn place_rows()
     ensures rows { PlaceRows }
+{}
+
+/// Rows of where the values stand that references lead to.
+pub fn location_rows()
+    ensures rows { LocationRows }
 {}

@@ -1,9 +1,9 @@
 -- What a name means under a URI of the dynamic scope, as the code asks for it, for private clauses.
-use Rattle.std.specs.Prelude.{◌≡◌, ℕ, List, [], ◌∷◌, filter, Option, MatchOption, Result, Ok}
+use Rattle.std.specs.Prelude.{◌≡◌, ℕ, List, [], ◌∷◌, filter, flat_map, Option, MatchOption, Result, Ok}
 use Rattle.ref_definitions.specs.World.{World}
 use Rattle.ref_definitions.specs.Fault.{Fault}
 use Rattle.ref_definitions.specs.Anchors.{Named, anchor}
-use Rattle.ref_definitions.specs.Lookup.{Resolver, fault_of, entry_of, is_dynamic, unless_fault, entry_found, by_scope, in_scope}
+use Rattle.ref_definitions.specs.Lookup.{Resolver, fault_of, entry_of, is_dynamic, unless_fault, entry_found, outermost, by_scope, in_scope}
 use Rattle.ref_resolver.specs.declared.located.Located.{Located}
 use Rattle.ref_resolver.specs.inner.Located.{IsLocated}
 
@@ -29,3 +29,4 @@ abbrev pub IsOutermost : World → Resolver → Named → List ℕ → List ℕ 
 IsOutermost world r first name uri l =
     (n : Named) × (by_scope r first (in_scope world name r.scope) ≡ entry_found r (uri, n))
     × IsLocated l n.place × (anchor world r.base name ≡ Ok first → anchor world uri name ≡ Ok n)
+    × ((outermost (r.base, first) (flat_map entry_of (in_scope world name r.scope))).0 ≡ uri)

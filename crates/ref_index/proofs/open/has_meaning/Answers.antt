@@ -1,5 +1,6 @@
 use Rattle.std.proofs.Common.{◌≡◌, ◌∙◌, sym, ap, map, is_some, ◌||◌, rules}
 use Rattle.ref_definitions.specs.Resources.{resources, last_under, meant_place}
+use Rattle.ref_index.proofs.Spots.{known_alike}
 use Rattle.ref_index.proofs.Opening.{meaning_or, known_is}
 use Rattle.ref_index.proofs.open.has_meaning.Goals as goal
 
@@ -8,7 +9,7 @@ returns-then-contains c = record {
   value = λ layer names wants ps held.
       let uri = c.args.uri.now.value in
       let parents = map (λ p. p.now) c.args.parents.now in
-      let here : is_some (last_under uri (resources layer)) ≡ c.contains.result = sym (known_is uri (resources layer)) ∙ sym (held.known c.args.uri.now) ∙ sym c.contains.ensures in
+      let here : is_some (last_under uri (resources layer)) ≡ c.contains.result = sym (known_is uri (resources layer)) ∙ sym (held.known c.args.uri.now ∙ known_alike uri layer) ∙ sym c.contains.ensures in
       c.if-contains.true ∙ sym (meaning_or layer parents uri ∙ ap (λ b. b || is_some (meant_place parents uri)) (here ∙ c.if-contains.true));
 }
 
@@ -17,7 +18,7 @@ returns-else-contains c = record {
   value = λ layer names wants ps held.
       let uri = c.args.uri.now.value in
       let parents = map (λ p. p.now) c.args.parents.now in
-      let here : is_some (last_under uri (resources layer)) ≡ c.contains.result = sym (known_is uri (resources layer)) ∙ sym (held.known c.args.uri.now) ∙ sym c.contains.ensures in
+      let here : is_some (last_under uri (resources layer)) ≡ c.contains.result = sym (known_is uri (resources layer)) ∙ sym (held.known c.args.uri.now ∙ known_alike uri layer) ∙ sym c.contains.ensures in
       let text : c.as_str.result.now ≡ uri = search rules in
       c.is_known_above.ensures ∙ ap (λ u. is_some (meant_place parents u)) text ∙ sym (meaning_or layer parents uri ∙ ap (λ b. b || is_some (meant_place parents uri)) (here ∙ c.if-contains.false));
 }

@@ -6,6 +6,7 @@ use Rattle.ref_uri.specs.Errors.{IsFaultOf}
 use Rattle.ref_definitions.specs.Places.{base_within, identifier_of}
 use Rattle.ref_definitions.specs.Cached.{pairs_of_identifier, reference_pairs}
 use Rattle.ref_definitions.specs.Wants.{Reference, MetaSchema, wants_of_text, reference_at, refusals_of, schema_at}
+use Rattle.ref_index.specs.Spots.{numbered}
 use Rattle.ref_index.specs.Found.{Holds}
 use Rattle.ref_index.specs.inner.Queue.{place_of}
 use Rattle.ref_index.specs.Visits.{IsFirstFault, resources_at, names_at}
@@ -35,8 +36,8 @@ returns-clause-added c = λ layer rs ns ws ps held stands.
     let under = option_map (λ u. u.now.value) c.args.under in
     let base = c.in_ok-base.base.value in
     let based : p.base ≡ Ok base = search rules in
-    let rs' = rs ++ resources_at under p in
-    let ns' = ns ++ names_at under p in
+    let rs' = rs ++ numbered c.args.number (resources_at under p) in
+    let ns' = ns ++ numbered c.args.number (names_at under p) in
     let outer = c.args.place.now.outer.value in
     let own = pairs_of_identifier outer (identifier_of p) in
     let same = c.id-id.ensures.value ∙ ap id_of c.new.ensures.value ∙ ap (identifier p.draft) c.get-value.ensures.value in

@@ -1,12 +1,12 @@
-use Rattle.std.proofs.Common.{◌≡◌, ℕ, List, Result, [], Ok, ap, subst, ◌∙◌, rules}
+use Rattle.std.proofs.Common.{◌≡◌, ℕ, List, Result, [], flat_map, Ok, ap, subst, ◌∙◌, rules}
 use Rattle.ref_definitions.specs.Fault.{Fault}
 use Rattle.ref_definitions.specs.Anchors.{Named, anchor}
-use Rattle.ref_definitions.specs.Lookup.{by_scope, in_scope}
+use Rattle.ref_definitions.specs.Lookup.{by_scope, in_scope, entry_of, outermost}
 use Rattle.ref_error.specs.Errors.{IsFaultOf}
 use Rattle.ref_resolver.specs.Resolving.{resolver_of, world_of}
 use Rattle.ref_resolver.specs.inner.Scoped.{dynamic_under}
 use Rattle.ref_resolver.proofs.Faults.{fault_as}
-use Rattle.ref_resolver.proofs.Scoping.{from_here, passed, taken, ended, dynamic_means}
+use Rattle.ref_resolver.proofs.Scoping.{from_here, passed, taken, ended, dynamic_means, last_passed, last_taken}
 use Rattle.ref_resolver.proofs.fragment.outermost.Goals as goal
 
 pub returns-in_err-found-clause-fault : goal.returns-in_err-found-clause-fault
@@ -14,7 +14,7 @@ returns-in_err-found-clause-fault c = λ n is.
     let r = resolver_of c.args.resolver.now in
     let w = world_of c.args.resolver.now in
     let name = c.args.name.now in
-    let (m, same, at, means) = c.loop-outer.invariant.0 n is in
+    let (m, same, at, means, last) = c.loop-outer.invariant.0 n is in
     let e : List ℕ × Named = (c.loop-outer.uri.now, m) in
     let here : List ℕ × Result Named Fault = (c.in-Some.outer.now, anchor w c.in-Some.outer.now name) in
     let more = in_scope w name c.next.new.self in
@@ -29,14 +29,15 @@ loop-outer-preserved-in-Some-2 c = (
       let r = resolver_of c.args.resolver.now in
       let w = world_of c.args.resolver.now in
       let name = c.args.name.now in
-      let (m, same, at, means) = c.loop-outer.invariant.0 n is in
+      let (m, same, at, means, last) = c.loop-outer.invariant.0 n is in
       let e : List ℕ × Named = (c.loop-outer.uri.now, m) in
       let here : List ℕ × Result Named Fault = (c.in-Some.outer.now, anchor w c.in-Some.outer.now name) in
       let more = in_scope w name c.next.new.self in
       let left = ap (λ xs. from_here r e (in_scope w name xs)) c.in-Some.ensures.steps in
       let uri : c.as_str.result.now ≡ c.in-Some.outer.now = search rules in
       let (d, dynamic, there) = rw (c.in-Some-2.is, uri) at c.in_ok-found.ensures.ok in
-      (d, same ∙ left ∙ taken r e (c.in-Some.outer.now, d) here more dynamic, there, λ first. dynamic_means c.in-Some.outer.now (anchor w c.in-Some.outer.now name) d dynamic),
+      let entries = ap (λ xs. outermost e (flat_map entry_of (in_scope w name xs))) c.in-Some.ensures.steps in
+      (d, same ∙ left ∙ taken r e (c.in-Some.outer.now, d) here more dynamic, there, λ first. dynamic_means c.in-Some.outer.now (anchor w c.in-Some.outer.now name) d dynamic, last ∙ entries ∙ last_taken e (c.in-Some.outer.now, d) here more dynamic),
   tt,
   tt,
 )
@@ -47,13 +48,14 @@ loop-outer-preserved c = (
       let r = resolver_of c.args.resolver.now in
       let w = world_of c.args.resolver.now in
       let name = c.args.name.now in
-      let (m, same, at, means) = c.loop-outer.invariant.0 n is in
+      let (m, same, at, means, last) = c.loop-outer.invariant.0 n is in
       let e : List ℕ × Named = (c.loop-outer.uri.now, m) in
       let here : List ℕ × Result Named Fault = (c.in-Some.outer.now, anchor w c.in-Some.outer.now name) in
       let more = in_scope w name c.next.new.self in
       let left = ap (λ xs. from_here r e (in_scope w name xs)) c.in-Some.ensures.steps in
       let none : dynamic_under w c.in-Some.outer.now name ≡ Ok [] = search rules in
-      (m, same ∙ left ∙ passed r e here more none, at, means),
+      let entries = ap (λ xs. outermost e (flat_map entry_of (in_scope w name xs))) c.in-Some.ensures.steps in
+      (m, same ∙ left ∙ passed r e here more none, at, means, last ∙ entries ∙ last_passed e here more none),
   tt,
   tt,
 )
@@ -62,6 +64,7 @@ pub returns-clause-ok : goal.returns-clause-ok
 returns-clause-ok c = λ n is.
     let r = resolver_of c.args.resolver.now in
     let w = world_of c.args.resolver.now in
-    let (m, same, at, means) = c.loop-outer.invariant.0 n is in
+    let (m, same, at, means, last) = c.loop-outer.invariant.0 n is in
     let left = ap (λ xs. from_here r (c.loop-outer.uri.now, m) (in_scope w c.args.name.now xs)) c.in-None.ensures.steps.0 in
-    (m, same ∙ left, at, means)
+    let entries = ap (λ xs. outermost (c.loop-outer.uri.now, m) (flat_map entry_of (in_scope w c.args.name.now xs))) c.in-None.ensures.steps.0 in
+    (m, same ∙ left, at, means, ap (λ (x : List ℕ × Named). x.0) (last ∙ entries))

@@ -1,13 +1,14 @@
-use Rattle.std.proofs.Common.{◌≡◌, [], IfErr, OnOk, ap, subst, ◌∙◌}
+use Rattle.std.proofs.Common.{◌≡◌, ◌++◌, [], map, IfErr, OnOk, ap, subst, ◌∙◌}
 use Rattle.percent_encoding.specs.Percent.{percent_decode}
 use Rattle.percent_encoding.specs.Iter.{decoded_bytes}
 use Rattle.serde_json.specs.View.{view}
 use Rattle.ref_definitions.specs.Fault.{InvalidPercentEncoding}
 use Rattle.ref_parts.specs.Pointer.{tokens}
+use Rattle.ref_parts.specs.Segment.{part_of}
 use Rattle.ref_draft.specs.declared.reached.Reached.TheVariants.{Schema}
 use Rattle.ref_definitions.specs.Pointers.{pointed_value, walked_along}
 use Rattle.ref_error.specs.Errors.{IsFaultOf}
-use Rattle.ref_resolver.specs.Locations.{EndsAt}
+use Rattle.ref_resolver.specs.Locations.{EndsAt, parts_along}
 use Rattle.ref_resolver.proofs.Faults.{says_of}
 use Rattle.ref_resolver.specs.inner.Walking.{passed_along}
 use Rattle.ref_resolver.proofs.Pointing.{text_pointed, bytes_pointed, fault_same}
@@ -38,3 +39,9 @@ returns-clause-fault c =
     let bytes : decoded_bytes c.percent_decode.result ≡ percent_decode c.args.text.now = c.percent_decode.ensures.bytes ∙ ap percent_decode c.as_bytes.ensures.value in
     let is = bytes_pointed c.args.walk.draft c.args.walk.pointer.now c.args.base.value c.args.text.now (view c.args.value.now) (λ text. cc (c.in-Err-Utf8.ensures.utf8 (rw bytes text), c.in-Err-Utf8.field-0-is)) in
     says_of (pointed_value c.args.walk.draft c.args.walk.pointer.now c.args.base.value (view c.args.value.now) c.args.text.now) (InvalidPercentEncoding c.args.walk.pointer.now) c.no_utf8.result is c.no_utf8.ensures
+
+pub returns-in-Ok-clause-parts : goal.returns-in-Ok-clause-parts
+returns-in-Ok-clause-parts c =
+    let bytes : decoded_bytes c.percent_decode.result ≡ percent_decode c.args.text.now = c.percent_decode.ensures.bytes ∙ ap percent_decode c.as_bytes.ensures.value in
+    let text = c.as_str.ensures.value ∙ c.in-Ok.ensures.value ∙ bytes in
+    subst (λ t. OnOk c.walk_on.result (map part_of c.walk_on.new.path.items ≡ map part_of c.args.path.now.items ++ parts_along c.args.walk.pointer.now (view c.args.value.now) (tokens t))) text c.walk_on.ensures.parts

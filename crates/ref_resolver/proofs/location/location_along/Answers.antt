@@ -1,12 +1,15 @@
-use Rattle.std.proofs.Common.{◌≡◌, map, Some, Ok, sym, ap, subst, ◌∙◌, rules}
+use Rattle.std.proofs.Common.{◌≡◌, ◌++◌, map, Some, Ok, sym, ap, subst, ◌∙◌, rules}
+use Rattle.percent_encoding.specs.Percent.{percent_decode}
 use Rattle.serde_json.specs.View.{view}
 use Rattle.ref_parts.specs.Path.{value_at}
+use Rattle.ref_parts.specs.Pointer.{tokens}
 use Rattle.ref_parts.specs.Segment.{part_of}
 use Rattle.ref_definitions.specs.Pointers.{pointed_value}
 use Rattle.ref_definitions.specs.Lookup.{pointer_found}
 use Rattle.ref_error.specs.Errors.{IsFaultOf}
 use Rattle.ref_resolver.proofs.Faults.{fault_ends, goes_on}
 use Rattle.ref_resolver.proofs.Standing.{place_there}
+use Rattle.ref_resolver.specs.Locations.{parts_along}
 use Rattle.ref_resolver.proofs.location.location_along.Goals as goal
 
 pub returns-in_err-follow_on-clause-fault : goal.returns-in_err-follow_on-clause-fault
@@ -34,3 +37,12 @@ returns-clause-ok c = λ r p base at.
       goes_on (pointed_value d c.args.pointer.now r.base v c.args.text.now) (λ to. Ok (pointer_found r d to)) found answer,
       record { layer = at.layer; in_world = at.numbered; document = path.document; in_layer = path.numbered; there = there },
     )
+
+pub returns-clause-spot : goal.returns-clause-spot
+returns-clause-spot c =
+    let found = c.args.found in
+    let entry = found.place.entry.now in
+    let slice : c.as_slice.result.now ≡ entry.path.items = search rules in
+    let parts = parts_along c.args.pointer.now (view found.place.value.now) (tokens (percent_decode c.args.text.now)) in
+    let path : map part_of c.follow_on.new.path.items ≡ map part_of entry.path.items ++ parts = c.in_ok-follow_on.ensures.parts ∙ ap (λ l. l ++ parts) (c.in_ok-path.ensures ∙ ap (map part_of) slice) in
+    ap (λ l. (found.layer, record { document = entry.document; path = l })) path

@@ -5,7 +5,7 @@ use Rattle.ref_index.proofs.Holding.{zip_push}
 use Rattle.ref_index.proofs.found.Found.add_name.Goals as goal
 
 pub returns-clause-added : goal.returns-clause-added
-returns-clause-added c = λ layer rs ns ws ps p held is.
+returns-clause-added c = λ layer rs ns ws ps p number held is.
     let named : string_bytes c.in_ok-name.name ≡ (anchor_name c.args.anchor).0 = search rules in
     record {
       by_uri = held.by_uri;

@@ -7,10 +7,10 @@ use Rattle.ref_index.proofs.Holding.{two_names}
 use Rattle.ref_index.proofs.found.Found.add_names.Goals as goal
 
 pub returns-in_ok-add_name-in-Two-clause-added : goal.returns-in_ok-add_name-in-Two-clause-added
-returns-in_ok-add_name-in-Two-clause-added c = λ layer rs ns ws ps p held is tag.
+returns-in_ok-add_name-in-Two-clause-added c = λ layer rs ns ws ps p number held is tag.
     let first = anchor_name c.in-Two.plain in
     let second = anchor_name c.in-Two.dynamic in
     let one = name_entry c.args.uri.now p first in
     subst (λ names. OnOk c.add_name-in-Two-2.result (Holds layer c.add_name-in-Two-2.new.self rs names ws ps))
-    (two_names c.args.uri.now p ns (resource_ref c.args.resource) first second (c.in-Two.ensures.names ∙ ap (λ d. anchors d (view c.contents.result.now)) c.draft.ensures.value ∙ ap (anchors c.args.resource.draft) c.contents.ensures.value) tag)
-    (c.add_name-in-Two-2.ensures.added layer rs (ns ++ one ∷ []) ws ps p (c.in_ok-add_name-in-Two.ensures.added layer rs ns ws ps p held is) (subst (λ es. IsNumberOf layer es c.args.entry p) (sym c.in_ok-add_name-in-Two.ensures.entries) is))
+    (two_names number c.args.uri.now p ns (resource_ref c.args.resource) first second (c.in-Two.ensures.names ∙ ap (λ d. anchors d (view c.contents.result.now)) c.draft.ensures.value ∙ ap (anchors c.args.resource.draft) c.contents.ensures.value) tag)
+    (c.add_name-in-Two-2.ensures.added layer rs (ns ++ (number, one) ∷ []) ws ps p number (c.in_ok-add_name-in-Two.ensures.added layer rs ns ws ps p number held is) (subst (λ es. IsNumberOf layer es number c.args.entry p) (sym c.in_ok-add_name-in-Two.ensures.entries) is))

@@ -3,11 +3,10 @@ use Rattle.std.specs.List.{AllZip}
 use Rattle.std.proofs.lemmas.List.{length-map}
 use Rattle.ref_parts.specs.Table.{entries_of}
 use Rattle.ref_parts.proofs.TableLaws.{refilled}
-use Rattle.ref_definitions.specs.Resources.{resources}
-use Rattle.ref_definitions.specs.Anchors.{names}
 use Rattle.ref_definitions.specs.Cached.{pairs}
 use Rattle.ref_index.specs.Document.{document_of}
 use Rattle.ref_index.specs.inner.NormalUris.{HaveNormalUris}
+use Rattle.ref_index.specs.Spots.{numbered_resources, numbered_names}
 use Rattle.ref_index.specs.Found.{IsResourceOf, IsNameOf, IsPairOf}
 use Rattle.ref_index.specs.Index.{IsResourceIn, IsNameIn, IsPairIn, numbered_uri}
 use Rattle.ref_index.proofs.Looking.{zip_mapped}
@@ -28,10 +27,10 @@ invariant_of-result c =
     let numbers : AllZip (IsNumberedPair by_uri) c.set_entries.new.pairs (pairs layer) = subst (λ l. AllZip (IsNumberedPair by_uri) l (pairs layer)) (sym (c.set_entries.ensures ∙ ap (map (numbered_uri by_uri)) lent))
     (zip_mapped IsPairOf (IsNumberedPair by_uri) (numbered_uri by_uri) (λ t p is. (is.0, is.1, is.2, refl)) c.args.found.resolved.items (pairs layer) held.by_pair) in
     record {
-      resource = subst (λ l. AllZip (IsResourceIn layer c.args.found.entries.items) l (resources layer)) (sym c.in_ok-by_uri.ensures.entered)
-          (zip_mapped (IsResourceOf layer c.args.found.entries.items) (IsResourceIn layer c.args.found.entries.items) (λ e. (string_bytes e.0, string_bytes e.1, e.2)) (λ t r is. is) c.args.found.resources.items (resources layer) held.by_uri);
-      name = subst (λ l. AllZip (IsNameIn layer c.args.found.entries.items) l (names layer)) (sym c.in_ok-by_name.ensures.entered)
-          (zip_mapped (IsNameOf layer c.args.found.entries.items) (IsNameIn layer c.args.found.entries.items) (λ e. (string_bytes e.0, string_bytes e.1, e.2)) (λ t n is. is) c.args.found.names.items (names layer) held.by_name);
+      resource = subst (λ l. AllZip (IsResourceIn layer c.args.found.entries.items) l (numbered_resources layer)) (sym c.in_ok-by_uri.ensures.entered)
+          (zip_mapped (IsResourceOf layer c.args.found.entries.items) (IsResourceIn layer c.args.found.entries.items) (λ e. (string_bytes e.0, string_bytes e.1, e.2)) (λ t r is. is) c.args.found.resources.items (numbered_resources layer) held.by_uri);
+      name = subst (λ l. AllZip (IsNameIn layer c.args.found.entries.items) l (numbered_names layer)) (sym c.in_ok-by_name.ensures.entered)
+          (zip_mapped (IsNameOf layer c.args.found.entries.items) (IsNameIn layer c.args.found.entries.items) (λ e. (string_bytes e.0, string_bytes e.1, e.2)) (λ t n is. is) c.args.found.names.items (numbered_names layer) held.by_name);
       pair = subst (λ l. AllZip (IsPairIn by_uri) l (pairs layer)) (sym entered)
           (zip_mapped (IsNumberedPair by_uri) (IsPairIn by_uri) (λ e. (string_bytes e.0, string_bytes e.1, e.2)) (λ t p is. is) c.set_entries.new.pairs (pairs layer) numbers);
       children = c.requires.children;

@@ -17,5 +17,5 @@ returns-in-Some-clause-place c =
     let w = world_in l in
     let uri = c.args.uri.now in
     let place = c.place_of-place.result in
-    let there = c.place_of-place.ensures (last_under uri (resources l.own.now)) c.in-Some.ensures.value in
+    let there = c.place_of-place.ensures.place (last_under uri (resources l.own.now)) c.in-Some.ensures.value in
     subst (λ u. IfSome place (IsMeant (meant_place w u))) (sym (c.in_ok-clone.ensures.cases ∙ c.in-Some.ensures.base)) (meant_near l.own.now (map (λ p. p.now) l.parents.now) uri place there)

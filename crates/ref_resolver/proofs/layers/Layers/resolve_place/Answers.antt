@@ -11,5 +11,5 @@ returns-in-Some-clause-place c =
     let w = world_in l in
     let uri = c.in-Some.found.uri.now.value in
     let place = c.place_of-place.result in
-    let there = c.place_of-place.ensures (last_under uri (resources l.own.now)) c.in-Some.ensures.place in
+    let there = c.place_of-place.ensures.place (last_under uri (resources l.own.now)) c.in-Some.ensures.place in
     subst (λ u. IfSome place (IsMeant (meant_place w u))) (sym c.in_ok-clone.ensures.cases) (meant_near l.own.now (map (λ p. p.now) l.parents.now) uri place there)

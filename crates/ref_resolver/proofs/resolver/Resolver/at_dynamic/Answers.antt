@@ -20,7 +20,7 @@ returns-clause-ok c = λ n name dynamic at.
     let uri = c.in_ok-uri.uri.now in
     let place = c.in_ok-uri.place in
     let same = dynamic_moved (world_of c.args.self.now) (moved_resolver (resolver_of c.args.self.now) c.args.uri.value) (world_of there) r n c.args.name.now c.in_ok-resolver.ensures.world c.in_ok-resolver.ensures.resolver name dynamic in
-    let (m, outer, stands, named) = c.in_ok-uri.ensures.ok n at in
+    let (m, outer, stands, named, last) = c.in_ok-uri.ensures.ok n at in
     subst (λ a. IfOk c.under_uri.result (λ f. a ≡ Ok (found_of f))) (sym (same ∙ outer ∙ found_under r uri m place stands)) c.under_uri.ensures.ok
 
 pub returns-clause-fault : goal.returns-clause-fault
@@ -30,5 +30,5 @@ returns-clause-fault c = λ n name dynamic at.
     let uri = c.in_ok-uri.uri.now in
     let place = c.in_ok-uri.place in
     let same = dynamic_moved (world_of c.args.self.now) (moved_resolver (resolver_of c.args.self.now) c.args.uri.value) (world_of there) r n c.args.name.now c.in_ok-resolver.ensures.world c.in_ok-resolver.ensures.resolver name dynamic in
-    let (m, outer, stands, named) = c.in_ok-uri.ensures.ok n at in
+    let (m, outer, stands, named, last) = c.in_ok-uri.ensures.ok n at in
     subst (λ a. IfErr c.under_uri.result (IsFaultOf a)) (sym (same ∙ outer ∙ found_under r uri m place stands)) c.under_uri.ensures.fault

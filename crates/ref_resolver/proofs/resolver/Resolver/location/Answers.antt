@@ -1,6 +1,8 @@
-use Rattle.std.proofs.Common.{◌≡◌, ℕ, List, IfOk, IfErr, None, true, false, lit<, refl, sym, ap, subst, ◌∙◌, rules}
+use Rattle.std.proofs.Common.{◌≡◌, ℕ, List, IfOk, IfErr, None, Some, true, false, lit<, refl, sym, ap, subst, ◌∙◌, rules}
 use Rattle.std.proofs.lemmas.Str.Pattern.{strip_prefix_char}
+use Rattle.percent_encoding.specs.Percent.{percent_decode}
 use Rattle.serde_json.specs.View.{view}
+use Rattle.ref_parts.specs.Pointer.{tokens}
 use Rattle.ref_definitions.specs.Fault.{not_retrieved}
 use Rattle.ref_definitions.specs.Resources.{meant_place}
 use Rattle.ref_definitions.specs.Lookup.{lookup, moved_resolver, at_fragment}
@@ -11,6 +13,10 @@ use Rattle.ref_resolver.specs.inner.Names.{is_name}
 use Rattle.ref_resolver.proofs.Faults.{says_of}
 use Rattle.ref_resolver.proofs.Fragments.{pointer_there, whole_there}
 use Rattle.ref_resolver.proofs.Lookups.{lookup_refused, lookup_absent, lookup_present}
+use Rattle.ref_index.specs.Spots.{Spot, spot_of}
+use Rattle.ref_resolver.specs.Locations.{uri_spot, located, told_by, with_parts, parts_along}
+use Rattle.ref_resolver.proofs.Spotting.{located_at, whole_spot, pointed_spot}
+use Rattle.ref_resolver.proofs.Standing.{if_ok}
 use Rattle.ref_resolver.proofs.resolver.Resolver.location.Goals as goal
 
 pub returns-in_err-uri-clause-fault : goal.returns-in_err-uri-clause-fault
@@ -68,7 +74,7 @@ returns-clause-ok c =
     ∙ whole_there w (moved_resolver r uri) p place fragment at.there.place name none in (
       record { value = view place.value.now; draft = place.entry.now.draft; resolver = moved_resolver r uri },
       same,
-      subst (StandsAt w c.in_ok-location_of-in-None.field-0) (sym at.there.place.value) (c.in_ok-location_of-in-None.ensures w p at),
+      subst (StandsAt w c.in_ok-location_of-in-None.field-0) (sym at.there.place.value) (c.in_ok-location_of-in-None.ensures.there w p at),
     )
 
 pub returns-then-is_name-clause-ok : goal.returns-then-is_name-clause-ok
@@ -80,3 +86,39 @@ pub returns-then-is_name-clause-fault : goal.returns-then-is_name-clause-fault
 returns-then-is_name-clause-fault c =
     let name : is_name c.in_ok-uri.field-0.fragment.now ≡ true = sym c.is_name.ensures ∙ c.if-is_name.true in
     c.location_of_name.ensures.fault c.args.reference.now c.in_ok-uri.ensures.ok (sym c.in_ok-uri.ensures.fragment) name
+
+pub returns-then-is_name-clause-spot : goal.returns-then-is_name-clause-spot
+returns-then-is_name-clause-spot c =
+    let name : is_name c.in_ok-uri.field-0.fragment.now ≡ true = sym c.is_name.ensures ∙ c.if-is_name.true in
+    c.location_of_name.ensures.spot c.args.reference.now c.in_ok-uri.ensures.ok (sym c.in_ok-uri.ensures.fragment) name
+
+pub returns-in-Some-strip_prefix-clause-spot : goal.returns-in-Some-strip_prefix-clause-spot
+returns-in-Some-strip_prefix-clause-spot c =
+    let w = world_of c.args.self.now in
+    let r = resolver_of c.args.self.now in
+    let uri : List ℕ = c.in_ok-uri.field-0.uri.value in
+    let fragment = c.in_ok-uri.field-0.fragment.now in
+    let place = c.in-Some.place in
+    let (p, is, at) = c.in-Some.ensures.value in
+    let text : c.as_str.result.now ≡ uri = search rules in
+    let slash = rw c.in-Some-strip_prefix.is at (strip_prefix_char 47 fragment c.strip_prefix.result c.strip_prefix.ensures.cases (lit< tt)) in
+    let rest = c.in-Some-strip_prefix.text.now in
+    let spot : ℕ × Spot = (place.layer, spot_of place.place.entry.now) in
+    let parts = tokens (percent_decode rest) in
+    let same = located_at w r c.args.reference.now uri fragment c.in_ok-uri.ensures.ok (sym c.in_ok-uri.ensures.fragment)
+    ∙ pointed_spot w (moved_resolver r uri) p spot fragment rest slash (ap (meant_place w) (sym text) ∙ is) (ap (uri_spot w) (sym text) ∙ c.in-Some.ensures.spot)
+    ∙ ap (λ v. Some (with_parts (parts_along fragment v parts) spot)) (sym at.there.place.value) in
+    if_ok (λ l. told_by l ≡ with_parts (parts_along fragment (view place.place.value.now) parts) spot) (λ l. located w r c.args.reference.now ≡ Some (told_by l)) c.location_along.result
+    (λ l there. same ∙ ap Some (sym there)) c.location_along.ensures.spot
+
+pub returns-clause-spot : goal.returns-clause-spot
+returns-clause-spot c =
+    let w = world_of c.args.self.now in
+    let r = resolver_of c.args.self.now in
+    let uri : List ℕ = c.in_ok-uri.field-0.uri.value in
+    let fragment = c.in_ok-uri.field-0.fragment.now in
+    let text : c.as_str.result.now ≡ uri = search rules in
+    let none = rw c.in-None.is at (strip_prefix_char 47 fragment c.strip_prefix.result c.strip_prefix.ensures.cases (lit< tt)) in
+    let name : is_name fragment ≡ false = sym c.is_name.ensures ∙ c.if-is_name.false in
+    located_at w r c.args.reference.now uri fragment c.in_ok-uri.ensures.ok (sym c.in_ok-uri.ensures.fragment) ∙ whole_spot w (moved_resolver r uri) fragment name none
+    ∙ ap (uri_spot w) (sym text) ∙ c.in-Some.ensures.spot ∙ ap Some (sym c.in_ok-location_of-in-None.ensures.spot)

@@ -1,4 +1,4 @@
-use Rattle.std.proofs.Common.{◌≡◌, ℕ, List, IfOk, IfErr, Err, sym, subst, ◌∙◌, rules}
+use Rattle.std.proofs.Common.{◌≡◌, ℕ, List, IfOk, IfErr, Some, Err, sym, ap, subst, ◌∙◌, rules}
 use Rattle.ref_draft.specs.Anchors.{Plain, Dynamic}
 use Rattle.ref_definitions.specs.Anchors.{anchor, not_named}
 use Rattle.ref_definitions.specs.Lookup.{moved_resolver}
@@ -9,6 +9,9 @@ use Rattle.ref_resolver.proofs.Based.{anchor_means}
 use Rattle.ref_resolver.proofs.Fragments.{plain_there}
 use Rattle.ref_resolver.proofs.Names.{lookup_found}
 use Rattle.ref_resolver.proofs.Naming.{anchor_has, answered}
+use Rattle.ref_resolver.specs.Locations.{anchor_spot, naming_uri, located, told_by}
+use Rattle.ref_resolver.proofs.Spotting.{located_at, named_spot, plainly}
+use Rattle.ref_resolver.proofs.Standing.{if_ok}
 use Rattle.ref_resolver.proofs.resolver.Resolver.location_of_name.Goals as goal
 
 pub returns-in_default-clause-fault : goal.returns-in_default-clause-fault
@@ -22,7 +25,7 @@ returns-then-found-clause-ok c = λ reference is fragment name.
     let w = world_of c.args.self.now in
     let uri : List ℕ = c.args.uri.value in
     let text : c.as_str.result.now ≡ uri = search rules in
-    let (n, found, (kind, at)) = rw text at c.in-Some.ensures in
+    let (n, found, (kind, at)) = rw text at c.in-Some.ensures.value in
     let dynamic : n.kind ≡ Dynamic = sym kind ∙ search rules in
     let same = lookup_found w (resolver_of c.args.self.now) reference uri c.args.name.now n is (anchor_means w uri c.args.name.now n found) fragment name (answered (anchor w uri c.args.name.now) n found) in
     subst (λ a. IfOk c.location_of_dynamic.result (IsWhere w a)) (sym same) (c.location_of_dynamic.ensures.ok n (anchor_has w uri c.args.name.now n found) dynamic at.there.place (answered (anchor w uri c.args.name.now) n found))
@@ -32,7 +35,7 @@ returns-then-found-clause-fault c = λ reference is fragment name.
     let w = world_of c.args.self.now in
     let uri : List ℕ = c.args.uri.value in
     let text : c.as_str.result.now ≡ uri = search rules in
-    let (n, found, (kind, at)) = rw text at c.in-Some.ensures in
+    let (n, found, (kind, at)) = rw text at c.in-Some.ensures.value in
     let dynamic : n.kind ≡ Dynamic = sym kind ∙ search rules in
     let same = lookup_found w (resolver_of c.args.self.now) reference uri c.args.name.now n is (anchor_means w uri c.args.name.now n found) fragment name (answered (anchor w uri c.args.name.now) n found) in
     subst (λ a. IfErr c.location_of_dynamic.result (IsFaultOf a)) (sym same) (c.location_of_dynamic.ensures.fault n (anchor_has w uri c.args.name.now n found) dynamic at.there.place (answered (anchor w uri c.args.name.now) n found))
@@ -43,10 +46,36 @@ returns-clause-ok c = λ reference is fragment name.
     let r = resolver_of c.args.self.now in
     let uri : List ℕ = c.args.uri.value in
     let text : c.as_str.result.now ≡ uri = search rules in
-    let (n, found, (kind, at)) = rw text at c.in-Some.ensures in
+    let (n, found, (kind, at)) = rw text at c.in-Some.ensures.value in
     let plain : n.kind ≡ Plain = sym kind ∙ search rules in
     let same = lookup_found w r reference uri c.args.name.now n is (anchor_means w uri c.args.name.now n found) fragment name (answered (anchor w uri c.args.name.now) n found) in (
       record { value = n.place.value; draft = n.place.draft; resolver = moved_resolver r uri },
       same ∙ plain_there w (moved_resolver r uri) n plain,
-      c.in_ok-location_of.ensures w n.place at,
+      c.in_ok-location_of.ensures.there w n.place at,
     )
+
+pub returns-then-found-clause-spot : goal.returns-then-found-clause-spot
+returns-then-found-clause-spot c = λ reference is fragment name.
+    let w = world_of c.args.self.now in
+    let r = resolver_of c.args.self.now in
+    let uri : List ℕ = c.args.uri.value in
+    let text : c.as_str.result.now ≡ uri = search rules in
+    let (n, found, (kind, at)) = rw text at c.in-Some.ensures.value in
+    let dynamic : n.kind ≡ Dynamic = sym kind ∙ search rules in
+    let means = answered (anchor w uri c.args.name.now) n found in
+    let same = located_at w r reference uri c.args.name.now is fragment ∙ named_spot w (moved_resolver r uri) c.args.name.now n name means in
+    if_ok (λ l. anchor_spot w (naming_uri w (moved_resolver r uri) n n.kind) c.args.name.now ≡ Some (told_by l)) (λ l. located w r reference ≡ Some (told_by l)) c.location_of_dynamic.result
+    (λ l there. same ∙ there) (c.location_of_dynamic.ensures.spot n (anchor_has w uri c.args.name.now n found) dynamic at.there.place means)
+
+pub returns-clause-spot : goal.returns-clause-spot
+returns-clause-spot c = λ reference is fragment name.
+    let w = world_of c.args.self.now in
+    let r = resolver_of c.args.self.now in
+    let uri : List ℕ = c.args.uri.value in
+    let text : c.as_str.result.now ≡ uri = search rules in
+    let (n, found, (kind, at)) = rw text at c.in-Some.ensures.value in
+    let plain : n.kind ≡ Plain = sym kind ∙ search rules in
+    let means = answered (anchor w uri c.args.name.now) n found in
+    let there = rw text at c.in-Some.ensures.spot in
+    located_at w r reference uri c.args.name.now is fragment ∙ named_spot w (moved_resolver r uri) c.args.name.now n name means
+    ∙ ap (λ u. anchor_spot w u c.args.name.now) (plainly w (moved_resolver r uri) n plain) ∙ there ∙ ap Some (sym c.in_ok-location_of.ensures.spot)

@@ -1,10 +1,13 @@
-use Rattle.std.proofs.Common.{◌≡◌, map, Ok, true, false, sym, ap, subst, ◌∙◌, rules}
+use Rattle.std.proofs.Common.{◌≡◌, cond, codes, map, None, Ok, true, false, sym, ap, subst, ◌∙◌, rules}
+use Rattle.std.specs.List.{take_while, last_or}
+use Rattle.std.specs.Option.{unwrap_or}
 use Rattle.ref_definitions.specs.Lookup.{lookup}
-use Rattle.ref_definitions.specs.Recursive.{is_marked, lookup_recursive, outermost_marked}
+use Rattle.ref_definitions.specs.Recursive.{is_marked, answers_marked, lookup_recursive, outermost_marked}
 use Rattle.ref_error.specs.Errors.{IsFaultOf}
 use Rattle.ref_resolver.specs.Resolving.{resolver_of, world_of, found_of}
 use Rattle.ref_resolver.proofs.Faults.{fault_as}
-use Rattle.ref_resolver.proofs.Lookups.{recursive_refused, recursive_first, recursive_marked, marked_turn, unmarked_turn, fault_turn}
+use Rattle.ref_resolver.proofs.Lookups.{recursive_refused, recursive_first, recursive_marked, while_step, while_ended, marked_turn, unmarked_turn, fault_turn}
+use Rattle.ref_resolver.specs.Locations.{recursive_reference}
 use Rattle.ref_resolver.proofs.resolver.Resolver.recursive.Goals as goal
 
 pub returns-in_err-resolved-clause-fault : goal.returns-in_err-resolved-clause-fault
@@ -20,7 +23,12 @@ returns-then-not-is_marked-clause-ok c =
 pub loop-uri-init : goal.loop-uri-init
 loop-uri-init c =
     let marked : is_marked (found_of c.in_ok-resolved.resolved).value ≡ true = search rules in
-    let same = recursive_marked (world_of c.args.self.now) (resolver_of c.args.self.now) (found_of c.in_ok-resolved.resolved) c.in_ok-resolved.ensures.ok marked in
+    let w = world_of c.args.self.now in
+    let r = resolver_of c.args.self.now in
+    let same = recursive_marked w r (found_of c.in_ok-resolved.resolved) c.in_ok-resolved.ensures.ok marked in
+    let first : answers_marked (lookup w r (codes "#")) ≡ true = ap answers_marked c.in_ok-resolved.ensures.ok ∙ marked in
+    let text : recursive_reference w r ≡ unwrap_or (last_or None (take_while (λ uri. answers_marked (lookup w r uri)) r.scope)) (codes "#") =
+    ap (λ t. cond t (unwrap_or (last_or None (take_while (λ uri. answers_marked (lookup w r uri)) r.scope)) (codes "#")) (codes "#")) first in
     search rules
 
 pub loop-uri-preserved : goal.loop-uri-preserved
@@ -36,6 +44,8 @@ loop-uri-preserved c =
           ∙ marked_turn first (found_of c.in_ok-outer.outer) (lookup w r c.in-Some.uri.now) (map (lookup w r) c.next.new.self) there marked,
       c.in_ok-outer.ensures.ok,
       search rules,
+      c.loop-uri.invariant.3 ∙ ap (λ xs. unwrap_or (last_or None (take_while (λ uri. answers_marked (lookup w r uri)) xs)) c.loop-uri.reference.now) c.in-Some.ensures.steps
+          ∙ while_step (λ uri. answers_marked (lookup w r uri)) c.in-Some.uri.now c.loop-uri.reference.now c.next.new.self (ap answers_marked there ∙ marked) ∙ ap (λ t. unwrap_or (last_or None (take_while (λ uri. answers_marked (lookup w r uri)) c.next.new.self)) t) (sym text),
       search rules,
       tt,
       tt,
@@ -64,3 +74,27 @@ returns-then-not-is_marked-2-clause-ok c =
     c.loop-uri.invariant.0
     ∙ ap (λ xs. outermost_marked (Ok first) (map (lookup w r) xs)) c.in-Some.ensures.steps
     ∙ unmarked_turn first (found_of c.in_ok-outer.outer) (lookup w r c.in-Some.uri.now) (map (lookup w r) c.next.new.self) there unmarked
+
+pub returns-then-not-is_marked-clause-text : goal.returns-then-not-is_marked-clause-text
+returns-then-not-is_marked-clause-text c =
+    let w = world_of c.args.self.now in
+    let r = resolver_of c.args.self.now in
+    let unmarked : is_marked (found_of c.in_ok-resolved.resolved).value ≡ false = search rules in
+    let first : answers_marked (lookup w r (codes "#")) ≡ false = ap answers_marked c.in_ok-resolved.ensures.ok ∙ unmarked in
+    ap (λ t. cond t (unwrap_or (last_or None (take_while (λ uri. answers_marked (lookup w r uri)) r.scope)) (codes "#")) (codes "#")) first
+
+pub returns-then-not-is_marked-2-clause-text : goal.returns-then-not-is_marked-2-clause-text
+returns-then-not-is_marked-2-clause-text c =
+    let w = world_of c.args.self.now in
+    let r = resolver_of c.args.self.now in
+    let unmarked : is_marked (found_of c.in_ok-outer.outer).value ≡ false = search rules in
+    let text : c.as_str-text.result.now ≡ c.in-Some.uri.now = search rules in
+    let there : lookup w r c.in-Some.uri.now ≡ Ok (found_of c.in_ok-outer.outer) = ap (lookup w r) (sym text) ∙ c.in_ok-outer.ensures.ok in
+    c.loop-uri.invariant.3 ∙ ap (λ xs. unwrap_or (last_or None (take_while (λ uri. answers_marked (lookup w r uri)) xs)) c.loop-uri.reference.now) c.in-Some.ensures.steps
+    ∙ while_ended (λ uri. answers_marked (lookup w r uri)) c.in-Some.uri.now c.loop-uri.reference.now c.next.new.self (ap answers_marked there ∙ unmarked)
+
+pub returns-clause-text : goal.returns-clause-text
+returns-clause-text c =
+    let w = world_of c.args.self.now in
+    let r = resolver_of c.args.self.now in
+    c.loop-uri.invariant.3 ∙ ap (λ xs. unwrap_or (last_or None (take_while (λ uri. answers_marked (lookup w r uri)) xs)) c.loop-uri.reference.now) c.in-None.ensures.steps.0

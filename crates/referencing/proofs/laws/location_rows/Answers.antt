@@ -1,0 +1,31 @@
+use Rattle.std.proofs.Common.{◌≡◌, ℕ, List, Option, None, Some, refl, ap, arith}
+use Rattle.ref_parts.specs.Path.{Part}
+use Rattle.ref_definitions.proofs.OnLiterals.{world_on_literals}
+use Rattle.ref_index.specs.Spots.{Spot}
+use Rattle.ref_resolver.specs.Locations.{located}
+use Rattle.referencing.specs.Rows.{spot}
+use Rattle.referencing.proofs.laws.location_rows.Goals as goal
+
+abbrev number : Option (ℕ × Spot) → ℕ
+number None = 0
+number (Some at) = at.1.document
+
+same_document : (m n : ℕ) (path : List Part) → spot 0 m path ≡ spot 0 n path → m ≡ n
+same_document m n path is = ap number is
+
+pub returns : goal.returns
+unfolding world_on_literals located
+returns c = record {
+  rows = record {
+    first_of_two = refl;
+    second_of_two = refl;
+    not_the_other = λ is. let same : 1 ≡ 0 = same_document 1 0 _ is in omega (arith, same);
+    by_pointer = refl;
+    last_identifier = refl;
+    last_anchor = refl;
+    own_anchor = refl;
+    of_a_parent = refl;
+    nowhere = refl;
+    not_marked = refl;
+  };
+}
