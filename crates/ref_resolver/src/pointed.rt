@@ -1,7 +1,8 @@
 //! The walk along the pointer of a reference's fragment (RFC 6901), with the base URI along it.
 ghost use Rattle.std.specs.Prelude.{◌≡◌, ◌≢◌, ◌==◌, ◌∷◌, ◌++◌, All, position, IfOk, IfErr, MatchOption, option_map, ok_or, Ok, None, if◌then◌else◌};
 ghost use Rattle.serde_json.specs.View.{view};
-ghost use Rattle.ref_parts.specs.Pointer.{slash, tokens};
+ghost use Rattle.std.specs.Cow.{cow_str_bytes};
+ghost use Rattle.ref_parts.specs.Pointer.{slash, tilde, tokens, unescape};
 ghost use Rattle.ref_draft.specs.Schema.{identifier};
 ghost use Rattle.ref_definitions.specs.Pointers as world;
 ghost use Rattle.ref_definitions.specs.Fault.{PointerToNowhere, InvalidArrayIndex, InvalidPercentEncoding};
@@ -16,6 +17,7 @@ use ref_parts::escape::unescape_segment;
 use ref_uri::Uri;
 use serde_json::Value;
 use std::alloc::{AllocError, Global};
+use std::borrow::CowStr;
 use std::rc::Rc;
 
 /// A value on the way of a pointer, with the base there and what the parts since it last changed lead to.
@@ -97,6 +99,25 @@ fn index_in(alloc: Global, pointer: &str, token: &str) -> Result<usize, Error>
     }
 }
 
+// Where the first `~` of a token stands. A search by bytes, as that for a `/`.
+#[inline(always)]
+fn tilde_in(token: &str) -> Option<usize>
+    ensures { result ≡ position (λ b. b == tilde) token.now }
+{
+    token.as_bytes().iter().position(|byte| *byte == b'~')
+}
+
+// A token as a key. One without `~` is borrowed at once.
+#[inline(always)]
+fn key_of<'t>(alloc: Global, token: &'t str) -> Result<CowStr<'t>, AllocError>
+    ensures { IfOk result (λ key. cow_str_bytes key ≡ unescape token.now) }
+{
+    match tilde_in(token) {
+        Some(_) => unescape_segment(alloc, token),
+        None => Ok(CowStr::Borrowed(token)),
+    }
+}
+
 // The value that a token leads to, and what the parts lead to with the one that it is.
 #[inline(always)]
 fn step_into<'r>(
@@ -118,7 +139,7 @@ fn step_into<'r>(
         let item = found(alloc, walk.pointer, value.get(index))?;
         return Ok((reached.index(), item));
     }
-    let key = unescape_segment(alloc, token)?;
+    let key = key_of(alloc, token)?;
     let member = found(alloc, walk.pointer, value.get(key.as_str()))?;
     Ok((reached.key(walk.draft, key.as_str()), member))
 }
@@ -294,6 +315,14 @@ fn follow_decoded<'r>(
     }
 }
 
+// Where the first `%` of a text stands. A search by bytes, as that for a `/`.
+#[inline(always)]
+fn percent_in(text: &str) -> Option<usize>
+    ensures { result ≡ position (λ b. b == 37) text.now }
+{
+    text.as_bytes().iter().position(|byte| *byte == b'%')
+}
+
 /// The value that a pointer leads to from the value of a resource, with the base there (RFC 6901, 3, 4 and 6): `text` is what
 /// is after the fragment's first `/`.
 ///
@@ -318,7 +347,7 @@ pub(crate) fn follow_pointer<'r>(
         (pointed_to walk.entry.draft walk.entry.pointer.now base.value
         (view value.now) text.now)) }
 {
-    match text.split_once('%') {
+    match percent_in(text) {
         Some(_) => follow_decoded(alloc, walk, base, value, text),
         None => walk_from(alloc, walk, base, value, text),
     }

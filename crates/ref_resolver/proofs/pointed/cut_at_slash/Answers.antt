@@ -5,7 +5,7 @@ use Rattle.ref_resolver.proofs.pointed.cut_at_slash.Goals as goal
 
 pub returns-in_err-place : goal.returns-in_err-place
 returns-in_err-place c =
-    let none = uncut c.args.text.now (sym c.slash_in.ensures ∙ c.in_err-place.was) in
+    let none = uncut 47 c.args.text.now (sym c.slash_in.ensures ∙ c.in_err-place.was) in
     search rules
 
 pub split_at-requires : goal.split_at-requires
