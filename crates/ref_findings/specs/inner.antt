@@ -1,6 +1,7 @@
 -- What no public clause cites.
 pub mod Keywords
 pub mod Meanings
+pub mod PlaceView
 pub mod Seen
 pub mod Queue
 pub mod Wanted

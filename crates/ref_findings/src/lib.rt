@@ -16,6 +16,7 @@ mod problem;
 mod site;
 mod source;
 mod survey;
+mod surveyed;
 mod texts;
 mod walk;
 

@@ -15,6 +15,7 @@ use crate::fault::is_any_faulty;
 use crate::place::Place;
 use crate::site::Site;
 use crate::source::Source;
+use crate::surveyed::Survey;
 use crate::walk::places_of;
 use ref_draft::Draft;
 use ref_index::queue::Visit;
@@ -23,15 +24,6 @@ use ref_index::{Contents, Document, Index};
 use ref_uri::UriFault;
 use serde_json::Value;
 use std::alloc::{AllocError, Global};
-
-/// A source with its places, and whether it is JSON without a text that means no URI.
-#[derive(Drop)]
-pub(crate) struct Survey<'s, 'v> {
-    pub source: &'s Source<'v>,
-    pub places: Vec<Place<'v>>,
-    pub is_sound: bool,
-    ghost stand: { AllByRecursion ChildrenStandAt (map place_of places.items) },
-}
 
 // The source with its places.
 fn survey_of<'s, 'v>(
