@@ -2,13 +2,14 @@
 use crate::console::Console;
 use crate::write::write_file;
 use clap::ArgMatches;
+use percent_encoding::{DecodeError, percent_decode};
 use ref_bundle::{Bundle, BundleError, Embedded, Obstacle, Refusal};
 use ref_draft::Draft;
 use ref_error::Error;
 use ref_findings::{Finding, Problem};
 use ref_messages::push_text;
 use ref_parts::path::JsonPointerSegment;
-use ref_parts::pointer_of;
+use ref_parts::{pointer_of, unescape_segment};
 use ref_positions::splice::{Added, Part, with_added, with_parts};
 use ref_project::describe::{Describer, order_of};
 use ref_project::given::{Given, faulty_of, read_file};
@@ -19,7 +20,8 @@ use ref_reading::Stop;
 use ref_reading::document::parsed;
 use ref_reading::options::maps;
 use ref_uri::UriRef;
-use referencing::Registry;
+use ref_uri::parts::parts;
+use referencing::{Registry, ResourceRef};
 use serde_json::Value;
 use std::alloc::{AllocError, Global};
 
@@ -238,12 +240,9 @@ impl<'d, 'l, 'w, 'o> Sources<'d, 'l, 'w, 'o> {
         let Some(root) = self.read.documents.first() else {
             return Ok(());
         };
-        let keyword = self.draft(0).id_keyword();
-        let id = bundle
-            .value
-            .get(keyword)
-            .and_then(Value::as_str)
-            .unwrap_or("");
+        let draft = self.draft(0);
+        let keyword = draft.id_keyword();
+        let id = ResourceRef::new(&bundle.value, draft).id().unwrap_or("");
         if !bundle.embedded.is_empty() && !is_absolute(id) {
             let _ = eprintln!(rt;
                 "patchsard: note: the bundle has no absolute {keyword}; its references keep their meaning where it is read under {}",
@@ -407,16 +406,94 @@ impl<'d, 'l, 'w, 'o> Sources<'d, 'l, 'w, 'o> {
         let alloc = rt.alloc();
         let path = refusal.path.as_slice();
         let place = self.place(rt, given, refusal.document, path)?;
-        let pointer = pointer_of(alloc, path)?;
         let problem = &refusal.problem;
         let text = text_of(alloc, problem)?;
         let _ = eprintln!(rt; "{place}: error: {text}");
-        if !pointer.is_empty() {
-            let _ = eprintln!(rt; "    at '{pointer}'");
-        }
+        self.say_reference(rt, refusal)?;
         self.say_other(rt, given, problem)?;
         let _ = eprintln!(rt; "    help: {}", advice(problem));
         Ok(1)
+    }
+
+    // Says which reference is refused, where one is, and the pointer to its place.
+    fn say_reference(&self, rt: &HostRuntime, refusal: &Refusal<'_>) -> Result<(), Stop> {
+        let alloc = rt.alloc();
+        let pointer = pointer_of(alloc, refusal.path.as_slice())?;
+        let places = self.world.places(alloc)?;
+        for place in &places {
+            if place.document == refusal.document
+                && pointer_of(alloc, place.path.as_slice())?.as_str() == pointer.as_str()
+            {
+                if let Some((keyword, text)) = self.refused(alloc, place, &refusal.problem)? {
+                    let _ = eprintln!(rt; "    {keyword} '{text}' at '{pointer}'");
+                    return Ok(());
+                }
+            }
+        }
+        let _ = eprintln!(rt; "    at '{pointer}'");
+        Ok(())
+    }
+
+    // The keyword and the text of the reference of a place that has a problem.
+    fn refused<'p>(
+        &self,
+        alloc: Global,
+        place: &ref_index::Place<'p>,
+        problem: &ref_bundle::Problem<'_>,
+    ) -> Result<Option<(&'static str, &'p str)>, Stop> {
+        for keyword in ["$ref", "$dynamicRef", "$schema"] {
+            if let Some(text) = place.value.get(keyword).and_then(Value::as_str) {
+                if self.is_refused(alloc, place, text, problem)? {
+                    return Ok(Some((keyword, text)));
+                }
+            }
+        }
+        Ok(None)
+    }
+
+    // Whether a reference of a place is the one that has a problem.
+    fn is_refused(
+        &self,
+        alloc: Global,
+        place: &ref_index::Place<'_>,
+        text: &str,
+        problem: &ref_bundle::Problem<'_>,
+    ) -> Result<bool, Stop> {
+        let (front, fragment) = parts(text);
+        match problem {
+            ref_bundle::Problem::ReplacedUri { uri, .. } => {
+                self.is_to(alloc, place, front, uri.as_str())
+            }
+            ref_bundle::Problem::ShadowedUri { uri, .. } => {
+                Ok(is_name(fragment) && self.is_to(alloc, place, front, uri.as_str())?)
+            }
+            ref_bundle::Problem::AddedMember { uri, key } => {
+                Ok(
+                    has_key(alloc, fragment, key.as_str())?
+                        && self.is_to(alloc, place, front, uri.as_str())?,
+                )
+            }
+            _ => Ok(false),
+        }
+    }
+
+    // Whether a reference of a place without its fragment gives a URI.
+    fn is_to(
+        &self,
+        alloc: Global,
+        place: &ref_index::Place<'_>,
+        front: &str,
+        uri: &str,
+    ) -> Result<bool, Stop> {
+        match self
+            .world
+            .registry
+            .resolve_uri(alloc, place.base.borrow(), front)
+        {
+            Ok(given) => Ok(given.as_str() == uri),
+            Err(Error::Memory(_)) => Err(Stop::Memory),
+            Err(_) => Ok(false),
+        }
     }
 
     // Says where the other schema is that has the same URI.
@@ -516,7 +593,7 @@ fn text_of(alloc: Global, problem: &ref_bundle::Problem<'_>) -> Result<String, A
         }
         ref_bundle::Problem::AddedMember { uri, key } => {
             format!(in alloc;
-                "It refers to '{key}' at the root of '{}', which has another value in a bundle",
+                "It refers to '{key}' in '{}', which the bundle adds or changes",
                 uri.as_str()
             )
         }
@@ -529,17 +606,57 @@ fn advice(problem: &ref_bundle::Problem<'_>) -> &'static str {
         ref_bundle::Problem::NoDocument => "give a file",
         ref_bundle::Problem::NotEmbedded(obstacle) => embedding_advice(obstacle),
         ref_bundle::Problem::NoMap => "make it an object, or rename the member",
-        ref_bundle::Problem::KeyTaken { .. } => "rename that definition",
-        ref_bundle::Problem::SharedUri { .. } => "give one of them another identifier",
+        ref_bundle::Problem::KeyTaken { .. } => {
+            "rename that definition, or leave the file out that has this URI"
+        }
+        ref_bundle::Problem::SharedUri { .. } => {
+            "give one of them another identifier, or leave the file out that has the other"
+        }
+        ref_bundle::Problem::ReplacedUri { base, .. } if base.as_str().contains('#') => {
+            "the document can't be named by its identifier: give it one without a fragment"
+        }
         ref_bundle::Problem::ReplacedUri { .. } => "refer to the document by its identifier",
         ref_bundle::Problem::ShadowedUri { .. } => "give that other schema another identifier",
-        ref_bundle::Problem::AddedMember { key, .. } if *key == "$schema" => {
-            "give that document the $schema of its draft, or refer to something else"
-        }
-        ref_bundle::Problem::AddedMember { .. } => {
-            "give that document this URI as its identifier, or refer to something else"
-        }
+        ref_bundle::Problem::AddedMember { key, .. } => added_advice(key.as_str()),
     }
+}
+
+// What to change where a pointer leads to a member that a bundle adds or changes.
+fn added_advice(key: &str) -> &'static str {
+    match key {
+        "$schema" => "give that document the $schema of its draft, or refer to something else",
+        "$id" | "id" => "give that document this URI as its identifier, or refer to something else",
+        _ => "refer to that document by its URI",
+    }
+}
+
+// Whether a fragment is a name: not empty, and no pointer.
+fn is_name(fragment: &str) -> bool {
+    !fragment.is_empty() && !fragment.starts_with('/')
+}
+
+// Whether a fragment is a pointer to a member that a bundle adds or changes: its first key is this one, or its second where
+// that is a document's.
+fn has_key(alloc: Global, fragment: &str, key: &str) -> Result<bool, AllocError> {
+    let Some(text) = fragment.strip_prefix('/') else {
+        return Ok(false);
+    };
+    let decoded = match percent_decode(text.as_bytes()).decode_utf8(alloc) {
+        Ok(decoded) => decoded,
+        Err(DecodeError::OutOfMemory) => return Err(AllocError),
+        Err(DecodeError::Utf8(_)) => return Ok(false),
+    };
+    let (first, more) = cut(decoded.as_str());
+    let token = match key {
+        "$schema" | "$id" | "id" => first,
+        _ => cut(more).0,
+    };
+    Ok(unescape_segment(alloc, token)?.as_str() == key)
+}
+
+// What is before the first `/` of a text, and what is after it.
+fn cut(text: &str) -> (&str, &str) {
+    text.split_once('/').unwrap_or((text, ""))
 }
 
 // What to change in a document that can't be embedded.

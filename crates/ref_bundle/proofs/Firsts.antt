@@ -1,5 +1,5 @@
 -- The first of joined lists.
-use Rattle.std.proofs.Common.{◌≡◌, ℕ, zero, suc, ◌+◌, ◌<◌, Bool, true, false, ◌==◌, eqb-true, cond, is_some, slice_get, true≢false, List, [], ◌∷◌, ◌++◌, map, flat_map, take, length, get_or, Option, Some, None, option_map, refl, ap, sym, ◌∙◌, append-nil, arith}
+use Rattle.std.proofs.Common.{◌≡◌, ℕ, zero, suc, ◌+◌, ◌<◌, Bool, true, false, ◌==◌, eqb-true, cond, is_some, slice_get, true≢false, List, [], ◌∷◌, ◌++◌, map, flat_map, take, length, get_or, Option, Some, None, option_map, Result, Ok, Err, IfOk, refl, ap, sym, ◌∙◌, append-nil, arith}
 use Rattle.std.specs.Option.{option_to_list, option_map_or}
 use Rattle.std.proofs.lemmas.List.Concat.{flat_map-append}
 use Rattle.ref_definitions.specs.World.{Document, Layer, World}
@@ -9,12 +9,10 @@ use Rattle.serde_json.specs.Find.{as_object}
 use Rattle.ref_parts.specs.Path.{path_eq}
 use Rattle.ref_parts.specs.Segment.{part_of}
 use Rattle.ref_parts.specs.declared.path.JsonPointerSegment.{JsonPointerSegment}
-use Rattle.ref_draft.specs.declared.draft.Draft.{Draft}
 use Rattle.ref_bundle.specs.Needed.{Site, sites_of_uris, site_under, Reference}
-use Rattle.ref_bundle.specs.Embedding.{is_added_under}
-use Rattle.ref_bundle.specs.Bundle.{Problem, AddedMember, first_key, added_in, at_path, place_problems, place_refusals, shadowed_uri, embedded_problems, reference_problems, reference_problems_by, map_refusals, shared_uri}
+use Rattle.ref_bundle.specs.Bundle.{Problem, AddedMember, root_problems, at_path, place_problems, place_refusals, shadowed_uri, embedded_problems, reference_problems, reference_problems_by, map_refusals, shared_uri}
 use Rattle.ref_bundle.specs.inner.Seen.{Seen, see, seen_in, own_uri_of}
-use Rattle.ref_bundle.specs.inner.First.{first, refusals_seen, shared_seen, taken_in}
+use Rattle.ref_bundle.specs.inner.First.{first, first_found, refusals_seen, shared_seen, taken_in}
 use Rattle.ref_bundle.proofs.Lists.{joined_more}
 
 -- what comes first is first, and else the first after it
@@ -25,6 +23,13 @@ first_front (y ∷ xs) ys x is = is
 pub first_behind : {X : Type 0} (xs ys : List X) → first xs ≡ None → first (xs ++ ys) ≡ first ys
 first_behind [] ys is = refl
 first_behind (y ∷ xs) ys is = cc
+
+-- what one check finds, or else another
+pub passed_on : {X Y E : Type 0} (said : X → Y) (xs ys : List Y) (a b : Result (Option X) E) → IfOk a (λ o. option_map said o ≡ first xs) → IfOk b (λ o. option_map said o ≡ first ys) → IfOk (first_found a b) (λ o. option_map said o ≡ first (xs ++ ys))
+passed_on said xs ys (Ok None) (Ok o) before here = here ∙ sym (first_behind xs ys (sym before))
+passed_on said xs ys (Ok None) (Err error) before here = here
+passed_on said xs ys (Ok (Some x)) b before here = first_front xs ys (said x) before
+passed_on said xs ys (Err error) b before here = before
 
 pub first_mapped : {X Y : Type 0} (f : X → Y) (xs : List X) → first (map f xs) ≡ option_map f (first xs)
 first_mapped f [] = refl
@@ -78,16 +83,16 @@ pub embedded_is : (layer : Layer) (world : World) (top : ℕ × Document) (r : R
     → embedded_problems top.1.draft r s.1 d ≡ reference_problems layer world top r
 embedded_is layer world top r s d under other at =
     let f = embedded_problems top.1.draft r s.1 in
-    sym (ap (reference_problems_by layer world top r) under ∙ ap (λ b. cond b [] (option_map_or f (slice_get layer s.0) [])) other ∙ ap (λ o. option_map_or f o []) at)
+    sym (ap (reference_problems_by layer world top r) under ∙ ap (λ b. cond b (root_problems layer top r s.1) (option_map_or f (slice_get layer s.0) [])) other ∙ ap (λ o. option_map_or f o []) at)
 
 pub embedded_not : (layer : Layer) (world : World) (top : ℕ × Document) (r : Reference) (s : Site) → site_under layer r.uri ≡ Some s → (s.0 == top.0) ≡ false → slice_get layer s.0 ≡ None → [] ≡ reference_problems layer world top r
 embedded_not layer world top r s under other at =
     let f = embedded_problems top.1.draft r s.1 in
-    sym (ap (reference_problems_by layer world top r) under ∙ ap (λ b. cond b [] (option_map_or f (slice_get layer s.0) [])) other ∙ ap (λ o. option_map_or f o []) at)
+    sym (ap (reference_problems_by layer world top r) under ∙ ap (λ b. cond b (root_problems layer top r s.1) (option_map_or f (slice_get layer s.0) [])) other ∙ ap (λ o. option_map_or f o []) at)
 
-pub of_top : (layer : Layer) (world : World) (top : ℕ × Document) (r : Reference) (s : Site) → site_under layer r.uri ≡ Some s → (s.0 == top.0) ≡ true → [] ≡ reference_problems layer world top r
+pub of_top : (layer : Layer) (world : World) (top : ℕ × Document) (r : Reference) (s : Site) → site_under layer r.uri ≡ Some s → (s.0 == top.0) ≡ true → root_problems layer top r s.1 ≡ reference_problems layer world top r
 of_top layer world top r s under same =
-    sym (ap (reference_problems_by layer world top r) under ∙ ap (λ b. cond b [] (option_map_or (embedded_problems top.1.draft r s.1) (slice_get layer s.0) [])) same)
+    sym (ap (reference_problems_by layer world top r) under ∙ ap (λ b. cond b (root_problems layer top r s.1) (option_map_or (embedded_problems top.1.draft r s.1) (slice_get layer s.0) [])) same)
 
 pub of_parent : (layer : Layer) (world : World) (top : ℕ × Document) (r : Reference) → site_under layer r.uri ≡ None → shadowed_uri layer world r ≡ first (reference_problems layer world top r)
 of_parent layer world top r under =
@@ -115,13 +120,12 @@ shared_parts layer uri s =
     ∙ sym (flat_map-append f (cond (path_eq s.path []) (uri ∷ []) []) (option_to_list (own_uri_of s)))
 
 -- a pointer to what is added
-pub added_is : (draft : Draft) (r : Reference) (d : Document) (key : List ℕ) (o : Option (List ℕ)) → first_key r.fragment ≡ Some key → o ≡ cond (is_added_under draft d key) (Some key) None
-    → option_map (AddedMember r.uri) o ≡ first (added_in draft r d)
-added_is draft r d key o begins is =
-    let f : List ℕ → List Problem = λ k. cond (is_added_under draft d k) (AddedMember r.uri k ∷ []) [] in
-    ap (option_map (AddedMember r.uri)) is ∙ by_test (is_added_under draft d key) ∙ sym (ap (λ k. first (option_map_or f k [])) begins)
+pub member_by : (test : List ℕ → Bool) (uri key : List ℕ) (o : Option (List ℕ)) (b : Bool) → o ≡ Some key → test key ≡ b
+    → cond b (Some (AddedMember uri key)) None ≡ first (option_map_or (λ k. cond (test k) (AddedMember uri k ∷ []) []) o [])
+member_by test uri key o b is tested =
+    by_test b ∙ sym (ap (λ x. first (cond x (AddedMember uri key ∷ []) [])) tested) ∙ sym (ap (λ x. first (option_map_or (λ k. cond (test k) (AddedMember uri k ∷ []) []) x [])) is)
   where
-    by_test : (b : Bool) → option_map (AddedMember r.uri) (cond b (Some key) None) ≡ first (cond b (AddedMember r.uri key ∷ []) [])
+    by_test : (x : Bool) → cond x (Some (AddedMember uri key)) None ≡ first (cond x (AddedMember uri key ∷ []) [])
     by_test true = refl
     by_test false = refl
 

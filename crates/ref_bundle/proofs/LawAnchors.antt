@@ -22,7 +22,7 @@ use Rattle.ref_definitions.specs.Anchors.{Named, named_under, named_at, names_in
 use Rattle.ref_definitions.proofs.Alone.{first_or_later}
 use Rattle.ref_bundle.specs.Needed.{counted_documents}
 use Rattle.ref_bundle.specs.Embedding.{base_uri}
-use Rattle.ref_bundle.specs.Bundle.{to_embed}
+use Rattle.ref_bundle.specs.Bundle.{uris_of, to_embed}
 use Rattle.ref_bundle.specs.Kept.{place_in}
 use Rattle.ref_bundle.proofs.LawAlike.{BothAlike, or_alike}
 use Rattle.ref_bundle.proofs.LawEntries.{Under, IsFree, free, each_none, filter_flat}
@@ -41,13 +41,13 @@ use Rattle.ref_bundle.proofs.LawClear.{clear_borne, clear_free}
 pub data IsNowUnder (top : Document) (es : List (ℕ × Document)) (uri : List ℕ) (q p : Place) : Type 0 where
   same_under : q.value ≡ p.value → q.draft ≡ p.draft → q.base ≡ p.base → IsNowUnder top es uri q p
   embedded_under : (e : ℕ × Document) → Contains es e → q ≡ place_in top e.1 → p ≡ root e.1 → uri ≡ base_uri e.1 → IsNowUnder top es uri q p
-  root_under : q ≡ root (joined top es) → p ≡ root top → IsNowUnder top es uri q p
+  root_under : q ≡ root (joined top es) → p ≡ root top → Contains (uris_of top (root top)) uri → IsNowUnder top es uri q p
 
 -- the same, for a name
 pub data IsFoundNow (top : Document) (es : List (ℕ × Document)) (uri name : List ℕ) (kind : Kind) (q p : Place) : Type 0 where
   found_same : q.value ≡ p.value → q.draft ≡ p.draft → IsFoundNow top es uri name kind q p
   found_embedded : (e : ℕ × Document) → Contains es e → q ≡ place_in top e.1 → p ≡ root e.1 → uri ≡ base_uri e.1 → Contains (anchors e.1.draft e.1.tree) (name, kind) → IsFoundNow top es uri name kind q p
-  found_root : q ≡ root (joined top es) → p ≡ root top → IsFoundNow top es uri name kind q p
+  found_root : q ≡ root (joined top es) → p ≡ root top → Contains (uris_of top (root top)) uri → IsFoundNow top es uri name kind q p
 
 pub record NameFound (top : Document) (es : List (ℕ × Document)) (uri : List ℕ) (m n : Named) : Type 0 where
   pub name : m.name ≡ n.name
@@ -64,21 +64,29 @@ based top e q uri put is base =
     let same_uri : uri ≡ put.base = cc in
     same_uri ∙ sym (base_is e.1 put.base put.same_base)
 
-under : (top : Document) (es : List (ℕ × Document)) (uri : List ℕ) (q p : Place) → AllPut top es → IsNow top es q p → (q.base ≡ Ok uri) ⊎ (q ≡ root (joined top es)) → IsNowUnder top es uri q p
-under top es uri q p put (same v d b) found = same_under v d b
-under top es uri q p put (bundle_root now before) found = root_under now before
-under top es uri q p put (embedded_root e there now before) (inl base) = embedded_under e there now before (based top e q uri (each_in (λ x. IsPut (put_in top x)) es e put there) now base)
-under top es uri q p put (embedded_root e there now before) (inr own) = no_root top es q e _ own now
+-- a place of the bundle that is found under its base, or is the root under the root's URI
+abbrev pub IsAt : Document → List (ℕ × Document) → List ℕ → Place → Type 0
+IsAt top es uri q = (q.base ≡ Ok uri) ⊎ ((q ≡ root (joined top es)) × (top.uri ≡ uri))
 
-found : (top : Document) (es : List (ℕ × Document)) (uri name : List ℕ) (kind : Kind) (q p : Place) → AllPut top es → IsNow top es q p → (q.base ≡ Ok uri) ⊎ (q ≡ root (joined top es)) → Contains (anchors q.draft q.value) (name, kind)
+root_bears : (top : Document) (es : List (ℕ × Document)) (uri : List ℕ) (q : Place) → q ≡ root (joined top es) → IsAt top es uri q → Contains (uris_of top (root top)) uri
+root_bears top es uri q now (inl base) = base_borne top uri (sym (same_base top es) ∙ sym (ap (λ (p : Place). p.base) now) ∙ base)
+root_bears top es uri q now (inr own) = (0, omega arith, own.1)
+
+under : (top : Document) (es : List (ℕ × Document)) (uri : List ℕ) (q p : Place) → AllPut top es → IsNow top es q p → IsAt top es uri q → IsNowUnder top es uri q p
+under top es uri q p put (same v d b) found = same_under v d b
+under top es uri q p put (bundle_root now before) found = root_under now before (root_bears top es uri q now found)
+under top es uri q p put (embedded_root e there now before) (inl base) = embedded_under e there now before (based top e q uri (each_in (λ x. IsPut (put_in top x)) es e put there) now base)
+under top es uri q p put (embedded_root e there now before) (inr own) = no_root top es q e _ own.0 now
+
+found : (top : Document) (es : List (ℕ × Document)) (uri name : List ℕ) (kind : Kind) (q p : Place) → AllPut top es → IsNow top es q p → IsAt top es uri q → Contains (anchors q.draft q.value) (name, kind)
     → IsFoundNow top es uri name kind q p
 found top es uri name kind q p put (same v d b) at anchored = found_same v d
-found top es uri name kind q p put (bundle_root now before) at anchored = found_root now before
+found top es uri name kind q p put (bundle_root now before) at anchored = found_root now before (root_bears top es uri q now at)
 found top es uri name kind q p put (embedded_root e there now before) (inl base) anchored =
     let one = each_in (λ x. IsPut (put_in top x)) es e put there in
     found_embedded e there now before (based top e q uri one now base)
     (subst (λ names. Contains names (name, kind)) (ap (λ (x : Place). anchors x.draft x.value) now ∙ one.same_anchors) anchored)
-found top es uri name kind q p put (embedded_root e there now before) (inr own) anchored = no_root top es q e _ own now
+found top es uri name kind q p put (embedded_root e there now before) (inr own) anchored = no_root top es q e _ own.0 now
 
 -- ---- entries of a document
 
@@ -98,15 +106,15 @@ resource_base q p uri (Some u) is there =
     (λ later. absurd (omega (arith, later.1)))
     (first_or_later (u, p) [] (uri, q) there)
 
-entry_base : (d : Document) (uri : List ℕ) (q : Place) → Contains (resources_in d) (uri, q) → (q.base ≡ Ok uri) ⊎ (q ≡ root d)
+entry_base : (d : Document) (uri : List ℕ) (q : Place) → Contains (resources_in d) (uri, q) → (q.base ≡ Ok uri) ⊎ ((q ≡ root d) × (d.uri ≡ uri))
 entry_base d uri q there =
     ⊎_elim
-    (λ own. inr (sym (ap (λ (e : List ℕ × Place). e.1) own)))
+    (λ own. inr (sym (ap (λ (e : List ℕ × Place). e.1) own), ap (λ (e : List ℕ × Place). e.0) own))
     (λ later. let of_place = in_one_of resource_of (places d) (uri, q) later in inl (resource_base q of_place.0 uri (own_uri of_place.0) refl of_place.2))
     (first_or_later (d.uri, root d) (flat_map resource_of (places d)) (uri, q) there)
 
 record IsNamedAt (d : Document) (m : Named) : Type 0 where
-  base : (m.place.base ≡ Ok m.uri) ⊎ (m.place ≡ root d)
+  base : (m.place.base ≡ Ok m.uri) ⊎ ((m.place ≡ root d) × (d.uri ≡ m.uri))
   anchored : Contains (anchors m.place.draft m.place.value) (m.name, m.kind)
 
 named_by_anchor : (base : List ℕ) (p : Place) (m : Named) → Contains (named_under base p) m → (a : List ℕ × Kind) × Contains (anchors p.draft p.value) a × (record { uri = base; name = a.0; kind = a.1; place = p } ≡ m)
@@ -126,7 +134,9 @@ named_at_base d p m (Err refusal) is there = absurd (omega (arith, there.1))
 name_base : (d : Document) (m : Named) → Contains (names_in d) m → IsNamedAt d m
 name_base d m there =
     ⊎_elim
-    (λ own. record { base = inr (sym (ap (λ (n : Named). n.place) (named_by_anchor d.uri (root d) m own).2)); anchored = named_anchored d.uri (root d) m own })
+    (λ own.
+    let one = (named_by_anchor d.uri (root d) m own).2 in
+    record { base = inr (sym (ap (λ (n : Named). n.place) one), ap (λ (n : Named). n.uri) one); anchored = named_anchored d.uri (root d) m own })
     (λ later. let of_place = in_one_of named_at (places d) m later in named_at_base d of_place.0 m of_place.0.base refl of_place.2)
     (Contains-append_cases (named_under d.uri (root d)) (flat_map named_at (places d)) m there)
 
@@ -165,7 +175,7 @@ found_by top es uri name (Some m) (Some n) put is both =
     let passes = and_parts (bytes_eq m.uri uri) (bytes_eq m.name name) kept.passes in
     let own_uri_is : m.uri ≡ uri = (bytes_eq-Decides m.uri uri).0 passes.0 in
     let at = name_base (joined top es) m (subst (λ ns. Contains ns m) (append-nil (names_in (joined top es))) kept.there) in
-    let base : (m.place.base ≡ Ok uri) ⊎ (m.place ≡ root (joined top es)) = subst (λ u. (m.place.base ≡ Ok u) ⊎ (m.place ≡ root (joined top es))) own_uri_is at.base in
+    let base : IsAt top es uri m.place = subst (λ u. IsAt top es u m.place) own_uri_is at.base in
     record { name = both.name; kind = both.kind; place = found top es uri m.name m.kind m.place n.place put both.place base at.anchored }
 
 found_itself : (top : Document) (es : List (ℕ × Document)) (uri : List ℕ) (o : Option Named) → BothAlike (NameFound top es uri) o o
@@ -185,7 +195,7 @@ named_found_now layer parents n top uri name is clear =
 
 pub data Meaning (layer : Layer) (parents : World) (top : Document) (es : List (ℕ × Document)) (uri : List ℕ) (a b : Option Place) : Type 0 where
   nothing : a ≡ None → b ≡ None → Meaning layer parents top es uri a b
-  of_own : (q p : Place) → a ≡ Some q → b ≡ Some p → IsNowUnder top es uri q p → (q.base ≡ Ok uri) ⊎ (q ≡ root (joined top es)) → Meaning layer parents top es uri a b
+  of_own : (q p : Place) → a ≡ Some q → b ≡ Some p → IsNowUnder top es uri q p → IsAt top es uri q → Meaning layer parents top es uri a b
   of_parent : (p : Place) → a ≡ Some p → b ≡ Some p → last_under uri (resources layer) ≡ None → meant_place parents uri ≡ Some p → Meaning layer parents top es uri a b
 
 meaning_by : (layer : Layer) (parents : World) (top : Document) (es : List (ℕ × Document)) (uri : List ℕ) (a b : Option (List ℕ × Place)) (rest : Option Place) → AllPut top es
@@ -199,7 +209,7 @@ meaning_by layer parents top es uri (Some e) (Some f) rest put now before means_
     let kept = last_is (λ (x : List ℕ × Place). bytes_eq x.0 uri) (resources (joined top es ∷ [])) e now in
     let own : e.0 ≡ uri = (bytes_eq-Decides e.0 uri).0 kept.passes in
     let base = entry_base (joined top es) e.0 e.1 (subst (λ rs. Contains rs e) (append-nil (resources_in (joined top es))) kept.there) in
-    let here : (e.1.base ≡ Ok uri) ⊎ (e.1 ≡ root (joined top es)) = subst (λ u. (e.1.base ≡ Ok u) ⊎ (e.1 ≡ root (joined top es))) own base in
+    let here : IsAt top es uri e.1 = subst (λ u. IsAt top es u e.1) own base in
     of_own e.1 f.1 refl refl (under top es uri e.1 f.1 put both.1 here) here
 
 pub meaning : (layer : Layer) (parents : World) (n : ℕ) (top : Document) (uri : List ℕ) → IsMade layer n top → IsClear layer n top (to_embed layer n) uri
@@ -224,7 +234,7 @@ base_before top es uri q p put (same_under v d b) is = sym b ∙ is
 base_before top es uri q p put (embedded_under e there now before own) is =
     let one = each_in (λ x. IsPut (put_in top x)) es e put there in
     ap (λ (x : Place). x.base) before ∙ one.same_base ∙ ap (λ u. Ok u) (sym (base_is e.1 one.base one.same_base) ∙ sym own)
-base_before top es uri q p put (root_under now before) is = ap (λ (x : Place). x.base) before ∙ sym (same_base top es) ∙ sym (ap (λ (x : Place). x.base) now) ∙ is
+base_before top es uri q p put (root_under now before bears) is = ap (λ (x : Place). x.base) before ∙ sym (same_base top es) ∙ sym (ap (λ (x : Place). x.base) now) ∙ is
 
 own_uri_of : (q p : Place) → identifier_of q ≡ identifier_of p → q.base ≡ p.base → own_uri q ≡ own_uri p
 own_uri_of q p ids bases = ap (λ id. option_and_then (λ i. result_ok q.base) id) ids ∙ ap (λ b. option_and_then (λ i. result_ok b) (identifier_of p)) bases
@@ -232,7 +242,7 @@ own_uri_of q p ids bases = ap (λ id. option_and_then (λ i. result_ok q.base) i
 root_own_uri : (top : Document) (es : List (ℕ × Document)) (uri : List ℕ) (q p : Place) → IsNowUnder top es uri q p → q ≡ root (joined top es) → own_uri q ≡ own_uri p
 root_own_uri top es uri q p (same_under v d b) own = own_uri_of q p (ap (λ x. identifier x q.value) d ∙ ap (identifier p.draft) v) b
 root_own_uri top es uri q p (embedded_under e there now before at) own = no_root top es q e _ own now
-root_own_uri top es uri q p (root_under now before) own =
+root_own_uri top es uri q p (root_under now before bears) own =
     own_uri_of q p (ap identifier_of now ∙ identifier_top top es ∙ sym (ap identifier_of before)) (ap (λ (x : Place). x.base) now ∙ same_base top es ∙ sym (ap (λ (x : Place). x.base) before))
 
 -- the root's base is none of an embedded document's
@@ -245,26 +255,26 @@ top_apart layer n top is e there =
     (others_free layer n top is (n, top) (root top) (base_uri top) (root_needed layer (n, top) own) (0, omega arith, refl) (base_borne top (base_uri top) (root_base layer (n, top) is.no_fault own))) at need.1 in
     other_base_of (base_uri top) (base_uri e.1) (root e.1).base (root_base layer e is.no_fault at) free_.bases.0
 
-of_base : (layer : Layer) (n : ℕ) (top : Document) → IsMade layer n top → (uri other : List ℕ) → other ≡ base_uri top → (m k : Named) → NameFound top (to_embed layer n) other m k → NameFound top (to_embed layer n) uri m k
-of_base layer n top is uri other own m k both = record { name = both.name; kind = both.kind; place = by_place both.place }
+of_base : (layer : Layer) (n : ℕ) (top : Document) → IsMade layer n top → (uri other : List ℕ) → Contains (uris_of top (root top)) uri → other ≡ base_uri top → (m k : Named) → NameFound top (to_embed layer n) other m k → NameFound top (to_embed layer n) uri m k
+of_base layer n top is uri other bears own m k both = record { name = both.name; kind = both.kind; place = by_place both.place }
   where
     by_place : IsFoundNow top (to_embed layer n) other m.name m.kind m.place k.place → IsFoundNow top (to_embed layer n) uri m.name m.kind m.place k.place
     by_place (found_same v d) = found_same v d
     by_place (found_embedded e there now before at anchored) = absurd (top_apart layer n top is e there (sym at ∙ own))
-    by_place (found_root now before) = found_root now before
+    by_place (found_root now before others) = found_root now before bears
 
 -- names under the root's base, by whichever URI of the root
-by_root_base : (layer : Layer) (parents : World) (n : ℕ) (top : Document) → IsMade layer n top → (uri name : List ℕ) (o : Option (List ℕ)) → own_uri (root top) ≡ o
+by_root_base : (layer : Layer) (parents : World) (n : ℕ) (top : Document) → IsMade layer n top → (uri name : List ℕ) → Contains (uris_of top (root top)) uri → (o : Option (List ℕ)) → own_uri (root top) ≡ o
     → BothAlike (NameFound top (to_embed layer n) uri) (option_and_then (λ own. named_entry ((joined top (to_embed layer n) ∷ []) ∷ parents) own name) o) (option_and_then (λ own. named_entry (layer ∷ parents) own name) o)
-by_root_base layer parents n top is uri name None own = tt
-by_root_base layer parents n top is uri name (Some other) own =
+by_root_base layer parents n top is uri name bears None own = tt
+by_root_base layer parents n top is uri name bears (Some other) own =
     let es = to_embed layer n in
     let root_there = root_counted layer n top is.at in
     let base : (root top).base ≡ Ok other = own_base other (root top) own in
     let same_uri : other ≡ base_uri top = sym (base_is top other base) in
     let clear = clear_borne layer n top is (n, top) (root top) other (root_needed layer (n, top) root_there) (0, omega arith, refl) (base_borne top other base) (λ apart_ own_. absurd (apart_ refl)) in
     weaker (NameFound top es other) (NameFound top es uri) (named_entry ((joined top es ∷ []) ∷ parents) other name) (named_entry (layer ∷ parents) other name)
-    (of_base layer n top is uri other same_uri) (named_found_now layer parents n top other name is clear)
+    (of_base layer n top is uri other bears same_uri) (named_found_now layer parents n top other name is clear)
 
 -- names under a URI that no own document has are those of the parents
 parents_alone : (layer : Layer) (parents : World) (n : ℕ) (top : Document) → IsMade layer n top → (uri other name : List ℕ) → last_under other (resources layer) ≡ None
@@ -300,13 +310,14 @@ identified_by layer parents n top is uri name a b (of_own q p now before place (
     (ap (λ x. option_and_then (λ own. named_entry (layer ∷ parents) own name) (option_and_then own_uri x)) before ∙ no_other (layer ∷ parents) uri name p (base_before top es uri q p (all_put layer n top is) place base) second)
 identified_by layer parents n top is uri name a b (of_own q p now before place (inr own)) outside first second =
     let es = to_embed layer n in
-    let same_own : own_uri q ≡ own_uri p = root_own_uri top es uri q p place own in
-    let of_root : own_uri q ≡ own_uri (root top) = ap own_uri own ∙ root_own_uri top es uri (root (joined top es)) (root top) (root_under refl refl) refl in
+    let bears : Contains (uris_of top (root top)) uri = (0, omega arith, own.1) in
+    let same_own : own_uri q ≡ own_uri p = root_own_uri top es uri q p place own.0 in
+    let of_root : own_uri q ≡ own_uri (root top) = ap own_uri own.0 ∙ root_own_uri top es uri (root (joined top es)) (root top) (root_under refl refl bears) refl in
     subst (λ x. BothAlike (NameFound top es uri) (option_and_then (λ o. named_entry ((joined top es ∷ []) ∷ parents) o name) (option_and_then own_uri x)) (option_and_then (λ o. named_entry (layer ∷ parents) o name) (option_and_then own_uri b))) (sym now)
     (subst (λ y. BothAlike (NameFound top es uri) (option_and_then (λ o. named_entry ((joined top es ∷ []) ∷ parents) o name) (own_uri q)) (option_and_then (λ o. named_entry (layer ∷ parents) o name) (option_and_then own_uri y))) (sym before)
     (subst (λ y. BothAlike (NameFound top es uri) (option_and_then (λ o. named_entry ((joined top es ∷ []) ∷ parents) o name) (own_uri q)) (option_and_then (λ o. named_entry (layer ∷ parents) o name) y)) same_own
     (subst (λ y. BothAlike (NameFound top es uri) (option_and_then (λ o. named_entry ((joined top es ∷ []) ∷ parents) o name) y) (option_and_then (λ o. named_entry (layer ∷ parents) o name) y)) (sym of_root)
-    (by_root_base layer parents n top is uri name (own_uri (root top)) refl))))
+    (by_root_base layer parents n top is uri name bears (own_uri (root top)) refl))))
 identified_by layer parents n top is uri name a b (of_parent p now before none means_) outside first second =
     let es = to_embed layer n in
     subst (λ x. BothAlike (NameFound top es uri) (option_and_then (λ o. named_entry ((joined top es ∷ []) ∷ parents) o name) (option_and_then own_uri x)) (option_and_then (λ o. named_entry (layer ∷ parents) o name) (option_and_then own_uri b))) (sym now)

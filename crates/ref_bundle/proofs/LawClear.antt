@@ -8,7 +8,7 @@ use Rattle.ref_definitions.specs.Places.{Place, places}
 use Rattle.ref_parts.specs.Path.{Part, path_eq}
 use Rattle.ref_bundle.specs.Needed.{counted_documents, Site, site_under, document_under, Reference, references, targets, is_among, numbers_of_needed, needed_documents}
 use Rattle.ref_bundle.specs.Embedding.{base_uri}
-use Rattle.ref_bundle.specs.Bundle.{ReplacedUri, uris_of, replaced_in, added_in, embedded_problems, reference_problems_by, to_embed}
+use Rattle.ref_bundle.specs.Bundle.{ReplacedUri, uris_of, replaced_in, added_in, embedded_problems, root_problems, reference_problems_by, to_embed}
 use Rattle.ref_bundle.proofs.LawEntries.{IsFree, front_empty}
 use Rattle.ref_bundle.proofs.LawBorne.{IsPut}
 use Rattle.ref_bundle.proofs.LawEmbedded.{base_is}
@@ -88,7 +88,7 @@ not_both true true uri base none is = refl
 not_both true false uri base none is = absurd (let e : ReplacedUri uri base ∷ [] ≡ [] = none in cc)
 not_both false b uri base none is = absurd (true≢false (sym is))
 
-stays_by : (layer : Layer) (n : ℕ) (top : Document) (r : Reference) (path : List Part) (x : ℕ × Document) (b : Bool) → (x.0 == n) ≡ b → cond b [] (option_map_or (embedded_problems top.draft r path) (slice_get layer x.0) []) ≡ [] → slice_get layer x.0 ≡ Some x.1 → Stays n x r.uri
+stays_by : (layer : Layer) (n : ℕ) (top : Document) (r : Reference) (path : List Part) (x : ℕ × Document) (b : Bool) → (x.0 == n) ≡ b → cond b (root_problems layer (n, top) r path) (option_map_or (embedded_problems top.draft r path) (slice_get layer x.0) []) ≡ [] → slice_get layer x.0 ≡ Some x.1 → Stays n x r.uri
 stays_by layer n top r path x true same none at other own = absurd (other (eqb-true x.0 n same))
 stays_by layer n top r path x false same none at other own =
     let all : embedded_problems top.draft r path x.1 ≡ [] = sym (ap (λ o. option_map_or (embedded_problems top.draft r path) o []) at) ∙ none in
@@ -107,8 +107,8 @@ clear_reference_by layer n top is e p r need place refers (Some s) means =
     let x_needed = target_needed layer (n, top) e x p r.uri (root_counted layer n top is.at) need place target own bearer.document in
     let none : reference_problems_by layer is.world (n, top) r (Some s) ≡ [] =
     sym (ap (reference_problems_by layer is.world (n, top) r) means) ∙ no_reference_problem layer is.world (n, top) e p r (no_problem layer is.world n top e p (none_in layer is.world n top e is.unrefused need) place) refers in
-    let of_x : cond (x.0 == n) [] (option_map_or (embedded_problems top.draft r s.1) (slice_get layer x.0) []) ≡ [] =
-    subst (λ m. cond (m == n) [] (option_map_or (embedded_problems top.draft r s.1) (slice_get layer m) []) ≡ []) (sym found.2) none in
+    let of_x : cond (x.0 == n) (root_problems layer (n, top) r s.1) (option_map_or (embedded_problems top.draft r s.1) (slice_get layer x.0) []) ≡ [] =
+    subst (λ m. cond (m == n) (root_problems layer (n, top) r s.1) (option_map_or (embedded_problems top.draft r s.1) (slice_get layer m) []) ≡ []) (sym found.2) none in
     clear_borne layer n top is x found.1 r.uri x_needed bearer.place bearer.bears (stays_by layer n top r s.1 x (x.0 == n) refl of_x at)
 
 pub clear_reference : (layer : Layer) (n : ℕ) (top : Document) → IsMade layer n top → (e : ℕ × Document) (p : Place) (r : Reference) → Contains (needed_documents layer n) e → Contains (places e.1) p → Contains (references p) r

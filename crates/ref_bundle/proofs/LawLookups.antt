@@ -3,7 +3,7 @@
 -- 1. Values and drafts: an embedded document has its draft still, and its places have their values, but for what was added.
 -- 2. A dynamic anchor: its identifier against the URI that it was found under gives the same base, and the entries of the scope are
 --    those that were there, each moved to its place in the bundle.
--- 3. A pointer goes the way that it went, unless it goes into definitions that were added, where it was a fault (`LawPointers`, `LawFaults`).
+-- 3. A pointer goes the way that it went, unless it leads to the root's definitions, of which there are more (`LawPointers`).
 -- 4. A fragment is empty, a pointer or a name; a look-up is the URI's place and its fragment. `keeps_references` puts them together.
 use Rattle.std.proofs.Common.{◌≡◌, ℕ, Bool, true, false, not, cond, ◌&&◌, ◌||◌, ◌==◌, eqb-true, List, [], ◌∷◌, ◌++◌, flat_map, filter, length, Option, Some, None, Result, Ok, Err, ok_or, bytes_eq, ◌⊎◌, inl, inr, ⊎_elim, refl, sym, ap, subst, ◌∙◌, true≢false, arith}
 use Rattle.std.specs.List.{AllByRecursion, Contains, last_or, list_any}
@@ -23,8 +23,8 @@ use Rattle.ref_definitions.specs.Pointers.{pointed_value}
 use Rattle.ref_definitions.specs.Lookup.{Resolver, Found, moved_resolver, in_scope, fault_of, entry_of, is_dynamic, unless_fault, entry_found, outermost, by_scope, named_found, pointer_found, at_fragment, lookup}
 use Rattle.ref_definitions.proofs.Alone.{first_or_later}
 use Rattle.ref_bundle.specs.Embedding.{base_uri, embedded_tree, is_uri_of, has_dynamic_anchor}
-use Rattle.ref_bundle.specs.Bundle.{Bundle, is_name, to_embed, bundle_of}
-use Rattle.ref_bundle.specs.Kept.{world_of_bundle, place_in, IsValueNow, the_same, an_embedded, the_root, IsAnswerNow, GoesIntoDefinitions, PointsIntoDefinitions, IsBorneByNeeded, KeepsReferences}
+use Rattle.ref_bundle.specs.Bundle.{Bundle, is_name, uris_of, to_embed, bundle_of}
+use Rattle.ref_bundle.specs.Kept.{world_of_bundle, place_in, IsValueNow, the_same, an_embedded, the_root, IsAnswerNow, PointsToDefinitions, IsBorneByNeeded, KeepsReferences}
 use Rattle.ref_bundle.proofs.LawAlike.{AreAlike, BothAlike, last_alike, alike_append}
 use Rattle.ref_bundle.proofs.LawEmbedded.{identifier_embedded, given_back, uri_given}
 use Rattle.ref_bundle.proofs.LawPut.{IsEmbeddable, embeddable, draft_embedded}
@@ -34,8 +34,7 @@ use Rattle.ref_bundle.proofs.LawClosed.{or_first, or_second}
 use Rattle.ref_bundle.proofs.LawBundled.{none_in, no_obstacle}
 use Rattle.ref_bundle.proofs.LawFacts.{IsMade, made, embedded_needed, put_of, all_of, room}
 use Rattle.ref_bundle.proofs.LawAnchors.{IsNowUnder, same_under, embedded_under, root_under, IsFoundNow, found_same, found_embedded, found_root, NameFound, ResultAlike, IsSafe, Meaning, nothing, of_own, of_parent, meaning, anchor_now}
-use Rattle.ref_bundle.proofs.LawPointers.{AnswerOf, equal_answer, embedded_pointed, root_pointed}
-use Rattle.ref_bundle.proofs.LawFaults.{were_faults}
+use Rattle.ref_bundle.proofs.LawPointers.{AnswerOf, IsApart, LeadsToDefinitions, equal_answer, embedded_pointed, root_pointed}
 use Rattle.ref_bundle.proofs.LawSafe.{IsUnadded, IsSafeTarget, safe_scope, safe_base, safe_target}
 
 -- what is known of an embedded document
@@ -46,31 +45,40 @@ able_of layer n top is e there =
 
 -- ---- values and drafts
 
-record IsPlaceNow (layer : Layer) (n : ℕ) (top : Document) (q p : Place) : Type 0 where
-  value : IsValueNow layer n top (bundle_of top (to_embed layer n)) q.value p.value
+record IsPlaceNow (layer : Layer) (n : ℕ) (top : Document) (base : List ℕ) (q p : Place) : Type 0 where
+  value : IsValueNow layer n top (bundle_of top (to_embed layer n)) base q.value p.value
   draft : q.draft ≡ p.draft
 
-embedded_now : (layer : Layer) (n : ℕ) (top : Document) → IsMade layer n top → (e : ℕ × Document) (q p : Place) → Contains (to_embed layer n) e → q ≡ place_in top e.1 → p ≡ root e.1 → IsPlaceNow layer n top q p
-embedded_now layer n top is e q p there now before = record {
-  value = an_embedded e there (ap (λ (x : Place). x.value) now) (ap (λ (x : Place). x.value) before);
+same_now : (layer : Layer) (n : ℕ) (top : Document) (base : List ℕ) (q p : Place) → q.value ≡ p.value → q.draft ≡ p.draft → IsPlaceNow layer n top base q p
+same_now layer n top base q p v d = record { value = the_same v; draft = d }
+
+embedded_now : (layer : Layer) (n : ℕ) (top : Document) → IsMade layer n top → (base : List ℕ) (e : ℕ × Document) (q p : Place) → Contains (to_embed layer n) e → q ≡ place_in top e.1 → p ≡ root e.1 → base ≡ base_uri e.1 → IsPlaceNow layer n top base q p
+embedded_now layer n top is base e q p there now before at = record {
+  value = an_embedded e there at (ap (λ (x : Place). x.value) now) (ap (λ (x : Place). x.value) before);
   draft = ap (λ (x : Place). x.draft) now ∙ (put_of layer n top is e there).same_draft ∙ sym (ap (λ (x : Place). x.draft) before);
 }
 
-root_now : (layer : Layer) (n : ℕ) (top : Document) (q p : Place) → q ≡ root (joined top (to_embed layer n)) → p ≡ root top → IsPlaceNow layer n top q p
-root_now layer n top q p now before = record {
-  value = the_root (ap (λ (x : Place). x.value) now) (ap (λ (x : Place). x.value) before);
+-- a base that answers at the root have: a URI of the root, or what its identifier gives against one
+record IsRootBase (top : Document) (base : List ℕ) : Type 0 where
+  uri : List ℕ
+  bears : Contains (uris_of top (root top)) uri
+  is : (base ≡ uri) ⊎ (base_within uri (identifier top.draft top.tree) ≡ Ok base)
+
+root_now : (layer : Layer) (n : ℕ) (top : Document) (base : List ℕ) (q p : Place) → q ≡ root (joined top (to_embed layer n)) → p ≡ root top → IsRootBase top base → IsPlaceNow layer n top base q p
+root_now layer n top base q p now before at = record {
+  value = the_root at.uri at.bears at.is (ap (λ (x : Place). x.value) now) (ap (λ (x : Place). x.value) before);
   draft = ap (λ (x : Place). x.draft) now ∙ sym (ap (λ (x : Place). x.draft) before);
 }
 
-found_now : (layer : Layer) (n : ℕ) (top : Document) → IsMade layer n top → (uri name : List ℕ) (kind : Kind) (q p : Place) → IsFoundNow top (to_embed layer n) uri name kind q p → IsPlaceNow layer n top q p
-found_now layer n top is uri name kind q p (found_same v d) = record { value = the_same v; draft = d }
-found_now layer n top is uri name kind q p (found_embedded e there now before at anchored) = embedded_now layer n top is e q p there now before
-found_now layer n top is uri name kind q p (found_root now before) = root_now layer n top q p now before
+found_now : (layer : Layer) (n : ℕ) (top : Document) → IsMade layer n top → (uri name : List ℕ) (kind : Kind) (q p : Place) → IsFoundNow top (to_embed layer n) uri name kind q p → IsPlaceNow layer n top uri q p
+found_now layer n top is uri name kind q p (found_same v d) = same_now layer n top uri q p v d
+found_now layer n top is uri name kind q p (found_embedded e there now before at anchored) = embedded_now layer n top is uri e q p there now before at
+found_now layer n top is uri name kind q p (found_root now before bears) = root_now layer n top uri q p now before (record { uri = uri; bears = bears; is = inl refl })
 
-under_now : (layer : Layer) (n : ℕ) (top : Document) → IsMade layer n top → (uri : List ℕ) (q p : Place) → IsNowUnder top (to_embed layer n) uri q p → IsPlaceNow layer n top q p
-under_now layer n top is uri q p (same_under v d b) = record { value = the_same v; draft = d }
-under_now layer n top is uri q p (embedded_under e there now before at) = embedded_now layer n top is e q p there now before
-under_now layer n top is uri q p (root_under now before) = root_now layer n top q p now before
+under_now : (layer : Layer) (n : ℕ) (top : Document) → IsMade layer n top → (uri : List ℕ) (q p : Place) → IsNowUnder top (to_embed layer n) uri q p → IsPlaceNow layer n top uri q p
+under_now layer n top is uri q p (same_under v d b) = same_now layer n top uri q p v d
+under_now layer n top is uri q p (embedded_under e there now before at) = embedded_now layer n top is uri e q p there now before at
+under_now layer n top is uri q p (root_under now before bears) = root_now layer n top uri q p now before (record { uri = uri; bears = bears; is = inl refl })
 
 -- ---- a place that a dynamic anchor names
 
@@ -87,18 +95,24 @@ unmoved_by true true none is = refl
 unmoved_by true false none is = absurd (true≢false none)
 unmoved_by false b none is = absurd (true≢false (sym is))
 
+-- the identifier of an embedded document with a dynamic anchor gives its base against that
+settled_base : (layer : Layer) (n : ℕ) (top : Document) → IsMade layer n top → (e : ℕ × Document) (name : List ℕ) (kind : Kind) → Contains (to_embed layer n) e → Contains (anchors e.1.draft e.1.tree) (name, kind) → is_dynamic kind ≡ true
+    → base_within (base_uri e.1) (identifier e.1.draft e.1.tree) ≡ Ok (base_uri e.1)
+settled_base layer n top is e name kind there anchored dynamic =
+    let d = e.1 in
+    uri_given (base_within (base_uri d) (identifier d.draft d.tree)) (base_uri d)
+    (unmoved_by (has_dynamic_anchor d) (is_uri_of (base_within (base_uri d) (identifier d.draft d.tree)) (base_uri d)) (able_of layer n top is e there).settled (dynamic_there (anchors d.draft d.tree) name kind anchored dynamic))
+
 -- its identifier against the URI that it was found under gives the same
 base_now : (layer : Layer) (n : ℕ) (top : Document) → IsMade layer n top → (uri name : List ℕ) (kind : Kind) (q p : Place) → IsFoundNow top (to_embed layer n) uri name kind q p → is_dynamic kind ≡ true
     → base_within uri (identifier q.draft q.value) ≡ base_within uri (identifier p.draft p.value)
 base_now layer n top is uri name kind q p (found_same v d) dynamic = ap (λ x. base_within uri (identifier x q.value)) d ∙ ap (λ x. base_within uri (identifier p.draft x)) v
-base_now layer n top is uri name kind q p (found_root now before) dynamic =
+base_now layer n top is uri name kind q p (found_root now before bears) dynamic =
     ap (λ (x : Place). base_within uri (identifier x.draft x.value)) now ∙ ap (base_within uri) (identifier_top top (to_embed layer n)) ∙ sym (ap (λ (x : Place). base_within uri (identifier x.draft x.value)) before)
 base_now layer n top is uri name kind q p (found_embedded e there now before at anchored) dynamic =
     let able = able_of layer n top is e there in
     let d = e.1 in
-    let kept : base_within (base_uri d) (identifier d.draft d.tree) ≡ Ok (base_uri d) =
-    uri_given (base_within (base_uri d) (identifier d.draft d.tree)) (base_uri d)
-    (unmoved_by (has_dynamic_anchor d) (is_uri_of (base_within (base_uri d) (identifier d.draft d.tree)) (base_uri d)) able.settled (dynamic_there (anchors d.draft d.tree) name kind anchored dynamic)) in
+    let kept = settled_base layer n top is e name kind there anchored dynamic in
     let id : identifier (place_in top d).draft (embedded_tree top.draft d) ≡ Some (trimmed_text (base_uri d)) =
     ap (λ x. identifier x (embedded_tree top.draft d)) (draft_embedded top.draft d able.object able.told) ∙ identifier_embedded top.draft top d able in
     ap (λ (x : Place). base_within uri (identifier x.draft x.value)) now
@@ -109,12 +123,26 @@ base_now layer n top is uri name kind q p (found_embedded e there now before at 
     ∙ ap (λ u. base_within u (identifier d.draft d.tree)) (sym at)
     ∙ sym (ap (λ (x : Place). base_within uri (identifier x.draft x.value)) before)
 
+-- and that is the base of the answer
+place_at : (layer : Layer) (n : ℕ) (top : Document) → IsMade layer n top → (uri name base : List ℕ) (kind : Kind) (q p : Place) → IsFoundNow top (to_embed layer n) uri name kind q p → is_dynamic kind ≡ true
+    → base_within uri (identifier p.draft p.value) ≡ Ok base → IsPlaceNow layer n top base q p
+place_at layer n top is uri name base kind q p (found_same v d) dynamic given = same_now layer n top base q p v d
+place_at layer n top is uri name base kind q p (found_root now before bears) dynamic given =
+    root_now layer n top base q p now before (record { uri = uri; bears = bears; is = inr (sym (ap (λ (x : Place). base_within uri (identifier x.draft x.value)) before) ∙ given) })
+place_at layer n top is uri name base kind q p (found_embedded e there now before at anchored) dynamic given =
+    let d = e.1 in
+    let own : Ok (base_uri d) ≡ Ok base =
+    sym (settled_base layer n top is e name kind there anchored dynamic) ∙ ap (λ u. base_within u (identifier d.draft d.tree)) (sym at)
+    ∙ sym (ap (λ (x : Place). base_within uri (identifier x.draft x.value)) before) ∙ given in
+    let same : base_uri d ≡ base = cc in
+    embedded_now layer n top is base e q p there now before (sym same)
+
 -- the answer of an entry
 abbrev entry_answer : Resolver → Result (List ℕ) Refusal → Draft → Data → Result Found Fault
 entry_answer r base draft value = as_invalid_uri (base >>= λ b. Ok (record r { base = b })) >>= λ m. Ok (record { value = value; draft = draft; resolver = m })
 
-entry_by : (layer : Layer) (n : ℕ) (top : Document) (bundle : Bundle) (r : Resolver) (base : Result (List ℕ) Refusal) (d e : Draft) (w v : Data) → d ≡ e → IsValueNow layer n top bundle w v → IsAnswerNow layer n top bundle (entry_answer r base d w) (entry_answer r base e v)
-entry_by layer n top bundle r (Ok base) d e w v drafts value = (value, drafts, refl)
+entry_by : (layer : Layer) (n : ℕ) (top : Document) (bundle : Bundle) (r : Resolver) (base : Result (List ℕ) Refusal) (d e : Draft) (w v : Data) → d ≡ e → ((b : List ℕ) → base ≡ Ok b → IsValueNow layer n top bundle b w v) → IsAnswerNow layer n top bundle (entry_answer r base d w) (entry_answer r base e v)
+entry_by layer n top bundle r (Ok base) d e w v drafts value = (value base refl, drafts, refl)
 entry_by layer n top bundle r (Err refusal) d e w v drafts value = refl
 
 -- entries under one URI, of one name
@@ -134,7 +162,8 @@ entry_now layer n top is r a b both =
     let r_before = record r { base = b.0 } in
     subst (λ x. IsAnswerNow layer n top (bundle_of top (to_embed layer n)) (entry_answer r_now x a.1.place.draft a.1.place.value) (entry_answer r_before (base_within b.0 (identifier b.1.place.draft b.1.place.value)) b.1.place.draft b.1.place.value)) (sym bases)
     (subst (λ u. IsAnswerNow layer n top (bundle_of top (to_embed layer n)) (entry_answer (record r { base = u }) (base_within b.0 (identifier b.1.place.draft b.1.place.value)) a.1.place.draft a.1.place.value) (entry_answer r_before (base_within b.0 (identifier b.1.place.draft b.1.place.value)) b.1.place.draft b.1.place.value)) (sym both.0)
-    (entry_by layer n top (bundle_of top (to_embed layer n)) r_before (base_within b.0 (identifier b.1.place.draft b.1.place.value)) a.1.place.draft b.1.place.draft a.1.place.value b.1.place.value place.draft place.value))
+    (entry_by layer n top (bundle_of top (to_embed layer n)) r_before (base_within b.0 (identifier b.1.place.draft b.1.place.value)) a.1.place.draft b.1.place.draft a.1.place.value b.1.place.value place.draft
+    (λ base given. (place_at layer n top is a.0 a.1.name base a.1.kind a.1.place b.1.place both.1.place both.2 (ap (λ u. base_within u (identifier b.1.place.draft b.1.place.value)) both.0 ∙ given)).value)))
 
 -- ---- what a name means in a scope
 
@@ -229,54 +258,63 @@ anchor_answer layer parents n top is r safe (Err f) (Err g) both = both
 
 -- ---- a pointer
 
--- a pointer from the root goes into definitions that were added
-abbrev GoesFrom : Layer → ℕ → Document → Place → List ℕ → Type 0
-GoesFrom layer n top p fragment = (p ≡ root top) × GoesIntoDefinitions layer n top fragment
+-- a pointer from the root that leads to its definitions
+abbrev IsFrom : Layer → ℕ → Document → Resolver → Place → List ℕ → Result Found Fault → Result Found Fault → Type 0
+IsFrom layer n top r p fragment now before = (p ≡ root top) × LeadsToDefinitions layer n top r fragment now before
 
-pointed_now : (layer : Layer) (n : ℕ) (top : Document) → IsMade layer n top → (r : Resolver) (uri pointer text : List ℕ) (q p : Place) → IsNowUnder top (to_embed layer n) uri q p → IsUnadded layer n top uri (47 ∷ text)
-    → IsAnswerNow layer n top (bundle_of top (to_embed layer n)) (AnswerOf r q.draft (pointed_value q.draft pointer r.base q.value text)) (AnswerOf r p.draft (pointed_value p.draft pointer r.base p.value text))
-    ⊎ GoesFrom layer n top p (47 ∷ text)
-pointed_now layer n top is r uri pointer text q p (same_under v d b) plain =
+abbrev IsPlaceAnswer : Layer → ℕ → Document → Resolver → Place → List ℕ → Result Found Fault → Result Found Fault → Type 0
+IsPlaceAnswer layer n top r p fragment now before = IsAnswerNow layer n top (bundle_of top (to_embed layer n)) now before ⊎ IsFrom layer n top r p fragment now before
+
+-- what is known of a fragment: it leads to nothing that is added
+record IsKeptFragment (layer : Layer) (n : ℕ) (top : Document) (uri fragment : List ℕ) : Type 0 where
+  unadded : IsUnadded layer n top uri fragment
+  apart : Contains (uris_of top (root top)) uri → IsApart layer n top fragment
+
+pointed_now : (layer : Layer) (n : ℕ) (top : Document) → IsMade layer n top → (r : Resolver) (uri text : List ℕ) → r.base ≡ uri → (q p : Place) → IsNowUnder top (to_embed layer n) uri q p → IsKeptFragment layer n top uri (47 ∷ text)
+    → IsPlaceAnswer layer n top r p (47 ∷ text) (AnswerOf r q.draft (pointed_value q.draft (47 ∷ text) r.base q.value text)) (AnswerOf r p.draft (pointed_value p.draft (47 ∷ text) r.base p.value text))
+pointed_now layer n top is r uri text own q p (same_under v d b) kept =
     inl (equal_answer layer n top (bundle_of top (to_embed layer n)) _ _
-    (ap (λ x. AnswerOf r x (pointed_value x pointer r.base q.value text)) d ∙ ap (λ x. AnswerOf r p.draft (pointed_value p.draft pointer r.base x text)) v))
-pointed_now layer n top is r uri pointer text q p (embedded_under e there now before at) plain =
+    (ap (λ x. AnswerOf r x (pointed_value x (47 ∷ text) r.base q.value text)) d ∙ ap (λ x. AnswerOf r p.draft (pointed_value p.draft (47 ∷ text) r.base x text)) v))
+pointed_now layer n top is r uri text own q p (embedded_under e there now before at) kept =
     let bundle = bundle_of top (to_embed layer n) in
-    let answer = λ (x : Place). AnswerOf r x.draft (pointed_value x.draft pointer r.base x.value text) in
-    let here : answer q ≡ AnswerOf r e.1.draft (pointed_value e.1.draft pointer r.base (embedded_tree top.draft e.1) text) =
-    ap answer now ∙ ap (λ x. AnswerOf r x (pointed_value x pointer r.base (embedded_tree top.draft e.1) text)) (put_of layer n top is e there).same_draft in
+    let answer = λ (x : Place). AnswerOf r x.draft (pointed_value x.draft (47 ∷ text) r.base x.value text) in
+    let here : answer q ≡ AnswerOf r e.1.draft (pointed_value e.1.draft (47 ∷ text) r.base (embedded_tree top.draft e.1) text) =
+    ap answer now ∙ ap (λ x. AnswerOf r x (pointed_value x (47 ∷ text) r.base (embedded_tree top.draft e.1) text)) (put_of layer n top is e there).same_draft in
     inl (subst (λ a. IsAnswerNow layer n top bundle a (answer p)) (sym here)
-    (subst (λ x. IsAnswerNow layer n top bundle (AnswerOf r e.1.draft (pointed_value e.1.draft pointer r.base (embedded_tree top.draft e.1) text)) (answer x)) (sym before)
-    (embedded_pointed layer n top bundle e there (able_of layer n top is e there) r pointer r.base text (λ key first. plain e there at key first))))
-pointed_now layer n top is r uri pointer text q p (root_under now before) plain =
+    (subst (λ x. IsAnswerNow layer n top bundle (AnswerOf r e.1.draft (pointed_value e.1.draft (47 ∷ text) r.base (embedded_tree top.draft e.1) text)) (answer x)) (sym before)
+    (embedded_pointed layer n top bundle e there (able_of layer n top is e there) r (47 ∷ text) r.base text (own ∙ at) (λ key first. kept.unadded e there at key first))))
+pointed_now layer n top is r uri text own q p (root_under now before bears) kept =
     let es = to_embed layer n in
     let bundle = bundle_of top es in
-    let answer = λ (x : Place). AnswerOf r x.draft (pointed_value x.draft pointer r.base x.value text) in
-    subst (λ x. IsAnswerNow layer n top bundle (answer x) (answer p) ⊎ GoesFrom layer n top p (47 ∷ text)) (sym now)
+    let answer = λ (x : Place). AnswerOf r x.draft (pointed_value x.draft (47 ∷ text) r.base x.value text) in
+    subst (λ x. IsPlaceAnswer layer n top r p (47 ∷ text) (answer x) (answer p)) (sym now)
+    (subst (λ x. IsAnswerNow layer n top bundle (answer (root (joined top es))) (answer x) ⊎ IsFrom layer n top r p (47 ∷ text) (answer (root (joined top es))) (answer x)) (sym before)
     (⊎_elim
-    (λ same. inl (subst (λ x. IsAnswerNow layer n top bundle (answer (root (joined top es))) (answer x)) (sym before) same))
-    (λ goes. inr (before, goes))
-    (root_pointed layer n top es refl (room layer n top is) (all_of (λ e. IsEmbeddable top e.1) es (able_of layer n top is)) r pointer r.base text))
+    (λ same. inl same)
+    (λ leads. inr (before, leads))
+    (root_pointed layer n top es refl (room layer n top is) (all_of (λ e. IsEmbeddable top e.1) es (able_of layer n top is)) r (subst (Contains (uris_of top (root top))) (sym own) bears) text (kept.apart bears))))
 
 -- ---- a fragment
 
-by_mark : (layer : Layer) (parents : World) (n : ℕ) (top : Document) → IsMade layer n top → (r : Resolver) → AllByRecursion (IsSafe layer parents n top) r.scope → (uri : List ℕ) (q p : Place) → IsNowUnder top (to_embed layer n) uri q p
-    → (c : ℕ) (text : List ℕ) → (is_name (c ∷ text) ≡ true → IsSafe layer parents n top r.base) → IsUnadded layer n top uri (c ∷ text) → (b : Bool) → (c == 47) ≡ b
-    → IsAnswerNow layer n top (bundle_of top (to_embed layer n))
+by_mark : (layer : Layer) (parents : World) (n : ℕ) (top : Document) → IsMade layer n top → (r : Resolver) → AllByRecursion (IsSafe layer parents n top) r.scope → (uri : List ℕ) → r.base ≡ uri → (q p : Place) → IsNowUnder top (to_embed layer n) uri q p
+    → (c : ℕ) (text : List ℕ) → (is_name (c ∷ text) ≡ true → IsSafe layer parents n top r.base) → IsKeptFragment layer n top uri (c ∷ text) → (b : Bool) → (c == 47) ≡ b
+    → IsPlaceAnswer layer n top r p (c ∷ text)
     (cond b (pointed_value q.draft (c ∷ text) r.base q.value text >>= λ to. Ok (pointer_found r q.draft to)) (anchor ((joined top (to_embed layer n) ∷ []) ∷ parents) r.base (c ∷ text) >>= λ m. named_found ((joined top (to_embed layer n) ∷ []) ∷ parents) r m m.kind))
     (cond b (pointed_value p.draft (c ∷ text) r.base p.value text >>= λ to. Ok (pointer_found r p.draft to)) (anchor (layer ∷ parents) r.base (c ∷ text) >>= λ k. named_found (layer ∷ parents) r k k.kind))
-    ⊎ GoesFrom layer n top p (c ∷ text)
-by_mark layer parents n top is r safe uri q p now c text named plain true mark =
+by_mark layer parents n top is r safe uri own q p now c text named kept true mark =
     let slash : c ≡ 47 = eqb-true c 47 mark in
-    subst (λ d. IsAnswerNow layer n top (bundle_of top (to_embed layer n)) (AnswerOf r q.draft (pointed_value q.draft (c ∷ text) r.base q.value text)) (AnswerOf r p.draft (pointed_value p.draft (c ∷ text) r.base p.value text)) ⊎ GoesFrom layer n top p (d ∷ text)) (sym slash)
-    (pointed_now layer n top is r uri (c ∷ text) text q p now (subst (λ d. IsUnadded layer n top uri (d ∷ text)) slash plain))
-by_mark layer parents n top is r safe uri q p now c text named plain false mark =
+    subst (λ d. IsPlaceAnswer layer n top r p (d ∷ text) (AnswerOf r q.draft (pointed_value q.draft (d ∷ text) r.base q.value text)) (AnswerOf r p.draft (pointed_value p.draft (d ∷ text) r.base p.value text))) (sym slash)
+    (pointed_now layer n top is r uri text own q p now (subst (λ d. IsKeptFragment layer n top uri (d ∷ text)) slash kept))
+by_mark layer parents n top is r safe uri own q p now c text named kept false mark =
     inl (anchor_answer layer parents n top is r safe (anchor ((joined top (to_embed layer n) ∷ []) ∷ parents) r.base (c ∷ text)) (anchor (layer ∷ parents) r.base (c ∷ text)) (anchor_now layer parents n top is r.base (c ∷ text) (named (ap not mark))))
 
-fragment_now : (layer : Layer) (parents : World) (n : ℕ) (top : Document) → IsMade layer n top → (r : Resolver) → AllByRecursion (IsSafe layer parents n top) r.scope → (uri : List ℕ) (q p : Place) → IsNowUnder top (to_embed layer n) uri q p
-    → (fragment : List ℕ) → (is_name fragment ≡ true → IsSafe layer parents n top r.base) → IsUnadded layer n top uri fragment
-    → IsAnswerNow layer n top (bundle_of top (to_embed layer n)) (at_fragment ((joined top (to_embed layer n) ∷ []) ∷ parents) r q fragment) (at_fragment (layer ∷ parents) r p fragment) ⊎ GoesFrom layer n top p fragment
-fragment_now layer parents n top is r safe uri q p now [] named plain = let place = under_now layer n top is uri q p now in inl (place.value, place.draft, refl)
-fragment_now layer parents n top is r safe uri q p now (c ∷ text) named plain = by_mark layer parents n top is r safe uri q p now c text named plain (c == 47) refl
+fragment_now : (layer : Layer) (parents : World) (n : ℕ) (top : Document) → IsMade layer n top → (r : Resolver) → AllByRecursion (IsSafe layer parents n top) r.scope → (uri : List ℕ) → r.base ≡ uri → (q p : Place) → IsNowUnder top (to_embed layer n) uri q p
+    → (fragment : List ℕ) → (is_name fragment ≡ true → IsSafe layer parents n top r.base) → IsKeptFragment layer n top uri fragment
+    → IsPlaceAnswer layer n top r p fragment (at_fragment ((joined top (to_embed layer n) ∷ []) ∷ parents) r q fragment) (at_fragment (layer ∷ parents) r p fragment)
+fragment_now layer parents n top is r safe uri own q p now [] named kept =
+    let place = under_now layer n top is uri q p now in
+    inl (subst (λ base. IsValueNow layer n top (bundle_of top (to_embed layer n)) base q.value p.value) (sym own) place.value, place.draft, refl)
+fragment_now layer parents n top is r safe uri own q p now (c ∷ text) named kept = by_mark layer parents n top is r safe uri own q p now c text named kept (c == 47) refl
 
 -- ---- the look-up
 
@@ -284,21 +322,29 @@ moved_safe_by : (layer : Layer) (parents : World) (n : ℕ) (top : Document) (ba
 moved_safe_by layer parents n top base scope true own safe = (own, safe)
 moved_safe_by layer parents n top base scope false own safe = safe
 
--- a reference whose pointer goes into definitions that were added
-record IsInto (layer : Layer) (parents : World) (n : ℕ) (top : Document) (base reference : List ℕ) : Type 0 where
+-- a reference whose pointer leads to the root's definitions
+record IsInto (layer : Layer) (parents : World) (n : ℕ) (top : Document) (r : Resolver) (reference : List ℕ) (now before : Result Found Fault) : Type 0 where
   uri : List ℕ
-  to : target base reference ≡ Ok uri
+  to : target r.base reference ≡ Ok uri
   place : Place
   meant : meant_place (layer ∷ parents) uri ≡ Some place
-  goes : GoesFrom layer n top place (fragment_part reference)
+  leads : IsFrom layer n top (moved_resolver r uri) place (fragment_part reference) now before
 
-abbrev IsOutcome : Layer → World → ℕ → Document → List ℕ → List ℕ → Result Found Fault → Result Found Fault → Type 0
-IsOutcome layer parents n top base reference now before =
-    IsAnswerNow layer n top (bundle_of top (to_embed layer n)) now before ⊎ IsInto layer parents n top base reference
+abbrev IsOutcome : Layer → World → ℕ → Document → Resolver → List ℕ → Result Found Fault → Result Found Fault → Type 0
+IsOutcome layer parents n top r reference now before =
+    IsAnswerNow layer n top (bundle_of top (to_embed layer n)) now before ⊎ IsInto layer parents n top r reference now before
+
+placed_now : (layer : Layer) (parents : World) (n : ℕ) (top : Document) → IsMade layer n top → (r : Resolver) (reference uri : List ℕ) → target r.base reference ≡ Ok uri → IsSafeTarget layer parents n top uri (fragment_part reference) → IsSafe layer parents n top r.base → AllByRecursion (IsSafe layer parents n top) r.scope
+    → (q p : Place) → meant_place (layer ∷ parents) uri ≡ Some p → IsNowUnder top (to_embed layer n) uri q p
+    → IsOutcome layer parents n top r reference (at_fragment ((joined top (to_embed layer n) ∷ []) ∷ parents) (moved_resolver r uri) q (fragment_part reference)) (at_fragment (layer ∷ parents) (moved_resolver r uri) p (fragment_part reference))
+placed_now layer parents n top is r reference uri to safe own scope q p means_ place =
+    let moved_scope = moved_safe_by layer parents n top r.base r.scope ((length r.scope == 0) || not (bytes_eq uri r.base)) own scope in
+    ⊎_elim (λ answer. inl answer) (λ leads. inr (record { uri = uri; to = to; place = p; meant = means_; leads = leads }))
+    (fragment_now layer parents n top is (moved_resolver r uri) moved_scope uri refl q p place (fragment_part reference) safe.named (record { unadded = safe.unadded; apart = safe.apart }))
 
 meant_now : (layer : Layer) (parents : World) (n : ℕ) (top : Document) → IsMade layer n top → (r : Resolver) (reference uri : List ℕ) → target r.base reference ≡ Ok uri → IsSafeTarget layer parents n top uri (fragment_part reference) → IsSafe layer parents n top r.base → AllByRecursion (IsSafe layer parents n top) r.scope
     → (a b : Option Place) → meant_place (layer ∷ parents) uri ≡ b → Meaning layer parents top (to_embed layer n) uri a b
-    → IsOutcome layer parents n top r.base reference
+    → IsOutcome layer parents n top r reference
     (ok_or a (not_retrieved uri) >>= λ place. at_fragment ((joined top (to_embed layer n) ∷ []) ∷ parents) (moved_resolver r uri) place (fragment_part reference))
     (ok_or b (not_retrieved uri) >>= λ place. at_fragment (layer ∷ parents) (moved_resolver r uri) place (fragment_part reference))
 meant_now layer parents n top is r reference uri to safe own scope a b means_ (nothing now before) =
@@ -306,21 +352,17 @@ meant_now layer parents n top is r reference uri to safe own scope a b means_ (n
     (ap (λ o. ok_or o (not_retrieved uri) >>= λ place. at_fragment ((joined top (to_embed layer n) ∷ []) ∷ parents) (moved_resolver r uri) place (fragment_part reference)) now
     ∙ sym (ap (λ o. ok_or o (not_retrieved uri) >>= λ place. at_fragment (layer ∷ parents) (moved_resolver r uri) place (fragment_part reference)) before)))
 meant_now layer parents n top is r reference uri to safe own scope a b means_ (of_own q p now before place found) =
-    let moved_scope = moved_safe_by layer parents n top r.base r.scope ((length r.scope == 0) || not (bytes_eq uri r.base)) own scope in
-    subst (λ o. IsOutcome layer parents n top r.base reference (ok_or o (not_retrieved uri) >>= λ x. at_fragment ((joined top (to_embed layer n) ∷ []) ∷ parents) (moved_resolver r uri) x (fragment_part reference)) (ok_or b (not_retrieved uri) >>= λ x. at_fragment (layer ∷ parents) (moved_resolver r uri) x (fragment_part reference))) (sym now)
-    (subst (λ o. IsOutcome layer parents n top r.base reference (at_fragment ((joined top (to_embed layer n) ∷ []) ∷ parents) (moved_resolver r uri) q (fragment_part reference)) (ok_or o (not_retrieved uri) >>= λ x. at_fragment (layer ∷ parents) (moved_resolver r uri) x (fragment_part reference))) (sym before)
-    (⊎_elim (λ answer. inl answer) (λ added. inr (record { uri = uri; to = to; place = p; meant = means_ ∙ before; goes = added }))
-    (fragment_now layer parents n top is (moved_resolver r uri) moved_scope uri q p place (fragment_part reference) safe.named safe.unadded)))
+    subst (λ o. IsOutcome layer parents n top r reference (ok_or o (not_retrieved uri) >>= λ x. at_fragment ((joined top (to_embed layer n) ∷ []) ∷ parents) (moved_resolver r uri) x (fragment_part reference)) (ok_or b (not_retrieved uri) >>= λ x. at_fragment (layer ∷ parents) (moved_resolver r uri) x (fragment_part reference))) (sym now)
+    (subst (λ o. IsOutcome layer parents n top r reference (at_fragment ((joined top (to_embed layer n) ∷ []) ∷ parents) (moved_resolver r uri) q (fragment_part reference)) (ok_or o (not_retrieved uri) >>= λ x. at_fragment (layer ∷ parents) (moved_resolver r uri) x (fragment_part reference))) (sym before)
+    (placed_now layer parents n top is r reference uri to safe own scope q p (means_ ∙ before) place))
 meant_now layer parents n top is r reference uri to safe own scope a b means_ (of_parent p now before none outside) =
-    let moved_scope = moved_safe_by layer parents n top r.base r.scope ((length r.scope == 0) || not (bytes_eq uri r.base)) own scope in
-    subst (λ o. IsOutcome layer parents n top r.base reference (ok_or o (not_retrieved uri) >>= λ x. at_fragment ((joined top (to_embed layer n) ∷ []) ∷ parents) (moved_resolver r uri) x (fragment_part reference)) (ok_or b (not_retrieved uri) >>= λ x. at_fragment (layer ∷ parents) (moved_resolver r uri) x (fragment_part reference))) (sym now)
-    (subst (λ o. IsOutcome layer parents n top r.base reference (at_fragment ((joined top (to_embed layer n) ∷ []) ∷ parents) (moved_resolver r uri) p (fragment_part reference)) (ok_or o (not_retrieved uri) >>= λ x. at_fragment (layer ∷ parents) (moved_resolver r uri) x (fragment_part reference))) (sym before)
-    (⊎_elim (λ answer. inl answer) (λ added. inr (record { uri = uri; to = to; place = p; meant = means_ ∙ before; goes = added }))
-    (fragment_now layer parents n top is (moved_resolver r uri) moved_scope uri p p (same_under refl refl refl) (fragment_part reference) safe.named safe.unadded)))
+    subst (λ o. IsOutcome layer parents n top r reference (ok_or o (not_retrieved uri) >>= λ x. at_fragment ((joined top (to_embed layer n) ∷ []) ∷ parents) (moved_resolver r uri) x (fragment_part reference)) (ok_or b (not_retrieved uri) >>= λ x. at_fragment (layer ∷ parents) (moved_resolver r uri) x (fragment_part reference))) (sym now)
+    (subst (λ o. IsOutcome layer parents n top r reference (at_fragment ((joined top (to_embed layer n) ∷ []) ∷ parents) (moved_resolver r uri) p (fragment_part reference)) (ok_or o (not_retrieved uri) >>= λ x. at_fragment (layer ∷ parents) (moved_resolver r uri) x (fragment_part reference))) (sym before)
+    (placed_now layer parents n top is r reference uri to safe own scope p p (means_ ∙ before) (same_under refl refl refl)))
 
 target_now : (layer : Layer) (parents : World) (n : ℕ) (top : Document) → IsMade layer n top → (r : Resolver) (reference : List ℕ) → IsSafe layer parents n top r.base → AllByRecursion (IsSafe layer parents n top) r.scope
     → ((uri : List ℕ) → target r.base reference ≡ Ok uri → IsSafeTarget layer parents n top uri (fragment_part reference)) → (t : Result (List ℕ) Refusal) → target r.base reference ≡ t
-    → IsOutcome layer parents n top r.base reference
+    → IsOutcome layer parents n top r reference
     (as_invalid_uri t >>= λ uri. ok_or (meant_place ((joined top (to_embed layer n) ∷ []) ∷ parents) uri) (not_retrieved uri) >>= λ place. at_fragment ((joined top (to_embed layer n) ∷ []) ∷ parents) (moved_resolver r uri) place (fragment_part reference))
     (as_invalid_uri t >>= λ uri. ok_or (meant_place (layer ∷ parents) uri) (not_retrieved uri) >>= λ place. at_fragment (layer ∷ parents) (moved_resolver r uri) place (fragment_part reference))
 target_now layer parents n top is r reference own scope safe (Ok uri) to =
@@ -329,7 +371,7 @@ target_now layer parents n top is r reference own scope safe (Err refusal) to = 
 
 lookup_now : (layer : Layer) (parents : World) (n : ℕ) (top : Document) → IsMade layer n top → (r : Resolver) (reference : List ℕ) → IsSafe layer parents n top r.base → AllByRecursion (IsSafe layer parents n top) r.scope
     → ((uri : List ℕ) → target r.base reference ≡ Ok uri → IsSafeTarget layer parents n top uri (fragment_part reference))
-    → IsOutcome layer parents n top r.base reference (lookup ((joined top (to_embed layer n) ∷ []) ∷ parents) r reference) (lookup (layer ∷ parents) r reference)
+    → IsOutcome layer parents n top r reference (lookup ((joined top (to_embed layer n) ∷ []) ∷ parents) r reference) (lookup (layer ∷ parents) r reference)
 unfolding lookup
 lookup_now layer parents n top is r reference own scope safe = target_now layer parents n top is r reference own scope safe (target r.base reference) refl
 
@@ -337,27 +379,14 @@ scope_safe : (layer : Layer) (parents : World) (n : ℕ) (top : Document) → Is
 scope_safe layer parents n top is [] each = tt
 scope_safe layer parents n top is (uri ∷ scope) each = (safe_scope layer parents n top is uri each.0, scope_safe layer parents n top is scope each.1)
 
--- such a reference was a fault
-was_fault : (world : World) (r : Resolver) (reference uri : List ℕ) (p : Place) (fault : Fault) → target r.base reference ≡ Ok uri → meant_place world uri ≡ Some p → at_fragment world (moved_resolver r uri) p (fragment_part reference) ≡ Err fault
-    → lookup world r reference ≡ Err fault
-unfolding lookup
-was_fault world r reference uri p fault to means_ at =
-    ap (λ t. as_invalid_uri t >>= λ u. ok_or (meant_place world u) (not_retrieved u) >>= λ place. at_fragment world (moved_resolver r u) place (fragment_part reference)) to
-    ∙ ap (λ o. ok_or o (not_retrieved uri) >>= λ place. at_fragment world (moved_resolver r uri) place (fragment_part reference)) means_
-    ∙ at
-
-into_definitions : (layer : Layer) (parents : World) (n : ℕ) (top : Document) → IsMade layer n top → (r : Resolver) (reference : List ℕ) → IsInto layer parents n top r.base reference → PointsIntoDefinitions layer parents n top r reference
-into_definitions layer parents n top is r reference into =
-    let means_ : meant_place (layer ∷ parents) into.uri ≡ Some (root top) = into.meant ∙ ap (λ p. Some p) into.goes.0 in
-    let fault = were_faults layer parents n top is (moved_resolver r into.uri) (fragment_part reference) into.goes.1 in
-    record {
-      uri = into.uri;
-      to = into.to;
-      meant = means_;
-      goes = into.goes.1;
-      fault = fault.0;
-      was = was_fault (layer ∷ parents) r reference into.uri (root top) fault.0 into.to means_ fault.1;
-    }
+to_definitions : (layer : Layer) (parents : World) (n : ℕ) (top : Document) (r : Resolver) (reference : List ℕ) (now before : Result Found Fault) → IsInto layer parents n top r reference now before → PointsToDefinitions layer parents n top r reference now before
+to_definitions layer parents n top r reference now before into = record {
+  uri = into.uri;
+  to = into.to;
+  meant = into.meant ∙ ap (λ p. Some p) into.leads.0;
+  pointer = into.leads.1.pointer;
+  answers = into.leads.1.answers;
+}
 
 -- a bundle keeps every reference
 pub keeps_references : KeepsReferences
@@ -365,7 +394,7 @@ keeps_references layer parents n top bundle is e p base reference scope need the
     let both = made layer parents n top bundle is in
     let r : Resolver = record { base = base; scope = scope } in
     subst (λ b. IsAnswerNow layer n top b (lookup (world_of_bundle top b parents) r reference) (lookup (layer ∷ parents) r reference)
-    ⊎ PointsIntoDefinitions layer parents n top r reference) (sym both.2)
-    (⊎_elim (λ answer. inl answer) (λ into. inr (into_definitions layer parents n top both.0 r reference into))
+    ⊎ PointsToDefinitions layer parents n top r reference (lookup (world_of_bundle top b parents) r reference) (lookup (layer ∷ parents) r reference)) (sym both.2)
+    (⊎_elim (λ answer. inl answer) (λ into. inr (to_definitions layer parents n top r reference _ _ into))
     (lookup_now layer parents n top both.0 r reference (safe_base layer parents n top both.0 e p base need there has) (scope_safe layer parents n top both.0 scope borne_)
     (λ uri to. safe_target layer parents n top both.0 both.1 e p base uri reference need there has refers to)))

@@ -15,20 +15,21 @@ use Rattle.ref_definitions.specs.Places.{Place, root, identifier_of, base_within
 use Rattle.ref_definitions.specs.Resources.{own_uri, resource_of, resources_in, resources, last_under, meant_place}
 use Rattle.ref_definitions.proofs.Alone.{first_or_later, in_joined}
 use Rattle.ref_definitions.proofs.Differ.{GoesOn, on_with}
-use Rattle.ref_bundle.specs.Needed.{counted_documents, Site, borne_in, sites_of_uris, site_under, Reference, reference_of, reference_under, meta_schema_of, references_from, references, needed_documents}
+use Rattle.ref_bundle.specs.Needed.{counted_documents, Site, borne_in, sites_of_uris, site_under, document_under, is_among, numbers_of_needed, Reference, reference_of, reference_under, meta_schema_of, references_from, references, needed_documents}
 use Rattle.ref_bundle.specs.Embedding.{base_uri, is_added_under}
-use Rattle.ref_bundle.specs.Bundle.{Problem, ShadowedUri, AddedMember, is_site, uris_of, replaced_in, identified_from, is_name, shadowed_uri, first_key, added_in, embedded_problems, reference_problems, reference_problems_by, to_embed}
+use Rattle.ref_bundle.specs.Bundle.{Problem, ShadowedUri, AddedMember, definitions_keyword, is_site, uris_of, replaced_in, identified_from, is_name, shadowed_uri, pointer_in, key_at, second_key, added_in, embedded_problems, is_embedded_as, is_added_definition, added_definition, root_problems, reference_problems, reference_problems_by, to_embed}
 use Rattle.ref_bundle.specs.Kept.{IsBorneByNeeded, RefersBy}
 use Rattle.ref_bundle.proofs.LawEntries.{borne_by, IsFree, IsOther, AllOther, back_empty, each_none, filter_flat, other_levels, not_first, not_later}
 use Rattle.ref_bundle.proofs.LawEmbedded.{base_is}
 use Rattle.ref_bundle.proofs.Numbers.{and_left, and_right}
 use Rattle.ref_bundle.proofs.LawNeeded.{is_of_another, other_number, each_in, in_one_of, last_none, none_of_shared, site_entry, site_bears, none_bears}
-use Rattle.ref_bundle.proofs.LawClosed.{got_at, passes_kept}
+use Rattle.ref_bundle.proofs.LawClosed.{root_needed, got_at, passes_kept}
 use Rattle.ref_bundle.proofs.LawBundled.{none_in, no_problem, not_shared, no_reference_problem}
-use Rattle.ref_bundle.proofs.LawFacts.{IsMade, root_base, needed_counted, embedded_needed, base_borne}
+use Rattle.ref_bundle.proofs.LawFacts.{IsMade, root_base, root_counted, needed_counted, embedded_needed, base_borne}
 use Rattle.ref_bundle.proofs.LawClear.{Stays, clear_borne, clear_reference}
 use Rattle.ref_bundle.proofs.LawMeaning.{IsClear, no_entries_were}
 use Rattle.ref_bundle.proofs.LawAnchors.{own_base, IsSafe, none_bear, last_is}
+use Rattle.ref_bundle.proofs.LawPointers.{IsApart}
 
 -- ---- paths of places below a root
 
@@ -282,7 +283,7 @@ unshadowed layer parents top r other p no_problems named none of_parent own =
 -- a fragment whose first key isn't added at the root of an embedded document that a URI means
 abbrev pub IsUnadded : Layer → ℕ → Document → List ℕ → List ℕ → Type 0
 IsUnadded layer n top uri fragment =
-    (e : ℕ × Document) → Contains (to_embed layer n) e → uri ≡ base_uri e.1 → (key : List ℕ) → first_key fragment ≡ Some key → is_added_under top.draft e.1 key ≡ false
+    (e : ℕ × Document) → Contains (to_embed layer n) e → uri ≡ base_uri e.1 → (key : List ℕ) → option_and_then (key_at 0) (pointer_in fragment) ≡ Some key → is_added_under top.draft e.1 key ≡ false
 
 none_passes : {X : Type 0} (test : X → Bool) (xs : List X) → filter test xs ≡ [] → AllByRecursion (λ x. test x ≡ false) xs
 none_passes test [] none = tt
@@ -311,15 +312,16 @@ at_root_by layer n e uri own bears none (Some s) is =
     let here : is_site s (e.0, []) ≡ true = ap (λ (t : Site). is_site t (e.0, [])) (sym entry.1) ∙ both_true (bytes_eq entry.0.0 uri) (is_site entry.0.1 (e.0, [])) other entry.2.passes in
     record { site = s; under = is; number = eqb-true s.0 e.0 (and_left (s.0 == e.0) (path_eq s.1 []) here); path = and_right (s.0 == e.0) (path_eq s.1 []) here }
 
+only_root : (layer : Layer) (n : ℕ) (top : Document) → IsMade layer n top → (e : ℕ × Document) (uri : List ℕ) → Contains (needed_documents layer n) e → Contains (uris_of e.1 (root e.1)) uri → IsAtRoot layer uri e
+only_root layer n top is e uri need bears =
+    let none = not_shared layer is.world (n, top) e (root e.1) uri (no_problem layer is.world n top e (root e.1) (none_in layer is.world n top e is.unrefused need) (0, omega arith, refl)) bears in
+    let filtered = last_none (filter (is_of_another uri (e.0, [])) (sites_of_uris layer)) (none_of_shared (sites_of_uris layer) (last_or None (filter (is_of_another uri (e.0, [])) (sites_of_uris layer))) uri none) in
+    at_root_by layer n e uri (needed_counted layer n e need) bears filtered (site_under layer uri) refl
+
 at_root : (layer : Layer) (n : ℕ) (top : Document) → IsMade layer n top → (e : ℕ × Document) → Contains (to_embed layer n) e → IsAtRoot layer (base_uri e.1) e
 at_root layer n top is e there =
-    let need = embedded_needed layer n e there in
-    let own = needed_counted layer n e need.0 in
-    let uri = base_uri e.1 in
-    let bears = base_borne e.1 uri (root_base layer e is.no_fault own) in
-    let none = not_shared layer is.world (n, top) e (root e.1) uri (no_problem layer is.world n top e (root e.1) (none_in layer is.world n top e is.unrefused need.0) (0, omega arith, refl)) bears in
-    let filtered = last_none (filter (is_of_another uri (e.0, [])) (sites_of_uris layer)) (none_of_shared (sites_of_uris layer) (last_or None (filter (is_of_another uri (e.0, [])) (sites_of_uris layer))) uri none) in
-    at_root_by layer n e uri own bears filtered (site_under layer uri) refl
+    let need = (embedded_needed layer n e there).0 in
+    only_root layer n top is e (base_uri e.1) need (base_borne e.1 (base_uri e.1) (root_base layer e is.no_fault (needed_counted layer n e need)))
 
 -- a reference without a problem to its root has no problem of what is added there
 no_added : (layer : Layer) (world : World) (n : ℕ) (top : Document) (e : ℕ × Document) (r : Reference) → ¬ (e.0 ≡ n) → slice_get layer e.0 ≡ Some e.1 → IsAtRoot layer r.uri e → reference_problems layer world (n, top) r ≡ [] → added_in top.draft r e.1 ≡ []
@@ -329,7 +331,7 @@ no_added layer world n top e r other at here none =
     let apart_ : (s.0 == n) ≡ false = ap (λ m. m == n) here.number ∙ other_number e.0 n (e.0 == n) refl other in
     let got : slice_get layer s.0 ≡ Some e.1 = ap (slice_get layer) here.number ∙ at in
     let all : embedded_problems top.draft r s.1 e.1 ≡ [] =
-    sym (ap (reference_problems_by layer world (n, top) r) here.under ∙ ap (λ b. cond b [] (option_map_or f (slice_get layer s.0) [])) apart_ ∙ ap (λ o. option_map_or f o []) got) ∙ none in
+    sym (ap (reference_problems_by layer world (n, top) r) here.under ∙ ap (λ b. cond b (root_problems layer (n, top) r s.1) (option_map_or f (slice_get layer s.0) [])) apart_ ∙ ap (λ o. option_map_or f o []) got) ∙ none in
     sym (ap (λ b. cond b (added_in top.draft r e.1) []) here.path) ∙ back_empty (replaced_in r.uri e.1) (cond (path_eq s.1 []) (added_in top.draft r e.1) []) all
 
 none_added : (r : Reference) (key : List ℕ) (b : Bool) → cond b (AddedMember r.uri key ∷ []) [] ≡ [] → b ≡ false
@@ -344,6 +346,45 @@ unadded layer n top is r none e there at key first =
     none_added r key (is_added_under top.draft e.1 key)
     (sym (ap (λ o. option_map_or (λ (k : List ℕ). cond (is_added_under top.draft e.1 k) (AddedMember r.uri k ∷ []) []) o []) first) ∙ quiet)
 
+-- ---- the definitions that are added
+
+-- the only place with a URI of the root is the root
+root_only : (layer : Layer) (n : ℕ) (top : Document) → IsMade layer n top → (uri : List ℕ) → Contains (uris_of top (root top)) uri → IsAtRoot layer uri (n, top)
+root_only layer n top is uri bears =
+    let own = root_counted layer n top is.at in
+    only_root layer n top is (n, top) uri (root_needed layer (n, top) own) bears
+
+-- an embedded document is one that has to be, with its base URI
+embedded_as : (layer : Layer) (n : ℕ) (top : Document) → IsMade layer n top → (e : ℕ × Document) → Contains (to_embed layer n) e → is_added_definition layer n (base_uri e.1) ≡ true
+embedded_as layer n top is e there =
+    let need = embedded_needed layer n e there in
+    let own = needed_counted layer n e need.0 in
+    let uri = base_uri e.1 in
+    let here = at_root layer n top is e there in
+    let under : document_under layer uri ≡ Some e.0 = ap (option_map (λ (s : Site). s.0)) here.under ∙ ap (λ m. Some m) here.number in
+    let among : is_among (numbers_of_needed layer n) e.0 ≡ true = (passes_kept (λ (x : ℕ × Document). is_among (numbers_of_needed layer n) x.0) (counted_documents 0 layer) e need.0).1 in
+    let has : Option Document → Bool = λ o. option_map_or (λ d. bytes_eq (base_uri d) uri) o false in
+    ap (λ o. option_map_or (is_embedded_as layer n uri) o false) under
+    ∙ ap (λ b. not b && is_among (numbers_of_needed layer n) e.0 && has (slice_get layer e.0)) (other_number e.0 n (e.0 == n) refl need.1)
+    ∙ ap (λ b. not false && b && has (slice_get layer e.0)) among
+    ∙ ap (λ o. not false && true && has o) (got_at layer e own)
+    ∙ (bytes_eq-Decides uri uri).1 refl
+
+-- a reference without a problem to the root leads to no embedded document
+apart_from : (layer : Layer) (n : ℕ) (top : Document) → (is : IsMade layer n top) → (r : Reference) → reference_problems layer is.world (n, top) r ≡ [] → Contains (uris_of top (root top)) r.uri → IsApart layer n top r.fragment
+apart_from layer n top is r none bears e there text pointer second =
+    let here = root_only layer n top is r.uri bears in
+    let s = here.site in
+    let f : List ℕ → List Problem = λ key. cond (is_added_definition layer n key) (AddedMember r.uri key ∷ []) [] in
+    let at_path : root_problems layer (n, top) r s.1 ≡ [] =
+    sym (ap (reference_problems_by layer is.world (n, top) r) here.under
+    ∙ ap (λ m. cond (m == n) (root_problems layer (n, top) r s.1) (option_map_or (embedded_problems top.draft r s.1) (slice_get layer m) [])) here.number
+    ∙ ap (λ b. cond b (root_problems layer (n, top) r s.1) (option_map_or (embedded_problems top.draft r s.1) (slice_get layer n) [])) (eq-eqb n n refl)) ∙ none in
+    let quiet : added_definition layer (n, top) r ≡ [] = sym (ap (λ b. cond b (added_definition layer (n, top) r) []) here.path) ∙ at_path in
+    let key : option_and_then (second_key (definitions_keyword top.draft)) (pointer_in r.fragment) ≡ Some (base_uri e.1) = ap (option_and_then (second_key (definitions_keyword top.draft))) pointer ∙ second in
+    let unadded_ : f (base_uri e.1) ≡ [] = sym (ap (λ o. option_map_or f o []) key) ∙ quiet in
+    true≢false (sym (embedded_as layer n top is e there) ∙ none_added r (base_uri e.1) (is_added_definition layer n (base_uri e.1)) unadded_)
+
 -- ---- the target
 
 -- a URI with a fragment that mean in the bundle what they meant
@@ -351,6 +392,7 @@ pub record IsSafeTarget (layer : Layer) (parents : World) (n : ℕ) (top : Docum
   pub clear : IsClear layer n top (to_embed layer n) uri
   pub named : is_name fragment ≡ true → IsSafe layer parents n top uri
   pub unadded : IsUnadded layer n top uri fragment
+  pub apart : Contains (uris_of top (root top)) uri → IsApart layer n top fragment
 
 pub safe_target : (layer : Layer) (parents : World) (n : ℕ) (top : Document) → (is : IsMade layer n top) → is.world ≡ layer ∷ parents → (x : ℕ × Document) (p : Place) (base uri reference : List ℕ) → Contains (needed_documents layer n) x → Contains (places x.1) p
     → p.base ≡ Ok base → RefersBy p.value reference → target base reference ≡ Ok uri → IsSafeTarget layer parents n top uri (fragment_part reference)
@@ -366,4 +408,5 @@ safe_target layer parents n top is of_world x p base uri reference need there ha
         outside = λ q other own_none of_parent own. unshadowed layer parents (n, top) r other q (subst (λ w. reference_problems layer w (n, top) r ≡ []) of_world none) named own_none of_parent own;
       };
       unadded = unadded layer n top is r none;
+      apart = apart_from layer n top is r none;
     }

@@ -19,7 +19,6 @@ pub mod LawClear
 pub mod LawPrepared
 pub mod LawAnchors
 pub mod LawPointers
-pub mod LawFaults
 pub mod LawSafe
 pub mod LawLookups
 pub mod LawEmbeds

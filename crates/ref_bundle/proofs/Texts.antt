@@ -25,8 +25,8 @@ which = codes "', which document "
 pub shadowed : (uri base : List ℕ) (document : ℕ) (path : List Part) → codes "the identifier of '" ++ (uri ++ (gives ++ (base ++ (which ++ (decimal document ++ codes " has"))))) ≡ problem_text (ShadowedUri uri base document path)
 shadowed uri base document path = simp append_assoc
 
-abbrev of_document : List ℕ
-of_document = codes "' of the document '"
+abbrev in_document : List ℕ
+in_document = codes "' in the document '"
 
-pub added : (uri key : List ℕ) → codes "the pointer leads to the member '" ++ (key ++ (of_document ++ (uri ++ codes "', which has another value in a bundle"))) ≡ problem_text (AddedMember uri key)
+pub added : (uri key : List ℕ) → codes "the pointer leads to the member '" ++ (key ++ (in_document ++ (uri ++ codes "', which the bundle adds or changes"))) ≡ problem_text (AddedMember uri key)
 added uri key = simp append_assoc

@@ -5,14 +5,11 @@ use Rattle.std.proofs.lemmas.Option.{slice_get-map}
 use Rattle.ref_definitions.specs.World.{Document, Layer, World}
 use Rattle.ref_bundle.specs.Needed.{counted_documents, is_among, numbers_of_needed, needed_documents}
 use Rattle.ref_bundle.specs.Bundle.{Bundle, BundleRefusal, NoDocument, at_path, refusals_in, refusals, to_embed, unless_refused, bundle_of, bundle_among}
-use Rattle.ref_bundle.specs.inner.Reach.{is_marked}
+use Rattle.ref_bundle.specs.inner.Reach.{is_marked, AreMarked}
 use Rattle.ref_bundle.specs.inner.First.{first}
 use Rattle.ref_bundle.specs.inner.Seen.{numbered_document, document_in, layer_in}
 use Rattle.ref_bundle.specs.declared.own.Own.{Own}
 use Rattle.ref_bundle.proofs.Filters.{filter_and, filter_turned, filter_alike}
-
-abbrev pub AreMarked : Layer → ℕ → List Bool → Type 0
-AreMarked layer n marks = (k : ℕ) → is_marked marks k ≡ is_among (numbers_of_needed layer n) k
 
 marked_documents : (layer : Layer) (n : ℕ) (marks : List Bool) → AreMarked layer n marks → filter (λ e. is_marked marks e.0) (counted_documents 0 layer) ≡ needed_documents layer n
 marked_documents layer n marks are = filter_alike (λ e. is_marked marks e.0) (λ e. is_among (numbers_of_needed layer n) e.0) (λ e. are e.0) (counted_documents 0 layer)

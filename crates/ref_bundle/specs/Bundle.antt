@@ -15,7 +15,7 @@ use Rattle.ref_uri.specs.Targets.{uri_against}
 use Rattle.ref_definitions.specs.World.{Document, Layer, World, own_layer}
 use Rattle.ref_definitions.specs.Places.{Place, identifier_of, places}
 use Rattle.ref_definitions.specs.Resources.{own_uri, meant_place}
-use Rattle.ref_bundle.specs.Needed.{Site, sites_of_uris, site_under, Reference, references, needed_documents}
+use Rattle.ref_bundle.specs.Needed.{Site, sites_of_uris, site_under, document_under, Reference, references, is_among, numbers_of_needed, needed_documents}
 use Rattle.ref_bundle.specs.Embedding.{Obstacle, base_uri, added_schema, embedded_tree, with_member, is_added_under, obstacle}
 
 -- a document that a bundle has under its definitions: its number, its base URI, whether a member for it was added or
@@ -48,8 +48,8 @@ pub data Problem : Type 0 where
   -- a place refers to a name in a place of a parent, by a URI against which that place's identifier gives this URI, which
   -- an own place has: its document and path
   ShadowedUri : List ℕ → List ℕ → ℕ → List Part → Problem
-  -- a place refers with a pointer to the member under this key of the root of the document with this URI, where the bundle
-  -- adds that member, or has another value
+  -- a place refers with a pointer to a member that the bundle adds, or of which it has another value: in the document with
+  -- this URI, under this key of its root, or of its definitions where it is the bundle's root
   AddedMember : List ℕ → List ℕ → Problem
 
 -- a problem, with the document and the path that it is at
@@ -146,32 +146,61 @@ shadowed_uri layer world r =
     (option_and_then (identified_from r.uri) (meant_place world r.uri))
     else None
 
--- the first key of a fragment that is a pointer (RFC 6901, sections 3, 4 and 6)
-abbrev pub first_key : List ℕ → Option (List ℕ)
-first_key [] = None
-first_key (c ∷ text) =
-    if (c == slash) && is_utf8 (percent_decode text) then
-    option_map unescape (slice_get (tokens (percent_decode text)) 0)
-    else None
+-- the text of a fragment that is a pointer, after its first `/` (RFC 6901, sections 3 and 6)
+abbrev pub pointer_in : List ℕ → Option (List ℕ)
+pointer_in [] = None
+pointer_in (c ∷ text) =
+    if (c == slash) && is_utf8 (percent_decode text) then Some (percent_decode text) else None
+
+-- the key of such a text with this number (RFC 6901, sections 3 and 4)
+abbrev pub key_at : ℕ → List ℕ → Option (List ℕ)
+key_at number text = option_map unescape (slice_get (tokens text) number)
+
+-- its second key, where the first is this one
+abbrev pub second_key : List ℕ → List ℕ → Option (List ℕ)
+second_key first text =
+    if option_map_or (λ key. bytes_eq key first) (key_at 0 text) false then key_at 1 text else None
 
 -- the problem of a pointer from the root of an embedded document to what is added there, or has another value
 abbrev pub added_in : Draft → Reference → Document → List Problem
 added_in draft r d =
     option_map_or
     (λ key. if is_added_under draft d key then AddedMember r.uri key ∷ [] else [])
-    (first_key r.fragment) []
+    (option_and_then (key_at 0) (pointer_in r.fragment)) []
 
 -- the problems of a reference to a place of an embedded document, below a root of this draft
 abbrev pub embedded_problems : Draft → Reference → List Part → Document → List Problem
 embedded_problems draft r path d =
     replaced_in r.uri d ++ (if path_eq path [] then added_in draft r d else [])
 
+-- whether a document, by its number, is one that has to be embedded, and has this base URI
+abbrev pub is_embedded_as : Layer → ℕ → List ℕ → ℕ → Bool
+is_embedded_as layer top uri number =
+    not (number == top) && is_among (numbers_of_needed layer top) number
+    && option_map_or (λ d. bytes_eq (base_uri d) uri) (slice_get layer number) false
+
+-- whether a bundle adds the definition under this key: an embedded document's, by its base URI
+abbrev pub is_added_definition : Layer → ℕ → List ℕ → Bool
+is_added_definition layer top key =
+    option_map_or (is_embedded_as layer top key) (document_under layer key) false
+
+-- the problem of a pointer from the root to a definition that is added, or to what is below it
+abbrev pub added_definition : Layer → ℕ × Document → Reference → List Problem
+added_definition layer top r =
+    option_map_or
+    (λ key. if is_added_definition layer top.0 key then AddedMember r.uri key ∷ [] else [])
+    (option_and_then (second_key (definitions_keyword top.1.draft)) (pointer_in r.fragment)) []
+
+-- the problems of a reference to a place of the root's document
+abbrev pub root_problems : Layer → ℕ × Document → Reference → List Part → List Problem
+root_problems layer top r path = if path_eq path [] then added_definition layer top r else []
+
 -- the problems of a reference, by the own place that its URI means, or else by the place of a parent
 abbrev pub reference_problems_by : Layer → World → ℕ × Document → Reference → Option Site
     → List Problem
 reference_problems_by layer world top r None = option_to_list (shadowed_uri layer world r)
 reference_problems_by layer world top r (Some s) =
-    if s.0 == top.0 then []
+    if s.0 == top.0 then root_problems layer top r s.1
     else option_map_or (embedded_problems top.1.draft r s.1) (slice_get layer s.0) []
 
 abbrev pub reference_problems : Layer → World → ℕ × Document → Reference → List Problem

@@ -1,26 +1,25 @@
 -- What a bundle keeps of the documents that it is made of.
-use Rattle.std.specs.Prelude.{◌≡◌, ℕ, List, [], ◌∷◌, ◌++◌, map, filter, drop, not, ◌==◌, slice_get, codes, Some, None, Result, Ok, Err, ◌⊎◌}
+use Rattle.std.specs.Prelude.{◌≡◌, ℕ, List, [], ◌∷◌, map, filter, drop, not, ◌==◌, slice_get, codes, Some, None, Result, Ok, Err, ◌⊎◌}
 use Rattle.std.specs.List.{AllByRecursion, Contains}
 use Rattle.std.specs.List.Sorted.{IsStrictlyIncreasing}
-use Rattle.percent_encoding.specs.Percent.{percent_decode}
-use Rattle.serde_json.specs.Data.{Data}
+use Rattle.serde_json.specs.Data.{Data, object}
 use Rattle.serde_json.specs.Find.{get}
 use Rattle.ref_parts.specs.Path.{Part, Key}
 use Rattle.ref_parts.specs.Pointer.{unescape, tokens}
-use Rattle.ref_draft.specs.Schema.{text_under}
+use Rattle.ref_draft.specs.Schema.{text_under, identifier}
 use Rattle.ref_draft.specs.Children.{InKeyOrder, with_draft}
 use Rattle.ref_uri.specs.Targets.{target, fragment_part}
 use Rattle.ref_definitions.specs.World.{Document, Layer, World}
-use Rattle.ref_definitions.specs.Places.{Place, root, child_place, places}
+use Rattle.ref_definitions.specs.Places.{Place, root, base_within, child_place, places}
 use Rattle.ref_definitions.specs.Resources.{meant_place}
 use Rattle.ref_definitions.specs.Wants.{faults, open_wants}
-use Rattle.ref_definitions.specs.Fault.{Fault}
-use Rattle.ref_definitions.specs.Lookup.{Resolver, Found, lookup}
+use Rattle.ref_definitions.specs.Fault.{Fault, PointerToNowhere}
+use Rattle.ref_definitions.specs.Lookup.{Resolver, Found, moved_resolver, lookup}
 use Rattle.ref_bundle.specs.Merges.{IsMergeOf}
 use Rattle.ref_definitions.specs.Moving.{below_path}
 use Rattle.ref_bundle.specs.Needed.{referred_from, numbers_of_needed, needed_documents}
 use Rattle.ref_bundle.specs.Embedding.{base_uri, embedded_tree}
-use Rattle.ref_bundle.specs.Bundle.{Bundle, bundle_at, definitions_keyword, uris_of, to_embed}
+use Rattle.ref_bundle.specs.Bundle.{Bundle, bundle_at, definitions_keyword, definitions_of, with_all, member_of, pointer_in, uris_of, to_embed}
 
 -- the bundle as a document: under the root's URI, of the root's draft
 abbrev pub document_of_bundle : Document → Bundle → Document
@@ -82,48 +81,52 @@ HaveNoOpenWant =
 
 -- ---- look-ups
 
--- What a value is in the bundle: the same; an embedded document as a whole has what was added; and so has the root, and what
--- the root has under the keyword of definitions.
-pub data IsValueNow (layer : Layer) (number : ℕ) (top : Document) (bundle : Bundle)
+-- What a value is in the bundle, by the base of the answer: the same; an embedded document as a whole, where that is its base URI,
+-- with what was added; or the root, where that is a URI of the root, or what its identifier gives against one.
+pub data IsValueNow (layer : Layer) (number : ℕ) (top : Document) (bundle : Bundle) (base : List ℕ)
     (now before : Data) : Type 0 where
-  the_same : now ≡ before → IsValueNow layer number top bundle now before
-  an_embedded : (e : ℕ × Document) → Contains (to_embed layer number) e
+  the_same : now ≡ before → IsValueNow layer number top bundle base now before
+  an_embedded : (e : ℕ × Document) → Contains (to_embed layer number) e → base ≡ base_uri e.1
       → now ≡ embedded_tree top.draft e.1 → before ≡ e.1.tree
-      → IsValueNow layer number top bundle now before
-  the_root : now ≡ bundle.value → before ≡ top.tree → IsValueNow layer number top bundle now before
-  the_definitions : get (definitions_keyword top.draft) bundle.value ≡ Some now
-      → get (definitions_keyword top.draft) top.tree ≡ Some before
-      → IsValueNow layer number top bundle now before
+      → IsValueNow layer number top bundle base now before
+  the_root : (uri : List ℕ) → Contains (uris_of top (root top)) uri
+      → (base ≡ uri) ⊎ (base_within uri (identifier top.draft top.tree) ≡ Ok base)
+      → now ≡ bundle.value → before ≡ top.tree
+      → IsValueNow layer number top bundle base now before
 
 -- What a look-up returns in the bundle, and what it answered: such a value, with the same draft, base and scope, or the same
 -- fault.
 abbrev pub IsAnswerNow : Layer → ℕ → Document → Bundle → Result Found Fault → Result Found Fault
     → Type 0
 IsAnswerNow layer number top bundle (Ok now) (Ok before) =
-    IsValueNow layer number top bundle now.value before.value × (now.draft ≡ before.draft)
-    × (now.resolver ≡ before.resolver)
+    IsValueNow layer number top bundle now.resolver.base now.value before.value
+    × (now.draft ≡ before.draft) × (now.resolver ≡ before.resolver)
 IsAnswerNow layer number top bundle (Err now) (Err before) = now ≡ before
 IsAnswerNow layer number top bundle (Ok now) (Err before) = ⊥
 IsAnswerNow layer number top bundle (Err now) (Ok before) = ⊥
 
--- a fragment that is a pointer whose first tokens are these keys (RFC 6901, section 4)
-pub record BeginsWith (fragment : List ℕ) (keys : List (List ℕ)) : Type 0 where
+-- a fragment that is a pointer of these keys (RFC 6901, sections 3, 4 and 6)
+pub record IsPointerOf (fragment : List ℕ) (keys : List (List ℕ)) : Type 0 where
   pub text : List ℕ
-  pub rest : List (List ℕ)
-  pub is : fragment ≡ 47 ∷ text
-  pub first : map unescape (tokens (percent_decode text)) ≡ keys ++ rest
+  pub is : pointer_in fragment ≡ Some text
+  pub all : map unescape (tokens text) ≡ keys
 
--- A pointer from the root, where documents are embedded: to definitions that it didn't have, or to an embedded document
--- among them.
-pub data GoesIntoDefinitions (layer : Layer) (number : ℕ) (top : Document)
-    (fragment : List ℕ) : Type 0 where
-  to_definitions : (e : ℕ × Document) → Contains (to_embed layer number) e
-      → get (definitions_keyword top.draft) top.tree ≡ None
-      → BeginsWith fragment (definitions_keyword top.draft ∷ [])
-      → GoesIntoDefinitions layer number top fragment
-  to_embedded : (e : ℕ × Document) → Contains (to_embed layer number) e
-      → BeginsWith fragment (definitions_keyword top.draft ∷ base_uri e.1 ∷ [])
-      → GoesIntoDefinitions layer number top fragment
+-- the definitions of a bundle's root: its own, and the embedded documents
+abbrev pub definitions_now : Layer → ℕ → Document → Data
+definitions_now layer number top =
+    object (with_all (map (member_of top.draft) (to_embed layer number)) (definitions_of top))
+
+-- What a look-up by a pointer to the root's definitions returns in the bundle, and what it answered: all of them in place of the
+-- root's own, with the same draft, base and scope; or, where the root had none, all of them, and the fault that it led nowhere.
+pub data AreDefinitionsNow (layer : Layer) (number : ℕ) (top : Document) (r : Resolver)
+    (pointer : List ℕ) (now before : Result Found Fault) : Type 0 where
+  more_than : (own : Found) → get (definitions_keyword top.draft) top.tree ≡ Some own.value
+      → now ≡ Ok (record own { value = definitions_now layer number top }) → before ≡ Ok own
+      → AreDefinitionsNow layer number top r pointer now before
+  new_ones : get (definitions_keyword top.draft) top.tree ≡ None
+      → now ≡ Ok (record { value = definitions_now layer number top; draft = top.draft; resolver = r })
+      → before ≡ Err (PointerToNowhere pointer)
+      → AreDefinitionsNow layer number top r pointer now before
 
 -- a text that a value has under `$ref` or `$dynamicRef`
 abbrev pub RefersBy : Data → List ℕ → Type 0
@@ -140,18 +143,18 @@ pub record IsBorneByNeeded (layer : Layer) (number : ℕ) (uri : List ℕ) : Typ
   pub bears : Contains (uris_of document.1 place) uri
   pub stays : document.1.uri ≡ uri → base_uri document.1 ≡ uri
 
--- a reference whose pointer goes into definitions that were added, and whose look-up among the documents was a fault
-pub record PointsIntoDefinitions (layer : Layer) (parents : World) (number : ℕ) (top : Document)
-    (r : Resolver) (reference : List ℕ) : Type 0 where
+-- a reference by a pointer from the root to exactly its definitions
+pub record PointsToDefinitions (layer : Layer) (parents : World) (number : ℕ) (top : Document)
+    (r : Resolver) (reference : List ℕ) (now before : Result Found Fault) : Type 0 where
   pub uri : List ℕ
   pub to : target r.base reference ≡ Ok uri
   pub meant : meant_place (layer ∷ parents) uri ≡ Some (root top)
-  pub goes : GoesIntoDefinitions layer number top (fragment_part reference)
-  pub fault : Fault
-  pub was : lookup (layer ∷ parents) r reference ≡ Err fault
+  pub pointer : IsPointerOf (fragment_part reference) (definitions_keyword top.draft ∷ [])
+  pub answers : AreDefinitionsNow layer number top (moved_resolver r uri) (fragment_part reference)
+      now before
 
 -- A reference of a place of a needed document, from its base and a scope of URIs that needed places have: the look-up in the
--- bundle answers what it answered, or its pointer goes into definitions that were added, and it was a fault.
+-- bundle answers what it answered, or it is one of the root's definitions.
 abbrev pub KeepsReferences : Type 0
 KeepsReferences =
     (layer : Layer) (parents : World) (number : ℕ) (top : Document) (bundle : Bundle)
@@ -161,9 +164,10 @@ KeepsReferences =
     → RefersBy p.value reference
     → AllByRecursion (IsBorneByNeeded layer number) scope
     → let r : Resolver = record { base = base; scope = scope } in
-    IsAnswerNow layer number top bundle
-    (lookup (world_of_bundle top bundle parents) r reference) (lookup (layer ∷ parents) r reference)
-    ⊎ PointsIntoDefinitions layer parents number top r reference
+    let now = lookup (world_of_bundle top bundle parents) r reference in
+    let before = lookup (layer ∷ parents) r reference in
+    IsAnswerNow layer number top bundle now before
+    ⊎ PointsToDefinitions layer parents number top r reference now before
 
 -- ---- what is embedded
 

@@ -5,7 +5,7 @@ use Rattle.serde_json.specs.Data.{Data, object, member, no_members}
 use Rattle.ref_parts.specs.Path.{Part}
 use Rattle.ref_draft.specs.declared.draft.Draft.TheVariants.{Draft202012}
 use Rattle.ref_definitions.specs.World.{Document, Layer}
-use Rattle.ref_definitions.specs.Rows.{at, text, one, two}
+use Rattle.ref_definitions.specs.Rows.{at, text, one, two, three}
 use Rattle.ref_bundle.specs.Bundle.{Bundle, BundleRefusal, Problem, Embedded, bundle_at}
 
 -- what is shown of a bundle: its tree, and the numbers of the documents in it; or where it is refused, and why
@@ -38,6 +38,16 @@ refers_to_s = refers_to "s"
 -- a root that refers to `s`, with this as its one definition
 abbrev pub with_definition : Literal → Data → Data
 with_definition key d = two "$defs" (one key d) "$ref" (text "s")
+
+-- a root that refers to `s` and by this reference, and its bundle with an empty `s`
+abbrev pub refers_twice : Literal → Document
+refers_twice reference =
+    new "http://a/r" (two "$ref" (text "s") "not" (one "$ref" (text reference)))
+
+abbrev pub refers_twice_to_s : Literal → Data
+refers_twice_to_s reference =
+    three "$defs" (one "http://a/s" (one "$id" (text "http://a/s"))) "$ref" (text "s") "not"
+    (one "$ref" (text reference))
 
 -- what is listed of a document
 abbrev pub listed_as : ℕ → Literal → Bool → Option Literal → Embedded

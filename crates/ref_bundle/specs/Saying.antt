@@ -1,5 +1,5 @@
 -- What the program's bundles and errors say, and how refusals are displayed.
-use Rattle.std.specs.Prelude.{◌≡◌, ℕ, List, ◌++◌, codes, decimal, map, option_map, Result, Err, ⊤}
+use Rattle.std.specs.Prelude.{◌≡◌, ℕ, List, ◌++◌, codes, decimal, string_bytes, map, option_map, Result, Err, ⊤}
 use Rattle.serde_json.specs.View.{view}
 use Rattle.ref_parts.specs.Segment.{part_of}
 use Rattle.ref_bundle.specs.Embedding as embedding
@@ -36,7 +36,7 @@ problem_said (problems.SharedUri uri document path) =
 problem_said (problems.ReplacedUri uri base) = bundle.ReplacedUri uri.value base.value
 problem_said (problems.ShadowedUri uri base document path) =
     bundle.ShadowedUri uri.value base.value document (map part_of path.items)
-problem_said (problems.AddedMember uri key) = bundle.AddedMember uri.value key.now
+problem_said (problems.AddedMember uri key) = bundle.AddedMember uri.value (string_bytes key)
 
 -- a refusal
 abbrev pub refusal_said : rust_refusal.Refusal → BundleRefusal
@@ -97,8 +97,8 @@ problem_text (bundle.ShadowedUri uri base document path) =
     codes "the identifier of '" ++ uri ++ codes "' gives the URI '" ++ base
     ++ codes "', which document " ++ decimal document ++ codes " has"
 problem_text (bundle.AddedMember uri key) =
-    codes "the pointer leads to the member '" ++ key ++ codes "' of the document '" ++ uri
-    ++ codes "', which has another value in a bundle"
+    codes "the pointer leads to the member '" ++ key ++ codes "' in the document '" ++ uri
+    ++ codes "', which the bundle adds or changes"
 
 -- of a refusal
 abbrev pub refusal_text : BundleRefusal → List ℕ

@@ -70,14 +70,15 @@ pub enum Problem<'r> {
         /// The path of that schema there.
         path: Vec<JsonPointerSegment<'r>>,
     },
-    /// The place refers with a pointer to a member of the root of another document, or to what is below it, and the bundle
-    /// adds that member or gives it another value: the identifier, which is the document's base URI there, or the `$schema`
-    /// of its draft. Write the member into the document, as the bundle has it, or refer to something else.
+    /// The place refers with a pointer to a member that the bundle adds or gives another value, or to what is below it. At
+    /// the root of another document that is the identifier, which is the document's base URI there, or the `$schema` of its
+    /// draft: write the member into the document, as the bundle has it, or refer to something else. Among the definitions of
+    /// the bundle's root it is a document that is needed: refer to it by its URI.
     AddedMember {
-        /// The URI of the document.
+        /// The URI of the document that the pointer goes from.
         uri: Rc<Uri>,
-        /// The key of the member.
-        key: &'static str,
+        /// The key of the member: of a needed document among the definitions its base URI.
+        key: String,
     },
 }
 
@@ -165,7 +166,7 @@ impl fmt::Display for Problem<'_> {
             Problem::AddedMember { uri, key } => {
                 write!(
                     f,
-                    "the pointer leads to the member '{key}' of the document '{uri}', which has another value in a bundle"
+                    "the pointer leads to the member '{key}' in the document '{uri}', which the bundle adds or changes"
                 )
             }
         }

@@ -9,7 +9,7 @@ ghost use Rattle.ref_bundle.specs.Embedding.{UntoldDraft, ResolvedAgain};
 ghost use Rattle.ref_bundle.specs.Bundle.{embedded_document, NoDocument, NotEmbedded, NoMap, KeyTaken, SharedUri};
 ghost use Rattle.ref_bundle.specs.Bundle.{ReplacedUri, ShadowedUri, AddedMember};
 ghost use Rattle.ref_bundle.specs.Rows.{bundle, refused_bundle, bundle_of_first, bundle_above, new, refers_to, refers_to_s, with_definition};
-ghost use Rattle.ref_bundle.specs.Rows.{renamed_root, listed_as};
+ghost use Rattle.ref_bundle.specs.Rows.{renamed_root, listed_as, refers_twice, refers_twice_to_s};
 
 /// Bundles of documents of 2020-12.
 pub fn bundles()
@@ -168,6 +168,58 @@ pub fn added_members()
     ensures by_an_alias { bundle_of_first
         (refers_to "q#/$id" ∷ new "http://a/q" (one "$id" (text "k/s")) ∷ [])
         ≡ refused_bundle 0 [] (ReplacedUri (codes "http://a/q") (codes "http://a/k/s")) }
+{}
+
+/// Pointers from the root to a document that is embedded among its definitions, or to what is below it; and pointers that go
+/// elsewhere.
+pub fn added_definitions()
+    ensures to_a_document { bundle_of_first
+        (refers_twice "#/$defs/http:~1~1a~1s" ∷ new "http://a/s" empty ∷ [])
+        ≡ refused_bundle 0 (Key (codes "not") ∷ [])
+        (AddedMember (codes "http://a/r") (codes "http://a/s")) }
+    ensures escaped { bundle_of_first
+        (refers_twice "#/%24defs/http%3A~1~1a~1s" ∷ new "http://a/s" empty ∷ [])
+        ≡ refused_bundle 0 (Key (codes "not") ∷ [])
+        (AddedMember (codes "http://a/r") (codes "http://a/s")) }
+    ensures below_it { bundle_of_first
+        (refers_twice "#/$defs/http:~1~1a~1s/x/y" ∷ new "http://a/s" empty ∷ [])
+        ≡ refused_bundle 0 (Key (codes "not") ∷ [])
+        (AddedMember (codes "http://a/r") (codes "http://a/s")) }
+    ensures among_others { bundle_of_first
+        (new "http://a/r" (three "$defs" (one "z" yes) "$ref" (text "s") "not"
+        (one "$ref" (text "#/$defs/http:~1~1a~1s"))) ∷ new "http://a/s" empty ∷ [])
+        ≡ refused_bundle 0 (Key (codes "not") ∷ [])
+        (AddedMember (codes "http://a/r") (codes "http://a/s")) }
+    ensures from_it { bundle_of_first
+        (refers_to_s ∷ new "http://a/s" (one "$dynamicRef" (text "r#/$defs/http:~1~1a~1s")) ∷ [])
+        ≡ refused_bundle 1 [] (AddedMember (codes "http://a/r") (codes "http://a/s")) }
+    ensures by_its_base { bundle_of_first (new "http://a/r" (two "$ref" (text "k/s") "not"
+        (one "$ref" (text "#/$defs/http:~1~1a~1k~1s"))) ∷ new "http://a/q" (one "$id" (text "k/s"))
+        ∷ [])
+        ≡ refused_bundle 0 (Key (codes "not") ∷ [])
+        (AddedMember (codes "http://a/r") (codes "http://a/k/s")) }
+    ensures draft_7 { bundle_of_first (at Draft7 "http://a/r" (one "not" (one "allOf"
+        (pair (one "$ref" (text "s")) (one "$ref" (text "#/definitions/http:~1~1a~1s")))))
+        ∷ at Draft7 "http://a/s" empty ∷ [])
+        ≡ refused_bundle 0 (Key (codes "not") ∷ Key (codes "allOf") ∷ Index 1 ∷ [])
+        (AddedMember (codes "http://a/r") (codes "http://a/s")) }
+    ensures the_definitions { bundle_of_first
+        (refers_twice "#/$defs" ∷ new "http://a/s" empty ∷ [])
+        ≡ bundle (refers_twice_to_s "#/$defs") (1 ∷ []) }
+    ensures nothing_there { bundle_of_first
+        (refers_twice "#/$defs/http:~1~1a~1u" ∷ new "http://a/s" empty ∷ new "http://a/u" empty
+        ∷ [])
+        ≡ bundle (refers_twice_to_s "#/$defs/http:~1~1a~1u") (1 ∷ []) }
+    ensures under_another_key { bundle_of_first
+        (refers_twice "#/x/http:~1~1a~1s" ∷ new "http://a/s" empty ∷ [])
+        ≡ bundle (refers_twice_to_s "#/x/http:~1~1a~1s") (1 ∷ []) }
+    ensures from_a_subschema { bundle_of_first (new "http://a/r" (two "$ref" (text "s") "not"
+        (two "$id" (text "k") "$ref" (text "#/$defs/http:~1~1a~1s"))) ∷ new "http://a/s" empty ∷ [])
+        ≡ bundle (three "$defs" (one "http://a/s" (one "$id" (text "http://a/s"))) "$ref" (text "s")
+        "not" (two "$id" (text "k") "$ref" (text "#/$defs/http:~1~1a~1s"))) (1 ∷ []) }
+    ensures of_nothing_embedded { bundle_of_first
+        (refers_to "#/$defs/http:~1~1a~1r" ∷ new "http://a/s" empty ∷ [])
+        ≡ bundle (one "$ref" (text "#/$defs/http:~1~1a~1r")) [] }
 {}
 
 /// Roots that can't have definitions, and places that would mean others.

@@ -23,8 +23,9 @@ pub fn bundles_are_prepared()
 /// A bundle keeps every reference. For each place of a document that it needs, each text under its `$ref` or `$dynamicRef`, and
 /// each scope of URIs that needed places have: the look-up in the bundle from the place's base answers what it answered among
 /// the documents, with the same draft, base and scope, or the same fault. The value is the same, but that an embedded document
-/// as a whole has its identifier and its `$schema`, and the root and its definitions have the embedded documents. Only a
-/// pointer into definitions that the bundler added, which was a fault, may return something else.
+/// as a whole, by its base URI, has its identifier and its `$schema`, and the root as a whole, by its URIs, the embedded documents.
+/// A pointer from the root to exactly its definitions returns all of them, those that were added too; where there were none, it
+/// was a fault.
 pub fn bundles_keep_references()
     ensures law { KeepsReferences }
 {}
@@ -37,7 +38,7 @@ pub fn bundles_embed_what_is_needed()
 
 /// A bundle of two documents, and look-ups in bundles, beside those among the documents: below an embedded root and of it as
 /// a whole, by an anchor below a relative identifier, by a dynamic anchor, of the root's definitions, of definitions that it
-/// didn't have, of an identifier that stays, and of nothing.
+/// didn't have, also as they are escaped in a URI, of nothing in them, of an identifier that stays, and of nothing.
 pub fn look_ups_in_bundles()
     ensures a_bundle { IsBundle (refers_to_s ∷ new "http://a/s" empty ∷ []) [] 0 refers_to_s
         (record {
@@ -71,6 +72,17 @@ pub fn look_ups_in_bundles()
         ≡ (
           value (one "http://a/s" (one "$id" (text "http://a/s"))) (codes "http://a/r"),
           fault (PointerToNowhere (codes "/$defs")),
+        ) }
+    ensures escaped_definitions { both refers_to_s (new "http://a/s" empty ∷ []) "http://a/r" "#/%24defs"
+        ≡ (
+          value (one "http://a/s" (one "$id" (text "http://a/s"))) (codes "http://a/r"),
+          fault (PointerToNowhere (codes "/%24defs")),
+        ) }
+    ensures nothing_in_definitions { both refers_to_s
+        (new "http://a/s" empty ∷ []) "http://a/s" "r#/$defs/z"
+        ≡ (
+          fault (PointerToNowhere (codes "/$defs/z")),
+          fault (PointerToNowhere (codes "/$defs/z")),
         ) }
     ensures the_same_identifier { both (refers_to "s#/$id")
         (new "http://a/s" (one "$id" (text "http://a/s")) ∷ []) "http://a/r" "s#/$id"

@@ -10,6 +10,7 @@ mod bundling;
 mod embedding;
 mod error;
 pub mod examples;
+mod first;
 mod fragment;
 mod keeping;
 pub mod laws;

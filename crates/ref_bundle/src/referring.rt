@@ -1,24 +1,28 @@
 //! What refuses a reference: the first problem of what a place refers to.
-ghost use Rattle.std.specs.Prelude.{◌≡◌, [], ◌∷◌, map, option_map, Some, None, if◌then◌else◌, IfOk};
+ghost use Rattle.std.specs.Prelude.{◌≡◌, [], map, option_map, Some, string_bytes, if◌then◌else◌, IfOk};
+ghost use Rattle.ref_parts.specs.Path.{path_eq};
 ghost use Rattle.ref_parts.specs.Segment.{part_of};
 ghost use Rattle.ref_definitions.specs.World.{Layer};
 ghost use Rattle.ref_bundle.specs.Needed.{site_under};
 ghost use Rattle.ref_bundle.specs.Embedding.{has_other_identifier, is_added_under};
 ghost use Rattle.ref_bundle.specs.Bundle as bundle;
 ghost use Rattle.ref_bundle.specs.Bundle.{replaced_in, shadowed_uri, added_in, embedded_problems, reference_problems};
+ghost use Rattle.ref_bundle.specs.Bundle.{is_embedded_as, is_added_definition, added_definition, root_problems};
 ghost use Rattle.ref_bundle.specs.Saying.{problem_said};
 ghost use Rattle.ref_bundle.specs.inner.Seen.{seen_spot, seen_reference, document_in, layer_in, part_document, numbered_part};
 ghost use Rattle.ref_bundle.specs.inner.Seen.{HasPlaces, AreOwn, HasBase};
+ghost use Rattle.ref_bundle.specs.inner.Reach.{AreMarked};
 ghost use Rattle.ref_bundle.specs.inner.Tables.{AreTables};
 ghost use Rattle.ref_bundle.specs.inner.First.{first, references_seen};
 
-use crate::embedding::{Part, added_schema, part_of};
+use crate::embedding::{Part, added_schema, definitions_keyword, part_of};
 use crate::error::Problem;
-use crate::fragment::{first_key, is_name};
+use crate::first::first_found;
+use crate::fragment::{first_key, is_name, second_key};
 use crate::own::{Own, Spot};
-use crate::refusing::copied;
+use crate::refusing::{copied, is_marked};
 use crate::tables::Bearers;
-use crate::uris::{Reference, identified, references};
+use crate::uris::{Reference, base_uri, identified, references};
 use referencing::{Draft, JsonPointerSegment, Uri};
 use serde_json::Value;
 use std::alloc::{AllocError, Global};
@@ -102,20 +106,28 @@ fn has_other_identifier(part: &Part<'_>) -> bool
     }
 }
 
-// A key of the root of a document, where its member is added below a root of a draft, or has another value there.
-fn added_key(draft: Draft, part: &Part<'_>, key: &str) -> Option<&'static str>
+// Whether the member under a key of a document's root is added below a root of a draft, or has another value there.
+fn is_added_under(draft: Draft, part: &Part<'_>, key: &str) -> bool
     requires { HasBase part.now }
-    ensures { option_map (λ k. k.now) result
-        ≡ (if is_added_under draft (part_document part.now) key.now then Some key.now else None) }
+    ensures { result ≡ is_added_under draft (part_document part.now) key.now }
 {
-    let keyword = part.draft.id_keyword();
-    if key == keyword && has_other_identifier(part) {
-        return Some(keyword);
-    }
-    if key == "$schema" && added_schema(draft, part).is_some() {
-        return Some("$schema");
-    }
-    None
+    (key == part.draft.id_keyword() && has_other_identifier(part))
+        || (key == "$schema" && added_schema(draft, part).is_some())
+}
+
+// The problem of a reference to a member that is added, or has another value.
+fn added_member<'r>(
+    reference: &Reference<'_>,
+    key: String,
+) -> Result<Option<Problem<'r>>, AllocError>
+    ensures { IfOk result
+        (λ o. option_map problem_said o
+        ≡ Some (bundle.AddedMember (seen_reference reference.now).uri (string_bytes key))) }
+{
+    Ok(Some(Problem::AddedMember {
+        uri: reference.uri.clone()?,
+        key,
+    }))
 }
 
 // The problem of a pointer from the root of a document to what is added below a root of a draft, or has another value there.
@@ -133,17 +145,14 @@ fn added_in<'r>(
     let Some(key) = first_key(alloc, reference.fragment)? else {
         return Ok(None);
     };
-    match added_key(draft, part, key.as_str()) {
-        Some(key) => Ok(Some(Problem::AddedMember {
-            uri: reference.uri.clone()?,
-            key,
-        })),
-        None => Ok(None),
+    if is_added_under(draft, part, key.as_str()) {
+        return added_member(reference, key);
     }
+    Ok(None)
 }
 
-// The first problem of a reference to the place at a path of a document that is embedded below a root of a draft.
-fn embedded_problem<'r>(
+// The same, where the place that the URI means is the root.
+fn added_at<'r>(
     alloc: Global,
     draft: Draft,
     part: &Part<'_>,
@@ -154,20 +163,17 @@ fn embedded_problem<'r>(
     ensures { IfOk result
         (λ o. option_map problem_said o
         ≡ first
-        (embedded_problems draft (seen_reference reference.now) (map part_of path.now)
-        (part_document part.now))) }
+        (if path_eq (map part_of path.now) [] then
+        added_in draft (seen_reference reference.now) (part_document part.now) else [])) }
 {
-    if let Some(problem) = replaced_in(part, &reference.uri)? {
-        return Ok(Some(problem));
-    }
     if path.is_empty() {
         return added_in(alloc, draft, part, reference);
     }
     Ok(None)
 }
 
-// The same of a document with its places.
-fn own_problem<'r>(
+// The first problem of a reference to the place at a path of a document that is embedded below a root of a draft.
+fn embedded_problem<'r>(
     alloc: Global,
     draft: Draft,
     own: &Own<'_>,
@@ -182,19 +188,119 @@ fn own_problem<'r>(
         (document_in own.now))) }
 {
     let part = part_of(alloc, own)?;
-    embedded_problem(alloc, draft, &part, path, reference)
+    first_found(
+        replaced_in(&part, &reference.uri),
+        added_at(alloc, draft, &part, path, reference),
+    )
 }
 
-// The first problem of a reference, where its URI means a place of another document than the root, or one of a parent.
-fn reference_problem<'r>(
+// Whether a document, by its number, is one that is embedded, and has this base URI.
+fn is_embedded_as(
     alloc: Global,
-    bearers: &Bearers<'r, '_>,
     owns: &[Own<'_>],
+    needed: &[bool],
+    top: usize,
+    uri: &str,
+    number: usize,
+) -> Result<bool, AllocError>
+    requires own { AreOwn owns.now }
+    requires needed { AreMarked (layer_in owns.now) top needed.now }
+    ensures { IfOk result (λ is. is ≡ is_embedded_as (layer_in owns.now) top uri.now number) }
+{
+    if number == top || !is_marked(needed, number) {
+        return Ok(false);
+    }
+    match owns.get(number) {
+        Some(own) => Ok(base_uri(alloc, own)?.as_str() == uri),
+        None => Ok(false),
+    }
+}
+
+// Whether a bundle adds the definition under a key.
+fn is_added_definition(
+    alloc: Global,
+    bearers: &Bearers<'_, '_>,
+    owns: &[Own<'_>],
+    needed: &[bool],
+    top: usize,
+    key: &str,
+) -> Result<bool, AllocError>
+    requires own { AreOwn owns.now }
+    requires tables { AreTables (layer_in owns.now) bearers.now }
+    requires needed { AreMarked (layer_in owns.now) top needed.now }
+    ensures { IfOk result (λ is. is ≡ is_added_definition (layer_in owns.now) top key.now) }
+{
+    match bearers.document_under(key) {
+        Some(number) => is_embedded_as(alloc, owns, needed, top, key, number),
+        None => Ok(false),
+    }
+}
+
+// The problem of a pointer from the root to a definition that is added, or to what is below it.
+fn added_definition<'r>(
+    alloc: Global,
+    bearers: &Bearers<'_, '_>,
+    owns: &[Own<'_>],
+    needed: &[bool],
     top: &Part<'_>,
     reference: &Reference<'_>,
 ) -> Result<Option<Problem<'r>>, AllocError>
     requires own { AreOwn owns.now }
     requires tables { AreTables (layer_in owns.now) bearers.now }
+    requires needed { AreMarked (layer_in owns.now) top.now.number needed.now }
+    ensures { IfOk result
+        (λ o. option_map problem_said o
+        ≡ first
+        (added_definition (layer_in owns.now) (numbered_part top.now)
+        (seen_reference reference.now))) }
+{
+    let keyword = definitions_keyword(top.draft);
+    let Some(key) = second_key(alloc, keyword, reference.fragment)? else {
+        return Ok(None);
+    };
+    if is_added_definition(alloc, bearers, owns, needed, top.number, key.as_str())? {
+        return added_member(reference, key);
+    }
+    Ok(None)
+}
+
+// The first problem of a reference to the place at a path of the root's document.
+fn root_problem<'r>(
+    alloc: Global,
+    bearers: &Bearers<'_, '_>,
+    owns: &[Own<'_>],
+    needed: &[bool],
+    top: &Part<'_>,
+    path: &[JsonPointerSegment<'_>],
+    reference: &Reference<'_>,
+) -> Result<Option<Problem<'r>>, AllocError>
+    requires own { AreOwn owns.now }
+    requires tables { AreTables (layer_in owns.now) bearers.now }
+    requires needed { AreMarked (layer_in owns.now) top.now.number needed.now }
+    ensures { IfOk result
+        (λ o. option_map problem_said o
+        ≡ first
+        (root_problems (layer_in owns.now) (numbered_part top.now) (seen_reference reference.now)
+        (map part_of path.now))) }
+{
+    if path.is_empty() {
+        return added_definition(alloc, bearers, owns, needed, top, reference);
+    }
+    Ok(None)
+}
+
+// The first problem of a reference, by the own place that its URI means, or else by the place of a parent.
+fn reference_problem<'r>(
+    alloc: Global,
+    bearers: &Bearers<'r, '_>,
+    owns: &[Own<'_>],
+    needed: &[bool],
+    top: &Part<'_>,
+    reference: &Reference<'_>,
+) -> Result<Option<Problem<'r>>, AllocError>
+    requires own { AreOwn owns.now }
+    requires tables { AreTables (layer_in owns.now) bearers.now }
+    requires needed { AreMarked (layer_in owns.now) top.now.number needed.now }
     ensures { IfOk result
         (λ o. option_map problem_said o
         ≡ first
@@ -204,11 +310,12 @@ fn reference_problem<'r>(
     let Some(site) = bearers.site_under(reference.uri.as_str()) else {
         return shadowed(alloc, bearers, reference);
     };
+    let path = site.path.as_slice();
     if site.document == top.number {
-        return Ok(None);
+        return root_problem(alloc, bearers, owns, needed, top, path, reference);
     }
     match owns.get(site.document) {
-        Some(own) => own_problem(alloc, top.draft, own, site.path.as_slice(), reference),
+        Some(own) => embedded_problem(alloc, top.draft, own, path, reference),
         None => Ok(None),
     }
 }
@@ -218,11 +325,13 @@ pub(crate) fn reference_problems<'r>(
     alloc: Global,
     bearers: &Bearers<'r, '_>,
     owns: &[Own<'_>],
+    needed: &[bool],
     top: &Part<'_>,
     spot: &Spot<'_>,
 ) -> Result<Option<Problem<'r>>, AllocError>
     requires own { AreOwn owns.now }
     requires tables { AreTables (layer_in owns.now) bearers.now }
+    requires needed { AreMarked (layer_in owns.now) top.now.number needed.now }
     ensures value { IfOk result
         (λ o. option_map problem_said o
         ≡ first
@@ -231,7 +340,7 @@ pub(crate) fn reference_problems<'r>(
 {
     let references = references(alloc, spot)?;
     for reference in &references {
-        if let Some(problem) = reference_problem(alloc, bearers, owns, top, reference)? {
+        if let Some(problem) = reference_problem(alloc, bearers, owns, needed, top, reference)? {
             return Ok(Some(problem));
         }
     }

@@ -12,7 +12,7 @@ ghost use Rattle.ref_bundle.specs.Needed.{sites_of_uris};
 ghost use Rattle.ref_bundle.specs.Bundle.{at_path, shared_uri, place_refusals};
 ghost use Rattle.ref_bundle.specs.Bundle.{map_refusals, root_refusals, refusals_in};
 ghost use Rattle.ref_bundle.specs.Saying.{problem_said, refusal_said};
-ghost use Rattle.ref_bundle.specs.inner.Reach.{is_marked};
+ghost use Rattle.ref_bundle.specs.inner.Reach.{is_marked, AreMarked};
 ghost use Rattle.ref_bundle.specs.inner.Seen.{seen_spot, own_uri_of, numbered_document, document_in, layer_in, part_document};
 ghost use Rattle.ref_bundle.specs.inner.Seen.{numbered_part, HasPlaces, AreOwn, HasBase};
 ghost use Rattle.ref_bundle.specs.inner.Tables.{AreTables};
@@ -20,6 +20,7 @@ ghost use Rattle.ref_bundle.specs.inner.First.{first, shared_seen, references_se
 
 use crate::embedding::{Part, definitions_keyword, obstacle, part_of};
 use crate::error::{Problem, Refusal};
+use crate::first::first_found;
 use crate::own::{Own, Spot};
 use crate::referring::reference_problems;
 use crate::tables::Bearers;
@@ -101,10 +102,10 @@ fn shared_uris<'r>(
         → IfOk result (λ o. option_map problem_said o
         ≡ first (shared_seen layer own.now.uri.now (seen_spot spot.now))) }
 {
-    match shared_uri(alloc, bearers, spot, root_uri(own.uri, spot))? {
-        Some(problem) => Ok(Some(problem)),
-        None => shared_uri(alloc, bearers, spot, own_ref(spot)),
-    }
+    first_found(
+        shared_uri(alloc, bearers, spot, root_uri(own.uri, spot)),
+        shared_uri(alloc, bearers, spot, own_ref(spot)),
+    )
 }
 
 // The first problem of a place.
@@ -112,21 +113,23 @@ fn place_problem<'r>(
     alloc: Global,
     bearers: &Bearers<'r, '_>,
     owns: &[Own<'r>],
+    needed: &[bool],
     top: &Part<'_>,
     own: &Own<'r>,
     spot: &Spot<'r>,
 ) -> Result<Option<Problem<'r>>, AllocError>
     requires own { AreOwn owns.now }
     requires tables { AreTables (layer_in owns.now) bearers.now }
+    requires needed { AreMarked (layer_in owns.now) top.now.number needed.now }
     ensures { IfOk result (λ o. option_map problem_said o
         ≡ first (shared_seen (layer_in owns.now) own.now.uri.now (seen_spot spot.now)
         ++ references_seen (layer_in owns.now) bearers.now.registry.now (numbered_part top.now)
         (seen_spot spot.now))) }
 {
-    match shared_uris(alloc, bearers, own, spot)? {
-        Some(problem) => Ok(Some(problem)),
-        None => reference_problems(alloc, bearers, owns, top, spot),
-    }
+    first_found(
+        shared_uris(alloc, bearers, own, spot),
+        reference_problems(alloc, bearers, owns, needed, top, spot),
+    )
 }
 
 // A refusal of a place.
@@ -151,19 +154,21 @@ fn place_refusal<'r>(
     alloc: Global,
     bearers: &Bearers<'r, '_>,
     owns: &[Own<'r>],
+    needed: &[bool],
     top: &Part<'_>,
     own: &Own<'r>,
     spot: &Spot<'r>,
 ) -> Result<Option<Refusal<'r>>, AllocError>
     requires own { AreOwn owns.now }
     requires tables { AreTables (layer_in owns.now) bearers.now }
+    requires needed { AreMarked (layer_in owns.now) top.now.number needed.now }
     ensures { IfOk result (λ o. option_map refusal_said o
         ≡ first
         (refusals_seen (layer_in owns.now) bearers.now.registry.now (numbered_part top.now)
         own.now.uri.now
         (seen_spot spot.now))) }
 {
-    match place_problem(alloc, bearers, owns, top, own, spot)? {
+    match place_problem(alloc, bearers, owns, needed, top, own, spot)? {
         Some(problem) => Ok(Some(at_place(alloc, spot, problem)?)),
         None => Ok(None),
     }
@@ -174,11 +179,13 @@ fn places_refusal<'r>(
     alloc: Global,
     bearers: &Bearers<'r, '_>,
     owns: &[Own<'r>],
+    needed: &[bool],
     top: &Part<'_>,
     own: &Own<'r>,
 ) -> Result<Option<Refusal<'r>>, AllocError>
     requires own { AreOwn owns.now }
     requires tables { AreTables (layer_in owns.now) bearers.now }
+    requires needed { AreMarked (layer_in owns.now) top.now.number needed.now }
     requires places { HasPlaces own.now }
     ensures { IfOk result (λ o. option_map refusal_said o
         ≡ first
@@ -186,7 +193,7 @@ fn places_refusal<'r>(
         (numbered_document own.now))) }
 {
     for spot in &own.places {
-        if let Some(refusal) = place_refusal(alloc, bearers, owns, top, own, spot)? {
+        if let Some(refusal) = place_refusal(alloc, bearers, owns, needed, top, own, spot)? {
             return Ok(Some(refusal));
         }
     }
@@ -367,12 +374,14 @@ fn refusal_in<'r>(
     alloc: Global,
     bearers: &Bearers<'r, '_>,
     owns: &[Own<'r>],
+    needed: &[bool],
     top: &Part<'_>,
     parts: &[Part<'_>],
     own: &Own<'r>,
 ) -> Result<Option<Refusal<'r>>, AllocError>
     requires own { AreOwn owns.now }
     requires tables { AreTables (layer_in owns.now) bearers.now }
+    requires needed { AreMarked (layer_in owns.now) top.now.number needed.now }
     requires top { HasBase top.now }
     requires parts { AllByRecursion HasBase parts.now }
     requires places { HasPlaces own.now }
@@ -381,10 +390,10 @@ fn refusal_in<'r>(
         (refusals_in (layer_in owns.now) bearers.now.registry.now (numbered_part top.now)
         (map numbered_part parts.now) (numbered_document own.now))) }
 {
-    match whole_refusal(alloc, top, parts, own)? {
-        Some(refusal) => Ok(Some(refusal)),
-        None => places_refusal(alloc, bearers, owns, top, own),
-    }
+    first_found(
+        whole_refusal(alloc, top, parts, own),
+        places_refusal(alloc, bearers, owns, needed, top, own),
+    )
 }
 
 // Whether a number is marked.
@@ -409,6 +418,7 @@ fn refusal_if_needed<'r>(
 ) -> Result<Option<Refusal<'r>>, AllocError>
     requires own { AreOwn owns.now }
     requires tables { AreTables (layer_in owns.now) bearers.now }
+    requires needed { AreMarked (layer_in owns.now) top.now.number needed.now }
     requires top { HasBase top.now }
     requires parts { AllByRecursion HasBase parts.now }
     requires places { HasPlaces own.now }
@@ -419,7 +429,7 @@ fn refusal_if_needed<'r>(
         (map numbered_part parts.now) (numbered_document own.now) else [])) }
 {
     if is_marked(needed, own.number) {
-        return refusal_in(alloc, bearers, owns, top, parts, own);
+        return refusal_in(alloc, bearers, owns, needed, top, parts, own);
     }
     Ok(None)
 }
@@ -435,6 +445,7 @@ pub(crate) fn first_refusal<'r>(
 ) -> Result<Option<Refusal<'r>>, AllocError>
     requires own { AreOwn owns.now }
     requires tables { AreTables (layer_in owns.now) bearers.now }
+    requires needed { AreMarked (layer_in owns.now) top.now.number needed.now }
     requires top { HasBase top.now }
     requires parts { AllByRecursion HasBase parts.now }
     ensures value { IfOk result (λ o. option_map refusal_said o

@@ -1,5 +1,5 @@
 -- The first of the refusals.
-use Rattle.std.specs.Prelude.{ℕ, ◌==◌, List, [], ◌∷◌, ◌++◌, flat_map, map, is_some, if◌then◌else◌, Option, Some, None}
+use Rattle.std.specs.Prelude.{ℕ, ◌==◌, List, [], ◌∷◌, ◌++◌, flat_map, map, is_some, if◌then◌else◌, Option, Some, None, Result, Ok, Err}
 use Rattle.std.specs.Option.{option_to_list}
 use Rattle.serde_json.specs.Data.{Data}
 use Rattle.serde_json.specs.Find.{get}
@@ -13,6 +13,13 @@ use Rattle.ref_bundle.specs.inner.Seen.{Seen, own_uri_of}
 abbrev pub first : {X : Type 0} → List X → Option X
 first [] = None
 first (x ∷ xs) = Some x
+
+-- what the first of two checks found, or else what the second did
+abbrev pub first_found : {X E : Type 0} → Result (Option X) E → Result (Option X) E
+    → Result (Option X) E
+first_found (Ok None) other = other
+first_found (Ok (Some x)) other = Ok (Some x)
+first_found (Err error) other = Err error
 
 -- the URIs that a place has, where its document has this one
 abbrev pub uris_seen : List ℕ → Seen → List (List ℕ)

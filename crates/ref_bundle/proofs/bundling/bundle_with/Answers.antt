@@ -1,13 +1,19 @@
-use Rattle.std.proofs.Common.{◌≡◌, ◌==◌, ◌&&◌, ℕ, not, None, Some, map, filter, option_map, refl, ap, sym, ◌∙◌, rules}
+use Rattle.std.proofs.Common.{◌≡◌, ◌==◌, ◌&&◌, ℕ, not, None, Some, map, filter, option_map, refl, ap, sym, subst, ◌∙◌, rules}
 use Rattle.ref_definitions.specs.World.{Document}
 use Rattle.ref_bundle.specs.Bundle.{to_embed, bundle_of}
 use Rattle.ref_bundle.specs.Saying.{refusal_said, bundle_said}
-use Rattle.ref_bundle.specs.inner.Reach.{is_marked}
+use Rattle.ref_bundle.specs.inner.Reach.{is_marked, AreMarked}
 use Rattle.ref_bundle.specs.inner.Seen.{document_in, layer_in, numbered_document, numbered_part}
 use Rattle.ref_bundle.proofs.Gathering.{document_at}
 use Rattle.ref_bundle.proofs.Running.{reached_are_needed}
-use Rattle.ref_bundle.proofs.Whole.{AreMarked, parts_are, first_is, is_refused, is_bundle}
+use Rattle.ref_bundle.proofs.Whole.{parts_are, first_is, is_refused, is_bundle}
 use Rattle.ref_bundle.proofs.bundling.bundle_with.Goals as goal
+
+pub first_refusal-requires-clause-needed : goal.first_refusal-requires-clause-needed
+first_refusal-requires-clause-needed c =
+    let layer = layer_in c.args.owns.now in
+    let same : c.in_ok-top.top.number ≡ c.args.top.now.number = ap (λ (e : ℕ × Document). e.0) c.in_ok-top.ensures.value in
+    subst (λ n. AreMarked layer n c.args.needed.now) (sym same) (reached_are_needed layer c.args.top.now.number c.args.needed.now c.requires.needed)
 
 pub returns-in-Some-clause-fault : goal.returns-in-Some-clause-fault
 returns-in-Some-clause-fault c =

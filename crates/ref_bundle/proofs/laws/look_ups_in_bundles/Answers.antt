@@ -13,6 +13,8 @@ returns c = record {
   dynamic_anchor = refl;
   the_definitions = refl;
   new_definitions = refl;
+  escaped_definitions = refl;
+  nothing_in_definitions = refl;
   the_same_identifier = refl;
   nowhere = refl;
 }
