@@ -1,7 +1,6 @@
 -- What no public clause cites.
 pub mod Keywords
 pub mod Meanings
-pub mod PlaceView
 pub mod Seen
 pub mod Queue
 pub mod Wanted

@@ -11,7 +11,7 @@ ghost use Rattle.ref_findings.specs.inner.Seen.{place_of, site_of, seen_survey, 
 use crate::base::{base_of, nearest_base};
 use crate::place::Place;
 use crate::site::Site;
-use crate::surveyed::Survey;
+use crate::survey::Survey;
 use ref_draft::{Anchor, AnchorIter};
 use ref_parts::SortedTable;
 use ref_uri::Uri;

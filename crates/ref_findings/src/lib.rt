@@ -16,7 +16,6 @@ mod problem;
 mod site;
 mod source;
 mod survey;
-mod surveyed;
 mod texts;
 mod walk;
 

@@ -8,14 +8,12 @@ ghost use Rattle.ref_definitions.specs.Wants.{faults};
 ghost use Rattle.ref_findings.specs.Bearers.{numbered_sites};
 ghost use Rattle.ref_findings.specs.Entries.{source_of};
 ghost use Rattle.ref_index.specs.Listed.{AreNoted, place_of as visited_place};
-ghost use Rattle.ref_index.specs.Visits.{ChildrenStandAt};
-ghost use Rattle.ref_findings.specs.inner.Seen.{place_of, site_of, seen_survey, survey_in, sound_in, AreSurveys};
+ghost use Rattle.ref_findings.specs.inner.Seen.{place_of, site_of, seen_survey, survey_in, sound_in, AreSurveys, PlacesStand};
 
 use crate::fault::is_any_faulty;
 use crate::place::Place;
 use crate::site::Site;
 use crate::source::Source;
-use crate::surveyed::Survey;
 use crate::walk::places_of;
 use ref_draft::Draft;
 use ref_index::queue::Visit;
@@ -25,13 +23,22 @@ use ref_uri::UriFault;
 use serde_json::Value;
 use std::alloc::{AllocError, Global};
 
+/// A source with its places, and whether it is JSON without a text that means no URI.
+#[derive(Drop)]
+pub(crate) struct Survey<'s, 'v> {
+    pub source: &'s Source<'v>,
+    pub places: Vec<Place<'v>>,
+    pub is_sound: bool,
+}
+
 // The source with its places.
 fn survey_of<'s, 'v>(
     alloc: Global,
     draft: Draft,
     source: &'s Source<'v>,
 ) -> Result<Survey<'s, 'v>, AllocError>
-    ensures { IfOk result (λ s. seen_survey s ≡ survey_in draft (source_of source.now)) }
+    ensures value { IfOk result (λ s. seen_survey s ≡ survey_in draft (source_of source.now)) }
+    ensures stand { IfOk result PlacesStand }
 {
     let Some(value) = source.value else {
         return Ok(Survey {
@@ -58,6 +65,7 @@ pub(crate) fn surveys_of<'s, 'v>(
     ensures value { IfOk result
         (λ surveys. map seen_survey surveys.items
         ≡ map (survey_in draft) (map source_of sources.now)) }
+    ensures stand { IfOk result (λ surveys. AllByRecursion PlacesStand surveys.items) }
 {
     let mut surveys = Vec::with_capacity(alloc, sources.len())?;
     for source in sources {
@@ -120,6 +128,7 @@ fn with_document<'v>(
     value: &'v Value,
 ) -> Result<Walked<'v>, AllocError>
     requires survey { seen_survey survey.now ≡ survey_in draft (source_of survey.now.source.now) }
+    requires stand { PlacesStand survey.now }
     requires sound { survey.now.is_sound ≡ true }
     requires value { (source_of survey.now.source.now).tree ≡ Some (view value.now) }
     requires faultless { faults
@@ -152,6 +161,7 @@ fn with_source<'v>(
 ) -> Result<Walked<'v>, AllocError>
     requires faultless { faults walked ≡ [] }
     requires survey { seen_survey survey.now ≡ survey_in draft (source_of survey.now.source.now) }
+    requires stand { PlacesStand survey.now }
     ensures value { IfOk result
         (λ more. more ≡ walked.entry ++ sound_in draft (seen_survey survey.now)) }
     ensures faultless { IfOk result (λ more. faults more ≡ []) }
@@ -174,6 +184,7 @@ fn with_sources<'v>(
 ) -> Result<Walked<'v>, AllocError>
     requires faultless { faults walked ≡ [] }
     requires surveys { AreSurveys draft (map seen_survey surveys.now) }
+    requires stand { AllByRecursion PlacesStand surveys.now }
     ensures value { IfOk result
         (λ more. more ≡ walked.entry ++ flat_map (sound_in draft) (map seen_survey surveys.now)) }
     ensures faultless { IfOk result (λ more. faults more ≡ []) }
@@ -194,6 +205,8 @@ pub(crate) fn index_of<'v>(
 ) -> Result<Index<'v>, AllocError>
     requires surveys { AreSurveys draft (map seen_survey surveys.now) }
     requires others { AreSurveys draft (map seen_survey others.now) }
+    requires stand { AllByRecursion PlacesStand surveys.now }
+    requires others_stand { AllByRecursion PlacesStand others.now }
     ensures value { IfOk result
         (λ index. index
         ≡ flat_map (sound_in draft) (map seen_survey surveys.now)

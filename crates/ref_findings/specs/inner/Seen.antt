@@ -1,4 +1,4 @@
--- The program's tables and sources as the definitions see them.
+-- The program's places, tables and sources as the definitions see them.
 use Rattle.std.specs.Prelude.{◌≡◌, ℕ, Bool, List, [], ◌∷◌, ◌++◌, map, flat_map, reverse, if◌then◌else◌}
 use Rattle.std.specs.List.{AllByRecursion}
 use Rattle.std.specs.Option.{option_to_list}
@@ -10,17 +10,33 @@ use Rattle.ref_definitions.specs.Resources.{own_uri}
 use Rattle.serde_json.specs.View.{view}
 use Rattle.ref_draft.specs.Schema.{identifier}
 use Rattle.ref_draft.specs.declared.draft.Draft.{Draft}
-use Rattle.ref_definitions.specs.Places.{Place}
+use Rattle.ref_definitions.specs.Places.{Place, base_within}
+use Rattle.ref_index.specs.Visits.{ChildrenStandAt}
 use Rattle.ref_resolver.specs.Layered.{world_in}
-pub use Rattle.ref_findings.specs.inner.PlaceView.{place_with, place_of}
+use Rattle.ref_findings.specs.declared.place.Place as rust
 use Rattle.ref_findings.specs.declared.walk.Keyword as rust_keyword
 use Rattle.ref_findings.specs.declared.site.Site as rust_site
-use Rattle.ref_findings.specs.declared.surveyed.Survey as rust_survey
+use Rattle.ref_findings.specs.declared.survey.Survey as rust_survey
 use Rattle.ref_findings.specs.declared.problem.Known as rust_known
 use Rattle.ref_findings.specs.Sources.{Source, document_in, places_in, is_sound, under_uri}
 use Rattle.ref_findings.specs.Bearers.{Site, uris_borne, names_borne}
 use Rattle.ref_findings.specs.Findings.{Known}
 use Rattle.ref_findings.specs.Entries.{source_of}
+
+-- a place, by its path, value, draft and the base around it
+abbrev pub place_with : List Part → Data → Draft → List ℕ → Place
+place_with path value draft outer =
+    record {
+      path = path;
+      value = value;
+      draft = draft;
+      outer = outer;
+      base = base_within outer (identifier draft value);
+    }
+
+-- that of the program
+abbrev pub place_of : rust.Place → Place
+place_of p = place_with p.path (view p.value.now) p.draft p.outer.value
 
 -- a keyword with its path, right below a path
 abbrev pub IsKeywordBelow : List Part → rust_keyword.Keyword → Type 0
@@ -44,6 +60,10 @@ seen_survey s =
       places = map place_of s.places.items;
       is_sound = s.is_sound;
     }
+
+-- the children of each of its places are at their paths
+abbrev pub PlacesStand : rust_survey.Survey → Type 0
+PlacesStand s = AllByRecursion ChildrenStandAt (map place_of s.places.items)
 
 -- that of a source
 abbrev pub survey_in : Draft → Source → Survey

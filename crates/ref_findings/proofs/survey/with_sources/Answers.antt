@@ -1,8 +1,17 @@
-use Rattle.std.proofs.Common.{◌≡◌}
+use Rattle.std.proofs.Common.{◌≡◌, List, [], ◌∷◌, map, refl, ap, sym, subst}
+use Rattle.std.specs.List.{AllByRecursion}
 use Rattle.ref_index.proofs.Noting.{all_at}
-use Rattle.ref_findings.specs.inner.Seen.{Survey, seen_survey, survey_in}
+use Rattle.ref_findings.specs.inner.Seen.{Survey, PlacesStand, seen_survey, survey_in}
 use Rattle.ref_findings.proofs.survey.with_sources.Goals as goal
+
+map_same : {A : Type 0} (xs : List A) → map (λ x. x) xs ≡ xs
+map_same [] = refl
+map_same (x ∷ xs) = ap (λ l. x ∷ l) (map_same xs)
 
 pub with_source-requires-clause-survey : goal.with_source-requires-clause-survey
 with_source-requires-clause-survey c =
     all_at (λ (t : Survey). t ≡ survey_in c.args.draft t.source) seen_survey c.args.surveys.now c.loop-survey.survey-index c.survey-item.result c.requires.surveys c.loop-survey-test.true c.survey-item.is
+
+pub with_source-requires-clause-stand : goal.with_source-requires-clause-stand
+with_source-requires-clause-stand c =
+    all_at PlacesStand (λ s. s) c.args.surveys.now c.loop-survey.survey-index c.survey-item.result (subst (AllByRecursion PlacesStand) (sym (map_same c.args.surveys.now)) c.requires.stand) c.loop-survey-test.true c.survey-item.is
