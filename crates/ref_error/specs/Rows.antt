@@ -7,6 +7,7 @@ use Rattle.ref_uri.specs.declared.error.UriError.TheVariants.{Parse}
 use Rattle.ref_uri.specs.declared.error.ParseError.TheVariants.{Syntax}
 use Rattle.ref_definitions.specs.Fault as fault
 use Rattle.ref_error.specs.Errors.{reason_text, retrieve_error_text, error_text, IsForReason, SaysFault, IsFaultOf, IsMemory, SaysOrMemory}
+use Rattle.ref_error.specs.Retrieving.{IfRefused}
 use Rattle.ref_error.specs.declared.error.Reason.TheVariants.{NotFetched, NoDocument, NotSupported, Text}
 use Rattle.ref_error.specs.declared.error.RetrieveError.TheVariants as retrieve_error
 use Rattle.ref_error.specs.declared.error.Error.TheVariants.{Unretrievable, PointerToNowhere, InvalidPercentEncoding, InvalidArrayIndex, NoSuchAnchor, InvalidAnchor, InvalidUri, UnknownSpecification, CircularMetaschema, RetrievalLimit, Memory}
@@ -81,6 +82,13 @@ pub record FaultRows : Type 0 where
   pub for_memory_no_reason : (uri : String Global) (e : AllocError)
       → IsForReason (Unretrievable uri (retrieve_error.Memory e)) NotFetched → ⊥
   pub without_a_source : (u : String Global) → IsForReason (UnknownSpecification u) NotFetched
+  pub refused_with_its_text : IfRefused (retrieve_error.Refused NoDocument)
+      (λ text. text ≡ codes "no document under this URI")
+  pub refused_with_no_other_text : IfRefused (retrieve_error.Refused NoDocument)
+      (λ text. text ≡ codes "")
+      → ⊥
+  pub memory_refuses_nothing : (e : AllocError)
+      → IfRefused (retrieve_error.Memory e) (λ text. text ≡ codes "")
   pub memory : (e : AllocError) → IsMemory (Memory e)
   pub no_memory : (p : String Global) → IsMemory (NoSuchAnchor p) → ⊥
   pub says_or_memory : (e : AllocError) (f : fault.Fault) → SaysOrMemory f (Memory e)

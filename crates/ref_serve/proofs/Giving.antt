@@ -1,10 +1,11 @@
 -- What look-ups give.
-use Rattle.std.proofs.Common.{◌≡◌, ℕ, List, [], ◌∷◌, ◌++◌, Result, Ok, refl, sym, ap, ◌∙◌, subst}
+use Rattle.std.proofs.Common.{◌≡◌, ℕ, List, [], ◌∷◌, ◌++◌, Option, Result, Ok, refl, sym, ap, ◌∙◌, subst}
 use Rattle.serde_json.specs.Data.{Data, object, Members, no_members, put}
 use Rattle.serde_json.specs.View.{view}
 use Rattle.serde_json.specs.declared.value.Value.{Value}
 use Rattle.ref_definitions.specs.Fault.{Fault}
 use Rattle.ref_definitions.specs.Lookup.{Resolver, Found as WorldFound}
+use Rattle.ref_index.specs.Spots.{Spot}
 use Rattle.ref_json.specs.declared.stop.Stop.{Stop}
 use Rattle.ref_calls.specs.Objects.{with_all, object_of}
 use Rattle.ref_serve.specs.declared.place.Found.{Found}
@@ -21,9 +22,9 @@ pub in_two_steps : (xs ys : List (List ℕ × Data)) (first second third : Membe
 in_two_steps xs ys first second third none one two =
     ap object (two ∙ ap (with_all ys) (one ∙ ap (with_all xs) none) ∙ sym (with_all-append xs ys no_members))
 
-pub found_as : (asked : Asked) (answer : Result WorldFound Fault) (f : Found) (r : Resolver) (d : Data) → IsFoundBy asked.world answer f r
-    → d ≡ object_of (found_members asked f.location (view f.value.now) f.draft ++ resolver_members r) → IsFound asked answer (Ok d)
-found_as asked answer f r d (is, stands) whole = subst (λ a. IsFound asked a (Ok d)) (sym is) (f.location, stands, whole)
+pub found_as : (asked : Asked) (at : Option (ℕ × Spot)) (answer : Result WorldFound Fault) (f : Found) (r : Resolver) (d : Data) → IsFoundBy asked.world at answer f r
+    → d ≡ object_of (found_members asked f.location (view f.value.now) f.draft ++ resolver_members r) → IsFound asked at answer (Ok d)
+found_as asked at answer f r d (is, stands, there) whole = subst (λ a. IsFound asked at a (Ok d)) (sym is) (f.location, there, stands, whole)
 
 pub gives_then : {A : Type 0} (read : Result A Data) (x : A) (may : A → Result Data Data → Type 0) (result : Result Value (Stop Value)) → read ≡ Ok x → Gives (may x) result → Gives (Then read may) result
 gives_then read x may result is given = subst (λ r. Gives (Then r may) result) (sym is) given

@@ -1,6 +1,8 @@
 -- Steps that are read, and followed one after another.
-use Rattle.std.proofs.Common.{◌≡◌, ℕ, suc, ◌+◌, add-one, true, List, [], ◌∷◌, ◌++◌, map, Option, Some, None, option_map, IfSome, Result, Ok, Err, IfOk, IfErr, refl, sym, ap, ◌∙◌, subst}
-use Rattle.std.proofs.lemmas.List.{map-append}
+use Rattle.std.proofs.Common.{◌≡◌, ℕ, suc, ◌+◌, ◌<◌, ◌≤◌, add-one, true, List, [], ◌∷◌, ◌++◌, map, drop, length, get_or, Option, Some, None, option_map, IfSome, Result, Ok, Err, IfOk, IfErr, refl, sym, ap, ◌∙◌, subst}
+use Rattle.std.specs.Prelude.{option_and_then}
+use Rattle.std.specs.Result.{result_ok}
+use Rattle.std.proofs.lemmas.List.{map-append, drop_all, drop_more}
 use Rattle.std.specs.declared.alloc.AllocError.{AllocError}
 use Rattle.serde_json.specs.Data.{Data}
 use Rattle.serde_json.specs.View.{view, items_view}
@@ -14,7 +16,8 @@ use Rattle.ref_definitions.specs.Follow as world
 use Rattle.ref_error.specs.declared.error.Error.{Error}
 use Rattle.ref_error.specs.declared.error.Error.TheVariants as error
 use Rattle.ref_error.specs.Errors.{IsFaultOf, SaysFault, is_memory}
-use Rattle.ref_resolver.specs.Locations.{StandsAt}
+use Rattle.ref_index.specs.Spots.{Spot}
+use Rattle.ref_resolver.specs.Locations.{StandsAt, told_by}
 use Rattle.ref_resolver.proofs.Faults.{fault_ends}
 use Rattle.referencing.specs.declared.steps.Step.{Step}
 use Rattle.referencing.specs.Following.{step_of, SaysStepFault}
@@ -25,7 +28,7 @@ use Rattle.ref_calls.specs.Calls.{each_item}
 use Rattle.ref_calls.proofs.Further.{in_front, in_front_push, first_read}
 use Rattle.ref_serve.specs.declared.place.Found.{Found}
 use Rattle.ref_serve.specs.Results.{Asked, Gives, found_members, resolver_members}
-use Rattle.ref_serve.specs.Following.{step_in, step_members, IsFollowed, IsFollowedTo}
+use Rattle.ref_serve.specs.Following.{step_in, step_members, step_place, place_after, IsFollowed, IsFollowedTo}
 use Rattle.ref_serve.specs.inner.Seen.{IsFoundBy}
 use Rattle.ref_serve.specs.inner.Steps.{IsLookedUpTo, IsStepError}
 
@@ -54,6 +57,19 @@ look_up_stops (Err e) answer is = fault_ends answer (λ found. Ok (world.after_l
 pub entered : (w : World) (f : world.Followed) (draft : Draft) (value : Data) (r : Resolver) → in_subresource f.resolver draft value ≡ Ok r → world.after_step w f (world.Enter draft value) ≡ Ok (record { last = f.last; resolver = r })
 entered w f draft value r at = rw at refl
 
+-- ---- the place of what was found last
+
+-- after one step more
+pub place_next : (w : World) (n : ℕ) (at : Option (ℕ × Spot)) (f g : world.Followed) (steps : List Step) (s : Step) → n < length steps → s ≡ get_or steps n s → world.after_step w f (step_of s) ≡ Ok g
+    → place_after w at f (map step_of (drop n steps)) ≡ place_after w (step_place w f.resolver at (step_of s)) g (map step_of (drop (n + 1) steps))
+place_next w n at f g steps s within here is =
+    ap (λ xs. place_after w at f (map step_of xs)) (drop_more steps n s within ∙ ap (λ x. x ∷ drop (n + 1) steps) (sym here))
+    ∙ ap (λ a. option_and_then (λ h. place_after w (step_place w f.resolver at (step_of s)) h (map step_of (drop (n + 1) steps))) (result_ok a)) is
+
+-- without a step more
+pub place_end : (w : World) (n : ℕ) (at : Option (ℕ × Spot)) (f : world.Followed) (steps : List Step) → length steps ≤ n → place_after w at f (map step_of (drop n steps)) ≡ at
+place_end w n at f steps all = ap (λ xs. place_after w at f (map step_of xs)) (drop_all n steps all)
+
 -- ---- the error of a step
 
 pub step_error_is : (whole : Result world.Followed (ℕ × Fault)) (n : ℕ) (e : Error) (value : Value) → SaysStepFault whole n e → (is_memory e ≡ true → ⊥)
@@ -72,26 +88,27 @@ step_error_is whole n (error.Memory memory) value said never gives = absurd (nev
 
 -- ---- the whole
 
-pub found_to : (w : World) (answer : Result WorldFound Fault) (x : Found) (r : Resolver) (f : world.Followed) → IsFoundBy w answer x r
+pub found_to : (w : World) (at : Option (ℕ × Spot)) (answer : Result WorldFound Fault) (x : Found) (r : Resolver) (f : world.Followed) → IsFoundBy w at answer x r
     → f ≡ record { last = Some (view x.value.now, x.draft); resolver = r } → IsLookedUpTo answer f
-found_to w answer x r f (is, stands) same = (record { value = view x.value.now; draft = x.draft; resolver = r }, is, same)
+found_to w at answer x r f (is, stands, there) same = (record { value = view x.value.now; draft = x.draft; resolver = r }, is, same)
 
-pub result_stopped : (asked : Asked) (answer : Result world.Followed (ℕ × Fault)) (stop : Stop Value) → IsStepError answer stop → Gives (IsFollowed asked answer) (Err stop)
-result_stopped asked answer Memory is = tt
-result_stopped asked answer (Because value) (n, fault, is, says) = subst (λ a. IsFollowed asked a (Err (view value))) (sym is) says
+pub result_stopped : (asked : Asked) (at : Option (ℕ × Spot)) (answer : Result world.Followed (ℕ × Fault)) (stop : Stop Value) → IsStepError answer stop → Gives (IsFollowed asked at answer) (Err stop)
+result_stopped asked at answer Memory is = tt
+result_stopped asked at answer (Because value) (n, fault, is, says) = subst (λ a. IsFollowed asked at a (Err (view value))) (sym is) says
 
-pub result_found : (asked : Asked) (answer : Result world.Followed (ℕ × Fault)) (f : world.Followed) (d : Data) → answer ≡ Ok f → IsFollowedTo asked f.last f.resolver d → IsFollowed asked answer (Ok d)
-result_found asked answer f d is given = subst (λ a. IsFollowed asked a (Ok d)) (sym is) given
+pub result_found : (asked : Asked) (at here : Option (ℕ × Spot)) (answer : Result world.Followed (ℕ × Fault)) (f : world.Followed) (d : Data) → at ≡ here → answer ≡ Ok f → IsFollowedTo asked here f.last f.resolver d
+    → IsFollowed asked at answer (Ok d)
+result_found asked at here answer f d there is given = subst (λ p. IsFollowed asked p answer (Ok d)) (sym there) (subst (λ a. IsFollowed asked here a (Ok d)) (sym is) given)
 
 pub object_at : (asked : Asked) (last : Option Found) (x : Found) (r : Resolver) (result : Result Value AllocError) → last ≡ Some x → IfSome last (λ y. StandsAt asked.world y.location (view y.value.now))
     → IfOk result (λ d. view d ≡ object_of (found_members asked x.location (view x.value.now) x.draft ++ resolver_members r))
-    → IfOk result (λ d. IsFollowedTo asked (option_map (λ y. (view y.value.now, y.draft)) last) r (view d))
+    → IfOk result (λ d. IsFollowedTo asked (option_map (λ y. told_by y.location) last) (option_map (λ y. (view y.value.now, y.draft)) last) r (view d))
 object_at asked last x r (Ok d) is placed given =
-    subst (λ o. IsFollowedTo asked (option_map (λ y. (view y.value.now, y.draft)) o) r (view d)) (sym is)
-    (x.location, subst (λ o. IfSome o (λ y. StandsAt asked.world y.location (view y.value.now))) is placed, given)
+    subst (λ o. IsFollowedTo asked (option_map (λ y. told_by y.location) o) (option_map (λ y. (view y.value.now, y.draft)) o) r (view d)) (sym is)
+    (x.location, refl, subst (λ o. IfSome o (λ y. StandsAt asked.world y.location (view y.value.now))) is placed, given)
 object_at asked last x r (Err e) is placed given = tt
 
 pub object_without : (asked : Asked) (last : Option Found) (r : Resolver) (result : Result Value AllocError) → last ≡ None → IfOk result (λ d. view d ≡ object_of (resolver_members r))
-    → IfOk result (λ d. IsFollowedTo asked (option_map (λ y. (view y.value.now, y.draft)) last) r (view d))
-object_without asked last r (Ok d) is given = subst (λ o. IsFollowedTo asked (option_map (λ y. (view y.value.now, y.draft)) o) r (view d)) (sym is) given
+    → IfOk result (λ d. IsFollowedTo asked (option_map (λ y. told_by y.location) last) (option_map (λ y. (view y.value.now, y.draft)) last) r (view d))
+object_without asked last r (Ok d) is given = subst (λ o. IsFollowedTo asked (option_map (λ y. told_by y.location) o) (option_map (λ y. (view y.value.now, y.draft)) o) r (view d)) (sym is) given
 object_without asked last r (Err e) is given = tt

@@ -1,12 +1,16 @@
 -- The result of `follow`.
-use Rattle.std.specs.Prelude.{◌≡◌, ℕ, List, [], ◌∷◌, ◌++◌, codes, Option, None, Some, Result, Ok, Err}
+use Rattle.std.specs.Prelude.{◌≡◌, ℕ, List, [], ◌∷◌, ◌++◌, codes, Option, None, Some, option_and_then, Result, Ok, Err}
+use Rattle.std.specs.Result.{result_ok}
 use Rattle.serde_json.specs.Data.{Data, null, boolean, number, string, array, object}
 use Rattle.ref_draft.specs.declared.draft.Draft.{Draft}
 use Rattle.ref_draft.specs.Schema.{detect}
 use Rattle.ref_definitions.specs.Results.{◌>>=◌}
+use Rattle.ref_definitions.specs.World.{World}
 use Rattle.ref_definitions.specs.Fault.{Fault}
 use Rattle.ref_definitions.specs.Lookup.{Resolver}
-use Rattle.ref_definitions.specs.Follow.{Step, Lookup, Recursive, Enter, Followed, followed_from}
+use Rattle.ref_definitions.specs.Follow.{Step, Lookup, Recursive, Enter, Followed, after_step, followed_from}
+use Rattle.ref_index.specs.Spots.{Spot}
+use Rattle.ref_resolver.specs.Locations.{located, recursive_reference}
 use Rattle.ref_calls.specs.declared.fault.Wrong.TheVariants.{InvalidField}
 use Rattle.ref_calls.specs.Objects.{object_of, whole}
 use Rattle.ref_calls.specs.Errors.{field_error, fault_members, at_index}
@@ -42,28 +46,45 @@ steps_of draft d = do
 abbrev pub start_at : Resolver → Followed
 start_at r = record { last = None; resolver = r }
 
--- the object of where steps lead: that of the value that was found last, with any location where it is, and the base
--- and the scope; without a value these alone
-abbrev pub IsFollowedTo : Asked → Option (Data × Draft) → Resolver → Data → Type 0
-IsFollowedTo asked None r d = d ≡ object_of (resolver_members r)
-IsFollowedTo asked (Some last) r d =
-    IsFoundAt asked (record { value = last.0; draft = last.1; resolver = r }) d
+-- the place of the value that was found last, after one more step: a look-up finds another, and entering none
+abbrev pub step_place : World → Resolver → Option (ℕ × Spot) → Step → Option (ℕ × Spot)
+step_place world r at (Lookup reference) = located world r reference
+step_place world r at Recursive = located world r (recursive_reference world r)
+step_place world r at (Enter draft value) = at
+
+-- after steps, as far as they lead somewhere
+abbrev pub place_after : World → Option (ℕ × Spot) → Followed → List Step → Option (ℕ × Spot)
+place_after world at f [] = at
+place_after world at f (step ∷ steps) =
+    option_and_then (λ g. place_after world (step_place world f.resolver at step) g steps)
+    (result_ok (after_step world f step))
+
+-- the object of where steps lead: that of the value that was found last, at this place, and the base and the scope;
+-- without a value these alone
+abbrev pub IsFollowedTo : Asked → Option (ℕ × Spot) → Option (Data × Draft) → Resolver → Data
+    → Type 0
+IsFollowedTo asked at None r d = d ≡ object_of (resolver_members r)
+IsFollowedTo asked at (Some last) r d =
+    IsFoundAt asked at (record { value = last.0; draft = last.1; resolver = r }) d
 
 -- the members of the error of a step: those of its fault, and its number
 abbrev pub step_members : ℕ → Fault → List (List ℕ × Data)
 step_members n fault = fault_members fault ++ (codes "step", whole n) ∷ []
 
 -- the object of where steps lead, or the error of the first that is faulty
-abbrev pub IsFollowed : Asked → Result Followed (ℕ × Fault) → Result Data Data → Type 0
-IsFollowed asked (Ok f) (Ok d) = IsFollowedTo asked f.last f.resolver d
-IsFollowed asked (Ok f) (Err e) = ⊥
-IsFollowed asked (Err fault) (Ok d) = ⊥
-IsFollowed asked (Err fault) (Err e) = e ≡ object_of (step_members fault.0 fault.1)
+abbrev pub IsFollowed : Asked → Option (ℕ × Spot) → Result Followed (ℕ × Fault)
+    → Result Data Data
+    → Type 0
+IsFollowed asked at (Ok f) (Ok d) = IsFollowedTo asked at f.last f.resolver d
+IsFollowed asked at (Ok f) (Err e) = ⊥
+IsFollowed asked at (Err fault) (Ok d) = ⊥
+IsFollowed asked at (Err fault) (Err e) = e ≡ object_of (step_members fault.0 fault.1)
 
 -- the steps one after another, from the base and the scope of the call
 abbrev pub IsFollowedFrom : Asked → Resolver → List Step → Result Data Data → Type 0
 IsFollowedFrom asked r steps outcome =
-    IsFollowed asked (followed_from asked.world 0 (start_at r) steps) outcome
+    IsFollowed asked (place_after asked.world None (start_at r) steps)
+    (followed_from asked.world 0 (start_at r) steps) outcome
 
 -- the same of a call whose draft may not be readable, nor its steps
 abbrev pub IsFollowedBy : Data → Asked → Resolver → Result Data Data → Type 0

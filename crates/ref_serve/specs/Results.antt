@@ -14,7 +14,8 @@ use Rattle.ref_definitions.specs.Fault.{Fault, as_invalid_uri}
 use Rattle.ref_definitions.specs.Lookup.{Resolver, Found, lookup, in_subresource}
 use Rattle.ref_definitions.specs.Recursive.{lookup_recursive}
 use Rattle.ref_resolver.specs.declared.location.Location.{Location}
-use Rattle.ref_resolver.specs.Locations.{StandsAt}
+use Rattle.ref_index.specs.Spots.{Spot}
+use Rattle.ref_resolver.specs.Locations.{StandsAt, located, recursive_reference, told_by}
 use Rattle.ref_draft.specs.Names.{draft_name}
 use Rattle.ref_calls.specs.declared.fault.Wrong.TheVariants.{InvalidField}
 use Rattle.ref_json.specs.declared.stop.Stop.{Stop}
@@ -81,26 +82,29 @@ found_members asked l value draft =
 
 -- ---- lookup and recursive
 
--- the object of what is found: any location where the value stands
-abbrev pub IsFoundAt : Asked → Found → Data → Type 0
-IsFoundAt asked found d =
-    (l : Location) × StandsAt asked.world l found.value
+-- the object of what is found: this is its place, and the value stands there
+abbrev pub IsFoundAt : Asked → Option (ℕ × Spot) → Found → Data → Type 0
+IsFoundAt asked at found d =
+    (l : Location) × (at ≡ Some (told_by l)) × StandsAt asked.world l found.value
     × (d
     ≡ object_of
     (found_members asked l found.value found.draft ++ resolver_members found.resolver))
 
--- the object of what a look-up finds, or the error of its fault
-abbrev pub IsFound : Asked → Result Found Fault → Result Data Data → Type 0
-IsFound asked (Ok found) (Ok d) = IsFoundAt asked found d
-IsFound asked (Ok found) (Err e) = ⊥
-IsFound asked (Err fault) (Ok d) = ⊥
-IsFound asked (Err fault) (Err e) = e ≡ fault_error fault
+-- the object of what a look-up finds at a place, or the error of its fault
+abbrev pub IsFound : Asked → Option (ℕ × Spot) → Result Found Fault → Result Data Data → Type 0
+IsFound asked at (Ok found) (Ok d) = IsFoundAt asked at found d
+IsFound asked at (Ok found) (Err e) = ⊥
+IsFound asked at (Err fault) (Ok d) = ⊥
+IsFound asked at (Err fault) (Err e) = e ≡ fault_error fault
 
 unfoldable pub IsLookedUp : Asked → Resolver → List ℕ → Result Data Data → Type 0
-IsLookedUp asked r reference outcome = IsFound asked (lookup asked.world r reference) outcome
+IsLookedUp asked r reference outcome =
+    IsFound asked (located asked.world r reference) (lookup asked.world r reference) outcome
 
 unfoldable pub IsRecursive : Asked → Resolver → Result Data Data → Type 0
-IsRecursive asked r outcome = IsFound asked (lookup_recursive asked.world r) outcome
+IsRecursive asked r outcome =
+    IsFound asked (located asked.world r (recursive_reference asked.world r))
+    (lookup_recursive asked.world r) outcome
 
 -- an object, or one with an error
 abbrev pub listed_outcome : Result Data Data → Data

@@ -1,5 +1,5 @@
 //! `follow`.
-ghost use Rattle.std.specs.Prelude.{◌≡◌, ◌++◌, true, option_map, map, Ok, IfOk, IfErr, IsErr};
+ghost use Rattle.std.specs.Prelude.{◌≡◌, ◌++◌, true, option_map, map, None, Ok, IfOk, IfErr, IsErr};
 ghost use Rattle.serde_json.specs.View.{view, items_view};
 ghost use Rattle.ref_definitions.specs.Fault.{Fault};
 ghost use Rattle.ref_definitions.specs.Follow.{after_step, followed_from};
@@ -12,8 +12,8 @@ ghost use Rattle.ref_calls.specs.Calls.{each_item};
 ghost use Rattle.ref_serve.specs.Following as spec;
 ghost use Rattle.ref_serve.specs.Results as results;
 ghost use Rattle.ref_serve.specs.Results.{Gives};
-ghost use Rattle.ref_serve.specs.inner.Seen.{asked_view, answer_at};
-ghost use Rattle.ref_serve.specs.inner.Steps.{followed_view, IsPlaced, IsLookedUpTo, IsStepError};
+ghost use Rattle.ref_serve.specs.inner.Seen.{asked_view, answer_at, place_at};
+ghost use Rattle.ref_serve.specs.inner.Steps.{followed_view, IsPlaced, placed_at, IsLookedUpTo, IsStepError};
 
 use crate::asked::{Asked, asked_of, resolver_of};
 use crate::entering::resolver_object;
@@ -99,6 +99,9 @@ fn looked_up<'s>(
         (answer_at (world_of resolver.now) (resolver_view resolver.now) (option_map
         (λ r. r.now) reference.entry)) (followed_view f)) }
     ensures placed { IfOk result (λ f. IsPlaced (world_of resolver.now) f) }
+    ensures place { IfOk result
+        (λ f. place_at (world_of resolver.now) (resolver_view resolver.now) (option_map
+        (λ r. r.now) reference.entry) ≡ placed_at f) }
     ensures world { IfOk result (λ f. world_of f.resolver ≡ world_of resolver.now) }
     ensures fault { IfErr result
         (IsFaultOf (answer_at (world_of resolver.now) (resolver_view resolver.now) (option_map
@@ -122,6 +125,9 @@ fn stepped<'s>(
         (λ f. after_step (world_of followed.entry.resolver) (followed_view followed.entry)
         (step_of step.now) ≡ Ok (followed_view f)) }
     ensures placed { IfOk result (λ f. IsPlaced (world_of followed.entry.resolver) f) }
+    ensures place { IfOk result
+        (λ f. spec.step_place (world_of followed.entry.resolver) (resolver_view followed.entry.resolver)
+        (placed_at followed.entry) (step_of step.now) ≡ placed_at f) }
     ensures world { IfOk result (λ f. world_of f.resolver ≡ world_of followed.entry.resolver) }
     ensures fault { IfErr result
         (IsFaultOf (after_step (world_of followed.entry.resolver) (followed_view followed.entry)
@@ -161,6 +167,9 @@ fn all_followed<'s>(
         (λ f. followed_from (world_of start.entry) 0 (spec.start_at (resolver_view start.entry))
         (map step_of steps.now) ≡ Ok (followed_view f)) }
     ensures placed { IfOk result (λ f. IsPlaced (world_of start.entry) f) }
+    ensures place { IfOk result
+        (λ f. spec.place_after (world_of start.entry) None (spec.start_at (resolver_view start.entry))
+        (map step_of steps.now) ≡ placed_at f) }
     ensures error { IfErr result (IsStepError (followed_from (world_of start.entry) 0 (spec.start_at
         (resolver_view start.entry)) (map step_of steps.now))) }
 {
@@ -203,7 +212,7 @@ fn followed_object(
 ) -> Result<Value, AllocError>
     requires { IsPlaced asked.now.registry.now.0 followed.now }
     ensures { IfOk result
-        (λ d. spec.IsFollowedTo (asked_view asked.now) (followed_view followed.now).last
+        (λ d. spec.IsFollowedTo (asked_view asked.now) (placed_at followed.now) (followed_view followed.now).last
         (resolver_view followed.now.resolver) (view d)) }
 {
     match &followed.last {

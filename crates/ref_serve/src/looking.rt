@@ -7,7 +7,7 @@ ghost use Rattle.ref_calls.specs.Calls.{each_item};
 ghost use Rattle.ref_calls.specs.Outcome.{Answers};
 ghost use Rattle.ref_serve.specs.Results as results;
 ghost use Rattle.ref_serve.specs.Results.{Gives, Then};
-ghost use Rattle.ref_serve.specs.inner.Seen.{asked_view, answer_at};
+ghost use Rattle.ref_serve.specs.inner.Seen.{asked_view, answer_at, place_at};
 
 use crate::asked::{Asked, asked_of, resolver_of};
 use crate::place::{found_at, put_found, put_resolver};
@@ -29,7 +29,8 @@ fn found_object(
 ) -> Result<Value, Error>
     requires { world_of resolver.now ≡ asked.now.registry.now.0 }
     ensures ok { IfOk result
-        (λ d. results.IsFound (asked_view asked.now) (answer_at asked.now.registry.now.0
+        (λ d. results.IsFound (asked_view asked.now) (place_at asked.now.registry.now.0
+        (resolver_view resolver.now) (option_map (λ r. r.now) reference.entry)) (answer_at asked.now.registry.now.0
         (resolver_view resolver.now) (option_map (λ r. r.now) reference.entry)) (Ok (view d))) }
     ensures fault { IfErr result
         (IsFaultOf (answer_at asked.now.registry.now.0 (resolver_view resolver.now) (option_map
@@ -52,6 +53,8 @@ fn found_or_stop(
     requires { world_of resolver.now ≡ asked.now.registry.now.0 }
     ensures { Gives
         (results.IsFound (asked_view asked.now)
+        (place_at asked.now.registry.now.0 (resolver_view resolver.now)
+        (option_map (λ r. r.now) reference.entry))
         (answer_at asked.now.registry.now.0 (resolver_view resolver.now)
         (option_map (λ r. r.now) reference.entry))) result }
 {

@@ -6,11 +6,11 @@ ghost use Rattle.serde_json.specs.View.{view, members_view};
 ghost use Rattle.ref_parts.specs.Pointer.{pointer_text};
 ghost use Rattle.ref_parts.specs.Segment.{part_of};
 ghost use Rattle.ref_error.specs.Errors.{IsFaultOf};
-ghost use Rattle.ref_resolver.specs.Locations.{IsWhere};
+ghost use Rattle.ref_resolver.specs.Locations.{IsWhere, told_by};
 ghost use Rattle.ref_resolver.specs.Resolving.{resolver_of, world_of};
 ghost use Rattle.ref_calls.specs.Objects.{with_all, whole};
 ghost use Rattle.ref_serve.specs.Results as results;
-ghost use Rattle.ref_serve.specs.inner.Seen.{asked_view, IsFoundBy, answer_at};
+ghost use Rattle.ref_serve.specs.inner.Seen.{asked_view, IsFoundBy, answer_at, place_at};
 
 use crate::asked::Asked;
 use ref_calls::members::{Members, put_number, put_text, uris_of};
@@ -28,6 +28,9 @@ fn location_of<'s>(
         (IsWhere (world_of resolver.now)
         (answer_at (world_of resolver.now) (resolver_of resolver.now)
         (option_map (λ r. r.now) reference.entry))) }
+    ensures place { IfOk result
+        (λ l. place_at (world_of resolver.now) (resolver_of resolver.now)
+        (option_map (λ r. r.now) reference.entry) ≡ Some (told_by l)) }
     ensures fault { IfErr result
         (IsFaultOf (answer_at (world_of resolver.now) (resolver_of resolver.now) (option_map
         (λ r. r.now) reference.entry))) }
@@ -85,7 +88,8 @@ pub fn found_at<'s>(
     reference: Option<&str>,
 ) -> Result<(Found<'s>, Resolver<'s>), Error>
     ensures ok { IfOk result
-        (λ f. IsFoundBy (world_of resolver.now) (answer_at (world_of resolver.now)
+        (λ f. IsFoundBy (world_of resolver.now) (place_at (world_of resolver.now)
+        (resolver_of resolver.now) (option_map (λ r. r.now) reference.entry)) (answer_at (world_of resolver.now)
         (resolver_of resolver.now) (option_map (λ r. r.now) reference.entry)) f.0 (resolver_of f.1)) }
     ensures world { IfOk result (λ f. world_of f.1 ≡ world_of resolver.now) }
     ensures fault { IfErr result

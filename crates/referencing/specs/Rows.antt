@@ -10,7 +10,8 @@ use Rattle.ref_definitions.specs.Fault as fault
 use Rattle.ref_parts.specs.Path.{Part, Key}
 use Rattle.ref_definitions.specs.World.{World}
 use Rattle.ref_definitions.specs.Places.{root}
-use Rattle.ref_definitions.specs.Rows.{at, world, yes, empty, text, one, two, refers_to_b, b_refers_to_c, c_is_true, given_alone, given_with, look, found_value, resolver}
+use Rattle.ref_definitions.specs.Follow.{Followed}
+use Rattle.ref_definitions.specs.Rows.{at, world, yes, empty, text, one, two, refers_to_b, b_refers_to_c, c_is_true, given_alone, given_with, followed_to, look, found_value, resolver}
 use Rattle.ref_error.specs.declared.error.Error.TheVariants.{PointerToNowhere, NoSuchAnchor, InvalidUri, RetrievalLimit, Memory}
 use Rattle.ref_index.specs.Retrieval.{IsFaultyOutcome}
 use Rattle.ref_index.specs.Spots.{Spot}
@@ -23,7 +24,8 @@ use Rattle.referencing.specs.Prepared.{IsPrepared, ReferencesAreRetrieved, IsPre
 use Rattle.referencing.specs.MetaSchemas.{IsMetaSchemaFault}
 use Rattle.referencing.specs.Following.{IsStepFaultOf, ReachesStep}
 use Rattle.referencing.specs.Listed.{AnswersPlace, Agrees}
-use Rattle.referencing.specs.Answering.{IsFailureOf}
+use Rattle.referencing.specs.Builder.{Builder, holding_pending, Adds}
+use Rattle.referencing.specs.Answering.{Answers, IsFailureOf}
 
 -- which worlds and errors preparing may return
 pub record PreparingRows : Type 0 where
@@ -40,6 +42,8 @@ pub record PreparingRows : Type 0 where
       → IsMetaSchemaFault (Err (parse_refusal (codes "a b"))) (InvalidUri (Parse u true Syntax))
   pub no_other_fault_of_a_meta_schema : (p : String Global)
       → ¬ (IsMetaSchemaFault (Err (parse_refusal (codes "a b"))) (NoSuchAnchor p))
+  pub adds : (b : Builder ℕ) → Adds (Ok []) b (holding_pending [] b)
+  pub refusals_add_nothing : (b : Builder ℕ) → ¬ (Adds (Err (parse_refusal (codes "a b"))) b b)
   pub complete : AreComplete (given_alone (c_is_true ∷ []))
   pub not_complete : ¬ (AreComplete (given_alone (refers_to_b ∷ [])))
   pub nothing_open : IsPrepared (world (c_is_true ∷ []))
@@ -80,6 +84,10 @@ pub record StepRows : Type 0 where
   pub no_copy_where_a_step_fails : (e : AllocError)
       → ¬ (IsFailureOf (given_alone (c_is_true ∷ [])) (codes "http://a/c") (look "#/x" ∷ [])
       (answer_error.Memory e))
+  pub answered : Answers (given_alone (c_is_true ∷ [])) (codes "http://a/c") []
+      (followed_to None (resolver "http://a/c" []))
+  pub not_answered : (f : Followed)
+      → ¬ (Answers (given_alone (c_is_true ∷ [])) (codes "http://a/c") (look "#/x" ∷ []) f)
   pub reached : ReachesStep (world (c_is_true ∷ [])) (codes "http://a/c")
       (look "#" ∷ look "#/x" ∷ []) 1
   pub not_reached : ¬ (ReachesStep (world (c_is_true ∷ [])) (codes "http://a/c")

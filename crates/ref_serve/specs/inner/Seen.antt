@@ -5,7 +5,8 @@ use Rattle.ref_definitions.specs.World.{World}
 use Rattle.ref_definitions.specs.Fault.{Fault}
 use Rattle.ref_definitions.specs.Lookup.{Resolver, Found as WorldFound, lookup}
 use Rattle.ref_definitions.specs.Recursive.{lookup_recursive}
-use Rattle.ref_resolver.specs.Locations.{StandsAt}
+use Rattle.ref_index.specs.Spots.{Spot}
+use Rattle.ref_resolver.specs.Locations.{StandsAt, located, recursive_reference, told_by}
 use Rattle.ref_serve.specs.declared.asked.Asked.{Asked}
 use Rattle.ref_serve.specs.declared.place.Found.{Found}
 use Rattle.ref_serve.specs.Results as results
@@ -24,8 +25,14 @@ abbrev pub answer_at : World → Resolver → Option (List ℕ) → Result World
 answer_at world r None = lookup_recursive world r
 answer_at world r (Some reference) = lookup world r reference
 
--- it was found, with its place, and the resolver there
-abbrev pub IsFoundBy : World → Result WorldFound Fault → Found → Resolver → Type 0
-IsFoundBy world answer f r =
+-- where it stands
+abbrev pub place_at : World → Resolver → Option (List ℕ) → Option (ℕ × Spot)
+place_at world r None = located world r (recursive_reference world r)
+place_at world r (Some reference) = located world r reference
+
+-- it was found at this place, and the resolver there
+abbrev pub IsFoundBy : World → Option (ℕ × Spot) → Result WorldFound Fault → Found → Resolver
+    → Type 0
+IsFoundBy world at answer f r =
     (answer ≡ Ok (record { value = view f.value.now; draft = f.draft; resolver = r }))
-    × StandsAt world f.location (view f.value.now)
+    × StandsAt world f.location (view f.value.now) × (at ≡ Some (told_by f.location))

@@ -1,12 +1,13 @@
 -- What is seen of steps that are followed.
-use Rattle.std.specs.Prelude.{◌≡◌, ℕ, option_map, IfSome, Result, Ok, Err}
+use Rattle.std.specs.Prelude.{◌≡◌, ℕ, Option, option_map, IfSome, Result, Ok, Err}
 use Rattle.serde_json.specs.View.{view}
 use Rattle.serde_json.specs.declared.value.Value.{Value}
 use Rattle.ref_definitions.specs.World.{World}
 use Rattle.ref_definitions.specs.Fault.{Fault}
 use Rattle.ref_definitions.specs.Lookup.{Found as WorldFound}
 use Rattle.ref_definitions.specs.Follow as world
-use Rattle.ref_resolver.specs.Locations.{StandsAt}
+use Rattle.ref_index.specs.Spots.{Spot}
+use Rattle.ref_resolver.specs.Locations.{StandsAt, told_by}
 use Rattle.ref_resolver.specs.Resolving.{resolver_of}
 use Rattle.ref_json.specs.declared.stop.Stop.{Stop}
 use Rattle.ref_json.specs.declared.stop.Stop.TheVariants.{Memory, Because}
@@ -25,6 +26,10 @@ followed_view f =
 -- what was found last is at its location
 abbrev pub IsPlaced : World → Followed → Type 0
 IsPlaced w f = IfSome f.last (λ x. StandsAt w x.location (view x.value.now))
+
+-- where that is
+abbrev pub placed_at : Followed → Option (ℕ × Spot)
+placed_at f = option_map (λ x. told_by x.location) f.last
 
 -- what a look-up finds is where the steps led
 abbrev pub IsLookedUpTo : Result WorldFound Fault → world.Followed → Type 0

@@ -22,6 +22,9 @@ returns c = record {
     for_no_other_reason = λ uri is. let other : Refused NotFetched ≡ Refused NotSupported = is in cc;
     for_memory_no_reason = λ uri e is. let other : retrieve_error.Memory e ≡ Refused NotFetched = is in cc;
     without_a_source = λ u. tt;
+    refused_with_its_text = refl;
+    refused_with_no_other_text = λ is. let other : codes "no document under this URI" ≡ codes "" = is in cc;
+    memory_refuses_nothing = λ e. tt;
     memory = λ e. tt;
     no_memory = λ p is. is;
     says_or_memory = λ e f. tt;

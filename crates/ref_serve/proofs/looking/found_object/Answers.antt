@@ -14,6 +14,6 @@ returns-clause-ok c =
     let found = c.in_ok-found.found in
     let next = resolver_view c.in_ok-found.next in
     let none : members_view c.new-members.result.entries ≡ no_members = search rules in
-    found_as asked _ found next _ (search rules)
+    found_as asked _ _ found next _ (search rules)
     (view-Object c.put_resolver.new.members ∙ in_two_steps (found_members asked found.location (view found.value.now) found.draft) (resolver_members next) (members_view c.new-members.result.entries) (members_view c.put_found.new.members.entries)
     (members_view c.put_resolver.new.members.entries) none c.in_ok-put_found.ensures c.in_ok-put_resolver.ensures)

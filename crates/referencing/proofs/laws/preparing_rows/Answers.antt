@@ -1,7 +1,7 @@
 use Rattle.std.proofs.Common.{◌≡◌, refl, sym, subst, List, [], ◌∷◌, codes, Ok, Err, Result, arith}
 use Rattle.std.specs.Prelude.{String}
 use Rattle.std.specs.declared.alloc.Global.{Global}
-use Rattle.ref_uri.specs.Targets.{parse_refusal}
+use Rattle.ref_uri.specs.Targets.{Refusal, parse_refusal}
 use Rattle.ref_definitions.specs.Fault as fault
 use Rattle.ref_definitions.specs.World.{Layer}
 use Rattle.ref_definitions.specs.Places.{root}
@@ -23,6 +23,9 @@ the_answer answer = answer
 
 abbrev the_pending : Result (List Pending) fault.Fault → Result (List Pending) fault.Fault
 the_pending answer = answer
+
+abbrev the_additions : Result (List Pending) Refusal → Result (List Pending) Refusal
+the_additions answer = answer
 
 abbrev the_wants : List Want → List Want
 the_wants wants = wants
@@ -50,6 +53,9 @@ is_limit : IsOutcome (given_with 0) (Err (fault.RetrievalLimit (codes "http://a/
 unfolding world_on_literals
 is_limit = limited (refers_to_b ∷ []) want_of_b [] begun refl refl
 
+no_additions : (ps : List Pending) → the_additions (Err (parse_refusal (codes "a b"))) ≡ Ok ps → ⊥
+no_additions ps is = cc
+
 one_want : the_wants (want_of_b ∷ []) ≡ [] → ⊥
 one_want is = cc
 
@@ -65,6 +71,8 @@ returns c = record {
     not_used_up = λ uri is. omega (arith, is.is);
     refused_uri_of_a_meta_schema = λ u is. (fault.InvalidUri (parse_refusal (codes "a b")), refl, (is, refl, refl));
     no_other_fault_of_a_meta_schema = λ p is. no_anchor p is.0 is.1 is.2;
+    adds = λ b. ([], refl, refl);
+    refusals_add_nothing = λ b is. no_additions is.0 is.1;
     complete = (refl, refl);
     not_complete = λ is. one_want is.1;
     nothing_open = record { no_fault = refl; no_want = refl };

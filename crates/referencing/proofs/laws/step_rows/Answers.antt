@@ -8,6 +8,7 @@ use Rattle.ref_definitions.proofs.Closure.{documents_alone, outcome_laws}
 use Rattle.ref_definitions.proofs.Retrieval.{want_of_b}
 use Rattle.ref_definitions.proofs.OnLiterals.{world_on_literals}
 use Rattle.referencing.specs.Prepared.{IsPreparedOf}
+use Rattle.referencing.proofs.Retrieved.{retrieved_of}
 use Rattle.referencing.proofs.laws.step_rows.Goals as goal
 
 abbrev alone : Layer
@@ -62,6 +63,8 @@ returns c = record {
     no_failed_preparing = λ uri is. no_error is.0 (documents_alone (given_alone alone) (Err is.0) refl refl is.1);
     no_memory_for_the_copy = λ e. (world alone, is_world, (_, refl));
     no_copy_where_a_step_fails = λ e is. no_value is.2.0 (sym (ap (λ w. followed_steps w (codes "http://a/c") (look "#/x" ∷ [])) (same_world is.0 is.1)) ∙ is.2.1);
+    answered = (world alone, is_world, retrieved_of (world alone) (record { no_fault = refl; no_want = refl }), refl);
+    not_answered = λ f is. no_value f (sym (ap (λ w. followed_steps w (codes "http://a/c") (look "#/x" ∷ [])) (same_world is.0 is.1)) ∙ is.3);
     reached = (_, refl);
     not_reached = λ is. no_value is.0 is.1;
   };
