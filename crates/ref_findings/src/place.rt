@@ -111,8 +111,7 @@ impl<'v> Place<'v> {
         let above = self.path.clone()?;
         let outer = self.outer.clone()?;
         Ok(Visit {
-            path: Below { above, tail: None },
-            value: ValueRef::Lent(self.value),
+            value: ValueRef::Lent(self.value, Below { above, tail: None }),
             draft: self.draft,
             outer,
         })

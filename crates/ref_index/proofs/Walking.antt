@@ -21,8 +21,7 @@ use Rattle.ref_definitions.specs.Anchors.{named_under}
 use Rattle.ref_definitions.specs.Cached.{pairs_at}
 use Rattle.ref_index.specs.declared.found.Found.{Found}
 use Rattle.ref_index.specs.declared.queue.Visit.{Visit}
-use Rattle.ref_index.specs.inner.Below.{parts_of}
-use Rattle.ref_index.specs.inner.Queue.{place_of, value_of, IsQueue}
+use Rattle.ref_index.specs.inner.Queue.{path_of, place_of, value_of, IsQueue}
 use Rattle.ref_index.specs.Visits.{AddsPlace, AddsPlaces, IsFirstFault, IsVisited, IsWalked, AllStandIn, ChildrenStandAt, IsAt, faults_of, names_of, wants_of}
 use Rattle.ref_index.specs.Spots.{numbered}
 use Rattle.ref_index.proofs.Spots.{numbered_behind}
@@ -34,7 +33,7 @@ use Rattle.ref_index.proofs.Queues.{at_root, step, at_end, beginning}
 abbrev place_with : List Part → Data → Draft → List ℕ → Place
 place_with path value draft outer = record { path = path; value = value; draft = draft; outer = outer; base = base_within outer (identifier draft value) }
 
-pub visit_is : (v : Visit) (path : List Part) (base : List ℕ) (child : Walked) → parts_of v.path ≡ path ++ child.path → value_of v.value ≡ child.value → v.draft ≡ child.draft → v.outer.value ≡ base → place_of v ≡ child_place path base child
+pub visit_is : (v : Visit) (path : List Part) (base : List ℕ) (child : Walked) → path_of v.value ≡ path ++ child.path → value_of v.value ≡ child.value → v.draft ≡ child.draft → v.outer.value ≡ base → place_of v ≡ child_place path base child
 visit_is v path base child at value draft outer =
     ap (λ p. place_with p (value_of v.value) v.draft v.outer.value) at ∙ ap (λ d. place_with (path ++ child.path) d v.draft v.outer.value) value
     ∙ ap (λ d. place_with (path ++ child.path) child.value d v.outer.value) draft ∙ ap (place_with (path ++ child.path) child.value child.draft) outer

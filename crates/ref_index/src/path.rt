@@ -172,6 +172,16 @@ fn push_owned_tail<'a>(
 }
 
 impl<'w> Below<'w> {
+    /// The path of a root. Takes no memory.
+    pub fn root() -> Below<'w>
+        ensures value { parts_of result ≡ [] }
+    {
+        Below {
+            above: JsonPointerNode::new(),
+            tail: None,
+        }
+    }
+
     /// The same path. Takes no memory.
     pub fn copied(&self) -> Result<Below<'w>, AllocError>
         ensures value { IfOk result (λ copy. parts_of copy ≡ parts_of self.now) }

@@ -2,7 +2,7 @@
 ghost use Rattle.std.specs.Prelude.{◌≡◌, ℕ, List, [], ◌∷◌, ◌++◌, map, option_map, slice_get, Some, Ok, IfOk, OnOk};
 ghost use Rattle.std.specs.List.{Contains};
 ghost use Rattle.ref_definitions.specs.Listing.{listed_place, own_places};
-ghost use Rattle.ref_definitions.specs.Places.{Place as WorldPlace, base_within, children_of, places};
+ghost use Rattle.ref_definitions.specs.Places.{Place as WorldPlace, base_within, children_of, places, root};
 ghost use Rattle.ref_definitions.specs.Wants.{faults};
 ghost use Rattle.ref_index.specs.Document.{document_of};
 ghost use Rattle.ref_index.specs.Listing.{listed_of};
@@ -11,9 +11,10 @@ ghost use Rattle.ref_index.specs.declared.queue.Visit.{Visit};
 
 use crate::document::Document;
 use crate::index::Index;
-use crate::queue::Visit;
+use crate::path::Below;
+use crate::queue::{ValueRef, Visit};
 use crate::reference::shared;
-use crate::walk::{push_children, push_visit, root_of};
+use crate::walk::{push_children, push_visit};
 use ref_draft::{Draft, ResourceRef};
 use ref_parts::path::JsonPointerSegment;
 use ref_uri::uri::resolve_against;
@@ -74,7 +75,7 @@ fn place_at<'w, 'a: 'w>(
     ensures { (place_of visit.now).base ≡ Ok base.now.value
         → IfOk result (λ place. listed_of place ≡ listed_place number (place_of visit.now)) }
 {
-    let path = visit.path.segments(alloc)?;
+    let path = visit.value.kept_segments(alloc)?;
     let base = base.clone()?;
     Ok(Place {
         document: number,
@@ -107,10 +108,25 @@ fn list_next<'w, 'a: 'w>(
     let id = ResourceRef::new(visit.value.get(), visit.draft).id();
     let base = base_in(alloc, index, &visit.outer, id)?;
     let place = place_at(alloc, number, visit, &base)?;
-    let path = visit.path.copied()?;
-    let (value, draft) = (visit.value, visit.draft);
+    let value = visit.value.copied()?;
+    let draft = visit.draft;
     places.push(place)?;
-    push_children(alloc, queue, &path, value, draft, &base)
+    push_children(alloc, queue, &value, draft, &base)
+}
+
+// The root of a document, as one that the document keeps: so keys are lent for as long as the list.
+fn kept_root_of<'w, 'a>(
+    alloc: Global,
+    document: &'w Document<'a>,
+) -> Result<Visit<'w, 'a>, AllocError>
+    ensures { IfOk result (λ v. place_of v ≡ root (document_of document.now)) }
+{
+    let uri = document.uri.clone()?;
+    Ok(Visit {
+        value: ValueRef::Kept(document.contents.value(), Below::root()),
+        draft: document.draft,
+        outer: shared(alloc, uri)?,
+    })
 }
 
 // Adds the places of a document, whose number is given, to the list.
@@ -128,7 +144,7 @@ fn list_document<'w>(
         ≡ map listed_of list.old.items
         ++ map (listed_place number) (places (document_of document.now))) }
 {
-    let root = root_of(alloc, document)?;
+    let root = kept_root_of(alloc, document)?;
     let mut queue = Vec::new(alloc);
     push_visit(&mut queue, root)?;
     let mut head = 0;

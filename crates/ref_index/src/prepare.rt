@@ -88,8 +88,8 @@ fn retrieved<'a, R: Retrieve>(
 /// Refuses as `InvalidUri` for the first fault of the documents so far, as `RetrievalLimit` where a want is open and `limit`
 /// documents were retrieved, as `Unretrievable` for a reference and `UnknownSpecification` for a meta-schema that the
 /// retriever refuses, and as `Memory` where memory is refused, the retriever's too. Each place is visited
-/// once, with a look-up for what it wants; URIs, names and paths are copied for the tables, which are sorted once, and no value
-/// is.
+/// once, with a look-up for what it wants; URIs and names are copied for the tables, which are sorted once, and the keys of
+/// paths where their document is not borrowed. No value is.
 pub fn prepare<'a, R: Retrieve>(
     alloc: Global,
     retriever: &R,

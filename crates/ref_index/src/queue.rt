@@ -1,60 +1,97 @@
 //! The places of a document that were found, in the order in which they are visited.
-ghost use Rattle.std.specs.Prelude.{◌≡◌, IfSome};
+ghost use Rattle.std.specs.Prelude.{◌≡◌, [], map, IfOk, IfSome};
 ghost use Rattle.serde_json.specs.View.{view};
+ghost use Rattle.ref_parts.specs.Segment.{part_of};
 ghost use Rattle.ref_index.specs.Contents.{tree_of};
-ghost use Rattle.ref_index.specs.inner.Queue.{value_of};
+ghost use Rattle.ref_index.specs.inner.Queue.{path_of, value_of};
 
 use crate::document::Contents;
 use crate::path::Below;
 use ref_draft::Draft;
+use ref_parts::path::JsonPointerSegment;
 use ref_uri::Uri;
 use serde_json::Value;
+use std::alloc::{AllocError, Global};
 use std::rc::Rc;
 
-/// A value in a document that is walked: lent for as long as the registry lives, or kept by its document.
-#[derive(Clone, Copy)]
+/// A value in a document that is walked, and its path there: both are lent for as long as the registry lives, or kept by
+/// the document.
+#[derive(Drop)]
 pub enum ValueRef<'w, 'a> {
-    Lent(&'a Value),
-    Kept(&'w Value),
+    Lent(&'a Value, Below<'a>),
+    Kept(&'w Value, Below<'w>),
 }
 
 impl<'w, 'a: 'w> ValueRef<'w, 'a> {
     /// The value of a document.
     pub fn root(contents: &'w Contents<'a>) -> ValueRef<'w, 'a>
         ensures value { value_of result ≡ tree_of contents.now }
+        ensures path { path_of result ≡ [] }
     {
         match contents {
-            Contents::Borrowed(value) => ValueRef::Lent(*value),
-            Contents::Shared(value) => ValueRef::Kept(&**value),
-            Contents::Owned(value) => ValueRef::Kept(value),
+            Contents::Borrowed(value) => ValueRef::Lent(*value, Below::root()),
+            Contents::Shared(value) => ValueRef::Kept(&**value, Below::root()),
+            Contents::Owned(value) => ValueRef::Kept(value, Below::root()),
         }
     }
 
     /// The value.
-    pub fn get(self) -> &'w Value
-        ensures value { view result.now ≡ value_of self.entry }
+    pub fn get(&self) -> &'w Value
+        ensures value { view result.now ≡ value_of self.now }
     {
         match self {
-            ValueRef::Lent(value) => value,
-            ValueRef::Kept(value) => value,
+            ValueRef::Lent(value, _) => *value,
+            ValueRef::Kept(value, _) => *value,
         }
     }
 
     /// The value, where it is lent for as long as the registry lives.
-    pub fn lent(self) -> Option<&'a Value>
-        ensures value { IfSome result (λ value. view value.now ≡ value_of self.entry) }
+    pub fn lent(&self) -> Option<&'a Value>
+        ensures value { IfSome result (λ value. view value.now ≡ value_of self.now) }
     {
         match self {
-            ValueRef::Lent(value) => Some(value),
-            ValueRef::Kept(_) => None,
+            ValueRef::Lent(value, _) => Some(*value),
+            ValueRef::Kept(_, _) => None,
+        }
+    }
+
+    /// The same value and path. Takes no memory.
+    pub fn copied(&self) -> Result<ValueRef<'w, 'a>, AllocError>
+        ensures value { IfOk result (λ copy. value_of copy ≡ value_of self.now) }
+        ensures path { IfOk result (λ copy. path_of copy ≡ path_of self.now) }
+    {
+        match self {
+            ValueRef::Lent(value, path) => Ok(ValueRef::Lent(*value, path.copied()?)),
+            ValueRef::Kept(value, path) => Ok(ValueRef::Kept(*value, path.copied()?)),
+        }
+    }
+
+    /// The segments of the path, for as long as the registry lives: a key that isn't lent so long is copied. Linear in the
+    /// keys; takes memory for the list and for each key that is copied.
+    pub fn segments(&self, alloc: Global) -> Result<Vec<JsonPointerSegment<'a>>, AllocError>
+        ensures value { IfOk result (λ parts. map part_of parts.items ≡ path_of self.now) }
+    {
+        match self {
+            ValueRef::Lent(_, path) => path.segments(alloc),
+            ValueRef::Kept(_, path) => path.owned(alloc),
+        }
+    }
+
+    /// The segments of the path, for as long as the walk: a key that the document keeps is lent. Linear in the keys; takes
+    /// memory for the list.
+    pub fn kept_segments(&self, alloc: Global) -> Result<Vec<JsonPointerSegment<'w>>, AllocError>
+        ensures value { IfOk result (λ parts. map part_of parts.items ≡ path_of self.now) }
+    {
+        match self {
+            ValueRef::Lent(_, path) => path.owned(alloc),
+            ValueRef::Kept(_, path) => path.segments(alloc),
         }
     }
 }
 
-/// A place that was found: its path, value and draft, and the base around it. Its own identifier is applied at its visit.
+/// A place that was found: its value and path, its draft, and the base around it. Its own identifier is applied at its visit.
 #[derive(Drop)]
 pub struct Visit<'w, 'a> {
-    pub path: Below<'w>,
     pub value: ValueRef<'w, 'a>,
     pub draft: Draft,
     pub outer: Rc<Uri>,

@@ -16,7 +16,7 @@ ghost use Rattle.ref_index.specs.Contents.{tree_of};
 ghost use Rattle.ref_index.specs.Spots.{numbered};
 ghost use Rattle.ref_index.specs.Found.{Holds, IsEntryOf, IsNumberOf};
 ghost use Rattle.ref_index.specs.inner.Below.{parts_of};
-ghost use Rattle.ref_index.specs.inner.Queue.{place_of, value_of};
+ghost use Rattle.ref_index.specs.inner.Queue.{path_of, place_of, value_of};
 ghost use Rattle.ref_index.specs.declared.queue.Visit.{Visit};
 ghost use Rattle.ref_index.specs.Document.{document_of};
 ghost use Rattle.ref_index.specs.Visits.{meta_schema_uri, IsFirstFault, StandsIn, ChildrenCame, IsVisited, IsWalked, faults_of, under_document, names_under, resources_at, names_at};
@@ -54,10 +54,10 @@ fn base_of(alloc: Global, outer: &Rc<Uri>, id: Option<&str>) -> Result<Rc<Uri>, 
 }
 
 // The entry of a place whose base is known. Takes memory for its path.
-fn entry_of<'a>(
+fn entry_of<'w, 'a: 'w>(
     alloc: Global,
     number: usize,
-    place: &Visit<'_, 'a>,
+    place: &Visit<'w, 'a>,
     base: &Rc<Uri>,
 ) -> Result<Entry<'a>, AllocError>
     ensures entry { (layer : Layer) → StandsIn layer number (place_of place.now)
@@ -65,7 +65,7 @@ fn entry_of<'a>(
         → IfOk result (λ entry. IsEntryOf layer entry (place_of place.now)) }
     ensures document { IfOk result (λ entry. entry.document ≡ number) }
 {
-    let path = place.path.owned(alloc)?;
+    let path = place.value.segments(alloc)?;
     let base = base.clone()?;
     Ok(Entry {
         lent: place.value.lent(),
@@ -334,41 +334,65 @@ pub(crate) fn settle<'w, 'a: 'w>(
     Ok(base)
 }
 
-// Adds a child of a place to the queue, with its value.
-fn push_child<'w, 'a>(
+// Adds a child of a place to the queue, whose value is lent.
+fn push_lent_child<'w, 'a: 'w>(
     queue: &mut Vec<Visit<'w, 'a>>,
-    path: &JsonPointerNode<'w>,
-    child: Child<'w>,
-    value: ValueRef<'w, 'a>,
+    path: &JsonPointerNode<'a>,
+    child: Child<'a>,
     base: &Rc<Uri>,
 ) -> Result<(), AllocError>
-    ensures { value_of value.entry ≡ view child.entry.value.now
-        → OnOk result ((v : Visit) × (queue.new.items ≡ queue.old.items ++ v ∷ [])
+    ensures { OnOk result ((v : Visit) × (queue.new.items ≡ queue.old.items ++ v ∷ [])
         × (place_of v ≡ child_place path.now base.now.value (walked_child child.entry))) }
 {
     let Child {
         keyword,
         segment,
-        value: _,
+        value,
         draft,
     } = child;
     let outer = base.clone()?;
     let above = path.clone()?;
     let tail = Some(Tail { keyword, segment });
     queue.push(Visit {
-        path: Below { above, tail },
-        value,
+        value: ValueRef::Lent(value, Below { above, tail }),
         draft,
         outer,
     })?;
     Ok(())
 }
 
-// Adds the children of a place to the queue, whose value is lent.
+// Adds a child of a place to the queue, whose value is kept.
+fn push_kept_child<'w, 'a>(
+    queue: &mut Vec<Visit<'w, 'a>>,
+    path: &JsonPointerNode<'w>,
+    child: Child<'w>,
+    base: &Rc<Uri>,
+) -> Result<(), AllocError>
+    ensures { OnOk result ((v : Visit) × (queue.new.items ≡ queue.old.items ++ v ∷ [])
+        × (place_of v ≡ child_place path.now base.now.value (walked_child child.entry))) }
+{
+    let Child {
+        keyword,
+        segment,
+        value,
+        draft,
+    } = child;
+    let outer = base.clone()?;
+    let above = path.clone()?;
+    let tail = Some(Tail { keyword, segment });
+    queue.push(Visit {
+        value: ValueRef::Kept(value, Below { above, tail }),
+        draft,
+        outer,
+    })?;
+    Ok(())
+}
+
+// Adds the children of a place to the queue, whose value and path are lent.
 fn push_lent<'w, 'a: 'w>(
     alloc: Global,
     queue: &mut Vec<Visit<'w, 'a>>,
-    path: &Below<'w>,
+    path: &Below<'a>,
     value: &'a Value,
     draft: Draft,
     base: &Rc<Uri>,
@@ -383,8 +407,7 @@ fn push_lent<'w, 'a: 'w>(
     }
     let path = path.linked(alloc)?;
     for child in children {
-        let value = ValueRef::Lent(child.value);
-        push_child(queue, &path, child, value, base)?;
+        push_lent_child(queue, &path, child, base)?;
     }
     Ok(())
 }
@@ -408,8 +431,7 @@ fn push_kept<'w, 'a>(
     }
     let path = path.linked(alloc)?;
     for child in children {
-        let value = ValueRef::Kept(child.value);
-        push_child(queue, &path, child, value, base)?;
+        push_kept_child(queue, &path, child, base)?;
     }
     Ok(())
 }
@@ -418,18 +440,17 @@ fn push_kept<'w, 'a>(
 pub(crate) fn push_children<'w, 'a: 'w>(
     alloc: Global,
     queue: &mut Vec<Visit<'w, 'a>>,
-    path: &Below<'w>,
-    value: ValueRef<'w, 'a>,
+    value: &ValueRef<'w, 'a>,
     draft: Draft,
     base: &Rc<Uri>,
 ) -> Result<(), AllocError>
     ensures { OnOk result
-        (ChildrenCame (parts_of path.now)
-        (value_of value.entry) draft base.now.value queue.old.items queue.new.items) }
+        (ChildrenCame (path_of value.now)
+        (value_of value.now) draft base.now.value queue.old.items queue.new.items) }
 {
     match value {
-        ValueRef::Lent(value) => push_lent(alloc, queue, path, value, draft, base),
-        ValueRef::Kept(value) => push_kept(alloc, queue, path, value, draft, base),
+        ValueRef::Lent(value, path) => push_lent(alloc, queue, path, *value, draft, base),
+        ValueRef::Kept(value, path) => push_kept(alloc, queue, path, *value, draft, base),
     }
 }
 
@@ -464,26 +485,20 @@ fn visit<'w, 'a: 'w>(
 {
     let place = &queue[head];
     let base = settle(alloc, found, number, place, under)?;
-    let path = place.path.copied()?;
-    let (value, draft) = (place.value, place.draft);
-    push_children(alloc, queue, &path, value, draft, &base)?;
+    let value = place.value.copied()?;
+    let draft = place.draft;
+    push_children(alloc, queue, &value, draft, &base)?;
     Ok(())
 }
 
-/// The root of a document, to be visited first.
-pub(crate) fn root_of<'w, 'a>(
-    alloc: Global,
-    document: &'w Document<'a>,
-) -> Result<Visit<'w, 'a>, AllocError>
+// The root of a document, to be visited first.
+fn root_of<'w, 'a>(alloc: Global, document: &'w Document<'a>) -> Result<Visit<'w, 'a>, AllocError>
     ensures { IfOk result (λ v. place_of v ≡ root (document_of document.now)) }
 {
     let uri = document.uri.clone()?;
+    let value = ValueRef::root(&document.contents);
     Ok(Visit {
-        path: Below {
-            above: JsonPointerNode::new(),
-            tail: None,
-        },
-        value: ValueRef::root(&document.contents),
+        value,
         draft: document.draft,
         outer: shared(alloc, uri)?,
     })

@@ -2,6 +2,7 @@
 use Rattle.std.specs.Prelude.{◌≡◌, ℕ, ◌≤◌, List, ◌++◌, map, flat_map, take, drop, length}
 use Rattle.serde_json.specs.Data.{Data, depth}
 use Rattle.serde_json.specs.View.{view}
+use Rattle.ref_parts.specs.Path.{Part}
 use Rattle.ref_draft.specs.Schema.{identifier}
 use Rattle.ref_definitions.specs.World.{Document}
 use Rattle.ref_definitions.specs.Places.{Place, base_within, children_of, levels_below, places}
@@ -13,13 +14,18 @@ use Rattle.ref_index.specs.declared.queue.Visit.{Visit}
 
 -- the tree of a value that is walked
 abbrev pub value_of : ValueRef → Data
-value_of (Lent value) = view value.now
-value_of (Kept value) = view value.now
+value_of (Lent value path) = view value.now
+value_of (Kept value path) = view value.now
+
+-- its path
+abbrev pub path_of : ValueRef → List Part
+path_of (Lent value path) = parts_of path
+path_of (Kept value path) = parts_of path
 
 -- the place of a visit
 abbrev pub place_of : Visit → Place
 place_of v = record {
-  path = parts_of v.path;
+  path = path_of v.value;
   value = value_of v.value;
   draft = v.draft;
   outer = v.outer.value;
