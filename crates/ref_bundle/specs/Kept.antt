@@ -153,8 +153,8 @@ pub record PointsToDefinitions (layer : Layer) (parents : World) (number : ℕ) 
   pub answers : AreDefinitionsNow layer number top (moved_resolver r uri) (fragment_part reference)
       now before
 
--- A reference of a place of a needed document, from its base and a scope of URIs that needed places have: the look-up in the
--- bundle answers what it answered, or it is one of the root's definitions.
+-- A reference of a place of a needed document, from its base and a scope of URIs that needed places have and no root's
+-- identifier replaces: the look-up in the bundle answers what it answered, or it is one of the root's definitions.
 abbrev pub KeepsReferences : Type 0
 KeepsReferences =
     (layer : Layer) (parents : World) (number : ℕ) (top : Document) (bundle : Bundle)

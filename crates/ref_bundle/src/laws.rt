@@ -20,12 +20,12 @@ pub fn bundles_are_prepared()
     ensures wants { HaveNoOpenWant }
 {}
 
-/// A bundle keeps every reference. For each place of a document that it needs, each text under its `$ref` or `$dynamicRef`, and
-/// each scope of URIs that needed places have: the look-up in the bundle from the place's base answers what it answered among
-/// the documents, with the same draft, base and scope, or the same fault. The value is the same, but that an embedded document
-/// as a whole, by its base URI, has its identifier and its `$schema`, and the root as a whole, by its URIs, the embedded documents.
-/// A pointer from the root to exactly its definitions returns all of them, those that were added too; where there were none, it
-/// was a fault.
+/// A bundle keeps every reference. For each place of a document that it needs, each text under its `$ref` or `$dynamicRef`,
+/// and each scope of URIs that needed places have and no root's identifier replaces: the look-up in the bundle from the
+/// place's base answers what it answered among the documents, with the same draft, base and scope, or the same fault. The
+/// value is the same, but that an embedded document as a whole, by its base URI, has its identifier and its `$schema`, and
+/// the root as a whole, by its URIs, the embedded documents. A pointer from the root to exactly its definitions returns all
+/// of them, those that were added too; where there were none, it was a fault.
 pub fn bundles_keep_references()
     ensures law { KeepsReferences }
 {}

@@ -85,7 +85,8 @@ fragment_spot world r (c ∷ text) =
     else option_and_then (λ n. anchor_spot world (naming_uri world r n n.kind) (c ∷ text))
     (result_ok (anchor world r.base (c ∷ text)))
 
--- Where the value stands that a reference leads to: the number of its layer, that of its document there, and its path.
+-- Where the value stands that a reference leads to: the number of its layer, that of its document there, and its path. Where a
+-- pointer leads nowhere, it is where its last part ends that leads somewhere, and means nothing.
 unfoldable pub located : World → Resolver → List ℕ → Option (ℕ × Spot)
 located world r reference =
     option_and_then (λ uri. fragment_spot world (moved_resolver r uri) (fragment_part reference))
@@ -100,9 +101,9 @@ recursive_reference world r =
     (codes "#")
     else codes "#"
 
--- what the program tells of a place
-abbrev pub told_by : Location → ℕ × Spot
-told_by l = (l.layer, record { document = l.document; path = map part_of l.path.items })
+-- a location of the program: the number of its layer, and where in it
+abbrev pub location_view : Location → ℕ × Spot
+location_view l = (l.layer, record { document = l.document; path = map part_of l.path.items })
 
 -- The value is at the path in the document with this number, of the layer with this number.
 pub record StandsAt (w : World) (l : Location) (value : Data) : Type 0 where

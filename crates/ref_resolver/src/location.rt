@@ -20,7 +20,7 @@ ghost use Rattle.ref_error.specs.Errors.{IsFaultOf};
 ghost use Rattle.ref_index.specs.Spots.{spot_of};
 ghost use Rattle.ref_resolver.specs.Layered.{world_in};
 ghost use Rattle.ref_resolver.specs.inner.Located.{IsLocated, IsLocatedAt, IsNamedAt};
-ghost use Rattle.ref_resolver.specs.Locations.{StandsAt, IsWhere, EndsAt, anchor_spot, naming_uri, parts_along, with_parts, located, recursive_reference, told_by};
+ghost use Rattle.ref_resolver.specs.Locations.{StandsAt, IsWhere, EndsAt, anchor_spot, naming_uri, parts_along, with_parts, located, recursive_reference, location_view};
 ghost use Rattle.ref_resolver.specs.inner.Names.{is_name};
 ghost use Rattle.ref_resolver.specs.Resolving.{resolver_of, world_of, at_pointer};
 ghost use Rattle.ref_resolver.specs.inner.Walking.{along_of, passed_along, stepped_along};
@@ -83,7 +83,7 @@ fn location_of<'r>(alloc: Global, found: Numbered<'r>) -> Result<Location<'r>, A
     ensures there { (w : World) (p : Place) → IsLocatedAt w found.entry p
         → IfOk result (λ l. StandsAt w l p.value) }
     ensures spot { IfOk result
-        (λ l. told_by l ≡ (found.entry.layer, spot_of found.entry.place.entry.now)) }
+        (λ l. location_view l ≡ (found.entry.layer, spot_of found.entry.place.entry.now)) }
 {
     let entry = found.place.entry;
     let path = lent(alloc, entry.path.as_slice())?;
@@ -270,7 +270,7 @@ fn location_along<'r>(
         (at_pointer r found.entry.place.entry.now.draft pointer.now
         (view found.entry.place.value.now) text.now)) }
     ensures spot { IfOk result
-        (λ l. told_by l
+        (λ l. location_view l
         ≡ with_parts
         (parts_along pointer.now (view found.entry.place.value.now)
         (tokens (percent_decode text.now)))
@@ -319,7 +319,7 @@ impl<'r> Resolver<'r> {
             (lookup (world_of self.now) (resolver_of self.now) reference.now)) }
         ensures spot { IfOk result
             (λ l. located (world_of self.now) (resolver_of self.now) reference.now
-            ≡ Some (told_by l)) }
+            ≡ Some (location_view l)) }
         ensures fault { IfErr result
             (IsFaultOf (lookup (world_of self.now) (resolver_of self.now) reference.now)) }
     {
@@ -345,7 +345,7 @@ impl<'r> Resolver<'r> {
         ensures spot { IfOk result
             (λ l. located (world_of self.now) (resolver_of self.now)
             (recursive_reference (world_of self.now) (resolver_of self.now))
-            ≡ Some (told_by l)) }
+            ≡ Some (location_view l)) }
         ensures fault { IfErr result
             (IsFaultOf (lookup_recursive (world_of self.now) (resolver_of self.now))) }
     {
@@ -371,7 +371,7 @@ impl<'r> Resolver<'r> {
             → fragment_part reference ≡ name.now → is_name name.now ≡ true
             → IfOk result
             (λ l. located (world_of self.now) (resolver_of self.now) reference
-            ≡ Some (told_by l)) }
+            ≡ Some (location_view l)) }
         ensures fault { (reference : List ℕ)
             → target (resolver_of self.now).base reference ≡ Ok uri.value
             → fragment_part reference ≡ name.now → is_name name.now ≡ true
@@ -407,7 +407,7 @@ impl<'r> Resolver<'r> {
             (λ l. anchor_spot (world_of self.now)
             (naming_uri (world_of self.now) (moved_resolver (resolver_of self.now) uri.value) n
             n.kind) name.now
-            ≡ Some (told_by l)) }
+            ≡ Some (location_view l)) }
         ensures fault { (n : Named) → n.name ≡ name.now → n.kind ≡ Dynamic
             → IsLocated found.entry n.place → anchor (world_of self.now) uri.value name.now ≡ Ok n
             → IfErr result

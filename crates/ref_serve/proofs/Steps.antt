@@ -17,7 +17,7 @@ use Rattle.ref_error.specs.declared.error.Error.{Error}
 use Rattle.ref_error.specs.declared.error.Error.TheVariants as error
 use Rattle.ref_error.specs.Errors.{IsFaultOf, SaysFault, is_memory}
 use Rattle.ref_index.specs.Spots.{Spot}
-use Rattle.ref_resolver.specs.Locations.{StandsAt, told_by}
+use Rattle.ref_resolver.specs.Locations.{StandsAt, location_view}
 use Rattle.ref_resolver.proofs.Faults.{fault_ends}
 use Rattle.referencing.specs.declared.steps.Step.{Step}
 use Rattle.referencing.specs.Following.{step_of, SaysStepFault}
@@ -102,13 +102,13 @@ result_found asked at here answer f d there is given = subst (λ p. IsFollowed a
 
 pub object_at : (asked : Asked) (last : Option Found) (x : Found) (r : Resolver) (result : Result Value AllocError) → last ≡ Some x → IfSome last (λ y. StandsAt asked.world y.location (view y.value.now))
     → IfOk result (λ d. view d ≡ object_of (found_members asked x.location (view x.value.now) x.draft ++ resolver_members r))
-    → IfOk result (λ d. IsFollowedTo asked (option_map (λ y. told_by y.location) last) (option_map (λ y. (view y.value.now, y.draft)) last) r (view d))
+    → IfOk result (λ d. IsFollowedTo asked (option_map (λ y. location_view y.location) last) (option_map (λ y. (view y.value.now, y.draft)) last) r (view d))
 object_at asked last x r (Ok d) is placed given =
-    subst (λ o. IsFollowedTo asked (option_map (λ y. told_by y.location) o) (option_map (λ y. (view y.value.now, y.draft)) o) r (view d)) (sym is)
+    subst (λ o. IsFollowedTo asked (option_map (λ y. location_view y.location) o) (option_map (λ y. (view y.value.now, y.draft)) o) r (view d)) (sym is)
     (x.location, refl, subst (λ o. IfSome o (λ y. StandsAt asked.world y.location (view y.value.now))) is placed, given)
 object_at asked last x r (Err e) is placed given = tt
 
 pub object_without : (asked : Asked) (last : Option Found) (r : Resolver) (result : Result Value AllocError) → last ≡ None → IfOk result (λ d. view d ≡ object_of (resolver_members r))
-    → IfOk result (λ d. IsFollowedTo asked (option_map (λ y. told_by y.location) last) (option_map (λ y. (view y.value.now, y.draft)) last) r (view d))
-object_without asked last r (Ok d) is given = subst (λ o. IsFollowedTo asked (option_map (λ y. told_by y.location) o) (option_map (λ y. (view y.value.now, y.draft)) o) r (view d)) (sym is) given
+    → IfOk result (λ d. IsFollowedTo asked (option_map (λ y. location_view y.location) last) (option_map (λ y. (view y.value.now, y.draft)) last) r (view d))
+object_without asked last r (Ok d) is given = subst (λ o. IsFollowedTo asked (option_map (λ y. location_view y.location) o) (option_map (λ y. (view y.value.now, y.draft)) o) r (view d)) (sym is) given
 object_without asked last r (Err e) is given = tt

@@ -15,7 +15,7 @@ use Rattle.ref_definitions.specs.Lookup.{Resolver, Found, lookup, in_subresource
 use Rattle.ref_definitions.specs.Recursive.{lookup_recursive}
 use Rattle.ref_resolver.specs.declared.location.Location.{Location}
 use Rattle.ref_index.specs.Spots.{Spot}
-use Rattle.ref_resolver.specs.Locations.{StandsAt, located, recursive_reference, told_by}
+use Rattle.ref_resolver.specs.Locations.{StandsAt, located, recursive_reference, location_view}
 use Rattle.ref_draft.specs.Names.{draft_name}
 use Rattle.ref_calls.specs.declared.fault.Wrong.TheVariants.{InvalidField}
 use Rattle.ref_json.specs.declared.stop.Stop.{Stop}
@@ -85,7 +85,7 @@ found_members asked l value draft =
 -- the object of what is found: this is its place, and the value stands there
 abbrev pub IsFoundAt : Asked → Option (ℕ × Spot) → Found → Data → Type 0
 IsFoundAt asked at found d =
-    (l : Location) × (at ≡ Some (told_by l)) × StandsAt asked.world l found.value
+    (l : Location) × (at ≡ Some (location_view l)) × StandsAt asked.world l found.value
     × (d
     ≡ object_of
     (found_members asked l found.value found.draft ++ resolver_members found.resolver))

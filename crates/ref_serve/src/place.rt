@@ -6,7 +6,7 @@ ghost use Rattle.serde_json.specs.View.{view, members_view};
 ghost use Rattle.ref_parts.specs.Pointer.{pointer_text};
 ghost use Rattle.ref_parts.specs.Segment.{part_of};
 ghost use Rattle.ref_error.specs.Errors.{IsFaultOf};
-ghost use Rattle.ref_resolver.specs.Locations.{IsWhere, told_by};
+ghost use Rattle.ref_resolver.specs.Locations.{IsWhere, location_view};
 ghost use Rattle.ref_resolver.specs.Resolving.{resolver_of, world_of};
 ghost use Rattle.ref_calls.specs.Objects.{with_all, whole};
 ghost use Rattle.ref_serve.specs.Results as results;
@@ -30,7 +30,7 @@ fn location_of<'s>(
         (option_map (λ r. r.now) reference.entry))) }
     ensures place { IfOk result
         (λ l. place_at (world_of resolver.now) (resolver_of resolver.now)
-        (option_map (λ r. r.now) reference.entry) ≡ Some (told_by l)) }
+        (option_map (λ r. r.now) reference.entry) ≡ Some (location_view l)) }
     ensures fault { IfErr result
         (IsFaultOf (answer_at (world_of resolver.now) (resolver_of resolver.now) (option_map
         (λ r. r.now) reference.entry))) }

@@ -7,7 +7,7 @@ use Rattle.ref_definitions.specs.Fault.{Fault}
 use Rattle.ref_definitions.specs.Lookup.{Found as WorldFound}
 use Rattle.ref_definitions.specs.Follow as world
 use Rattle.ref_index.specs.Spots.{Spot}
-use Rattle.ref_resolver.specs.Locations.{StandsAt, told_by}
+use Rattle.ref_resolver.specs.Locations.{StandsAt, location_view}
 use Rattle.ref_resolver.specs.Resolving.{resolver_of}
 use Rattle.ref_json.specs.declared.stop.Stop.{Stop}
 use Rattle.ref_json.specs.declared.stop.Stop.TheVariants.{Memory, Because}
@@ -29,7 +29,7 @@ IsPlaced w f = IfSome f.last (λ x. StandsAt w x.location (view x.value.now))
 
 -- where that is
 abbrev pub placed_at : Followed → Option (ℕ × Spot)
-placed_at f = option_map (λ x. told_by x.location) f.last
+placed_at f = option_map (λ x. location_view x.location) f.last
 
 -- what a look-up finds is where the steps led
 abbrev pub IsLookedUpTo : Result WorldFound Fault → world.Followed → Type 0

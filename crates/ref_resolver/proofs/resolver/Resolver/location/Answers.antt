@@ -14,7 +14,7 @@ use Rattle.ref_resolver.proofs.Faults.{says_of}
 use Rattle.ref_resolver.proofs.Fragments.{pointer_there, whole_there}
 use Rattle.ref_resolver.proofs.Lookups.{lookup_refused, lookup_absent, lookup_present}
 use Rattle.ref_index.specs.Spots.{Spot, spot_of}
-use Rattle.ref_resolver.specs.Locations.{uri_spot, located, told_by, with_parts, parts_along}
+use Rattle.ref_resolver.specs.Locations.{uri_spot, located, location_view, with_parts, parts_along}
 use Rattle.ref_resolver.proofs.Spotting.{located_at, whole_spot, pointed_spot}
 use Rattle.ref_resolver.proofs.Standing.{if_ok}
 use Rattle.ref_resolver.proofs.resolver.Resolver.location.Goals as goal
@@ -108,7 +108,7 @@ returns-in-Some-strip_prefix-clause-spot c =
     let same = located_at w r c.args.reference.now uri fragment c.in_ok-uri.ensures.ok (sym c.in_ok-uri.ensures.fragment)
     ∙ pointed_spot w (moved_resolver r uri) p spot fragment rest slash (ap (meant_place w) (sym text) ∙ is) (ap (uri_spot w) (sym text) ∙ c.in-Some.ensures.spot)
     ∙ ap (λ v. Some (with_parts (parts_along fragment v parts) spot)) (sym at.there.place.value) in
-    if_ok (λ l. told_by l ≡ with_parts (parts_along fragment (view place.place.value.now) parts) spot) (λ l. located w r c.args.reference.now ≡ Some (told_by l)) c.location_along.result
+    if_ok (λ l. location_view l ≡ with_parts (parts_along fragment (view place.place.value.now) parts) spot) (λ l. located w r c.args.reference.now ≡ Some (location_view l)) c.location_along.result
     (λ l there. same ∙ ap Some (sym there)) c.location_along.ensures.spot
 
 pub returns-clause-spot : goal.returns-clause-spot

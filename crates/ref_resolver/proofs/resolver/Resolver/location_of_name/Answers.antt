@@ -9,7 +9,7 @@ use Rattle.ref_resolver.proofs.Based.{anchor_means}
 use Rattle.ref_resolver.proofs.Fragments.{plain_there}
 use Rattle.ref_resolver.proofs.Names.{lookup_found}
 use Rattle.ref_resolver.proofs.Naming.{anchor_has, answered}
-use Rattle.ref_resolver.specs.Locations.{anchor_spot, naming_uri, located, told_by}
+use Rattle.ref_resolver.specs.Locations.{anchor_spot, naming_uri, located, location_view}
 use Rattle.ref_resolver.proofs.Spotting.{located_at, named_spot, plainly}
 use Rattle.ref_resolver.proofs.Standing.{if_ok}
 use Rattle.ref_resolver.proofs.resolver.Resolver.location_of_name.Goals as goal
@@ -64,7 +64,7 @@ returns-then-found-clause-spot c = λ reference is fragment name.
     let dynamic : n.kind ≡ Dynamic = sym kind ∙ search rules in
     let means = answered (anchor w uri c.args.name.now) n found in
     let same = located_at w r reference uri c.args.name.now is fragment ∙ named_spot w (moved_resolver r uri) c.args.name.now n name means in
-    if_ok (λ l. anchor_spot w (naming_uri w (moved_resolver r uri) n n.kind) c.args.name.now ≡ Some (told_by l)) (λ l. located w r reference ≡ Some (told_by l)) c.location_of_dynamic.result
+    if_ok (λ l. anchor_spot w (naming_uri w (moved_resolver r uri) n n.kind) c.args.name.now ≡ Some (location_view l)) (λ l. located w r reference ≡ Some (location_view l)) c.location_of_dynamic.result
     (λ l there. same ∙ there) (c.location_of_dynamic.ensures.spot n (anchor_has w uri c.args.name.now n found) dynamic at.there.place means)
 
 pub returns-clause-spot : goal.returns-clause-spot
