@@ -491,8 +491,11 @@ fn visit<'w, 'a: 'w>(
     Ok(())
 }
 
-// The root of a document, to be visited first.
-fn root_of<'w, 'a>(alloc: Global, document: &'w Document<'a>) -> Result<Visit<'w, 'a>, AllocError>
+/// The root of a document, to be visited first.
+pub(crate) fn root_of<'w, 'a>(
+    alloc: Global,
+    document: &'w Document<'a>,
+) -> Result<Visit<'w, 'a>, AllocError>
     ensures { IfOk result (λ v. place_of v ≡ root (document_of document.now)) }
 {
     let uri = document.uri.clone()?;

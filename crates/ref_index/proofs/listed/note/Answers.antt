@@ -1,4 +1,4 @@
-use Rattle.std.proofs.Common.{◌≡◌, ◌∙◌, ◌∷◌, ◌++◌, [], Some, ap, subst, sym, map, flat_map, take, length, ◌<◌, rules, arith}
+use Rattle.std.proofs.Common.{◌≡◌, ◌∙◌, ◌∷◌, [], Some, ap, subst, sym, map, flat_map, take, rules, arith}
 use Rattle.std.proofs.lemmas.List.{take_all}
 use Rattle.ref_parts.specs.Path.{value_at}
 use Rattle.ref_definitions.specs.Places.{Place, places, root}
