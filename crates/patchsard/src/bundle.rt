@@ -1,15 +1,15 @@
 //! `patchsard bundle`.
 use crate::console::Console;
+use crate::refusals::{advice, has_key, is_name, text_of};
 use crate::write::write_file;
 use clap::ArgMatches;
-use percent_encoding::{DecodeError, percent_decode};
-use ref_bundle::{Bundle, BundleError, Embedded, Obstacle, Refusal};
+use ref_bundle::{Bundle, BundleError, Embedded, Refusal};
 use ref_draft::Draft;
 use ref_error::Error;
 use ref_findings::{Finding, Problem};
 use ref_messages::push_text;
 use ref_parts::path::JsonPointerSegment;
-use ref_parts::{pointer_of, unescape_segment};
+use ref_parts::pointer_of;
 use ref_positions::splice::{Added, Part, with_added, with_parts};
 use ref_project::describe::{Describer, order_of};
 use ref_project::given::{Given, faulty_of, read_file};
@@ -221,7 +221,7 @@ impl<'d, 'l, 'w, 'o> Sources<'d, 'l, 'w, 'o> {
         }
         if replaced == Some(uri.as_str()) {
             return Ok(Some((
-                "It names the root by a URI in place of which its identifier gives another",
+                "It names the root by a URI that the root's identifier replaces",
                 "refer to the root by its identifier",
             )));
         }
@@ -558,116 +558,6 @@ fn is_absolute(text: &str) -> bool {
     match UriRef::parse(text) {
         Ok(uri) => uri.has_scheme(),
         Err(_) => false,
-    }
-}
-
-// What is wrong where there is no bundle.
-fn text_of(alloc: Global, problem: &ref_bundle::Problem<'_>) -> Result<String, AllocError> {
-    match problem {
-        ref_bundle::Problem::NoDocument => String::from_str(alloc, "There is no such document"),
-        ref_bundle::Problem::NotEmbedded(obstacle) => {
-            format!(in alloc; "The document can't be embedded: {obstacle}")
-        }
-        ref_bundle::Problem::NoMap => {
-            String::from_str(alloc, "The keyword of definitions holds no object")
-        }
-        ref_bundle::Problem::KeyTaken { uri } => {
-            format!(in alloc; "There is a definition '{}' already", uri.as_str())
-        }
-        ref_bundle::Problem::SharedUri { uri, .. } => {
-            format!(in alloc; "Two schemas have the URI '{}'", uri.as_str())
-        }
-        ref_bundle::Problem::ReplacedUri { uri, base } => {
-            format!(in alloc;
-                "It refers to '{}', in place of which the document's identifier gives '{}'",
-                uri.as_str(),
-                base.as_str()
-            )
-        }
-        ref_bundle::Problem::ShadowedUri { uri, base, .. } => {
-            format!(in alloc;
-                "It refers to a name in '{}' outside, whose identifier gives '{}', the URI of another schema",
-                uri.as_str(),
-                base.as_str()
-            )
-        }
-        ref_bundle::Problem::AddedMember { uri, key } => {
-            format!(in alloc;
-                "It refers to '{key}' in '{}', which the bundle adds or changes",
-                uri.as_str()
-            )
-        }
-    }
-}
-
-// What to change where there is no bundle.
-fn advice(problem: &ref_bundle::Problem<'_>) -> &'static str {
-    match problem {
-        ref_bundle::Problem::NoDocument => "give a file",
-        ref_bundle::Problem::NotEmbedded(obstacle) => embedding_advice(obstacle),
-        ref_bundle::Problem::NoMap => "make it an object, or rename the member",
-        ref_bundle::Problem::KeyTaken { .. } => {
-            "rename that definition, or leave the file out that has this URI"
-        }
-        ref_bundle::Problem::SharedUri { .. } => {
-            "give one of them another identifier, or leave the file out that has the other"
-        }
-        ref_bundle::Problem::ReplacedUri { base, .. } if base.as_str().contains('#') => {
-            "the document can't be named by its identifier: give it one without a fragment"
-        }
-        ref_bundle::Problem::ReplacedUri { .. } => "refer to the document by its identifier",
-        ref_bundle::Problem::ShadowedUri { .. } => "give that other schema another identifier",
-        ref_bundle::Problem::AddedMember { key, .. } => added_advice(key.as_str()),
-    }
-}
-
-// What to change where a pointer leads to a member that a bundle adds or changes.
-fn added_advice(key: &str) -> &'static str {
-    match key {
-        "$schema" => "give that document the $schema of its draft, or refer to something else",
-        "$id" | "id" => "give that document this URI as its identifier, or refer to something else",
-        _ => "refer to that document by its URI",
-    }
-}
-
-// Whether a fragment is a name: not empty, and no pointer.
-fn is_name(fragment: &str) -> bool {
-    !fragment.is_empty() && !fragment.starts_with('/')
-}
-
-// Whether a fragment is a pointer to a member that a bundle adds or changes: its first key is this one, or its second where
-// that is a document's.
-fn has_key(alloc: Global, fragment: &str, key: &str) -> Result<bool, AllocError> {
-    let Some(text) = fragment.strip_prefix('/') else {
-        return Ok(false);
-    };
-    let decoded = match percent_decode(text.as_bytes()).decode_utf8(alloc) {
-        Ok(decoded) => decoded,
-        Err(DecodeError::OutOfMemory) => return Err(AllocError),
-        Err(DecodeError::Utf8(_)) => return Ok(false),
-    };
-    let (first, more) = cut(decoded.as_str());
-    let token = match key {
-        "$schema" | "$id" | "id" => first,
-        _ => cut(more).0,
-    };
-    Ok(unescape_segment(alloc, token)?.as_str() == key)
-}
-
-// What is before the first `/` of a text, and what is after it.
-fn cut(text: &str) -> (&str, &str) {
-    text.split_once('/').unwrap_or((text, ""))
-}
-
-// What to change in a document that can't be embedded.
-fn embedding_advice(obstacle: &Obstacle) -> &'static str {
-    match obstacle {
-        Obstacle::NotAnObject => "write true as {} and false as {\"not\": {}}",
-        Obstacle::IdentifierBesideRef => "put the $ref into an allOf",
-        Obstacle::NotAnIdentifier => "give it a URI as its identifier",
-        Obstacle::NotKept(_) => "refer to it without the # at the end",
-        Obstacle::UntoldDraft(_) => "give it the $schema of its draft",
-        Obstacle::ResolvedAgain => "make its identifier absolute",
     }
 }
 

@@ -8,6 +8,7 @@ mod console;
 mod drawing;
 mod lint;
 mod places;
+mod refusals;
 mod resolve;
 mod serve;
 mod write;
