@@ -1,26 +1,22 @@
 //! `patchsard bundle`.
 use crate::console::Console;
-use crate::refusals::{advice, has_key, is_name, text_of};
 use crate::write::write_file;
 use clap::ArgMatches;
-use ref_bundle::{Bundle, BundleError, Embedded, Refusal};
+use ref_bundle::{Bundle, BundleError, Embedded};
 use ref_draft::Draft;
 use ref_error::Error;
 use ref_findings::{Finding, Problem};
 use ref_messages::push_text;
-use ref_parts::path::JsonPointerSegment;
 use ref_parts::pointer_of;
 use ref_positions::splice::{Added, Part, with_added, with_parts};
 use ref_project::describe::{Describer, order_of};
 use ref_project::given::{Given, faulty_of, read_file};
-use ref_project::pointer::position;
 use ref_project::spots::spots_of;
 use ref_project::world::{World, outside_of, world_above};
 use ref_reading::Stop;
 use ref_reading::document::parsed;
 use ref_reading::options::maps;
 use ref_uri::UriRef;
-use ref_uri::parts::parts;
 use referencing::{Registry, ResourceRef};
 use serde_json::Value;
 use std::alloc::{AllocError, Global};
@@ -77,17 +73,17 @@ fn bundle_above<'d>(
     }
 }
 
-// What a bundle is made from.
+/// What a bundle is made from.
 #[derive(Clone, Copy, Drop)]
-struct Sources<'d, 'l, 'w, 'o> {
-    read: &'d Given,
+pub struct Sources<'d, 'l, 'w, 'o> {
+    pub read: &'d Given,
     list: &'l [Finding<'d>],
-    world: &'w World<'o>,
+    pub world: &'w World<'o>,
 }
 
 impl<'d, 'l, 'w, 'o> Sources<'d, 'l, 'w, 'o> {
-    // The number of what was read as a document, where it was read.
-    fn source(&self, document: usize) -> Option<usize> {
+    /// The number of what was read as a document, where it was read.
+    pub fn source(&self, document: usize) -> Option<usize> {
         self.world.sources.get(document).copied()
     }
 
@@ -380,8 +376,8 @@ impl<'d, 'l, 'w, 'o> Sources<'d, 'l, 'w, 'o> {
         }
     }
 
-    // The text of what was read with this number. That of a document from a map is read again.
-    fn text_in(
+    /// The text of what was read with this number. That of a document from a map is read again.
+    pub fn text_in(
         &self,
         rt: &HostRuntime,
         given: &ArgMatches<'_>,
@@ -393,162 +389,6 @@ impl<'d, 'l, 'w, 'o> Sources<'d, 'l, 'w, 'o> {
         match self.read.uri(number) {
             Some(uri) => Ok(maps(rt, given)?.text(rt.alloc(), uri.as_str())?),
             None => Ok(None),
-        }
-    }
-
-    // Says why there is no bundle, and what to change.
-    fn refuse(
-        &self,
-        rt: &HostRuntime,
-        given: &ArgMatches<'_>,
-        refusal: &Refusal<'_>,
-    ) -> Result<u8, Stop> {
-        let alloc = rt.alloc();
-        let path = refusal.path.as_slice();
-        let place = self.place(rt, given, refusal.document, path)?;
-        let problem = &refusal.problem;
-        let text = text_of(alloc, problem)?;
-        let _ = eprintln!(rt; "{place}: error: {text}");
-        self.say_reference(rt, refusal)?;
-        self.say_other(rt, given, problem)?;
-        let _ = eprintln!(rt; "    help: {}", advice(problem));
-        Ok(1)
-    }
-
-    // Says which reference is refused, where one is, and the pointer to its place.
-    fn say_reference(&self, rt: &HostRuntime, refusal: &Refusal<'_>) -> Result<(), Stop> {
-        let alloc = rt.alloc();
-        let pointer = pointer_of(alloc, refusal.path.as_slice())?;
-        let places = self.world.places(alloc)?;
-        for place in &places {
-            if place.document == refusal.document
-                && pointer_of(alloc, place.path.as_slice())?.as_str() == pointer.as_str()
-            {
-                if let Some((keyword, text)) = self.refused(alloc, place, &refusal.problem)? {
-                    let _ = eprintln!(rt; "    {keyword} '{text}' at '{pointer}'");
-                    return Ok(());
-                }
-            }
-        }
-        let _ = eprintln!(rt; "    at '{pointer}'");
-        Ok(())
-    }
-
-    // The keyword and the text of the reference of a place that has a problem.
-    fn refused<'p>(
-        &self,
-        alloc: Global,
-        place: &ref_index::Place<'p>,
-        problem: &ref_bundle::Problem<'_>,
-    ) -> Result<Option<(&'static str, &'p str)>, Stop> {
-        for keyword in ["$ref", "$dynamicRef", "$schema"] {
-            if let Some(text) = place.value.get(keyword).and_then(Value::as_str) {
-                if self.is_refused(alloc, place, text, problem)? {
-                    return Ok(Some((keyword, text)));
-                }
-            }
-        }
-        Ok(None)
-    }
-
-    // Whether a reference of a place is the one that has a problem.
-    fn is_refused(
-        &self,
-        alloc: Global,
-        place: &ref_index::Place<'_>,
-        text: &str,
-        problem: &ref_bundle::Problem<'_>,
-    ) -> Result<bool, Stop> {
-        let (front, fragment) = parts(text);
-        match problem {
-            ref_bundle::Problem::ReplacedUri { uri, .. } => {
-                self.is_to(alloc, place, front, uri.as_str())
-            }
-            ref_bundle::Problem::ShadowedUri { uri, .. } => {
-                Ok(is_name(fragment) && self.is_to(alloc, place, front, uri.as_str())?)
-            }
-            ref_bundle::Problem::AddedMember { uri, key } => {
-                Ok(
-                    has_key(alloc, fragment, key.as_str())?
-                        && self.is_to(alloc, place, front, uri.as_str())?,
-                )
-            }
-            _ => Ok(false),
-        }
-    }
-
-    // Whether a reference of a place without its fragment gives a URI.
-    fn is_to(
-        &self,
-        alloc: Global,
-        place: &ref_index::Place<'_>,
-        front: &str,
-        uri: &str,
-    ) -> Result<bool, Stop> {
-        match self
-            .world
-            .registry
-            .resolve_uri(alloc, place.base.borrow(), front)
-        {
-            Ok(given) => Ok(given.as_str() == uri),
-            Err(Error::Memory(_)) => Err(Stop::Memory),
-            Err(_) => Ok(false),
-        }
-    }
-
-    // Says where the other schema is that has the same URI.
-    fn say_other(
-        &self,
-        rt: &HostRuntime,
-        given: &ArgMatches<'_>,
-        problem: &ref_bundle::Problem<'_>,
-    ) -> Result<(), Stop> {
-        let other = match problem {
-            ref_bundle::Problem::SharedUri { document, path, .. } => {
-                self.place(rt, given, *document, path.as_slice())?
-            }
-            ref_bundle::Problem::ShadowedUri { document, path, .. } => {
-                self.place(rt, given, *document, path.as_slice())?
-            }
-            _ => return Ok(()),
-        };
-        let _ = eprintln!(rt; "    other: {other}");
-        Ok(())
-    }
-
-    // The file, the line and the column of a place of a document.
-    fn place(
-        &self,
-        rt: &HostRuntime,
-        given: &ArgMatches<'_>,
-        document: usize,
-        path: &[JsonPointerSegment<'_>],
-    ) -> Result<String, Stop> {
-        match self.source(document) {
-            Some(number) => self.place_in(rt, given, number, path),
-            None => Ok(String::from_str(
-                rt.alloc(),
-                "a document that is not among the given files",
-            )?),
-        }
-    }
-
-    // The same of what was read with this number.
-    fn place_in(
-        &self,
-        rt: &HostRuntime,
-        given: &ArgMatches<'_>,
-        number: usize,
-        path: &[JsonPointerSegment<'_>],
-    ) -> Result<String, Stop> {
-        let alloc = rt.alloc();
-        let name = self.read.name(number);
-        match self.text_in(rt, given, number)? {
-            Some(text) => {
-                let (line, column) = position(alloc, text.as_str(), path)?;
-                Ok(format!(in alloc; "{name}:{line}:{column}")?)
-            }
-            None => Ok(String::from_str(alloc, name)?),
         }
     }
 }
