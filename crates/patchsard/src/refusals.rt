@@ -78,9 +78,7 @@ impl<'d, 'l, 'w, 'o> Sources<'d, 'l, 'w, 'o> {
     ) -> Result<bool, Stop> {
         let (front, fragment) = parts(text);
         match problem {
-            Problem::ReplacedUri { uri, .. } => {
-                self.is_to(alloc, place, front, uri.as_str())
-            }
+            Problem::ReplacedUri { uri, .. } => { self.is_to(alloc, place, front, uri.as_str()) }
             Problem::ShadowedUri { uri, .. } => {
                 Ok(is_name(fragment) && self.is_to(alloc, place, front, uri.as_str())?)
             }

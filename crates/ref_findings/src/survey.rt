@@ -76,10 +76,7 @@ pub(crate) fn surveys_of<'s, 'v>(
 }
 
 // Adds a visit after the others.
-fn push_visit<'v>(
-    visits: &mut Vec<Visit<'v, 'v>>,
-    visit: Visit<'v, 'v>,
-) -> Result<(), AllocError>
+fn push_visit<'v>(visits: &mut Vec<Visit<'v, 'v>>, visit: Visit<'v, 'v>) -> Result<(), AllocError>
     ensures { OnOk result (visits.new.items ≡ visits.old.items ++ visit.entry ∷ []) }
 {
     visits.push(visit)?;
@@ -87,10 +84,7 @@ fn push_visit<'v>(
 }
 
 // Those of these places that an index has something of, as it visits them.
-fn visits_of<'v>(
-    alloc: Global,
-    places: &[Place<'v>],
-) -> Result<Vec<Visit<'v, 'v>>, AllocError>
+fn visits_of<'v>(alloc: Global, places: &[Place<'v>]) -> Result<Vec<Visit<'v, 'v>>, AllocError>
     ensures { IfOk result
         (λ visits. AreNoted (map place_of places.now) (map visited_place visits.items)) }
 {
@@ -105,10 +99,7 @@ fn visits_of<'v>(
 }
 
 // The same of those below the first.
-fn visits_below<'v>(
-    alloc: Global,
-    places: &[Place<'v>],
-) -> Result<Vec<Visit<'v, 'v>>, AllocError>
+fn visits_below<'v>(alloc: Global, places: &[Place<'v>]) -> Result<Vec<Visit<'v, 'v>>, AllocError>
     ensures { (first : WorldPlace) (below : List WorldPlace)
         → map place_of places.now ≡ first ∷ below
         → IfOk result (λ visits. AreNoted below (map visited_place visits.items)) }

@@ -21,11 +21,11 @@ loop-place-preserved c =
     let taken : map place_of (take (i + 1) ps) ≡ before ++ place_of p ∷ [] = taken_more place_of ps i p c.loop-place-test.true ∙ ap (λ q. before ++ place_of q ∷ []) (sym c.place-item.is) in
     subst (λ l. AreNoted l (map visited_place c.if-not-is_plain.visits.items)) (sym taken)
     (elim c.if-not-is_plain.branch [
-      then-not-is_plain+in_ok-visit+in_ok-push_visit w ↦
-        let grown : map visited_place c.if-not-is_plain.visits.items ≡ vs ++ place_of p ∷ [] =
-        ap (λ v. map visited_place v.items) w.visits-is ∙ ap (map visited_place) w.in_ok-push_visit.ensures ∙ map-append visited_place c.loop-place.visits.items (w.in_ok-visit.visit ∷ []) ∙ ap (λ q. vs ++ q ∷ []) w.in_ok-visit.ensures.value in
-        subst (AreNoted (before ++ place_of p ∷ [])) (sym grown) (noted_more before vs (place_of p) c.loop-place.invariant)
-    | else-not-is_plain w ↦
-        let plain : c.is_plain.result ≡ true = search rules in
-        subst (λ v. AreNoted (before ++ place_of p ∷ []) (map visited_place v.items)) (sym w.visits-is) (left_more before vs (place_of p) (plain_left_out p (c.is_plain.ensures.value plain)) c.loop-place.invariant)
+      | then-not-is_plain+in_ok-visit+in_ok-push_visit w ↦
+          let grown : map visited_place c.if-not-is_plain.visits.items ≡ vs ++ place_of p ∷ [] =
+          ap (λ v. map visited_place v.items) w.visits-is ∙ ap (map visited_place) w.in_ok-push_visit.ensures ∙ map-append visited_place c.loop-place.visits.items (w.in_ok-visit.visit ∷ []) ∙ ap (λ q. vs ++ q ∷ []) w.in_ok-visit.ensures.value in
+          subst (AreNoted (before ++ place_of p ∷ [])) (sym grown) (noted_more before vs (place_of p) c.loop-place.invariant)
+      | else-not-is_plain w ↦
+          let plain : c.is_plain.result ≡ true = search rules in
+          subst (λ v. AreNoted (before ++ place_of p ∷ []) (map visited_place v.items)) (sym w.visits-is) (left_more before vs (place_of p) (plain_left_out p (c.is_plain.ensures.value plain)) c.loop-place.invariant)
     ])

@@ -14,9 +14,11 @@ use Rattle.ref_findings.proofs.walk.places_of.Goals as goal
 
 pub loop-head-init : goal.loop-head-init
 loop-head-init c =
-    let d : Document = record { uri = c.args.uri.now; tree = view c.args.value.now; draft = c.args.draft } in
-    (begins d (map place_of c.push.new.places.items)
-    (ap (map place_of) (c.in_ok-push.ensures ∙ ap (λ l. l ++ c.in_ok-root.root ∷ []) c.new-places.ensures.items) ∙ ap (λ p. p ∷ []) c.in_ok-root.ensures), tt)
+    let d : Document = record { uri = c.args.uri.now; tree = view c.args.value.now; draft = c.args.draft } in (
+      begins d (map place_of c.push.new.places.items)
+          (ap (map place_of) (c.in_ok-push.ensures ∙ ap (λ l. l ++ c.in_ok-root.root ∷ []) c.new-places.ensures.items) ∙ ap (λ p. p ∷ []) c.in_ok-root.ensures),
+      tt,
+    )
 
 pub loop-head-smaller : goal.loop-head-smaller
 loop-head-smaller c =
@@ -34,11 +36,12 @@ loop-head-preserved c =
     let p = get_or queue head c.in_ok-root.root in
     let here = slice_get-get_or queue head c.in_ok-root.root within in
     let next = c.in_ok-push_below.ensures.added p here in
-    let grown : map place_of c.push_below.new.places.items ≡ map place_of queue ++ map place_of next.0 = ap (map place_of) next.1 ∙ map-append place_of queue next.0 in
-    (subst (λ l. IsAt d l (head + 1)) (sym grown)
-    (goes_on d (map place_of queue) (map place_of next.0) head (place_of p) (omega (arith, length-map queue place_of)) (slice_get-map place_of queue head ∙ ap (option_map place_of) here) next.2
-    c.loop-head.invariant.0),
-    all_visited ChildrenStandAt queue c.push_below.new.places.items next.0 head p within here next.1 c.loop-head.invariant.1 (c.in_ok-push_below.ensures.stand p here))
+    let grown : map place_of c.push_below.new.places.items ≡ map place_of queue ++ map place_of next.0 = ap (map place_of) next.1 ∙ map-append place_of queue next.0 in (
+      subst (λ l. IsAt d l (head + 1)) (sym grown)
+          (goes_on d (map place_of queue) (map place_of next.0) head (place_of p) (omega (arith, length-map queue place_of)) (slice_get-map place_of queue head ∙ ap (option_map place_of) here) next.2
+          c.loop-head.invariant.0),
+      all_visited ChildrenStandAt queue c.push_below.new.places.items next.0 head p within here next.1 c.loop-head.invariant.1 (c.in_ok-push_below.ensures.stand p here),
+    )
 
 pub returns-clause-value : goal.returns-clause-value
 returns-clause-value c =
