@@ -1,5 +1,5 @@
 -- The texts of errors, and which of the defined faults an error stands for.
-use Rattle.std.specs.Prelude.{◌≡◌, ℕ, List, codes, string_bytes, Bool, true, false, Result, Err, ⊤}
+use Rattle.std.specs.Prelude.{◌≡◌, ℕ, List, codes, string_bytes, Bool, true, false, Result, Ok, Err, ⊤}
 use Rattle.ref_uri.specs.Errors.{uri_error_text, SaysRefusal}
 use Rattle.ref_uri.specs.declared.error.UriFault.{UriFault}
 use Rattle.ref_uri.specs.declared.error.UriFault.TheVariants as uri_fault
@@ -84,6 +84,11 @@ SaysFault other fault = ⊥
 abbrev pub IsFaultOf : {A : Type 0} → Result A Fault → Error → Type 0
 IsFaultOf meaning (error.Memory memory) = ⊤
 IsFaultOf meaning error = (fault : Fault) × (meaning ≡ Err fault) × SaysFault error fault
+
+-- the answer, in this view, is the one meant, or the error says the fault meant, or is out of memory
+abbrev pub Gives : {A B : Type 0} → (B → A) → Result A Fault → Result B Error → Type 0
+Gives view meaning (Ok answer) = meaning ≡ Ok (view answer)
+Gives view meaning (Err error) = IsFaultOf meaning error
 
 -- the error that a refused URI, or out of memory, becomes
 abbrev pub of_uri_fault : UriFault → Error

@@ -6,7 +6,7 @@ use Rattle.ref_uri.specs.Targets.{parse_refusal}
 use Rattle.ref_uri.specs.declared.error.UriError.TheVariants.{Parse}
 use Rattle.ref_uri.specs.declared.error.ParseError.TheVariants.{Syntax}
 use Rattle.ref_definitions.specs.Fault as fault
-use Rattle.ref_error.specs.Errors.{reason_text, retrieve_error_text, error_text, IsForReason, SaysFault, IsFaultOf, IsMemory, SaysOrMemory}
+use Rattle.ref_error.specs.Errors.{reason_text, retrieve_error_text, error_text, IsForReason, SaysFault, IsFaultOf, Gives, IsMemory, SaysOrMemory}
 use Rattle.ref_error.specs.Retrieving.{IfRefused}
 use Rattle.ref_error.specs.declared.error.Reason.TheVariants.{NotFetched, NoDocument, NotSupported, Text}
 use Rattle.ref_error.specs.declared.error.RetrieveError.TheVariants as retrieve_error
@@ -75,6 +75,17 @@ pub record FaultRows : Type 0 where
   pub fault_of_a_refusal : (u : String Global) → string_bytes u ≡ codes "a b"
       → IsFaultOf {A = List ℕ} (Err (fault.InvalidUri (parse_refusal (codes "a b"))))
       (InvalidUri (Parse u true Syntax))
+  pub gives_the_answer : (t : String Global) → string_bytes t ≡ codes "a"
+      → Gives string_bytes (Ok (codes "a")) (Ok t)
+  pub gives_no_other_answer : (t : String Global) → string_bytes t ≡ codes "a"
+      → Gives string_bytes (Ok (codes "")) (Ok t) → ⊥
+  pub gives_the_fault : (p : String Global) → string_bytes p ≡ codes "/a"
+      → Gives {B = String Global} string_bytes (Err (fault.PointerToNowhere (codes "/a")))
+      (Err (PointerToNowhere p))
+  pub gives_no_other_fault : (p : String Global)
+      → Gives {B = String Global} string_bytes (Err (fault.InvalidAnchor (codes "/a")))
+      (Err (NoSuchAnchor p))
+      → ⊥
   pub for_its_reason : (uri : String Global)
       → IsForReason (Unretrievable uri (retrieve_error.Refused NotFetched)) NotFetched
   pub for_no_other_reason : (uri : String Global)

@@ -1,5 +1,5 @@
 -- A text cut at its first `/`, and one without a byte.
-use Rattle.std.proofs.Common.{◌≡◌, ◌≢◌, ℕ, suc, ◌+◌, ◌<◌, false, eqb, ltb, List, ◌∷◌, ◌++◌, length, get_or, take, drop, All, Some, None, sym, ap, ◌∙◌, arith}
+use Rattle.std.proofs.Common.{◌≡◌, ◌≢◌, ℕ, suc, ◌+◌, ◌<◌, eqb, ltb, List, ◌∷◌, ◌++◌, length, get_or, take, drop, All, Some, None, ap, ◌∙◌, arith}
 use Rattle.std.specs.List.{position, position_or_len}
 use Rattle.std.proofs.Math.Seq.{split_at}
 use Rattle.std.proofs.lemmas.Bool.{cond_both, ltb-false, eqb-true, eqb-false}

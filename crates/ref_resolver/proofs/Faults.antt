@@ -4,36 +4,8 @@ use Rattle.ref_uri.specs.Targets.{Refusal}
 use Rattle.ref_definitions.specs.Results.{◌>>=◌}
 use Rattle.ref_definitions.specs.Fault.{Fault, InvalidUri, as_invalid_uri}
 use Rattle.ref_error.specs.declared.error.Error.{Error}
-use Rattle.ref_error.specs.declared.error.Error.TheVariants as error
-use Rattle.ref_error.specs.Errors.{IsFaultOf, SaysOrMemory}
-
--- an error that says the fault that an answer is
-pub says_of : {A : Type 0} (answer : Result A Fault) (fault : Fault) (e : Error) → answer ≡ Err fault → SaysOrMemory fault e → IsFaultOf answer e
-says_of answer fault (error.Unretrievable uri source) is says = (fault, is, says)
-says_of answer fault (error.PointerToNowhere pointer) is says = (fault, is, says)
-says_of answer fault (error.InvalidPercentEncoding pointer) is says = (fault, is, says)
-says_of answer fault (error.InvalidArrayIndex pointer index) is says = (fault, is, says)
-says_of answer fault (error.NoSuchAnchor anchor) is says = (fault, is, says)
-says_of answer fault (error.InvalidAnchor anchor) is says = (fault, is, says)
-says_of answer fault (error.InvalidUri uri) is says = (fault, is, says)
-says_of answer fault (error.UnknownSpecification specification) is says = (fault, is, says)
-says_of answer fault (error.CircularMetaschema uri) is says = (fault, is, says)
-says_of answer fault (error.RetrievalLimit uri limit) is says = (fault, is, says)
-says_of answer fault (error.Memory memory) is says = tt
-
--- where each fault of one answer is one of another, what says the first says the second
-pub fault_as : {A B : Type 0} (answer : Result A Fault) (other : Result B Fault) (e : Error) → ((fault : Fault) → answer ≡ Err fault → other ≡ Err fault) → IsFaultOf answer e → IsFaultOf other e
-fault_as answer other (error.Unretrievable uri source) then (fault, is, says) = (fault, then fault is, says)
-fault_as answer other (error.PointerToNowhere pointer) then (fault, is, says) = (fault, then fault is, says)
-fault_as answer other (error.InvalidPercentEncoding pointer) then (fault, is, says) = (fault, then fault is, says)
-fault_as answer other (error.InvalidArrayIndex pointer index) then (fault, is, says) = (fault, then fault is, says)
-fault_as answer other (error.NoSuchAnchor anchor) then (fault, is, says) = (fault, then fault is, says)
-fault_as answer other (error.InvalidAnchor anchor) then (fault, is, says) = (fault, then fault is, says)
-fault_as answer other (error.InvalidUri uri) then (fault, is, says) = (fault, then fault is, says)
-fault_as answer other (error.UnknownSpecification specification) then (fault, is, says) = (fault, then fault is, says)
-fault_as answer other (error.CircularMetaschema uri) then (fault, is, says) = (fault, then fault is, says)
-fault_as answer other (error.RetrievalLimit uri limit) then (fault, is, says) = (fault, then fault is, says)
-fault_as answer other (error.Memory memory) then is = tt
+use Rattle.ref_error.specs.Errors.{IsFaultOf}
+use Rattle.ref_error.proofs.Saying.{fault_as}
 
 -- an answer that is a fault ends the chain
 pub ends : {A B : Type 0} (answer : Result A Fault) (next : A → Result B Fault) (fault : Fault) → answer ≡ Err fault → (answer >>= next) ≡ Err fault

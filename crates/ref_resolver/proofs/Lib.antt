@@ -7,6 +7,8 @@ pub mod Scoping
 pub mod Naming
 pub mod Fragments
 pub mod Lookups
+pub mod Referring
+pub mod Dynamically
 pub mod Showing
 pub mod Names
 pub mod Undecoded

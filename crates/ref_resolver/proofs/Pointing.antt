@@ -1,5 +1,5 @@
 -- The walk along a pointer, token by token, over plain values.
-use Rattle.std.proofs.Common.{◌≡◌, ◌≢◌, ℕ, Bool, true, false, cond, List, [], ◌∷◌, ◌++◌, None, Result, Ok, Err, eqb, refl, sym, ap, ◌∙◌, All, IsUtf8}
+use Rattle.std.proofs.Common.{◌≡◌, ◌≢◌, ℕ, Bool, true, false, cond, List, [], ◌∷◌, ◌++◌, None, Result, Ok, Err, eqb, refl, sym, ap, ◌∙◌, All, IsUtf8, subst}
 use Rattle.std.specs.Str.{bytes_eq}
 use Rattle.std.proofs.lemmas.Bool.{ne_eqb}
 use Rattle.std.proofs.lemmas.List.Splits.{slice_split_none, slice_split_at}
@@ -26,7 +26,8 @@ use Rattle.ref_definitions.specs.Pointers.{step_into, walked_along, pointed_valu
 use Rattle.ref_error.specs.declared.error.Error.{Error}
 use Rattle.ref_error.specs.Errors.{IsFaultOf}
 use Rattle.ref_resolver.specs.inner.Walking.{Passed, accepted_id, stepped_into, changed_base, based, stepped_along, passed_along, leads_to, pointed_to}
-use Rattle.ref_resolver.proofs.Faults.{fault_as, fault_ends, refused_after}
+use Rattle.ref_error.proofs.Saying.{fault_as}
+use Rattle.ref_resolver.proofs.Faults.{fault_ends, goes_on, refused_after}
 
 -- ---- one token further
 
@@ -49,6 +50,19 @@ pub walk_turn : (draft : Draft) (pointer : List ℕ) (passed : Passed) (value : 
     → passed_along draft pointer passed value (tokens text) ≡ (stepped_along draft pointer passed value token >>= λ s. passed_along draft pointer s.1 s.0 (tokens more))
 walk_turn draft pointer passed value text token more cut none =
     ap (λ x. passed_along draft pointer passed value (tokens x)) cut ∙ ap (passed_along draft pointer passed value) (slice_split_at (λ b. eqb b 47) token 47 more (plain token none) refl)
+
+-- a step that answers goes on from there
+pub walk_goes : (draft : Draft) (pointer : List ℕ) (passed : Passed) (value : Data) (text token more : List ℕ) (at : Data × Passed) → (text ≡ token ++ (47 ∷ more)) × All (λ b. b ≢ 47) token
+    → stepped_along draft pointer passed value token ≡ Ok at → passed_along draft pointer passed value (tokens text) ≡ passed_along draft pointer at.1 at.0 (tokens more)
+walk_goes draft pointer passed value text token more at (cut, none) is =
+    walk_turn draft pointer passed value text token more cut none ∙ goes_on (stepped_along draft pointer passed value token) (λ s. passed_along draft pointer s.1 s.0 (tokens more)) at is
+
+-- and one that is refused ends it
+pub walk_refused : (draft : Draft) (pointer : List ℕ) (passed : Passed) (value : Data) (text token more : List ℕ) (e : Error) → (text ≡ token ++ (47 ∷ more)) × All (λ b. b ≢ 47) token
+    → IsFaultOf (stepped_along draft pointer passed value token) e → IsFaultOf (passed_along draft pointer passed value (tokens text)) e
+walk_refused draft pointer passed value text token more e (cut, none) says =
+    subst (λ a. IsFaultOf a e) (sym (walk_turn draft pointer passed value text token more cut none))
+    (fault_ends (stepped_along draft pointer passed value token) (λ s. passed_along draft pointer s.1 s.0 (tokens more)) e says)
 
 -- the tokens of a text, by its first `/`
 pub tokens_turn : (text token more : List ℕ) → text ≡ token ++ (47 ∷ more) → All (λ b. b ≢ 47) token → tokens text ≡ token ∷ tokens more

@@ -3,14 +3,15 @@ use Rattle.std.proofs.Common.{◌≡◌, ℕ, Bool, true, false, List, [], ◌�
 use Rattle.std.specs.List.{last_or}
 use Rattle.std.specs.Option.{unwrap_or}
 use Rattle.std.proofs.lemmas.List.Elements.{filter-append}
+use Rattle.ref_definitions.specs.World.{World}
 use Rattle.ref_definitions.specs.Fault.{Fault}
-use Rattle.ref_definitions.specs.Anchors.{Named}
-use Rattle.ref_definitions.specs.Lookup.{Resolver, Found, fault_of, entry_of, is_dynamic, unless_fault, entry_found, outermost}
+use Rattle.ref_definitions.specs.Anchors.{Named, anchor}
+use Rattle.ref_definitions.specs.Lookup.{Resolver, Found, fault_of, entry_of, is_dynamic, unless_fault, entry_found, outermost, in_scope}
 use Rattle.serde_json.specs.View.{view}
 use Rattle.ref_resolver.specs.declared.located.Located.{Located}
 use Rattle.ref_resolver.specs.inner.Located.{IsLocated}
 use Rattle.ref_resolver.specs.Resolving.{under_uri}
-use Rattle.ref_resolver.specs.inner.Scoped.{dynamic_of}
+use Rattle.ref_resolver.specs.inner.Scoped.{dynamic_of, dynamic_under}
 
 abbrev Meaning : Type 0
 Meaning = List ℕ × Result Named Fault
@@ -44,11 +45,11 @@ goes_on r e m more es is =
     (filter-append dynamic (entry_of m) (flat_map entry_of more) ∙ ap (λ xs. xs ++ filter dynamic (flat_map entry_of more)) same)
 
 -- without a dynamic one the entry stays
-pub passed : (r : Resolver) (e : List ℕ × Named) (m : Meaning) (more : List Meaning) → dynamic_of m ≡ Ok [] → from_here r e (m ∷ more) ≡ from_here r e more
+passed : (r : Resolver) (e : List ℕ × Named) (m : Meaning) (more : List Meaning) → dynamic_of m ≡ Ok [] → from_here r e (m ∷ more) ≡ from_here r e more
 passed r e m more is = goes_on r e m more [] is
 
 -- and with one it is taken
-pub taken : (r : Resolver) (e x : List ℕ × Named) (m : Meaning) (more : List Meaning) → dynamic_of m ≡ Ok (x ∷ []) → from_here r e (m ∷ more) ≡ from_here r x more
+taken : (r : Resolver) (e x : List ℕ × Named) (m : Meaning) (more : List Meaning) → dynamic_of m ≡ Ok (x ∷ []) → from_here r e (m ∷ more) ≡ from_here r x more
 taken r e x m more is =
     goes_on r e m more (x ∷ []) is ∙ ap (λ y. unless_fault (flat_map fault_of more) (entry_found r y)) (last_from x e (filter dynamic (flat_map entry_of more)))
 
@@ -59,16 +60,38 @@ last_on e m more es is =
     let (none, same) = no_fault (fault_of m) (filter dynamic (entry_of m)) es is in
     ap (λ xs. unwrap_or (last_or None xs) e) (filter-append dynamic (entry_of m) (flat_map entry_of more) ∙ ap (λ xs. xs ++ filter dynamic (flat_map entry_of more)) same)
 
-pub last_passed : (e : List ℕ × Named) (m : Meaning) (more : List Meaning) → dynamic_of m ≡ Ok [] → outermost e (flat_map entry_of (m ∷ more)) ≡ outermost e (flat_map entry_of more)
+last_passed : (e : List ℕ × Named) (m : Meaning) (more : List Meaning) → dynamic_of m ≡ Ok [] → outermost e (flat_map entry_of (m ∷ more)) ≡ outermost e (flat_map entry_of more)
 last_passed e m more is = last_on e m more [] is
 
-pub last_taken : (e x : List ℕ × Named) (m : Meaning) (more : List Meaning) → dynamic_of m ≡ Ok (x ∷ []) → outermost e (flat_map entry_of (m ∷ more)) ≡ outermost x (flat_map entry_of more)
+last_taken : (e x : List ℕ × Named) (m : Meaning) (more : List Meaning) → dynamic_of m ≡ Ok (x ∷ []) → outermost e (flat_map entry_of (m ∷ more)) ≡ outermost x (flat_map entry_of more)
 last_taken e x m more is = last_on e m more (x ∷ []) is ∙ last_from x e (filter dynamic (flat_map entry_of more))
 
 -- a fault ends it
-pub ended : (r : Resolver) (e : List ℕ × Named) (m : Meaning) (more : List Meaning) (fault : Fault) → dynamic_of m ≡ Err fault → from_here r e (m ∷ more) ≡ Err fault
+ended : (r : Resolver) (e : List ℕ × Named) (m : Meaning) (more : List Meaning) (fault : Fault) → dynamic_of m ≡ Err fault → from_here r e (m ∷ more) ≡ Err fault
 ended r e m more fault is =
     first_fault (fault_of m) (flat_map fault_of more) (filter dynamic (entry_of m)) (entry_found r (outermost e (entry_of m ++ flat_map entry_of more))) fault is
+
+-- ---- the next URI of the scope
+
+module _ (w : World) (r : Resolver) (name : List ℕ) (e : List ℕ × Named) (uri : List ℕ) (left more : List (List ℕ)) (steps : left ≡ uri ∷ more) where
+  abbrev means : Meaning
+  means = (uri, anchor w uri name)
+
+  pub turn_ended : (fault : Fault) → dynamic_under w uri name ≡ Err fault → from_here r e (in_scope w name left) ≡ Err fault
+  turn_ended fault is = ap (λ xs. from_here r e (in_scope w name xs)) steps ∙ ended r e means (in_scope w name more) fault is
+
+  pub turn_passed : dynamic_under w uri name ≡ Ok [] → from_here r e (in_scope w name left) ≡ from_here r e (in_scope w name more)
+  turn_passed is = ap (λ xs. from_here r e (in_scope w name xs)) steps ∙ passed r e means (in_scope w name more) is
+
+  pub turn_taken : (n : Named) → dynamic_under w uri name ≡ Ok ((uri, n) ∷ []) → from_here r e (in_scope w name left) ≡ from_here r (uri, n) (in_scope w name more)
+  turn_taken n is = ap (λ xs. from_here r e (in_scope w name xs)) steps ∙ taken r e (uri, n) means (in_scope w name more) is
+
+  -- the last entry alone
+  pub last_turn_passed : dynamic_under w uri name ≡ Ok [] → outermost e (flat_map entry_of (in_scope w name left)) ≡ outermost e (flat_map entry_of (in_scope w name more))
+  last_turn_passed is = ap (λ xs. outermost e (flat_map entry_of (in_scope w name xs))) steps ∙ last_passed e means (in_scope w name more) is
+
+  pub last_turn_taken : (n : Named) → dynamic_under w uri name ≡ Ok ((uri, n) ∷ []) → outermost e (flat_map entry_of (in_scope w name left)) ≡ outermost (uri, n) (flat_map entry_of (in_scope w name more))
+  last_turn_taken n is = ap (λ xs. outermost e (flat_map entry_of (in_scope w name xs))) steps ∙ last_taken e (uri, n) means (in_scope w name more) is
 
 -- the entry's place, as the code has it
 pub found_under : (r : Resolver) (uri : List ℕ) (n : Named) (l : Located) → IsLocated l n.place → entry_found r (uri, n) ≡ under_uri r uri l.entry.now.draft (view l.value.now)

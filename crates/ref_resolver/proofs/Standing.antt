@@ -7,27 +7,35 @@ use Rattle.ref_parts.specs.Path.{Part, Key, Index, value_at}
 use Rattle.ref_parts.specs.Pointer.{unescape}
 use Rattle.ref_draft.specs.declared.draft.Draft.{Draft}
 use Rattle.ref_definitions.specs.Results.{◌>>=◌}
-use Rattle.ref_definitions.specs.World.{Layer}
+use Rattle.ref_definitions.specs.World.{Layer, World}
 use Rattle.ref_definitions.specs.Places.{Place}
-use Rattle.ref_definitions.specs.Fault.{PointerToNowhere, InvalidArrayIndex, as_invalid_uri}
+use Rattle.ref_definitions.specs.Fault.{Fault, PointerToNowhere, InvalidArrayIndex, as_invalid_uri}
 use Rattle.ref_definitions.specs.Pointers.{index_of, step_into, walked_along}
 use Rattle.ref_definitions.specs.Lookup.{Resolver, Found, in_subresource}
 use Rattle.ref_definitions.proofs.Changes.{first_answers, there_or, step_leads, part_more}
 use Rattle.ref_parts.specs.Segment.{part_of}
+use Rattle.ref_error.specs.declared.error.Error.{Error}
+use Rattle.ref_error.specs.Errors.{IsFaultOf, Gives}
 use Rattle.ref_resolver.specs.declared.located.Located.{Located}
+use Rattle.ref_resolver.specs.declared.location.Location.{Location}
 use Rattle.ref_resolver.specs.inner.Located.{IsLocatedIn}
 use Rattle.ref_resolver.specs.Resolving.{under_uri}
 use Rattle.ref_draft.specs.declared.reached.Reached.{Reached}
 use Rattle.ref_draft.specs.declared.reached.Reached.TheVariants.{Schema}
 use Rattle.ref_draft.specs.Reached.{reached_after}
 use Rattle.ref_parts.specs.declared.path.JsonPointerSegment.{JsonPointerSegment}
-use Rattle.ref_resolver.specs.Locations.{EndsAt}
+use Rattle.ref_resolver.specs.Locations.{IsWhere, GivesWhere, EndsAt}
 use Rattle.ref_resolver.proofs.Pointing.{answer_same}
 use Rattle.ref_resolver.specs.inner.Walking.{Passed, stepped_into, based, stepped_along, passed_along}
 
 pub if_ok : {A E : Type 0} (P Q : A → Type 0) (r : Result A E) → ((a : A) → P a → Q a) → IfOk r P → IfOk r Q
 if_ok P Q (Ok a) then is = then a is
 if_ok P Q (Err e) then is = tt
+
+-- what an answer brings with it, of a call that gives it
+pub if_given : {A X : Type 0} (view : X → A) (meaning : Result A Fault) (Q : X → Type 0) (r : Result X Error) → ((x : X) → meaning ≡ Ok (view x) → Q x) → Gives view meaning r → IfOk r Q
+if_given view meaning Q (Ok x) then gives = then x gives
+if_given view meaning Q (Err e) then gives = tt
 
 pub on_ok : {A E P Q : Type 0} (r : Result A E) → (P → Q) → OnOk r P → OnOk r Q
 on_ok (Ok a) then is = then is
@@ -36,6 +44,11 @@ on_ok (Err e) then is = tt
 pub if_err : {A E : Type 0} (P Q : E → Type 0) (r : Result A E) → ((e : E) → P e → Q e) → IfErr r P → IfErr r Q
 if_err P Q (Ok a) then is = tt
 if_err P Q (Err e) then is = then e is
+
+-- a location of the value, and the fault, are what a call gives
+pub gives_where : (w : World) (meaning : Result Found Fault) (r : Result Location Error) → IfOk r (IsWhere w meaning) → IfErr r (IsFaultOf meaning) → GivesWhere w meaning r
+gives_where w meaning (Ok l) here fault = here
+gives_where w meaning (Err e) here fault = fault
 
 -- ---- the part that a token is
 

@@ -1,6 +1,6 @@
 -- Where the value is that a look-up returns: in the document with which number, of the layer with which number, and at which
 -- path there.
-use Rattle.std.specs.Prelude.{◌≡◌, ℕ, suc, ◌==◌, List, [], ◌∷◌, ◌++◌, map, flat_map, codes, slice_get, Option, Some, None, option_map, option_and_then, Result, Ok, if◌then◌else◌}
+use Rattle.std.specs.Prelude.{◌≡◌, ℕ, suc, ◌==◌, List, [], ◌∷◌, ◌++◌, map, flat_map, codes, slice_get, Option, Some, None, option_map, option_and_then, Result, Ok, Err, if◌then◌else◌}
 use Rattle.std.specs.List.{take_while, last_or}
 use Rattle.std.specs.Option.{option_or, option_map_or, unwrap_or}
 use Rattle.std.specs.Result.{result_ok}
@@ -19,6 +19,8 @@ use Rattle.ref_definitions.specs.Fault.{Fault}
 use Rattle.ref_definitions.specs.Pointers.{step_into}
 use Rattle.ref_definitions.specs.Lookup.{Resolver, Found, lookup, moved_resolver, in_scope, entry_of, outermost}
 use Rattle.ref_definitions.specs.Recursive.{answers_marked}
+use Rattle.ref_error.specs.declared.error.Error.{Error}
+use Rattle.ref_error.specs.Errors.{IsFaultOf}
 use Rattle.ref_index.specs.Spots.{Spot, spot_under, spot_named}
 use Rattle.ref_resolver.specs.declared.location.Location.{Location}
 
@@ -116,6 +118,11 @@ pub record StandsAt (w : World) (l : Location) (value : Data) : Type 0 where
 -- a look-up leads somewhere, and the value that it returns is there
 abbrev pub IsWhere : World → Result Found Fault → Location → Type 0
 IsWhere w answer l = (found : Found) × (answer ≡ Ok found) × StandsAt w l found.value
+
+-- a call says where the value is that a look-up returns, or the fault of the look-up
+abbrev pub GivesWhere : World → Result Found Fault → Result Location Error → Type 0
+GivesWhere w answer (Ok l) = IsWhere w answer l
+GivesWhere w answer (Err error) = IsFaultOf answer error
 
 -- a walk along a pointer ends at a value, which a path from a start leads to; for private clauses
 abbrev pub EndsAt : {A : Type 0} → Data → List JsonPointerSegment → Result (Data × A) Fault → Type 0

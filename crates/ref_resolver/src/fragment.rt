@@ -9,7 +9,7 @@ ghost use Rattle.ref_definitions.specs.Resources.{own_uri, meant_place};
 ghost use Rattle.ref_definitions.specs.Anchors.{Named, anchor, named_by_identifier, named_entry, not_named};
 ghost use Rattle.ref_definitions.specs.Fault.{not_retrieved};
 ghost use Rattle.ref_definitions.specs.Lookup.{by_scope, in_scope, named_found};
-ghost use Rattle.ref_error.specs.Errors.{IsFaultOf, IsForReason, SaysOrMemory};
+ghost use Rattle.ref_error.specs.Errors.{IsFaultOf, Gives, IsForReason, SaysOrMemory};
 ghost use Rattle.ref_error.specs.declared.error.Reason.TheVariants.{NotSupported};
 ghost use Rattle.ref_resolver.specs.Layered.{world_in};
 ghost use Rattle.ref_resolver.specs.inner.Located.{IsLocated, IsNamed};
@@ -124,15 +124,11 @@ pub(crate) fn under_uri<'r>(
     uri: &Uri,
     place: Located<'r>,
 ) -> Result<Resolved<'r>, Error>
-    ensures ok { IfOk result
-        (λ found. under_uri (resolver_of resolver.now) uri.now place.entry.entry.now.draft
-        (view place.entry.value.now)
-        ≡ Ok (found_of found)) }
-    ensures world { IfOk result (λ found. world_found found ≡ world_of resolver.now) }
-    ensures fault { IfErr result
-        (IsFaultOf
+    ensures gives { Gives found_of
         (under_uri (resolver_of resolver.now) uri.now place.entry.entry.now.draft
-        (view place.entry.value.now))) }
+        (view place.entry.value.now))
+        result }
+    ensures world { IfOk result (λ found. world_found found ≡ world_of resolver.now) }
 {
     let draft = place.entry.draft;
     let base = match ResourceRef::new(place.value, draft).id() {
@@ -213,15 +209,11 @@ pub(crate) fn at_pointer<'r>(
     pointer: &str,
     text: &str,
 ) -> Result<Resolved<'r>, Error>
-    ensures ok { IfOk result
-        (λ found. at_pointer (resolver_of resolver.entry) place.entry.entry.now.draft pointer.now
-        (view place.entry.value.now) text.now
-        ≡ Ok (found_of found)) }
-    ensures world { IfOk result (λ found. world_found found ≡ world_of resolver.entry) }
-    ensures fault { IfErr result
-        (IsFaultOf
+    ensures gives { Gives found_of
         (at_pointer (resolver_of resolver.entry) place.entry.entry.now.draft pointer.now
-        (view place.entry.value.now) text.now)) }
+        (view place.entry.value.now) text.now)
+        result }
+    ensures world { IfOk result (λ found. world_found found ≡ world_of resolver.entry) }
 {
     let draft = place.entry.draft;
     let Resolver {

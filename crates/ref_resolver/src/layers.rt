@@ -1,10 +1,10 @@
 //! The documents that references lead into, layer by layer.
-ghost use Rattle.std.specs.Prelude.{◌≡◌, ◌∷◌, map, IfOk, IfErr, IfSome, MatchOption, IsSome, is_some, Some, None, Ok};
+ghost use Rattle.std.specs.Prelude.{◌≡◌, ◌∷◌, map, IfOk, IfSome, MatchOption, IsSome, is_some, Some, None, Ok};
 ghost use Rattle.ref_uri.specs.Targets.{uri_against};
 ghost use Rattle.ref_definitions.specs.Resources.{meant_place};
 ghost use Rattle.ref_definitions.specs.Anchors.{named_entry};
 ghost use Rattle.ref_definitions.specs.Fault.{as_invalid_uri};
-ghost use Rattle.ref_error.specs.Errors.{IsFaultOf};
+ghost use Rattle.ref_error.specs.Errors.{Gives};
 ghost use Rattle.ref_index.specs.Spots.{spot_of};
 ghost use Rattle.ref_resolver.specs.inner.Located.{IsMeant, IsMeantAt, IsNamed, IsNamedAt};
 ghost use Rattle.ref_resolver.specs.Layered.{world_in, IsHeld};
@@ -138,8 +138,8 @@ impl<'r> Layers<'r> {
     /// that is no URI reference, and as `Memory`.
     #[inline(always)]
     pub fn resolve_uri(&self, alloc: Global, base: UriRef<'_>, uri: &str) -> Result<Rc<Uri>, Error>
-        ensures ok { IfOk result (λ u. uri_against base.entry uri.now ≡ Ok u.value) }
-        ensures fault { IfErr result (IsFaultOf (as_invalid_uri (uri_against base.entry uri.now))) }
+        ensures gives { Gives (λ u. u.value) (as_invalid_uri (uri_against base.entry uri.now))
+            result }
     {
         match self.resolved_uri(&base, uri) {
             Some(uri) => Ok(uri.clone()?),
@@ -156,10 +156,10 @@ impl<'r> Layers<'r> {
         base: UriRef<'_>,
         uri: &str,
     ) -> Result<(Rc<Uri>, Option<Located<'r>>), Error>
-        ensures ok { IfOk result (λ t. uri_against base.entry uri.now ≡ Ok t.0.value) }
+        ensures gives { Gives (λ t. t.0.value) (as_invalid_uri (uri_against base.entry uri.now))
+            result }
         ensures place { IfOk result
             (λ t. IfSome t.1 (IsMeant (meant_place (world_in self.now) t.0.value))) }
-        ensures fault { IfErr result (IsFaultOf (as_invalid_uri (uri_against base.entry uri.now))) }
     {
         if let Some(found) = self.own.resolved(base.as_str(), uri) {
             let place = place_of(self.own, found.entry);
@@ -180,10 +180,10 @@ impl<'r> Layers<'r> {
         base: UriRef<'_>,
         uri: &str,
     ) -> Result<(Rc<Uri>, Option<Located<'r>>), Error>
-        ensures ok { IfOk result (λ t. uri_against base.entry uri.now ≡ Ok t.0.value) }
+        ensures gives { Gives (λ t. t.0.value) (as_invalid_uri (uri_against base.entry uri.now))
+            result }
         ensures place { IfOk result
             (λ t. IfSome t.1 (IsMeant (meant_place (world_in self.now) t.0.value))) }
-        ensures fault { IfErr result (IsFaultOf (as_invalid_uri (uri_against base.entry uri.now))) }
     {
         if base.has_scheme() {
             if let Some(entry) = self.own.identified(uri) {
@@ -198,8 +198,7 @@ impl<'r> Layers<'r> {
 // The URI that a text means against a base, where that wasn't resolved before. Takes memory for the URI.
 #[inline(never)]
 fn anew(alloc: Global, base: UriRef<'_>, uri: &str) -> Result<Rc<Uri>, Error>
-    ensures ok { IfOk result (λ u. uri_against base.entry uri.now ≡ Ok u.value) }
-    ensures fault { IfErr result (IsFaultOf (as_invalid_uri (uri_against base.entry uri.now))) }
+    ensures gives { Gives (λ u. u.value) (as_invalid_uri (uri_against base.entry uri.now)) result }
 {
     let uri = resolve_against(alloc, base, uri)?;
     Ok(shared(alloc, uri)?)

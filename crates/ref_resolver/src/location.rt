@@ -16,11 +16,11 @@ ghost use Rattle.ref_draft.specs.Anchors.{Dynamic};
 ghost use Rattle.ref_draft.specs.declared.reached.Reached.TheVariants.{Schema};
 ghost use Rattle.ref_definitions.specs.Lookup.{Resolver as Start, lookup, moved_resolver, named_found};
 ghost use Rattle.ref_definitions.specs.Recursive.{lookup_recursive};
-ghost use Rattle.ref_error.specs.Errors.{IsFaultOf};
+ghost use Rattle.ref_error.specs.Errors.{IsFaultOf, Gives};
 ghost use Rattle.ref_index.specs.Spots.{spot_of};
 ghost use Rattle.ref_resolver.specs.Layered.{world_in};
 ghost use Rattle.ref_resolver.specs.inner.Located.{IsLocated, IsLocatedAt, IsNamedAt};
-ghost use Rattle.ref_resolver.specs.Locations.{StandsAt, IsWhere, EndsAt, anchor_spot, naming_uri, parts_along, with_parts, located, recursive_reference, location_view};
+ghost use Rattle.ref_resolver.specs.Locations.{StandsAt, IsWhere, GivesWhere, EndsAt, anchor_spot, naming_uri, parts_along, with_parts, located, recursive_reference, location_view};
 ghost use Rattle.ref_resolver.specs.inner.Names.{is_name};
 ghost use Rattle.ref_resolver.specs.Resolving.{resolver_of, world_of, at_pointer};
 ghost use Rattle.ref_resolver.specs.inner.Walking.{along_of, passed_along, stepped_along};
@@ -161,10 +161,10 @@ fn step_on<'v>(
     path: &mut Vec<JsonPointerSegment<'_>>,
     token: &str,
 ) -> Result<Along<'v>, Error>
-    ensures ok { IfOk result
-        (λ a. stepped_along walk.now.draft walk.now.pointer.now (along_of along.entry)
-        (view along.entry.value.now) token.now
-        ≡ Ok (view a.value.now, along_of a)) }
+    ensures gives { Gives (λ a. (view a.value.now, along_of a))
+        (stepped_along walk.now.draft walk.now.pointer.now (along_of along.entry)
+        (view along.entry.value.now) token.now)
+        result }
     ensures path { (start : Data)
         → value_at start (map part_of path.old.items) ≡ Some (view along.entry.value.now)
         → IfOk result (λ a. value_at start (map part_of path.new.items) ≡ Some (view a.value.now)) }
@@ -174,10 +174,6 @@ fn step_on<'v>(
         ++ parts_along walk.now.pointer.now (view a.value.now) more
         ≡ map part_of path.old.items
         ++ parts_along walk.now.pointer.now (view along.entry.value.now) (token.now ∷ more)) }
-    ensures fault { IfErr result
-        (IsFaultOf
-        (stepped_along walk.now.draft walk.now.pointer.now (along_of along.entry)
-        (view along.entry.value.now) token.now)) }
 {
     push_part(alloc, path, along.value, token)?;
     step(alloc, walk, along, token)
@@ -314,14 +310,11 @@ impl<'r> Resolver<'r> {
     /// Refuses as [`Resolver::lookup`] does, whose cost it has, and a look-up more. Takes memory for the path's parts
     /// and, of a pointer, for its keys; the other keys are lent.
     pub fn location(&self, alloc: Global, reference: &str) -> Result<Location<'r>, Error>
-        ensures ok { IfOk result
-            (IsWhere (world_of self.now)
-            (lookup (world_of self.now) (resolver_of self.now) reference.now)) }
+        ensures gives { GivesWhere (world_of self.now)
+            (lookup (world_of self.now) (resolver_of self.now) reference.now) result }
         ensures spot { IfOk result
             (λ l. located (world_of self.now) (resolver_of self.now) reference.now
             ≡ Some (location_view l)) }
-        ensures fault { IfErr result
-            (IsFaultOf (lookup (world_of self.now) (resolver_of self.now) reference.now)) }
     {
         let Target { uri, fragment, .. } = self.target(alloc, reference)?;
         if is_name(fragment) {
@@ -339,15 +332,12 @@ impl<'r> Resolver<'r> {
     /// Where the value is that [`Resolver::lookup_recursive_ref`] answers, as [`Resolver::location`] says it. Refuses
     /// as that call does, whose cost it has, and takes memory for the path's parts.
     pub fn location_recursive(&self, alloc: Global) -> Result<Location<'r>, Error>
-        ensures ok { IfOk result
-            (IsWhere (world_of self.now)
-            (lookup_recursive (world_of self.now) (resolver_of self.now))) }
+        ensures gives { GivesWhere (world_of self.now)
+            (lookup_recursive (world_of self.now) (resolver_of self.now)) result }
         ensures spot { IfOk result
             (λ l. located (world_of self.now) (resolver_of self.now)
             (recursive_reference (world_of self.now) (resolver_of self.now))
             ≡ Some (location_view l)) }
-        ensures fault { IfErr result
-            (IsFaultOf (lookup_recursive (world_of self.now) (resolver_of self.now))) }
     {
         let (_, reference) = self.recursive(alloc)?;
         self.location(alloc, reference)
@@ -360,23 +350,17 @@ impl<'r> Resolver<'r> {
         uri: Rc<Uri>,
         name: &str,
     ) -> Result<Location<'r>, Error>
-        ensures ok { (reference : List ℕ)
+        ensures gives { (reference : List ℕ)
             → target (resolver_of self.now).base reference ≡ Ok uri.value
             → fragment_part reference ≡ name.now → is_name name.now ≡ true
-            → IfOk result
-            (IsWhere (world_of self.now)
-            (lookup (world_of self.now) (resolver_of self.now) reference)) }
+            → GivesWhere (world_of self.now)
+            (lookup (world_of self.now) (resolver_of self.now) reference) result }
         ensures spot { (reference : List ℕ)
             → target (resolver_of self.now).base reference ≡ Ok uri.value
             → fragment_part reference ≡ name.now → is_name name.now ≡ true
             → IfOk result
             (λ l. located (world_of self.now) (resolver_of self.now) reference
             ≡ Some (location_view l)) }
-        ensures fault { (reference : List ℕ)
-            → target (resolver_of self.now).base reference ≡ Ok uri.value
-            → fragment_part reference ≡ name.now → is_name name.now ≡ true
-            → IfErr result
-            (IsFaultOf (lookup (world_of self.now) (resolver_of self.now) reference)) }
     {
         let Some(found) = numbered_meaning(&self.layers, uri.as_str(), name) else {
             return Err(self.no_name(alloc, &uri, name));
@@ -395,12 +379,12 @@ impl<'r> Resolver<'r> {
         name: &str,
         found: Located<'r>,
     ) -> Result<Location<'r>, Error>
-        ensures ok { (n : Named) → n.name ≡ name.now → n.kind ≡ Dynamic
+        ensures gives { (n : Named) → n.name ≡ name.now → n.kind ≡ Dynamic
             → IsLocated found.entry n.place → anchor (world_of self.now) uri.value name.now ≡ Ok n
-            → IfOk result
-            (IsWhere (world_of self.now)
+            → GivesWhere (world_of self.now)
             (named_found (world_of self.now)
-            (moved_resolver (resolver_of self.now) uri.value) n n.kind)) }
+            (moved_resolver (resolver_of self.now) uri.value) n n.kind)
+            result }
         ensures spot { (n : Named) → n.name ≡ name.now → n.kind ≡ Dynamic
             → IsLocated found.entry n.place → anchor (world_of self.now) uri.value name.now ≡ Ok n
             → IfOk result
@@ -408,12 +392,6 @@ impl<'r> Resolver<'r> {
             (naming_uri (world_of self.now) (moved_resolver (resolver_of self.now) uri.value) n
             n.kind) name.now
             ≡ Some (location_view l)) }
-        ensures fault { (n : Named) → n.name ≡ name.now → n.kind ≡ Dynamic
-            → IsLocated found.entry n.place → anchor (world_of self.now) uri.value name.now ≡ Ok n
-            → IfErr result
-            (IsFaultOf
-            (named_found (world_of self.now)
-            (moved_resolver (resolver_of self.now) uri.value) n n.kind)) }
     {
         let resolver = self.moved(alloc, uri)?;
         let (uri, place) = outermost(alloc, &resolver, name, found)?;

@@ -1,12 +1,12 @@
 //! The walk along the pointer of a reference's fragment (RFC 6901), with the base URI along it.
-ghost use Rattle.std.specs.Prelude.{◌≡◌, ◌≢◌, ◌==◌, ◌∷◌, ◌++◌, All, position, IfOk, IfErr, MatchOption, option_map, ok_or, Ok, None, if◌then◌else◌};
+ghost use Rattle.std.specs.Prelude.{◌≡◌, ◌≢◌, ◌==◌, ◌∷◌, ◌++◌, All, position, IfOk, MatchOption, option_map, ok_or, None, if◌then◌else◌};
 ghost use Rattle.serde_json.specs.View.{view};
 ghost use Rattle.std.specs.Cow.{cow_str_bytes};
 ghost use Rattle.ref_parts.specs.Pointer.{slash, tilde, tokens, unescape};
 ghost use Rattle.ref_draft.specs.Schema.{identifier};
 ghost use Rattle.ref_definitions.specs.Pointers as world;
 ghost use Rattle.ref_definitions.specs.Fault.{PointerToNowhere, InvalidArrayIndex, InvalidPercentEncoding};
-ghost use Rattle.ref_error.specs.Errors.{IsFaultOf, SaysOrMemory};
+ghost use Rattle.ref_error.specs.Errors.{Gives, SaysOrMemory};
 ghost use Rattle.ref_resolver.specs.inner.Walking.{along_of, accepted_id, stepped_into, stepped_along, passed_along, leads_to, pointed_to};
 
 use crate::layers::Layers;
@@ -72,12 +72,9 @@ pub(crate) fn index_of(part: &str) -> Option<usize>
 
 // What a look-up found, or the fault of a pointer that finds no value.
 fn found<'r>(alloc: Global, pointer: &str, value: Option<&'r Value>) -> Result<&'r Value, Error>
-    ensures ok { IfOk result
-        (λ v. ok_or (option_map (λ v. view v.now) value.entry) (PointerToNowhere pointer.now)
-        ≡ Ok (view v.now)) }
-    ensures fault { IfErr result
-        (IsFaultOf
-        (ok_or (option_map (λ v. view v.now) value.entry) (PointerToNowhere pointer.now))) }
+    ensures gives { Gives (λ v. view v.now)
+        (ok_or (option_map (λ v. view v.now) value.entry) (PointerToNowhere pointer.now))
+        result }
 {
     match value {
         Some(value) => Ok(value),
@@ -88,10 +85,8 @@ fn found<'r>(alloc: Global, pointer: &str, value: Option<&'r Value>) -> Result<&
 // The index that a token is in an array.
 #[inline(never)]
 fn index_in(alloc: Global, pointer: &str, token: &str) -> Result<usize, Error>
-    ensures ok { IfOk result
-        (λ i. ok_or (world.index_of token.now) (InvalidArrayIndex pointer.now token.now) ≡ Ok i) }
-    ensures fault { IfErr result
-        (IsFaultOf (ok_or (world.index_of token.now) (InvalidArrayIndex pointer.now token.now))) }
+    ensures gives { Gives (λ i. i)
+        (ok_or (world.index_of token.now) (InvalidArrayIndex pointer.now token.now)) result }
 {
     match index_of(token) {
         Some(index) => Ok(index),
@@ -127,12 +122,9 @@ fn step_into<'r>(
     reached: Reached,
     token: &str,
 ) -> Result<(Reached, &'r Value), Error>
-    ensures ok { IfOk result
-        (λ s. stepped_into walk.now.draft walk.now.pointer.now reached (view value.now) token.now
-        ≡ Ok (s.0, view s.1.now)) }
-    ensures fault { IfErr result
-        (IsFaultOf
-        (stepped_into walk.now.draft walk.now.pointer.now reached (view value.now) token.now)) }
+    ensures gives { Gives (λ s. (s.0, view s.1.now))
+        (stepped_into walk.now.draft walk.now.pointer.now reached (view value.now) token.now)
+        result }
 {
     if value.is_array() {
         let index = index_in(alloc, walk.pointer, token)?;
@@ -165,14 +157,10 @@ pub(crate) fn step<'r>(
     along: Along<'r>,
     token: &str,
 ) -> Result<Along<'r>, Error>
-    ensures ok { IfOk result
-        (λ a. stepped_along walk.now.draft walk.now.pointer.now (along_of along.entry)
-        (view along.entry.value.now) token.now
-        ≡ Ok (view a.value.now, along_of a)) }
-    ensures fault { IfErr result
-        (IsFaultOf
+    ensures gives { Gives (λ a. (view a.value.now, along_of a))
         (stepped_along walk.now.draft walk.now.pointer.now (along_of along.entry)
-        (view along.entry.value.now) token.now)) }
+        (view along.entry.value.now) token.now)
+        result }
 {
     let Along {
         value,
@@ -225,14 +213,10 @@ fn walk_along<'r>(
     along: Along<'r>,
     text: &str,
 ) -> Result<Along<'r>, Error>
-    ensures ok { IfOk result
-        (λ a. passed_along walk.entry.draft walk.entry.pointer.now (along_of along.entry)
-        (view along.entry.value.now) (tokens text.now)
-        ≡ Ok (view a.value.now, along_of a)) }
-    ensures fault { IfErr result
-        (IsFaultOf
+    ensures gives { Gives (λ a. (view a.value.now, along_of a))
         (passed_along walk.entry.draft walk.entry.pointer.now (along_of along.entry)
-        (view along.entry.value.now) (tokens text.now))) }
+        (view along.entry.value.now) (tokens text.now))
+        result }
 {
     let mut along = along;
     let mut rest = text;
@@ -260,14 +244,10 @@ fn walk_from<'r>(
     value: &'r Value,
     text: &str,
 ) -> Result<Pointed<'r>, Error>
-    ensures ok { IfOk result
-        (λ p. leads_to walk.entry.draft walk.entry.pointer.now base.value (view value.now)
-        (tokens text.now)
-        ≡ Ok (view p.value.now, p.base.value)) }
-    ensures fault { IfErr result
-        (IsFaultOf
+    ensures gives { Gives (λ p. (view p.value.now, p.base.value))
         (leads_to walk.entry.draft walk.entry.pointer.now base.value (view value.now)
-        (tokens text.now))) }
+        (tokens text.now))
+        result }
 {
     let along = Along {
         value,
@@ -299,14 +279,9 @@ fn follow_decoded<'r>(
     value: &'r Value,
     text: &str,
 ) -> Result<Pointed<'r>, Error>
-    ensures ok { IfOk result
-        (λ p. pointed_to walk.entry.draft walk.entry.pointer.now base.value
-        (view value.now) text.now
-        ≡ Ok (view p.value.now, p.base.value)) }
-    ensures fault { IfErr result
-        (IsFaultOf
-        (pointed_to walk.entry.draft walk.entry.pointer.now base.value
-        (view value.now) text.now)) }
+    ensures gives { Gives (λ p. (view p.value.now, p.base.value))
+        (pointed_to walk.entry.draft walk.entry.pointer.now base.value (view value.now) text.now)
+        result }
 {
     match percent_decode(text.as_bytes()).decode_utf8(alloc) {
         Ok(decoded) => walk_from(alloc, walk, base, value, decoded.as_str()),
@@ -338,14 +313,9 @@ pub(crate) fn follow_pointer<'r>(
     value: &'r Value,
     text: &str,
 ) -> Result<Pointed<'r>, Error>
-    ensures ok { IfOk result
-        (λ p. pointed_to walk.entry.draft walk.entry.pointer.now base.value
-        (view value.now) text.now
-        ≡ Ok (view p.value.now, p.base.value)) }
-    ensures fault { IfErr result
-        (IsFaultOf
-        (pointed_to walk.entry.draft walk.entry.pointer.now base.value
-        (view value.now) text.now)) }
+    ensures gives { Gives (λ p. (view p.value.now, p.base.value))
+        (pointed_to walk.entry.draft walk.entry.pointer.now base.value (view value.now) text.now)
+        result }
 {
     match percent_in(text) {
         Some(_) => follow_decoded(alloc, walk, base, value, text),

@@ -1,9 +1,9 @@
 //! Recursive references (2019-09 Core, 8.2.4.2).
-ghost use Rattle.std.specs.Prelude.{◌≡◌, IfOk, IfErr, Ok};
+ghost use Rattle.std.specs.Prelude.{◌≡◌, IfOk, Ok};
 ghost use Rattle.serde_json.specs.View.{view};
 ghost use Rattle.ref_definitions.specs.Lookup.{lookup};
 ghost use Rattle.ref_definitions.specs.Recursive.{is_marked, lookup_recursive};
-ghost use Rattle.ref_error.specs.Errors.{IsFaultOf};
+ghost use Rattle.ref_error.specs.Errors.{Gives};
 ghost use Rattle.ref_resolver.specs.Locations.{recursive_reference};
 ghost use Rattle.ref_resolver.specs.Resolving.{resolver_of, world_of, found_of, world_found};
 
@@ -29,12 +29,9 @@ impl<'r> Resolver<'r> {
     /// Refuses as [`Resolver::lookup`] does for `#` and for the URIs of the scope, up to the first that means another resource.
     /// A look-up for each URI of the scope; no value is copied.
     pub fn lookup_recursive_ref(&self, alloc: Global) -> Result<Resolved<'r>, Error>
-        ensures ok { IfOk result
-            (λ found. lookup_recursive (world_of self.now) (resolver_of self.now)
-            ≡ Ok (found_of found)) }
+        ensures gives { Gives found_of
+            (lookup_recursive (world_of self.now) (resolver_of self.now)) result }
         ensures world { IfOk result (λ found. world_found found ≡ world_of self.now) }
-        ensures fault { IfErr result
-            (IsFaultOf (lookup_recursive (world_of self.now) (resolver_of self.now))) }
     {
         let (resolved, _) = self.recursive(alloc)?;
         Ok(resolved)
@@ -42,15 +39,13 @@ impl<'r> Resolver<'r> {
 
     // The same, with a reference that leads there.
     pub(crate) fn recursive(&self, alloc: Global) -> Result<(Resolved<'r>, &str), Error>
-        ensures ok { IfOk result
-            (λ t. lookup_recursive (world_of self.now) (resolver_of self.now) ≡ Ok (found_of t.0)) }
+        ensures gives { Gives (λ t. found_of t.0)
+            (lookup_recursive (world_of self.now) (resolver_of self.now)) result }
         ensures reference { IfOk result
             (λ t. lookup (world_of self.now) (resolver_of self.now) t.1.now ≡ Ok (found_of t.0)) }
         ensures text { IfOk result
             (λ t. recursive_reference (world_of self.now) (resolver_of self.now) ≡ t.1.now) }
         ensures world { IfOk result (λ t. world_found t.0 ≡ world_of self.now) }
-        ensures fault { IfErr result
-            (IsFaultOf (lookup_recursive (world_of self.now) (resolver_of self.now))) }
     {
         let mut reference = "#";
         let mut resolved = self.lookup(alloc, reference)?;

@@ -1,5 +1,5 @@
 //! Where references lead from a base URI.
-ghost use Rattle.std.specs.Prelude.{◌≡◌, ℕ, List, Some, true, [], ◌++◌, codes, if◌then◌else◌, IfOk, IfErr, IfSome, MatchOption, Ok, Err, None};
+ghost use Rattle.std.specs.Prelude.{◌≡◌, ℕ, List, Some, true, [], ◌++◌, codes, if◌then◌else◌, IfOk, IfSome, MatchOption, Ok, Err, None};
 ghost use Rattle.std.specs.Fmt.{WritesOnOk};
 ghost use Rattle.std.specs.List.{join_by};
 ghost use Rattle.serde_json.specs.View.{view};
@@ -9,7 +9,7 @@ ghost use Rattle.ref_definitions.specs.Anchors.{Named, anchor, not_named};
 ghost use Rattle.ref_draft.specs.Anchors.{Dynamic};
 ghost use Rattle.ref_draft.specs.Views.{resource_ref};
 ghost use Rattle.ref_definitions.specs.Lookup.{moved_resolver, in_subresource, lookup, named_found};
-ghost use Rattle.ref_error.specs.Errors.{IsFaultOf};
+ghost use Rattle.ref_error.specs.Errors.{IsFaultOf, Gives};
 ghost use Rattle.ref_definitions.specs.Places.{Place};
 ghost use Rattle.ref_definitions.specs.Resources.{meant_place};
 ghost use Rattle.ref_resolver.specs.Layered.{world_in};
@@ -118,8 +118,8 @@ impl<'r> Resolver<'r> {
     /// was, the code takes no memory, which no clause says. Refuses as `InvalidUri` a base without a scheme and a text
     /// that is no URI reference, and as `Memory` where there is none for the URI.
     pub fn resolve_uri(&self, alloc: Global, base: UriRef<'_>, uri: &str) -> Result<Rc<Uri>, Error>
-        ensures ok { IfOk result (λ u. uri_against base.entry uri.now ≡ Ok u.value) }
-        ensures fault { IfErr result (IsFaultOf (as_invalid_uri (uri_against base.entry uri.now))) }
+        ensures gives { Gives (λ u. u.value) (as_invalid_uri (uri_against base.entry uri.now))
+            result }
     {
         self.layers.resolve_uri(alloc, base, uri)
     }
@@ -131,13 +131,12 @@ impl<'r> Resolver<'r> {
         alloc: Global,
         reference: &'t str,
     ) -> Result<Target<'r, 't>, Error>
-        ensures ok { IfOk result
-            (λ t. target (resolver_of self.now).base reference.now ≡ Ok t.uri.value) }
+        ensures gives { Gives (λ t. t.uri.value)
+            (as_invalid_uri (target (resolver_of self.now).base reference.now))
+            result }
         ensures place { IfOk result
             (λ t. IfSome t.place (IsMeant (meant_place (world_of self.now) t.uri.value))) }
         ensures fragment { IfOk result (λ t. t.fragment.now ≡ fragment_part reference.now) }
-        ensures fault { IfErr result
-            (IsFaultOf (as_invalid_uri (target (resolver_of self.now).base reference.now))) }
     {
         if let Some(fragment) = reference.strip_prefix('#') {
             return Ok(Target {
@@ -194,16 +193,12 @@ impl<'r> Resolver<'r> {
         alloc: Global,
         subresource: ResourceRef<'_>,
     ) -> Result<Resolver<'r>, Error>
-        ensures ok { IfOk result
-            (λ r. in_subresource (resolver_of self.now) (resource_ref subresource.entry).draft
-            (resource_ref subresource.entry).contents
-            ≡ Ok (resolver_of r)) }
-        ensures world { IfOk result (λ r. world_of r ≡ world_of self.now) }
-        ensures fault { IfErr result
-            (IsFaultOf
+        ensures gives { Gives resolver_of
             (as_invalid_uri
             (in_subresource (resolver_of self.now) (resource_ref subresource.entry).draft
-            (resource_ref subresource.entry).contents))) }
+            (resource_ref subresource.entry).contents))
+            result }
+        ensures world { IfOk result (λ r. world_of r ≡ world_of self.now) }
     {
         let base = match subresource.id() {
             Some(id) => self.layers.resolve_uri(alloc, self.base.borrow(), id)?,
@@ -223,12 +218,9 @@ impl<'r> Resolver<'r> {
     /// no value is copied. By the code, `#` takes no memory where the scope isn't empty and the base means a place; no
     /// clause says so, but [`Resolver::at_base`] takes none by its signature.
     pub fn lookup(&self, alloc: Global, reference: &str) -> Result<Resolved<'r>, Error>
-        ensures ok { IfOk result
-            (λ found. lookup (world_of self.now) (resolver_of self.now) reference.now
-            ≡ Ok (found_of found)) }
+        ensures gives { Gives found_of
+            (lookup (world_of self.now) (resolver_of self.now) reference.now) result }
         ensures world { IfOk result (λ found. world_found found ≡ world_of self.now) }
-        ensures fault { IfErr result
-            (IsFaultOf (lookup (world_of self.now) (resolver_of self.now) reference.now)) }
     {
         let Target {
             uri,
@@ -264,18 +256,11 @@ impl<'r> Resolver<'r> {
     // Where a name leads under a URI.
     #[inline(never)]
     fn at_name(&self, alloc: Global, uri: Rc<Uri>, name: &str) -> Result<Resolved<'r>, Error>
-        ensures ok { (reference : List ℕ)
+        ensures gives { (reference : List ℕ)
             → target (resolver_of self.now).base reference ≡ Ok uri.value
             → fragment_part reference ≡ name.now → is_name name.now ≡ true
-            → IfOk result
-            (λ found. lookup (world_of self.now) (resolver_of self.now) reference
-            ≡ Ok (found_of found)) }
+            → Gives found_of (lookup (world_of self.now) (resolver_of self.now) reference) result }
         ensures world { IfOk result (λ found. world_found found ≡ world_of self.now) }
-        ensures fault { (reference : List ℕ)
-            → target (resolver_of self.now).base reference ≡ Ok uri.value
-            → fragment_part reference ≡ name.now → is_name name.now ≡ true
-            → IfErr result
-            (IsFaultOf (lookup (world_of self.now) (resolver_of self.now) reference)) }
     {
         let Some(found) = meaning(&self.layers, uri.as_str(), name) else {
             return Err(self.no_name(alloc, &uri, name));
@@ -297,19 +282,13 @@ impl<'r> Resolver<'r> {
         name: &str,
         found: Located<'r>,
     ) -> Result<Resolved<'r>, Error>
-        ensures ok { (n : Named) → n.name ≡ name.now → n.kind ≡ Dynamic
+        ensures gives { (n : Named) → n.name ≡ name.now → n.kind ≡ Dynamic
             → IsLocated found.entry n.place
-            → IfOk result
-            (λ f. named_found (world_of self.now)
-            (moved_resolver (resolver_of self.now) uri.value) n n.kind
-            ≡ Ok (found_of f)) }
-        ensures world { IfOk result (λ f. world_found f ≡ world_of self.now) }
-        ensures fault { (n : Named) → n.name ≡ name.now → n.kind ≡ Dynamic
-            → IsLocated found.entry n.place
-            → IfErr result
-            (IsFaultOf
+            → Gives found_of
             (named_found (world_of self.now)
-            (moved_resolver (resolver_of self.now) uri.value) n n.kind)) }
+            (moved_resolver (resolver_of self.now) uri.value) n n.kind)
+            result }
+        ensures world { IfOk result (λ f. world_found f ≡ world_of self.now) }
     {
         let resolver = self.moved(alloc, uri)?;
         let (uri, place) = outermost(alloc, &resolver, name, found)?;

@@ -10,7 +10,7 @@ use Rattle.serde_json.specs.declared.value.Value.{Value}
 use Rattle.ref_draft.specs.declared.draft.Draft.{Draft}
 use Rattle.ref_definitions.specs.Results.{◌>>=◌}
 use Rattle.ref_definitions.specs.World.{World}
-use Rattle.ref_definitions.specs.Fault.{Fault}
+use Rattle.ref_definitions.specs.Fault.{Fault, as_invalid_uri}
 use Rattle.ref_definitions.specs.Lookup.{Resolver, Found as WorldFound, in_subresource}
 use Rattle.ref_definitions.specs.Follow as world
 use Rattle.ref_error.specs.declared.error.Error.{Error}
@@ -54,7 +54,7 @@ pub look_up_stops : {X : Type 0} (result : Result X Error) (answer : Result Worl
 look_up_stops (Ok x) answer is = tt
 look_up_stops (Err e) answer is = fault_ends answer (λ found. Ok (world.after_lookup found)) e is
 
-pub entered : (w : World) (f : world.Followed) (draft : Draft) (value : Data) (r : Resolver) → in_subresource f.resolver draft value ≡ Ok r → world.after_step w f (world.Enter draft value) ≡ Ok (record { last = f.last; resolver = r })
+pub entered : (w : World) (f : world.Followed) (draft : Draft) (value : Data) (r : Resolver) → as_invalid_uri (in_subresource f.resolver draft value) ≡ Ok r → world.after_step w f (world.Enter draft value) ≡ Ok (record { last = f.last; resolver = r })
 entered w f draft value r at = rw at refl
 
 -- ---- the place of what was found last

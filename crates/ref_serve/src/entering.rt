@@ -1,10 +1,10 @@
 //! `enter`.
-ghost use Rattle.std.specs.Prelude.{◌≡◌, Ok, IfOk, IfErr};
+ghost use Rattle.std.specs.Prelude.{◌≡◌, IfOk};
 ghost use Rattle.serde_json.specs.View.{view};
 ghost use Rattle.ref_draft.specs.Schema.{detect};
 ghost use Rattle.ref_definitions.specs.Fault.{as_invalid_uri};
 ghost use Rattle.ref_definitions.specs.Lookup.{in_subresource};
-ghost use Rattle.ref_error.specs.Errors.{IsFaultOf};
+ghost use Rattle.ref_error.specs.Errors.{Gives};
 ghost use Rattle.ref_resolver.specs.Resolving.{resolver_of as resolver_view, world_of};
 ghost use Rattle.ref_calls.specs.Objects.{object_of};
 ghost use Rattle.ref_calls.specs.Outcome.{Answers};
@@ -28,13 +28,10 @@ pub fn entered<'s>(
     draft: Draft,
     schema: &Value,
 ) -> Result<Resolver<'s>, Error>
-    ensures ok { IfOk result
-        (λ r. in_subresource (resolver_view resolver.now) (detect draft (view schema.now))
-        (view schema.now) ≡ Ok (resolver_view r)) }
+    ensures gives { Gives resolver_view
+        (as_invalid_uri (in_subresource (resolver_view resolver.now)
+        (detect draft (view schema.now)) (view schema.now))) result }
     ensures world { IfOk result (λ r. world_of r ≡ world_of resolver.now) }
-    ensures fault { IfErr result
-        (IsFaultOf (as_invalid_uri (in_subresource (resolver_view resolver.now) (detect draft
-        (view schema.now)) (view schema.now)))) }
 {
     let resource = draft.detect(schema).create_resource_ref(schema);
     resolver.in_subresource(alloc, resource)

@@ -3,7 +3,7 @@ ghost use Rattle.std.specs.Prelude.{◌≡◌, ◌++◌, true, option_map, map, 
 ghost use Rattle.serde_json.specs.View.{view, items_view};
 ghost use Rattle.ref_definitions.specs.Fault.{Fault};
 ghost use Rattle.ref_definitions.specs.Follow.{after_step, followed_from};
-ghost use Rattle.ref_error.specs.Errors.{IsFaultOf, SaysFault, is_memory};
+ghost use Rattle.ref_error.specs.Errors.{Gives as GivesMeaning, IsFaultOf, SaysFault, is_memory};
 ghost use Rattle.ref_resolver.specs.Resolving.{resolver_of as resolver_view, world_of};
 ghost use Rattle.referencing.specs.Following.{step_of};
 ghost use Rattle.ref_calls.specs.Objects.{object_of};
@@ -121,17 +121,14 @@ fn stepped<'s>(
     step: &Step<'_>,
 ) -> Result<Followed<'s>, Error>
     requires { IsPlaced (world_of followed.resolver) followed }
-    ensures ok { IfOk result
-        (λ f. after_step (world_of followed.entry.resolver) (followed_view followed.entry)
-        (step_of step.now) ≡ Ok (followed_view f)) }
+    ensures gives { GivesMeaning followed_view
+        (after_step (world_of followed.entry.resolver) (followed_view followed.entry)
+        (step_of step.now)) result }
     ensures placed { IfOk result (λ f. IsPlaced (world_of followed.entry.resolver) f) }
     ensures place { IfOk result
         (λ f. spec.step_place (world_of followed.entry.resolver) (resolver_view followed.entry.resolver)
         (placed_at followed.entry) (step_of step.now) ≡ placed_at f) }
     ensures world { IfOk result (λ f. world_of f.resolver ≡ world_of followed.entry.resolver) }
-    ensures fault { IfErr result
-        (IsFaultOf (after_step (world_of followed.entry.resolver) (followed_view followed.entry)
-        (step_of step.now))) }
 {
     match step {
         Step::Lookup(reference) => looked_up(alloc, &followed.resolver, Some(reference)),

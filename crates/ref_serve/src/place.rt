@@ -6,7 +6,7 @@ ghost use Rattle.serde_json.specs.View.{view, members_view};
 ghost use Rattle.ref_parts.specs.Pointer.{pointer_text};
 ghost use Rattle.ref_parts.specs.Segment.{part_of};
 ghost use Rattle.ref_error.specs.Errors.{IsFaultOf};
-ghost use Rattle.ref_resolver.specs.Locations.{IsWhere, location_view};
+ghost use Rattle.ref_resolver.specs.Locations.{GivesWhere, location_view};
 ghost use Rattle.ref_resolver.specs.Resolving.{resolver_of, world_of};
 ghost use Rattle.ref_calls.specs.Objects.{with_all, whole};
 ghost use Rattle.ref_serve.specs.Results as results;
@@ -24,16 +24,12 @@ fn location_of<'s>(
     resolver: &Resolver<'s>,
     reference: Option<&str>,
 ) -> Result<Location<'s>, Error>
-    ensures ok { IfOk result
-        (IsWhere (world_of resolver.now)
+    ensures gives { GivesWhere (world_of resolver.now)
         (answer_at (world_of resolver.now) (resolver_of resolver.now)
-        (option_map (λ r. r.now) reference.entry))) }
+        (option_map (λ r. r.now) reference.entry)) result }
     ensures place { IfOk result
         (λ l. place_at (world_of resolver.now) (resolver_of resolver.now)
         (option_map (λ r. r.now) reference.entry) ≡ Some (location_view l)) }
-    ensures fault { IfErr result
-        (IsFaultOf (answer_at (world_of resolver.now) (resolver_of resolver.now) (option_map
-        (λ r. r.now) reference.entry))) }
 {
     match reference {
         Some(reference) => resolver.location(alloc, reference),

@@ -1,5 +1,5 @@
 -- Where a member's key is refused, so is what the members declare.
-use Rattle.std.proofs.Common.{◌≡◌, ℕ, List, Option, None, Some, codes, option_and_then, IsErrAnd, Result, Ok, Err, IfErr, sym, ap, subst}
+use Rattle.std.proofs.Common.{◌≡◌, ℕ, List, Option, None, Some, codes, option_and_then, Result, Ok, Err, sym, ap, subst}
 use Rattle.serde_json.specs.Data.{Data, Members, member}
 use Rattle.serde_json.specs.Find.{get, as_object}
 use Rattle.std.specs.Option.{option_map_or}
@@ -9,22 +9,8 @@ use Rattle.ref_definitions.specs.Results.{◌>>=◌}
 use Rattle.ref_definitions.specs.Fault.{Fault, InvalidUri, as_invalid_uri}
 use Rattle.ref_vocabularies.specs.Vocabularies.{VocabularySet, from_text, with_member, collected_set, known_set, set_of_members, find_in}
 use Rattle.ref_error.specs.declared.error.Error.{Error}
-use Rattle.ref_error.specs.declared.error.Error.TheVariants as error
 use Rattle.ref_error.specs.Errors.{IsFaultOf}
-
--- a fault of one meaning is one of another that is refused alike
-pub fault_moved : {A B : Type 0} (m : Result A Fault) (n : Result B Fault) → ((fault : Fault) → m ≡ Err fault → n ≡ Err fault) → (e : Error) → IsFaultOf m e → IsFaultOf n e
-fault_moved m n alike (error.Memory memory) is = tt
-fault_moved m n alike (error.Unretrievable uri source) (fault, is, says) = (fault, alike fault is, says)
-fault_moved m n alike (error.PointerToNowhere pointer) (fault, is, says) = (fault, alike fault is, says)
-fault_moved m n alike (error.InvalidPercentEncoding pointer) (fault, is, says) = (fault, alike fault is, says)
-fault_moved m n alike (error.InvalidArrayIndex pointer index) (fault, is, says) = (fault, alike fault is, says)
-fault_moved m n alike (error.NoSuchAnchor anchor) (fault, is, says) = (fault, alike fault is, says)
-fault_moved m n alike (error.InvalidAnchor anchor) (fault, is, says) = (fault, alike fault is, says)
-fault_moved m n alike (error.InvalidUri refused) (fault, is, says) = (fault, alike fault is, says)
-fault_moved m n alike (error.UnknownSpecification specification) (fault, is, says) = (fault, alike fault is, says)
-fault_moved m n alike (error.CircularMetaschema uri) (fault, is, says) = (fault, alike fault is, says)
-fault_moved m n alike (error.RetrievalLimit uri limit) (fault, is, says) = (fault, alike fault is, says)
+use Rattle.ref_error.proofs.Saying.{fault_as}
 
 -- what goes on from a refused text is refused alike
 pub refused_on : {A B : Type 0} (m : Result A Refusal) (f : A → Result B Refusal) (fault : Fault) → as_invalid_uri m ≡ Err fault → as_invalid_uri (m >>= f) ≡ Err fault
@@ -36,12 +22,7 @@ pub key_refused : (whole : Result VocabularySet Refusal) (s : VocabularySet) (ke
     → whole ≡ collected_set s (member key value rest) → IsFaultOf (as_invalid_uri (from_text key)) e → IsFaultOf (as_invalid_uri whole) e
 key_refused whole s key value rest e is fault =
     subst (λ w. IsFaultOf (as_invalid_uri w) e) (sym is)
-    (fault_moved (as_invalid_uri (from_text key)) (as_invalid_uri (collected_set s (member key value rest))) (refused_on (from_text key) (λ v. collected_set (with_member s value v) rest)) e fault)
-
--- a fact of an error that is passed on
-pub passed : {A : Type 0} (result : Result A Error) (e : Error) (P : Error → Type 0) → IsErrAnd result (λ w. w ≡ e) → P e → IfErr result P
-passed (Ok x) e P is fact = tt
-passed (Err w) e P is fact = subst P (sym is) fact
+    (fault_as (as_invalid_uri (from_text key)) (as_invalid_uri (collected_set s (member key value rest))) e (refused_on (from_text key) (λ v. collected_set (with_member s value v) rest)) fault)
 
 -- the set of a meta-schema that is known by its identifier
 pub find-known : (d : Data) (known : Option VocabularySet) → Some known ≡ option_and_then known_set (text_under (codes "$id") d) → find_in d ≡ Ok known

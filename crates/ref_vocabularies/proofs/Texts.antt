@@ -1,5 +1,5 @@
 -- Which known vocabulary's URI a text is, and the refusal of one that is none and no URI.
-use Rattle.std.proofs.Common.{◌≡◌, ℕ, Bool, true, false, ◌&&◌, List, ◌++◌, codes, bytes_eq, Option, None, Some, option_map, Result, Ok, Err, IsErrAnd, IfErr, refl, sym, subst}
+use Rattle.std.proofs.Common.{◌≡◌, ℕ, Bool, true, false, ◌&&◌, List, ◌++◌, codes, bytes_eq, Option, None, Some, option_map, Ok, refl, sym, subst}
 use Rattle.std.specs.List.{find}
 use Rattle.std.specs.Option.{option_map_or}
 use Rattle.std.proofs.lemmas.Slice.Eq.{bytes_eq-Decides}
@@ -9,7 +9,6 @@ use Rattle.ref_uri.specs.declared.error.UriFault.{UriFault}
 use Rattle.ref_definitions.specs.Fault.{as_invalid_uri}
 use Rattle.ref_definitions.specs.Results.{◌>>=◌}
 use Rattle.ref_vocabularies.specs.Vocabularies.{Known, Standard, Custom, all_known, name, is_in_2019, is_uri_of, from_text}
-use Rattle.ref_error.specs.declared.error.Error.{Error}
 use Rattle.ref_error.specs.Errors.{IsFaultOf, of_uri_fault}
 use Rattle.ref_error.proofs.Saying.{refused_then}
 
@@ -40,11 +39,7 @@ none_found None e = refl
 none_found (Some k) e = cc
 
 -- a text that is no URI of a known one is refused as its meaning is
-pub fault_passed : {A : Type 0} (result : Result A Error) (fault : UriFault) (text : List ℕ)
-    → None ≡ option_map Standard (find (is_uri_of text) all_known)
-    → IsErrAnd result (λ e. e ≡ of_uri_fault fault) → uri.IsFaultOf (uri_of text) fault
-    → IfErr result (IsFaultOf (as_invalid_uri (from_text text)))
-fault_passed (Ok x) fault text none is says = tt
-fault_passed (Err e) fault text none is says =
-    subst (λ o. IsFaultOf (as_invalid_uri (option_map_or (λ k. Ok (Standard k)) o (uri_of text >>= λ u. Ok (Custom u)))) e) (sym (none_found (find (is_uri_of text) all_known) none))
-    (subst (λ w. IsFaultOf (as_invalid_uri (uri_of text >>= λ u. Ok (Custom u))) w) (sym is) (refused_then (uri_of text) (λ u. Ok (Custom u)) fault says))
+pub text_refused : (text : List ℕ) (fault : UriFault) → None ≡ option_map Standard (find (is_uri_of text) all_known) → uri.IsFaultOf (uri_of text) fault → IsFaultOf (as_invalid_uri (from_text text)) (of_uri_fault fault)
+text_refused text fault none says =
+    subst (λ o. IsFaultOf (as_invalid_uri (option_map_or (λ k. Ok (Standard k)) o (uri_of text >>= λ u. Ok (Custom u)))) (of_uri_fault fault)) (sym (none_found (find (is_uri_of text) all_known) none))
+    (refused_then (uri_of text) (λ u. Ok (Custom u)) fault says)

@@ -1,6 +1,6 @@
 //! Where the vocabularies of a schema are given: by its draft, or by the meta-schema that it names (2020-12 Core, 8.1.1 and
 //! 8.1.2).
-ghost use Rattle.std.specs.Prelude.{◌≡◌, codes, Ok, IfOk, IfErr, OnErr, MatchResult, Option, Result};
+ghost use Rattle.std.specs.Prelude.{◌≡◌, codes, IfOk, OnErr, MatchResult, Option, Result};
 ghost use Rattle.std.specs.Option.{option_map_or};
 ghost use Rattle.serde_json.specs.View.{view};
 ghost use Rattle.ref_uri.specs.Targets.{Refusal, uri_of};
@@ -9,7 +9,7 @@ ghost use Rattle.ref_draft.specs.declared.draft.Draft.TheVariants.{Unknown};
 ghost use Rattle.ref_definitions.specs.World.{World};
 ghost use Rattle.ref_definitions.specs.Fault.{as_invalid_uri};
 ghost use Rattle.ref_vocabularies.specs.Vocabularies.{VocabularySet as SetOfVocabularies, default_set, find_in, set_or_default, set_at, find_vocabularies};
-ghost use Rattle.ref_error.specs.Errors.{IsFaultOf, IsMemory};
+ghost use Rattle.ref_error.specs.Errors.{Gives, IsMemory};
 ghost use Rattle.ref_vocabularies.specs.Dialects.{set_of_dialect};
 
 use crate::meta_schema::{default_vocabularies, find};
@@ -102,7 +102,7 @@ pub fn declared_or_default(
 // The set that was found, or the default one.
 fn or_default(found: Result<Option<VocabularySet>, Error>) -> Result<VocabularySet, AllocError>
     ensures set { (declared : Result (Option SetOfVocabularies) Refusal)
-        → IfOk found (λ set. declared ≡ Ok set) → IfErr found (IsFaultOf (as_invalid_uri declared))
+        → Gives (λ set. set) (as_invalid_uri declared) found
         → IfOk result (λ set. set ≡ set_or_default declared) }
     // Nothing but an error that is out of memory becomes that.
     ensures memory { OnErr result (MatchResult found (λ set. ⊥) IsMemory) }

@@ -1,11 +1,11 @@
 //! The vocabularies that a meta-schema declares, and those of each draft (2020-12 Core, 8.1.2; 2019-09 Core, 8.1.2).
-ghost use Rattle.std.specs.Prelude.{◌≡◌, [], codes, Ok, IfOk, IfErr, OnOk, option_and_then};
+ghost use Rattle.std.specs.Prelude.{◌≡◌, [], codes, IfErr, OnOk, option_and_then};
 ghost use Rattle.serde_json.specs.Find.{get, as_object};
 ghost use Rattle.serde_json.specs.View.{view, members_view};
 ghost use Rattle.ref_draft.specs.Schema.{text_under};
 ghost use Rattle.ref_definitions.specs.Fault.{as_invalid_uri};
 ghost use Rattle.ref_vocabularies.specs.Vocabularies.{of_known, default_set, from_text, collected_set, known_set, set_of_members, find_in};
-ghost use Rattle.ref_error.specs.Errors.{IsFaultOf};
+ghost use Rattle.ref_error.specs.Errors.{IsFaultOf, Gives};
 ghost use Rattle.ref_vocabularies.specs.inner.Adding.{AddsMember};
 
 use crate::vocabulary::Vocabulary;
@@ -43,8 +43,7 @@ pub fn default_vocabularies(draft: Draft) -> VocabularySet
 /// where there is none for a custom vocabulary. Two look-ups, and linear in the keys under `$vocabulary`, each custom one
 /// of which is put at its place.
 pub fn find(alloc: Global, document: &Value) -> Result<Option<VocabularySet>, Error>
-    ensures ok { IfOk result (λ found. find_in (view document.now) ≡ Ok found) }
-    ensures fault { IfErr result (IsFaultOf (as_invalid_uri (find_in (view document.now)))) }
+    ensures gives { Gives (λ found. found) (as_invalid_uri (find_in (view document.now))) result }
 {
     match known(document) {
         Some(known) => Ok(known),
@@ -62,15 +61,11 @@ fn known(document: &Value) -> Option<Option<VocabularySet>>
 
 // The set that a meta-schema declares under `$vocabulary`.
 fn declared(alloc: Global, document: &Value) -> Result<Option<VocabularySet>, Error>
-    ensures ok { IfOk result
-        (λ found. set_of_members
-        (option_and_then as_object (get (codes "$vocabulary") (view document.now)))
-        ≡ Ok found) }
-    ensures fault { IfErr result
-        (IsFaultOf
+    ensures gives { Gives (λ found. found)
         (as_invalid_uri
         (set_of_members
-        (option_and_then as_object (get (codes "$vocabulary") (view document.now)))))) }
+        (option_and_then as_object (get (codes "$vocabulary") (view document.now)))))
+        result }
 {
     match document.get("$vocabulary").and_then(Value::as_object) {
         Some(members) => Ok(Some(collected(alloc, members)?)),
@@ -98,11 +93,9 @@ fn known_set(id: &str) -> Option<Option<VocabularySet>>
 
 // The set that the members of `$vocabulary` declare.
 fn collected(alloc: Global, members: &Map<String, Value>) -> Result<VocabularySet, Error>
-    ensures ok { IfOk result
-        (λ set. collected_set (of_known []) (members_view members.now.entries) ≡ Ok set) }
-    ensures fault { IfErr result
-        (IsFaultOf
-        (as_invalid_uri (collected_set (of_known []) (members_view members.now.entries)))) }
+    ensures gives { Gives (λ set. set)
+        (as_invalid_uri (collected_set (of_known []) (members_view members.now.entries)))
+        result }
 {
     let mut set = VocabularySet::new();
     for (key, value) in members {

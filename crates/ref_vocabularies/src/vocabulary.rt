@@ -1,9 +1,9 @@
 //! Vocabularies, known ones and others.
-ghost use Rattle.std.specs.Prelude.{◌≡◌, Ok, IsOk, IfOk, IfErr, option_map};
+ghost use Rattle.std.specs.Prelude.{◌≡◌, Ok, IsOk, option_map};
 ghost use Rattle.std.specs.List.{find};
 ghost use Rattle.ref_definitions.specs.Fault.{as_invalid_uri};
 ghost use Rattle.ref_vocabularies.specs.Vocabularies.{Known, Standard, all_known, is_uri_of, from_text};
-ghost use Rattle.ref_error.specs.Errors.{IsFaultOf};
+ghost use Rattle.ref_error.specs.Errors.{Gives};
 ghost use Rattle.ref_vocabularies.specs.Views.{vocabulary_of};
 ghost use Rattle.ref_vocabularies.specs.inner.Kept.{mask};
 
@@ -43,9 +43,7 @@ impl Vocabulary {
     /// `InvalidUri` exactly where the text is no known one's URI and no URI reference (RFC 3986, 4.1), with the whole text;
     /// `Memory` where there is none for a custom one. A known one takes none, and is not refused. Linear in the text.
     pub fn from_text(alloc: Global, text: &str) -> Result<Vocabulary, Error>
-        ensures ok { IfOk result
-            (λ vocabulary. from_text text.now ≡ Ok (vocabulary_of vocabulary)) }
-        ensures fault { IfErr result (IsFaultOf (as_invalid_uri (from_text text.now))) }
+        ensures gives { Gives vocabulary_of (as_invalid_uri (from_text text.now)) result }
         ensures known { (k : Known) → from_text text.now ≡ Ok (Standard k) → IsOk result }
     {
         match known(text) {

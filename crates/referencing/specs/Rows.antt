@@ -2,16 +2,16 @@
 use Rattle.std.specs.Prelude.{◌≡◌, ℕ, true, codes, List, [], ◌∷◌, Option, Some, None, Ok, Err, String, string_bytes}
 use Rattle.std.specs.declared.alloc.AllocError.{AllocError}
 use Rattle.std.specs.declared.alloc.Global.{Global}
-use Rattle.ref_draft.specs.declared.draft.Draft.TheVariants.{Draft7, Draft202012}
+use Rattle.ref_draft.specs.declared.draft.Draft.TheVariants.{Draft7, Draft201909, Draft202012}
 use Rattle.ref_uri.specs.Targets.{parse_refusal}
 use Rattle.ref_uri.specs.declared.error.UriError.TheVariants.{Parse}
 use Rattle.ref_uri.specs.declared.error.ParseError.TheVariants.{Syntax}
 use Rattle.ref_definitions.specs.Fault as fault
-use Rattle.ref_parts.specs.Path.{Part, Key}
+use Rattle.ref_parts.specs.Path.{Part, Key, Index}
 use Rattle.ref_definitions.specs.World.{World}
 use Rattle.ref_definitions.specs.Places.{root}
 use Rattle.ref_definitions.specs.Follow.{Followed}
-use Rattle.ref_definitions.specs.Rows.{at, world, yes, empty, text, one, two, refers_to_b, b_refers_to_c, c_is_true, given_alone, given_with, followed_to, look, found_value, resolver}
+use Rattle.ref_definitions.specs.Rows.{at, world, yes, empty, text, one, two, pair, refers_to_b, b_refers_to_c, c_is_true, given_alone, given_with, followed_to, look, found_value, resolver}
 use Rattle.ref_error.specs.declared.error.Error.TheVariants.{PointerToNowhere, NoSuchAnchor, InvalidUri, RetrievalLimit, Memory}
 use Rattle.ref_index.specs.Retrieval.{IsFaultyOutcome}
 use Rattle.ref_index.specs.Spots.{Spot}
@@ -124,6 +124,25 @@ one_identifier =
     (at Draft202012 "http://a/r" (two "$anchor" (text "x") "$id" (text "k"))
     ∷ at Draft202012 "http://a/s" (two "$anchor" (text "x") "$id" (text "k")) ∷ [])
 
+-- two documents with one dynamic anchor; and two that are marked by `$recursiveAnchor`, beside one that isn't
+abbrev pub dynamic_anchors : World
+dynamic_anchors =
+    world
+    (at Draft202012 "http://a/r" (one "$dynamicAnchor" (text "x"))
+    ∷ at Draft202012 "http://a/s" (one "$dynamicAnchor" (text "x")) ∷ [])
+
+abbrev pub recursive_anchors : World
+recursive_anchors =
+    world
+    (at Draft201909 "http://a/r" (one "$recursiveAnchor" yes)
+    ∷ at Draft201909 "http://a/s" (one "$recursiveAnchor" yes)
+    ∷ at Draft201909 "http://a/t" yes ∷ [])
+
+-- a document with a list of two schemas, the second of which has an identifier
+abbrev pub listed_places : World
+listed_places =
+    world (at Draft202012 "http://a/r" (one "allOf" (pair yes (one "$id" (text "k")))) ∷ [])
+
 -- a path in the document with a number, of the layer with a number
 abbrev pub spot : ℕ → ℕ → List Part → Option (ℕ × Spot)
 spot layer document path = Some (layer, record { document = document; path = path })
@@ -140,6 +159,27 @@ pub record LocationRows : Type 0 where
   pub own_anchor : located one_identifier (resolver "http://a/r" []) (codes "#x") ≡ spot 0 0 []
   pub of_a_parent : located ((c_is_true ∷ []) ∷ equal_documents) (resolver "http://a/c" [])
       (codes "s") ≡ spot 1 1 []
+  pub in_a_list : located listed_places (resolver "http://a/r" []) (codes "#/allOf/1")
+      ≡ spot 0 0 (Key (codes "allOf") ∷ Index 1 ∷ [])
+  pub identified_in_a_list : located listed_places (resolver "http://a/r" []) (codes "k")
+      ≡ spot 0 0 (Key (codes "allOf") ∷ Index 1 ∷ [])
+  pub outermost_of_the_scope : located dynamic_anchors
+      (resolver "http://a/r" (codes "http://a/r" ∷ codes "http://a/s" ∷ [])) (codes "#x")
+      ≡ spot 0 1 []
+  pub not_the_base : ¬ (located dynamic_anchors
+      (resolver "http://a/r" (codes "http://a/s" ∷ [])) (codes "#x")
+      ≡ spot 0 0 [])
+  pub without_a_scope : located dynamic_anchors (resolver "http://a/r" []) (codes "#x")
+      ≡ spot 0 0 []
   pub nowhere : located equal_documents (resolver "http://a/r" []) (codes "t") ≡ None
   pub not_marked : recursive_reference equal_documents
       (resolver "http://a/r" (codes "http://a/s" ∷ [])) ≡ codes "#"
+  pub last_marked : recursive_reference recursive_anchors
+      (resolver "http://a/r" (codes "http://a/r" ∷ codes "http://a/s" ∷ [])) ≡ codes "http://a/s"
+  pub up_to_one_not_marked : recursive_reference recursive_anchors
+      (resolver "http://a/r" (codes "http://a/t" ∷ codes "http://a/s" ∷ [])) ≡ codes "#"
+  pub base_not_marked : recursive_reference recursive_anchors
+      (resolver "http://a/t" (codes "http://a/s" ∷ [])) ≡ codes "#"
+  pub where_the_last_marked_is : located recursive_anchors
+      (resolver "http://a/r" (codes "http://a/s" ∷ [])) (codes "http://a/s")
+      ≡ spot 0 1 []

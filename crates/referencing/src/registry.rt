@@ -9,7 +9,7 @@ ghost use Rattle.ref_definitions.specs.Agreement.{ChildrenStand};
 ghost use Rattle.ref_definitions.specs.Places.{Place, places};
 ghost use Rattle.ref_definitions.specs.Fault.{as_invalid_uri};
 ghost use Rattle.ref_definitions.specs.Wants.{faults, open_wants};
-ghost use Rattle.ref_error.specs.Errors.{IsFaultOf};
+ghost use Rattle.ref_error.specs.Errors.{Gives, IsFaultOf};
 ghost use Rattle.ref_definitions.specs.Pending.{with_addition, with_additions};
 ghost use Rattle.referencing.specs.Builder.{builder_of, addition, Adds, new_builder};
 ghost use Rattle.ref_resolver.specs.Layered.{world_in, IsHeld};
@@ -198,8 +198,8 @@ impl<'a> Registry<'a> {
     /// Refuses as `InvalidUri` a base without a scheme and a text that is no URI reference, and as `Memory` where there
     /// is none for the URI.
     pub fn resolve_uri(&self, alloc: Global, base: UriRef<'_>, uri: &str) -> Result<Rc<Uri>, Error>
-        ensures ok { IfOk result (λ u. uri_against base.entry uri.now ≡ Ok u.value) }
-        ensures fault { IfErr result (IsFaultOf (as_invalid_uri (uri_against base.entry uri.now))) }
+        ensures gives { Gives (λ u. u.value) (as_invalid_uri (uri_against base.entry uri.now))
+            result }
     {
         self.layers().resolve_uri(alloc, base, uri)
     }

@@ -2,7 +2,7 @@
 ghost use Rattle.std.specs.Prelude.{◌≡◌, ◌≤◌, [], map, length, IfOk, IfErr, Ok};
 ghost use Rattle.ref_definitions.specs.Follow as world;
 ghost use Rattle.ref_definitions.specs.Lookup.{lookup};
-ghost use Rattle.ref_error.specs.Errors.{IsFaultOf};
+ghost use Rattle.ref_error.specs.Errors.{Gives};
 ghost use Rattle.ref_resolver.specs.Resolving.{resolver_of, world_of, found_of, world_found};
 ghost use Rattle.referencing.specs.Following.{step_of, followed_of, IsStepFaultOf, ReachesStep};
 
@@ -76,15 +76,10 @@ fn stepped<'r>(
     followed: Followed<'r>,
     step: &Step<'_>,
 ) -> Result<Followed<'r>, Error>
-    ensures ok { IfOk result
-        (λ f. world.after_step (world_of followed.entry.resolver) (followed_of followed.entry)
-        (step_of step.now)
-        ≡ Ok (followed_of f)) }
-    ensures world { IfOk result (λ f. world_of f.resolver ≡ world_of followed.entry.resolver) }
-    ensures fault { IfErr result
-        (IsFaultOf
+    ensures gives { Gives followed_of
         (world.after_step (world_of followed.entry.resolver) (followed_of followed.entry)
-        (step_of step.now))) }
+        (step_of step.now)) result }
+    ensures world { IfOk result (λ f. world_of f.resolver ≡ world_of followed.entry.resolver) }
 {
     let resolver = &followed.resolver;
     match step {
@@ -126,12 +121,9 @@ impl<'a> Registry<'a> {
         base: Uri,
         reference: &str,
     ) -> Result<Resolved<'r>, Error>
-        ensures ok { IfOk result
-            (λ found. lookup self.now (record { base = base; scope = [] }) reference.now
-            ≡ Ok (found_of found)) }
+        ensures gives { Gives found_of
+            (lookup self.now (record { base = base; scope = [] }) reference.now) result }
         ensures world { IfOk result (λ found. world_found found ≡ self.now) }
-        ensures fault { IfErr result
-            (IsFaultOf (lookup self.now (record { base = base; scope = [] }) reference.now)) }
     {
         self.resolver(alloc, base)?.lookup(alloc, reference)
     }

@@ -1,4 +1,6 @@
 //! Rows of what values and dialects mean.
+#![tactic(auto, unfolding(crate::proofs::OnLiterals::vocabularies_on_literals))]
+
 ghost use Rattle.std.specs.Prelude.{◌≡◌, [], ◌∷◌, codes};
 ghost use Rattle.ref_draft.specs.declared.draft.Draft.TheVariants.{Draft202012};
 ghost use Rattle.ref_definitions.specs.Rows.{world, at, one, yes};

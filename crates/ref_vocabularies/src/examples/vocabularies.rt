@@ -1,4 +1,6 @@
 //! Vocabularies of meta-schemas (2020-12 Core, 8.1.2).
+#![tactic(auto, unfolding(crate::proofs::OnLiterals::vocabularies_on_literals))]
+
 ghost use Rattle.std.specs.Prelude.{◌≡◌, true, false, [], ◌∷◌, map, filter, length, codes, Some, None, Ok, Err};
 ghost use Rattle.serde_json.specs.Data.{boolean, no_members, member};
 ghost use Rattle.ref_draft.specs.declared.draft.Draft.TheVariants.{Draft4, Draft7, Draft201909, Draft202012, Unknown};

@@ -1,12 +1,11 @@
-use Rattle.std.proofs.Common.{◌≡◌, ℕ, List, Result, [], flat_map, Ok, ap, subst, ◌∙◌, rules}
-use Rattle.ref_definitions.specs.Fault.{Fault}
+use Rattle.std.proofs.Common.{◌≡◌, ℕ, List, [], flat_map, Ok, ap, subst, ◌∙◌, rules}
 use Rattle.ref_definitions.specs.Anchors.{Named, anchor}
 use Rattle.ref_definitions.specs.Lookup.{by_scope, in_scope, entry_of, outermost}
 use Rattle.ref_error.specs.Errors.{IsFaultOf}
+use Rattle.ref_error.proofs.Saying.{fault_as}
 use Rattle.ref_resolver.specs.Resolving.{resolver_of, world_of}
 use Rattle.ref_resolver.specs.inner.Scoped.{dynamic_under}
-use Rattle.ref_resolver.proofs.Faults.{fault_as}
-use Rattle.ref_resolver.proofs.Scoping.{from_here, passed, taken, ended, dynamic_means, last_passed, last_taken}
+use Rattle.ref_resolver.proofs.Scoping.{from_here, turn_ended, turn_passed, turn_taken, last_turn_passed, last_turn_taken, dynamic_means}
 use Rattle.ref_resolver.proofs.fragment.outermost.Goals as goal
 
 pub returns-in_err-found-clause-fault : goal.returns-in_err-found-clause-fault
@@ -14,13 +13,10 @@ returns-in_err-found-clause-fault c = λ n is.
     let r = resolver_of c.args.resolver.now in
     let w = world_of c.args.resolver.now in
     let name = c.args.name.now in
+    let outer = c.in-Some.outer.now in
     let (m, same, at, means, last) = c.loop-outer.invariant.0 n is in
-    let e : List ℕ × Named = (c.loop-outer.uri.now, m) in
-    let here : List ℕ × Result Named Fault = (c.in-Some.outer.now, anchor w c.in-Some.outer.now name) in
-    let more = in_scope w name c.next.new.self in
-    let left = ap (λ xs. from_here r e (in_scope w name xs)) c.in-Some.ensures.steps in
-    let uri : c.as_str.result.now ≡ c.in-Some.outer.now = search rules in
-    let fault = fault_as (dynamic_under w c.in-Some.outer.now name) (by_scope r n (in_scope w name r.scope)) c.in_err-found.field-0.0 (λ f is. same ∙ left ∙ ended r e here more f is) (subst (λ u. IsFaultOf (dynamic_under w u name) c.in_err-found.field-0.0) uri c.in_err-found.ensures.fault) in
+    let uri : c.as_str.result.now ≡ outer = search rules in
+    let fault = fault_as (dynamic_under w outer name) (by_scope r n (in_scope w name r.scope)) c.in_err-found.field-0.0 (λ f is. same ∙ turn_ended w r name (c.loop-outer.uri.now, m) outer c.loop-outer.outer-iterator c.next.new.self c.in-Some.ensures.steps f is) (subst (λ u. IsFaultOf (dynamic_under w u name) c.in_err-found.field-0.0) uri c.in_err-found.ensures.fault) in
     search rules
 
 pub loop-outer-preserved-in-Some-2 : goal.loop-outer-preserved-in-Some-2
@@ -29,15 +25,12 @@ loop-outer-preserved-in-Some-2 c = (
       let r = resolver_of c.args.resolver.now in
       let w = world_of c.args.resolver.now in
       let name = c.args.name.now in
+      let outer = c.in-Some.outer.now in
       let (m, same, at, means, last) = c.loop-outer.invariant.0 n is in
       let e : List ℕ × Named = (c.loop-outer.uri.now, m) in
-      let here : List ℕ × Result Named Fault = (c.in-Some.outer.now, anchor w c.in-Some.outer.now name) in
-      let more = in_scope w name c.next.new.self in
-      let left = ap (λ xs. from_here r e (in_scope w name xs)) c.in-Some.ensures.steps in
-      let uri : c.as_str.result.now ≡ c.in-Some.outer.now = search rules in
+      let uri : c.as_str.result.now ≡ outer = search rules in
       let (d, dynamic, there) = rw (c.in-Some-2.is, uri) at c.in_ok-found.ensures.ok in
-      let entries = ap (λ xs. outermost e (flat_map entry_of (in_scope w name xs))) c.in-Some.ensures.steps in
-      (d, same ∙ left ∙ taken r e (c.in-Some.outer.now, d) here more dynamic, there, λ first. dynamic_means c.in-Some.outer.now (anchor w c.in-Some.outer.now name) d dynamic, last ∙ entries ∙ last_taken e (c.in-Some.outer.now, d) here more dynamic),
+      (d, same ∙ turn_taken w r name e outer c.loop-outer.outer-iterator c.next.new.self c.in-Some.ensures.steps d dynamic, there, λ first. dynamic_means outer (anchor w outer name) d dynamic, last ∙ last_turn_taken w r name e outer c.loop-outer.outer-iterator c.next.new.self c.in-Some.ensures.steps d dynamic),
   tt,
   tt,
 )
@@ -48,14 +41,11 @@ loop-outer-preserved c = (
       let r = resolver_of c.args.resolver.now in
       let w = world_of c.args.resolver.now in
       let name = c.args.name.now in
+      let outer = c.in-Some.outer.now in
       let (m, same, at, means, last) = c.loop-outer.invariant.0 n is in
       let e : List ℕ × Named = (c.loop-outer.uri.now, m) in
-      let here : List ℕ × Result Named Fault = (c.in-Some.outer.now, anchor w c.in-Some.outer.now name) in
-      let more = in_scope w name c.next.new.self in
-      let left = ap (λ xs. from_here r e (in_scope w name xs)) c.in-Some.ensures.steps in
-      let none : dynamic_under w c.in-Some.outer.now name ≡ Ok [] = search rules in
-      let entries = ap (λ xs. outermost e (flat_map entry_of (in_scope w name xs))) c.in-Some.ensures.steps in
-      (m, same ∙ left ∙ passed r e here more none, at, means, last ∙ entries ∙ last_passed e here more none),
+      let none : dynamic_under w outer name ≡ Ok [] = search rules in
+      (m, same ∙ turn_passed w r name e outer c.loop-outer.outer-iterator c.next.new.self c.in-Some.ensures.steps none, at, means, last ∙ last_turn_passed w r name e outer c.loop-outer.outer-iterator c.next.new.self c.in-Some.ensures.steps none),
   tt,
   tt,
 )

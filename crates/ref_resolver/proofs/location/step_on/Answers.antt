@@ -1,9 +1,9 @@
-use Rattle.std.proofs.Common.{◌≡◌, ◌∷◌, ◌++◌, map, Some, Ok}
+use Rattle.std.proofs.Common.{◌≡◌, ◌∷◌, ◌++◌, map, Some}
 use Rattle.serde_json.specs.View.{view}
 use Rattle.ref_parts.specs.Path.{value_at}
 use Rattle.ref_parts.specs.Segment.{part_of}
 use Rattle.ref_resolver.specs.inner.Walking.{along_of, stepped_along}
-use Rattle.ref_resolver.proofs.Standing.{if_ok, one_step_on}
+use Rattle.ref_resolver.proofs.Standing.{if_given, one_step_on}
 use Rattle.ref_resolver.specs.Locations.{parts_along}
 use Rattle.ref_resolver.proofs.Spotting.{one_part_on}
 use Rattle.ref_resolver.proofs.location.step_on.Goals as goal
@@ -16,8 +16,8 @@ returns-clause-path c = λ start here.
     let v = view c.args.along.value.now in
     let token = c.args.token.now in
     let after = map part_of c.push_part.new.path.items in
-    if_ok (λ a. stepped_along d p along v token ≡ Ok (view a.value.now, along_of a)) (λ a. value_at start after ≡ Some (view a.value.now)) c.step.result
-    (λ a is. one_step_on d p along v start token (map part_of c.args.path.now.items) after (view a.value.now, along_of a) (c.in_ok-push_part.ensures p) here is) c.step.ensures.ok
+    if_given (λ a. (view a.value.now, along_of a)) (stepped_along d p along v token) (λ a. value_at start after ≡ Some (view a.value.now)) c.step.result
+    (λ a is. one_step_on d p along v start token (map part_of c.args.path.now.items) after (view a.value.now, along_of a) (c.in_ok-push_part.ensures p) here is) c.step.ensures.gives
 
 pub returns-clause-parts : goal.returns-clause-parts
 returns-clause-parts c = λ more.
@@ -28,5 +28,5 @@ returns-clause-parts c = λ more.
     let token = c.args.token.now in
     let before = map part_of c.args.path.now.items in
     let after = map part_of c.push_part.new.path.items in
-    if_ok (λ a. stepped_along d p along v token ≡ Ok (view a.value.now, along_of a)) (λ a. after ++ parts_along p (view a.value.now) more ≡ before ++ parts_along p v (token ∷ more)) c.step.result
-    (λ a is. one_part_on d p along v token more before after (view a.value.now, along_of a) (c.in_ok-push_part.ensures p) is) c.step.ensures.ok
+    if_given (λ a. (view a.value.now, along_of a)) (stepped_along d p along v token) (λ a. after ++ parts_along p (view a.value.now) more ≡ before ++ parts_along p v (token ∷ more)) c.step.result
+    (λ a is. one_part_on d p along v token more before after (view a.value.now, along_of a) (c.in_ok-push_part.ensures p) is) c.step.ensures.gives

@@ -3,33 +3,29 @@ use Rattle.serde_json.specs.View.{view}
 use Rattle.ref_parts.specs.Pointer.{tokens}
 use Rattle.ref_parts.specs.Segment.{part_of}
 use Rattle.ref_error.specs.Errors.{IsFaultOf}
-use Rattle.ref_resolver.specs.inner.Walking.{along_of, passed_along, stepped_along}
-use Rattle.ref_resolver.proofs.Faults.{fault_ends, goes_on}
-use Rattle.ref_resolver.proofs.Pointing.{walk_turn, walk_last, tokens_turn, tokens_last}
+use Rattle.ref_resolver.specs.inner.Walking.{along_of}
+use Rattle.ref_resolver.proofs.Pointing.{walk_goes, walk_refused, walk_last, tokens_turn, tokens_last}
 use Rattle.ref_resolver.specs.Locations.{parts_along}
 use Rattle.ref_resolver.proofs.location.walk_on.Goals as goal
 
 pub loop-token-preserved : goal.loop-token-preserved
 loop-token-preserved c =
     let l = c.loop-token in
-    let d = c.args.walk.draft in
     let p = c.args.walk.pointer.now in
     let cut = rw c.in-Some.is at c.cut_at_slash.ensures in
-    let turn = walk_turn d p (along_of l.along) (view l.along.value.now) l.rest.now c.in-Some.token.now c.in-Some.more.now cut.0 cut.1 in
-    let on = goes_on (stepped_along d p (along_of l.along) (view l.along.value.now) c.in-Some.token.now) (λ s. passed_along d p s.1 s.0 (tokens c.in-Some.more.now)) (view c.in_ok-along.along.value.now, along_of c.in_ok-along.along) c.in_ok-along.ensures.ok in
+    let on = c.in_ok-along.along in
+    let goes = walk_goes c.args.walk.draft p (along_of l.along) (view l.along.value.now) l.rest.now c.in-Some.token.now c.in-Some.more.now (view on.value.now, along_of on) cut c.in_ok-along.ensures.gives in
     let texts : tokens l.rest.now ≡ c.in-Some.token.now ∷ tokens c.in-Some.more.now = tokens_turn l.rest.now c.in-Some.token.now c.in-Some.more.now cut.0 cut.1 in
     let parts = c.in_ok-along.ensures.parts (tokens c.in-Some.more.now) ∙ ap (λ ts. map part_of l.path.items ++ parts_along p (view l.along.value.now) ts) (sym texts) ∙ l.invariant.3 in
-    (l.invariant.0 ∙ turn ∙ on, λ start here. c.in_ok-along.ensures.path start (l.invariant.1 start here), search rules, parts)
+    (l.invariant.0 ∙ goes, λ start here. c.in_ok-along.ensures.path start (l.invariant.1 start here), search rules, parts)
 
 pub returns-in_err-along-clause-fault : goal.returns-in_err-along-clause-fault
 returns-in_err-along-clause-fault c =
     let l = c.loop-token in
-    let d = c.args.walk.draft in
-    let p = c.args.walk.pointer.now in
     let cut = rw c.in-Some.is at c.cut_at_slash.ensures in
-    let turn = walk_turn d p (along_of l.along) (view l.along.value.now) l.rest.now c.in-Some.token.now c.in-Some.more.now cut.0 cut.1 in
-    let ended = fault_ends (stepped_along d p (along_of l.along) (view l.along.value.now) c.in-Some.token.now) (λ s. passed_along d p s.1 s.0 (tokens c.in-Some.more.now)) c.in_err-along.field-0.0 c.in_err-along.ensures.fault in
-    let fault = subst (λ a. IsFaultOf a c.in_err-along.field-0.0) (sym (l.invariant.0 ∙ turn)) ended in
+    let e = c.in_err-along.field-0.0 in
+    let ended = walk_refused c.args.walk.draft c.args.walk.pointer.now (along_of l.along) (view l.along.value.now) l.rest.now c.in-Some.token.now c.in-Some.more.now e cut c.in_err-along.ensures.gives in
+    let fault = subst (λ a. IsFaultOf a e) (sym l.invariant.0) ended in
     search rules
 
 pub returns-in_err-step_on-clause-fault : goal.returns-in_err-step_on-clause-fault
@@ -37,7 +33,7 @@ returns-in_err-step_on-clause-fault c =
     let l = c.loop-token in
     let none = rw c.in_default.is at c.cut_at_slash.ensures in
     let same = l.invariant.0 ∙ walk_last c.args.walk.draft c.args.walk.pointer.now (along_of l.along) (view l.along.value.now) l.rest.now none in
-    let fault = subst (λ a. IsFaultOf a c.in_err-step_on.field-0.0) (sym same) c.in_err-step_on.ensures.fault in
+    let fault = subst (λ a. IsFaultOf a c.in_err-step_on.field-0.0) (sym same) c.in_err-step_on.ensures.gives in
     search rules
 
 pub returns-clause-ok : goal.returns-clause-ok
@@ -46,7 +42,7 @@ returns-clause-ok c = λ start here.
     let none = rw c.in_default.is at c.cut_at_slash.ensures in
     let same = l.invariant.0 ∙ walk_last c.args.walk.draft c.args.walk.pointer.now (along_of l.along) (view l.along.value.now) l.rest.now none in
     let at = c.in_ok-step_on.field-0 in
-    ((view at.value.now, along_of at), same ∙ c.in_ok-step_on.ensures.ok, c.in_ok-step_on.ensures.path start (l.invariant.1 start here))
+    ((view at.value.now, along_of at), same ∙ c.in_ok-step_on.ensures.gives, c.in_ok-step_on.ensures.path start (l.invariant.1 start here))
 
 pub returns-clause-parts : goal.returns-clause-parts
 returns-clause-parts c =

@@ -1,43 +1,30 @@
-use Rattle.std.proofs.Common.{◌≡◌, Ok, IfOk, IfErr, sym, subst, ◌∙◌, rules}
+use Rattle.std.proofs.Common.{sym, subst, ◌∙◌, rules}
 use Rattle.serde_json.specs.View.{view}
-use Rattle.ref_parts.specs.Pointer.{tokens}
-use Rattle.ref_error.specs.Errors.{IsFaultOf}
-use Rattle.ref_resolver.specs.inner.Walking.{along_of, passed_along, stepped_along}
-use Rattle.ref_resolver.proofs.Faults.{fault_ends, goes_on}
-use Rattle.ref_resolver.proofs.Pointing.{walk_turn, walk_last}
+use Rattle.ref_error.specs.Errors.{IsFaultOf, Gives}
+use Rattle.ref_resolver.specs.inner.Walking.{along_of}
+use Rattle.ref_resolver.proofs.Pointing.{walk_goes, walk_refused, walk_last}
 use Rattle.ref_resolver.proofs.pointed.walk_along.Goals as goal
 
-pub returns-in_err-along-clause-fault : goal.returns-in_err-along-clause-fault
-returns-in_err-along-clause-fault c =
+pub returns-in_err-along : goal.returns-in_err-along
+returns-in_err-along c =
     let l = c.loop-token in
-    let d = c.args.walk.draft in
-    let p = c.args.walk.pointer.now in
     let cut = rw c.in-Some.is at c.cut_at_slash.ensures in
-    let turn = walk_turn d p (along_of l.along) (view l.along.value.now) l.rest.now c.in-Some.token.now c.in-Some.more.now cut.0 cut.1 in
-    let ended = fault_ends (stepped_along d p (along_of l.along) (view l.along.value.now) c.in-Some.token.now) (λ s. passed_along d p s.1 s.0 (tokens c.in-Some.more.now)) c.in_err-along.field-0.0 c.in_err-along.ensures.fault in
-    let fault = subst (λ a. IsFaultOf a c.in_err-along.field-0.0) (sym (l.invariant.0 ∙ turn)) ended in
+    let e = c.in_err-along.field-0.0 in
+    let ended = walk_refused c.args.walk.draft c.args.walk.pointer.now (along_of l.along) (view l.along.value.now) l.rest.now c.in-Some.token.now c.in-Some.more.now e cut c.in_err-along.ensures.gives in
+    let fault = subst (λ a. IsFaultOf a e) (sym l.invariant.0) ended in
     search rules
 
 pub loop-token-preserved : goal.loop-token-preserved
 loop-token-preserved c =
     let l = c.loop-token in
-    let d = c.args.walk.draft in
-    let p = c.args.walk.pointer.now in
     let cut = rw c.in-Some.is at c.cut_at_slash.ensures in
-    let turn = walk_turn d p (along_of l.along) (view l.along.value.now) l.rest.now c.in-Some.token.now c.in-Some.more.now cut.0 cut.1 in
-    let on = goes_on (stepped_along d p (along_of l.along) (view l.along.value.now) c.in-Some.token.now) (λ s. passed_along d p s.1 s.0 (tokens c.in-Some.more.now)) (view c.in_ok-along.along.value.now, along_of c.in_ok-along.along) c.in_ok-along.ensures.ok in
-    (l.invariant.0 ∙ turn ∙ on, search rules)
+    let on = c.in_ok-along.along in
+    let goes = walk_goes c.args.walk.draft c.args.walk.pointer.now (along_of l.along) (view l.along.value.now) l.rest.now c.in-Some.token.now c.in-Some.more.now (view on.value.now, along_of on) cut c.in_ok-along.ensures.gives in
+    (l.invariant.0 ∙ goes, search rules)
 
-pub returns-clause-ok : goal.returns-clause-ok
-returns-clause-ok c =
+pub returns : goal.returns
+returns c =
     let l = c.loop-token in
     let none = rw c.in_default.is at c.cut_at_slash.ensures in
     let same = l.invariant.0 ∙ walk_last c.args.walk.draft c.args.walk.pointer.now (along_of l.along) (view l.along.value.now) l.rest.now none in
-    subst (λ a. IfOk c.step-2.result (λ x. a ≡ Ok (view x.value.now, along_of x))) (sym same) c.step-2.ensures.ok
-
-pub returns-clause-fault : goal.returns-clause-fault
-returns-clause-fault c =
-    let l = c.loop-token in
-    let none = rw c.in_default.is at c.cut_at_slash.ensures in
-    let same = l.invariant.0 ∙ walk_last c.args.walk.draft c.args.walk.pointer.now (along_of l.along) (view l.along.value.now) l.rest.now none in
-    subst (λ a. IfErr c.step-2.result (IsFaultOf a)) (sym same) c.step-2.ensures.fault
+    record { gives = subst (λ a. Gives (λ x. (view x.value.now, along_of x)) a c.step-2.result) (sym same) c.step-2.ensures.gives }

@@ -13,10 +13,10 @@ pub loop-number-preserved : goal.loop-number-preserved
 loop-number-preserved c =
     let l = c.loop-number in
     let w = world_of c.args.start in (
-      l.invariant.0 ∙ followed_next w l.number (followed_view l.followed) (followed_view c.in-Ok.next) c.args.steps.now c.index-steps-number.result c.loop-number-test.true c.index-steps-number.is (rw l.invariant.1 at c.in-Ok.ensures.ok),
+      l.invariant.0 ∙ followed_next w l.number (followed_view l.followed) (followed_view c.in-Ok.next) c.args.steps.now c.index-steps-number.result c.loop-number-test.true c.index-steps-number.is (rw l.invariant.1 at c.in-Ok.ensures.gives),
       c.in-Ok.ensures.world ∙ l.invariant.1,
       rw l.invariant.1 at c.in-Ok.ensures.placed,
-      l.invariant.3 ∙ place_next w l.number (placed_at l.followed) (followed_view l.followed) (followed_view c.in-Ok.next) c.args.steps.now c.index-steps-number.result c.loop-number-test.true c.index-steps-number.is (rw l.invariant.1 at c.in-Ok.ensures.ok)
+      l.invariant.3 ∙ place_next w l.number (placed_at l.followed) (followed_view l.followed) (followed_view c.in-Ok.next) c.args.steps.now c.index-steps-number.result c.loop-number-test.true c.index-steps-number.is (rw l.invariant.1 at c.in-Ok.ensures.gives)
           ∙ ap (λ at. place_after w at (followed_view c.in-Ok.next) (map step_of (drop (l.number + 1) c.args.steps.now))) (rw l.invariant.1 at c.in-Ok.ensures.place),
     )
 
@@ -36,5 +36,5 @@ returns-in-Err-clause-error c =
     let w = world_of c.args.start in
     let whole = followed_from w 0 (start_at (resolver_of c.args.start)) (map step_of c.args.steps.now) in
     step_error_is whole l.number c.in-Err.error c.in_ok-step_error-in-Err.field-0
-    (followed_stop w l.number (followed_view l.followed) c.args.steps.now c.index-steps-number.result c.in-Err.error whole c.loop-number-test.true c.index-steps-number.is l.invariant.0 (rw l.invariant.1 at c.in-Err.ensures.fault))
+    (followed_stop w l.number (followed_view l.followed) c.args.steps.now c.index-steps-number.result c.in-Err.error whole c.loop-number-test.true c.index-steps-number.is l.invariant.0 (rw l.invariant.1 at c.in-Err.ensures.gives))
     (λ m. false≢true (c.in_ok-step_error-in-Err.ensures.memory m)) c.in_ok-step_error-in-Err.ensures.error

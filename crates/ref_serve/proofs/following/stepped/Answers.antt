@@ -4,8 +4,8 @@ use Rattle.ref_serve.specs.inner.Steps.{followed_view}
 use Rattle.ref_serve.proofs.Steps.{entered}
 use Rattle.ref_serve.proofs.following.stepped.Goals as goal
 
-pub returns-clause-ok : goal.returns-clause-ok
-returns-clause-ok c =
+pub returns-clause-gives : goal.returns-clause-gives
+returns-clause-gives c =
     let subresource = resource_ref c.in-Enter.resource in
     let r = resolver_of c.in_ok-resolver-in-Enter.resolver in
-    rw c.in-Enter.is (entered (world_of c.args.followed.resolver) (followed_view c.args.followed) subresource.draft subresource.contents r c.in_ok-resolver-in-Enter.ensures.ok)
+    rw c.in-Enter.is (entered (world_of c.args.followed.resolver) (followed_view c.args.followed) subresource.draft subresource.contents r c.in_ok-resolver-in-Enter.ensures.gives)

@@ -1,12 +1,11 @@
+use Rattle.std.proofs.Common.{ap}
 use Rattle.serde_json.specs.View.{view}
+use Rattle.ref_definitions.specs.Fault.{as_invalid_uri}
 use Rattle.ref_vocabularies.proofs.Faults.{find-known, find-declared}
 use Rattle.ref_vocabularies.proofs.meta_schema.find.Goals as goal
 
-pub returns-in-Some-clause-ok : goal.returns-in-Some-clause-ok
-returns-in-Some-clause-ok c = find-known (view c.args.document.now) c.in-Some.known c.in-Some.ensures
+pub returns-in-Some : goal.returns-in-Some
+returns-in-Some c = record { gives = ap as_invalid_uri (find-known (view c.args.document.now) c.in-Some.known c.in-Some.ensures) }
 
-pub returns-in-None-clause-ok : goal.returns-in-None-clause-ok
-returns-in-None-clause-ok c = rw (find-declared (view c.args.document.now) c.in-None.ensures) c.declared.ensures.ok
-
-pub returns-in-None-clause-fault : goal.returns-in-None-clause-fault
-returns-in-None-clause-fault c = rw (find-declared (view c.args.document.now) c.in-None.ensures) c.declared.ensures.fault
+pub returns-in-None : goal.returns-in-None
+returns-in-None c = record { gives = rw (find-declared (view c.args.document.now) c.in-None.ensures) c.declared.ensures.gives }

@@ -12,17 +12,17 @@ pub returns-in-Err-stepped-clause-fault : goal.returns-in-Err-stepped-clause-fau
 returns-in-Err-stepped-clause-fault c =
     let l = c.loop-number in
     followed_stop c.args.registry.now l.number (followed_of l.followed) c.args.steps.now c.index-steps-number.result c.in-Err-stepped.error (followed_steps c.args.registry.now c.args.base (map step_of c.args.steps.now))
-    c.loop-number-test.true c.index-steps-number.is l.invariant.0 (rw l.invariant.1 at c.in-Err-stepped.ensures.fault)
+    c.loop-number-test.true c.index-steps-number.is l.invariant.0 (rw l.invariant.1 at c.in-Err-stepped.ensures.gives)
 
 pub loop-number-preserved : goal.loop-number-preserved
 loop-number-preserved c =
     let l = c.loop-number in
     let on = followed_next c.args.registry.now l.number (followed_of l.followed) (followed_of c.in-Ok-stepped.next) c.args.steps.now c.index-steps-number.result
-    c.loop-number-test.true c.index-steps-number.is (rw l.invariant.1 at c.in-Ok-stepped.ensures.ok) in (
+    c.loop-number-test.true c.index-steps-number.is (rw l.invariant.1 at c.in-Ok-stepped.ensures.gives) in (
       l.invariant.0 ∙ on,
       c.in-Ok-stepped.ensures.world ∙ l.invariant.1,
       reached_next c.args.registry.now c.args.base l.number (followed_of l.followed) (followed_of c.in-Ok-stepped.next) c.args.steps.now c.index-steps-number.result
-          c.loop-number-test.true c.index-steps-number.is l.invariant.2 (rw l.invariant.1 at c.in-Ok-stepped.ensures.ok),
+          c.loop-number-test.true c.index-steps-number.is l.invariant.2 (rw l.invariant.1 at c.in-Ok-stepped.ensures.gives),
     )
 
 pub returns-in-Err-stepped-clause-reached : goal.returns-in-Err-stepped-clause-reached

@@ -1,40 +1,37 @@
-use Rattle.std.proofs.Common.{◌≡◌, ℕ, List, IfOk, IfErr, None, Some, true, false, lit<, refl, sym, ap, subst, ◌∙◌, rules}
+use Rattle.std.proofs.Common.{◌≡◌, ℕ, List, None, Some, true, false, lit<, refl, sym, ap, subst, ◌∙◌, rules}
 use Rattle.std.proofs.lemmas.Str.Pattern.{strip_prefix_char}
 use Rattle.percent_encoding.specs.Percent.{percent_decode}
 use Rattle.serde_json.specs.View.{view}
 use Rattle.ref_parts.specs.Pointer.{tokens}
-use Rattle.ref_definitions.specs.Fault.{not_retrieved}
+use Rattle.ref_uri.specs.Targets.{target}
 use Rattle.ref_definitions.specs.Resources.{meant_place}
-use Rattle.ref_definitions.specs.Lookup.{lookup, moved_resolver, at_fragment}
-use Rattle.ref_error.specs.Errors.{IsFaultOf}
-use Rattle.ref_resolver.specs.Locations.{StandsAt, IsWhere}
-use Rattle.ref_resolver.specs.Resolving.{resolver_of, world_of}
-use Rattle.ref_resolver.specs.inner.Names.{is_name}
-use Rattle.ref_resolver.proofs.Faults.{says_of}
-use Rattle.ref_resolver.proofs.Fragments.{pointer_there, whole_there}
-use Rattle.ref_resolver.proofs.Lookups.{lookup_refused, lookup_absent, lookup_present}
+use Rattle.ref_definitions.specs.Lookup.{moved_resolver}
+use Rattle.ref_error.proofs.Saying.{uri_meant}
 use Rattle.ref_index.specs.Spots.{Spot, spot_of}
-use Rattle.ref_resolver.specs.Locations.{uri_spot, located, location_view, with_parts, parts_along}
+use Rattle.ref_resolver.specs.Locations.{StandsAt, GivesWhere, uri_spot, located, location_view, with_parts, parts_along}
+use Rattle.ref_resolver.specs.Resolving.{resolver_of, world_of, at_pointer}
+use Rattle.ref_resolver.specs.inner.Names.{is_name}
+use Rattle.ref_resolver.proofs.Lookups.{lookup_refused}
+use Rattle.ref_resolver.proofs.Referring.{pointer_leads, whole_leads, absent_says}
 use Rattle.ref_resolver.proofs.Spotting.{located_at, whole_spot, pointed_spot}
-use Rattle.ref_resolver.proofs.Standing.{if_ok}
+use Rattle.ref_resolver.proofs.Standing.{if_ok, gives_where}
 use Rattle.ref_resolver.proofs.resolver.Resolver.location.Goals as goal
 
-pub returns-in_err-uri-clause-fault : goal.returns-in_err-uri-clause-fault
-returns-in_err-uri-clause-fault c =
-    let fault = lookup_refused (world_of c.args.self.now) (resolver_of c.args.self.now) c.args.reference.now c.in_err-uri.field-0.0 c.in_err-uri.ensures.fault in
+pub returns-in_err-uri-clause-gives : goal.returns-in_err-uri-clause-gives
+returns-in_err-uri-clause-gives c =
+    let fault = lookup_refused (world_of c.args.self.now) (resolver_of c.args.self.now) c.args.reference.now c.in_err-uri.field-0.0 c.in_err-uri.ensures.gives in
     search rules
 
-pub returns-in_default-clause-fault : goal.returns-in_default-clause-fault
-returns-in_default-clause-fault c =
+pub returns-in_default-clause-gives : goal.returns-in_default-clause-gives
+returns-in_default-clause-gives c =
     let w = world_of c.args.self.now in
-    let r = resolver_of c.args.self.now in
     let uri : List ℕ = c.in_ok-uri.field-0.uri.value in
     let none : meant_place w uri ≡ None = search rules in
     let says = rw c.deref-in_default.ensures at c.not_retrieved.ensures.fault in
-    says_of (lookup w r c.args.reference.now) (not_retrieved uri) c.not_retrieved.result (lookup_absent w r c.args.reference.now uri c.in_ok-uri.ensures.ok none) says
+    absent_says w (resolver_of c.args.self.now) c.args.reference.now uri c.not_retrieved.result c.in_ok-uri.ensures.gives none says
 
-pub returns-in-Some-strip_prefix-clause-ok : goal.returns-in-Some-strip_prefix-clause-ok
-returns-in-Some-strip_prefix-clause-ok c =
+pub returns-in-Some-strip_prefix-clause-gives : goal.returns-in-Some-strip_prefix-clause-gives
+returns-in-Some-strip_prefix-clause-gives c =
     let w = world_of c.args.self.now in
     let r = resolver_of c.args.self.now in
     let uri : List ℕ = c.in_ok-uri.field-0.uri.value in
@@ -42,25 +39,13 @@ returns-in-Some-strip_prefix-clause-ok c =
     let (p, is, at) = c.in-Some.ensures.value in
     let text : c.as_str.result.now ≡ uri = search rules in
     let slash = rw c.in-Some-strip_prefix.is at (strip_prefix_char 47 fragment c.strip_prefix.result c.strip_prefix.ensures.cases (lit< tt)) in
-    let same = lookup_present w r c.args.reference.now uri p c.in_ok-uri.ensures.ok (ap (meant_place w) (sym text) ∙ is) ∙ ap (at_fragment w (moved_resolver r uri) p) (sym c.in_ok-uri.ensures.fragment)
-    ∙ pointer_there w (moved_resolver r uri) p c.in-Some.place.place fragment c.in-Some-strip_prefix.text.now at.there.place slash in
-    subst (λ a. IfOk c.location_along.result (IsWhere w a)) (sym same) (c.location_along.ensures.ok (moved_resolver r uri) p refl at)
+    let same = pointer_leads w r c.args.reference.now uri fragment p c.in-Some.place.place c.in-Some-strip_prefix.text.now (c.in_ok-uri.ensures.gives, c.in_ok-uri.ensures.fragment, ap (meant_place w) (sym text) ∙ is) at.there.place slash in
+    subst (λ a. GivesWhere w a c.location_along.result) (sym same)
+    (gives_where w (at_pointer (moved_resolver r uri) c.in-Some.place.place.entry.now.draft fragment (view c.in-Some.place.place.value.now) c.in-Some-strip_prefix.text.now) c.location_along.result
+    (c.location_along.ensures.ok (moved_resolver r uri) p refl at) (c.location_along.ensures.fault (moved_resolver r uri) refl))
 
-pub returns-in-Some-strip_prefix-clause-fault : goal.returns-in-Some-strip_prefix-clause-fault
-returns-in-Some-strip_prefix-clause-fault c =
-    let w = world_of c.args.self.now in
-    let r = resolver_of c.args.self.now in
-    let uri : List ℕ = c.in_ok-uri.field-0.uri.value in
-    let fragment = c.in_ok-uri.field-0.fragment.now in
-    let (p, is, at) = c.in-Some.ensures.value in
-    let text : c.as_str.result.now ≡ uri = search rules in
-    let slash = rw c.in-Some-strip_prefix.is at (strip_prefix_char 47 fragment c.strip_prefix.result c.strip_prefix.ensures.cases (lit< tt)) in
-    let same = lookup_present w r c.args.reference.now uri p c.in_ok-uri.ensures.ok (ap (meant_place w) (sym text) ∙ is) ∙ ap (at_fragment w (moved_resolver r uri) p) (sym c.in_ok-uri.ensures.fragment)
-    ∙ pointer_there w (moved_resolver r uri) p c.in-Some.place.place fragment c.in-Some-strip_prefix.text.now at.there.place slash in
-    subst (λ a. IfErr c.location_along.result (IsFaultOf a)) (sym same) (c.location_along.ensures.fault (moved_resolver r uri) refl)
-
-pub returns-clause-ok : goal.returns-clause-ok
-returns-clause-ok c =
+pub returns-clause-gives : goal.returns-clause-gives
+returns-clause-gives c =
     let w = world_of c.args.self.now in
     let r = resolver_of c.args.self.now in
     let uri : List ℕ = c.in_ok-uri.field-0.uri.value in
@@ -70,27 +55,23 @@ returns-clause-ok c =
     let text : c.as_str.result.now ≡ uri = search rules in
     let none = rw c.in-None.is at (strip_prefix_char 47 fragment c.strip_prefix.result c.strip_prefix.ensures.cases (lit< tt)) in
     let name : is_name fragment ≡ false = sym c.is_name.ensures ∙ c.if-is_name.false in
-    let same = lookup_present w r c.args.reference.now uri p c.in_ok-uri.ensures.ok (ap (meant_place w) (sym text) ∙ is) ∙ ap (at_fragment w (moved_resolver r uri) p) (sym c.in_ok-uri.ensures.fragment)
-    ∙ whole_there w (moved_resolver r uri) p place fragment at.there.place name none in (
+    let same = whole_leads w r c.args.reference.now uri fragment p place (c.in_ok-uri.ensures.gives, c.in_ok-uri.ensures.fragment, ap (meant_place w) (sym text) ∙ is) at.there.place name none in (
       record { value = view place.value.now; draft = place.entry.now.draft; resolver = moved_resolver r uri },
       same,
       subst (StandsAt w c.in_ok-location_of-in-None.field-0) (sym at.there.place.value) (c.in_ok-location_of-in-None.ensures.there w p at),
     )
 
-pub returns-then-is_name-clause-ok : goal.returns-then-is_name-clause-ok
-returns-then-is_name-clause-ok c =
+pub returns-then-is_name-clause-gives : goal.returns-then-is_name-clause-gives
+returns-then-is_name-clause-gives c =
     let name : is_name c.in_ok-uri.field-0.fragment.now ≡ true = sym c.is_name.ensures ∙ c.if-is_name.true in
-    c.location_of_name.ensures.ok c.args.reference.now c.in_ok-uri.ensures.ok (sym c.in_ok-uri.ensures.fragment) name
-
-pub returns-then-is_name-clause-fault : goal.returns-then-is_name-clause-fault
-returns-then-is_name-clause-fault c =
-    let name : is_name c.in_ok-uri.field-0.fragment.now ≡ true = sym c.is_name.ensures ∙ c.if-is_name.true in
-    c.location_of_name.ensures.fault c.args.reference.now c.in_ok-uri.ensures.ok (sym c.in_ok-uri.ensures.fragment) name
+    let means = uri_meant (target (resolver_of c.args.self.now).base c.args.reference.now) c.in_ok-uri.field-0.uri.value c.in_ok-uri.ensures.gives in
+    c.location_of_name.ensures.gives c.args.reference.now means (sym c.in_ok-uri.ensures.fragment) name
 
 pub returns-then-is_name-clause-spot : goal.returns-then-is_name-clause-spot
 returns-then-is_name-clause-spot c =
     let name : is_name c.in_ok-uri.field-0.fragment.now ≡ true = sym c.is_name.ensures ∙ c.if-is_name.true in
-    c.location_of_name.ensures.spot c.args.reference.now c.in_ok-uri.ensures.ok (sym c.in_ok-uri.ensures.fragment) name
+    let means = uri_meant (target (resolver_of c.args.self.now).base c.args.reference.now) c.in_ok-uri.field-0.uri.value c.in_ok-uri.ensures.gives in
+    c.location_of_name.ensures.spot c.args.reference.now means (sym c.in_ok-uri.ensures.fragment) name
 
 pub returns-in-Some-strip_prefix-clause-spot : goal.returns-in-Some-strip_prefix-clause-spot
 returns-in-Some-strip_prefix-clause-spot c =
@@ -105,7 +86,7 @@ returns-in-Some-strip_prefix-clause-spot c =
     let rest = c.in-Some-strip_prefix.text.now in
     let spot : ℕ × Spot = (place.layer, spot_of place.place.entry.now) in
     let parts = tokens (percent_decode rest) in
-    let same = located_at w r c.args.reference.now uri fragment c.in_ok-uri.ensures.ok (sym c.in_ok-uri.ensures.fragment)
+    let same = located_at w r c.args.reference.now uri fragment (uri_meant (target r.base c.args.reference.now) uri c.in_ok-uri.ensures.gives) (sym c.in_ok-uri.ensures.fragment)
     ∙ pointed_spot w (moved_resolver r uri) p spot fragment rest slash (ap (meant_place w) (sym text) ∙ is) (ap (uri_spot w) (sym text) ∙ c.in-Some.ensures.spot)
     ∙ ap (λ v. Some (with_parts (parts_along fragment v parts) spot)) (sym at.there.place.value) in
     if_ok (λ l. location_view l ≡ with_parts (parts_along fragment (view place.place.value.now) parts) spot) (λ l. located w r c.args.reference.now ≡ Some (location_view l)) c.location_along.result
@@ -120,5 +101,5 @@ returns-clause-spot c =
     let text : c.as_str.result.now ≡ uri = search rules in
     let none = rw c.in-None.is at (strip_prefix_char 47 fragment c.strip_prefix.result c.strip_prefix.ensures.cases (lit< tt)) in
     let name : is_name fragment ≡ false = sym c.is_name.ensures ∙ c.if-is_name.false in
-    located_at w r c.args.reference.now uri fragment c.in_ok-uri.ensures.ok (sym c.in_ok-uri.ensures.fragment) ∙ whole_spot w (moved_resolver r uri) fragment name none
+    located_at w r c.args.reference.now uri fragment (uri_meant (target r.base c.args.reference.now) uri c.in_ok-uri.ensures.gives) (sym c.in_ok-uri.ensures.fragment) ∙ whole_spot w (moved_resolver r uri) fragment name none
     ∙ ap (uri_spot w) (sym text) ∙ c.in-Some.ensures.spot ∙ ap Some (sym c.in_ok-location_of-in-None.ensures.spot)

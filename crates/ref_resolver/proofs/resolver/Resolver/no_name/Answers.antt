@@ -4,7 +4,8 @@ use Rattle.ref_definitions.specs.Resources.{meant_place}
 use Rattle.ref_definitions.specs.Anchors.{anchor, not_named}
 use Rattle.ref_definitions.specs.Lookup.{lookup, moved_resolver, named_found}
 use Rattle.ref_resolver.specs.Resolving.{resolver_of, world_of}
-use Rattle.ref_resolver.proofs.Faults.{says_of, ends}
+use Rattle.ref_error.proofs.Saying.{says_of}
+use Rattle.ref_resolver.proofs.Faults.{ends}
 use Rattle.ref_resolver.proofs.Lookups.{lookup_absent}
 use Rattle.ref_resolver.proofs.Names.{absent_of, lookup_named}
 use Rattle.ref_resolver.proofs.resolver.Resolver.no_name.Goals as goal
