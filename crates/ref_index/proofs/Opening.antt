@@ -46,6 +46,12 @@ one_more_met P from i items xs w f is le within at here all =
     ap (drop from) next ∙ drop-append-le from (take i xs) (f w ∷ []) (omega (arith, long, length-take-le i xs (omega (arith, long)))) in
     subst (AllByRecursion P) (sym split) (all_push P (drop from (take i xs)) (f w) all here)
 
+-- an element of the list that a function makes is that of the element there
+pub mapped_at : {W X : Type 0} (f : W → X) (items : List W) (i : ℕ) (v : W) (x : X) → i < length items → v ≡ get_or items i v → slice_get (map f items) i ≡ Some x → f v ≡ x
+mapped_at f [] i v x within at there = absurd (omega arith)
+mapped_at f (y ∷ ys) zero v x within at there = (let same : f y ≡ x = cc in ap f at ∙ same)
+mapped_at f (y ∷ ys) (suc i) v x within at there = mapped_at f ys i v x (omega arith) at there
+
 -- nothing stands past the end
 pub none_past : {X : Type 0} (xs : List X) (i : ℕ) (x : X) (Q : Type 0) → length xs ≤ i → slice_get xs i ≡ Some x → Q
 none_past [] i x Q le is = cc

@@ -22,7 +22,7 @@ use Rattle.ref_definitions.specs.Cached.{pairs_at}
 use Rattle.ref_index.specs.declared.found.Found.{Found}
 use Rattle.ref_index.specs.declared.queue.Visit.{Visit}
 use Rattle.ref_index.specs.inner.Queue.{path_of, place_of, value_of, IsQueue}
-use Rattle.ref_index.specs.Visits.{AddsPlace, AddsPlaces, IsFirstFault, IsVisited, IsWalked, AllStandIn, ChildrenStandAt, IsAt, faults_of, names_of, wants_of}
+use Rattle.ref_index.specs.Visits.{AddsPlace, AddsPlaces, ChildrenCame, IsFirstFault, IsVisited, IsWalked, AllStandIn, ChildrenStandAt, IsAt, faults_of, names_of, wants_of}
 use Rattle.ref_index.specs.Spots.{numbered}
 use Rattle.ref_index.proofs.Spots.{numbered_behind}
 use Rattle.ref_index.proofs.Visiting.{holds_same}
@@ -181,3 +181,13 @@ left_in d queue head v within here order =
 
 pub left : (d : Document) (number : ℕ) (old new : Found) (queue : List Visit) (head : ℕ) (v : Visit) → head < length queue → slice_get queue head ≡ Some v → IsAt d number old new queue head → head < length (places d)
 left d number old new queue head v within here is = left_in d queue head v within here is.order
+
+-- children that were added to a queue came to it
+pub came : (path : List Part) (value : Data) (draft : Draft) (base : List ℕ) (queue after more : List Visit) (children : List Walked) → children ≡ walked_children draft value → AllStand value children → after ≡ queue ++ more
+    → map place_of more ≡ map (child_place path base) children → ChildrenCame path value draft base queue after
+came path value draft base queue after more children are stand grown placed =
+    (more, grown, placed ∙ ap (map (child_place path base)) are, subst (AllStand value) are stand)
+
+pub nothing : {X : Type 0} (xs : List X) → length xs ≡ 0 → xs ≡ []
+nothing [] none = refl
+nothing (x ∷ xs) none = absurd (omega arith)

@@ -1,6 +1,6 @@
 -- That what the walk has found is what the definitions list.
-use Rattle.std.specs.Prelude.{◌≡◌, ℕ, List, [], map, string_bytes, slice_get, Bool, true, false, Some, Ok, IfSome, String}
-use Rattle.std.specs.List.{AllZip, list_any}
+use Rattle.std.specs.Prelude.{◌≡◌, ℕ, List, [], map, string_bytes, slice_get, Bool, true, false, Some, Ok, IfSome, String, ◌⊎◌}
+use Rattle.std.specs.List.{AllZip, Contains, list_any}
 use Rattle.std.specs.Str.{bytes_eq}
 use Rattle.std.specs.HashSet.{contains}
 use Rattle.std.specs.declared.alloc.Global.{Global}
@@ -81,17 +81,27 @@ abbrev pub IsPairOf : String Global × String Global × ResolvedUri → Pair →
 IsPairOf t p =
     (string_bytes t.0 ≡ p.0) × (string_bytes t.1 ≡ p.1) × (uri_against p.0 p.1 ≡ Ok t.2.uri.value)
 
+-- these entries, of identifiers and of references, are of exactly these pairs, in any order and however often
+pub record ArePairsOf (identifiers references : List (String Global × String Global × ResolvedUri))
+    (pairs : List Pair) : Type 0 where
+  pub own : List Pair
+  pub referred : List Pair
+  pub of_identifiers : AllZip IsPairOf identifiers own
+  pub of_references : AllZip IsPairOf references referred
+  pub each : (p : Pair) → Contains pairs p → Contains own p ⊎ Contains referred p
+  pub only : (p : Pair) → Contains own p ⊎ Contains referred p → Contains pairs p
+
 -- the handles are of one URI
 abbrev pub is_same : Rc (List ℕ) Global → Rc (List ℕ) Global → Bool
 is_same u v = bytes_eq u.value v.value
 
--- What was found is these resources and names, each of the document with its number, these wants, and the URIs of these pairs,
--- in their order; the set of URIs is that of the resources.
+-- What was found is these resources and names, each of the document with its number, and these wants, in their order, and the
+-- URIs of these pairs; the set of URIs is that of the resources.
 pub record Holds (layer : Layer) (f : Found) (resources : List (ℕ × (List ℕ × Place)))
     (names : List (ℕ × Named)) (wants : List Wanted) (pairs : List Pair) : Type 0 where
   pub by_uri : AllZip (IsResourceOf layer f.entries.items) f.resources.items resources
   pub by_name : AllZip (IsNameOf layer f.entries.items) f.names.items names
   pub wanted : map want_of f.wants.items ≡ wants
-  pub by_pair : AllZip IsPairOf f.resolved.items pairs
+  pub by_pair : ArePairsOf f.identifiers.items f.resolved.items pairs
   pub known : (uri : Rc (List ℕ) Global)
       → contains is_same f.identified uri ≡ list_any (λ r. bytes_eq r.1.0 uri.value) resources

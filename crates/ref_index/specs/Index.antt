@@ -43,14 +43,21 @@ abbrev pub numbered_uri : List (table.Entry ℕ) → String Global × String Glo
 numbered_uri by_uri t =
     (t.0, t.1, record { uri = t.2.uri; entry = last_value t.2.uri.value [] by_uri })
 
--- the tables hold the resources and the names of the documents, each in its document, and what is resolved of them, in their
--- order; the children of the documents' places are at their paths; and where the index says so, the documents' URIs are in normal form
+-- a table has what each of these pairs is resolved to, and nothing else
+abbrev pub HasPairs : List (table.Entry ℕ) → List (table.Entry ResolvedUri) → List Pair → Type 0
+HasPairs by_uri by_pair pairs =
+    (listed : List Pair) × AllZip (IsPairIn by_uri) by_pair listed
+    × ((p : Pair) → Contains pairs p → Contains listed p)
+    × ((p : Pair) → Contains listed p → Contains pairs p)
+
+-- the tables hold the resources and the names of the documents, each in its document, in their order, and what is resolved of
+-- them; the children of the documents' places are at their paths; and where the index says so, the documents' URIs are in normal form
 pub record IsIndexOf (layer : Layer) (entries : List Entry) (by_uri : List (table.Entry ℕ))
     (by_name : List (table.Entry NamedEntry)) (by_pair : List (table.Entry ResolvedUri))
     (is_normal : Bool) : Type 0 where
   pub resource : AllZip (IsResourceIn layer entries) by_uri (numbered_resources layer)
   pub name : AllZip (IsNameIn layer entries) by_name (numbered_names layer)
-  pub pair : AllZip (IsPairIn by_uri) by_pair (pairs layer)
+  pub pair : HasPairs by_uri by_pair (pairs layer)
   pub children : (d : Document) → Contains layer d → ChildrenStand d
   pub normal : is_normal ≡ true → HaveNormalUris layer
 

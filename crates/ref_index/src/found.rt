@@ -1,5 +1,5 @@
 //! What the walk over documents has found: which URIs and names mean which places, and what is wanted.
-ghost use Rattle.std.specs.Prelude.{◌≡◌, ℕ, List, [], ◌∷◌, ◌++◌, OnOk, if◌then◌else◌, slice_get, true, Some, Ok, IfOk};
+ghost use Rattle.std.specs.Prelude.{◌≡◌, ℕ, List, [], ◌∷◌, ◌++◌, OnOk, String, if◌then◌else◌, slice_get, true, Some, Ok, IfOk};
 ghost use Rattle.std.specs.HashSet.{contains};
 ghost use Rattle.std.specs.Str.{bytes_eq};
 ghost use Rattle.std.specs.declared.alloc.Global as global;
@@ -12,7 +12,8 @@ ghost use Rattle.ref_definitions.specs.Cached.{Pair};
 ghost use Rattle.ref_definitions.specs.Wants.{Want as Wanted};
 ghost use Rattle.ref_uri.specs.Targets.{uri_against};
 ghost use Rattle.ref_index.specs.Spots.{numbered};
-ghost use Rattle.ref_index.specs.Found.{Holds, IsNumberOf, cause_of, is_same, kind_of, name_entry};
+ghost use Rattle.ref_index.specs.declared.found.ResolvedUri.{ResolvedUri as Resolved};
+ghost use Rattle.ref_index.specs.Found.{Holds, IsNumberOf, IsPairOf, cause_of, is_same, kind_of, name_entry};
 
 use crate::entry::{Entry, NamedEntry};
 use ref_draft::{Anchor, AnchorIter, ResourceRef};
@@ -57,7 +58,10 @@ pub struct Found<'a> {
     pub names: Vec<(String, String, NamedEntry)>,
     /// What is wanted.
     pub wants: Vec<Want>,
-    /// What was resolved: each URI under the base and the text that it was resolved from.
+    /// What identifiers were resolved to: each URI under the base and the text that it was resolved from.
+    pub identifiers: Vec<(String, String, ResolvedUri)>,
+    /// What the texts of references were resolved to, likewise. Two lists, since each comes mostly in byte order, and one with
+    /// both by turns would not.
     pub resolved: Vec<(String, String, ResolvedUri)>,
     /// The URIs that identify places.
     pub identified: HashSet<Rc<Uri>>,
@@ -73,6 +77,7 @@ impl<'a> Found<'a> {
             resources: Vec::new(alloc),
             names: Vec::new(alloc),
             wants: Vec::new(alloc),
+            identifiers: Vec::new(alloc),
             resolved: Vec::new(alloc),
             identified: HashSet::new(alloc),
         }
@@ -173,7 +178,24 @@ impl<'a> Found<'a> {
         Ok(())
     }
 
-    /// Adds what a text means against a base, whose entry isn't known yet. Takes memory for both texts.
+    /// Adds what an identifier means against a base; the URI's entry isn't known yet. Takes memory for both texts.
+    pub fn add_identifier(
+        &mut self,
+        alloc: Global,
+        base: &str,
+        text: &str,
+        uri: &Rc<Uri>,
+    ) -> Result<(), AllocError>
+        ensures added { (layer : Layer) (rs : List (ℕ × (List ℕ × Place))) (ns : List (ℕ × Named))
+            (ws : List Wanted) (ps : List Pair)
+            → Holds layer self.old rs ns ws ps → uri_against base.now text.now ≡ Ok uri.now.value
+            → OnOk result (Holds layer self.new rs ns ws (ps ++ (base.now, text.now) ∷ [])) }
+    {
+        push_resolved(alloc, &mut self.identifiers, base, text, uri)?;
+        Ok(())
+    }
+
+    /// Adds what the text of a reference means against a base; the URI's entry isn't known yet. Takes memory for both texts.
     pub fn add_resolved(
         &mut self,
         alloc: Global,
@@ -186,13 +208,28 @@ impl<'a> Found<'a> {
             → Holds layer self.old rs ns ws ps → uri_against base.now text.now ≡ Ok uri.now.value
             → OnOk result (Holds layer self.new rs ns ws (ps ++ (base.now, text.now) ∷ [])) }
     {
-        let base = String::from_str(alloc, base)?;
-        let text = String::from_str(alloc, text)?;
-        let uri = uri.clone()?;
-        self.resolved
-            .push((base, text, ResolvedUri { uri, entry: None }))?;
+        push_resolved(alloc, &mut self.resolved, base, text, uri)?;
         Ok(())
     }
+}
+
+// Adds what a text means against a base, whose entry isn't known yet.
+fn push_resolved(
+    alloc: Global,
+    resolved: &mut Vec<(String, String, ResolvedUri)>,
+    base: &str,
+    text: &str,
+    uri: &Rc<Uri>,
+) -> Result<(), AllocError>
+    ensures { uri_against base.now text.now ≡ Ok uri.now.value
+        → OnOk result ((t : String global.Global × String global.Global × Resolved)
+        × (resolved.new.items ≡ resolved.old.items ++ t ∷ []) × IsPairOf t (base.now, text.now)) }
+{
+    let base = String::from_str(alloc, base)?;
+    let text = String::from_str(alloc, text)?;
+    let uri = uri.clone()?;
+    resolved.push((base, text, ResolvedUri { uri, entry: None }))?;
+    Ok(())
 }
 
 // Adds a URI to those that identify places. The handle is shared; no text is copied.

@@ -1,5 +1,5 @@
 //! The documents of a registry with the index of their places.
-ghost use Rattle.std.specs.Prelude.{◌≡◌, ℕ, List, map, length, MatchOption, IfOk, IfSome, option_map, option_copied, is_some, slice_get, true, Some, None, Ok};
+ghost use Rattle.std.specs.Prelude.{◌≡◌, ◌++◌, ℕ, List, map, length, MatchOption, IfOk, IfSome, option_map, option_copied, is_some, slice_get, true, Some, None, Ok};
 ghost use Rattle.std.specs.List.{Contains};
 ghost use Rattle.serde_json.specs.View.{view};
 ghost use Rattle.ref_uri.specs.Components.{scheme};
@@ -81,7 +81,7 @@ impl<'a> Index<'a> {
         drop(found.wants);
         let by_uri = SortedTable::from_entries(alloc, found.resources)?;
         let by_name = SortedTable::from_entries(alloc, found.names)?;
-        let mut resolved = found.resolved;
+        let mut resolved = joined(found.identifiers, found.resolved)?;
         set_entries(&by_uri, resolved.as_mut_slice());
         let by_pair = SortedTable::from_entries(alloc, resolved)?;
         let is_normal = are_normal(alloc, documents.as_slice())?;
@@ -203,6 +203,17 @@ impl<'a> Index<'a> {
             }
         }
     }
+}
+
+// What identifiers were resolved to, and what references were.
+fn joined(
+    mut identifiers: Vec<(String, String, ResolvedUri)>,
+    mut references: Vec<(String, String, ResolvedUri)>,
+) -> Result<Vec<(String, String, ResolvedUri)>, AllocError>
+    ensures { IfOk result (λ all. all.items ≡ identifiers.items ++ references.items) }
+{
+    identifiers.append(&mut references)?;
+    Ok(identifiers)
 }
 
 // Whether a URI is in normal form.

@@ -182,22 +182,6 @@ impl<'w> Below<'w> {
         }
     }
 
-    /// The same path. Takes no memory.
-    pub fn copied(&self) -> Result<Below<'w>, AllocError>
-        ensures value { IfOk result (λ copy. parts_of copy ≡ parts_of self.now) }
-    {
-        let above = self.above.clone()?;
-        let Some(Tail { keyword, segment }) = &self.tail else {
-            return Ok(Below { above, tail: None });
-        };
-        let segment = segment_copied(segment)?;
-        let tail = Some(Tail {
-            keyword: *keyword,
-            segment,
-        });
-        Ok(Below { above, tail })
-    }
-
     /// The path with links for what follows. Takes memory for one or two.
     pub fn linked(&self, alloc: Global) -> Result<JsonPointerNode<'w>, AllocError>
         ensures value { IfOk result (λ path. path ≡ parts_of self.now) }

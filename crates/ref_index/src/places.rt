@@ -108,10 +108,8 @@ fn list_next<'w, 'a: 'w>(
     let id = ResourceRef::new(visit.value.get(), visit.draft).id();
     let base = base_in(alloc, index, &visit.outer, id)?;
     let place = place_at(alloc, number, visit, &base)?;
-    let value = visit.value.copied()?;
-    let draft = visit.draft;
     places.push(place)?;
-    push_children(alloc, queue, &value, draft, &base)
+    push_children(alloc, queue, head, &base)
 }
 
 // The root of a document, as one that the document keeps: so keys are lent for as long as the list.

@@ -55,17 +55,6 @@ impl<'w, 'a: 'w> ValueRef<'w, 'a> {
         }
     }
 
-    /// The same value and path. Takes no memory.
-    pub fn copied(&self) -> Result<ValueRef<'w, 'a>, AllocError>
-        ensures value { IfOk result (λ copy. value_of copy ≡ value_of self.now) }
-        ensures path { IfOk result (λ copy. path_of copy ≡ path_of self.now) }
-    {
-        match self {
-            ValueRef::Lent(value, path) => Ok(ValueRef::Lent(*value, path.copied()?)),
-            ValueRef::Kept(value, path) => Ok(ValueRef::Kept(*value, path.copied()?)),
-        }
-    }
-
     /// The segments of the path, for as long as the registry lives: a key that isn't lent so long is copied. Linear in the
     /// keys; takes memory for the list and for each key that is copied.
     pub fn segments(&self, alloc: Global) -> Result<Vec<JsonPointerSegment<'a>>, AllocError>

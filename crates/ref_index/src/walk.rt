@@ -15,7 +15,6 @@ ghost use Rattle.ref_definitions.specs.Wants.{Want as Wanted, Reference, MetaSch
 ghost use Rattle.ref_index.specs.Contents.{tree_of};
 ghost use Rattle.ref_index.specs.Spots.{numbered};
 ghost use Rattle.ref_index.specs.Found.{Holds, IsEntryOf, IsNumberOf};
-ghost use Rattle.ref_index.specs.inner.Below.{parts_of};
 ghost use Rattle.ref_index.specs.inner.Queue.{path_of, place_of, value_of};
 ghost use Rattle.ref_index.specs.declared.queue.Visit.{Visit};
 ghost use Rattle.ref_index.specs.Document.{document_of};
@@ -210,7 +209,7 @@ fn add_base(
     let Some(id) = id else {
         return Ok(());
     };
-    found.add_resolved(alloc, outer.as_str(), id, base)
+    found.add_identifier(alloc, outer.as_str(), id, base)
 }
 
 // The URI that a reference points into; what its URI part was resolved to is added, where it has one.
@@ -388,69 +387,71 @@ fn push_kept_child<'w, 'a>(
     Ok(())
 }
 
-// Adds the children of a place to the queue, whose value and path are lent.
+// Adds children to the queue. Their values, and the path that they are below, are lent for as long as the registry lives.
 fn push_lent<'w, 'a: 'w>(
-    alloc: Global,
     queue: &mut Vec<Visit<'w, 'a>>,
-    path: &Below<'a>,
-    value: &'a Value,
-    draft: Draft,
+    path: &JsonPointerNode<'a>,
+    children: Vec<Child<'a>>,
     base: &Rc<Uri>,
 ) -> Result<(), AllocError>
-    ensures { OnOk result
-        (ChildrenCame (parts_of path.now)
-        (view value.now) draft base.now.value queue.old.items queue.new.items) }
+    ensures { OnOk result ((more : List Visit) × (queue.new.items ≡ queue.old.items ++ more)
+        × (map place_of more
+        ≡ map (child_place path.now base.now.value) (map walked_child children.entry.items))) }
 {
-    let children = draft.walk_children(alloc, value)?;
-    if children.is_empty() {
-        return Ok(());
-    }
-    let path = path.linked(alloc)?;
     for child in children {
-        push_lent_child(queue, &path, child, base)?;
+        push_lent_child(queue, path, child, base)?;
     }
     Ok(())
 }
 
-// Adds the children of a place to the queue, whose value is kept.
+// Adds children to the queue. Their values, and the path that they are below, are kept by the document.
 fn push_kept<'w, 'a>(
-    alloc: Global,
     queue: &mut Vec<Visit<'w, 'a>>,
-    path: &Below<'w>,
-    value: &'w Value,
-    draft: Draft,
+    path: &JsonPointerNode<'w>,
+    children: Vec<Child<'w>>,
     base: &Rc<Uri>,
 ) -> Result<(), AllocError>
-    ensures { OnOk result
-        (ChildrenCame (parts_of path.now)
-        (view value.now) draft base.now.value queue.old.items queue.new.items) }
+    ensures { OnOk result ((more : List Visit) × (queue.new.items ≡ queue.old.items ++ more)
+        × (map place_of more
+        ≡ map (child_place path.now base.now.value) (map walked_child children.entry.items))) }
 {
-    let children = draft.walk_children(alloc, value)?;
-    if children.is_empty() {
-        return Ok(());
-    }
-    let path = path.linked(alloc)?;
     for child in children {
-        push_kept_child(queue, &path, child, base)?;
+        push_kept_child(queue, path, child, base)?;
     }
     Ok(())
 }
 
-/// Adds the children of a place to the queue.
+/// Adds to the queue the children of the place at an index of it. The place's path gets links only where it has children.
 pub(crate) fn push_children<'w, 'a: 'w>(
     alloc: Global,
     queue: &mut Vec<Visit<'w, 'a>>,
-    value: &ValueRef<'w, 'a>,
-    draft: Draft,
+    at: usize,
     base: &Rc<Uri>,
 ) -> Result<(), AllocError>
-    ensures { OnOk result
-        (ChildrenCame (path_of value.now)
-        (value_of value.now) draft base.now.value queue.old.items queue.new.items) }
+    requires { at < length queue.old.items }
+    ensures { (v : Visit) → slice_get queue.old.items at ≡ Some v
+        → OnOk result
+        (ChildrenCame (path_of v.value)
+        (value_of v.value) v.draft base.now.value queue.old.items queue.new.items) }
 {
-    match value {
-        ValueRef::Lent(value, path) => push_lent(alloc, queue, path, *value, draft, base),
-        ValueRef::Kept(value, path) => push_kept(alloc, queue, path, *value, draft, base),
+    let place = &queue[at];
+    match &place.value {
+        ValueRef::Lent(value, path) => {
+            let children = place.draft.walk_children(alloc, *value)?;
+            if children.is_empty() {
+                return Ok(());
+            }
+            let path = path.linked(alloc)?;
+            push_lent(queue, &path, children, base)
+        }
+        ValueRef::Kept(value, path) => {
+            let children = place.draft.walk_children(alloc, *value)?;
+            if children.is_empty() {
+                return Ok(());
+            }
+            let path = path.linked(alloc)?;
+            push_kept(queue, &path, children, base)
+        }
     }
 }
 
@@ -485,9 +486,7 @@ fn visit<'w, 'a: 'w>(
 {
     let place = &queue[head];
     let base = settle(alloc, found, number, place, under)?;
-    let value = place.value.copied()?;
-    let draft = place.draft;
-    push_children(alloc, queue, &value, draft, &base)?;
+    push_children(alloc, queue, head, &base)?;
     Ok(())
 }
 
@@ -525,7 +524,8 @@ pub fn walk<'a>(
 {
     let root = root_of(alloc, document)?;
     let uri = root.outer.clone()?;
-    let mut queue = Vec::new(alloc);
+    // Room for the places of a small document, so that its queue needn't grow.
+    let mut queue = Vec::with_capacity(alloc, 32)?;
     push_visit(&mut queue, root)?;
     visit(alloc, found, number, &mut queue, 0, Some(&uri))?;
     let mut head = 1;

@@ -1,8 +1,8 @@
-use Rattle.std.proofs.Common.{◌≡◌, ◌∙◌, Ok, sym, ap, subst, map, option_map}
+use Rattle.std.proofs.Common.{◌≡◌, ◌∙◌, Ok, Some, sym, ap, subst, option_map}
+use Rattle.std.specs.Prelude.{slice_get}
 use Rattle.std.proofs.lemmas.Option.{get_or_from_slice_get}
-use Rattle.ref_draft.specs.Children.{AllStand, walked_children}
-use Rattle.ref_definitions.specs.Places.{child_place, children_with}
-use Rattle.ref_index.specs.inner.Queue.{path_of, place_of, value_of}
+use Rattle.ref_definitions.specs.Places.{children_with}
+use Rattle.ref_index.specs.inner.Queue.{place_of}
 use Rattle.ref_index.specs.Visits.{IsVisited}
 use Rattle.ref_index.proofs.walk.visit.Goals as goal
 
@@ -11,15 +11,13 @@ returns-clause-ok c = λ v at.
     let w = c.index-place.result.now in
     let same : w ≡ v = c.index-place.ensures ∙ get_or_from_slice_get c.args.queue.now.items c.args.head v w at in
     let based : (place_of w).base ≡ Ok c.in_ok-base.base.value = c.in_ok-base.ensures.base in
-    let path : path_of c.in_ok-value.value ≡ path_of w.value = c.in_ok-value.ensures.path in
-    let value : value_of c.in_ok-value.value ≡ value_of w.value = c.in_ok-value.ensures.value in
-    let pushed = c.in_ok-push_children.ensures in
+    let pushed = c.in_ok-push_children.ensures w (subst (λ u. slice_get c.args.queue.now.items c.args.head ≡ Some u) (sym same) at) in
     let visited : IsVisited c.args.number (option_map (λ u. u.now.value) c.args.under) w c.args.found.now c.settle.new.found c.args.queue.now.items c.push_children.new.queue.items = record {
       added = c.in_ok-base.ensures.added;
       faultless = c.in_ok-base.ensures.faultless;
       more = pushed.0;
       grown = pushed.1;
-      children = pushed.2 ∙ ap (λ l. map (child_place l c.in_ok-base.base.value) (walked_children w.draft (value_of c.in_ok-value.value))) path ∙ ap (λ d. map (child_place (path_of w.value) c.in_ok-base.base.value) (walked_children w.draft d)) value ∙ ap (λ b. children_with b (place_of w)) (sym based);
-      stand = subst (λ d. AllStand d (walked_children w.draft d)) value pushed.3;
+      children = pushed.2 ∙ ap (λ b. children_with b (place_of w)) (sym based);
+      stand = pushed.3;
     } in
     subst (λ u. IsVisited c.args.number (option_map (λ u. u.now.value) c.args.under) u c.args.found.now c.settle.new.found c.args.queue.now.items c.push_children.new.queue.items) same visited

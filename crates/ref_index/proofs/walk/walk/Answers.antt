@@ -13,7 +13,7 @@ pub returns-in_err-visit-clause-fault : goal.returns-in_err-visit-clause-fault
 returns-in_err-visit-clause-fault c =
     let d = document_of c.args.document.now in
     let v = c.in_ok-root.root in
-    let one = c.in_ok-push_visit.ensures ∙ ap (λ l. l ++ v ∷ []) c.new-queue.ensures.items in
+    let one = c.in_ok-push_visit.ensures ∙ ap (λ l. l ++ v ∷ []) c.in_ok-queue.ensures.items in
     let here : slice_get c.push_visit.new.queue.items 0 ≡ Some v = ap (λ l. slice_get l 0) one in
     let first : IsFirstFault (faults_of (root d)) c.in_err-visit.field-0.0 = subst (λ p. IsFirstFault (faults_of p) c.in_err-visit.field-0.0) c.in_ok-root.ensures (c.in_err-visit.ensures.fault v here) in
     let fault = first_in_front (faults_of (root d)) (flat_map faults_of (levels_below (depth d.tree) (root d ∷ []))) c.in_err-visit.field-0.0 first in
@@ -23,7 +23,7 @@ pub loop-head-init : goal.loop-head-init
 loop-head-init c =
     let d = document_of c.args.document.now in
     let v = c.in_ok-root.root in
-    let one = c.in_ok-push_visit.ensures ∙ ap (λ l. l ++ v ∷ []) c.new-queue.ensures.items in
+    let one = c.in_ok-push_visit.ensures ∙ ap (λ l. l ++ v ∷ []) c.in_ok-queue.ensures.items in
     let here : slice_get c.push_visit.new.queue.items 0 ≡ Some v = ap (λ l. slice_get l 0) one in
     let under : c.in_ok-uri.uri.value ≡ d.uri = c.in_ok-uri.ensures.cases ∙ ap (λ p. p.outer) c.in_ok-root.ensures in
     begin d c.args.number c.args.found.now c.visit.new.found c.push_visit.new.queue.items c.visit.new.queue.items v one c.in_ok-root.ensures

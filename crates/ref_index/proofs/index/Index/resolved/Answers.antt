@@ -1,6 +1,6 @@
 use Rattle.std.proofs.Common.{◌≡◌, ◌∙◌, sym, ap, subst, filter, None, MatchOption, option_copied, rules}
 use Rattle.std.specs.Prelude.{slice_get}
-use Rattle.std.specs.List.{last_or}
+use Rattle.std.specs.List.{Contains, last_or}
 use Rattle.ref_parts.specs.Table.{is_under}
 use Rattle.ref_definitions.specs.Cached.{pairs}
 use Rattle.ref_index.specs.Index.{IsIndexOf}
@@ -13,9 +13,10 @@ returns-in_err-resolved c =
     let text = c.args.text.now in
     let by_uri = c.self.inside.by_uri in
     let table = c.self.inside.by_pair in
-    let ps = pairs c.args.self.now in
     let is = subst (λ l. IsIndexOf l c.self.inside.entries.items by_uri c.self.inside.by_name table c.self.inside.is_normal) c.self.view_is c.self.invariant in
-    let absent = pair_absent by_uri base text ps (last_or None (filter (is_under base text) table)) (pair_both by_uri base text table ps is.pair) (sym c.get.ensures.value ∙ ap option_copied c.in_err-resolved.was) in
+    let (ps, zipped, each, only) = is.pair in
+    let absent = pair_absent by_uri base text ps (last_or None (filter (is_under base text) table)) (pair_both by_uri base text table ps zipped) (sym c.get.ensures.value ∙ ap option_copied c.in_err-resolved.was) in
+    let unresolved : ¬ (Contains (pairs c.args.self.now) (base, text)) = λ there. absent (each (base, text) there) in
     search rules
 
 pub returns : goal.returns
@@ -26,10 +27,10 @@ returns c =
     let text = c.args.text.now in
     let by_uri = c.self.inside.by_uri in
     let table = c.self.inside.by_pair in
-    let ps = pairs layer in
     let is = subst (λ l. IsIndexOf l entries by_uri c.self.inside.by_name table c.self.inside.is_normal) c.self.view_is c.self.invariant in
+    let (ps, zipped, each, only) = is.pair in
     let found = c.in_ok-resolved.resolved.now in
-    let (means, number) = pair_found by_uri base text ps (last_or None (filter (is_under base text) table)) found (pair_both by_uri base text table ps is.pair) (sym c.get.ensures.value ∙ ap option_copied c.in_ok-resolved.was) in
+    let (means, number) = pair_found by_uri base text ps (last_or None (filter (is_under base text) table)) found (pair_both by_uri base text table ps zipped) (sym c.get.ensures.value ∙ ap option_copied c.in_ok-resolved.was) in
     let at = rw c.as_slice.ensures.value at c.entry_at.ensures in
     record {
       value = means;

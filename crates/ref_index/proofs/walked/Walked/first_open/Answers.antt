@@ -12,3 +12,9 @@ returns-clause-met c = λ before.
     let found = subst (λ l. IsFound l c.self.inside.found) c.self.view_is c.self.invariant in
     let rest = c.first_open.ensures.met layer (numbered_names layer) (wants layer) (pairs layer) found.held in
     all_up_to (λ w. is_open (layer ∷ map (λ p. p.now) c.args.parents.now) w ≡ false) c.args.from c.first_open.result (wants layer) c.first_open.ensures.from before rest
+
+pub returns-clause-open : goal.returns-clause-open
+returns-clause-open c = λ w here.
+    let layer = c.args.self.now in
+    let found = subst (λ l. IsFound l c.self.inside.found) c.self.view_is c.self.invariant in
+    c.first_open.ensures.open layer (numbered_names layer) (wants layer) (pairs layer) w found.held here
