@@ -1,9 +1,10 @@
 -- From a resource the tokens of a path lead to each place at or below it.
-use Rattle.std.proofs.Common.{◌≡◌, ◌≢◌, ℕ, Bool, true, false, List, [], ◌∷◌, ◌++◌, map, Some, Result, Ok, Err, ◌⊎◌, inl, inr, refl, sym, ap, subst, ◌∙◌, append_assoc, arith}
+use Rattle.std.proofs.Common.{◌≡◌, ◌≢◌, ℕ, Bool, true, false, List, [], ◌∷◌, ◌++◌, map, Option, Some, None, is_some, Result, Ok, Err, ◌⊎◌, inl, inr, refl, sym, ap, subst, ◌∙◌, append_assoc, arith}
 use Rattle.std.specs.List.{Contains, AllByRecursion}
 use Rattle.std.proofs.lemmas.List.{append-nil, append_cancel_left, map-append}
 use Rattle.std.proofs.lemmas.List.Elements.{All-contains, All-from_recursion}
-use Rattle.serde_json.specs.Data.{Data, null, boolean, number, string, array, object}
+use Rattle.serde_json.specs.Data.{Data}
+use Rattle.serde_json.specs.Find.{as_object}
 use Rattle.ref_parts.specs.Path.{Part, Key, Index, value_at, HasFittingIndexes}
 use Rattle.ref_parts.specs.Pointer.{part_text}
 use Rattle.ref_draft.specs.declared.draft.Draft.{Draft}
@@ -46,13 +47,12 @@ each_there path base since draft value (c ∷ cs) stand parts alone accepts ends
   each_there path base since draft value cs stand.1 parts.1 alone.1 accepts.1 ends.1,
 )
 
+none_there : {A : Type 0} (o : Option A) → is_some o ≡ false → o ≡ None
+none_there None is = refl
+none_there (Some x) is = absurd (cc)
+
 no_children : (draft : Draft) (value : Data) → is_object value ≡ false → children draft value ≡ []
-no_children draft null is = refl
-no_children draft (boolean b) is = refl
-no_children draft (number n) is = refl
-no_children draft (string s) is = refl
-no_children draft (array ds) is = refl
-no_children draft (object ms) is = absurd (cc)
+no_children draft value is = rw (none_there (as_object value) is) refl
 
 all_there : (path : List Part) (base : List ℕ) (since : List Part) (draft : Draft) (value : Data) (b : Bool) → is_object value ≡ b → AllStand value (walked_children draft value)
     → (is_object value ≡ true → IsAccepted draft since value) → AllByRecursion (IsChildThere path base since draft value) (map (child_place path base) (walked_children draft value))

@@ -20,6 +20,7 @@ use Rattle.ref_definitions.specs.Fault.{Fault, PointerToNowhere, InvalidPercentE
 use Rattle.ref_definitions.specs.Places.{base_within}
 use Rattle.ref_definitions.specs.Bases.{Along, changed_base as moved, along_part}
 use Rattle.ref_definitions.specs.Pointers.{index_of, step_into, walked_along, pointed_value}
+use Rattle.ref_definitions.specs.Reading.{IsReadAsPart}
 use Rattle.ref_definitions.specs.Changes.{Stays, IsBaseAlong, begun, stayed, changed, LeadsAlong}
 
 -- an answer in turn comes from an answer
@@ -35,21 +36,26 @@ pub uri_answers : {A : Type 0} (r : Result A Refusal) (x : A) → as_invalid_uri
 uri_answers (Ok y) x is = let same : y ≡ x = cc in ap (λ z. Ok z) same
 uri_answers (Err refusal) x is = absurd (cc)
 
--- a step leads to what is at its part
-pub step_leads : (pointer : List ℕ) (value : Data) (token : List ℕ) (s : Part × Data) → step_into pointer value token ≡ Ok s → child_at value s.0 ≡ Some s.1
-step_leads pointer null token s is = absurd (cc)
-step_leads pointer (boolean b) token s is = absurd (cc)
-step_leads pointer (number n) token s is = absurd (cc)
-step_leads pointer (string t) token s is = absurd (cc)
-step_leads pointer (array ds) token s is =
+-- a step reads its token as its part, and leads to what is there
+pub step_reads_and_leads : (pointer : List ℕ) (value : Data) (token : List ℕ) (s : Part × Data) → step_into pointer value token ≡ Ok s → IsReadAsPart value token s.0 × (child_at value s.0 ≡ Some s.1)
+step_reads_and_leads pointer null token s is = absurd (cc)
+step_reads_and_leads pointer (boolean b) token s is = absurd (cc)
+step_reads_and_leads pointer (number n) token s is = absurd (cc)
+step_reads_and_leads pointer (string t) token s is = absurd (cc)
+step_reads_and_leads pointer (array ds) token s is =
     let index = first_answers (ok_or (index_of token) (InvalidArrayIndex pointer token)) (λ i. ok_or (get_item i ds) (PointerToNowhere pointer) >>= λ d. Ok (Index i, d)) s is in
     let element = first_answers (ok_or (get_item index.0 ds) (PointerToNowhere pointer)) (λ d. Ok (Index index.0, d)) s index.2 in
     let same : (Index index.0, element.0) ≡ s = cc in
-    subst (λ (t : Part × Data). child_at (array ds) t.0 ≡ Some t.1) same (there_or (get_item index.0 ds) (PointerToNowhere pointer) element.0 element.1)
-step_leads pointer (object ms) token s is =
+    subst (λ (t : Part × Data). IsReadAsPart (array ds) token t.0 × (child_at (array ds) t.0 ≡ Some t.1)) same
+    ((refl, there_or (index_of token) (InvalidArrayIndex pointer token) index.0 index.1), there_or (get_item index.0 ds) (PointerToNowhere pointer) element.0 element.1)
+step_reads_and_leads pointer (object ms) token s is =
     let found = first_answers (ok_or (get_member (unescape token) ms) (PointerToNowhere pointer)) (λ d. Ok (Key (unescape token), d)) s is in
     let same : (Key (unescape token), found.0) ≡ s = cc in
-    subst (λ (t : Part × Data). child_at (object ms) t.0 ≡ Some t.1) same (there_or (get_member (unescape token) ms) (PointerToNowhere pointer) found.0 found.1)
+    subst (λ (t : Part × Data). IsReadAsPart (object ms) token t.0 × (child_at (object ms) t.0 ≡ Some t.1)) same
+    ((refl, refl), there_or (get_member (unescape token) ms) (PointerToNowhere pointer) found.0 found.1)
+
+pub step_leads : (pointer : List ℕ) (value : Data) (token : List ℕ) (s : Part × Data) → step_into pointer value token ≡ Ok s → child_at value s.0 ≡ Some s.1
+step_leads pointer value token s is = (step_reads_and_leads pointer value token s is).1
 
 pub value_at-append : (value : Data) (path rest : List Part) → value_at value (path ++ rest) ≡ option_and_then (λ e. value_at e rest) (value_at value path)
 value_at-append value [] rest = refl

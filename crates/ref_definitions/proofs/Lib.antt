@@ -5,6 +5,7 @@ pub mod Appending
 pub mod Closure
 pub mod References
 pub mod Levels
+pub mod Queues
 pub mod Descent
 pub mod Moving
 pub mod Changes

@@ -6,7 +6,7 @@
 --    does so at the first faulty token (`walk_faults`).
 -- 4. Back: tokens that are read as a path are walked to its end (`walks_to`), and a path is the only one (`one_path`).
 -- 5. The pointer's text: percent-decoding comes first, so all of this holds of `pointed_value` (`reads_path`, `first_fault`, `fault_only`).
-use Rattle.std.proofs.Common.{◌≡◌, ℕ, Bool, true, false, cond, List, [], ◌∷◌, ◌++◌, Option, Some, None, option_and_then, IsTrue, IsFalse, Result, Ok, Err, ◌⊎◌, inl, inr, ⊎_elim, refl, sym, ap, subst, ◌∙◌, append_assoc, bytes_eq}
+use Rattle.std.proofs.Common.{◌≡◌, ℕ, Bool, true, false, cond, List, [], ◌∷◌, ◌++◌, Option, Some, None, option_and_then, IsTrue, IsFalse, Result, Ok, Err, ◌⊎◌, inl, inr, ⊎_elim, refl, sym, ap, subst, ◌∙◌, true≢false, append_assoc, bytes_eq}
 use Rattle.std.specs.Option.{ok_or}
 use Rattle.std.specs.Str.{is_utf8}
 use Rattle.std.proofs.lemmas.List.{append-nil}
@@ -31,7 +31,7 @@ use Rattle.ref_definitions.specs.Bases.{Along, changed_base as moved, along_part
 use Rattle.ref_definitions.specs.Pointers.{index_of, step_into, walked_along, pointed_value}
 use Rattle.ref_definitions.specs.Changes.{IsChange, Stays, IsBaseAlong, begun, stayed, changed}
 use Rattle.ref_definitions.specs.Reading.{IsReadAsPart, IsReadAs, IsFaultAt, no_index, nothing_there, no_parts, no_base, IsFaultAlong}
-use Rattle.ref_definitions.proofs.Changes.{first_answers, there_or, uri_answers, step_leads, part_more, one_part, same_base}
+use Rattle.ref_definitions.proofs.Changes.{first_answers, uri_answers, step_reads_and_leads, step_leads, part_more, one_part, same_base}
 use Rattle.ref_definitions.proofs.Agreement.{quiet_part, child_there}
 
 -- ---- one step
@@ -45,36 +45,26 @@ to_element pointer ds token o = ok_or o (InvalidArrayIndex pointer token) >>= λ
 
 -- a step reads its token as its part
 step_reads : (pointer : List ℕ) (value : Data) (token : List ℕ) (s : Part × Data) → step_into pointer value token ≡ Ok s → IsReadAsPart value token s.0
-step_reads pointer null token s is = absurd (cc)
-step_reads pointer (boolean b) token s is = absurd (cc)
-step_reads pointer (number n) token s is = absurd (cc)
-step_reads pointer (string t) token s is = absurd (cc)
-step_reads pointer (array ds) token s is =
-    let index = first_answers (ok_or (index_of token) (InvalidArrayIndex pointer token)) (λ i. ok_or (get_item i ds) (PointerToNowhere pointer) >>= λ d. Ok (Index i, d)) s is in
-    let element = first_answers (ok_or (get_item index.0 ds) (PointerToNowhere pointer)) (λ d. Ok (Index index.0, d)) s index.2 in
-    let same : (Index index.0, element.0) ≡ s = cc in
-    subst (λ (t : Part × Data). IsReadAsPart (array ds) token t.0) same (refl, there_or (index_of token) (InvalidArrayIndex pointer token) index.0 index.1)
-step_reads pointer (object ms) token s is =
-    let found = first_answers (ok_or (get_member (unescape token) ms) (PointerToNowhere pointer)) (λ d. Ok (Key (unescape token), d)) s is in
-    let same : (Key (unescape token), found.0) ≡ s = cc in
-    subst (λ (t : Part × Data). IsReadAsPart (object ms) token t.0) same (refl, refl)
+step_reads pointer value token s is = (step_reads_and_leads pointer value token s is).0
 
--- and a token that is read as a part steps to what is there
+-- a token is read as a part of an array or of an object alone
+has_no_parts : (value : Data) (token : List ℕ) (part : Part) → IsFalse (is_array value) → IsFalse (is_object value) → IsReadAsPart value token part → ⊥
+has_no_parts value token (Key k) no_array no_object reads = true≢false (sym reads.0 ∙ no_object)
+has_no_parts value token (Index i) no_array no_object reads = true≢false (sym reads.0 ∙ no_array)
+
+-- and a token that is read as a part steps to what may be there
+step_is : (pointer : List ℕ) (value : Data) (token : List ℕ) (part : Part) → IsReadAsPart value token part → step_into pointer value token ≡ to_child pointer part (child_at value part)
+step_is pointer null token part reads = absurd (has_no_parts null token part refl refl reads)
+step_is pointer (boolean b) token part reads = absurd (has_no_parts (boolean b) token part refl refl reads)
+step_is pointer (number n) token part reads = absurd (has_no_parts (number n) token part refl refl reads)
+step_is pointer (string s) token part reads = absurd (has_no_parts (string s) token part refl refl reads)
+step_is pointer (array ds) token (Key k) reads = absurd (cc)
+step_is pointer (array ds) token (Index i) reads = ap (to_element pointer ds token) reads.1
+step_is pointer (object ms) token (Key k) reads = ap (λ key. to_child pointer (Key key) (get_member key ms)) reads.1
+step_is pointer (object ms) token (Index i) reads = absurd (cc)
+
 reads_step : (pointer : List ℕ) (value : Data) (token : List ℕ) (part : Part) (there : Data) → IsReadAsPart value token part → child_at value part ≡ Some there → step_into pointer value token ≡ Ok (part, there)
-reads_step pointer null token (Key k) there reads at = absurd (cc)
-reads_step pointer (boolean b) token (Key k) there reads at = absurd (cc)
-reads_step pointer (number n) token (Key k) there reads at = absurd (cc)
-reads_step pointer (string s) token (Key k) there reads at = absurd (cc)
-reads_step pointer (array ds) token (Key k) there reads at = absurd (cc)
-reads_step pointer (object ms) token (Key k) there reads at =
-    ap (λ key. to_child pointer (Key key) (get_member key ms)) reads.1 ∙ ap (to_child pointer (Key k)) at
-reads_step pointer null token (Index i) there reads at = absurd (cc)
-reads_step pointer (boolean b) token (Index i) there reads at = absurd (cc)
-reads_step pointer (number n) token (Index i) there reads at = absurd (cc)
-reads_step pointer (string s) token (Index i) there reads at = absurd (cc)
-reads_step pointer (object ms) token (Index i) there reads at = absurd (cc)
-reads_step pointer (array ds) token (Index i) there reads at =
-    ap (to_element pointer ds token) reads.1 ∙ ap (to_child pointer (Index i)) at
+reads_step pointer value token part there reads at = step_is pointer value token part reads ∙ ap (to_child pointer part) at
 
 -- ---- faults of a step
 
@@ -116,20 +106,7 @@ index_fault pointer (array ds) token is none =
     ap (to_element pointer ds token) none
 
 nowhere_fault : (pointer : List ℕ) (value : Data) (token : List ℕ) (part : Part) → IsReadAsPart value token part → child_at value part ≡ None → step_into pointer value token ≡ Err (PointerToNowhere pointer)
-nowhere_fault pointer null token (Key k) reads at = absurd (cc)
-nowhere_fault pointer (boolean b) token (Key k) reads at = absurd (cc)
-nowhere_fault pointer (number n) token (Key k) reads at = absurd (cc)
-nowhere_fault pointer (string s) token (Key k) reads at = absurd (cc)
-nowhere_fault pointer (array ds) token (Key k) reads at = absurd (cc)
-nowhere_fault pointer (object ms) token (Key k) reads at =
-    ap (λ key. to_child pointer (Key key) (get_member key ms)) reads.1 ∙ ap (to_child pointer (Key k)) at
-nowhere_fault pointer null token (Index i) reads at = absurd (cc)
-nowhere_fault pointer (boolean b) token (Index i) reads at = absurd (cc)
-nowhere_fault pointer (number n) token (Index i) reads at = absurd (cc)
-nowhere_fault pointer (string s) token (Index i) reads at = absurd (cc)
-nowhere_fault pointer (object ms) token (Index i) reads at = absurd (cc)
-nowhere_fault pointer (array ds) token (Index i) reads at =
-    ap (to_element pointer ds token) reads.1 ∙ ap (to_child pointer (Index i)) at
+nowhere_fault pointer value token part reads at = step_is pointer value token part reads ∙ ap (to_child pointer part) at
 
 parts_fault : (pointer : List ℕ) (value : Data) (token : List ℕ) → IsFalse (is_array value) → IsFalse (is_object value) → step_into pointer value token ≡ Err (PointerToNowhere pointer)
 parts_fault pointer null token neither nor = refl

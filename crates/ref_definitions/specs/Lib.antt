@@ -2,6 +2,7 @@ pub mod Results
 pub mod Fault
 pub mod World
 pub mod Places
+pub mod Queue
 pub mod Descent
 pub mod Moving
 pub mod Resources

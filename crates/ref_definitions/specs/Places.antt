@@ -58,12 +58,20 @@ children_with (Err refusal) p = []
 abbrev pub children_of : Place → List Place
 children_of p = children_with p.base p
 
--- n levels below places, each the joined children of the one above
+-- n levels below places, by any children of places: each the joined children of the one above
+abbrev pub levels : (Place → List Place) → ℕ → List Place → List Place
+levels children zero places = []
+levels children (suc n) places =
+    flat_map children places ++ levels children n (flat_map children places)
+
+-- the levels by the children of places
 abbrev pub levels_below : ℕ → List Place → List Place
-levels_below zero places = []
-levels_below (suc n) places =
-    flat_map children_of places ++ levels_below n (flat_map children_of places)
+levels_below n places = levels children_of n places
+
+-- the root and the levels below it, as many as the tree is deep
+abbrev pub places_by : (Place → List Place) → Document → List Place
+places_by children d = root d ∷ levels children (depth d.tree) (root d ∷ [])
 
 -- The places of a document: its levels joined. No level stands below the depth of the tree.
 abbrev pub places : Document → List Place
-places d = root d ∷ levels_below (depth d.tree) (root d ∷ [])
+places d = places_by children_of d

@@ -1,7 +1,8 @@
 -- The retrievers that come with the library, by what they may return and refuse, and those whose answers are known.
 use Rattle.std.specs.Prelude.{◌≡◌, ℕ, List, codes, Some, None, Result, Ok, Err, option_map}
 use Rattle.serde_json.specs.Data.{Data}
-use Rattle.ref_definitions.specs.World.{Layer}
+use Rattle.ref_draft.specs.declared.draft.Draft.{Draft}
+use Rattle.ref_definitions.specs.World.{Layer, World}
 use Rattle.ref_definitions.specs.Fault.{Fault}
 use Rattle.ref_definitions.specs.Resources.{last_under}
 use Rattle.ref_definitions.specs.Preparing.{Retriever, Given, IsOutcome}
@@ -32,3 +33,16 @@ function_retriever answers = record {
 abbrev pub HasOneOutcome : Given → Type 0
 HasOneOutcome given =
     (one other : Result Layer Fault) → IsOutcome given one → IsOutcome given other → one ≡ other
+
+-- preparing with the retriever has one outcome at most, whatever documents, parents, draft and limit it is given
+abbrev pub GivesOneOutcome : Retriever → Type 0
+GivesOneOutcome retriever =
+    (limit : ℕ) (draft : Draft) (parents : World) (documents : Layer)
+    → HasOneOutcome
+    (record {
+      retriever = retriever;
+      limit = limit;
+      draft = draft;
+      parents = parents;
+      documents = documents;
+    })

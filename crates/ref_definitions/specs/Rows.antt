@@ -17,7 +17,7 @@ use Rattle.ref_definitions.specs.Preparing.{Retriever, Given}
 use Rattle.ref_definitions.specs.Retrievers.{default_retriever, map_retriever}
 use Rattle.ref_definitions.specs.Pending.{Addition, Pending, documents_of}
 use Rattle.ref_definitions.specs.Bases.{Along}
-use Rattle.ref_definitions.specs.Lookup.{Resolver, Found}
+use Rattle.ref_definitions.specs.Lookup.{Resolver, Found, located_value}
 use Rattle.ref_definitions.specs.Follow.{Step, Lookup, Followed, followed_steps}
 
 abbrev pub yes : Data
@@ -66,6 +66,61 @@ odd_keys =
     (member (codes "l") (array no_items)
     (member (codes "~/") (whole_number 5)
     (member (codes "~2") (whole_number 2) no_members)))))))
+
+-- properties with types, one of them an array of two elements
+abbrev pub typed_properties : Data
+typed_properties =
+    two "properties"
+    (two "bar"
+    (two "items" (pair (one "type" (text "number")) (one "type" (text "boolean"))) "type"
+    (text "array")) "foo" (one "type" (text "string"))) "type" (text "object")
+
+-- a property with a type
+abbrev pub typed_property : Data
+typed_property = one "properties" (one "n" (one "type" (text "string")))
+
+-- the anchor `foo` in a definition, beside an identifier
+abbrev pub anchor_foo : Literal → Data
+anchor_foo id = two "$defs" (one "p" (one "$anchor" (text "foo"))) "$id" (text id)
+
+-- two definitions with one identifier
+abbrev pub identified_twice : Data
+identified_twice =
+    one "$defs"
+    (two "a" (two "$id" (text "http://a/k") "title" (text "1")) "b"
+    (two "$id" (text "http://a/k") "title" (text "2")))
+
+-- a definition within a definition: it, the outer one and the root have one dynamic anchor
+abbrev pub dynamic_definitions : Data
+dynamic_definitions =
+    three "$defs"
+    (one "foo"
+    (three "$defs" (two "bar" yes "baz" (one "$dynamicAnchor" (text "fooAnchor"))) "$dynamicAnchor"
+    (text "fooAnchor") "$id" (text "foo"))) "$dynamicAnchor" (text "fooAnchor") "$id"
+    (text "http://example.com")
+
+-- the same three, all marked by `$recursiveAnchor`
+abbrev pub recursive_definitions : Data
+recursive_definitions =
+    three "$defs"
+    (one "foo"
+    (three "$defs"
+    (two "bar" yes "baz" (two "$anchor" (text "fooAnchor") "$recursiveAnchor" yes)) "$id"
+    (text "foo") "$recursiveAnchor" yes)) "$id" (text "http://example.com") "$recursiveAnchor" yes
+
+-- a property whose identifier and reference mean no URI
+abbrev pub refused_within : Data
+refused_within = one "properties" (one "x" (two "$id" (text "a b") "$ref" (text "c d")))
+
+-- keys that a pointer escapes, each in the value of the one before
+abbrev pub escaped_keys : Data
+escaped_keys = one "a/b%" (one "" (one "~" (whole_number 7)))
+
+-- an identifier in a definition, and another one in its dependencies
+abbrev pub identified_within : Data
+identified_within =
+    one "$defs"
+    (one "a" (two "$id" (text "http://b/k/") "dependencies" (one "d" (one "$id" (text "m")))))
 
 -- what is added: a value, or a resource of a draft
 abbrev pub value_under : Literal → Data → Addition
@@ -122,6 +177,16 @@ given_alone documents = given_documents default_retriever 10000 documents
 abbrev pub world : List Document → World
 world documents = documents ∷ []
 
+-- of a single document
+abbrev pub alone : Draft → Literal → Data → World
+alone draft uri tree = world (at draft uri tree ∷ [])
+
+-- a child with a document under its parent's URI
+abbrev pub child_and_parent : World
+child_and_parent =
+    (at Draft202012 "http://a/m" (one "title" (text "child")) ∷ [])
+    ∷ alone Draft202012 "http://a/m" (two "$anchor" (text "p") "title" (text "parent"))
+
 -- what steps answer: the value, the base and the scope, or the step that faults
 pub data Answer : Type 0 where
   answer : Option Data → List ℕ → List (List ℕ) → Answer
@@ -145,6 +210,32 @@ steps w base list = answer_of (followed_steps w (codes base) list)
 abbrev pub look : Literal → Step
 look reference = Lookup (codes reference)
 
+-- what one lookup answers from the root of a document that stands alone
+abbrev pub look_in : Draft → Literal → Data → Literal → Answer
+look_in draft uri tree reference = steps (alone draft uri tree) uri (look reference ∷ [])
+
+-- a value with its base, found by a step from another base
+abbrev pub found_at : Data → Literal → Literal → Answer
+found_at value base from = answer (Some value) (codes base) (codes from ∷ [])
+
+-- three documents, `foo/` and `foo/bar` below the first, and steps through all of them before the last one
+abbrev pub foo_and_bar : Draft → Data → Data → Data → World
+foo_and_bar draft tree foo bar =
+    world
+    (at draft "http://example.com" tree ∷ at draft "http://example.com/foo/" foo
+    ∷ at draft "http://example.com/foo/bar" bar ∷ [])
+
+abbrev pub through_foo_and_bar : Draft → Data → Data → Data → Step → Answer
+through_foo_and_bar draft tree foo bar last =
+    steps (foo_and_bar draft tree foo bar) "http://example.com"
+    (look "" ∷ look "foo/" ∷ look "bar" ∷ last ∷ [])
+
+-- what they answer where the last one leads back to the first document
+abbrev pub back_at_the_first : Data → Answer
+back_at_the_first value =
+    answer (Some value) (codes "http://example.com")
+    (codes "http://example.com/foo/" ∷ codes "http://example.com" ∷ codes "http://example.com" ∷ [])
+
 -- a base along a path, with the parts since it last changed
 abbrev pub along : Literal → List Part → Along
 along base since = record { base = codes base; since = since }
@@ -155,6 +246,10 @@ resolver base scope = record { base = codes base; scope = scope }
 
 abbrev pub found_value : Data → Draft → Resolver → Found
 found_value value draft r = record { value = value; draft = draft; resolver = r }
+
+-- the same as an answer: a value, its draft and base, with one URI in the scope
+abbrev pub value_at : Data → Draft → Literal → Literal → Result Found Fault
+value_at value draft base from = Ok (found_value value draft (resolver base (codes from ∷ [])))
 
 -- a name of the root of a document
 abbrev pub name_at : Literal → Literal → Kind → Draft → Data → Named
@@ -196,6 +291,11 @@ nested_path =
     Key (codes "not") ∷ Key (codes "allOf") ∷ Index 0 ∷ Key (codes "properties") ∷ Key (codes "p")
     ∷ Key (codes "items") ∷ Index 0 ∷ Key (codes "dependencies") ∷ Key (codes "d")
     ∷ Key (codes "additionalItems") ∷ []
+
+-- what the pointer of that path leads to
+abbrev pub nested_value : Draft → Literal → Result Found Fault
+nested_value draft id =
+    located_value (alone draft "http://a/r" (nested_schema id)) (codes "http://a/r") nested_path
 
 -- the same of 2020-12
 abbrev pub nested_2020 : Data

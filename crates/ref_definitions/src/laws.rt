@@ -23,7 +23,7 @@ ghost use Rattle.ref_definitions.specs.Anchors.{Named, last_named, named_entry, 
 ghost use Rattle.ref_definitions.specs.Closure.{OutcomesOfRetrieval};
 ghost use Rattle.ref_definitions.specs.Pending.{Addition, Pending, with_additions};
 ghost use Rattle.ref_definitions.specs.References.{ReferencesAreRetrieved};
-ghost use Rattle.ref_definitions.specs.Retrievers.{HasOneOutcome, default_retriever, function_retriever, map_retriever};
+ghost use Rattle.ref_definitions.specs.Retrievers.{GivesOneOutcome, default_retriever, function_retriever, map_retriever};
 ghost use Rattle.ref_definitions.specs.Wants.{faults};
 ghost use Rattle.ref_definitions.specs.Agreement.{ChildrenStand, IsAtOrBelow, WalksAgree};
 ghost use Rattle.ref_definitions.specs.Appending.{MeaningsStay, MeaningsStayBelow, MetWantsStay, OpenWantsAfter};
@@ -156,35 +156,10 @@ pub fn outcomes_of_retrieval()
 /// at most. An outcome speaks of URIs, trees and drafts, and not of who owns a document: so documents that are alike,
 /// borrowed, shared or owned, give registries that answer alike.
 pub fn known_answers_have_one_outcome()
-    ensures of_a_function { (answers : List ℕ → Result Data (List ℕ)) (limit : ℕ) (draft : Draft)
-        (parents : World) (documents : Layer)
-        → HasOneOutcome
-        (record {
-          retriever = function_retriever answers;
-          limit = limit;
-          draft = draft;
-          parents = parents;
-          documents = documents;
-        }) }
-    ensures of_a_map { (pairs : List (List ℕ × Data)) (limit : ℕ) (draft : Draft) (parents : World)
-        (documents : Layer)
-        → HasOneOutcome
-        (record {
-          retriever = map_retriever pairs;
-          limit = limit;
-          draft = draft;
-          parents = parents;
-          documents = documents;
-        }) }
-    ensures of_the_default { (limit : ℕ) (draft : Draft) (parents : World) (documents : Layer)
-        → HasOneOutcome
-        (record {
-          retriever = default_retriever;
-          limit = limit;
-          draft = draft;
-          parents = parents;
-          documents = documents;
-        }) }
+    ensures of_a_function { (answers : List ℕ → Result Data (List ℕ))
+        → GivesOneOutcome (function_retriever answers) }
+    ensures of_a_map { (pairs : List (List ℕ × Data)) → GivesOneOutcome (map_retriever pairs) }
+    ensures of_the_default { GivesOneOutcome default_retriever }
 {}
 
 /// Where no want is open, a reference at a place of the layer never leads to a URI that is not present.

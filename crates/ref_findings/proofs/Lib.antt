@@ -1,5 +1,4 @@
 pub mod Placing
-pub mod Levels
 pub mod Queues
 pub mod Lists
 pub mod Tables

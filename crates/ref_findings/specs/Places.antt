@@ -1,11 +1,10 @@
 -- The places of a document where schemas stand, also below identifiers that mean no URI, and which of them have a text
 -- that means none.
-use Rattle.std.specs.Prelude.{ℕ, zero, suc, Bool, true, false, ◌||◌, List, [], ◌∷◌, ◌++◌, flat_map, map, Option, Some, None, Result, Ok, Err}
-use Rattle.serde_json.specs.Data.{depth}
+use Rattle.std.specs.Prelude.{ℕ, Bool, true, false, ◌||◌, List, map, Option, Some, None, Result, Ok, Err}
 use Rattle.ref_draft.specs.Children.{walked_children}
 use Rattle.ref_uri.specs.Targets.{Refusal}
 use Rattle.ref_definitions.specs.World.{Document}
-use Rattle.ref_definitions.specs.Places.{Place, root, child_place}
+use Rattle.ref_definitions.specs.Places.{Place, child_place, levels, places_by}
 use Rattle.ref_definitions.specs.Wants.{reference_at, schema_at}
 
 -- a base, or the base around it where there is none
@@ -23,13 +22,11 @@ children_near p = map (child_place p.path (nearest_base p)) (walked_children p.d
 
 -- n levels below places, each the joined children of the one above
 abbrev pub levels_near : ℕ → List Place → List Place
-levels_near zero places = []
-levels_near (suc n) places =
-    flat_map children_near places ++ levels_near n (flat_map children_near places)
+levels_near n places = levels children_near n places
 
 -- the places of a document: its levels joined, which end at the depth of the tree
 abbrev pub places_near : Document → List Place
-places_near d = root d ∷ levels_near (depth d.tree) (root d ∷ [])
+places_near d = places_by children_near d
 
 -- whether a text means no URI, where there is one
 abbrev pub is_refused : Option (Result (List ℕ) Refusal) → Bool

@@ -1,4 +1,6 @@
 //! Where the pointer of a path and the keywords of subschemas lead to one place with one base, and where they don't.
+#![tactic(auto, unfolding(crate::proofs::OnLiterals::world_on_literals))]
+
 ghost use Rattle.std.specs.Prelude.{◌≡◌, [], ◌∷◌, codes, Some, Ok, Err};
 ghost use Rattle.ref_parts.specs.Path.{Key};
 ghost use Rattle.ref_draft.specs.declared.draft.Draft.TheVariants.{Draft4, Draft6, Draft7, Draft201909, Draft202012};
@@ -6,7 +8,7 @@ ghost use Rattle.ref_definitions.specs.Fault.{PointerToNowhere};
 ghost use Rattle.ref_definitions.specs.Places.{root};
 ghost use Rattle.ref_definitions.specs.Lookup.{located_value};
 ghost use Rattle.ref_definitions.specs.Agreement.{IsAtOrBelow, HasPlainMaps, IsReadAlike, IsPathOfTexts};
-ghost use Rattle.ref_definitions.specs.Rows.{at, world, yes, empty, text, one, two, resolver, found_value, nested_schema, nested_path, nested_2020, nested_path_2020, last_place, identified_4, identified_schema, identified_2020, equal_identifiers, place_below};
+ghost use Rattle.ref_definitions.specs.Rows.{at, yes, empty, text, one, two, nested_schema, nested_path, nested_value, nested_2020, nested_path_2020, last_place, identified_4, identified_schema, identified_2020, equal_identifiers, place_below, alone, value_at};
 
 /// In each draft, within each kind of keyword, the keywords lead to this place.
 pub fn places_within_keywords()
@@ -24,27 +26,17 @@ pub fn places_within_keywords()
 
 /// And so does the pointer.
 pub fn pointers_within_keywords()
-    ensures draft_4 { located_value (world (at Draft4 "http://a/r" (nested_schema "id") ∷ []))
-        (codes "http://a/r") nested_path
-        ≡ Ok (found_value (one "id" (text "s")) Draft4
-        (resolver "http://a/s" (codes "http://a/r" ∷ []))) }
-    ensures draft_6 { located_value (world (at Draft6 "http://a/r" (nested_schema "$id") ∷ []))
-        (codes "http://a/r") nested_path
-        ≡ Ok (found_value (one "$id" (text "s")) Draft6
-        (resolver "http://a/s" (codes "http://a/r" ∷ []))) }
-    ensures draft_7 { located_value (world (at Draft7 "http://a/r" (nested_schema "$id") ∷ []))
-        (codes "http://a/r") nested_path
-        ≡ Ok (found_value (one "$id" (text "s")) Draft7
-        (resolver "http://a/s" (codes "http://a/r" ∷ []))) }
-    ensures draft_2019 { located_value
-        (world (at Draft201909 "http://a/r" (nested_schema "$id") ∷ []))
-        (codes "http://a/r") nested_path
-        ≡ Ok (found_value (one "$id" (text "s")) Draft201909
-        (resolver "http://a/s" (codes "http://a/r" ∷ []))) }
-    ensures draft_2020 { located_value (world (at Draft202012 "http://a/r" nested_2020 ∷ []))
+    ensures draft_4 { nested_value Draft4 "id"
+        ≡ value_at (one "id" (text "s")) Draft4 "http://a/s" "http://a/r" }
+    ensures draft_6 { nested_value Draft6 "$id"
+        ≡ value_at (one "$id" (text "s")) Draft6 "http://a/s" "http://a/r" }
+    ensures draft_7 { nested_value Draft7 "$id"
+        ≡ value_at (one "$id" (text "s")) Draft7 "http://a/s" "http://a/r" }
+    ensures draft_2019 { nested_value Draft201909 "$id"
+        ≡ value_at (one "$id" (text "s")) Draft201909 "http://a/s" "http://a/r" }
+    ensures draft_2020 { located_value (alone Draft202012 "http://a/r" nested_2020)
         (codes "http://a/r") nested_path_2020
-        ≡ Ok (found_value (one "$id" (text "s")) Draft202012
-        (resolver "http://a/s" (codes "http://a/r" ∷ []))) }
+        ≡ value_at (one "$id" (text "s")) Draft202012 "http://a/s" "http://a/r" }
 {}
 
 /// Where another place has the URI, the pointer leads from that one; where a place has none, from the resource around it.
@@ -60,23 +52,17 @@ pub fn without_a_uri_of_its_own()
           Ok (codes "http://a/k"),
           Draft202012,
         ) }
-    ensures pointer_in_the_last { located_value
-        (world
-        (at Draft202012 "http://a/r"
-        (one "$defs"
-        (two "a" (two "$id" (text "http://a/k") "not" yes) "b"
-        (one "$id" (text "http://a/k"))))
-        ∷ []))
+    ensures pointer_in_the_last { located_value (alone Draft202012 "http://a/r" (one "$defs"
+        (two "a" (two "$id" (text "http://a/k") "not" yes) "b" (one "$id" (text "http://a/k")))))
         (codes "http://a/k") (Key (codes "not") ∷ [])
         ≡ Err (PointerToNowhere (codes "/not")) }
     ensures place_below_a_place { last_place
         (at Draft202012 "http://a/r" (one "not" (one "not" yes)))
         ≡ Some (Key (codes "not") ∷ Key (codes "not") ∷ [], Ok (codes "http://a/r"), Draft202012) }
     ensures pointer_from_the_root { located_value
-        (world (at Draft202012 "http://a/r" (one "not" (one "not" yes)) ∷ []))
-        (codes "http://a/r") (Key (codes "not") ∷ [])
-        ≡ Ok (found_value (one "not" yes) Draft202012
-        (resolver "http://a/r" (codes "http://a/r" ∷ []))) }
+        (alone Draft202012 "http://a/r" (one "not" (one "not" yes))) (codes "http://a/r")
+        (Key (codes "not") ∷ [])
+        ≡ value_at (one "not" yes) Draft202012 "http://a/r" "http://a/r" }
 {}
 
 /// The pointer reads a place by the draft of the resource that it starts from.
@@ -87,18 +73,11 @@ pub fn with_another_draft_below()
         (two "$schema" (text "http://json-schema.org/draft-04/schema") "id"
         (text "s"))))
         ≡ Some (Key (codes "not") ∷ [], Ok (codes "http://a/s"), Draft4) }
-    ensures pointer { located_value
-        (world
-        (at Draft202012 "http://a/r"
-        (one "not"
-        (two "$schema" (text "http://json-schema.org/draft-04/schema") "id"
-        (text "s")))
-        ∷ []))
+    ensures pointer { located_value (alone Draft202012 "http://a/r"
+        (one "not" (two "$schema" (text "http://json-schema.org/draft-04/schema") "id" (text "s"))))
         (codes "http://a/r") (Key (codes "not") ∷ [])
-        ≡ Ok (found_value
-        (two "$schema" (text "http://json-schema.org/draft-04/schema") "id"
-        (text "s")) Draft202012
-        (resolver "http://a/r" (codes "http://a/r" ∷ []))) }
+        ≡ value_at (two "$schema" (text "http://json-schema.org/draft-04/schema") "id" (text "s"))
+        Draft202012 "http://a/r" "http://a/r" }
 {}
 
 /// Before 2020-12, below `items` and `dependencies`, the pointer takes a map of subschemas with a text under the identifier's
@@ -113,29 +92,19 @@ pub fn with_a_map_that_has_an_identifier()
           Ok (codes "http://a/s"),
           Draft7,
         ) }
-    ensures pointer_through_a_map { located_value
-        (world
-        (at Draft7 "http://a/r"
-        (one "items"
-        (one "properties" (two "$id" (text "m/") "x" (one "$id" (text "s")))))
-        ∷ []))
-        (codes "http://a/r")
-        (Key (codes "items") ∷ Key (codes "properties") ∷ Key (codes "x") ∷ [])
-        ≡ Ok (found_value (one "$id" (text "s")) Draft7
-        (resolver "http://a/m/" (codes "http://a/r" ∷ []))) }
+    ensures pointer_through_a_map { located_value (alone Draft7 "http://a/r"
+        (one "items" (one "properties" (two "$id" (text "m/") "x" (one "$id" (text "s"))))))
+        (codes "http://a/r") (Key (codes "items") ∷ Key (codes "properties") ∷ Key (codes "x") ∷ [])
+        ≡ value_at (one "$id" (text "s")) Draft7 "http://a/m/" "http://a/r" }
     ensures place_in_dependencies { last_place
         (at Draft4 "http://a/r"
         (one "dependencies" (two "id" (text "m/") "x" (one "id" (text "s")))))
         ≡ Some
         (Key (codes "dependencies") ∷ Key (codes "x") ∷ [], Ok (codes "http://a/s"), Draft4) }
-    ensures pointer_through_dependencies { located_value
-        (world
-        (at Draft4 "http://a/r"
-        (one "dependencies" (two "id" (text "m/") "x" (one "id" (text "s"))))
-        ∷ []))
-        (codes "http://a/r") (Key (codes "dependencies") ∷ Key (codes "x") ∷ [])
-        ≡ Ok (found_value (one "id" (text "s")) Draft4
-        (resolver "http://a/m/" (codes "http://a/r" ∷ []))) }
+    ensures pointer_through_dependencies { located_value (alone Draft4 "http://a/r"
+        (one "dependencies" (two "id" (text "m/") "x" (one "id" (text "s"))))) (codes "http://a/r")
+        (Key (codes "dependencies") ∷ Key (codes "x") ∷ [])
+        ≡ value_at (one "id" (text "s")) Draft4 "http://a/m/" "http://a/r" }
 {}
 
 /// Maps of subschemas with and without such a text, and places at and below another.

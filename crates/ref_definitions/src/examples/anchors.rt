@@ -1,4 +1,6 @@
 //! Which names stand for which places under a URI.
+#![tactic(auto, unfolding(crate::proofs::OnLiterals::world_on_literals))]
+
 ghost use Rattle.std.specs.Prelude.{◌≡◌, [], ◌∷◌, map, codes, Some, None, Ok, Err, option_map};
 ghost use Rattle.std.specs.Result.{result_ok};
 ghost use Rattle.ref_parts.specs.Path.{Key};
@@ -7,7 +9,7 @@ ghost use Rattle.ref_draft.specs.Anchors.{Plain, Dynamic};
 ghost use Rattle.ref_definitions.specs.Fault.{InvalidAnchor, NoSuchAnchor};
 ghost use Rattle.ref_definitions.specs.Places.{root};
 ghost use Rattle.ref_definitions.specs.Anchors.{named_under, named_at, names_in, names, last_named, named_entry, named_by_identifier, not_named, anchor};
-ghost use Rattle.ref_definitions.specs.Rows.{world, at, yes, empty, text, one, two, shown_name};
+ghost use Rattle.ref_definitions.specs.Rows.{at, yes, empty, text, one, two, shown_name, alone, name_at};
 
 /// The names of documents (2020-12 Core, 8.2.2).
 pub fn names_of_documents()
@@ -46,25 +48,17 @@ pub fn names_of_documents()
 
 /// What a name means under a URI, where it is there.
 pub fn entries_of_names()
-    ensures last_entry { option_map shown_name
-        (named_entry
-        (world
-        (at Draft202012 "http://a/r"
-        (two "$anchor" (text "n") "not" (one "$dynamicAnchor" (text "n")))
-        ∷ []))
-        (codes "http://a/r") (codes "n"))
+    ensures last_entry { option_map shown_name (named_entry (alone Draft202012 "http://a/r"
+        (two "$anchor" (text "n") "not" (one "$dynamicAnchor" (text "n")))) (codes "http://a/r")
+        (codes "n"))
         ≡ Some (codes "http://a/r", codes "n", Dynamic, Key (codes "not") ∷ []) }
-    ensures nearest_layer { option_map shown_name
-        (named_entry
-        ((at Draft202012 "http://a/r" (one "$dynamicAnchor" (text "n")) ∷ [])
-        ∷ world (at Draft202012 "http://a/r" (one "$anchor" (text "n")) ∷ []))
-        (codes "http://a/r") (codes "n"))
+    ensures nearest_layer { option_map shown_name (named_entry
+        ((at Draft202012 "http://a/r" (one "$dynamicAnchor" (text "n")) ∷ []) ∷ alone Draft202012
+        "http://a/r" (one "$anchor" (text "n"))) (codes "http://a/r") (codes "n"))
         ≡ Some (codes "http://a/r", codes "n", Dynamic, []) }
-    ensures parent { option_map shown_name
-        (named_entry
-        ((at Draft202012 "http://a/r" empty ∷ [])
-        ∷ world (at Draft202012 "http://a/r" (one "$anchor" (text "n")) ∷ []))
-        (codes "http://a/r") (codes "n"))
+    ensures parent { option_map shown_name (named_entry ((at Draft202012 "http://a/r" empty ∷ [])
+        ∷ alone Draft202012 "http://a/r" (one "$anchor" (text "n"))) (codes "http://a/r")
+        (codes "n"))
         ≡ Some (codes "http://a/r", codes "n", Plain, []) }
     ensures of_entries { option_map shown_name
         (last_named (codes "http://a/r") (codes "n")
@@ -73,13 +67,13 @@ pub fn entries_of_names()
         ∷ at Draft202012 "http://a/s" (one "$anchor" (text "n")) ∷ [])))
         ≡ Some (codes "http://a/r", codes "n", Plain, []) }
     ensures of_no_entry { last_named (codes "http://a/r") (codes "n") [] ≡ None }
-    ensures another_uri { option_map shown_name
-        (named_entry (world (at Draft202012 "http://a/x" (one "$anchor" (text "n")) ∷ []))
-        (codes "http://a/r") (codes "n"))
+    ensures another_uri { option_map shown_name (named_entry
+        (alone Draft202012 "http://a/x" (one "$anchor" (text "n"))) (codes "http://a/r")
+        (codes "n"))
         ≡ None }
-    ensures another_name { option_map shown_name
-        (named_entry (world (at Draft202012 "http://a/r" (one "$anchor" (text "n")) ∷ []))
-        (codes "http://a/r") (codes "m"))
+    ensures another_name { option_map shown_name (named_entry
+        (alone Draft202012 "http://a/r" (one "$anchor" (text "n"))) (codes "http://a/r")
+        (codes "m"))
         ≡ None }
 {}
 
@@ -88,70 +82,39 @@ pub fn entries_of_names()
 pub fn names_elsewhere()
     ensures no_such { not_named (codes "unknownAnchor") ≡ NoSuchAnchor (codes "unknownAnchor") }
     ensures invalid { not_named (codes "invalid/anchor") ≡ InvalidAnchor (codes "invalid/anchor") }
-    ensures by_the_base { option_map shown_name
-        (named_by_identifier
-        (world
-        (at Draft202012 "http://a/x"
-        (two "$id" (text "y") "not" (one "$anchor" (text "foo")))
-        ∷ []))
+    ensures by_the_base { option_map shown_name (named_by_identifier
+        (alone Draft202012 "http://a/x" (two "$id" (text "y") "not" (one "$anchor" (text "foo"))))
         (codes "http://a/x") (codes "foo"))
         ≡ Some (codes "http://a/y", codes "foo", Plain, Key (codes "not") ∷ []) }
-    ensures by_an_absolute_identifier { option_map shown_name
-        (named_by_identifier
-        (world
-        (at Draft202012 "http://a/x"
-        (two "$id" (text "http://b/y") "not" (one "$anchor" (text "foo")))
-        ∷ []))
+    ensures by_an_absolute_identifier { option_map shown_name (named_by_identifier (alone
+        Draft202012 "http://a/x" (two "$id" (text "http://b/y") "not" (one "$anchor" (text "foo"))))
         (codes "http://a/x") (codes "foo"))
         ≡ Some (codes "http://b/y", codes "foo", Plain, Key (codes "not") ∷ []) }
-    ensures by_a_fragment { option_map shown_name
-        (named_by_identifier
-        (world
-        (at Draft202012 "http://a/r"
-        (two "$id" (text "#x") "not" (one "$anchor" (text "foo")))
-        ∷ []))
+    ensures by_a_fragment { option_map shown_name (named_by_identifier
+        (alone Draft202012 "http://a/r" (two "$id" (text "#x") "not" (one "$anchor" (text "foo"))))
         (codes "http://a/r") (codes "foo"))
         ≡ Some (codes "http://a/r#x", codes "foo", Plain, Key (codes "not") ∷ []) }
     ensures without_identifier { named_by_identifier
-        (world (at Draft202012 "http://a/x" (one "not" (one "$anchor" (text "foo"))) ∷ []))
+        (alone Draft202012 "http://a/x" (one "not" (one "$anchor" (text "foo"))))
         (codes "http://a/x") (codes "foo")
         ≡ None }
     ensures by_a_refused_identifier { named_by_identifier
-        (world (at Draft202012 "http://a/x" (one "$id" (text "a b")) ∷ [])) (codes "http://a/x")
-        (codes "foo")
+        (alone Draft202012 "http://a/x" (one "$id" (text "a b"))) (codes "http://a/x") (codes "foo")
         ≡ None }
     ensures without_a_place { named_by_identifier [] (codes "http://a/x") (codes "foo") ≡ None }
-    ensures under_the_uri { anchor
-        (world (at Draft202012 "http://a/r" (one "$anchor" (text "n")) ∷ []))
+    ensures under_the_uri { anchor (alone Draft202012 "http://a/r" (one "$anchor" (text "n")))
         (codes "http://a/r") (codes "n")
-        ≡ Ok (record {
-          uri = codes "http://a/r";
-          name = codes "n";
-          kind = Plain;
-          place = root (at Draft202012 "http://a/r" (one "$anchor" (text "n")));
-        }) }
-    ensures under_the_base { option_map shown_name
-        (result_ok
-        (anchor
-        (world
-        (at Draft202012 "http://a/x"
-        (two "$id" (text "y") "not" (one "$anchor" (text "foo")))
-        ∷ []))
+        ≡ Ok (name_at "http://a/r" "n" Plain Draft202012 (one "$anchor" (text "n"))) }
+    ensures under_the_base { option_map shown_name (result_ok (anchor
+        (alone Draft202012 "http://a/x" (two "$id" (text "y") "not" (one "$anchor" (text "foo"))))
         (codes "http://a/x") (codes "foo")))
         ≡ Some (codes "http://a/y", codes "foo", Plain, Key (codes "not") ∷ []) }
-    ensures under_the_uri_first { option_map shown_name
-        (result_ok
-        (anchor
-        (world
-        (at Draft202012 "http://a/x" (two "$anchor" (text "foo") "$id" (text "y"))
-        ∷ []))
+    ensures under_the_uri_first { option_map shown_name (result_ok (anchor
+        (alone Draft202012 "http://a/x" (two "$anchor" (text "foo") "$id" (text "y")))
         (codes "http://a/x") (codes "foo")))
         ≡ Some (codes "http://a/x", codes "foo", Plain, []) }
     ensures under_neither { anchor
-        (world
-        (at Draft202012 "http://a/x"
-        (two "$id" (text "y") "not" (one "$anchor" (text "foo")))
-        ∷ []))
+        (alone Draft202012 "http://a/x" (two "$id" (text "y") "not" (one "$anchor" (text "foo"))))
         (codes "http://a/x") (codes "n/m")
         ≡ Err (InvalidAnchor (codes "n/m")) }
     ensures of_no_document { anchor [] (codes "http://a/x") (codes "foo")

@@ -1,4 +1,6 @@
 //! What preparing resolves, and so keeps.
+#![tactic(auto, unfolding(crate::proofs::OnLiterals::world_on_literals))]
+
 ghost use Rattle.std.specs.Prelude.{◌≡◌, [], ◌∷◌, codes, Some, None};
 ghost use Rattle.ref_draft.specs.declared.draft.Draft.TheVariants.{Draft7, Draft202012};
 ghost use Rattle.ref_definitions.specs.Places.{root};

@@ -1,4 +1,6 @@
 //! Documents, and those that are pending in a builder.
+#![tactic(auto, unfolding(crate::proofs::OnLiterals::world_on_literals))]
+
 ghost use Rattle.std.specs.Prelude.{◌≡◌, [], ◌∷◌, codes, Some, None, Ok, Err};
 ghost use Rattle.ref_draft.specs.declared.draft.Draft.TheVariants.{Draft4, Draft6, Draft7, Draft202012, Unknown};
 ghost use Rattle.ref_uri.specs.Targets.{parse_refusal};

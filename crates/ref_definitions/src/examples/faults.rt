@@ -1,4 +1,6 @@
 //! The texts of faults.
+#![tactic(auto, unfolding(crate::proofs::OnLiterals::world_on_literals))]
+
 ghost use Rattle.std.specs.Prelude.{◌≡◌, codes};
 ghost use Rattle.ref_uri.specs.Targets.{parse_refusal, resolve_refusal};
 ghost use Rattle.ref_definitions.specs.Fault.{fault_text, Unretrievable, PointerToNowhere, InvalidArrayIndex, InvalidPercentEncoding, NoSuchAnchor, InvalidAnchor, InvalidUri, UnknownSpecification, CircularMetaschema, RetrievalLimit, not_retrieved};

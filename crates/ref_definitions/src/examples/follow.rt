@@ -1,22 +1,24 @@
 //! Following steps.
+#![tactic(auto, unfolding(crate::proofs::OnLiterals::world_on_literals))]
+
 ghost use Rattle.std.specs.Prelude.{◌≡◌, [], ◌∷◌, codes, Some, None, Ok, Err};
 ghost use Rattle.ref_draft.specs.declared.draft.Draft.TheVariants.{Draft7, Draft201909, Draft202012, Unknown};
 ghost use Rattle.ref_uri.specs.Targets.{parse_refusal};
 ghost use Rattle.ref_definitions.specs.Fault.{InvalidUri, PointerToNowhere, not_retrieved};
 ghost use Rattle.ref_definitions.specs.Follow.{Recursive, Enter, after_lookup, after_step, numbered_fault, followed_from, followed_steps};
-ghost use Rattle.ref_definitions.specs.Rows.{at, world, yes, empty, text, one, two, resolver, found_value, followed_to, steps, look, answer, refusal};
+ghost use Rattle.ref_definitions.specs.Rows.{at, world, yes, empty, text, one, resolver, found_value, followed_to, steps, look, refusal, alone, look_in, found_at, typed_property};
 
 /// One step.
 pub fn single_steps()
-    ensures lookup { after_step (world (at Draft7 "http://a/r" yes ∷ []))
+    ensures lookup { after_step (alone Draft7 "http://a/r" yes)
         (followed_to None (resolver "http://a/r" [])) (look "")
         ≡ Ok (followed_to (Some (yes, Draft7)) (resolver "http://a/r" (codes "http://a/r" ∷ []))) }
     ensures faulty_lookup { after_step [] (followed_to None (resolver "http://a/r" [])) (look "")
         ≡ Err (not_retrieved (codes "http://a/r")) }
-    ensures recursive { after_step (world (at Draft201909 "http://a/r" yes ∷ []))
+    ensures recursive { after_step (alone Draft201909 "http://a/r" yes)
         (followed_to None (resolver "http://a/r" [])) Recursive
-        ≡ Ok (followed_to (Some (yes, Draft201909))
-        (resolver "http://a/r" (codes "http://a/r" ∷ []))) }
+        ≡ Ok
+        (followed_to (Some (yes, Draft201909)) (resolver "http://a/r" (codes "http://a/r" ∷ []))) }
     ensures entered { after_step []
         (followed_to (Some (yes, Draft7)) (resolver "http://a/r" (codes "http://a/q" ∷ [])))
         (Enter Draft202012 (one "$id" (text "k/")))
@@ -38,34 +40,26 @@ pub fn single_steps()
 pub fn steps_in_turn()
     ensures no_steps { followed_steps [] (codes "http://a/r") []
         ≡ Ok (followed_to None (resolver "http://a/r" [])) }
-    ensures member { steps
-        (world
-        (at Draft202012 "http://a/r"
-        (one "properties" (one "n" (one "type" (text "string"))))
-        ∷ [])) "http://a/r"
-        (look "#/properties/n" ∷ [])
-        ≡ answer (Some (one "type" (text "string"))) (codes "http://a/r")
-        (codes "http://a/r" ∷ []) }
-    ensures another_document { steps
-        (world
-        (at Draft202012 "http://a/p/r" empty
-        ∷ at Draft202012 "http://a/s" (one "k" (one "l" yes)) ∷ [])) "http://a/p/r"
+    ensures member { look_in Draft202012 "http://a/r" typed_property "#/properties/n"
+        ≡ found_at (one "type" (text "string")) "http://a/r" "http://a/r" }
+    ensures another_document { steps (world (at Draft202012 "http://a/p/r" empty ∷ at Draft202012
+        "http://a/s" (one "k" (one "l" yes)) ∷ [])) "http://a/p/r"
         (look "../s#/k" ∷ look "#/k/l" ∷ [])
-        ≡ answer (Some yes) (codes "http://a/s") (codes "http://a/p/r" ∷ []) }
-    ensures first_fault { steps (world (at Draft202012 "http://a/r" empty ∷ [])) "http://a/r"
+        ≡ found_at yes "http://a/s" "http://a/p/r" }
+    ensures first_fault { steps (alone Draft202012 "http://a/r" empty) "http://a/r"
         (look "" ∷ look "#/q" ∷ look "#/p" ∷ [])
         ≡ refusal 1 (PointerToNowhere (codes "/q")) }
-    ensures entered_last { steps (world (at Draft202012 "http://a/r" yes ∷ [])) "http://a/r"
+    ensures entered_last { steps (alone Draft202012 "http://a/r" yes) "http://a/r"
         (look "" ∷ Enter Draft202012 (one "$id" (text "k/")) ∷ [])
-        ≡ answer (Some yes) (codes "http://a/k/") (codes "http://a/r" ∷ []) }
+        ≡ found_at yes "http://a/k/" "http://a/r" }
     ensures counted_on { followed_from [] 7 (followed_to None (resolver "http://a/r" []))
         (look "" ∷ [])
         ≡ Err (7, not_retrieved (codes "http://a/r")) }
     ensures after_no_more_steps { followed_from [] 7
         (followed_to (Some (yes, Draft7)) (resolver "a:b" [])) []
         ≡ Ok (followed_to (Some (yes, Draft7)) (resolver "a:b" [])) }
-    ensures from_a_base { followed_steps (world (at Draft7 "http://a/r" yes ∷ []))
-        (codes "http://a/r") (look "" ∷ [])
+    ensures from_a_base { followed_steps (alone Draft7 "http://a/r" yes) (codes "http://a/r")
+        (look "" ∷ [])
         ≡ Ok (followed_to (Some (yes, Draft7)) (resolver "http://a/r" (codes "http://a/r" ∷ []))) }
     ensures with_its_draft { followed_steps
         (world

@@ -1,13 +1,14 @@
 //! What a fragment means in a resource, and where the next lookup starts from.
-ghost use Rattle.std.specs.Prelude.{◌≡◌, true, false, [], ◌∷◌, codes, Some, None, Ok, Err};
-ghost use Rattle.ref_parts.specs.Path.{Key};
+#![tactic(auto, unfolding(crate::proofs::OnLiterals::world_on_literals))]
+
+ghost use Rattle.std.specs.Prelude.{◌≡◌, true, false, [], ◌∷◌, codes, Ok, Err};
 ghost use Rattle.ref_draft.specs.declared.draft.Draft.TheVariants.{Draft7, Draft201909, Draft202012};
 ghost use Rattle.ref_draft.specs.Anchors.{Plain, Dynamic};
 ghost use Rattle.ref_uri.specs.Targets.{parse_refusal, resolve_refusal};
 ghost use Rattle.ref_definitions.specs.Fault.{InvalidAnchor, InvalidUri, NoSuchAnchor, PointerToNowhere};
 ghost use Rattle.ref_definitions.specs.Places.{root};
 ghost use Rattle.ref_definitions.specs.Lookup.{moved_resolver, in_subresource, in_scope, fault_of, entry_of, is_dynamic, unless_fault, outermost, entry_found, by_scope, dynamically, named_found, pointer_found, at_fragment, resolver_text};
-ghost use Rattle.ref_definitions.specs.Rows.{at, world, yes, empty, text, one, two, along, resolver, found_value, name_at};
+ghost use Rattle.ref_definitions.specs.Rows.{at, world, yes, empty, text, one, two, along, resolver, found_value, name_at, alone, value_at};
 
 /// The base and the scope after a lookup.
 pub fn resolvers_after_lookups()
@@ -57,14 +58,12 @@ pub fn fragments_of_resources()
     ensures pointer_to_nowhere { at_fragment [] (resolver "http://a/r" [])
         (root (at Draft202012 "http://a/r" empty)) (codes "/nope")
         ≡ Err (PointerToNowhere (codes "/nope")) }
-    ensures anchor { at_fragment
-        (world (at Draft202012 "http://a/r" (one "$anchor" (text "n")) ∷ []))
-        (resolver "http://a/r" [])
-        (root (at Draft202012 "http://a/r" (one "$anchor" (text "n")))) (codes "n")
+    ensures anchor { at_fragment (alone Draft202012 "http://a/r" (one "$anchor" (text "n")))
+        (resolver "http://a/r" []) (root (at Draft202012 "http://a/r" (one "$anchor" (text "n"))))
+        (codes "n")
         ≡ Ok (found_value (one "$anchor" (text "n")) Draft202012 (resolver "http://a/r" [])) }
     ensures undecoded_anchor { at_fragment
-        (world (at Draft202012 "http://a/r" (one "$anchor" (text "n")) ∷ []))
-        (resolver "http://a/r" [])
+        (alone Draft202012 "http://a/r" (one "$anchor" (text "n"))) (resolver "http://a/r" [])
         (root (at Draft202012 "http://a/r" (one "$anchor" (text "n")))) (codes "%6E")
         ≡ Err (NoSuchAnchor (codes "%6E")) }
     ensures by_a_pointer { pointer_found (resolver "http://a/r" (codes "http://a/q" ∷ [])) Draft7
@@ -75,7 +74,7 @@ pub fn fragments_of_resources()
         ≡ Ok (found_value (one "$id" (text "y")) Draft201909 (resolver "http://a/r" [])) }
     ensures plain_name { named_found [] (resolver "http://a/r" (codes "http://a/q" ∷ []))
         (name_at "http://a/x" "n" Plain Draft7 yes) Plain
-        ≡ Ok (found_value yes Draft7 (resolver "http://a/r" (codes "http://a/q" ∷ []))) }
+        ≡ value_at yes Draft7 "http://a/r" "http://a/q" }
     ensures dynamic_name { named_found [] (resolver "http://a/r" [])
         (name_at "http://a/x" "n" Dynamic Draft202012 (one "$id" (text "y"))) Dynamic
         ≡ Ok (found_value (one "$id" (text "y")) Draft202012 (resolver "http://a/y" [])) }
@@ -107,18 +106,17 @@ pub fn dynamic_anchors()
     ensures without_fault { unless_fault [] (Ok (found_value yes Draft202012 (resolver "a:1" [])))
         ≡ Ok (found_value yes Draft202012 (resolver "a:1" [])) }
     ensures in_the_scope { in_scope
-        (world (at Draft202012 "http://a/r" (one "$dynamicAnchor" (text "n")) ∷ [])) (codes "n")
+        (alone Draft202012 "http://a/r" (one "$dynamicAnchor" (text "n"))) (codes "n")
         (codes "http://a/q" ∷ codes "http://a/r" ∷ [])
         ≡ (codes "http://a/q", Err (NoSuchAnchor (codes "n")))
         ∷ (
           codes "http://a/r",
           Ok
               (name_at "http://a/r" "n" Dynamic Draft202012 (one "$dynamicAnchor" (text "n"))),
-        )
-        ∷ [] }
+        ) ∷ [] }
     ensures fault_in_the_scope { in_scope
-        (world (at Draft202012 "http://a/t" (one "$dynamicAnchor" (text "n/m")) ∷ []))
-        (codes "n/m") (codes "http://a/r" ∷ [])
+        (alone Draft202012 "http://a/t" (one "$dynamicAnchor" (text "n/m"))) (codes "n/m")
+        (codes "http://a/r" ∷ [])
         ≡ (codes "http://a/r", Err (InvalidAnchor (codes "n/m"))) ∷ [] }
     ensures fault_before_entries { by_scope (resolver "a:1" [])
         (name_at "a:1" "n" Dynamic Draft202012 yes)
@@ -132,13 +130,9 @@ pub fn dynamic_anchors()
         ∷ (codes "a:4", Ok (name_at "a:4" "n" Plain Draft202012 yes)) ∷ [])
         ≡ Ok (found_value empty Draft202012 (resolver "a:2" [])) }
     ensures identifier_where_it_was_found { entry_found
-        (resolver "http://a/r" (codes "http://a/q" ∷ [])) (
-          codes "http://b/x",
-          name_at "http://b/x" "n" Dynamic Draft202012
-              (one "$id" (text "y")),
-        )
-        ≡ Ok (found_value (one "$id" (text "y")) Draft202012
-        (resolver "http://b/y" (codes "http://a/q" ∷ []))) }
+        (resolver "http://a/r" (codes "http://a/q" ∷ []))
+        (codes "http://b/x", name_at "http://b/x" "n" Dynamic Draft202012 (one "$id" (text "y")))
+        ≡ value_at (one "$id" (text "y")) Draft202012 "http://b/y" "http://a/q" }
     ensures refused_where_it_was_found { entry_found (resolver "http://a/r" []) (
       codes "http://b/x",
       name_at "http://b/x" "n" Dynamic Draft202012
@@ -156,9 +150,8 @@ pub fn dynamic_anchors()
         (two "$dynamicAnchor" (text "n") "title" (text "t")))
         ≡ Ok (found_value (one "$dynamicAnchor" (text "n")) Draft202012
         (resolver "http://a/r" (codes "http://a/t" ∷ codes "http://a/r" ∷ []))) }
-    ensures found_first { dynamically
-        (world (at Draft202012 "http://a/r" (one "$anchor" (text "n")) ∷ []))
+    ensures found_first { dynamically (alone Draft202012 "http://a/r" (one "$anchor" (text "n")))
         (resolver "http://a/t" (codes "http://a/r" ∷ []))
         (name_at "http://a/t" "n" Dynamic Draft202012 yes)
-        ≡ Ok (found_value yes Draft202012 (resolver "http://a/t" (codes "http://a/r" ∷ []))) }
+        ≡ value_at yes Draft202012 "http://a/t" "http://a/r" }
 {}

@@ -8,7 +8,7 @@ ghost use Rattle.ref_definitions.specs.Preparing.{IsOutcome, IsRun, refusal_faul
 ghost use Rattle.ref_definitions.specs.Retrievers.{default_retriever, map_retriever};
 ghost use Rattle.ref_definitions.specs.Closure.{given_by, IsRetrieved, AreRetrieved, IsClosure, IsReady, IsUsedUp, DocumentsAlone, FirstFaultAlone};
 ghost use Rattle.ref_definitions.specs.Appending.{HasMeaning};
-ghost use Rattle.ref_definitions.specs.Rows.{world, at, yes, empty, text, one, two, refers_to_b, b_refers_to_c, c_is_true, given_documents, given_with, given_alone, has_b, has_b_and_c};
+ghost use Rattle.ref_definitions.specs.Rows.{world, at, yes, empty, text, one, two, refers_to_b, b_refers_to_c, c_is_true, given_documents, given_with, given_alone, refused_within, has_b, has_b_and_c, alone};
 
 /// What the library's retrievers may return and refuse.
 pub fn retrievers()
@@ -83,10 +83,8 @@ pub fn ready_layers()
           retriever = default_retriever;
           limit = 10000;
           draft = Draft202012;
-          parents = world
-              (at Draft202012 "http://json-schema.org/draft-07/schema"
-              (one "title" (text "m"))
-              ∷ []);
+          parents = alone Draft202012 "http://json-schema.org/draft-07/schema"
+              (one "title" (text "m"));
           documents = at Draft202012 "http://a/r"
               (one "$ref" (text "http://json-schema.org/draft-07/schema#"))
               ∷ [];
@@ -110,15 +108,11 @@ pub fn ready_layers()
 pub fn faulty_runs()
     ensures identifier { IsOutcome
         (given_alone
-        (at Draft202012 "http://a/r"
-        (one "properties" (one "x" (two "$id" (text "a b") "$ref" (text "c d"))))
-        ∷ []))
+        (at Draft202012 "http://a/r" refused_within ∷ []))
         (Err (InvalidUri (parse_refusal (codes "a b")))) }
     ensures hidden_identifier { IsOutcome
         (given_alone
-        (at Draft7 "http://a/r"
-        (one "properties" (one "x" (two "$id" (text "a b") "$ref" (text "c d"))))
-        ∷ []))
+        (at Draft7 "http://a/r" refused_within ∷ []))
         (Err (InvalidUri (parse_refusal (codes "c d")))) }
     ensures of_a_retrieved_document { IsOutcome
         (given_documents (map_retriever ((codes "http://a/b", one "$ref" (text "c d")) ∷ [])) 1

@@ -1,4 +1,6 @@
 //! The places of a document, by levels, with their bases.
+#![tactic(auto, unfolding(crate::proofs::OnLiterals::world_on_literals))]
+
 ghost use Rattle.std.specs.Prelude.{◌≡◌, [], ◌∷◌, codes, Some, None, Ok, Err};
 ghost use Rattle.ref_parts.specs.Path.{Key, Index};
 ghost use Rattle.ref_draft.specs.declared.draft.Draft.TheVariants.{Draft4, Draft7, Draft201909, Draft202012};
@@ -7,17 +9,11 @@ ghost use Rattle.ref_uri.specs.Targets.{parse_refusal};
 ghost use Rattle.ref_definitions.specs.Places.{identifier_of, base_within, root, child_place, children_with, children_of, levels_below, places};
 ghost use Rattle.ref_definitions.specs.Listing.{own_places};
 ghost use Rattle.ref_definitions.specs.Descent.{IsChildOfOne, AreChildren};
-ghost use Rattle.ref_definitions.specs.Rows.{at, yes, empty, text, one, two, three, paths_and_bases};
+ghost use Rattle.ref_definitions.specs.Rows.{at, yes, text, one, two, three, paths_and_bases, place_below, identified_within};
 
 /// All places.
 pub fn places_by_levels()
-    ensures nested { paths_and_bases
-        (places
-        (at Draft201909 "http://a/r"
-        (one "$defs"
-        (one "a"
-        (two "$id" (text "http://b/k/") "dependencies"
-        (one "d" (one "$id" (text "m"))))))))
+    ensures nested { paths_and_bases (places (at Draft201909 "http://a/r" identified_within))
         ≡ ([], Ok (codes "http://a/r"))
         ∷ (Key (codes "$defs") ∷ Key (codes "a") ∷ [], Ok (codes "http://b/k/"))
         ∷ (
@@ -90,25 +86,10 @@ pub fn bases_of_places()
 /// How places follow from each other.
 pub fn places_behind_the_root()
     ensures a_child { IsChildOfOne (root (at Draft202012 "http://a/r" (one "not" yes)) ∷ [])
-        (record {
-          path = Key (codes "not")
-              ∷ [];
-          value = yes;
-          draft = Draft202012;
-          outer = codes "http://a/r";
-          base = Ok (codes "http://a/r");
-        }) }
+        (place_below "not" yes "http://a/r" "http://a/r") }
     ensures no_child { ¬ (IsChildOfOne [] (root (at Draft202012 "http://a/r" yes))) }
     ensures behind_the_root { AreChildren (root (at Draft202012 "http://a/r" (one "not" yes)) ∷ [])
-        (record {
-          path = Key (codes "not")
-              ∷ [];
-          value = yes;
-          draft = Draft202012;
-          outer = codes "http://a/r";
-          base = Ok (codes "http://a/r");
-        }
-        ∷ []) }
+        (place_below "not" yes "http://a/r" "http://a/r" ∷ []) }
     ensures nothing_behind { AreChildren [] [] }
 {}
 

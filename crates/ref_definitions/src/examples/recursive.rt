@@ -1,11 +1,13 @@
 //! Recursive references (2019-09 Core, 8.2.4.2).
+#![tactic(auto, unfolding(crate::proofs::OnLiterals::world_on_literals))]
+
 ghost use Rattle.std.specs.Prelude.{◌≡◌, true, false, [], ◌∷◌, codes, Some, Ok, Err};
 ghost use Rattle.serde_json.specs.Data.{boolean};
 ghost use Rattle.ref_draft.specs.declared.draft.Draft.TheVariants.{Draft201909};
 ghost use Rattle.ref_definitions.specs.Fault.{NoSuchAnchor, not_retrieved};
 ghost use Rattle.ref_definitions.specs.Recursive.{is_marked, answers_marked, looked_up, marked_beginning, behind_beginning, unless_fault_behind, outermost_marked, lookup_recursive};
 ghost use Rattle.ref_definitions.specs.Follow.{Recursive};
-ghost use Rattle.ref_definitions.specs.Rows.{at, world, yes, text, empty, one, two, three, resolver, found_value, steps, look, answer, refusal, value_of_answer};
+ghost use Rattle.ref_definitions.specs.Rows.{at, world, yes, text, empty, one, two, resolver, found_value, steps, look, answer, refusal, value_of_answer, alone, found_at, value_at, recursive_definitions, through_foo_and_bar};
 
 /// Which values are marked.
 pub fn marks()
@@ -76,14 +78,12 @@ pub fn beginnings_of_marked_values()
 
 /// Where a recursive reference leads.
 pub fn recursive_lookups()
-    ensures unmarked { lookup_recursive (world (at Draft201909 "http://a/r" yes ∷ []))
+    ensures unmarked { lookup_recursive (alone Draft201909 "http://a/r" yes)
         (resolver "http://a/r" [])
-        ≡ Ok (found_value yes Draft201909 (resolver "http://a/r" (codes "http://a/r" ∷ []))) }
+        ≡ value_at yes Draft201909 "http://a/r" "http://a/r" }
     ensures marked_alone { lookup_recursive
-        (world (at Draft201909 "http://a/r" (one "$recursiveAnchor" yes) ∷ []))
-        (resolver "http://a/r" [])
-        ≡ Ok (found_value (one "$recursiveAnchor" yes) Draft201909
-        (resolver "http://a/r" (codes "http://a/r" ∷ []))) }
+        (alone Draft201909 "http://a/r" (one "$recursiveAnchor" yes)) (resolver "http://a/r" [])
+        ≡ value_at (one "$recursiveAnchor" yes) Draft201909 "http://a/r" "http://a/r" }
     ensures no_place { lookup_recursive [] (resolver "http://a/r" [])
         ≡ Err (not_retrieved (codes "http://a/r")) }
     ensures recursive { steps
@@ -95,73 +95,20 @@ pub fn recursive_lookups()
         (look "" ∷ look "y" ∷ look "z" ∷ Recursive ∷ [])
         ≡ answer (Some (two "$recursiveAnchor" yes "title" (text "z"))) (codes "http://a/z")
         (codes "http://a/y" ∷ codes "http://a/x" ∷ codes "http://a/x" ∷ []) }
-    ensures recursive_nested { value_of_answer
-        (steps
-        (world
-        (at Draft201909 "http://example.com" (one "$recursiveAnchor" (boolean false))
-        ∷ at Draft201909 "http://example.com/foo/"
-        (three "$defs"
-        (one "foo"
-        (three "$defs"
-        (two "bar" yes "baz"
-        (two "$anchor"
-        (text "fooAnchor") "$recursiveAnchor" yes)) "$id"
-        (text "foo") "$recursiveAnchor" yes)) "$id"
-        (text "http://example.com") "$recursiveAnchor" yes)
-        ∷ at Draft201909 "http://example.com/foo/bar" (one "$recursiveAnchor" yes)
-        ∷ [])) "http://example.com"
-        (look "" ∷ look "foo/" ∷ look "bar" ∷ Recursive ∷ []))
-        ≡ Some
-        (three "$defs"
-        (one "foo"
-        (three "$defs"
-        (two "bar" yes "baz"
-        (two "$anchor" (text "fooAnchor") "$recursiveAnchor" yes)) "$id"
-        (text "foo") "$recursiveAnchor" yes)) "$id"
-        (text "http://example.com") "$recursiveAnchor" yes) }
+    ensures recursive_nested { value_of_answer (through_foo_and_bar Draft201909
+        (one "$recursiveAnchor" (boolean false)) recursive_definitions (one "$recursiveAnchor" yes)
+        Recursive)
+        ≡ Some recursive_definitions }
     ensures recursive_past_no_object { value_of_answer
-        (steps
-        (world
-        (at Draft201909 "http://example.com"
-        (three "$defs"
-        (one "foo"
-        (three "$defs"
-        (two "bar" yes "baz"
-        (two "$anchor"
-        (text "fooAnchor") "$recursiveAnchor" yes)) "$id"
-        (text "foo") "$recursiveAnchor" yes)) "$id"
-        (text "http://example.com") "$recursiveAnchor" yes)
-        ∷ at Draft201909 "http://example.com/foo/" yes
-        ∷ at Draft201909 "http://example.com/foo/bar"
-        (three "$defs"
-        (one "foo"
-        (three "$defs"
-        (two "bar" yes "baz"
-        (two "$anchor"
-        (text "fooAnchor") "$recursiveAnchor" yes)) "$id"
-        (text "foo") "$recursiveAnchor" yes)) "$id"
-        (text "http://example.com") "$recursiveAnchor" yes)
-        ∷ [])) "http://example.com"
-        (look "" ∷ look "foo/" ∷ look "bar" ∷ Recursive ∷ []))
-        ≡ Some
-        (three "$defs"
-        (one "foo"
-        (three "$defs"
-        (two "bar" yes "baz"
-        (two "$anchor" (text "fooAnchor") "$recursiveAnchor" yes)) "$id"
-        (text "foo") "$recursiveAnchor" yes)) "$id"
-        (text "http://example.com") "$recursiveAnchor" yes) }
-    ensures recursive_alone { steps
-        (world (at Draft201909 "http://example.com" yes ∷ [])) "http://example.com"
-        (Recursive ∷ [])
-        ≡ answer (Some yes) (codes "http://example.com") (codes "http://example.com" ∷ []) }
+        (through_foo_and_bar Draft201909 recursive_definitions yes recursive_definitions Recursive)
+        ≡ Some recursive_definitions }
+    ensures recursive_alone { steps (alone Draft201909 "http://example.com" yes)
+        "http://example.com" (Recursive ∷ [])
+        ≡ found_at yes "http://example.com" "http://example.com" }
     ensures marked_document { steps
-        (world
-        (at Draft201909 "http://example.com" (one "$recursiveAnchor" yes)
-        ∷ [])) "http://example.com"
+        (alone Draft201909 "http://example.com" (one "$recursiveAnchor" yes)) "http://example.com"
         (look "" ∷ Recursive ∷ [])
-        ≡ answer (Some (one "$recursiveAnchor" yes)) (codes "http://example.com")
-        (codes "http://example.com" ∷ []) }
+        ≡ found_at (one "$recursiveAnchor" yes) "http://example.com" "http://example.com" }
     ensures fault { steps [] "http://a/r" (Recursive ∷ [])
         ≡ refusal 0 (not_retrieved (codes "http://a/r")) }
 {}

@@ -1,10 +1,12 @@
 //! Which URIs identify which places.
+#![tactic(auto, unfolding(crate::proofs::OnLiterals::world_on_literals))]
+
 ghost use Rattle.std.specs.Prelude.{◌≡◌, [], ◌∷◌, codes, Some, None, option_map};
 ghost use Rattle.ref_parts.specs.Path.{Key};
 ghost use Rattle.ref_draft.specs.declared.draft.Draft.TheVariants.{Draft7, Draft202012};
 ghost use Rattle.ref_definitions.specs.Places.{root};
 ghost use Rattle.ref_definitions.specs.Resources.{own_uri, resource_of, resources_in, resources, last_under, meant_place};
-ghost use Rattle.ref_definitions.specs.Rows.{world, at, yes, empty, text, one, two, uris_and_paths, path_of};
+ghost use Rattle.ref_definitions.specs.Rows.{world, at, yes, empty, text, one, two, uris_and_paths, path_of, alone, identified_twice};
 
 /// The places under URIs.
 pub fn uris_of_resources()
@@ -51,25 +53,16 @@ pub fn last_entries()
 /// What a URI means.
 pub fn meanings_of_uris()
     ensures last_place { path_of
-        (meant_place
-        (world
-        (at Draft202012 "http://a/r"
-        (one "$defs"
-        (two "a" (two "$id" (text "http://a/k") "title" (text "1")) "b"
-        (two "$id" (text "http://a/k") "title" (text "2"))))
-        ∷ []))
-        (codes "http://a/k"))
+        (meant_place (alone Draft202012 "http://a/r" identified_twice) (codes "http://a/k"))
         ≡ Some (Key (codes "$defs") ∷ Key (codes "b") ∷ []) }
     ensures own_uri { path_of
-        (meant_place (world (at Draft202012 "http://a/r" (one "$id" (text "#x")) ∷ []))
-        (codes "http://a/r"))
+        (meant_place (alone Draft202012 "http://a/r" (one "$id" (text "#x"))) (codes "http://a/r"))
         ≡ Some [] }
-    ensures own_identifier { path_of
-        (meant_place (world (at Draft202012 "http://a/r" (one "$id" (text "#x")) ∷ []))
-        (codes "http://a/r#x"))
+    ensures own_identifier { path_of (meant_place
+        (alone Draft202012 "http://a/r" (one "$id" (text "#x"))) (codes "http://a/r#x"))
         ≡ Some [] }
     ensures exactly { path_of
-        (meant_place (world (at Draft202012 "http://a/d" yes ∷ [])) (codes "http://a/d#"))
+        (meant_place (alone Draft202012 "http://a/d" yes) (codes "http://a/d#"))
         ≡ None }
     ensures later_document { option_map (λ p. p.value)
         (meant_place
@@ -80,16 +73,12 @@ pub fn meanings_of_uris()
         ∷ []))
         (codes "http://a/k"))
         ≡ Some (two "$id" (text "http://a/k") "title" (text "late")) }
-    ensures nearest_layer { option_map (λ p. p.value)
-        (meant_place
-        ((at Draft202012 "http://a/m" empty ∷ [])
-        ∷ world (at Draft202012 "http://a/m" yes ∷ []))
+    ensures nearest_layer { option_map (λ p. p.value) (meant_place
+        ((at Draft202012 "http://a/m" empty ∷ []) ∷ alone Draft202012 "http://a/m" yes)
         (codes "http://a/m"))
         ≡ Some empty }
-    ensures parent { option_map (λ p. p.value)
-        (meant_place
-        ((at Draft202012 "http://a/n" empty ∷ [])
-        ∷ world (at Draft202012 "http://a/m" yes ∷ []))
+    ensures parent { option_map (λ p. p.value) (meant_place
+        ((at Draft202012 "http://a/n" empty ∷ []) ∷ alone Draft202012 "http://a/m" yes)
         (codes "http://a/m"))
         ≡ Some yes }
 {}

@@ -1,9 +1,11 @@
 //! What documents want, and what is wrong with them.
+#![tactic(auto, unfolding(crate::proofs::OnLiterals::world_on_literals))]
+
 ghost use Rattle.std.specs.Prelude.{◌≡◌, true, false, [], ◌∷◌, codes, Some, None, Ok, Err};
-ghost use Rattle.ref_draft.specs.declared.draft.Draft.TheVariants.{Draft4, Draft7, Draft202012, Unknown};
+ghost use Rattle.ref_draft.specs.declared.draft.Draft.TheVariants.{Draft7, Draft202012};
 ghost use Rattle.ref_uri.specs.Targets.{parse_refusal};
 ghost use Rattle.ref_definitions.specs.Wants.{Reference, MetaSchema, schema_uri, reference_at, schema_at, wants_of_text, refusals_of, wants_at, faults_at, wants, faults, is_open, open_wants};
-ghost use Rattle.ref_definitions.specs.Rows.{world, at, yes, empty, text, one, two, refers_to_b, b_refers_to_c};
+ghost use Rattle.ref_definitions.specs.Rows.{world, at, yes, text, one, two, refers_to_b, b_refers_to_c, alone};
 
 /// Which URIs are wanted.
 pub fn wants_of_layers()
@@ -33,11 +35,11 @@ pub fn open_wants_of_layers()
     ensures reference { open_wants (world (refers_to_b ∷ [])) (refers_to_b ∷ [])
         ≡ record { cause = Reference; uri = codes "http://a/b" } ∷ [] }
     ensures meta_schema { open_wants
-        (world (at Draft202012 "http://a/r" (one "$schema" (text "invalid")) ∷ []))
+        (alone Draft202012 "http://a/r" (one "$schema" (text "invalid")))
         (at Draft202012 "http://a/r" (one "$schema" (text "invalid")) ∷ [])
         ≡ record { cause = MetaSchema; uri = codes "json-schema:///invalid" } ∷ [] }
     ensures met_by_an_identifier { open_wants
-        (world (at Draft202012 "http://a/r" (two "$id" (text "#x") "$ref" (text "")) ∷ []))
+        (alone Draft202012 "http://a/r" (two "$id" (text "#x") "$ref" (text "")))
         (at Draft202012 "http://a/r" (two "$id" (text "#x") "$ref" (text "")) ∷ [])
         ≡ [] }
     ensures of_a_parent { open_wants ((refers_to_b ∷ []) ∷ world (b_refers_to_c ∷ []))
