@@ -1,4 +1,10 @@
 -- Where pointers lead in a bundle.
+--
+-- 1. The keys that are added have a scheme, so none of them is a keyword (`no_keywords`).
+-- 2. From the root of an embedded document a pointer to nothing that is added goes the way that it went (`embedded_pointed`).
+-- 3. From the root of the bundle, to definitions that were there: they have more members, and the same identifier (`in_definitions`).
+-- 4. To definitions that weren't there: the pointer led nowhere, and leads to exactly what is added (`in_new`).
+-- 5. Any other first token leads where it led; so for any pointer from the root (`root_pointed`).
 use Rattle.std.proofs.Common.{◌≡◌, ℕ, Bool, true, false, not, cond, ◌&&◌, ◌||◌, List, [], ◌∷◌, ◌++◌, map, codes, slice_get, Option, Some, None, is_some, option_map, option_and_then, Result, Ok, Err, ok_or, bytes_eq, ◌⊎◌, inl, inr, ⊎_elim, refl, sym, ap, subst, ◌∙◌, true≢false, arith}
 use Rattle.std.specs.List.{AllByRecursion, Contains}
 use Rattle.std.specs.Option.{option_map_or}

@@ -1,4 +1,11 @@
 -- The URIs that a look-up from a needed place asks for are safe: its target, its base, and those of its scope.
+--
+-- 1. A URI that a needed place has means a place of a needed document, so it is one of the entries that the bundle keeps: so are
+--    those of a scope (`safe_scope`).
+-- 2. The base of a needed place is its document's URI or an identifier's, and no other place of the document has it (`safe_base`).
+-- 3. The target of a reference means a place of an own document or of a parent; where it is a parent's, no own place has its URI.
+-- 4. A fragment of a reference that has no problem leads to nothing that is added, at the root of an embedded document or of the bundle.
+-- 5. Together: the target and the fragment mean what they meant (`safe_target`).
 use Rattle.std.proofs.Common.{◌≡◌, ℕ, zero, suc, Bool, true, false, not, cond, ◌&&◌, ◌==◌, eq-eqb, eqb-true, slice_get, List, [], ◌∷◌, ◌++◌, flat_map, map, filter, codes, Option, Some, None, option_map, option_and_then, Result, Ok, bytes_eq, ◌⊎◌, inl, inr, ⊎_elim, refl, sym, ap, subst, ◌∙◌, true≢false, arith}
 use Rattle.std.specs.List.{AllByRecursion, Contains, last_or}
 use Rattle.std.specs.Option.{option_map_or, option_to_list}

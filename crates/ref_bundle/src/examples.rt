@@ -1,4 +1,6 @@
 //! Rows of the definitions. Each function is empty: its contract states rows, and the check computes them.
+#![tactic(auto, unfolding(ref_definitions::proofs::OnLiterals::world_on_literals))]
+
 ghost use Rattle.std.specs.Prelude.{◌≡◌, [], ◌∷◌, codes, true, false, Some, None};
 ghost use Rattle.ref_parts.specs.Path.{Key, Index};
 ghost use Rattle.ref_draft.specs.declared.draft.Draft.TheVariants.{Draft4, Draft7, Draft201909, Draft202012, Unknown};

@@ -43,11 +43,13 @@ pub fn fragment_has_the_escaped_parts()
 {}
 
 /// The worked rows of the definitions of pointer text.
+#[tactic(auto, unfolding(crate::proofs::OnLiterals::ref_parts_on_literals))]
 pub fn pointer_rows()
     ensures rows { PointerRows }
 {}
 
 /// Text as a fragment holds it, and such text read back (RFC 3986, 2.1 and 3.5).
+#[tactic(auto, unfolding(crate::proofs::OnLiterals::ref_parts_on_literals))]
 pub fn encoded_rows()
     ensures letters_of_two_bytes { encoded_text (195 ∷ 169 ∷ 37 ∷ []) ≡ codes "%C3%A9%25" }
     ensures space { encoded_text (codes "~ ?") ≡ codes "~%20?" }
@@ -56,6 +58,7 @@ pub fn encoded_rows()
 {}
 
 /// The worked rows of the bytes, tokens and texts that pointer text is made of (RFC 6901, sections 3 and 4).
+#[tactic(auto, unfolding(crate::proofs::OnLiterals::ref_parts_on_literals))]
 pub fn token_rows()
     ensures rows { TokenRows }
 {}
@@ -87,6 +90,7 @@ pub fn entry_rows()
 {}
 
 /// The worked rows of escapes in keys, and of a whole pointer (RFC 6901, sections 3 and 4).
+#[tactic(auto, unfolding(crate::proofs::OnLiterals::ref_parts_on_literals))]
 pub fn escape_rows()
     ensures rows { EscapeRows }
 {}

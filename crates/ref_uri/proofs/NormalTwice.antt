@@ -247,7 +247,7 @@ pub removed_twice : (path : List ℕ) → remove_dot_segments (remove_dot_segmen
 removed_twice path = ap remove_dot_segments (removed_is path) ∙ stay_removed (parts_of path) (parts_plain path) (parts_dotless path) ∙ sym (removed_is path)
 
 -- the guard goes with the dot segments
-guard_goes : (text : List ℕ) → remove_dot_segments (47 ∷ 46 ∷ 47 ∷ text) ≡ remove_dot_segments (47 ∷ text)
+pub guard_goes : (text : List ℕ) → remove_dot_segments (47 ∷ 46 ∷ 47 ∷ text) ≡ remove_dot_segments (47 ∷ text)
 unfolding remove_dot_segments
 guard_goes text =
     let shape = segments-shape text in

@@ -1,4 +1,6 @@
 //! The standard's tables of references, computed from the definitions.
+#![tactic(auto, unfolding(crate::proofs::OnLiterals::ref_uri_on_literals))]
+
 ghost use Rattle.std.specs.Prelude.{◌≡◌, [], codes, Some, None, Ok, Err};
 ghost use Rattle.ref_uri.specs.Components.{components, scheme, path};
 ghost use Rattle.ref_uri.specs.DotSegments.{remove_dot_segments};

@@ -1,4 +1,6 @@
 //! Laws and rows of the definitions. Each function is empty: its contract states the law, and the check proves it.
+#![tactic(auto, unfolding(crate::proofs::OnLiterals::ref_uri_on_literals))]
+
 ghost use Rattle.std.specs.Prelude.{◌≡◌, ◌↔◌, Ok, List, [], ℕ, Some, None, true, false, codes};
 ghost use Rattle.ref_uri.specs.Components.{Components, components, text_of, are_components, scheme, authority, path, query, fragment};
 ghost use Rattle.ref_uri.specs.Normal.{normal_form};
