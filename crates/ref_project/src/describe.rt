@@ -8,6 +8,7 @@ use ref_error::Error;
 use ref_findings::{Bearer, Finding, Problem};
 use ref_messages::{Level, Message, Other, Suggester};
 use ref_parts::pointer_of;
+use ref_reading::document::Fault;
 use ref_uri::Uri;
 use std::alloc::{AllocError, Global};
 
@@ -79,8 +80,8 @@ impl<'d> Describer<'d> {
 
     /// The line and the column of the finding with a number.
     pub fn place(&self, number: usize, finding: &Finding<'_>) -> (usize, usize) {
-        if let Some(fault) = self.fault(finding) {
-            return fault;
+        if let Some(fault) = self.fault(finding.source) {
+            return (fault.line, fault.column);
         }
         match self.spots.own(number, finding) {
             Some(position) => (position.line(), position.column()),
@@ -88,11 +89,11 @@ impl<'d> Describer<'d> {
         }
     }
 
-    // Where the text of a file stops to be JSON.
-    fn fault(&self, finding: &Finding<'_>) -> Option<(usize, usize)> {
-        match &self.given.documents.get(finding.source)?.value {
+    // Why the text of a file is not JSON, and where.
+    fn fault(&self, source: usize) -> Option<&Fault> {
+        match &self.given.documents.get(source)?.value {
             Ok(_) => None,
-            Err(fault) => Some((fault.line, fault.column)),
+            Err(fault) => Some(fault),
         }
     }
 
@@ -125,11 +126,8 @@ impl<'d> Describer<'d> {
     }
 
     fn not_json(&self, source: usize) -> Result<String, AllocError> {
-        let why = match self.given.documents.get(source) {
-            Some(document) => match &document.value {
-                Ok(_) => "",
-                Err(fault) => fault.text.as_str(),
-            },
+        let why = match self.fault(source) {
+            Some(fault) => fault.text.as_str(),
             None => "",
         };
         String::from_str(self.alloc, why)

@@ -1,5 +1,6 @@
 //! Which file refers to which.
 use crate::given::{Given, faulty_of};
+use crate::pointer::unless_memory;
 use crate::world::{World, bearers, without_fragment, world_of};
 use ref_draft::Draft;
 use ref_findings::{Finding, Problem};
@@ -17,7 +18,7 @@ pub fn graph_of(rt: &HostRuntime, given: &Given) -> Result<Graph, Stop> {
     let list = given.findings(alloc)?;
     let faulty = faulty_of(alloc, given.len(), list.as_slice())?;
     let world = world_of(rt, given, faulty.as_slice())?;
-    Ok(drawn(alloc, given, &world, list.as_slice())?)
+    drawn(alloc, given, &world, list.as_slice())
 }
 
 fn drawn(
@@ -25,12 +26,12 @@ fn drawn(
     given: &Given,
     world: &World<'_>,
     list: &[Finding<'_>],
-) -> Result<Graph, AllocError> {
+) -> Result<Graph, Stop> {
     let mut drawing = Drawing::new(alloc, given, world)?;
     drawing.add_documents(given, world)?;
     drawing.add_references(world)?;
     drawing.add_broken(list)?;
-    drawing.finish()
+    Ok(drawing.finish()?)
 }
 
 // What is drawn so far.
@@ -90,7 +91,7 @@ impl Drawing {
         let base = place.base.borrow();
         match world.registry.resolve_uri(self.alloc, base, reference) {
             Ok(uri) => self.add(place.document, reference, &uri),
-            Err(_) => Ok(()),
+            Err(error) => unless_memory(error),
         }
     }
 

@@ -33,6 +33,16 @@ pub fn position(
     }
 }
 
+/// Lets an error go that says only that something isn't there. Out of memory is no such error.
+pub fn unless_memory(error: Error) -> Result<(), AllocError> {
+    let is_memory = error.is_memory();
+    drop(error);
+    if is_memory {
+        return Err(AllocError);
+    }
+    Ok(())
+}
+
 /// The path that a pointer means in a value (RFC 6901, 4). `PointerToNowhere` where it leads to none.
 pub fn path_to<'p>(
     alloc: Global,

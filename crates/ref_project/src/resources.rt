@@ -84,11 +84,12 @@ impl<'d> Resources<'d> {
 
     fn add_document(&mut self, uri: &Uri, root: &'d Value, draft: Draft) -> Result<(), AllocError> {
         let resource = self.add(uri.as_str(), root)?;
+        let outer = shared(self.alloc, uri.clone()?)?;
         let mut waiting = Vec::new(self.alloc);
         waiting.push(Step {
             value: root,
             draft: draft.detect(root),
-            outer: shared(self.alloc, uri.clone()?)?,
+            outer,
             resource,
             is_root: true,
         })?;
@@ -103,13 +104,24 @@ impl<'d> Resources<'d> {
 
     // Adds what a schema has, and what is to be visited below it.
     fn visit(&mut self, step: &Step<'d>, waiting: &mut Vec<Step<'d>>) -> Result<(), AllocError> {
-        let base = own_uri(self.alloc, step)?;
-        let resource = match &base {
-            Some(uri) => self.identified(step, uri.as_str())?,
-            None => step.resource,
-        };
+        match own_uri(self.alloc, step)? {
+            Some(uri) => {
+                let resource = self.identified(step, uri.as_str())?;
+                self.enter(step, &uri, resource, waiting)
+            }
+            None => self.enter(step, &step.outer, step.resource, waiting),
+        }
+    }
+
+    // Adds the names of a schema, and the schemas below it, with its base URI and the number of its resource.
+    fn enter(
+        &mut self,
+        step: &Step<'d>,
+        base: &Rc<Uri>,
+        resource: usize,
+        waiting: &mut Vec<Step<'d>>,
+    ) -> Result<(), AllocError> {
         self.add_names(resource, step.draft, step.value)?;
-        let base = base.as_ref().unwrap_or(&step.outer);
         for child in step.draft.walk_children(self.alloc, step.value)? {
             push_child(waiting, child, base, resource)?;
         }
@@ -166,6 +178,9 @@ fn own_uri(alloc: Global, step: &Step<'_>) -> Result<Option<Rc<Uri>>, AllocError
     match resolve_against(alloc, step.outer.borrow(), id) {
         Ok(uri) => Ok(Some(shared(alloc, uri)?)),
         Err(UriFault::Memory(error)) => Err(error),
-        Err(UriFault::Invalid(_)) => Ok(None),
+        Err(UriFault::Invalid(error)) => {
+            drop(error);
+            Ok(None)
+        }
     }
 }

@@ -1,13 +1,13 @@
 //! What a reference leads to, as it is printed.
 use crate::follow::Found;
 use crate::given::Given;
-use crate::pointer::{path_to, position};
+use crate::pointer::{path_to, position, unless_memory};
 use crate::world::{World, without_fragment};
-use percent_encoding::percent_decode_str;
+use percent_encoding::{DecodeError, percent_decode_str};
 use ref_draft::Draft;
 use ref_index::Place;
 use ref_parts::pointer_of;
-use ref_reading::Stop;
+use ref_reading::{Document, Stop};
 use referencing::Resolver;
 use serde_json::Value;
 use std::alloc::{AllocError, Global};
@@ -106,7 +106,8 @@ fn fragment_of(alloc: Global, uri: &str) -> Result<String, AllocError> {
     };
     match percent_decode_str(fragment).decode_utf8(alloc) {
         Ok(text) => text.into_owned(alloc),
-        Err(_) => String::from_str(alloc, fragment),
+        Err(DecodeError::OutOfMemory) => Err(AllocError),
+        Err(DecodeError::Utf8(_)) => String::from_str(alloc, fragment),
     }
 }
 
@@ -118,12 +119,26 @@ fn push_line(
     pointer: &str,
 ) -> Result<(), AllocError> {
     let name = given.name(number);
-    let Some(document) = given.documents.get(number) else {
-        return write!(out, "at {name}: '{pointer}'\n");
+    match place_in(alloc, given.documents.get(number), pointer)? {
+        Some((line, column)) => write!(out, "at {name}:{line}:{column}: '{pointer}'\n"),
+        None => write!(out, "at {name}: '{pointer}'\n"),
+    }
+}
+
+// The line and the column of the value at a pointer, where a file has one.
+fn place_in(
+    alloc: Global,
+    document: Option<&Document>,
+    pointer: &str,
+) -> Result<Option<(usize, usize)>, AllocError> {
+    let Some(document) = document else {
+        return Ok(None);
     };
-    let Ok(path) = path_to(alloc, document.value(), pointer) else {
-        return write!(out, "at {name}: '{pointer}'\n");
-    };
-    let (line, column) = position(alloc, document.text.as_str(), path.as_slice())?;
-    write!(out, "at {name}:{line}:{column}: '{pointer}'\n")
+    match path_to(alloc, document.value(), pointer) {
+        Ok(path) => Ok(Some(position(alloc, document.text.as_str(), path.as_slice())?)),
+        Err(error) => {
+            unless_memory(error)?;
+            Ok(None)
+        }
+    }
 }

@@ -125,11 +125,9 @@ impl Asked {
         let Some(slot) = self.files.get_mut(source) else {
             return Ok(0);
         };
-        if slot.is_none() {
-            *slot = Some(Places::new(self.alloc)?);
-        }
-        let Some(places) = slot else {
-            return Ok(0);
+        let places = match slot {
+            Some(places) => places,
+            None => slot.insert(Places::new(self.alloc)?),
         };
         let place = place_of(places, path)?;
         match keyword {

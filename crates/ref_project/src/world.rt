@@ -44,9 +44,22 @@ pub fn world_of<'d>(
     faulty: &[bool],
 ) -> Result<World<'d>, Stop> {
     let sources = first_of_each(rt.alloc(), given)?;
-    match prepared(rt.alloc(), given, faulty, sources.as_slice()) {
-        Ok(registry) => Ok(World { registry, sources }),
-        Err(error) => Err(stopped(rt, &error)),
+    let registry = reported(rt, prepared(rt.alloc(), given, faulty, sources.as_slice()))?;
+    Ok(World { registry, sources })
+}
+
+// A registry, or why the program stops where that is refused.
+fn reported<'d>(
+    rt: &HostRuntime,
+    prepared: Result<Registry<'d>, Error>,
+) -> Result<Registry<'d>, Stop> {
+    match prepared {
+        Ok(registry) => Ok(registry),
+        Err(error) => {
+            let stop = stopped(rt, &error);
+            drop(error);
+            Err(stop)
+        }
     }
 }
 
@@ -96,10 +109,9 @@ pub fn world_above<'d, 'o: 'd>(
     faulty: &[bool],
 ) -> Result<World<'d>, Stop> {
     let sources = first_of_each(rt.alloc(), given)?;
-    match prepared_above(rt.alloc(), above, given, faulty, sources.as_slice()) {
-        Ok(registry) => Ok(World { registry, sources }),
-        Err(error) => Err(stopped(rt, &error)),
-    }
+    let prepared = prepared_above(rt.alloc(), above, given, faulty, sources.as_slice());
+    let registry = reported(rt, prepared)?;
+    Ok(World { registry, sources })
 }
 
 fn prepared_above<'d, 'o: 'd>(
@@ -139,10 +151,7 @@ const NONE: [(&str, Value); 0] = [];
 /// A registry of empty documents under the URIs of the drafts' meta-schemas, and of others that findings name and that
 /// aren't there: what a bundle leaves outside.
 pub fn outside_of(rt: &HostRuntime, findings: &[Finding<'_>]) -> Result<Registry<'static>, Stop> {
-    match outside(rt.alloc(), findings) {
-        Ok(registry) => Ok(registry),
-        Err(error) => Err(stopped(rt, &error)),
-    }
+    reported(rt, outside(rt.alloc(), findings))
 }
 
 fn outside(alloc: Global, findings: &[Finding<'_>]) -> Result<Registry<'static>, Error> {
@@ -186,8 +195,8 @@ fn first_of_each(alloc: Global, given: &Given) -> Result<Vec<usize>, AllocError>
 /// The number of the document that has each URI: its own, and those of the places in it. Those in place of what isn't
 /// there are left out.
 pub fn bearers(alloc: Global, world: &World<'_>) -> Result<BTreeMap<String, usize>, AllocError> {
-    let mut bearers = BTreeMap::new(alloc);
     let places = world.places(alloc)?;
+    let mut bearers = BTreeMap::new(alloc);
     for place in &places {
         if place.document < world.sources.len() && !bearers.contains_key(place.base.as_str()) {
             let uri = String::from_str(alloc, place.base.as_str())?;
@@ -208,9 +217,6 @@ pub fn without_fragment(uri: &str) -> &str {
 impl<'d> World<'d> {
     /// The places of all documents.
     pub fn places(&self, alloc: Global) -> Result<Vec<ref_index::Place<'_>>, AllocError> {
-        match self.registry.places(alloc) {
-            Ok(places) => Ok(places),
-            Err(_) => Err(AllocError),
-        }
+        self.registry.places(alloc).ok().ok_or(AllocError)
     }
 }

@@ -1,8 +1,8 @@
 //! Documents that are read from folders by their URIs.
 use ref_error::{Reason, Retrieve, RetrieveError};
 use ref_files::{below_prefix, names_of, path_below};
-use ref_uri::Uri;
 use ref_uri::uri::from_str;
+use ref_uri::{Uri, UriFault};
 use serde_json::Value;
 use std::alloc::{AllocError, Global};
 use std::fs;
@@ -19,7 +19,11 @@ impl Map {
     pub fn new(alloc: Global, prefix: &str, folder: &str) -> Result<Map, AllocError> {
         let prefix = match from_str(alloc, prefix) {
             Ok(uri) => String::from_str(alloc, uri.as_str())?,
-            Err(_) => String::from_str(alloc, prefix)?,
+            Err(UriFault::Memory(error)) => return Err(error),
+            Err(UriFault::Invalid(error)) => {
+                drop(error);
+                String::from_str(alloc, prefix)?
+            }
         };
         let folder = String::from_str(alloc, folder)?;
         Ok(Map { prefix, folder })
