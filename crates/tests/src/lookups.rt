@@ -3,6 +3,7 @@ use crate::answers::agreed;
 use crate::fault::{Fault, done, made};
 use crate::registries::resolver;
 use crate::row;
+use crate::tables::Asked;
 use ref_draft::{Draft, ResourceRef};
 use referencing::{FollowError, Followed, Registry, Resolved, Resolver, Step, follow};
 use serde_json::Value;
@@ -180,13 +181,9 @@ fn scoped(alloc: Global, registry: &Registry<'_>, row: &Value) -> Result<String,
 }
 
 /// What is found of a registry by a row of a table on look-ups.
-pub fn found(
-    alloc: Global,
-    registry: &Registry<'_>,
-    table: &str,
-    row: &Value,
-) -> Result<String, Fault> {
-    match table {
+pub fn found(asked: Asked<'_, '_>) -> Result<String, Fault> {
+    let (alloc, registry, row) = (asked.alloc, asked.registry, asked.row);
+    match asked.table {
         "answers" => answers(alloc, registry, row),
         "lookups" => led(alloc, registry, row),
         "scopes" => scoped(alloc, registry, row),

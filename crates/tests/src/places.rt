@@ -3,6 +3,7 @@ use crate::answers::agreed;
 use crate::fault::{Fault, done, made};
 use crate::registries::holding;
 use crate::row;
+use crate::tables::Asked;
 use ref_draft::Draft;
 use ref_uri::Uri;
 use referencing::{JsonPointerSegment, Place, Registry, Resolved, parse_index, write_index};
@@ -147,13 +148,9 @@ fn value(alloc: Global, registry: &Registry<'_>, row: &Value) -> Result<String, 
 }
 
 /// What is found of a registry by a row of a table on places.
-pub fn found(
-    alloc: Global,
-    registry: &Registry<'_>,
-    table: &str,
-    row: &Value,
-) -> Result<String, Fault> {
-    match table {
+pub fn found(asked: Asked<'_, '_>) -> Result<String, Fault> {
+    let (alloc, registry, row) = (asked.alloc, asked.registry, asked.row);
+    match asked.table {
         "places" => listed(alloc, registry),
         "paths" => located(alloc, registry, row),
         "values" => value(alloc, registry, row),

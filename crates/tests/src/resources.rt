@@ -3,10 +3,13 @@ use crate::answers::agreed;
 use crate::fault::{Fault, done, made};
 use crate::registries::{known, resolver};
 use crate::row;
-use ref_uri::UriRef;
+use crate::tables::Asked;
+use ref_error::Error;
+use ref_uri::{Uri, UriRef};
 use referencing::{Registry, Resolver};
 use serde_json::Value;
 use std::alloc::Global;
+use std::rc::Rc;
 
 /// Which URIs mean places, by a registry and by its copy.
 fn known_twice(alloc: Global, registry: &Registry<'_>, row: &Value) -> Result<String, Fault> {
@@ -24,25 +27,9 @@ fn base_of(row: &Value, number: usize) -> Result<UriRef<'_>, Fault> {
     }
 }
 
-/// What a text means against a base, by a registry.
-fn meant(
-    alloc: Global,
-    registry: &Registry<'_>,
-    base: UriRef<'_>,
-    text: &str,
-) -> Result<String, Fault> {
-    let uri = done(alloc, registry.resolve_uri(alloc, base, text))?;
-    made(String::from_str(alloc, uri.as_str()))
-}
-
-/// The same by a resolver.
-fn meant_to(
-    alloc: Global,
-    resolver: &Resolver<'_>,
-    base: UriRef<'_>,
-    text: &str,
-) -> Result<String, Fault> {
-    let uri = done(alloc, resolver.resolve_uri(alloc, base, text))?;
+/// The text of what was resolved.
+fn meant(alloc: Global, resolved: Result<Rc<Uri>, Error>) -> Result<String, Fault> {
+    let uri = done(alloc, resolved)?;
     made(String::from_str(alloc, uri.as_str()))
 }
 
@@ -50,7 +37,7 @@ fn meant_to(
 pub fn resolved(alloc: Global, registry: &Registry<'_>, row: &Value) -> Result<String, Fault> {
     let (base, text) = (base_of(row, 4)?, row::text(row, 5)?);
     let is_held = registry.resolved_uri(&base, text).is_some();
-    let uri = meant(alloc, registry, base, text)?;
+    let uri = meant(alloc, registry.resolve_uri(alloc, base, text))?;
     made(format!(in alloc; "{}{uri}", if is_held { "+" } else { "" }))
 }
 
@@ -67,8 +54,8 @@ pub fn resolved_by_resolvers(alloc: Global, row: &Value) -> Result<String, Fault
     let (base, again, text) = (base_of(row, 1)?, base_of(row, 1)?, row::text(row, 2)?);
     let registry = done(alloc, Registry::new(alloc).prepare())?;
     let resolver = resolver(alloc, &registry, "http://o/")?;
-    let first = told(meant(alloc, &registry, base, text))?;
-    let other = told(meant_to(alloc, &resolver, again, text))?;
+    let first = told(meant(alloc, registry.resolve_uri(alloc, base, text)))?;
+    let other = told(meant(alloc, resolver.resolve_uri(alloc, again, text)))?;
     agreed(alloc, first, other, ["at first", "by the resolver"])
 }
 
@@ -89,13 +76,9 @@ fn copies(alloc: Global, registry: &Registry<'_>, row: &Value) -> Result<String,
 }
 
 /// What is found of a registry by a row of a table on resources and texts.
-pub fn found(
-    alloc: Global,
-    registry: &Registry<'_>,
-    table: &str,
-    row: &Value,
-) -> Result<String, Fault> {
-    match table {
+pub fn found(asked: Asked<'_, '_>) -> Result<String, Fault> {
+    let (alloc, registry, row) = (asked.alloc, asked.registry, asked.row);
+    match asked.table {
         "resources" | "retrieved drafts" => known_twice(alloc, registry, row),
         "texts" => resolved(alloc, registry, row),
         "copies" => copies(alloc, registry, row),

@@ -33,6 +33,58 @@ impl Retrieve for Counting {
     }
 }
 
+/// The number that the digits in a text make.
+fn number_in(bytes: &[u8]) -> usize {
+    let mut number: usize = 0;
+    for byte in bytes {
+        if byte.is_ascii_digit() {
+            let digit = usize::from(byte.saturating_sub(b'0'));
+            number = number.saturating_mul(10).saturating_add(digit);
+        }
+    }
+    number
+}
+
+/// For a URI with a number, a schema that refers to the next number.
+fn next_of(alloc: Global, uri: &Uri) -> Result<Value, RetrieveError> {
+    let next = number_in(uri.as_str().as_bytes()).saturating_add(1);
+    let text = format!(in alloc; "{{\"$ref\":\"{next}\"}}")?;
+    match Value::from_slice(alloc, text.as_bytes()) {
+        Ok(value) => Ok(value),
+        Err(_) => Err(RetrieveError::Memory(AllocError)),
+    }
+}
+
+/// What answers every URI in one way.
+#[derive(Drop)]
+enum Always<'r> {
+    /// It has no memory.
+    NoMemory,
+    /// It refuses for this reason.
+    Refusing(&'r str),
+    /// Its document refers to the next one.
+    Next,
+    /// Its document is `true`.
+    True,
+}
+
+impl Retrieve for Always<'_> {
+    ghost use Rattle.std.specs.Prelude.{⊤};
+
+    ghost may_answer = { λ _ _ _. ⊤ };
+
+    ghost may_refuse = { λ _ _ _. ⊤ };
+
+    fn retrieve(&self, alloc: Global, uri: &Uri) -> Result<Value, RetrieveError> {
+        match self {
+            Always::NoMemory => Err(RetrieveError::Memory(AllocError)),
+            Always::Refusing(reason) => Err(RetrieveError::Refused(reason_of(alloc, reason)?)),
+            Always::Next => next_of(alloc, uri),
+            Always::True => Ok(Value::Bool(true)),
+        }
+    }
+}
+
 /// Which URIs of a row are known to a registry that is prepared, or the text of the fault.
 fn outcome(
     alloc: Global,
@@ -63,47 +115,12 @@ fn calls(alloc: Global, row: &Value) -> Result<String, Fault> {
     made(format!(in alloc; "{calls} {outcome}"))
 }
 
-/// Has no memory for any document.
-#[derive(Drop)]
-struct Exhausted;
-
-impl Retrieve for Exhausted {
-    ghost use Rattle.std.specs.Prelude.{⊤};
-
-    ghost may_answer = { λ _ _ _. ⊤ };
-
-    ghost may_refuse = { λ _ _ _. ⊤ };
-
-    fn retrieve(&self, _alloc: Global, _uri: &Uri) -> Result<Value, RetrieveError> {
-        Err(RetrieveError::Memory(AllocError))
-    }
-}
-
 /// Whether preparing a row's documents ends out of memory.
 fn is_exhausted(alloc: Global, row: &Value) -> Result<String, Fault> {
     let documents = row::documents(alloc, row, 1)?;
-    let registry = prepared(Registry::new(alloc).retriever(Exhausted), documents);
+    let registry = prepared(Registry::new(alloc).retriever(Always::NoMemory), documents);
     let is_exhausted = matches!(registry, Err(Error::Memory(_)));
     made(format!(in alloc; "{is_exhausted}"))
-}
-
-/// Refuses each document for one reason.
-#[derive(Drop)]
-struct Refusing<'r> {
-    reason: &'r str,
-}
-
-impl Retrieve for Refusing<'_> {
-    ghost use Rattle.std.specs.Prelude.{⊤};
-
-    ghost may_answer = { λ _ _ _. ⊤ };
-
-    ghost may_refuse = { λ _ _ _. ⊤ };
-
-    fn retrieve(&self, alloc: Global, _uri: &Uri) -> Result<Value, RetrieveError> {
-        let reason = reason_of(alloc, self.reason)?;
-        Err(RetrieveError::Refused(reason))
-    }
 }
 
 /// A fault, and its debug text in the next line.
@@ -119,48 +136,15 @@ fn told(alloc: Global, prepared: &Result<Registry<'_>, Error>) -> Result<String,
 fn refused(alloc: Global, row: &Value) -> Result<String, Fault> {
     let documents = row::documents(alloc, row, 1)?;
     let reason = row::text(row, 2)?;
-    let builder = Registry::new(alloc).retriever(Refusing { reason });
+    let builder = Registry::new(alloc).retriever(Always::Refusing(reason));
     told(alloc, &prepared(builder, documents))
-}
-
-/// For a URI with a number, a schema that refers to the next number.
-#[derive(Drop)]
-struct Chain;
-
-impl Retrieve for Chain {
-    ghost use Rattle.std.specs.Prelude.{⊤};
-
-    ghost may_answer = { λ _ _ _. ⊤ };
-
-    ghost may_refuse = { λ _ _ _. ⊤ };
-
-    fn retrieve(&self, alloc: Global, uri: &Uri) -> Result<Value, RetrieveError> {
-        let next = number_in(uri.as_str().as_bytes()).saturating_add(1);
-        let text = format!(in alloc; "{{\"$ref\":\"{next}\"}}")?;
-        match Value::from_slice(alloc, text.as_bytes()) {
-            Ok(value) => Ok(value),
-            Err(_) => Err(RetrieveError::Memory(AllocError)),
-        }
-    }
-}
-
-/// The number that the digits in a text make.
-fn number_in(bytes: &[u8]) -> usize {
-    let mut number: usize = 0;
-    for byte in bytes {
-        if byte.is_ascii_digit() {
-            let digit = usize::from(byte.saturating_sub(b'0'));
-            number = number.saturating_mul(10).saturating_add(digit);
-        }
-    }
-    number
 }
 
 /// Of a row of documents and a limit, `null` where none is set: the fault with which preparing them ends, where each
 /// document that is retrieved wants another.
 fn endless(alloc: Global, row: &Value) -> Result<String, Fault> {
     let documents = row::documents(alloc, row, 1)?;
-    let mut builder = Registry::new(alloc).retriever(Chain);
+    let mut builder = Registry::new(alloc).retriever(Always::Next);
     if let Ok(limit) = row::number(row, 2) {
         builder = builder.retrieval_limit(limit);
     }
@@ -170,28 +154,12 @@ fn endless(alloc: Global, row: &Value) -> Result<String, Fault> {
     }
 }
 
-/// The schema `true` under every URI.
-#[derive(Drop)]
-struct Always;
-
-impl Retrieve for Always {
-    ghost use Rattle.std.specs.Prelude.{⊤};
-
-    ghost may_answer = { λ _ _ _. ⊤ };
-
-    ghost may_refuse = { λ _ _ _. ⊤ };
-
-    fn retrieve(&self, _alloc: Global, _uri: &Uri) -> Result<Value, RetrieveError> {
-        Ok(Value::Bool(true))
-    }
-}
-
 /// Of a row of documents, a base and a reference: the fault of the look-up, where every document that is wanted is `true`.
 fn any(alloc: Global, row: &Value) -> Result<String, Fault> {
     let documents = row::documents(alloc, row, 1)?;
     let registry = done(
         alloc,
-        prepared(Registry::new(alloc).retriever(Always), documents),
+        prepared(Registry::new(alloc).retriever(Always::True), documents),
     )?;
     let resolver = resolver(alloc, &registry, row::text(row, 2)?)?;
     match resolver.lookup(alloc, row::text(row, 3)?) {

@@ -138,23 +138,27 @@ fn of_row(alloc: Global, group: Group, table: &str, row: &Value) -> Result<Strin
     }
 }
 
+/// What a row of a table asks of a registry.
+#[derive(Clone, Copy, Drop)]
+pub struct Asked<'q, 'd> {
+    pub alloc: Global,
+    pub registry: &'q Registry<'d>,
+    pub table: &'q str,
+    pub row: &'q Value,
+}
+
 /// Of a row whose first columns describe a registry.
 fn of_registry(alloc: Global, group: Group, table: &str, row: &Value) -> Result<String, Fault> {
     let registry = registries::registry(alloc, row)?;
-    asked(alloc, &registry, group, table, row)
-}
-
-/// What is asked of that registry.
-fn asked(
-    alloc: Global,
-    registry: &Registry<'_>,
-    group: Group,
-    table: &str,
-    row: &Value,
-) -> Result<String, Fault> {
+    let asked = Asked {
+        alloc,
+        registry: &registry,
+        table,
+        row,
+    };
     match group {
-        Group::Places => places::found(alloc, registry, table, row),
-        Group::Resources => resources::found(alloc, registry, table, row),
-        _ => lookups::found(alloc, registry, table, row),
+        Group::Places => places::found(asked),
+        Group::Resources => resources::found(asked),
+        _ => lookups::found(asked),
     }
 }

@@ -3,7 +3,7 @@
 use crate::asserts::{assert_shown, same};
 use crate::row::Row;
 use ref_draft::{Anchor, Draft, Resource, ResourceRef, Segment, Segments};
-use serde_json::Value;
+use serde_json::{Map, Value};
 use std::alloc::{AllocError, Global};
 use std::borrow::CowStr;
 use std::process::Abort;
@@ -22,49 +22,27 @@ pub const ROWS: &str = r##"
 ["2020-12",{"$anchor":7,"$id":"#f"},[]]
 ["2020-12",[],[]]
 
-# scans: 38
-// A draft, a path, and whether it may change the base at what is given.
-{"given":{}}
-["2020-12",["properties"],false]
-["2020-12",["properties","x"],true]
-["2020-12",["allOf",0],true]
-["2020-12",[3,"not"],true]
-["2020-12",["const"],false]
-["2020-12",["const","not"],false]
-["2020-12",["items","items"],true]
-["2020-12",["dependencies","x"],false]
-["2020-12",[],true]
-["7",["items","const"],true]
-["7",["properties","items","const"],false]
-["6",["dependencies"],true]
-["6",["if"],false]
-["2019-09",["$defs","a","if"],true]
-["4",["$defs","a"],true]
-["4",["definitions","a","not"],true]
-["4",["contains"],true]
-["4",["const"],false]
-["unknown",["prefixItems",0],true]
-
-{"given":true}
-["2020-12",["properties"],false]
-["2020-12",["properties","x"],true]
-["2020-12",["allOf",0],true]
-["2020-12",[3,"not"],true]
-["2020-12",["const"],false]
-["2020-12",["const","not"],false]
-["2020-12",["items","items"],true]
-["2020-12",["dependencies","x"],false]
-["2020-12",[],true]
-["7",["items","const"],false]
-["7",["properties","items","const"],false]
-["6",["dependencies"],false]
-["6",["if"],false]
-["2019-09",["$defs","a","if"],true]
-["4",["$defs","a"],true]
-["4",["definitions","a","not"],true]
-["4",["contains"],true]
-["4",["const"],false]
-["unknown",["prefixItems",0],true]
+# scans: 19
+// A draft, a path, and whether it may change the base at an empty object, and at `true`.
+["2020-12",["properties"],false,false]
+["2020-12",["properties","x"],true,true]
+["2020-12",["allOf",0],true,true]
+["2020-12",[3,"not"],true,true]
+["2020-12",["const"],false,false]
+["2020-12",["const","not"],false,false]
+["2020-12",["items","items"],true,true]
+["2020-12",["dependencies","x"],false,false]
+["2020-12",[],true,true]
+["7",["items","const"],true,false]
+["7",["properties","items","const"],false,false]
+["6",["dependencies"],true,false]
+["6",["if"],false,false]
+["2019-09",["$defs","a","if"],true,true]
+["4",["$defs","a"],true,true]
+["4",["definitions","a","not"],true,true]
+["4",["contains"],true,true]
+["4",["const"],false,false]
+["unknown",["prefixItems",0],true,true]
 
 # resources: 1
 // A value, its draft and its identifier.
@@ -108,8 +86,10 @@ fn segments_of<'a>(alloc: Global, path: &Row<'a>) -> Result<Segments<'a>, AllocE
 pub fn scans(rt: &impl Abort, alloc: Global, row: &Row<'_>) -> Result<(), AllocError> {
     let segments = segments_of(alloc, &row.row(1))?;
     row.same(rt, segments.iter().count(), row.row(1).len());
-    let found = row.draft(0).rebases(&segments, row.given());
-    row.same(rt, found, row.is_true(2));
+    let (object, draft) = (Value::Object(Map::new(alloc)), row.draft(0));
+    row.same(rt, draft.rebases(&segments, &object), row.is_true(2));
+    let at_true = draft.rebases(&segments, &Value::Bool(true));
+    row.same(rt, at_true, row.is_true(3));
     Ok(())
 }
 

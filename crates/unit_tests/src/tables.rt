@@ -28,7 +28,7 @@ fn rows_hold(rt: HostRuntime) -> Result<(), Fail> {
     for rows in TEXTS {
         count = count.saturating_add(for_each_row(&rt, rt.alloc(), rows)?);
     }
-    same(&rt, count, 520);
+    same(&rt, count, 501);
     Ok(())
 }
 
