@@ -10,10 +10,10 @@ use Rattle.std.specs.List.Sorted.{IsStrictlySortedBy}
 use Rattle.std.specs.Ordering.{is_eq, eq_by_cmp, ordering_reverse}
 use Rattle.std.specs.declared.cmp.Ordering.{Ordering}
 use Rattle.std.specs.declared.cmp.Ordering.TheVariants.{Less, Equal, Greater}
-use Rattle.ref_parts.specs.Table.{entries_of, last_value}
-use Rattle.ref_parts.specs.inner.SortedEntries.{key_cmp, key_of, word_at, words_of, KeepsLast}
+use Rattle.ref_parts.specs.Table.{last_value}
+use Rattle.ref_parts.specs.inner.SortedEntries.{entries_in, key_cmp, key_of, word_at, words_of, KeepsLast}
 use Rattle.ref_parts.specs.declared.table.Slot.{Slot}
-use Rattle.ref_parts.proofs.TableLaws.{Tuple, filter_none, last_at, apart_by_key, key_total, key_cmp-IsAntisymmetric, last_value_by_key}
+use Rattle.ref_parts.proofs.TableLaws.{filter_none, last_at, apart_by_key, key_total, key_cmp-IsAntisymmetric, last_value_by_key}
 
 -- ---- counts
 
@@ -81,25 +81,25 @@ each_by_place : {X : Type 0} (P : X → Type 0) (xs : List X) → ((k : ℕ) (d 
 each_by_place P [] each = tt
 each_by_place P (x ∷ xs) each = (each 0 x (omega arith), each_by_place P xs (λ k d less. each (suc k) d (omega arith)))
 
-module _ {V : Type 0} (shared : ℕ) (entered : List (Tuple V)) (kept : List (Slot V)) (keeps : KeepsLast shared kept entered) (first second : List ℕ) (word : ℕ) (is_word : word ≡ word_at shared first) where
+module _ {V : Type 0} (texts : List ℕ) (shared : ℕ) (entered kept : List (Slot V)) (keeps : KeepsLast texts shared kept entered) (first second : List ℕ) (word : ℕ) (is_word : word ≡ word_at shared first) where
   abbrev is_here : Slot V → Bool
-  is_here s = eq_by_cmp key_cmp (key_of s) (word, (first, second))
+  is_here s = eq_by_cmp key_cmp (key_of texts s) (word, (first, second))
 
-  by_key : last_value first second (entries_of entered) ≡ option_map (λ s. s.entry.2) (last_or None (filter is_here kept))
+  by_key : last_value first second (entries_in texts entered) ≡ option_map (λ s. s.value) (last_or None (filter is_here kept))
   by_key =
-      sym (keeps.values first second) ∙ last_value_by_key shared first second kept keeps.words
-      ∙ ap (λ w. option_map (λ s. s.entry.2) (last_or None (filter (λ s. eq_by_cmp key_cmp (key_of s) (w, (first, second))) kept))) (sym is_word)
+      sym (keeps.values first second) ∙ last_value_by_key texts shared first second kept keeps.words
+      ∙ ap (λ w. option_map (λ s. s.value) (last_or None (filter (λ s. eq_by_cmp key_cmp (key_of texts s) (w, (first, second))) kept))) (sym is_word)
 
   -- an entry under the texts has their last value
-  pub found_at : (i : ℕ) (s : Slot V) → i < length kept → s ≡ get_or kept i s → key_cmp (key_of s) (word, (first, second)) ≡ Equal → last_value first second (entries_of entered) ≡ Some s.entry.2
+  pub found_at : (i : ℕ) (s : Slot V) → i < length kept → s ≡ get_or kept i s → key_cmp (key_of texts s) (word, (first, second)) ≡ Equal → last_value first second (entries_in texts entered) ≡ Some s.value
   found_at i s within is equal =
-      by_key ∙ ap (option_map (λ t. t.entry.2)) (last_at is_here (apart_by_key key_total key_cmp-IsAntisymmetric key_of (word, (first, second))) kept keeps.sorted i s within is (ap is_eq equal))
+      by_key ∙ ap (option_map (λ t. t.value)) (last_at is_here (apart_by_key key_total key_cmp-IsAntisymmetric (key_of texts) (word, (first, second))) kept keeps.sorted i s within is (ap is_eq equal))
 
   -- where each entry is less or greater, there is no value
-  pub found_nowhere : (low high : ℕ) → high ≤ low → ((k : ℕ) (d : Slot V) → k < low → key_cmp (key_of (get_or kept k d)) (word, (first, second)) ≡ Less)
-      → ((k : ℕ) (d : Slot V) → high ≤ k → k < length kept → key_cmp (key_of (get_or kept k d)) (word, (first, second)) ≡ Greater) → last_value first second (entries_of entered) ≡ None
+  pub found_nowhere : (low high : ℕ) → high ≤ low → ((k : ℕ) (d : Slot V) → k < low → key_cmp (key_of texts (get_or kept k d)) (word, (first, second)) ≡ Less)
+      → ((k : ℕ) (d : Slot V) → high ≤ k → k < length kept → key_cmp (key_of texts (get_or kept k d)) (word, (first, second)) ≡ Greater) → last_value first second (entries_in texts entered) ≡ None
   found_nowhere low high done below above =
-      by_key ∙ ap (λ l. option_map (λ t. t.entry.2) (last_or None l)) (filter_none is_here kept (each_by_place (λ t. is_here t ≡ false) kept (λ k d inside.
+      by_key ∙ ap (λ l. option_map (λ t. t.value) (last_or None l)) (filter_none is_here kept (each_by_place (λ t. is_here t ≡ false) kept (λ k d inside.
       elim (ltb k low) as (λ b. ltb k low ≡ b → is_here (get_or kept k d) ≡ false) [
         | true ↦ λ yes. ap is_eq (below k d (ltb-true k low yes))
         | false ↦ λ no. ap is_eq (above k d (omega (arith, ltb-false k low no)) inside)

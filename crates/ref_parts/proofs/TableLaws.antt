@@ -4,7 +4,7 @@
 -- 2. Slices: what is written to all elements, one at a time.
 -- 3. Texts and pairs of texts are totally ordered, and are equal exactly where the order says so (`pair_total`).
 -- 4. Keys, which are the first bytes of a text as a number, are ordered likewise, and tell only unequal texts apart (`key_total`).
-use Rattle.std.proofs.Common.{◌≡◌, ℕ, zero, suc, ◌+◌, ◌<◌, Bool, true, false, not, ◌&&◌, ◌||◌, cond, eqb, map, String, string_bytes, bytes_eq, option_map, List, [], ◌∷◌, ◌++◌, length, get_or, take, drop, reverse, Option, Some, None, is_some, ◌⊎◌, inl, inr, ⊎_elim, refl, sym, ap, ◌∙◌, subst, append-nil, arith}
+use Rattle.std.proofs.Common.{◌≡◌, ℕ, zero, suc, ◌+◌, ◌<◌, Bool, true, false, not, ◌&&◌, ◌||◌, cond, eqb, map, bytes_eq, option_map, List, [], ◌∷◌, ◌++◌, length, get_or, take, drop, reverse, Option, Some, None, is_some, ◌⊎◌, inl, inr, ⊎_elim, refl, sym, ap, ◌∙◌, subst, append-nil, arith}
 use Rattle.std.proofs.lemmas.Bool.{false≢true, cond-false}
 use Rattle.std.proofs.lemmas.Cmp.{nat_list_cmp_total, then_total, on_total, back_total, eq_by_cmp_equiv}
 use Rattle.std.proofs.lemmas.List.Kept.{IsStrictlySortedBy-dedup}
@@ -14,8 +14,8 @@ use Rattle.std.specs.Cmp.Lexicographic.{slice_cmp, texts_ties}
 use Rattle.std.specs.FinSet as set
 use Rattle.std.specs.FinSet.{IsAntisymmetric, nat_cmp-IsAntisymmetric, slice_cmp-IsAntisymmetric, contains-from_list, len-insert, len-empty, same_set}
 use Rattle.std.specs.Ordering.{is_lt, is_eq, eq_by_cmp, ordering_reverse, ordering_then, nat_cmp}
-use Rattle.ref_parts.specs.Table.{Entry, entries_of, is_under, last_value, pair_count}
-use Rattle.ref_parts.specs.inner.SortedEntries.{pair_cmp, pair_of, Key, key_cmp, key_of, word_at, slot_of, HasWord, tuples_of, KeepsLast}
+use Rattle.ref_parts.specs.Table.{Entry, is_under, last_value, pair_count}
+use Rattle.ref_parts.specs.inner.SortedEntries.{pair_cmp, pair_of, entry_in, entries_in, Key, key_cmp, key_of, word_at, numbered, same_slots, HasWord, IsWithin, KeepsLast}
 use Rattle.ref_parts.specs.declared.table.Slot.{Slot}
 use Rattle.std.specs.List.{All}
 use Rattle.std.specs.List.Sorted.{IsPermutation}
@@ -23,9 +23,8 @@ use Rattle.std.specs.Cmp.{nat_cmp_total, unsigned_ties}
 use Rattle.std.proofs.lemmas.Cmp.{tied_itself}
 use Rattle.std.proofs.lemmas.List.{map-append}
 use Rattle.std.proofs.lemmas.List.Sorted.{All-permutation}
-use Rattle.std.proofs.lemmas.List.Elements.{All-head, All-tail, All-nil, All-cons, All-weaker}
+use Rattle.std.proofs.lemmas.List.Elements.{All-head, All-tail, All-nil, All-cons, All-append, All-weaker}
 use Rattle.std.proofs.lemmas.List.Filters.{All-dedup}
-use Rattle.std.specs.declared.alloc.Global.{Global}
 use Rattle.std.specs.declared.cmp.Ordering.{Ordering}
 use Rattle.std.specs.declared.cmp.Ordering.TheVariants.{Less, Equal, Greater}
 use Rattle.std.specs.List.{filter, last_or, list_any, dedup, dedup_from, AllByRecursion}
@@ -196,9 +195,6 @@ pair_cmp-IsAntisymmetric p q e =
 equal_pairs : (a b c d : List ℕ) → (bytes_eq a c && bytes_eq b d) ≡ eq_by_cmp pair_cmp (a, b) (c, d)
 equal_pairs a b c d = both_tied (bytes_eq a c) (bytes_eq b d) (slice_cmp nat_cmp a c) (slice_cmp nat_cmp b d) (texts_ties a c) (texts_ties b d)
 
-abbrev pub Tuple : Type 0 → Type 0
-Tuple V = String Global × String Global × V
-
 is_some-map : {A B : Type 0} (f : A → B) (o : Option A) → is_some (option_map f o) ≡ is_some o
 is_some-map f None = refl
 is_some-map f (Some x) = refl
@@ -270,38 +266,44 @@ reverse_map f (x ∷ xs) =
     ap (map f) (reverse-append (x ∷ []) xs) ∙ map-append f (reverse xs) (x ∷ []) ∙ ap (λ l. l ++ f x ∷ []) (reverse_map f xs)
     ∙ sym (reverse-append (f x ∷ []) (map f xs))
 
-module _ {V : Type 0} where
-  value_of : (o : Option (Tuple V)) → option_map (λ e. e.2) (option_map {T = Tuple V} {U = Entry V} (λ t. (string_bytes t.0, string_bytes t.1, t.2)) o) ≡ option_map (λ t. t.2) o
-  value_of None = refl
-  value_of (Some t) = refl
-
-  value_in : (o : Option (Slot V)) → option_map (λ t. t.2) (option_map {T = Slot V} {U = Tuple V} (λ s. s.entry) o) ≡ option_map (λ s. s.entry.2) o
+module _ {V : Type 0} (texts : List ℕ) where
+  value_in : (o : Option (Slot V)) → option_map (λ e. e.2) (option_map {T = Slot V} {U = Entry V} (entry_in texts) o) ≡ option_map (λ s. s.value) o
   value_in None = refl
   value_in (Some s) = refl
 
   -- the last value, by the order of pairs
-  last_value_by_order : (first second : List ℕ) (ts : List (Tuple V)) → last_value first second (entries_of ts) ≡ option_map (λ t. t.2) (last_or None (filter (λ t. eq_by_cmp pair_cmp (pair_of t) (first, second)) ts))
-  last_value_by_order first second ts =
-      ap (option_map (λ e. e.2)) (last_or-map _ (is_under first second) None ts) ∙ value_of _
-      ∙ ap (λ (u : Tuple V → Bool). option_map (λ t. t.2) (last_or None (filter u ts))) (λ i t. equal_pairs (string_bytes t.0) (string_bytes t.1) first second i)
+  last_value_by_order : (first second : List ℕ) (ss : List (Slot V)) → last_value first second (entries_in texts ss) ≡ option_map (λ s. s.value) (last_or None (filter (λ s. eq_by_cmp pair_cmp (pair_of texts s) (first, second)) ss))
+  last_value_by_order first second ss =
+      ap (option_map (λ e. e.2)) (last_or-map (entry_in texts) (is_under first second) None ss) ∙ value_in _
+      ∙ ap (λ (u : Slot V → Bool). option_map (λ s. s.value) (last_or None (filter u ss))) (λ i s. equal_pairs (pair_of texts s).0 (pair_of texts s).1 first second i)
 
   -- the last value, by the order of keys
-  pub last_value_by_key : (shared : ℕ) (first second : List ℕ) (ss : List (Slot V)) → All (HasWord shared) ss
-      → last_value first second (entries_of (tuples_of ss)) ≡ option_map (λ s. s.entry.2) (last_or None (filter (λ s. eq_by_cmp key_cmp (key_of s) (word_at shared first, (first, second))) ss))
+  pub last_value_by_key : (shared : ℕ) (first second : List ℕ) (ss : List (Slot V)) → All (HasWord texts shared) ss
+      → last_value first second (entries_in texts ss) ≡ option_map (λ s. s.value) (last_or None (filter (λ s. eq_by_cmp key_cmp (key_of texts s) (word_at shared first, (first, second))) ss))
   last_value_by_key shared first second ss words =
-      let by_pair : Tuple V → Bool = λ t. eq_by_cmp pair_cmp (pair_of t) (first, second) in
-      let by_key : Slot V → Bool = λ s. eq_by_cmp key_cmp (key_of s) (word_at shared first, (first, second)) in
-      last_value_by_order first second (tuples_of ss)
-      ∙ ap (option_map (λ t. t.2)) (last_or-map (λ s. s.entry) by_pair None ss) ∙ value_in _
-      ∙ ap (λ l. option_map (λ s. s.entry.2) (last_or None l)) (filter_alike (λ s. by_pair s.entry) by_key ss (All-weaker (HasWord shared) (λ s. by_pair s.entry ≡ by_key s) (λ s is. equal_keys shared s.word (pair_of s.entry) (first, second) is) ss words))
+      let by_pair : Slot V → Bool = λ s. eq_by_cmp pair_cmp (pair_of texts s) (first, second) in
+      let by_key : Slot V → Bool = λ s. eq_by_cmp key_cmp (key_of texts s) (word_at shared first, (first, second)) in
+      last_value_by_order first second ss
+      ∙ ap (λ l. option_map (λ s. s.value) (last_or None l)) (filter_alike by_pair by_key ss (All-weaker (HasWord texts shared) (λ s. by_pair s ≡ by_key s) (λ s is. equal_keys shared s.word (pair_of texts s) (first, second) is) ss words))
 
-  slots_have_words : (shared : ℕ) (ts : List (Tuple V)) → All (HasWord shared) (map (slot_of shared) ts)
-  slots_have_words shared [] = All-nil (HasWord shared)
-  slots_have_words shared (t ∷ ts) = All-cons (HasWord shared) (slot_of shared t) (map (slot_of shared) ts) refl (slots_have_words shared ts)
+  numbered_have_words : (shared : ℕ) (ss : List (Slot V)) → All (HasWord texts shared) (map (numbered texts shared) ss)
+  numbered_have_words shared [] = All-nil (HasWord texts shared)
+  numbered_have_words shared (s ∷ ss) = All-cons (HasWord texts shared) (numbered texts shared s) (map (numbered texts shared) ss) refl (numbered_have_words shared ss)
 
-  tuples_of_slots : (shared : ℕ) (ts : List (Tuple V)) → tuples_of (map (slot_of shared) ts) ≡ ts
-  tuples_of_slots shared [] = refl
-  tuples_of_slots shared (t ∷ ts) = ap (λ l. t ∷ l) (tuples_of_slots shared ts)
+  numbered_within : (shared : ℕ) (ss : List (Slot V)) → All (IsWithin texts) ss → All (IsWithin texts) (map (numbered texts shared) ss)
+  numbered_within shared [] within = All-nil (IsWithin texts)
+  numbered_within shared (s ∷ ss) within =
+      All-cons (IsWithin texts) (numbered texts shared s) (map (numbered texts shared) ss) (All-head (IsWithin texts) s ss within) (numbered_within shared ss (All-tail (IsWithin texts) s ss within))
+
+  reversed_within : (ss : List (Slot V)) → All (IsWithin texts) ss → All (IsWithin texts) (reverse ss)
+  reversed_within [] within = All-nil (IsWithin texts)
+  reversed_within (s ∷ ss) within =
+      subst (All (IsWithin texts)) (sym (reverse-append (s ∷ []) ss)) (All-append (IsWithin texts) (reverse ss) (s ∷ []) (reversed_within ss (All-tail (IsWithin texts) s ss within)) (All-cons (IsWithin texts) s [] (All-head (IsWithin texts) s ss within) (All-nil (IsWithin texts))))
+
+  -- a number changes no entry
+  entries_of_numbered : (shared : ℕ) (ss : List (Slot V)) → entries_in texts (map (numbered texts shared) ss) ≡ entries_in texts ss
+  entries_of_numbered shared [] = refl
+  entries_of_numbered shared (s ∷ ss) = ap (λ l. entry_in texts s ∷ l) (entries_of_numbered shared ss)
 
   -- ---- counts
 
@@ -330,47 +332,47 @@ module _ {V : Type 0} where
       count_is es ∙ ap set.len (same_set pair_total pair_cmp-IsAntisymmetric _ _ (λ q. sym (found_is es q.0 q.1) ∙ ap is_some (same q.0 q.1) ∙ found_is ds q.0 q.1)) ∙ sym (count_is ds)
 
   -- each pair that stands once counts
-  count_sorted : (shared : ℕ) (ss : List (Slot V)) → IsStrictlySortedBy (λ x y. key_cmp (key_of x) (key_of y)) ss → All (HasWord shared) ss → pair_count (entries_of (tuples_of ss)) ≡ length ss
+  count_sorted : (shared : ℕ) (ss : List (Slot V)) → IsStrictlySortedBy (λ x y. key_cmp (key_of texts x) (key_of texts y)) ss → All (HasWord texts shared) ss → pair_count (entries_in texts ss) ≡ length ss
   unfolding IsStrictlySortedBy
   count_sorted shared [] sorted words = refl
   count_sorted shared (s ∷ ss) sorted words =
-      let rest = All-tail (HasWord shared) s ss words in
-      let q : Key = (word_at shared (string_bytes s.entry.0), pair_of s.entry) in
-      let itself : eq_by_cmp key_cmp (key_of s) q ≡ true = ap (λ (w : ℕ). eq_by_cmp key_cmp (w, pair_of s.entry) q) (All-head (HasWord shared) s ss words) ∙ (eq_by_cmp_equiv key_total).refl q in
-      let later : last_value (string_bytes s.entry.0) (string_bytes s.entry.1) (entries_of (tuples_of ss)) ≡ None =
-      last_value_by_key shared (string_bytes s.entry.0) (string_bytes s.entry.1) ss rest
-      ∙ ap (λ l. option_map (λ t. t.entry.2) (last_or None l)) (none_behind {R = λ x y. key_cmp (key_of x) (key_of y)} (λ x. eq_by_cmp key_cmp (key_of x) q) (apart_by_key key_total key_cmp-IsAntisymmetric key_of q) s ss itself sorted.0) in
-      let n = pair_count (entries_of (tuples_of ss)) in
+      let rest = All-tail (HasWord texts shared) s ss words in
+      let first = (pair_of texts s).0 in
+      let second = (pair_of texts s).1 in
+      let q : Key = (word_at shared first, pair_of texts s) in
+      let itself : eq_by_cmp key_cmp (key_of texts s) q ≡ true = ap (λ (w : ℕ). eq_by_cmp key_cmp (w, pair_of texts s) q) (All-head (HasWord texts shared) s ss words) ∙ (eq_by_cmp_equiv key_total).refl q in
+      let later : last_value first second (entries_in texts ss) ≡ None =
+      last_value_by_key shared first second ss rest
+      ∙ ap (λ l. option_map (λ t. t.value) (last_or None l)) (none_behind {R = λ x y. key_cmp (key_of texts x) (key_of texts y)} (λ x. eq_by_cmp key_cmp (key_of texts x) q) (apart_by_key key_total key_cmp-IsAntisymmetric (key_of texts) q) s ss itself sorted.0) in
+      let n = pair_count (entries_in texts ss) in
       ap (λ b. cond b n (n + 1)) (ap is_some later) ∙ ap (λ n. n + 1) (count_sorted shared ss sorted.1 rest) ∙ omega arith
 
   abbrev pub slot_lt : Slot V → Slot V → Bool
-  slot_lt x y = is_lt (key_cmp (key_of x) (key_of y))
+  slot_lt x y = is_lt (key_cmp (key_of texts x) (key_of texts y))
 
   pub slot_lt_ranks : IsStrictWeakOrder slot_lt
-  slot_lt_ranks = ranks_by key_total key_of
+  slot_lt_ranks = ranks_by key_total (key_of texts)
 
-  abbrev pub same_slots : Slot V → Slot V → Bool
-  same_slots x y = eqb x.word y.word && (bytes_eq (string_bytes x.entry.0) (string_bytes y.entry.0) && bytes_eq (string_bytes x.entry.1) (string_bytes y.entry.1))
-
-  same_is : (x y : Slot V) → same_slots x y ≡ eq_by_cmp key_cmp (key_of x) (key_of y)
+  same_is : (x y : Slot V) → same_slots texts x y ≡ eq_by_cmp key_cmp (key_of texts x) (key_of texts y)
   same_is x y =
-      both_tied (eqb x.word y.word) _ (nat_cmp y.word x.word) (pair_cmp (pair_of y.entry) (pair_of x.entry)) (unsigned_ties x.word y.word ∙ (eq_by_cmp_equiv nat_cmp_total).symm x.word y.word)
-      (equal_pairs (string_bytes x.entry.0) (string_bytes x.entry.1) (string_bytes y.entry.0) (string_bytes y.entry.1) ∙ (eq_by_cmp_equiv pair_total).symm (pair_of x.entry) (pair_of y.entry))
+      both_tied (eqb x.word y.word) _ (nat_cmp y.word x.word) (pair_cmp (pair_of texts y) (pair_of texts x)) (unsigned_ties x.word y.word ∙ (eq_by_cmp_equiv nat_cmp_total).symm x.word y.word)
+      (equal_pairs (pair_of texts x).0 (pair_of texts x).1 (pair_of texts y).0 (pair_of texts y).1 ∙ (eq_by_cmp_equiv pair_total).symm (pair_of texts x) (pair_of texts y))
 
-  pub keeps_last : (shared : ℕ) (entered : List (Tuple V)) (back sorted kept : List (Slot V)) → back ≡ map (slot_of shared) (reverse entered) → IsPermutation back sorted → IsSortedBy slot_lt sorted → IsStableBy slot_lt back sorted → kept ≡ dedup same_slots sorted → KeepsLast shared kept entered
-  keeps_last shared entered back sorted kept turned moved ascends stable once =
-      let slots = map (slot_of shared) entered in
-      let strictly : IsStrictlySortedBy (λ x y. key_cmp (key_of x) (key_of y)) kept = subst (IsStrictlySortedBy (λ x y. key_cmp (key_of x) (key_of y))) (sym once) (IsStrictlySortedBy-dedup (on_total key_of key_total) same_is sorted ascends) in
-      let words_back : All (HasWord shared) back = subst (All (HasWord shared)) (sym turned) (slots_have_words shared (reverse entered)) in
-      let words : All (HasWord shared) kept = subst (All (HasWord shared)) (sym once) (All-dedup same_slots (HasWord shared) sorted (All-permutation (HasWord shared) back sorted moved words_back)) in
-      let values : (first second : List ℕ) → last_value first second (entries_of (tuples_of kept)) ≡ last_value first second (entries_of entered) = λ first second.
+  pub keeps_last : (shared : ℕ) (entered back sorted kept : List (Slot V)) → All (IsWithin texts) entered → back ≡ map (numbered texts shared) (reverse entered) → IsPermutation back sorted → IsSortedBy slot_lt sorted → IsStableBy slot_lt back sorted → kept ≡ dedup (same_slots texts) sorted → KeepsLast texts shared kept entered
+  keeps_last shared entered back sorted kept within turned moved ascends stable once =
+      let slots = map (numbered texts shared) entered in
+      let strictly : IsStrictlySortedBy (λ x y. key_cmp (key_of texts x) (key_of texts y)) kept = subst (IsStrictlySortedBy (λ x y. key_cmp (key_of texts x) (key_of texts y))) (sym once) (IsStrictlySortedBy-dedup (on_total (key_of texts) key_total) same_is sorted ascends) in
+      let words_back : All (HasWord texts shared) back = subst (All (HasWord texts shared)) (sym turned) (numbered_have_words shared (reverse entered)) in
+      let words : All (HasWord texts shared) kept = subst (All (HasWord texts shared)) (sym once) (All-dedup (same_slots texts) (HasWord texts shared) sorted (All-permutation (HasWord texts shared) back sorted moved words_back)) in
+      let values : (first second : List ℕ) → last_value first second (entries_in texts kept) ≡ last_value first second (entries_in texts entered) = λ first second.
       last_value_by_key shared first second kept words
-      ∙ ap (option_map (λ s. s.entry.2)) (last_kept key_total key_cmp-IsAntisymmetric key_of (word_at shared first, (first, second)) same_slots same_is slots back sorted kept (turned ∙ reverse_map (slot_of shared) entered) ascends stable once strictly)
-      ∙ sym (last_value_by_key shared first second slots (slots_have_words shared entered))
-      ∙ ap (λ ts. last_value first second (entries_of ts)) (tuples_of_slots shared entered) in
+      ∙ ap (option_map (λ s. s.value)) (last_kept key_total key_cmp-IsAntisymmetric (key_of texts) (word_at shared first, (first, second)) (same_slots texts) same_is slots back sorted kept (turned ∙ reverse_map (numbered texts shared) entered) ascends stable once strictly)
+      ∙ sym (last_value_by_key shared first second slots (numbered_have_words shared entered))
+      ∙ ap (last_value first second) (entries_of_numbered shared entered) in
       record {
         sorted = strictly;
         words = words;
+        within = subst (All (IsWithin texts)) (sym once) (All-dedup (same_slots texts) (IsWithin texts) sorted (All-permutation (IsWithin texts) back sorted moved (subst (All (IsWithin texts)) (sym turned) (numbered_within shared (reverse entered) (reversed_within entered within)))));
         values = values;
-        count = sym (count_sorted shared kept strictly words) ∙ count_same (entries_of (tuples_of kept)) (entries_of entered) values;
+        count = sym (count_sorted shared kept strictly words) ∙ count_same (entries_in texts kept) (entries_in texts entered) values;
       }

@@ -23,4 +23,4 @@ pub use list::{Iter, List};
 pub use path::{JsonPointerNode, JsonPointerSegment};
 pub use segments::{pointer_of, value_at};
 pub use small_map::{BorrowedKey, SmallMap};
-pub use table::SortedTable;
+pub use table::{SortedTable, TableEntries};

@@ -1,9 +1,9 @@
 //! A table that is made once and then searched: from pairs of texts to values.
-ghost use Rattle.std.specs.Prelude.{◌≡◌, ℕ, ◌+◌, ◌-◌, ◌^◌, ◌<◌, ◌≤◌, ◌&&◌, string_bytes, bytes_eq, option_copied, map, reverse, length, take, drop, ◌++◌, IfOk};
-ghost use Rattle.ref_parts.specs.Table.{entries_of, last_value, pair_count};
+ghost use Rattle.std.specs.Prelude.{◌≡◌, ℕ, ◌+◌, ◌-◌, ◌^◌, ◌<◌, ◌≤◌, ◌&&◌, All, List, [], ◌∷◌, option_copied, IsUtf8, map, reverse, length, take, drop, ◌++◌, IfOk, OnOk, OnErr};
+ghost use Rattle.ref_parts.specs.Table.{entries_of, texts_of, with_value, ChangesBy, last_value, pair_count};
 ghost use Rattle.std.specs.Cmp.Lexicographic.{slice_cmp};
 ghost use Rattle.std.specs.Ordering.{nat_cmp};
-ghost use Rattle.ref_parts.specs.inner.SortedEntries.{big_endian, pair_cmp, pair_of, key_cmp, key_of, word_at, slot_of, zeros, words_of};
+ghost use Rattle.ref_parts.specs.inner.SortedEntries.{big_endian, pair_cmp, pair_of, key_cmp, key_of, word_at, text_between, moved, place_of, revalued, numbered, IsWithin, same_slots, zeros, words_of};
 
 use std::alloc::{AllocError, Global};
 use std::cmp::Ordering;
@@ -12,7 +12,8 @@ use std::snapshot::Snapshot;
 
 /// Values under pairs of texts, which are found by halving: they are in byte order, the greatest first, by the first text and
 /// by the second where the first are equal, each pair once. Of each first text eight bytes, after the beginning that all first
-/// texts have in common, stand as a number in a list beside them: most comparisons are of two such numbers.
+/// texts have in common, stand as a number in a list beside them: most comparisons are of two such numbers. The texts stand
+/// one after another in one buffer.
 ///
 /// Contracts see the list of the entries that it was made from.
 #[derive(Drop)]
@@ -20,16 +21,30 @@ pub struct SortedTable<V> {
     // The numbers of the entries, one after another, which is all that most steps of a search read.
     words: Vec<u64>,
     kept: Vec<Slot<V>>,
+    texts: Vec<u8>,
     // How many bytes the first texts begin with alike.
     shared: usize,
-    entered: Snapshot<Vec<(String, String, V)>>,
+    entered: Snapshot<Vec<Slot<V>>>,
 }
 
-// An entry, and the eight bytes of its first text after what all of them share, as a number that decides most comparisons.
+/// The entries of a table that is to be made. Texts are copied, one after another, into one buffer.
+///
+/// Contracts see the list of the entries.
+#[derive(Drop)]
+pub struct TableEntries<V> {
+    texts: Vec<u8>,
+    slots: Vec<Slot<V>>,
+}
+
+// An entry: where its two texts stand in the buffer, one right after the other, its value, and the eight bytes of its first text
+// after what all of them share, as a number that decides most comparisons. The number is 0 until the table is made.
 #[derive(Drop)]
 struct Slot<V> {
     word: u64,
-    entry: (String, String, V),
+    first: usize,
+    second: usize,
+    end: usize,
+    value: V,
 }
 
 impl<V> Model for SortedTable<V> {
@@ -37,42 +52,128 @@ impl<V> Model for SortedTable<V> {
 
     ghost Value = { List (List ℕ × List ℕ × V) };
 
-    ghost use Rattle.ref_parts.specs.Table.{entries_of};
     ghost use Rattle.std.specs.Prelude.{◌≡◌};
-    ghost use Rattle.ref_parts.specs.inner.SortedEntries.{KeepsLast, words_of};
+    ghost use Rattle.ref_parts.specs.inner.SortedEntries.{KeepsLast, entries_in, words_of};
 
-    ghost view = { λ t. entries_of t.entered.value.items };
+    ghost view = { λ t. entries_in t.texts.items t.entered.value.items };
 
-    ghost invariant = { λ t. KeepsLast t.shared t.kept.items t.entered.value.items × t.words.items ≡ words_of t.kept.items };
+    ghost invariant = { λ t. KeepsLast t.texts.items t.shared t.kept.items t.entered.value.items × t.words.items ≡ words_of t.kept.items };
+}
+
+impl<V> Model for TableEntries<V> {
+    ghost use Rattle.std.specs.Prelude.{List, ℕ};
+
+    ghost Value = { List (List ℕ × List ℕ × V) };
+
+    ghost use Rattle.std.specs.Prelude.{All};
+    ghost use Rattle.ref_parts.specs.inner.SortedEntries.{IsWithin, entries_in};
+
+    ghost view = { λ t. entries_in t.texts.items t.slots.items };
+
+    ghost invariant = { λ t. All (IsWithin t.texts.items) t.slots.items };
+}
+
+impl<V: Drop> TableEntries<V> {
+    /// No entries. Takes no memory.
+    pub fn new(alloc: Global) -> Self
+        ensures value { result ≡ [] }
+    {
+        TableEntries {
+            texts: Vec::new(alloc),
+            slots: Vec::new(alloc),
+        }
+    }
+
+    /// Adds an entry. Copies its texts. Takes memory where the buffer or the list has no room left. The entries stay as they
+    /// were where there is none.
+    pub fn push(&mut self, first: &str, second: &str, value: V) -> Result<(), AllocError>
+        ensures value { OnOk result
+            (self.new ≡ self.old ++ (first.now, second.now, value) ∷ []) }
+        ensures err { OnErr result (self.new ≡ self.old) }
+    {
+        let at = self.texts.len();
+        self.texts.extend_from_slice(first.as_bytes())?;
+        let middle = self.texts.len();
+        self.texts.extend_from_slice(second.as_bytes())?;
+        self.slots.push(Slot {
+            word: 0,
+            first: at,
+            second: middle,
+            end: self.texts.len(),
+            value,
+        })?;
+        Ok(())
+    }
+
+    /// Moves the entries of another list after these. Copies its texts. Takes memory where the buffer or the list has no room
+    /// left. Where there is none the other entries are let go, and these stay as they were.
+    pub fn append(&mut self, other: TableEntries<V>) -> Result<(), AllocError>
+        ensures value { OnOk result (self.new ≡ self.old ++ other) }
+        ensures err { OnErr result (self.new ≡ self.old) }
+    {
+        let TableEntries { texts, slots } = other;
+        let mut slots = slots;
+        let before = self.texts.len();
+        self.texts.extend_from_slice(texts.as_slice())?;
+        move_behind(before, slots.as_mut_slice());
+        self.slots.append(&mut slots)?;
+        Ok(())
+    }
+
+    /// Changes the value of each entry in turn, from the first on. Texts stay as they are. Takes no memory but what `change` takes.
+    pub fn change_values<F: FnMut(&mut V)>(&mut self, change: F)
+        requires { F.IsAlwaysCallable change }
+        ensures texts { map texts_of self.new ≡ map texts_of self.old }
+        ensures value { (h : V → V) → ChangesBy F.FnMut change h
+            → self.new ≡ map (with_value h) self.old }
+    {
+        change_each(self.slots.as_mut_slice(), change);
+    }
+
+    /// The table of these entries: under each pair of texts the value that was entered last.
+    ///
+    /// Texts and values move in, and none is copied. Takes memory for the table and to sort it, and is refused where
+    /// there is none. At most about `n * log2(n)` comparisons of two entries.
+    pub fn into_table(self, alloc: Global) -> Result<SortedTable<V>, AllocError>
+        ensures entered { IfOk result (λ table. table ≡ self) }
+    {
+        let TableEntries { texts, slots } = self;
+        let mut kept = slots;
+        let entered = Snapshot::of(&kept);
+        let shared = shared_len(texts.as_slice(), kept.as_slice());
+        // Sorting keeps the order of equal pairs, and of these the first stays. Entries that came in byte order fall
+        // now, and need only be passed.
+        number_backwards(texts.as_slice(), kept.as_mut_slice(), shared);
+        let buffer = &texts;
+        kept.as_mut_slice()
+            .sort_by(alloc, |a, b| slot_order(buffer, a, b))?;
+        kept.dedup_by(|a, b| is_same(buffer, a, b));
+        Ok(SortedTable {
+            words: words_of(alloc, kept.as_slice())?,
+            kept,
+            texts,
+            shared,
+            entered,
+        })
+    }
 }
 
 impl<V: Drop> SortedTable<V> {
     /// The table of these entries: under each pair of texts the value that was entered last.
     ///
-    /// Texts and values move in, and none is copied. Takes memory for the table and to sort it, and is refused where
-    /// there is none. At most about `n * log2(n)` comparisons of two entries.
+    /// Values move in, and texts are copied into the table's buffer. Takes memory for the table and to sort it, and is refused
+    /// where there is none. At most about `n * log2(n)` comparisons of two entries.
     pub fn from_entries(
         alloc: Global,
         entries: Vec<(String, String, V)>,
     ) -> Result<Self, AllocError>
         ensures entered { IfOk result (λ table. table ≡ entries_of entries.items) }
     {
-        let entered = Snapshot::of(&entries);
-        let shared = shared_len(entries.as_slice());
-        // Sorting keeps the order of equal pairs, and of these the first stays. Entries that came in byte order fall
-        // now, and need only be passed.
-        let mut kept = slots_backwards(alloc, entries, shared)?;
-        kept.as_mut_slice().sort_by(
-            alloc,
-            |a, b| order(a.word, a, b.word, b.entry.0.as_str(), b.entry.1.as_str()),
-        )?;
-        kept.dedup_by(|a, b| a.word == b.word && a.entry.0 == b.entry.0 && a.entry.1 == b.entry.1);
-        Ok(SortedTable {
-            words: words_of(alloc, kept.as_slice())?,
-            kept,
-            shared,
-            entered,
-        })
+        let mut collected = TableEntries::new(alloc);
+        for (first, second, value) in entries {
+            collected.push(first.as_str(), second.as_str(), value)?;
+        }
+        collected.into_table(alloc)
     }
 }
 
@@ -97,7 +198,7 @@ impl<V> SortedTable<V> {
         ensures asked { 0 < pair_count self.now → 0 < result.1 }
         ensures probes { (digits : ℕ) → pair_count self.now < 2 ^ digits → result.1 ≤ digits }
     {
-        let word = word_at(first, self.shared);
+        let word = word_at(first.as_bytes(), self.shared);
         let mut probes = 0;
         let mut low = 0;
         let mut high = self.words.len();
@@ -105,9 +206,9 @@ impl<V> SortedTable<V> {
             let middle = (low + high) / 2;
             let number = self.words[middle];
             let slot = &self.kept[middle];
-            match probe(number, slot, word, first, second, &mut probes) {
+            match probe(&self.texts, number, slot, word, first, second, &mut probes) {
                 Ordering::Less => low = middle + 1,
-                Ordering::Equal => return (Some(&slot.entry.2), probes),
+                Ordering::Equal => return (Some(&slot.value), probes),
                 Ordering::Greater => high = middle,
             }
         }
@@ -115,20 +216,40 @@ impl<V> SortedTable<V> {
     }
 }
 
-// The entries from the last to the first, each with the word of its first text.
-fn slots_backwards<V: Drop>(
-    alloc: Global,
-    mut entries: Vec<(String, String, V)>,
-    shared: usize,
-) -> Result<Vec<Slot<V>>, AllocError>
-    ensures { IfOk result (λ slots. slots.items ≡ map (slot_of shared) (reverse entries.items)) }
+// Moves the offsets of slots, whose texts are after so many more bytes.
+fn move_behind<V>(before: usize, slots: &mut [Slot<V>])
+    requires { (texts : List ℕ) × All (IsWithin texts) slots.old × before + length texts < 2 ^ 64 }
+    ensures value { slots.new ≡ map (moved before) slots.old }
+    ensures len { length slots.new ≡ length slots.old }
 {
-    let mut slots = Vec::with_capacity(alloc, entries.len())?;
-    while let Some(entry) = entries.pop() {
-        let word = word_at(entry.0.as_str(), shared);
-        slots.push(Slot { word, entry })?;
+    for slot in slots.iter_mut() {
+        slot.first += before;
+        slot.second += before;
+        slot.end += before;
     }
-    Ok(slots)
+}
+
+// Changes the value of each slot in turn.
+fn change_each<V, F: FnMut(&mut V)>(slots: &mut [Slot<V>], mut change: F)
+    requires { F.IsAlwaysCallable change }
+    ensures places { map place_of slots.new ≡ map place_of slots.old }
+    ensures len { length slots.new ≡ length slots.old }
+    ensures value { (h : V → V) → ChangesBy F.FnMut change h → slots.new ≡ map (revalued h) slots.old }
+{
+    for slot in slots.iter_mut() {
+        change(&mut slot.value);
+    }
+}
+
+// Turns slots round, and gives each the word of its first text.
+fn number_backwards<V>(texts: &[u8], slots: &mut [Slot<V>], shared: usize)
+    ensures value { slots.new ≡ map (numbered texts.now shared) (reverse slots.old) }
+    ensures len { length slots.new ≡ length slots.old }
+{
+    slots.reverse();
+    for slot in slots.iter_mut() {
+        slot.word = word_at(text_between(texts, slot.first, slot.second), shared);
+    }
 }
 
 // The numbers of slots, in their order.
@@ -143,13 +264,13 @@ fn words_of<V>(alloc: Global, slots: &[Slot<V>]) -> Result<Vec<u64>, AllocError>
 }
 
 // How many bytes the first texts of all entries begin with alike.
-fn shared_len<V>(entries: &[(String, String, V)]) -> usize {
-    let Some(entry) = entries.first() else {
+fn shared_len<V>(texts: &[u8], slots: &[Slot<V>]) -> usize {
+    let Some(slot) = slots.first() else {
         return 0;
     };
-    let mut shared = entry.0.as_bytes();
-    for entry in entries {
-        shared = shared_part(shared, entry.0.as_bytes());
+    let mut shared = text_between(texts, slot.first, slot.second);
+    for slot in slots {
+        shared = shared_part(shared, text_between(texts, slot.first, slot.second));
     }
     shared.len()
 }
@@ -169,10 +290,9 @@ fn shared_part<'t>(text: &'t [u8], other: &[u8]) -> &'t [u8] {
 
 // The eight bytes of a text from a place on as a number, the first one highest, with 0 for each that it hasn't. Where fewer are
 // left, the text's last eight are read at once, and those before the place fall out at the top.
-fn word_at(text: &str, from: usize) -> u64
-    ensures { result ≡ word_at from text.now }
+fn word_at(bytes: &[u8], from: usize) -> u64
+    ensures { result ≡ word_at from bytes.now }
 {
-    let bytes = text.as_bytes();
     let rest = &bytes[from.min(bytes.len())..];
     if let Some((eight, _)) = rest.split_first_chunk::<8>() {
         return u64::from_be_bytes(*eight);
@@ -203,9 +323,31 @@ fn first_eight(bytes: &[u8]) -> [u8; 8]
     first
 }
 
+// The part of the texts from one offset to another; what there is of it, where they don't reach so far.
+#[inline(always)]
+fn text_between(texts: &[u8], from: usize, to: usize) -> &[u8]
+    ensures { result.now ≡ text_between from to texts.now }
+{
+    let end = to.min(texts.len());
+    &texts[from.min(end)..end]
+}
+
+// The same as a text, where the offsets are in order and there is a text between them. It isn't read to see that it is one: texts
+// are compared in fewer steps than bytes, and a look-up that compared bytes took 38 instructions more.
+#[inline(always)]
+fn text_within(texts: &[u8], from: usize, to: usize) -> &str
+    requires order { from ≤ to }
+    requires within { to ≤ length texts.now }
+    requires text { IsUtf8 (text_between from to texts.now) }
+    ensures { result.now ≡ text_between from to texts.now }
+{
+    unsafe { str::from_utf8_unchecked(&texts[from..to]) }
+}
+
 // Compares an entry, whose number is given, with two texts, and counts that it did.
 #[inline(always)]
 fn probe<V>(
+    texts: &Vec<u8>,
     number: u64,
     slot: &Slot<V>,
     word: u64,
@@ -214,22 +356,31 @@ fn probe<V>(
     probes: &mut usize,
 ) -> Ordering
     requires number { number ≡ slot.now.word }
+    requires within { IsWithin texts.now.items slot.now }
     requires counts { probes.old + 1 < 2 ^ 64 }
-    ensures order { result ≡ key_cmp (key_of slot.now) (word, (first.now, second.now)) }
+    ensures order { result ≡ key_cmp (key_of texts.now.items slot.now) (word, (first.now, second.now)) }
     ensures counted { probes.new ≡ probes.old + 1 }
 {
     *probes += 1;
-    order(number, slot, word, first, second)
+    order(texts, number, slot, word, first, second)
 }
 
 // Whether an entry is before two texts with the word of the first: by the words, and by the texts where those are
-// equal, the greatest first. Few comparisons read texts, so those stay out of what sorts and searches; and each answer
+// equal, the greatest first. Few comparisons read texts, so those stay out of what searches; and each answer
 // is given by a branch of its own, which takes fewer steps there than an order that is then matched. The entry's number
 // is given, since a search reads it elsewhere.
 #[inline(always)]
-fn order<V>(number: u64, slot: &Slot<V>, word: u64, first: &str, second: &str) -> Ordering
-    requires { number ≡ slot.now.word }
-    ensures { result ≡ key_cmp (key_of slot.now) (word, (first.now, second.now)) }
+fn order<V>(
+    texts: &Vec<u8>,
+    number: u64,
+    slot: &Slot<V>,
+    word: u64,
+    first: &str,
+    second: &str,
+) -> Ordering
+    requires number { number ≡ slot.now.word }
+    requires within { IsWithin texts.now.items slot.now }
+    ensures { result ≡ key_cmp (key_of texts.now.items slot.now) (word, (first.now, second.now)) }
 {
     if word < number {
         return Ordering::Less;
@@ -237,17 +388,63 @@ fn order<V>(number: u64, slot: &Slot<V>, word: u64, first: &str, second: &str) -
     if word > number {
         return Ordering::Greater;
     }
-    texts_of_equal_words(first, second, slot)
+    texts_of_equal_words(texts, first, second, slot)
 }
 
-// The order of two texts and those of an entry: by the first of each, and by the second only where those are equal.
-#[inline(never)]
-fn texts_of_equal_words<V>(first: &str, second: &str, slot: &Slot<V>) -> Ordering
-    ensures { result ≡ pair_cmp (first.now, second.now) (pair_of slot.now.entry) }
+// The same for two entries, whose texts stay out of what sorts. Any two are compared, wherever their offsets are.
+#[inline(always)]
+fn slot_order<V>(texts: &Vec<u8>, slot: &Slot<V>, other: &Slot<V>) -> Ordering
+    ensures { result ≡ key_cmp (key_of texts.now.items slot.now) (key_of texts.now.items other.now) }
 {
-    let other_first = slot.entry.0.as_str();
+    if other.word < slot.word {
+        return Ordering::Less;
+    }
+    if other.word > slot.word {
+        return Ordering::Greater;
+    }
+    texts_of_slots(texts, slot, other)
+}
+
+// The order of the texts of the second entry and those of the first.
+#[inline(never)]
+fn texts_of_slots<V>(texts: &Vec<u8>, slot: &Slot<V>, other: &Slot<V>) -> Ordering
+    ensures { result ≡ pair_cmp (pair_of texts.now.items other.now) (pair_of texts.now.items slot.now) }
+{
+    let buffer = texts.as_slice();
+    let first = text_between(buffer, slot.first, slot.second);
+    let other_first = text_between(buffer, other.first, other.second);
+    if other_first == first {
+        let second = text_between(buffer, slot.second, slot.end);
+        let other_second = text_between(buffer, other.second, other.end);
+        return other_second.cmp(&second);
+    }
+    other_first.cmp(&first)
+}
+
+// Whether two entries have one word and the same texts.
+#[inline(always)]
+fn is_same<V>(texts: &Vec<u8>, slot: &Slot<V>, other: &Slot<V>) -> bool
+    ensures { result ≡ same_slots texts.now.items slot.now other.now }
+{
+    let buffer = texts.as_slice();
+    slot.word == other.word
+        && text_between(buffer, slot.first, slot.second)
+            == text_between(buffer, other.first, other.second)
+        && text_between(buffer, slot.second, slot.end)
+            == text_between(buffer, other.second, other.end)
+}
+
+// The order of two texts and those of an entry: by the first of each, and by the second only where those are equal. The buffer is
+// given by one address, so that no argument is put on the stack.
+#[inline(never)]
+fn texts_of_equal_words<V>(texts: &Vec<u8>, first: &str, second: &str, slot: &Slot<V>) -> Ordering
+    requires { IsWithin texts.now.items slot.now }
+    ensures { result ≡ pair_cmp (first.now, second.now) (pair_of texts.now.items slot.now) }
+{
+    let buffer = texts.as_slice();
+    let other_first = text_within(buffer, slot.first, slot.second);
     if first == other_first {
-        return text_order(second, slot.entry.1.as_str());
+        return text_order(second, text_within(buffer, slot.second, slot.end));
     }
     first.cmp(&other_first)
 }

@@ -1,10 +1,11 @@
-use Rattle.std.proofs.Common.{◌≡◌, string_bytes, true, false, refl, sym, ap, ◌∙◌}
+use Rattle.std.proofs.Common.{◌≡◌, bytes_eq, true, false, refl, sym, ap, ◌∙◌}
 use Rattle.std.proofs.lemmas.Bool.{false≢true}
 use Rattle.std.specs.Ordering.{nat_cmp, ordering_then, is_eq}
 use Rattle.std.specs.Cmp.Lexicographic.{slice_cmp}
 use Rattle.std.specs.declared.cmp.Ordering.{Ordering}
 use Rattle.std.specs.declared.cmp.Ordering.TheVariants.{Less, Equal, Greater}
 use Rattle.std.proofs.lemmas.Map.Text.{is_eq-slice_cmp}
+use Rattle.ref_parts.specs.inner.SortedEntries.{text_between}
 use Rattle.ref_parts.proofs.table.texts_of_equal_words.Goals as goal
 
 first_decides : (x y : Ordering) → is_eq x ≡ false → x ≡ ordering_then x y
@@ -19,14 +20,19 @@ second_decides Greater y alike = absurd (false≢true alike)
 
 pub returns-then-eq : goal.returns-then-eq
 returns-then-eq g c =
-    let alike : is_eq (slice_cmp nat_cmp c.args.first.now c.as_str-other_first.result.now) ≡ true =
-    is_eq-slice_cmp c.args.first.now c.as_str-other_first.result.now ∙ sym c.eq.ensures ∙ c.if-eq.true in
-    c.text_order.ensures ∙ ap (slice_cmp nat_cmp c.args.second.now) c.as_str.ensures.value ∙ second_decides _ _ alike
-    ∙ ap (λ t. ordering_then (slice_cmp nat_cmp c.args.first.now t) (slice_cmp nat_cmp c.args.second.now (string_bytes c.args.slot.now.entry.1))) c.as_str-other_first.ensures.value
+    let other = text_between c.args.slot.now.first c.args.slot.now.second c.args.texts.now.items in
+    let is : c.text_within-other_first.result.now ≡ other = c.text_within-other_first.ensures ∙ ap (text_between c.args.slot.now.first c.args.slot.now.second) c.as_slice-buffer.ensures.value in
+    let alike : is_eq (slice_cmp nat_cmp c.args.first.now other) ≡ true =
+    is_eq-slice_cmp c.args.first.now other ∙ ap (bytes_eq c.args.first.now) (sym is) ∙ sym c.eq.ensures ∙ c.if-eq.true in
+    c.text_order.ensures
+    ∙ ap (slice_cmp nat_cmp c.args.second.now) (c.text_within.ensures ∙ ap (text_between c.args.slot.now.second c.args.slot.now.end) c.as_slice-buffer.ensures.value)
+    ∙ second_decides _ _ alike
 
 pub returns : goal.returns
 returns g c =
-    let unlike : is_eq (slice_cmp nat_cmp c.args.first.now c.as_str-other_first.result.now) ≡ false =
-    is_eq-slice_cmp c.args.first.now c.as_str-other_first.result.now ∙ sym c.eq.ensures ∙ c.if-eq.false in
-    c.cmp.ensures ∙ first_decides _ (slice_cmp nat_cmp c.args.second.now (string_bytes c.args.slot.now.entry.1)) unlike
-    ∙ ap (λ t. ordering_then (slice_cmp nat_cmp c.args.first.now t) (slice_cmp nat_cmp c.args.second.now (string_bytes c.args.slot.now.entry.1))) c.as_str-other_first.ensures.value
+    let other = text_between c.args.slot.now.first c.args.slot.now.second c.args.texts.now.items in
+    let is : c.text_within-other_first.result.now ≡ other = c.text_within-other_first.ensures ∙ ap (text_between c.args.slot.now.first c.args.slot.now.second) c.as_slice-buffer.ensures.value in
+    let unlike : is_eq (slice_cmp nat_cmp c.args.first.now other) ≡ false =
+    is_eq-slice_cmp c.args.first.now other ∙ ap (bytes_eq c.args.first.now) (sym is) ∙ sym c.eq.ensures ∙ c.if-eq.false in
+    c.cmp.ensures ∙ ap (slice_cmp nat_cmp c.args.first.now) is
+    ∙ first_decides _ (slice_cmp nat_cmp c.args.second.now (text_between c.args.slot.now.second c.args.slot.now.end c.args.texts.now.items)) unlike

@@ -1,4 +1,4 @@
-use Rattle.std.proofs.Common.{◌≡◌, List, ℕ, ◌-◌, ◌<◌, ◌≤◌, drop, take, length, min, sym, ap, ◌∙◌, arith}
+use Rattle.std.proofs.Common.{◌≡◌, List, ℕ, ◌-◌, ◌<◌, ◌≤◌, drop, take, length, min, refl, sym, ap, ◌∙◌, arith}
 use Rattle.std.specs.Int.{from_be_bytes, w64}
 use Rattle.std.proofs.lemmas.List.{take_all, drop_min, drop-drop, length-drop}
 use Rattle.ref_parts.specs.inner.SortedEntries.{big_endian}
@@ -25,15 +25,15 @@ last_of_eight bytes cut within few some =
 pub returns-in-Some : goal.returns-in-Some
 returns-in-Some c =
     c.from_be_bytes.ensures ∙ ap (from_be_bytes w64) c.in-Some.ensures.cases.0 ∙ number_of_eight _ (omega (arith, c.in-Some.ensures.cases.2))
-    ∙ ap (big_endian 8) (behind _ _ c.args.from _ c.min.ensures c.as_bytes-bytes.ensures.value)
+    ∙ ap (big_endian 8) (behind _ _ c.args.from _ c.min.ensures refl)
 
 pub returns-in-Some-split_last_chunk : goal.returns-in-Some-split_last_chunk
 returns-in-Some-split_last_chunk c =
-    let bytes : List ℕ = c.as_bytes-bytes.result.now in
+    let bytes : List ℕ = c.args.bytes.now in
     c.last_bytes.ensures ∙ ap (λ l. big_endian 8 (drop (8 - length (rest bytes c.min.result)) l)) c.in-Some-split_last_chunk.ensures.cases.1
     ∙ ap (big_endian 8) (last_of_eight bytes c.min.result (omega (arith, c.min.ensures)) c.in_default.ensures.cases (omega (arith, c.in-Some-split_last_chunk.ensures.cases.2)))
-    ∙ ap (big_endian 8) (behind _ _ c.args.from _ c.min.ensures c.as_bytes-bytes.ensures.value)
+    ∙ ap (big_endian 8) (behind _ _ c.args.from _ c.min.ensures refl)
 
 pub returns : goal.returns
 returns c =
-    c.from_be_bytes-2.ensures ∙ ap (from_be_bytes w64) c.first_eight.ensures ∙ number_of_filled _ ∙ ap (big_endian 8) (behind _ _ c.args.from _ c.min.ensures c.as_bytes-bytes.ensures.value)
+    c.from_be_bytes-2.ensures ∙ ap (from_be_bytes w64) c.first_eight.ensures ∙ number_of_filled _ ∙ ap (big_endian 8) (behind _ _ c.args.from _ c.min.ensures refl)

@@ -2,12 +2,18 @@ use Rattle.std.proofs.Common.{◌≡◌, ◌+◌, ◌-◌, ◌*◌, ◌/◌, ◌
 use Rattle.ref_parts.specs.Table.{last_value, pair_count}
 use Rattle.ref_parts.proofs.ProbeLaws.{below_digits, halved, enough, below_middle, above_middle, found_at, found_nowhere, number_at, positive}
 use Rattle.ref_parts.proofs.TableLaws.{key_total}
-use Rattle.ref_parts.specs.inner.SortedEntries.{key_of}
+use Rattle.ref_parts.specs.inner.SortedEntries.{IsWithin, word_at, key_of}
 use Rattle.ref_parts.proofs.table.SortedTable.get.Goals as goal
 
 pub probe-requires-clause-number : goal.probe-requires-clause-number
 probe-requires-clause-number g c =
     number_at c.self.inside.kept.items c.self.inside.words.items c.self.invariant.1 ((c.loop-low.low + c.loop-low.high) / 2) c.index-number.result.now c.index-slot.result.now (omega arith) c.index-number.ensures c.index-slot.ensures
+
+pub probe-requires-clause-within : goal.probe-requires-clause-within
+probe-requires-clause-within g c =
+    let kept = c.self.inside.kept.items in
+    let middle = (c.loop-low.low + c.loop-low.high) / 2 in
+    subst (IsWithin c.self.inside.texts.items) (sym c.index-slot.ensures) (c.self.invariant.0.within middle c.index-slot.result.now (omega arith))
 
 pub probe-requires-clause-counts : goal.probe-requires-clause-counts
 probe-requires-clause-counts g c =
@@ -19,7 +25,10 @@ probe-requires-clause-counts g c =
 
 pub returns-clause-value : goal.returns-clause-value
 returns-clause-value g c =
-    sym (ap (last_value c.args.first.now c.args.second.now) (sym c.self.view_is) ∙ found_nowhere c.self.inside.shared c.self.inside.entered.value.items c.self.inside.kept.items c.self.invariant.0 c.args.first.now c.args.second.now _ c.word_at-word.ensures c.loop-low.low c.loop-low.high (omega arith) c.loop-low.invariant.below c.loop-low.invariant.above)
+    let first = c.args.first.now in
+    let second = c.args.second.now in
+    let word = c.word_at-word.ensures ∙ ap (word_at c.self.inside.shared) c.as_bytes.ensures.value in
+    sym (ap (last_value c.args.first.now c.args.second.now) (sym c.self.view_is) ∙ found_nowhere c.self.inside.texts.items c.self.inside.shared c.self.inside.entered.value.items c.self.inside.kept.items c.self.invariant.0 first second _ word c.loop-low.low c.loop-low.high (omega arith) c.loop-low.invariant.below c.loop-low.invariant.above)
 
 pub returns-clause-asked : goal.returns-clause-asked
 returns-clause-asked g c some =
@@ -39,7 +48,10 @@ returns-in-Equal-clause-probes g c = λ digits above.
 pub returns-in-Equal-clause-value : goal.returns-in-Equal-clause-value
 returns-in-Equal-clause-value g c =
     let kept = c.self.inside.kept.items in
-    sym (ap (last_value c.args.first.now c.args.second.now) (sym c.self.view_is) ∙ found_at c.self.inside.shared c.self.inside.entered.value.items kept c.self.invariant.0 c.args.first.now c.args.second.now _ c.word_at-word.ensures ((c.loop-low.low + c.loop-low.high) / 2) c.index-slot.result.now (omega arith) c.index-slot.ensures (sym c.in-Equal.ensures.order))
+    let first = c.args.first.now in
+    let second = c.args.second.now in
+    let word = c.word_at-word.ensures ∙ ap (word_at c.self.inside.shared) c.as_bytes.ensures.value in
+    sym (ap (last_value c.args.first.now c.args.second.now) (sym c.self.view_is) ∙ found_at c.self.inside.texts.items c.self.inside.shared c.self.inside.entered.value.items kept c.self.invariant.0 first second _ word ((c.loop-low.low + c.loop-low.high) / 2) c.index-slot.result.now (omega arith) c.index-slot.ensures (sym c.in-Equal.ensures.order))
 
 pub loop-low-preserved-in-Less : goal.loop-low-preserved-in-Less
 loop-low-preserved-in-Less g c =
@@ -50,7 +62,7 @@ loop-low-preserved-in-Less g c =
     record {
       ordered = omega (arith, some);
       within = omega (arith, c.loop-low.invariant.within);
-      below = λ k d under. below_middle key_total key_of (c.word_at-word.result, (c.args.first.now, c.args.second.now)) kept c.self.invariant.0.sorted middle c.index-slot.result.now (omega arith) c.index-slot.ensures (sym c.in-Less.ensures.order) k d (omega (arith, under));
+      below = λ k d under. below_middle key_total (key_of c.self.inside.texts.items) (c.word_at-word.result, (c.args.first.now, c.args.second.now)) kept c.self.invariant.0.sorted middle c.index-slot.result.now (omega arith) c.index-slot.ensures (sym c.in-Less.ensures.order) k d (omega (arith, under));
       above = λ k d over inside. c.loop-low.invariant.above k d (omega (arith, over, some)) inside;
       spent = λ digits above. let few = below_digits probes (length kept) digits (enough _ probes (length kept) c.loop-low.invariant.left some) above in omega (arith, few, c.in-Less.ensures.counted);
       idle = λ none. absurd (omega (arith, none, c.in-Less.ensures.counted));
@@ -67,7 +79,7 @@ loop-low-preserved g c =
       ordered = omega (arith, some);
       within = omega (arith, c.loop-low.invariant.within);
       below = c.loop-low.invariant.below;
-      above = above_middle key_total key_of (c.word_at-word.result, (c.args.first.now, c.args.second.now)) kept c.self.invariant.0.sorted middle c.index-slot.result.now (omega arith) c.index-slot.ensures (sym c.in-Greater.ensures.order);
+      above = above_middle key_total (key_of c.self.inside.texts.items) (c.word_at-word.result, (c.args.first.now, c.args.second.now)) kept c.self.invariant.0.sorted middle c.index-slot.result.now (omega arith) c.index-slot.ensures (sym c.in-Greater.ensures.order);
       spent = λ digits above. let few = below_digits probes (length kept) digits (enough _ probes (length kept) c.loop-low.invariant.left some) above in omega (arith, few, c.in-Greater.ensures.counted);
       idle = λ none. absurd (omega (arith, none, c.in-Greater.ensures.counted));
       left = subst (λ p. (middle - c.loop-low.low) * 2 ^ p ≤ length kept) (sym c.in-Greater.ensures.counted) (halved (c.loop-low.high - c.loop-low.low) _ probes (length kept) c.loop-low.invariant.left (omega arith));
