@@ -22,16 +22,30 @@ pairs_of_reference base reference =
     if slice_index reference 0 == 35 then [] else (base, uri_part reference) ∷ []
 
 -- that of the text under `$ref`, with the base of its place
-abbrev pub reference_pairs : List ℕ → Data → List Pair
-reference_pairs base value =
+abbrev pub pairs_of_value : List ℕ → Data → List Pair
+pairs_of_value base value =
     option_map_or (pairs_of_reference base) (text_under (codes "$ref") value) []
 
--- those of a place: of its identifier, and of its reference where it has a base
-abbrev pub pairs_at : Place → List Pair
-pairs_at p =
-    pairs_of_identifier p.outer (identifier_of p)
-    ++ option_map_or (λ base. reference_pairs base p.value) (result_ok p.base) []
+-- that of a place's identifier
+abbrev pub identifier_pairs_at : Place → List Pair
+identifier_pairs_at p = pairs_of_identifier p.outer (identifier_of p)
 
--- those of a layer, by documents and places
+-- that of a place's reference, where the place has a base
+abbrev pub reference_pairs_at : Place → List Pair
+reference_pairs_at p = option_map_or (λ base. pairs_of_value base p.value) (result_ok p.base) []
+
+-- those of a place
+abbrev pub pairs_at : Place → List Pair
+pairs_at p = identifier_pairs_at p ++ reference_pairs_at p
+
+-- those of a layer's identifiers, by documents and places
+abbrev pub identifier_pairs : Layer → List Pair
+identifier_pairs layer = flat_map (λ d. flat_map identifier_pairs_at (places d)) layer
+
+-- those of its references, likewise
+abbrev pub reference_pairs : Layer → List Pair
+reference_pairs layer = flat_map (λ d. flat_map reference_pairs_at (places d)) layer
+
+-- those of a layer, of identifiers first
 abbrev pub pairs : Layer → List Pair
-pairs layer = flat_map (λ d. flat_map pairs_at (places d)) layer
+pairs layer = identifier_pairs layer ++ reference_pairs layer

@@ -1,11 +1,10 @@
 -- One entry more in what was found.
-use Rattle.std.proofs.Common.{◌≡◌, ℕ, Bool, true, false, ◌||◌, cond, List, [], ◌∷◌, ◌++◌, map, refl, sym, ap, ◌∙◌, subst, append_assoc, bytes_eq, String, inl, inr, ⊎_elim}
-use Rattle.std.specs.List.{list_any, AllZip, Contains}
-use Rattle.std.specs.declared.alloc.Global.{Global}
-use Rattle.std.proofs.lemmas.List.Elements.{Contains-append_left, Contains-push, Contains-push_cases}
+use Rattle.std.proofs.Common.{◌≡◌, ℕ, Bool, true, false, ◌||◌, cond, List, [], ◌∷◌, ◌++◌, map, refl, sym, ap, ◌∙◌, subst, append_assoc, bytes_eq}
+use Rattle.std.specs.List.{list_any, AllZip}
 use Rattle.std.proofs.lemmas.List.Folds.{list_any-append}
 use Rattle.ref_draft.specs.Anchors.{Kind, anchors}
 use Rattle.ref_draft.specs.Views.{Tagged, tagged_value}
+use Rattle.ref_parts.specs.Table as table
 use Rattle.ref_definitions.specs.Places.{Place}
 use Rattle.ref_definitions.specs.Anchors.{Named, named_under}
 use Rattle.ref_definitions.specs.World.{Layer}
@@ -13,7 +12,7 @@ use Rattle.ref_index.specs.declared.entry.Entry.{Entry}
 use Rattle.ref_index.specs.Spots.{numbered}
 use Rattle.ref_definitions.specs.Cached.{Pair}
 use Rattle.ref_index.specs.declared.found.ResolvedUri.{ResolvedUri}
-use Rattle.ref_index.specs.Found.{ArePairsOf, IsNumberOf, IsPairOf, name_entry}
+use Rattle.ref_index.specs.Found.{IsNumberOf, IsPairOf, name_entry}
 
 -- a URI more among those that identify places
 known_more : (before : Bool) (here : Bool) → (before || (here || false)) ≡ cond here true before
@@ -42,38 +41,12 @@ zip_join R [] (y ∷ ys) vs ws all more = absurd all
 zip_join R (x ∷ xs) [] vs ws all more = absurd all
 zip_join R (x ∷ xs) (y ∷ ys) vs ws all more = (all.0, zip_join R xs ys vs ws all.1 more)
 
--- ---- one more pair
-
-here : {A : Type 0} (xs : List A) (y x : A) → y ≡ x → Contains (xs ++ y ∷ []) x
-here xs y x same = subst (Contains (xs ++ y ∷ [])) same (Contains-push xs y)
-
+-- one more of what was resolved
 abbrev pub Resolved : Type 0
-Resolved = String Global × String Global × ResolvedUri
+Resolved = table.Entry ResolvedUri
 
-module _ (identifiers references : List Resolved) (t : Resolved) (ps : List Pair) (p : Pair) (are : ArePairsOf identifiers references ps) (is : IsPairOf t p) where
-  pub identifier_more : ArePairsOf (identifiers ++ t ∷ []) references (ps ++ p ∷ [])
-  identifier_more = record {
-    own = are.own ++ p ∷ [];
-    referred = are.referred;
-    of_identifiers = zip_push IsPairOf identifiers are.own t p are.of_identifiers is;
-    of_references = are.of_references;
-    each = λ q there.
-        ⊎_elim (λ before. ⊎_elim (λ o. inl (Contains-append_left are.own (p ∷ []) q o)) (λ r. inr r) (are.each q before)) (λ same. inl (here are.own p q same)) (Contains-push_cases ps p q there);
-    only = λ q there.
-        ⊎_elim (λ o. ⊎_elim (λ before. Contains-append_left ps (p ∷ []) q (are.only q (inl before))) (here ps p q) (Contains-push_cases are.own p q o)) (λ r. Contains-append_left ps (p ∷ []) q (are.only q (inr r))) there;
-  }
-
-  pub reference_more : ArePairsOf identifiers (references ++ t ∷ []) (ps ++ p ∷ [])
-  reference_more = record {
-    own = are.own;
-    referred = are.referred ++ p ∷ [];
-    of_identifiers = are.of_identifiers;
-    of_references = zip_push IsPairOf references are.referred t p are.of_references is;
-    each = λ q there.
-        ⊎_elim (λ before. ⊎_elim (λ o. inl o) (λ r. inr (Contains-append_left are.referred (p ∷ []) q r)) (are.each q before)) (λ same. inr (here are.referred p q same)) (Contains-push_cases ps p q there);
-    only = λ q there.
-        ⊎_elim (λ o. Contains-append_left ps (p ∷ []) q (are.only q (inl o))) (λ r. ⊎_elim (λ before. Contains-append_left ps (p ∷ []) q (are.only q (inr before))) (here ps p q) (Contains-push_cases are.referred p q r)) there;
-  }
+pub pair_more : (old new : List Resolved) (ps : List Pair) (p : Pair) → AllZip IsPairOf old ps → (t : Resolved) × (new ≡ old ++ t ∷ []) × IsPairOf t p → AllZip IsPairOf new (ps ++ p ∷ [])
+pair_more old new ps p all (t, more, is) = subst (λ l. AllZip IsPairOf l (ps ++ p ∷ [])) (sym more) (zip_push IsPairOf old ps t p all is)
 
 -- an entry's number, where the entries are the same
 pub number_kept : (layer : Layer) (before after : List Entry) (number n : ℕ) (p : Place) → after ≡ before → IsNumberOf layer before number n p → IsNumberOf layer after number n p

@@ -1,23 +1,22 @@
 -- A document after others.
 use Rattle.std.proofs.Common.{◌≡◌, ℕ, zero, suc, List, [], ◌∷◌, ◌++◌, flat_map, length, Some, ⊎_elim, refl, sym, ap, ◌∙◌, subst, append-nil}
-use Rattle.std.specs.Prelude.{slice_get, String}
-use Rattle.std.specs.declared.alloc.Global.{Global}
+use Rattle.std.specs.Prelude.{slice_get}
 use Rattle.std.specs.List.{AllZip, Contains}
 use Rattle.std.proofs.lemmas.List.Elements.{All-contains, All-from_recursion, Contains-push_cases}
 use Rattle.std.proofs.lemmas.Grind.{flat_map-append}
+use Rattle.ref_parts.specs.Table as table
 use Rattle.ref_definitions.specs.World.{Document, Layer}
 use Rattle.ref_definitions.specs.Places.{Place, places}
 use Rattle.ref_definitions.specs.Resources.{resources_in}
 use Rattle.ref_definitions.specs.Anchors.{Named, names_in}
-use Rattle.ref_definitions.specs.Cached.{Pair, pairs_at, pairs}
-use Rattle.ref_definitions.specs.Wants.{Want, wants, faults}
+use Rattle.ref_definitions.specs.Cached.{identifier_pairs_at, reference_pairs_at}
+use Rattle.ref_definitions.specs.Wants.{wants, faults}
 use Rattle.ref_index.specs.declared.entry.Entry.{Entry}
 use Rattle.ref_index.specs.declared.found.Found.{Found}
 use Rattle.ref_parts.specs.declared.path.JsonPointerSegment.{JsonPointerSegment}
 use Rattle.ref_index.specs.declared.entry.NamedEntry.{NamedEntry}
-use Rattle.ref_index.specs.Found.{IsPathOf, IsEntryOf, IsNumberOf, IsResourceOf, IsNameOf, Holds}
-use Rattle.ref_index.specs.Visits.{IsWalked, IsFound, ChildrenStandAt, faults_of, wants_of}
-use Rattle.ref_index.specs.Spots.{numbered_resources, numbered_names}
+use Rattle.ref_index.specs.Found.{IsPathOf, IsEntryOf, IsNumberOf, IsResourceOf, IsNameOf, Held, Holds}
+use Rattle.ref_index.specs.Visits.{IsWalked, IsFound, held_of, ChildrenStandAt, faults_of, wants_of}
 use Rattle.ref_index.proofs.Spots.{numbered_more}
 use Rattle.ref_index.proofs.Visiting.{holds_same}
 
@@ -50,19 +49,20 @@ zip_weaker R S each (x ∷ xs) (y ∷ ys) all = (each x y all.0, zip_weaker R S 
 number_stays : (layer : Layer) (entries : List Entry) (e : Entry) (number n : ℕ) (p : Place) → IsNumberOf layer entries number n p → IsNumberOf layer (entries ++ e ∷ []) number n p
 number_stays layer entries e number n p is = (is.0, there_still entries (e ∷ []) n is.0 is.1, is.2, is.3)
 
-pub resources_stay : (layer : Layer) (entries : List Entry) (e : Entry) (ts : List (String Global × String Global × ℕ)) (rs : List (ℕ × (List ℕ × Place))) → AllZip (IsResourceOf layer entries) ts rs → AllZip (IsResourceOf layer (entries ++ e ∷ [])) ts rs
+pub resources_stay : (layer : Layer) (entries : List Entry) (e : Entry) (ts : List (table.Entry ℕ)) (rs : List (ℕ × (List ℕ × Place))) → AllZip (IsResourceOf layer entries) ts rs → AllZip (IsResourceOf layer (entries ++ e ∷ [])) ts rs
 resources_stay layer entries e = zip_weaker (IsResourceOf layer entries) (IsResourceOf layer (entries ++ e ∷ [])) (λ t r is. (is.0, is.1, number_stays layer entries e r.0 t.2 r.1.1 is.2))
 
-pub names_stay : (layer : Layer) (entries : List Entry) (e : Entry) (ts : List (String Global × String Global × NamedEntry)) (ns : List (ℕ × Named)) → AllZip (IsNameOf layer entries) ts ns → AllZip (IsNameOf layer (entries ++ e ∷ [])) ts ns
+pub names_stay : (layer : Layer) (entries : List Entry) (e : Entry) (ts : List (table.Entry NamedEntry)) (ns : List (ℕ × Named)) → AllZip (IsNameOf layer entries) ts ns → AllZip (IsNameOf layer (entries ++ e ∷ [])) ts ns
 names_stay layer entries e = zip_weaker (IsNameOf layer entries) (IsNameOf layer (entries ++ e ∷ [])) (λ t n is. (is.0, is.1, is.2, number_stays layer entries e n.0 t.2.entry n.1.place is.3))
 
-pub holds_stays : (layer more : Layer) (f : Found) (rs : List (ℕ × (List ℕ × Place))) (ns : List (ℕ × Named)) (ws : List Want) (ps : List Pair) → Holds layer f rs ns ws ps → Holds (layer ++ more) f rs ns ws ps
-holds_stays layer more f rs ns ws ps held = record {
-  by_uri = zip_weaker (IsResourceOf layer f.entries.items) (IsResourceOf (layer ++ more) f.entries.items) (λ t r is. (is.0, is.1, (is.2.0, is.2.1, entry_stays layer more is.2.0 r.1.1 is.2.2, is.2.3))) f.resources.items rs held.by_uri;
-  by_name = zip_weaker (IsNameOf layer f.entries.items) (IsNameOf (layer ++ more) f.entries.items) (λ t n is. (is.0, is.1, is.2, (is.3.0, is.3.1, entry_stays layer more is.3.0 n.1.place is.3.2, is.3.3))) f.names.items ns held.by_name;
-  wanted = held.wanted;
-  by_pair = held.by_pair;
-  known = held.known;
+pub holds_stays : (layer more : Layer) (f : Found) (held : Held) → Holds layer f held → Holds (layer ++ more) f held
+holds_stays layer more f held holds = record {
+  by_uri = zip_weaker (IsResourceOf layer f.entries.items) (IsResourceOf (layer ++ more) f.entries.items) (λ t r is. (is.0, is.1, (is.2.0, is.2.1, entry_stays layer more is.2.0 r.1.1 is.2.2, is.2.3))) f.resources held.resources holds.by_uri;
+  by_name = zip_weaker (IsNameOf layer f.entries.items) (IsNameOf (layer ++ more) f.entries.items) (λ t n is. (is.0, is.1, is.2, (is.3.0, is.3.1, entry_stays layer more is.3.0 n.1.place is.3.2, is.3.3))) f.names held.names holds.by_name;
+  wanted = holds.wanted;
+  of_identifiers = holds.of_identifiers;
+  of_references = holds.of_references;
+  known = holds.known;
 }
 
 -- ---- lists of layers
@@ -75,9 +75,9 @@ faults_more layer d none = ap (λ l. l ++ flat_map faults_of (places d)) (sym no
 
 pub found_more : (layer : Layer) (d : Document) (old new : Found) → IsFound layer old → IsWalked d (length layer) old new (places d) → IsFound (layer ++ d ∷ []) new
 found_more layer d old new is walk = record {
-  held = holds_same (layer ++ d ∷ []) new _ _ _ _ _ _ _ _ (numbered_more resources_in layer d) (numbered_more names_in layer d) (one_more (λ e. flat_map wants_of (places e)) layer d)
-      (one_more (λ e. flat_map pairs_at (places e)) layer d)
-      (walk.added (layer ++ d ∷ []) (numbered_resources layer) (numbered_names layer) (wants layer) (pairs layer) (at_length layer d) (holds_stays layer (d ∷ []) old (numbered_resources layer) (numbered_names layer) (wants layer) (pairs layer) is.held));
+  held = holds_same (layer ++ d ∷ []) new _ _ (numbered_more resources_in layer d) (numbered_more names_in layer d) (one_more (λ e. flat_map wants_of (places e)) layer d)
+      (one_more (λ e. flat_map identifier_pairs_at (places e)) layer d) (one_more (λ e. flat_map reference_pairs_at (places e)) layer d)
+      (walk.added (layer ++ d ∷ []) (held_of layer (wants layer)) (at_length layer d) (holds_stays layer (d ∷ []) old (held_of layer (wants layer)) is.held));
   faultless = sym (faults_more layer d is.faultless) ∙ walk.faultless;
   children = λ e there.
       ⊎_elim (λ own. is.children e own)

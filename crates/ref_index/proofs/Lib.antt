@@ -1,12 +1,10 @@
 pub mod Spots
-pub mod Queues
 pub mod Holding
 pub mod Paths
 pub mod Visiting
 pub mod Walking
 pub mod Noting
 pub mod Looking
-pub mod Numbering
 pub mod Layers
 pub mod Opening
 pub mod Retrieving

@@ -19,9 +19,9 @@ use Rattle.ref_index.specs.declared.entry.Entry.{Entry}
 use Rattle.ref_index.specs.declared.entry.NamedEntry.{NamedEntry}
 use Rattle.ref_index.specs.declared.found.ResolvedUri.{ResolvedUri}
 use Rattle.ref_index.specs.Spots.{Spot, numbered_resources, last_resource, spot_of}
-use Rattle.ref_index.specs.Found.{IsEntryOf, IsNumberOf, kind_of}
+use Rattle.ref_index.specs.Found.{IsEntryOf, IsNumberOf, IsResourceOf, IsNameOf, kind_of}
 use Rattle.ref_index.proofs.Spots.{last_resource_is}
-use Rattle.ref_index.specs.Index.{IsResourceIn, IsNameIn, IsPairIn, IsFoundAt, IsFoundWhere}
+use Rattle.ref_index.specs.Index.{IsPairIn, IsFoundAt, IsFoundWhere}
 
 -- ---- lists of the same places
 
@@ -59,25 +59,25 @@ last_both R (a ∷ xs) (b ∷ bs) o u all both = last_both R xs bs (Some a) (Som
 
 -- ---- in a table
 
-uri_test : (layer : Layer) (entries : List Entry) (uri : List ℕ) (e : table.Entry ℕ) (r : ℕ × (List ℕ × Place)) → IsResourceIn layer entries e r → is_under uri [] e ≡ bytes_eq r.1.0 uri
+uri_test : (layer : Layer) (entries : List Entry) (uri : List ℕ) (e : table.Entry ℕ) (r : ℕ × (List ℕ × Place)) → IsResourceOf layer entries e r → is_under uri [] e ≡ bytes_eq r.1.0 uri
 uri_test layer entries uri e r (first, second, is) =
     ap (λ k. bytes_eq k uri && bytes_eq e.1 []) first ∙ ap (λ k. bytes_eq r.1.0 uri && bytes_eq k []) second ∙ and-true (bytes_eq r.1.0 uri)
 
-name_test : (layer : Layer) (entries : List Entry) (uri name : List ℕ) (e : table.Entry NamedEntry) (n : ℕ × Named) → IsNameIn layer entries e n → is_under uri name e ≡ (bytes_eq n.1.uri uri && bytes_eq n.1.name name)
+name_test : (layer : Layer) (entries : List Entry) (uri name : List ℕ) (e : table.Entry NamedEntry) (n : ℕ × Named) → IsNameOf layer entries e n → is_under uri name e ≡ (bytes_eq n.1.uri uri && bytes_eq n.1.name name)
 name_test layer entries uri name e n (first, second, kind, is) =
     ap (λ k. bytes_eq k uri && bytes_eq e.1 name) first ∙ ap (λ k. bytes_eq n.1.uri uri && bytes_eq k name) second
 
-pub uri_both : (layer : Layer) (entries : List Entry) (uri : List ℕ) (es : List (table.Entry ℕ)) (rs : List (ℕ × (List ℕ × Place))) → AllZip (IsResourceIn layer entries) es rs
-    → Both (IsResourceIn layer entries) (last_or None (filter (is_under uri []) es)) (last_or None (filter (λ (r : ℕ × (List ℕ × Place)). bytes_eq r.1.0 uri) rs))
+pub uri_both : (layer : Layer) (entries : List Entry) (uri : List ℕ) (es : List (table.Entry ℕ)) (rs : List (ℕ × (List ℕ × Place))) → AllZip (IsResourceOf layer entries) es rs
+    → Both (IsResourceOf layer entries) (last_or None (filter (is_under uri []) es)) (last_or None (filter (λ (r : ℕ × (List ℕ × Place)). bytes_eq r.1.0 uri) rs))
 uri_both layer entries uri es rs all =
-    last_both (IsResourceIn layer entries) (filter (is_under uri []) es) (filter (λ r. bytes_eq r.1.0 uri) rs) None None
-    (filtered (IsResourceIn layer entries) (is_under uri []) (λ r. bytes_eq r.1.0 uri) (uri_test layer entries uri) es rs all) tt
+    last_both (IsResourceOf layer entries) (filter (is_under uri []) es) (filter (λ r. bytes_eq r.1.0 uri) rs) None None
+    (filtered (IsResourceOf layer entries) (is_under uri []) (λ r. bytes_eq r.1.0 uri) (uri_test layer entries uri) es rs all) tt
 
-pub name_both : (layer : Layer) (entries : List Entry) (uri name : List ℕ) (es : List (table.Entry NamedEntry)) (ns : List (ℕ × Named)) → AllZip (IsNameIn layer entries) es ns
-    → Both (IsNameIn layer entries) (last_or None (filter (is_under uri name) es)) (last_or None (filter (λ (n : ℕ × Named). bytes_eq n.1.uri uri && bytes_eq n.1.name name) ns))
+pub name_both : (layer : Layer) (entries : List Entry) (uri name : List ℕ) (es : List (table.Entry NamedEntry)) (ns : List (ℕ × Named)) → AllZip (IsNameOf layer entries) es ns
+    → Both (IsNameOf layer entries) (last_or None (filter (is_under uri name) es)) (last_or None (filter (λ (n : ℕ × Named). bytes_eq n.1.uri uri && bytes_eq n.1.name name) ns))
 name_both layer entries uri name es ns all =
-    last_both (IsNameIn layer entries) (filter (is_under uri name) es) (filter (λ n. bytes_eq n.1.uri uri && bytes_eq n.1.name name) ns) None None
-    (filtered (IsNameIn layer entries) (is_under uri name) (λ n. bytes_eq n.1.uri uri && bytes_eq n.1.name name) (name_test layer entries uri name) es ns all) tt
+    last_both (IsNameOf layer entries) (filter (is_under uri name) es) (filter (λ n. bytes_eq n.1.uri uri && bytes_eq n.1.name name) ns) None None
+    (filtered (IsNameOf layer entries) (is_under uri name) (λ n. bytes_eq n.1.uri uri && bytes_eq n.1.name name) (name_test layer entries uri name) es ns all) tt
 
 pair_test : (by_uri : List (table.Entry ℕ)) (base text : List ℕ) (e : table.Entry ResolvedUri) (p : Pair) → IsPairIn by_uri e p → is_under base text e ≡ (bytes_eq p.0 base && bytes_eq p.1 text)
 pair_test by_uri base text e p (first, second, is, number) =
@@ -152,16 +152,16 @@ some_found R f (Some a) None v both is = absurd both
 some_found R f (Some a) (Some b) v both is = (b, refl, a, (cc), both)
 
 -- the entry with a number that was found
-pub name_found : (layer : Layer) (entries : List Entry) (o : Option (table.Entry NamedEntry)) (u : Option (ℕ × Named)) (v : NamedEntry) → Both (IsNameIn layer entries) o u → option_map (λ e. e.2) o ≡ Some v
+pub name_found : (layer : Layer) (entries : List Entry) (o : Option (table.Entry NamedEntry)) (u : Option (ℕ × Named)) (v : NamedEntry) → Both (IsNameOf layer entries) o u → option_map (λ e. e.2) o ≡ Some v
     → (n : ℕ × Named) × (u ≡ Some n) × (kind_of v.is_dynamic ≡ n.1.kind) × IsNumberOf layer entries n.0 v.entry n.1.place
 name_found layer entries o u v both is =
-    let (n, found, a, same, at) = some_found (IsNameIn layer entries) (λ e. e.2) o u v both is in
+    let (n, found, a, same, at) = some_found (IsNameOf layer entries) (λ e. e.2) o u v both is in
     (n, found, subst (λ v. kind_of v.is_dynamic ≡ n.1.kind) same at.2, subst (λ v. IsNumberOf layer entries n.0 v.entry n.1.place) same at.3)
 
-pub resource_found : (layer : Layer) (entries : List Entry) (o : Option (table.Entry ℕ)) (u : Option (ℕ × (List ℕ × Place))) (v : ℕ) → Both (IsResourceIn layer entries) o u → option_map (λ e. e.2) o ≡ Some v
+pub resource_found : (layer : Layer) (entries : List Entry) (o : Option (table.Entry ℕ)) (u : Option (ℕ × (List ℕ × Place))) (v : ℕ) → Both (IsResourceOf layer entries) o u → option_map (λ e. e.2) o ≡ Some v
     → (r : ℕ × (List ℕ × Place)) × (u ≡ Some r) × IsNumberOf layer entries r.0 v r.1.1
 resource_found layer entries o u v both is =
-    let (r, found, a, same, at) = some_found (IsResourceIn layer entries) (λ e. e.2) o u v both is in
+    let (r, found, a, same, at) = some_found (IsResourceOf layer entries) (λ e. e.2) o u v both is in
     (r, found, subst (λ w. IsNumberOf layer entries r.0 w r.1.1) same at.2)
 
 pub tells : (layer : Layer) (entries : List Entry) (number n : ℕ) (p : Place) (e : Entry) → IsNumberOf layer entries number n p → slice_get entries n ≡ Some e → IsEntryOf layer e p × (e.document ≡ number)
@@ -196,7 +196,7 @@ if_there None P is = absurd is
 if_there (Some x) P is = is
 
 -- the entry with a number that a table of resources has, or there is none
-by_number : (layer : Layer) (entries : List Entry) (o : Option (table.Entry ℕ)) (u : Option (ℕ × (List ℕ × Place))) (result : Option (Bor Entry)) → Both (IsResourceIn layer entries) o u
+by_number : (layer : Layer) (entries : List Entry) (o : Option (table.Entry ℕ)) (u : Option (ℕ × (List ℕ × Place))) (result : Option (Bor Entry)) → Both (IsResourceOf layer entries) o u
     → MatchOption (option_map (λ e. e.2) o) (result ≡ None) (λ n. option_copied result ≡ slice_get entries n) → IsFoundWhere layer result (option_map (λ (r : ℕ × (List ℕ × Place)). r.1) u)
 by_number layer entries None None result both same = subst (λ r. IsFoundWhere layer r None) (sym same) refl
 by_number layer entries None (Some r) result both same = absurd both
@@ -204,7 +204,7 @@ by_number layer entries (Some e) None result both same = absurd both
 by_number layer entries (Some e) (Some r) result both same =
     entry_there layer entries r.0 e.2 r.1.1 result (Some r.1 ≡ None) (λ x. IsFoundAt layer x (Some r.1)) both.2 same (λ x tells number. (r.1, refl, tells))
 
-pub place_found : (layer : Layer) (entries : List Entry) (uri : List ℕ) (by_uri : List (table.Entry ℕ)) (result : Option (Bor Entry)) → AllZip (IsResourceIn layer entries) by_uri (numbered_resources layer)
+pub place_found : (layer : Layer) (entries : List Entry) (uri : List ℕ) (by_uri : List (table.Entry ℕ)) (result : Option (Bor Entry)) → AllZip (IsResourceOf layer entries) by_uri (numbered_resources layer)
     → MatchOption (last_value uri [] by_uri) (result ≡ None) (λ n. option_copied result ≡ slice_get entries n) → IsFoundWhere layer result (last_under uri (resources layer))
 place_found layer entries uri by_uri result all same =
     subst (IsFoundWhere layer result) (sym (last_resource_is uri layer))

@@ -1,12 +1,12 @@
 -- A URI in normal form means itself against any base, what a text means against such a base is in normal form, and so are the bases of
 -- the places of a document whose URI is.
-use Rattle.std.proofs.Common.{◌≡◌, ℕ, Bool, true, false, ◌&&◌, List, [], ◌∷◌, ◌++◌, get_or, eqb, cond, refl, sym, ap, ◌∙◌, inl, inr, Option, Some, None, is_some, is_none, option_map, subst, Result, Ok, Err, map, flat_map, filter, zero, suc, bytes_eq}
+use Rattle.std.proofs.Common.{◌≡◌, ℕ, Bool, true, false, ◌&&◌, List, [], ◌∷◌, get_or, eqb, cond, refl, sym, ap, ◌∙◌, inl, inr, Option, Some, None, is_some, is_none, option_map, subst, Result, Ok, Err, map, flat_map, filter, zero, suc, bytes_eq}
 use Rattle.std.specs.List.{ends_with, AllByRecursion, last_or}
 use Rattle.std.specs.Char.{to_ascii_lowercase}
 use Rattle.std.specs.Option.{option_or, option_to_list}
 use Rattle.std.proofs.lemmas.Bool.{cases_Bool, eqb-true, and_parts, false≢true}
 use Rattle.ref_uri.specs.Components.{Components, components, scheme, text_of, begins_with_slashes}
-use Rattle.ref_uri.specs.DotSegments.{joined_segments, remaining_segments, ends_in_dots, remove_dot_segments}
+use Rattle.ref_uri.specs.DotSegments.{remove_dot_segments}
 use Rattle.ref_uri.specs.Normal.{normal_text, guarded_path, normal_components, normal_form}
 use Rattle.ref_uri.specs.Reference.{is_uri_reference, with_fragment}
 use Rattle.ref_uri.specs.Resolution.{resolved_components, target_text}
@@ -20,12 +20,11 @@ use Rattle.ref_definitions.specs.Places.{Place, base_within, root, child_place, 
 use Rattle.ref_definitions.specs.Resources.{own_uri, resource_of, resources_in, resources, last_under}
 use Rattle.ref_draft.specs.Schema.{identifier}
 use Rattle.ref_uri.proofs.OnLiterals.{ref_uri_on_literals}
-use Rattle.ref_uri.proofs.SegmentLemmas.{segments-shape}
 use Rattle.ref_uri.proofs.StructureLemmas.{text_of-components}
 use Rattle.ref_uri.proofs.UniqueLemmas.{components-text_of}
 use Rattle.ref_uri.proofs.TargetLemmas.{the_components, each_same, some_there, resolved_of_scheme}
 use Rattle.ref_uri.proofs.ValidTargets.{normal_is_valid, resolved_is_valid}
-use Rattle.ref_uri.proofs.NormalTwice.{removed_twice, normal_twice, components_of_normal}
+use Rattle.ref_uri.proofs.NormalTwice.{guard_goes, removed_twice, normal_twice, components_of_normal}
 use Rattle.ref_uri.proofs.Meanings.{parsed_with_scheme, parsed_refused, against_same, against_target, against_refused}
 use Rattle.ref_uri.proofs.WrittenUri.{components_hold, normal_text_of, resolved_text_of}
 use Rattle.ref_uri.proofs.FragmentLemmas.{reference-with_fragment, scheme-with_fragment}
@@ -33,13 +32,6 @@ use Rattle.ref_uri.proofs.LawLemmas.{from_components}
 use Rattle.ref_index.specs.inner.NormalUris.{IsNormalUri, HasNormalUri, HaveNormalUris}
 
 -- the guard goes with the dot segments
-guard_goes : (text : List ℕ) → remove_dot_segments (47 ∷ 46 ∷ 47 ∷ text) ≡ remove_dot_segments (47 ∷ text)
-unfolding remove_dot_segments
-guard_goes text =
-    let shape = segments-shape text in
-    ap (λ xs. joined_segments (remaining_segments [] [] xs ++ cond (ends_in_dots ((46 ∷ []) ∷ xs)) ([] ∷ []) [])) shape.2
-    ∙ ap (λ xs. joined_segments (remaining_segments [] [] xs ++ cond (ends_in_dots xs) ([] ∷ []) [])) (sym shape.2)
-
 guard_removed : (a : Option (List ℕ)) (path : List ℕ) → remove_dot_segments (guarded_path a path) ≡ remove_dot_segments path
 guard_removed a path = by_guard (is_none a && begins_with_slashes path) refl
   where

@@ -10,7 +10,7 @@ use Rattle.ref_definitions.specs.World.{Document}
 use Rattle.ref_definitions.specs.Places.{Place, root, places}
 use Rattle.ref_definitions.specs.Resources.{resource_of}
 use Rattle.ref_definitions.specs.Anchors.{named_under}
-use Rattle.ref_definitions.specs.Cached.{pairs_at}
+use Rattle.ref_definitions.specs.Cached.{identifier_pairs_at, reference_pairs_at}
 use Rattle.ref_definitions.proofs.Standing.{all_stand_where}
 use Rattle.ref_index.specs.declared.found.Found.{Found}
 use Rattle.ref_index.specs.declared.queue.Visit.{Visit}
@@ -30,14 +30,14 @@ all_noted P _ _ none all = tt
 all_noted P _ _ (noted p ps qs rest) all = (all.0, all_noted P ps qs rest all.1)
 all_noted P _ _ (left_out p ps qs is rest) all = all_noted P ps qs rest all.1
 
-front_empty : (fs gs : List Refusal) → fs ++ gs ≡ [] → (fs ≡ []) × (gs ≡ [])
-front_empty [] gs is = (refl, is)
-front_empty (f ∷ fs) gs is = cc
+both_empty : {A : Type 0} (xs ys : List A) → xs ++ ys ≡ [] → (xs ≡ []) × (ys ≡ [])
+both_empty [] ys is = (refl, is)
+both_empty (x ∷ xs) ys is = cc
 
 each_faultless : (ps : List Place) → flat_map faults_of ps ≡ [] → AllByRecursion (λ p. faults_of p ≡ []) ps
 each_faultless [] is = tt
 each_faultless (p ∷ ps) is =
-    let both = front_empty (faults_of p) (flat_map faults_of ps) is in
+    let both = both_empty (faults_of p) (flat_map faults_of ps) is in
     (both.0, each_faultless ps both.1)
 
 by_each : (P : Place → Type 0) (ps : List Place) → ((p : Place) → Contains ps p → P p) → AllByRecursion P ps
@@ -58,11 +58,13 @@ memory_alone fs gs (Memory error) empty is = tt
 
 pub all_walked : (d : Document) (number : ℕ) (old new : Found) (below : List Place) → IsListingOf d below → AddsPlaces d number (root d ∷ below) old new → IsWalked d number old new (places d)
 all_walked d number old new below is adds = record {
-  added = λ layer rs ns ws ps there held.
-      holds_same layer new _ _ _ _ _ _ _ _ (ap (λ l. rs ++ numbered number ((d.uri, root d) ∷ l)) (same_lists resource_of (λ p left. left.resource) (places d) (root d ∷ below) is.noted))
-      (ap (λ l. ns ++ numbered number (named_under d.uri (root d) ++ l)) (same_lists names_of (λ p left. left.name) (places d) (root d ∷ below) is.noted))
-      (ap (λ l. ws ++ l) (same_lists wants_of (λ p left. left.want) (places d) (root d ∷ below) is.noted))
-      (ap (λ l. ps ++ l) (same_lists pairs_at (λ p left. left.pair) (places d) (root d ∷ below) is.noted)) (adds layer rs ns ws ps there held);
+  added = λ layer held there holds.
+      holds_same layer new _ _ (ap (λ l. held.resources ++ numbered number ((d.uri, root d) ∷ l)) (same_lists resource_of (λ p left. left.resource) (places d) (root d ∷ below) is.noted))
+      (ap (λ l. held.names ++ numbered number (named_under d.uri (root d) ++ l)) (same_lists names_of (λ p left. left.name) (places d) (root d ∷ below) is.noted))
+      (ap (λ l. held.wants ++ l) (same_lists wants_of (λ p left. left.want) (places d) (root d ∷ below) is.noted))
+      (ap (λ l. held.identifiers ++ l) (same_lists identifier_pairs_at (λ p left. (both_empty (identifier_pairs_at p) (reference_pairs_at p) left.pair).0) (places d) (root d ∷ below) is.noted))
+      (ap (λ l. held.references ++ l) (same_lists reference_pairs_at (λ p left. (both_empty (identifier_pairs_at p) (reference_pairs_at p) left.pair).1) (places d) (root d ∷ below) is.noted))
+      (adds layer held there holds);
   faultless = is.faultless;
   children = by_each ChildrenStandAt (places d) is.children;
 }

@@ -1,5 +1,6 @@
 -- What a visit adds, over plain values.
-use Rattle.std.proofs.Common.{◌≡◌, ℕ, List, [], ◌++◌, Result, Ok, OnOk, sym, ap, ◌∙◌, subst, append_assoc}
+use Rattle.std.proofs.Common.{◌≡◌, ℕ, List, [], ◌++◌, Result, Ok, sym, ap, ◌∙◌, subst, append_assoc, bytes_eq}
+use Rattle.std.specs.List.{AllZip, list_any}
 use Rattle.std.specs.Option.{option_map_or}
 use Rattle.std.specs.Result.{result_ok}
 use Rattle.serde_json.specs.Data.{Data}
@@ -9,26 +10,24 @@ use Rattle.ref_uri.specs.declared.error.UriFault.{UriFault}
 use Rattle.ref_uri.specs.declared.error.UriFault.TheVariants.{Invalid, Memory}
 use Rattle.ref_definitions.specs.World.{Layer}
 use Rattle.ref_definitions.specs.Places.{Place}
-use Rattle.ref_definitions.specs.Anchors.{Named}
-use Rattle.ref_definitions.specs.Cached.{Pair, reference_pairs}
+use Rattle.ref_definitions.specs.Cached.{Pair, pairs_of_value}
 use Rattle.ref_definitions.specs.Wants.{Want, Reference, MetaSchema, wants_of_text, refusals_of, reference_at, schema_at, wants_at, faults_at}
 use Rattle.ref_index.specs.declared.found.Found.{Found}
-use Rattle.ref_index.specs.Found.{Holds}
+use Rattle.ref_index.specs.Found.{Held, Holds, IsResourceOf, IsNameOf, IsPairOf}
 use Rattle.ref_index.specs.Visits.{IsFirstFault}
 
 -- ---- the same lists under other names
 
-pub on_same : {A E : Type 0} (r : Result A E) (layer : Layer) (f : Found) (rs rs' : List (ℕ × (List ℕ × Place))) (ns ns' : List (ℕ × Named)) (ws ws' : List Want) (ps ps' : List Pair) → rs ≡ rs' → ns ≡ ns' → ws ≡ ws' → ps ≡ ps'
-    → OnOk r (Holds layer f rs ns ws ps) → OnOk r (Holds layer f rs' ns' ws' ps')
-on_same r layer f rs rs' ns ns' ws ws' ps ps' a b c d held =
-    subst (λ x. OnOk r (Holds layer f x ns' ws' ps')) a
-    (subst (λ x. OnOk r (Holds layer f rs x ws' ps')) b (subst (λ x. OnOk r (Holds layer f rs ns x ps')) c (subst (λ x. OnOk r (Holds layer f rs ns ws x)) d held)))
-
-pub holds_same : (layer : Layer) (f : Found) (rs rs' : List (ℕ × (List ℕ × Place))) (ns ns' : List (ℕ × Named)) (ws ws' : List Want) (ps ps' : List Pair) → rs ≡ rs' → ns ≡ ns' → ws ≡ ws' → ps ≡ ps'
-    → Holds layer f rs ns ws ps → Holds layer f rs' ns' ws' ps'
-holds_same layer f rs rs' ns ns' ws ws' ps ps' a b c d held =
-    subst (λ x. Holds layer f x ns' ws' ps') a
-    (subst (λ x. Holds layer f rs x ws' ps') b (subst (λ x. Holds layer f rs ns x ps') c (subst (λ x. Holds layer f rs ns ws x) d held)))
+pub holds_same : (layer : Layer) (f : Found) (held other : Held) → held.resources ≡ other.resources → held.names ≡ other.names → held.wants ≡ other.wants → held.identifiers ≡ other.identifiers → held.references ≡ other.references
+    → Holds layer f held → Holds layer f other
+holds_same layer f held other resources names wants identifiers references holds = record {
+  by_uri = subst (AllZip (IsResourceOf layer f.entries.items) f.resources) resources holds.by_uri;
+  by_name = subst (AllZip (IsNameOf layer f.entries.items) f.names) names holds.by_name;
+  wanted = holds.wanted ∙ wants;
+  of_identifiers = subst (AllZip IsPairOf f.identifiers) identifiers holds.of_identifiers;
+  of_references = subst (AllZip IsPairOf f.references) references holds.of_references;
+  known = λ uri. holds.known uri ∙ ap (list_any (λ (r : ℕ × (List ℕ × Place)). bytes_eq r.1.0 uri.value)) resources;
+}
 
 -- ---- the first fault of a place
 
@@ -50,7 +49,6 @@ wants_where base uri value ws based =
 
 -- ---- what is resolved at a place, where its base is known
 
-pub pairs_where : (base : Result (List ℕ) Refusal) (uri : List ℕ) (value : Data) (front ps : List Pair) → base ≡ Ok uri
-    → (ps ++ front) ++ reference_pairs uri value ≡ ps ++ (front ++ option_map_or (λ b. reference_pairs b value) (result_ok base) [])
-pairs_where base uri value front ps based =
-    append_assoc ps front (reference_pairs uri value) ∙ ap (λ b. ps ++ (front ++ option_map_or (λ u. reference_pairs u value) (result_ok b) [])) (sym based)
+pub references_where : (base : Result (List ℕ) Refusal) (uri : List ℕ) (value : Data) (refs : List Pair) → base ≡ Ok uri
+    → refs ++ pairs_of_value uri value ≡ refs ++ option_map_or (λ b. pairs_of_value b value) (result_ok base) []
+references_where base uri value refs based = ap (λ b. refs ++ option_map_or (λ u. pairs_of_value u value) (result_ok b) []) (sym based)

@@ -15,18 +15,20 @@ use Rattle.ref_uri.specs.declared.error.UriFault.{UriFault}
 use Rattle.ref_uri.specs.declared.error.UriFault.TheVariants.{Invalid, Memory}
 use Rattle.ref_definitions.specs.World.{Document}
 use Rattle.ref_definitions.specs.Places.{Place, base_within, root, child_place, children_with, children_of, places}
+use Rattle.ref_definitions.specs.Queue.{IsQueueBy}
 use Rattle.ref_definitions.specs.Resources.{resource_of}
 use Rattle.ref_definitions.proofs.Changes.{value_at-append}
+use Rattle.ref_definitions.proofs.Levels.{children_shallower}
+use Rattle.ref_definitions.proofs.Queues.{at_root, step, at_end, beginning}
 use Rattle.ref_definitions.specs.Anchors.{named_under}
-use Rattle.ref_definitions.specs.Cached.{pairs_at}
+use Rattle.ref_definitions.specs.Cached.{identifier_pairs_at, reference_pairs_at}
 use Rattle.ref_index.specs.declared.found.Found.{Found}
 use Rattle.ref_index.specs.declared.queue.Visit.{Visit}
-use Rattle.ref_index.specs.inner.Queue.{path_of, place_of, value_of, IsQueue}
+use Rattle.ref_index.specs.inner.Queue.{path_of, place_of, value_of}
 use Rattle.ref_index.specs.Visits.{AddsPlace, AddsPlaces, ChildrenCame, IsFirstFault, IsVisited, IsWalked, AllStandIn, ChildrenStandAt, IsAt, faults_of, names_of, wants_of}
 use Rattle.ref_index.specs.Spots.{numbered}
 use Rattle.ref_index.proofs.Spots.{numbered_behind}
 use Rattle.ref_index.proofs.Visiting.{holds_same}
-use Rattle.ref_index.proofs.Queues.{at_root, step, at_end, beginning}
 
 -- ---- the visit of a child
 
@@ -68,10 +70,10 @@ first_in_front fs gs (Invalid error) (refusal, more, is, says) = (refusal, more 
 first_in_front fs gs (Memory error) is = tt
 
 -- the first fault of the place that is visited, where none before it has one
-pub first_of_visit : (d : Document) (visited waiting : List Place) (p : Place) (fault : UriFault) → IsQueue d visited (p ∷ waiting) → flat_map faults_of visited ≡ []
+pub first_of_visit : (d : Document) (visited waiting : List Place) (p : Place) (fault : UriFault) → IsQueueBy children_of d visited (p ∷ waiting) → flat_map faults_of visited ≡ []
     → IsFirstFault (faults_of p) fault → IsFirstFault (flat_map faults_of (places d)) fault
 first_of_visit d visited waiting p fault is none first =
-    let left = beginning d visited (p ∷ waiting) is in
+    let left = beginning children_of d visited (p ∷ waiting) is in
     let split : flat_map faults_of (places d) ≡ faults_of p ++ flat_map faults_of (waiting ++ left.0) =
     ap (flat_map faults_of) left.1 ∙ flat_map-append faults_of visited (p ∷ (waiting ++ left.0)) ∙ ap (λ l. l ++ flat_map faults_of (p ∷ (waiting ++ left.0))) none in
     subst (λ l. IsFirstFault l fault) (sym split) (first_in_front (faults_of p) (flat_map faults_of (waiting ++ left.0)) fault first)
@@ -103,18 +105,19 @@ numbered_added f number front x visited p =
 
 pub adds_more : (d : Document) (number : ℕ) (old new newer : Found) (visited : List Place) (p : Place) → value_at d.tree p.path ≡ Some p.value
     → AddsPlaces d number visited old new → AddsPlace number None p new newer → AddsPlaces d number (visited ++ p ∷ []) old newer
-adds_more d number old new newer visited p at walk visit = λ layer rs ns ws ps there held.
-    holds_same layer newer _ _ _ _ _ _ _ _ (numbered_added resource_of number rs ((d.uri, root d) ∷ []) visited p)
-    (numbered_added names_of number ns (named_under d.uri (root d)) visited p) (added_more wants_of ws [] visited p)
-    (added_more pairs_at ps [] visited p) (visit layer _ _ _ _ (walk layer rs ns ws ps there held) (record { document = d; numbered = there; value = at }))
+adds_more d number old new newer visited p at walk visit = λ layer held there holds.
+    holds_same layer newer _ _ (numbered_added resource_of number held.resources ((d.uri, root d) ∷ []) visited p)
+    (numbered_added names_of number held.names (named_under d.uri (root d)) visited p) (added_more wants_of held.wants [] visited p)
+    (added_more identifier_pairs_at held.identifiers [] visited p) (added_more reference_pairs_at held.references [] visited p)
+    (visit layer _ (walk layer held there holds) (record { document = d; numbered = there; value = at }))
 
 pub adds_root : (d : Document) (number : ℕ) (old new : Found) (p : Place) → p ≡ root d → AddsPlace number (Some d.uri) p old new → AddsPlaces d number (p ∷ []) old new
-adds_root d number old new p is visit = λ layer rs ns ws ps there held.
-    holds_same layer new _ _ _ _ _ _ _ _
-    (ap (λ q. rs ++ numbered number ((d.uri, q) ∷ resource_of p)) is ∙ ap (λ l. rs ++ numbered number ((d.uri, root d) ∷ l)) (sym (append-nil (resource_of p))))
-    (ap (λ q. ns ++ numbered number (named_under d.uri q ++ names_of p)) is ∙ ap (λ l. ns ++ numbered number (named_under d.uri (root d) ++ l)) (sym (append-nil (names_of p))))
-    (ap (λ l. ws ++ l) (sym (append-nil (wants_of p)))) (ap (λ l. ps ++ l) (sym (append-nil (pairs_at p))))
-    (visit layer rs ns ws ps held (record { document = d; numbered = there; value = subst (λ q. value_at d.tree q.path ≡ Some q.value) (sym is) refl }))
+adds_root d number old new p is visit = λ layer held there holds.
+    holds_same layer new _ _
+    (ap (λ q. held.resources ++ numbered number ((d.uri, q) ∷ resource_of p)) is ∙ ap (λ l. held.resources ++ numbered number ((d.uri, root d) ∷ l)) (sym (append-nil (resource_of p))))
+    (ap (λ q. held.names ++ numbered number (named_under d.uri q ++ names_of p)) is ∙ ap (λ l. held.names ++ numbered number (named_under d.uri (root d) ++ l)) (sym (append-nil (names_of p))))
+    (ap (λ l. held.wants ++ l) (sym (append-nil (wants_of p)))) (ap (λ l. held.identifiers ++ l) (sym (append-nil (identifier_pairs_at p)))) (ap (λ l. held.references ++ l) (sym (append-nil (reference_pairs_at p))))
+    (visit layer held holds (record { document = d; numbered = there; value = subst (λ q. value_at d.tree q.path ≡ Some q.value) (sym is) refl }))
 
 pub walked_more : (d : Document) (number : ℕ) (old new newer : Found) (visited : List Place) (v : Visit) (queue after : List Visit) → value_at d.tree (place_of v).path ≡ Some (place_of v).value
     → IsWalked d number old new visited → IsVisited number None v new newer queue after → IsWalked d number old newer (visited ++ place_of v ∷ [])
@@ -136,11 +139,11 @@ advance d number old new newer queue after head v within here is visit =
     let at = stands_at d queue head v here is.stand in
     let vs = queue ++ visit.more in
     let front = visited_is queue visit.more head v within here in
-    let moved = step d (map place_of (take head queue)) (map place_of (drop (head + 1) queue)) (place_of v) (subst (IsQueue d (map place_of (take head queue))) (head_is queue head v within here) is.order) in
+    let moved = step children_of d (map place_of (take head queue)) (map place_of (drop (head + 1) queue)) (place_of v) (subst (IsQueueBy children_of d (map place_of (take head queue))) (head_is queue head v within here) is.order) in
     let rest : map place_of (drop (head + 1) queue) ++ children_of (place_of v) ≡ map place_of (drop (head + 1) vs) = sym (waiting_is queue visit.more head within ∙ ap (λ l. map place_of (drop (head + 1) queue) ++ l) visit.children) in
     let result : IsAt d number old newer vs (head + 1) = record {
       within = omega (arith, length-append queue visit.more);
-      order = subst (λ l. IsQueue d l (map place_of (drop (head + 1) vs))) (sym front) (subst (IsQueue d (map place_of (take head queue) ++ place_of v ∷ [])) rest moved);
+      order = subst (λ l. IsQueueBy children_of d l (map place_of (drop (head + 1) vs))) (sym front) (subst (IsQueueBy children_of d (map place_of (take head queue) ++ place_of v ∷ [])) rest moved);
       stand = grown_stand d queue visit.more v at is.stand visit.children visit.stand;
       walk = subst (IsWalked d number old newer) (sym front) (walked_more d number old new newer (map place_of (take head queue)) v queue after at is.walk visit);
     } in
@@ -152,8 +155,8 @@ begin d number old new queue after v one is visit =
     let at : value_at d.tree (place_of v).path ≡ Some (place_of v).value = subst (λ p. value_at d.tree p.path ≡ Some p.value) (sym is) refl in
     let vs = v ∷ visit.more in
     let same : vs ≡ after = sym (visit.grown ∙ ap (λ l. l ++ visit.more) one) in
-    let order : IsQueue d (place_of v ∷ []) (map place_of visit.more) =
-    subst (IsQueue d (place_of v ∷ [])) (sym visit.children) (step d [] [] (place_of v) (subst (λ p. IsQueue d [] (p ∷ [])) (sym is) (at_root d))) in
+    let order : IsQueueBy children_of d (place_of v ∷ []) (map place_of visit.more) =
+    subst (IsQueueBy children_of d (place_of v ∷ [])) (sym visit.children) (step children_of d [] [] (place_of v) (subst (λ p. IsQueueBy children_of d [] (p ∷ [])) (sym is) (at_root children_of children_shallower d))) in
     let result : IsAt d number old new vs 1 = record {
       within = omega arith;
       order = order;
@@ -171,22 +174,30 @@ begin d number old new queue after v one is visit =
 pub finish : (d : Document) (number : ℕ) (old new : Found) (queue : List Visit) (head : ℕ) → length queue ≤ head → IsAt d number old new queue head → IsWalked d number old new (places d)
 finish d number old new queue head all is =
     subst (IsWalked d number old new)
-    (sym (at_end d (map place_of (take head queue)) (subst (λ l. IsQueue d (map place_of (take head queue)) (map place_of l)) (drop_all head queue all) is.order))) is.walk
+    (sym (at_end children_of d (map place_of (take head queue)) (subst (λ l. IsQueueBy children_of d (map place_of (take head queue)) (map place_of l)) (drop_all head queue all) is.order))) is.walk
 
-pub left_in : (d : Document) (queue : List Visit) (head : ℕ) (v : Visit) → head < length queue → slice_get queue head ≡ Some v → IsQueue d (map place_of (take head queue)) (map place_of (drop head queue)) → head < length (places d)
+pub left_in : (d : Document) (queue : List Visit) (head : ℕ) (v : Visit) → head < length queue → slice_get queue head ≡ Some v → IsQueueBy children_of d (map place_of (take head queue)) (map place_of (drop head queue)) → head < length (places d)
 left_in d queue head v within here order =
-    let some = beginning d (map place_of (take head queue)) (place_of v ∷ map place_of (drop (head + 1) queue)) (subst (IsQueue d (map place_of (take head queue))) (head_is queue head v within here) order) in
+    let some = beginning children_of d (map place_of (take head queue)) (place_of v ∷ map place_of (drop (head + 1) queue)) (subst (IsQueueBy children_of d (map place_of (take head queue))) (head_is queue head v within here) order) in
     let long : length (places d) ≡ length (map place_of (take head queue)) + suc (length (map place_of (drop (head + 1) queue) ++ some.0)) = ap length some.1 ∙ length-append (map place_of (take head queue)) _ in
     omega (arith, length-map (take head queue) place_of, length-take-le head queue (omega arith))
 
 pub left : (d : Document) (number : ℕ) (old new : Found) (queue : List Visit) (head : ℕ) (v : Visit) → head < length queue → slice_get queue head ≡ Some v → IsAt d number old new queue head → head < length (places d)
 left d number old new queue head v within here is = left_in d queue head v within here is.order
 
--- children that were added to a queue came to it
-pub came : (path : List Part) (value : Data) (draft : Draft) (base : List ℕ) (queue after more : List Visit) (children : List Walked) → children ≡ walked_children draft value → AllStand value children → after ≡ queue ++ more
-    → map place_of more ≡ map (child_place path base) children → ChildrenCame path value draft base queue after
-came path value draft base queue after more children are stand grown placed =
-    (more, grown, placed ∙ ap (map (child_place path base)) are, subst (AllStand value) are stand)
+-- the children of a visit's place that were added to a queue came to it
+pub came : (w v : Visit) (value : Data) (base : List ℕ) (queue after more : List Visit) (children : List Walked) → w ≡ v → value_of w.value ≡ value → children ≡ walked_children w.draft value → AllStand value children → after ≡ queue ++ more
+    → map place_of more ≡ map (child_place (path_of w.value) base) children → ChildrenCame (path_of v.value) (value_of v.value) v.draft base queue after
+came w v value base queue after more children same is are stand grown placed =
+    subst (λ u. ChildrenCame (path_of u.value) (value_of u.value) u.draft base queue after) same
+    (subst (λ d. ChildrenCame (path_of w.value) d w.draft base queue after) (sym is)
+    (more, grown, placed ∙ ap (map (child_place (path_of w.value) base)) are, subst (AllStand value) are stand))
+
+-- of a place without children none came
+pub none_came : (w v : Visit) (value : Data) (base : List ℕ) (queue : List Visit) (children : List Walked) → w ≡ v → value_of w.value ≡ value → children ≡ walked_children w.draft value → AllStand value children → children ≡ []
+    → ChildrenCame (path_of v.value) (value_of v.value) v.draft base queue queue
+none_came w v value base queue children same is are stand none =
+    came w v value base queue queue [] children same is are stand (sym (append-nil queue)) (ap (map (child_place (path_of w.value) base)) (sym none))
 
 pub nothing : {X : Type 0} (xs : List X) → length xs ≡ 0 → xs ≡ []
 nothing [] none = refl

@@ -1,6 +1,6 @@
 -- That what the walk has found is what the definitions list.
-use Rattle.std.specs.Prelude.{◌≡◌, ℕ, List, [], map, string_bytes, slice_get, Bool, true, false, Some, Ok, IfSome, String, ◌⊎◌}
-use Rattle.std.specs.List.{AllZip, Contains, list_any}
+use Rattle.std.specs.Prelude.{◌≡◌, ℕ, List, [], ◌++◌, map, string_bytes, slice_get, Bool, true, false, Some, Ok, IfSome, String}
+use Rattle.std.specs.List.{AllZip, list_any}
 use Rattle.std.specs.Str.{bytes_eq}
 use Rattle.std.specs.HashSet.{contains}
 use Rattle.std.specs.declared.alloc.Global.{Global}
@@ -8,6 +8,7 @@ use Rattle.std.specs.declared.rc.Rc.{Rc}
 use Rattle.ref_uri.specs.Targets.{uri_against}
 use Rattle.serde_json.specs.View.{view}
 use Rattle.ref_parts.specs.Path.{value_at}
+use Rattle.ref_parts.specs.Table as table
 use Rattle.ref_draft.specs.Anchors.{Kind, Plain, Dynamic}
 use Rattle.ref_parts.specs.Segment.{part_of}
 use Rattle.ref_parts.specs.declared.path.JsonPointerSegment.{JsonPointerSegment}
@@ -44,12 +45,10 @@ abbrev pub IsNumberOf : Layer → List Entry → ℕ → ℕ → Place → Type 
 IsNumberOf layer entries number n p =
     (e : Entry) × (slice_get entries n ≡ Some e) × IsEntryOf layer e p × (e.document ≡ number)
 
--- a number under a URI is that of a resource's entry
-abbrev pub IsResourceOf : Layer → List Entry → String Global × String Global × ℕ
-    → ℕ × (List ℕ × Place)
-    → Type 0
-IsResourceOf layer entries t r =
-    (string_bytes t.0 ≡ r.1.0) × (string_bytes t.1 ≡ []) × IsNumberOf layer entries r.0 t.2 r.1.1
+-- an entry under a URI and the empty text is that of a resource
+abbrev pub IsResourceOf : Layer → List Entry → table.Entry ℕ → ℕ × (List ℕ × Place) → Type 0
+IsResourceOf layer entries e r =
+    (e.0 ≡ r.1.0) × (e.1 ≡ []) × IsNumberOf layer entries r.0 e.2 r.1.1
 
 -- an anchor's kind
 abbrev pub kind_of : Bool → Kind
@@ -61,11 +60,10 @@ abbrev pub name_entry : List ℕ → Place → List ℕ × Kind → Named
 name_entry uri p a = record { uri = uri; name = a.0; kind = a.1; place = p }
 
 -- an entry under a URI and a name is that of an anchor
-abbrev pub IsNameOf : Layer → List Entry → String Global × String Global × NamedEntry → ℕ × Named
-    → Type 0
-IsNameOf layer entries t n =
-    (string_bytes t.0 ≡ n.1.uri) × (string_bytes t.1 ≡ n.1.name)
-    × (kind_of t.2.is_dynamic ≡ n.1.kind) × IsNumberOf layer entries n.0 t.2.entry n.1.place
+abbrev pub IsNameOf : Layer → List Entry → table.Entry NamedEntry → ℕ × Named → Type 0
+IsNameOf layer entries e n =
+    (e.0 ≡ n.1.uri) × (e.1 ≡ n.1.name) × (kind_of e.2.is_dynamic ≡ n.1.kind)
+    × IsNumberOf layer entries n.0 e.2.entry n.1.place
 
 -- why a URI is wanted
 abbrev pub cause_of : Cause → wants.Cause
@@ -77,31 +75,83 @@ abbrev pub want_of : Want → Wanted
 want_of w = record { cause = cause_of w.cause; uri = w.uri.value }
 
 -- an entry under a base and a text is the URI that the text means against the base
-abbrev pub IsPairOf : String Global × String Global × ResolvedUri → Pair → Type 0
-IsPairOf t p =
-    (string_bytes t.0 ≡ p.0) × (string_bytes t.1 ≡ p.1) × (uri_against p.0 p.1 ≡ Ok t.2.uri.value)
-
--- these entries, of identifiers and of references, are of exactly these pairs, in any order and however often
-pub record ArePairsOf (identifiers references : List (String Global × String Global × ResolvedUri))
-    (pairs : List Pair) : Type 0 where
-  pub own : List Pair
-  pub referred : List Pair
-  pub of_identifiers : AllZip IsPairOf identifiers own
-  pub of_references : AllZip IsPairOf references referred
-  pub each : (p : Pair) → Contains pairs p → Contains own p ⊎ Contains referred p
-  pub only : (p : Pair) → Contains own p ⊎ Contains referred p → Contains pairs p
+abbrev pub IsPairOf : table.Entry ResolvedUri → Pair → Type 0
+IsPairOf e p = (e.0 ≡ p.0) × (e.1 ≡ p.1) × (uri_against p.0 p.1 ≡ Ok e.2.uri.value)
 
 -- the handles are of one URI
 abbrev pub is_same : Rc (List ℕ) Global → Rc (List ℕ) Global → Bool
 is_same u v = bytes_eq u.value v.value
 
--- What was found is these resources and names, each of the document with its number, and these wants, in their order, and the
--- URIs of these pairs; the set of URIs is that of the resources.
-pub record Holds (layer : Layer) (f : Found) (resources : List (ℕ × (List ℕ × Place)))
-    (names : List (ℕ × Named)) (wants : List Wanted) (pairs : List Pair) : Type 0 where
-  pub by_uri : AllZip (IsResourceOf layer f.entries.items) f.resources.items resources
-  pub by_name : AllZip (IsNameOf layer f.entries.items) f.names.items names
-  pub wanted : map want_of f.wants.items ≡ wants
-  pub by_pair : ArePairsOf f.identifiers.items f.resolved.items pairs
+-- What may be found, each list in its order: resources and names, each with the number of its document, wants, and what
+-- identifiers and what references are resolved from.
+pub record Held : Type 0 where
+  pub resources : List (ℕ × (List ℕ × Place))
+  pub names : List (ℕ × Named)
+  pub wants : List Wanted
+  pub identifiers : List Pair
+  pub references : List Pair
+
+-- nothing is held
+abbrev pub nothing_held : Held
+nothing_held = record { resources = []; names = []; wants = []; identifiers = []; references = [] }
+
+-- these resources are held too, after the others
+abbrev pub with_resources : Held → List (ℕ × (List ℕ × Place)) → Held
+with_resources held more = record {
+  resources = held.resources ++ more;
+  names = held.names;
+  wants = held.wants;
+  identifiers = held.identifiers;
+  references = held.references;
+}
+
+-- these names too
+abbrev pub with_names : Held → List (ℕ × Named) → Held
+with_names held more = record {
+  resources = held.resources;
+  names = held.names ++ more;
+  wants = held.wants;
+  identifiers = held.identifiers;
+  references = held.references;
+}
+
+-- these wants too
+abbrev pub with_wants : Held → List Wanted → Held
+with_wants held more = record {
+  resources = held.resources;
+  names = held.names;
+  wants = held.wants ++ more;
+  identifiers = held.identifiers;
+  references = held.references;
+}
+
+-- these pairs of identifiers too
+abbrev pub with_identifiers : Held → List Pair → Held
+with_identifiers held more = record {
+  resources = held.resources;
+  names = held.names;
+  wants = held.wants;
+  identifiers = held.identifiers ++ more;
+  references = held.references;
+}
+
+-- these pairs of references too
+abbrev pub with_references : Held → List Pair → Held
+with_references held more = record {
+  resources = held.resources;
+  names = held.names;
+  wants = held.wants;
+  identifiers = held.identifiers;
+  references = held.references ++ more;
+}
+
+-- What was found is this and no more, in this order: of each resource and each name an entry of the document with its number,
+-- each want, and of each pair its URI; the set of URIs is that of the resources.
+pub record Holds (layer : Layer) (f : Found) (held : Held) : Type 0 where
+  pub by_uri : AllZip (IsResourceOf layer f.entries.items) f.resources held.resources
+  pub by_name : AllZip (IsNameOf layer f.entries.items) f.names held.names
+  pub wanted : map want_of f.wants.items ≡ held.wants
+  pub of_identifiers : AllZip IsPairOf f.identifiers held.identifiers
+  pub of_references : AllZip IsPairOf f.references held.references
   pub known : (uri : Rc (List ℕ) Global)
-      → contains is_same f.identified uri ≡ list_any (λ r. bytes_eq r.1.0 uri.value) resources
+      → contains is_same f.identified uri ≡ list_any (λ r. bytes_eq r.1.0 uri.value) held.resources

@@ -17,18 +17,7 @@ use Rattle.ref_index.specs.declared.entry.FoundName.{FoundName}
 use Rattle.ref_index.specs.declared.found.ResolvedUri.{ResolvedUri}
 use Rattle.ref_index.specs.Spots.{numbered_resources, numbered_names}
 use Rattle.ref_index.specs.inner.NormalUris.{HaveNormalUris}
-use Rattle.ref_index.specs.Found.{IsEntryOf, IsNumberOf, kind_of}
-
--- an entry under a URI and the empty text is that of a resource
-abbrev pub IsResourceIn : Layer → List Entry → table.Entry ℕ → ℕ × (List ℕ × Place) → Type 0
-IsResourceIn layer entries e r =
-    (e.0 ≡ r.1.0) × (e.1 ≡ []) × IsNumberOf layer entries r.0 e.2 r.1.1
-
--- an entry under a URI and a name is that of an anchor
-abbrev pub IsNameIn : Layer → List Entry → table.Entry NamedEntry → ℕ × Named → Type 0
-IsNameIn layer entries e n =
-    (e.0 ≡ n.1.uri) × (e.1 ≡ n.1.name) × (kind_of e.2.is_dynamic ≡ n.1.kind)
-    × IsNumberOf layer entries n.0 e.2.entry n.1.place
+use Rattle.ref_index.specs.Found.{IsEntryOf, IsResourceOf, IsNameOf, kind_of}
 
 -- an entry under a base and a text is the URI that the text means against the base, with the number that the table of
 -- resources has for the URI
@@ -38,26 +27,18 @@ IsPairIn by_uri e p =
     × (e.2.entry ≡ last_value e.2.uri.value [] by_uri)
 
 -- a resolved URI with its number in a table of resources
-abbrev pub numbered_uri : List (table.Entry ℕ) → String Global × String Global × ResolvedUri
-    → String Global × String Global × ResolvedUri
-numbered_uri by_uri t =
-    (t.0, t.1, record { uri = t.2.uri; entry = last_value t.2.uri.value [] by_uri })
+abbrev pub numbered_uri : List (table.Entry ℕ) → ResolvedUri → ResolvedUri
+numbered_uri by_uri r = record { uri = r.uri; entry = last_value r.uri.value [] by_uri }
 
--- a table has what each of these pairs is resolved to, and nothing else
-abbrev pub HasPairs : List (table.Entry ℕ) → List (table.Entry ResolvedUri) → List Pair → Type 0
-HasPairs by_uri by_pair pairs =
-    (listed : List Pair) × AllZip (IsPairIn by_uri) by_pair listed
-    × ((p : Pair) → Contains pairs p → Contains listed p)
-    × ((p : Pair) → Contains listed p → Contains pairs p)
-
--- the tables hold the resources and the names of the documents, each in its document, in their order, and what is resolved of
--- them; the children of the documents' places are at their paths; and where the index says so, the documents' URIs are in normal form
+-- the tables hold the resources and the names of the documents, each in its document, and what is resolved of them, each in
+-- their order; the children of the documents' places are at their paths; and where the index says so, the documents' URIs are in
+-- normal form
 pub record IsIndexOf (layer : Layer) (entries : List Entry) (by_uri : List (table.Entry ℕ))
     (by_name : List (table.Entry NamedEntry)) (by_pair : List (table.Entry ResolvedUri))
     (is_normal : Bool) : Type 0 where
-  pub resource : AllZip (IsResourceIn layer entries) by_uri (numbered_resources layer)
-  pub name : AllZip (IsNameIn layer entries) by_name (numbered_names layer)
-  pub pair : HasPairs by_uri by_pair (pairs layer)
+  pub resource : AllZip (IsResourceOf layer entries) by_uri (numbered_resources layer)
+  pub name : AllZip (IsNameOf layer entries) by_name (numbered_names layer)
+  pub pair : AllZip (IsPairIn by_uri) by_pair (pairs layer)
   pub children : (d : Document) → Contains layer d → ChildrenStand d
   pub normal : is_normal ≡ true → HaveNormalUris layer
 

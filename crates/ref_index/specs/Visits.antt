@@ -11,9 +11,10 @@ use Rattle.ref_uri.specs.declared.error.UriFault.{UriFault}
 use Rattle.ref_uri.specs.declared.error.UriFault.TheVariants.{Invalid, Memory}
 use Rattle.ref_definitions.specs.World.{Document, Layer}
 use Rattle.ref_definitions.specs.Places.{Place, root, child_place, children_of}
+use Rattle.ref_definitions.specs.Queue.{IsQueueBy}
 use Rattle.ref_definitions.specs.Resources.{resource_of}
 use Rattle.ref_definitions.specs.Anchors.{Named, named_under, named_at}
-use Rattle.ref_definitions.specs.Cached.{Pair, pairs_at, pairs}
+use Rattle.ref_definitions.specs.Cached.{identifier_pairs_at, reference_pairs_at, identifier_pairs, reference_pairs}
 use Rattle.ref_definitions.specs.Wants.{Want, wants_at, faults_at, wants, faults}
 use Rattle.ref_definitions.specs.Agreement.{ChildrenStand}
 use Rattle.ref_draft.specs.Children.{AllStand, walked_children}
@@ -21,8 +22,8 @@ use Rattle.ref_draft.specs.declared.draft.Draft.{Draft}
 use Rattle.ref_index.specs.declared.found.Found.{Found}
 use Rattle.ref_index.specs.declared.queue.Visit.{Visit}
 use Rattle.ref_index.specs.Spots.{numbered, numbered_resources, numbered_names}
-use Rattle.ref_index.specs.Found.{Holds}
-use Rattle.ref_index.specs.inner.Queue.{place_of, value_of, IsQueue}
+use Rattle.ref_index.specs.Found.{Held, Holds, with_resources, with_names, with_wants, with_identifiers, with_references}
+use Rattle.ref_index.specs.inner.Queue.{place_of, value_of}
 
 -- the URI that a text names a meta-schema by: its fragment takes no part
 abbrev pub meta_schema_uri : List ℕ → Result (List ℕ) Refusal
@@ -78,24 +79,41 @@ ChildrenCame path value draft base queue after =
     × (map place_of more ≡ map (child_place path base) (walked_children draft value))
     × AllStand value (walked_children draft value)
 
+-- what identifies and names a place is held too, first under a URI of its document, where there is one
+abbrev pub with_meanings : ℕ → Option (List ℕ) → Place → Held → Held
+with_meanings number under p held =
+    with_names (with_resources held (numbered number (resources_at under p)))
+    (numbered number (names_at under p))
+
+-- all that is found of a place too
+abbrev pub with_place : ℕ → Option (List ℕ) → Place → Held → Held
+with_place number under p held =
+    with_references
+    (with_identifiers (with_wants (with_meanings number under p held) (wants_of p))
+    (identifier_pairs_at p)) (reference_pairs_at p)
+
 -- what was found has that of a place too, and where it is a root under a URI of its document
 abbrev pub AddsPlace : ℕ → Option (List ℕ) → Place → Found → Found → Type 0
 AddsPlace number under p old new =
-    (layer : Layer) (rs : List (ℕ × (List ℕ × Place))) (ns : List (ℕ × Named)) (ws : List Want)
-    (ps : List Pair)
-    → Holds layer old rs ns ws ps → StandsIn layer number p
-    → Holds layer new (rs ++ numbered number (resources_at under p))
-    (ns ++ numbered number (names_at under p)) (ws ++ wants_of p) (ps ++ pairs_at p)
+    (layer : Layer) (held : Held) → Holds layer old held → StandsIn layer number p
+    → Holds layer new (with_place number under p held)
+
+-- all that is found of places of a document too, after what its root is under its URI
+abbrev pub with_places : Document → ℕ → List Place → Held → Held
+with_places d number visited held = record {
+  resources = held.resources ++ numbered number ((d.uri, root d) ∷ flat_map resource_of visited);
+  names = held.names
+      ++ numbered number (named_under d.uri (root d) ++ flat_map names_of visited);
+  wants = held.wants ++ flat_map wants_of visited;
+  identifiers = held.identifiers ++ flat_map identifier_pairs_at visited;
+  references = held.references ++ flat_map reference_pairs_at visited;
+}
 
 -- what was found has that of places of a document too, after that of its root under its URI
 abbrev pub AddsPlaces : Document → ℕ → List Place → Found → Found → Type 0
 AddsPlaces d number visited old new =
-    (layer : Layer) (rs : List (ℕ × (List ℕ × Place))) (ns : List (ℕ × Named)) (ws : List Want)
-    (ps : List Pair)
-    → slice_get layer number ≡ Some d → Holds layer old rs ns ws ps
-    → Holds layer new (rs ++ numbered number ((d.uri, root d) ∷ flat_map resource_of visited))
-    (ns ++ numbered number (named_under d.uri (root d) ++ flat_map names_of visited))
-    (ws ++ flat_map wants_of visited) (ps ++ flat_map pairs_at visited)
+    (layer : Layer) (held : Held) → slice_get layer number ≡ Some d → Holds layer old held
+    → Holds layer new (with_places d number visited held)
 
 -- A place was visited: what it is identified by, is named and wants was added, it has no fault, and its children came
 -- to the queue.
@@ -128,12 +146,22 @@ AllStandIn d ps = AllByRecursion (λ p. value_at d.tree p.path ≡ Some p.value)
 pub record IsAt (d : Document) (number : ℕ) (old new : Found) (queue : List Visit)
     (head : ℕ) : Type 0 where
   pub within : head ≤ length queue
-  pub order : IsQueue d (map place_of (take head queue)) (map place_of (drop head queue))
+  pub order : IsQueueBy children_of d (map place_of (take head queue)) (map place_of (drop head queue))
   pub stand : AllStandIn d (map place_of queue)
   pub walk : IsWalked d number old new (map place_of (take head queue))
 
+-- all that the documents of a layer have, with these wants
+abbrev pub held_of : Layer → List Want → Held
+held_of layer wanted = record {
+  resources = numbered_resources layer;
+  names = numbered_names layer;
+  wants = wanted;
+  identifiers = identifier_pairs layer;
+  references = reference_pairs layer;
+}
+
 -- What was found in documents is all that they have, none has a fault, and the children of their places are at their paths.
 pub record IsFound (layer : Layer) (f : Found) : Type 0 where
-  pub held : Holds layer f (numbered_resources layer) (numbered_names layer) (wants layer) (pairs layer)
+  pub held : Holds layer f (held_of layer (wants layer))
   pub faultless : faults layer ≡ []
   pub children : (d : Document) → Contains layer d → ChildrenStand d

@@ -1,22 +1,22 @@
 //! What the walk over documents has found: which URIs and names mean which places, and what is wanted.
-ghost use Rattle.std.specs.Prelude.{◌≡◌, ℕ, List, [], ◌∷◌, ◌++◌, OnOk, String, if◌then◌else◌, slice_get, true, Some, Ok, IfOk};
+ghost use Rattle.std.specs.Prelude.{◌≡◌, ℕ, List, [], ◌∷◌, ◌++◌, OnOk, if◌then◌else◌, slice_get, true, Some, Ok, IfOk};
 ghost use Rattle.std.specs.HashSet.{contains};
 ghost use Rattle.std.specs.Str.{bytes_eq};
 ghost use Rattle.std.specs.declared.alloc.Global as global;
 ghost use Rattle.std.specs.declared.rc.Rc as rc;
 ghost use Rattle.ref_draft.specs.Views.{anchor_name, resource_ref, tagged_value};
+ghost use Rattle.ref_parts.specs.Table as table;
 ghost use Rattle.ref_definitions.specs.World.{Layer};
 ghost use Rattle.ref_definitions.specs.Places.{Place};
-ghost use Rattle.ref_definitions.specs.Anchors.{Named, named_under};
-ghost use Rattle.ref_definitions.specs.Cached.{Pair};
-ghost use Rattle.ref_definitions.specs.Wants.{Want as Wanted};
+ghost use Rattle.ref_definitions.specs.Anchors.{named_under};
 ghost use Rattle.ref_uri.specs.Targets.{uri_against};
 ghost use Rattle.ref_index.specs.Spots.{numbered};
 ghost use Rattle.ref_index.specs.declared.found.ResolvedUri.{ResolvedUri as Resolved};
-ghost use Rattle.ref_index.specs.Found.{Holds, IsNumberOf, IsPairOf, cause_of, is_same, kind_of, name_entry};
+ghost use Rattle.ref_index.specs.Found.{Held, Holds, IsNumberOf, IsPairOf, cause_of, is_same, kind_of, name_entry, nothing_held, with_resources, with_names, with_wants, with_identifiers, with_references};
 
 use crate::entry::{Entry, NamedEntry};
 use ref_draft::{Anchor, AnchorIter, ResourceRef};
+use ref_parts::TableEntries;
 use ref_uri::Uri;
 use std::alloc::{AllocError, Global};
 use std::collections::HashSet;
@@ -53,16 +53,16 @@ pub struct Found<'a> {
     /// The places that are identified or named.
     pub entries: Vec<Entry<'a>>,
     /// The places that URIs identify, each by the number of its entry, under its URI and the empty text.
-    pub resources: Vec<(String, String, usize)>,
+    pub resources: TableEntries<usize>,
     /// The places that anchors name, each under its URI and name.
-    pub names: Vec<(String, String, NamedEntry)>,
+    pub names: TableEntries<NamedEntry>,
     /// What is wanted.
     pub wants: Vec<Want>,
     /// What identifiers were resolved to: each URI under the base and the text that it was resolved from.
-    pub identifiers: Vec<(String, String, ResolvedUri)>,
+    pub identifiers: TableEntries<ResolvedUri>,
     /// What the texts of references were resolved to, likewise. Two lists, since each comes mostly in byte order, and one with
     /// both by turns would not.
-    pub resolved: Vec<(String, String, ResolvedUri)>,
+    pub references: TableEntries<ResolvedUri>,
     /// The URIs that identify places.
     pub identified: HashSet<Rc<Uri>>,
 }
@@ -70,24 +70,23 @@ pub struct Found<'a> {
 impl<'a> Found<'a> {
     /// Nothing. Takes no memory.
     pub fn new(alloc: Global) -> Found<'a>
-        ensures empty { (layer : Layer) → Holds layer result [] [] [] [] }
+        ensures empty { (layer : Layer) → Holds layer result nothing_held }
     {
         Found {
             entries: Vec::new(alloc),
-            resources: Vec::new(alloc),
-            names: Vec::new(alloc),
+            resources: TableEntries::new(alloc),
+            names: TableEntries::new(alloc),
             wants: Vec::new(alloc),
-            identifiers: Vec::new(alloc),
-            resolved: Vec::new(alloc),
+            identifiers: TableEntries::new(alloc),
+            references: TableEntries::new(alloc),
             identified: HashSet::new(alloc),
         }
     }
 
     /// Adds the entry of a place, and returns its number.
     pub fn add_entry(&mut self, entry: Entry<'a>) -> Result<usize, AllocError>
-        ensures added { (layer : Layer) (rs : List (ℕ × (List ℕ × Place))) (ns : List (ℕ × Named))
-            (ws : List Wanted) (ps : List Pair)
-            → Holds layer self.old rs ns ws ps → OnOk result (Holds layer self.new rs ns ws ps) }
+        ensures added { (layer : Layer) (held : Held)
+            → Holds layer self.old held → OnOk result (Holds layer self.new held) }
         ensures entry { IfOk result
             (λ number. slice_get self.new.entries.items number ≡ Some entry.entry) }
     {
@@ -96,140 +95,108 @@ impl<'a> Found<'a> {
         Ok(number)
     }
 
-    /// Adds that a URI identifies the place of an entry. Takes memory for the text of the URI, and is refused where
+    /// Adds that a URI identifies the place of an entry. Takes memory where the lists have no room left, and is refused where
     /// there is none.
-    pub fn add_resource(
-        &mut self,
-        alloc: Global,
-        uri: &Rc<Uri>,
-        entry: usize,
-    ) -> Result<(), AllocError>
-        ensures added { (layer : Layer) (rs : List (ℕ × (List ℕ × Place))) (ns : List (ℕ × Named))
-            (ws : List Wanted) (ps : List Pair) (p : Place) (number : ℕ)
-            → Holds layer self.old rs ns ws ps → IsNumberOf layer self.old.entries.items number entry p
-            → OnOk result (Holds layer self.new (rs ++ (number, (uri.now.value, p)) ∷ []) ns ws ps) }
+    pub fn add_resource(&mut self, uri: &Rc<Uri>, entry: usize) -> Result<(), AllocError>
+        ensures added { (layer : Layer) (held : Held) (p : Place) (number : ℕ)
+            → Holds layer self.old held → IsNumberOf layer self.old.entries.items number entry p
+            → OnOk result
+            (Holds layer self.new (with_resources held ((number, (uri.now.value, p)) ∷ []))) }
         ensures entries { OnOk result (self.new.entries.items ≡ self.old.entries.items) }
     {
         identify(&mut self.identified, uri)?;
-        let text = String::from_str(alloc, uri.as_str())?;
-        self.resources.push((text, String::new(alloc), entry))?;
-        Ok(())
+        self.resources.push(uri.as_str(), "", entry)
     }
 
     // Adds that an anchor names a place.
-    fn add_name(
-        &mut self,
-        alloc: Global,
-        uri: &str,
-        entry: usize,
-        anchor: Anchor<'_>,
-    ) -> Result<(), AllocError>
-        ensures added { (layer : Layer) (rs : List (ℕ × (List ℕ × Place))) (ns : List (ℕ × Named))
-            (ws : List Wanted) (ps : List Pair) (p : Place) (number : ℕ)
-            → Holds layer self.old rs ns ws ps → IsNumberOf layer self.old.entries.items number entry p
+    fn add_name(&mut self, uri: &str, entry: usize, anchor: Anchor<'_>) -> Result<(), AllocError>
+        ensures added { (layer : Layer) (held : Held) (p : Place) (number : ℕ)
+            → Holds layer self.old held → IsNumberOf layer self.old.entries.items number entry p
             → OnOk result
-            (Holds layer self.new rs
-            (ns ++ (number, name_entry uri.now p (anchor_name anchor.entry)) ∷ []) ws ps) }
+            (Holds layer self.new
+            (with_names held ((number, name_entry uri.now p (anchor_name anchor.entry)) ∷ []))) }
         ensures entries { OnOk result (self.new.entries.items ≡ self.old.entries.items) }
     {
         let is_dynamic = is_dynamic(&anchor);
-        let name = String::from_str(alloc, anchor.name())?;
-        let uri = String::from_str(alloc, uri)?;
         self.names
-            .push((uri, name, NamedEntry { is_dynamic, entry }))?;
-        Ok(())
+            .push(uri, anchor.name(), NamedEntry { is_dynamic, entry })
     }
 
-    /// Adds the anchors of a place under a URI. Takes memory for the texts of the URI and of each name.
+    /// Adds the anchors of a place under a URI.
     pub fn add_names(
         &mut self,
-        alloc: Global,
         uri: &str,
         entry: usize,
         resource: ResourceRef<'_>,
     ) -> Result<(), AllocError>
-        ensures added { (layer : Layer) (rs : List (ℕ × (List ℕ × Place))) (ns : List (ℕ × Named))
-            (ws : List Wanted) (ps : List Pair) (p : Place) (number : ℕ)
-            → Holds layer self.old rs ns ws ps → IsNumberOf layer self.old.entries.items number entry p
+        ensures added { (layer : Layer) (held : Held) (p : Place) (number : ℕ)
+            → Holds layer self.old held → IsNumberOf layer self.old.entries.items number entry p
             → resource_ref resource.entry ≡ tagged_value p.draft p.value
-            → OnOk result (Holds layer self.new rs (ns ++ numbered number (named_under uri.now p)) ws ps) }
+            → OnOk result
+            (Holds layer self.new (with_names held (numbered number (named_under uri.now p)))) }
         ensures entries { OnOk result (self.new.entries.items ≡ self.old.entries.items) }
     {
         match resource.draft().anchors(resource.contents()) {
             AnchorIter::Empty => Ok(()),
-            AnchorIter::One(anchor) => self.add_name(alloc, uri, entry, anchor),
+            AnchorIter::One(anchor) => self.add_name(uri, entry, anchor),
             AnchorIter::Two(plain, dynamic) => {
-                self.add_name(alloc, uri, entry, plain)?;
-                self.add_name(alloc, uri, entry, dynamic)
+                self.add_name(uri, entry, plain)?;
+                self.add_name(uri, entry, dynamic)
             }
         }
     }
 
     /// Adds a want.
     pub fn add_want(&mut self, cause: Cause, uri: Rc<Uri>) -> Result<(), AllocError>
-        ensures added { (layer : Layer) (rs : List (ℕ × (List ℕ × Place))) (ns : List (ℕ × Named))
-            (ws : List Wanted) (ps : List Pair)
-            → Holds layer self.old rs ns ws ps
+        ensures added { (layer : Layer) (held : Held)
+            → Holds layer self.old held
             → OnOk result
-            (Holds layer self.new rs ns
-            (ws ++ record { cause = cause_of cause; uri = uri.value } ∷ []) ps) }
+            (Holds layer self.new
+            (with_wants held (record { cause = cause_of cause; uri = uri.value } ∷ []))) }
     {
         self.wants.push(Want { cause, uri })?;
         Ok(())
     }
 
-    /// Adds what an identifier means against a base; the URI's entry isn't known yet. Takes memory for both texts.
+    /// Adds what an identifier means against a base; the URI's entry isn't known yet.
     pub fn add_identifier(
         &mut self,
-        alloc: Global,
         base: &str,
         text: &str,
         uri: &Rc<Uri>,
     ) -> Result<(), AllocError>
-        ensures added { (layer : Layer) (rs : List (ℕ × (List ℕ × Place))) (ns : List (ℕ × Named))
-            (ws : List Wanted) (ps : List Pair)
-            → Holds layer self.old rs ns ws ps → uri_against base.now text.now ≡ Ok uri.now.value
-            → OnOk result (Holds layer self.new rs ns ws (ps ++ (base.now, text.now) ∷ [])) }
+        ensures added { (layer : Layer) (held : Held)
+            → Holds layer self.old held → uri_against base.now text.now ≡ Ok uri.now.value
+            → OnOk result
+            (Holds layer self.new (with_identifiers held ((base.now, text.now) ∷ []))) }
     {
-        push_resolved(alloc, &mut self.identifiers, base, text, uri)?;
-        Ok(())
+        push_resolved(&mut self.identifiers, base, text, uri)
     }
 
-    /// Adds what the text of a reference means against a base; the URI's entry isn't known yet. Takes memory for both texts.
-    pub fn add_resolved(
-        &mut self,
-        alloc: Global,
-        base: &str,
-        text: &str,
-        uri: &Rc<Uri>,
-    ) -> Result<(), AllocError>
-        ensures added { (layer : Layer) (rs : List (ℕ × (List ℕ × Place))) (ns : List (ℕ × Named))
-            (ws : List Wanted) (ps : List Pair)
-            → Holds layer self.old rs ns ws ps → uri_against base.now text.now ≡ Ok uri.now.value
-            → OnOk result (Holds layer self.new rs ns ws (ps ++ (base.now, text.now) ∷ [])) }
+    /// Adds what the text of a reference means against a base; the URI's entry isn't known yet.
+    pub fn add_reference(&mut self, base: &str, text: &str, uri: &Rc<Uri>) -> Result<(), AllocError>
+        ensures added { (layer : Layer) (held : Held)
+            → Holds layer self.old held → uri_against base.now text.now ≡ Ok uri.now.value
+            → OnOk result
+            (Holds layer self.new (with_references held ((base.now, text.now) ∷ []))) }
     {
-        push_resolved(alloc, &mut self.resolved, base, text, uri)?;
-        Ok(())
+        push_resolved(&mut self.references, base, text, uri)
     }
 }
 
 // Adds what a text means against a base, whose entry isn't known yet.
 fn push_resolved(
-    alloc: Global,
-    resolved: &mut Vec<(String, String, ResolvedUri)>,
+    resolved: &mut TableEntries<ResolvedUri>,
     base: &str,
     text: &str,
     uri: &Rc<Uri>,
 ) -> Result<(), AllocError>
     ensures { uri_against base.now text.now ≡ Ok uri.now.value
-        → OnOk result ((t : String global.Global × String global.Global × Resolved)
-        × (resolved.new.items ≡ resolved.old.items ++ t ∷ []) × IsPairOf t (base.now, text.now)) }
+        → OnOk result ((e : table.Entry Resolved)
+        × (resolved.new ≡ resolved.old ++ e ∷ []) × IsPairOf e (base.now, text.now)) }
 {
-    let base = String::from_str(alloc, base)?;
-    let text = String::from_str(alloc, text)?;
     let uri = uri.clone()?;
-    resolved.push((base, text, ResolvedUri { uri, entry: None }))?;
-    Ok(())
+    resolved.push(base, text, ResolvedUri { uri, entry: None })
 }
 
 // Adds a URI to those that identify places. The handle is shared; no text is copied.

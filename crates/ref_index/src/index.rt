@@ -4,6 +4,7 @@ ghost use Rattle.std.specs.List.{Contains};
 ghost use Rattle.serde_json.specs.View.{view};
 ghost use Rattle.ref_uri.specs.Components.{scheme};
 ghost use Rattle.ref_uri.specs.Targets.{uri_against};
+ghost use Rattle.ref_parts.specs.Table.{with_value};
 ghost use Rattle.ref_definitions.specs.World.{Document as WorldDocument};
 ghost use Rattle.ref_definitions.specs.Agreement.{ChildrenStand};
 ghost use Rattle.ref_definitions.specs.Places.{Place};
@@ -12,15 +13,16 @@ ghost use Rattle.ref_definitions.specs.Anchors.{last_named, names};
 ghost use Rattle.ref_definitions.specs.Cached.{pairs};
 ghost use Rattle.ref_definitions.specs.Wants.{Want};
 ghost use Rattle.ref_index.specs.Document.{document_of};
-ghost use Rattle.ref_index.specs.Spots.{numbered_resources, numbered_names, spot_under, spot_named, spot_of};
+ghost use Rattle.ref_index.specs.Spots.{spot_under, spot_named, spot_of};
 ghost use Rattle.ref_index.specs.Found.{Holds, IsEntryOf};
 ghost use Rattle.ref_index.specs.inner.NormalUris.{IsNormalUri, HaveNormalUris};
+ghost use Rattle.ref_index.specs.Visits.{held_of};
 ghost use Rattle.ref_index.specs.Index.{IsFoundAt, IsFoundWhere, IsNamedAt, numbered_uri};
 
 use crate::document::Document;
 use crate::entry::{Entry, FoundName, FoundUri, NamedEntry};
 use crate::found::{Found, ResolvedUri};
-use ref_parts::{SortedTable, value_at};
+use ref_parts::{SortedTable, TableEntries, value_at};
 use ref_uri::uri::from_str;
 use ref_uri::{Uri, UriFault};
 use serde_json::Value;
@@ -69,9 +71,7 @@ impl<'a> Index<'a> {
     ) -> Result<Index<'a>, AllocError>
         requires held { (wants : List Want)
             × Holds (map document_of documents.items) found
-            (numbered_resources (map document_of documents.items))
-            (numbered_names (map document_of documents.items)) wants
-            (pairs (map document_of documents.items)) }
+            (held_of (map document_of documents.items) wants) }
         requires children { (d : WorldDocument) → Contains (map document_of documents.items) d
             → ChildrenStand d }
         ensures value { IfOk result (λ index. index ≡ map document_of documents.entry.items) }
@@ -79,11 +79,12 @@ impl<'a> Index<'a> {
         // (what was only for the walk is let go before the tables take memory)
         drop(found.identified);
         drop(found.wants);
-        let by_uri = SortedTable::from_entries(alloc, found.resources)?;
-        let by_name = SortedTable::from_entries(alloc, found.names)?;
-        let mut resolved = joined(found.identifiers, found.resolved)?;
-        set_entries(&by_uri, resolved.as_mut_slice());
-        let by_pair = SortedTable::from_entries(alloc, resolved)?;
+        let by_uri = found.resources.into_table(alloc)?;
+        let by_name = found.names.into_table(alloc)?;
+        let mut resolved = found.identifiers;
+        resolved.append(found.references)?;
+        set_entries(&by_uri, &mut resolved);
+        let by_pair = resolved.into_table(alloc)?;
         let is_normal = are_normal(alloc, documents.as_slice())?;
         Ok(Index {
             documents,
@@ -205,17 +206,6 @@ impl<'a> Index<'a> {
     }
 }
 
-// What identifiers were resolved to, and what references were.
-fn joined(
-    mut identifiers: Vec<(String, String, ResolvedUri)>,
-    mut references: Vec<(String, String, ResolvedUri)>,
-) -> Result<Vec<(String, String, ResolvedUri)>, AllocError>
-    ensures { IfOk result (λ all. all.items ≡ identifiers.items ++ references.items) }
-{
-    identifiers.append(&mut references)?;
-    Ok(identifiers)
-}
-
 // Whether a URI is in normal form.
 fn is_normal(alloc: Global, uri: &Uri) -> Result<bool, AllocError>
     ensures { IfOk result (λ is. is ≡ true → IsNormalUri uri.now) }
@@ -240,12 +230,12 @@ fn are_normal(alloc: Global, documents: &[Document<'_>]) -> Result<bool, AllocEr
 }
 
 // Puts beside each URI that was resolved the number of the entry that a table of resources has for it, where it has one.
-fn set_entries(by_uri: &SortedTable<usize>, pairs: &mut [(String, String, ResolvedUri)])
-    ensures { pairs.new ≡ map (numbered_uri by_uri.now) pairs.old }
+fn set_entries(by_uri: &SortedTable<usize>, pairs: &mut TableEntries<ResolvedUri>)
+    ensures { pairs.new ≡ map (with_value (numbered_uri by_uri.now)) pairs.old }
 {
-    for (_, _, resolved) in pairs.iter_mut() {
+    pairs.change_values(|resolved| {
         resolved.entry = by_uri.get(resolved.uri.as_str(), "").0.copied();
-    }
+    });
 }
 
 // The entry with a number, where there is one.

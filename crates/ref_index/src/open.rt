@@ -1,13 +1,11 @@
 //! Which wants are open: those whose URIs mean no place, in the documents walked so far nor in a parent's.
-ghost use Rattle.std.specs.Prelude.{◌≡◌, ℕ, List, ◌∷◌, ◌<◌, ◌≤◌, ◌-◌, map, take, drop, vec_len, slice_get, is_some, Some, true, false, IfSome};
+ghost use Rattle.std.specs.Prelude.{◌≡◌, ◌∷◌, ◌<◌, ◌≤◌, ◌-◌, map, take, drop, vec_len, slice_get, is_some, Some, true, false};
 ghost use Rattle.std.specs.List.{AllByRecursion};
 ghost use Rattle.ref_definitions.specs.World.{Layer};
 ghost use Rattle.ref_definitions.specs.Resources.{meant_place};
-ghost use Rattle.ref_definitions.specs.Anchors.{Named};
-ghost use Rattle.ref_definitions.specs.Cached.{Pair};
 ghost use Rattle.ref_definitions.specs.Wants.{Want as Wanted, is_open};
 ghost use Rattle.ref_index.specs.Spots.{numbered_resources};
-ghost use Rattle.ref_index.specs.Found.{Holds};
+ghost use Rattle.ref_index.specs.Found.{Held, Holds};
 
 use crate::found::Found;
 use crate::index::Index;
@@ -29,8 +27,8 @@ fn is_known_above(parents: &[&Index<'_>], uri: &str) -> bool
 /// Whether a URI means a place, in what was found so far or in a parent. A look-up in a hashed set, and then in each parent's
 /// table; takes no memory.
 pub fn has_meaning(found: &Found<'_>, parents: &[&Index<'_>], uri: &Rc<Uri>) -> bool
-    ensures value { (layer : Layer) (names : List (ℕ × Named)) (wants : List Wanted) (ps : List Pair)
-        → Holds layer found.now (numbered_resources layer) names wants ps
+    ensures value { (layer : Layer) (held : Held)
+        → Holds layer found.now held → held.resources ≡ numbered_resources layer
         → result ≡ is_some (meant_place (layer ∷ map (λ p. p.now) parents.now) uri.now.value) }
 {
     found.identified.contains(uri) || is_known_above(parents, uri.as_str())
@@ -42,14 +40,13 @@ pub fn first_open(found: &Found<'_>, parents: &[&Index<'_>], from: usize) -> usi
     requires { from ≤ vec_len found.now.wants }
     ensures from { from ≤ result }
     ensures within { result ≤ vec_len found.now.wants }
-    ensures met { (layer : Layer) (names : List (ℕ × Named)) (wants : List Wanted) (ps : List Pair)
-        → Holds layer found.now (numbered_resources layer) names wants ps
+    ensures met { (layer : Layer) (held : Held)
+        → Holds layer found.now held → held.resources ≡ numbered_resources layer
         → AllByRecursion (λ w. is_open (layer ∷ map (λ p. p.now) parents.now) w ≡ false)
-        (drop from (take result wants)) }
-    ensures open { (layer : Layer) (names : List (ℕ × Named)) (wants : List Wanted) (ps : List Pair)
-        (w : Wanted)
-        → Holds layer found.now (numbered_resources layer) names wants ps
-        → slice_get wants result ≡ Some w
+        (drop from (take result held.wants)) }
+    ensures open { (layer : Layer) (held : Held) (w : Wanted)
+        → Holds layer found.now held → held.resources ≡ numbered_resources layer
+        → slice_get held.wants result ≡ Some w
         → is_open (layer ∷ map (λ p. p.now) parents.now) w ≡ true }
 {
     let mut number = from;

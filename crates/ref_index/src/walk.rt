@@ -9,16 +9,16 @@ ghost use Rattle.ref_uri.specs.Targets.{target as uri_target};
 ghost use Rattle.ref_definitions.specs.World.{Layer};
 ghost use Rattle.ref_definitions.specs.Places.{Place, base_within, child_place, root, places};
 ghost use Rattle.ref_definitions.specs.Resources.{resource_of};
-ghost use Rattle.ref_definitions.specs.Anchors.{Named, named_at};
-ghost use Rattle.ref_definitions.specs.Cached.{Pair, pairs_of_identifier, pairs_of_reference, reference_pairs, pairs_at};
-ghost use Rattle.ref_definitions.specs.Wants.{Want as Wanted, Reference, MetaSchema, reference_at, schema_at, wants_of_text, refusals_of, wants_at, faults_at};
+ghost use Rattle.ref_definitions.specs.Anchors.{named_at};
+ghost use Rattle.ref_definitions.specs.Cached.{pairs_of_identifier, pairs_of_reference, pairs_of_value};
+ghost use Rattle.ref_definitions.specs.Wants.{Reference, MetaSchema, reference_at, schema_at, wants_of_text, refusals_of, faults_at};
 ghost use Rattle.ref_index.specs.Contents.{tree_of};
 ghost use Rattle.ref_index.specs.Spots.{numbered};
-ghost use Rattle.ref_index.specs.Found.{Holds, IsEntryOf, IsNumberOf};
+ghost use Rattle.ref_index.specs.Found.{Held, Holds, IsEntryOf, IsNumberOf, with_resources, with_names, with_wants, with_identifiers, with_references};
 ghost use Rattle.ref_index.specs.inner.Queue.{path_of, place_of, value_of};
 ghost use Rattle.ref_index.specs.declared.queue.Visit.{Visit};
 ghost use Rattle.ref_index.specs.Document.{document_of};
-ghost use Rattle.ref_index.specs.Visits.{meta_schema_uri, IsFirstFault, StandsIn, ChildrenCame, IsVisited, IsWalked, faults_of, under_document, names_under, resources_at, names_at};
+ghost use Rattle.ref_index.specs.Visits.{meta_schema_uri, AddsPlace, IsFirstFault, StandsIn, ChildrenCame, IsVisited, IsWalked, faults_of, under_document, names_under, with_meanings};
 
 use crate::document::Document;
 use crate::entry::Entry;
@@ -88,70 +88,70 @@ fn has_anchors(resource: ResourceRef<'_>) -> bool
 
 // Adds what identifies and names the root under the URI of its document.
 fn add_under(
-    alloc: Global,
     found: &mut Found<'_>,
     under: Option<&Rc<Uri>>,
     entry: usize,
     resource: ResourceRef<'_>,
 ) -> Result<(), AllocError>
-    ensures added { (layer : Layer) (rs : List (ℕ × (List ℕ × Place))) (ns : List (ℕ × Named))
-        (ws : List Wanted) (ps : List Pair) (p : Place) (number : ℕ)
-        → Holds layer found.old rs ns ws ps → IsNumberOf layer found.old.entries.items number entry p
+    ensures added { (layer : Layer) (held : Held) (p : Place) (number : ℕ)
+        → Holds layer found.old held → IsNumberOf layer found.old.entries.items number entry p
         → resource_ref resource.entry ≡ tagged_value p.draft p.value
         → OnOk result
         (Holds layer found.new
-        (rs ++ numbered number (under_document (option_map (λ u. u.now.value) under.entry) p))
-        (ns ++ numbered number (names_under (option_map (λ u. u.now.value) under.entry) p)) ws ps) }
+        (with_names
+        (with_resources held
+        (numbered number (under_document (option_map (λ u. u.now.value) under.entry) p)))
+        (numbered number (names_under (option_map (λ u. u.now.value) under.entry) p)))) }
     ensures entries { OnOk result (found.new.entries.items ≡ found.old.entries.items) }
 {
     let Some(uri) = under else {
         return Ok(());
     };
-    found.add_resource(alloc, uri, entry)?;
-    found.add_names(alloc, uri.as_str(), entry, resource)
+    found.add_resource(uri, entry)?;
+    found.add_names(uri.as_str(), entry, resource)
 }
 
 // Adds that its base identifies a place, where it has an identifier.
 fn add_identified(
-    alloc: Global,
     found: &mut Found<'_>,
     id: Option<&str>,
     base: &Rc<Uri>,
     entry: usize,
 ) -> Result<(), AllocError>
-    ensures added { (layer : Layer) (rs : List (ℕ × (List ℕ × Place))) (ns : List (ℕ × Named))
-        (ws : List Wanted) (ps : List Pair) (p : Place) (number : ℕ)
-        → Holds layer found.old rs ns ws ps → IsNumberOf layer found.old.entries.items number entry p
+    ensures added { (layer : Layer) (held : Held) (p : Place) (number : ℕ)
+        → Holds layer found.old held → IsNumberOf layer found.old.entries.items number entry p
         → option_map (λ text. text.now) id.entry ≡ identifier p.draft p.value
         → p.base ≡ Ok base.now.value
-        → OnOk result (Holds layer found.new (rs ++ numbered number (resource_of p)) ns ws ps) }
+        → OnOk result
+        (Holds layer found.new (with_resources held (numbered number (resource_of p)))) }
     ensures entries { OnOk result (found.new.entries.items ≡ found.old.entries.items) }
 {
     if id.is_some() {
-        found.add_resource(alloc, base, entry)?;
+        found.add_resource(base, entry)?;
     }
     Ok(())
 }
 
 // Adds what identifies and names a place under its base.
 fn add_by_base(
-    alloc: Global,
     found: &mut Found<'_>,
     id: Option<&str>,
     base: &Rc<Uri>,
     entry: usize,
     resource: ResourceRef<'_>,
 ) -> Result<(), AllocError>
-    ensures { (layer : Layer) (rs : List (ℕ × (List ℕ × Place))) (ns : List (ℕ × Named)) (ws : List Wanted)
-        (ps : List Pair) (p : Place) (number : ℕ)
-        → Holds layer found.old rs ns ws ps → IsNumberOf layer found.old.entries.items number entry p
+    ensures { (layer : Layer) (held : Held) (p : Place) (number : ℕ)
+        → Holds layer found.old held → IsNumberOf layer found.old.entries.items number entry p
         → resource_ref resource.entry ≡ tagged_value p.draft p.value
         → option_map (λ text. text.now) id.entry ≡ identifier p.draft p.value
         → p.base ≡ Ok base.now.value
-        → OnOk result (Holds layer found.new (rs ++ numbered number (resource_of p)) (ns ++ numbered number (named_at p)) ws ps) }
+        → OnOk result
+        (Holds layer found.new
+        (with_names (with_resources held (numbered number (resource_of p)))
+        (numbered number (named_at p)))) }
 {
-    add_identified(alloc, found, id, base, entry)?;
-    found.add_names(alloc, base.as_str(), entry, resource)
+    add_identified(found, id, base, entry)?;
+    found.add_names(base.as_str(), entry, resource)
 }
 
 // Adds what identifies and names a place, first under the URI of its document, where it is the root.
@@ -164,18 +164,15 @@ fn add_place<'w, 'a: 'w>(
     id: Option<&str>,
     base: &Rc<Uri>,
 ) -> Result<(), AllocError>
-    ensures { (layer : Layer) (rs : List (ℕ × (List ℕ × Place))) (ns : List (ℕ × Named)) (ws : List Wanted)
-        (ps : List Pair)
-        → Holds layer found.old rs ns ws ps → StandsIn layer number (place_of place.now)
+    ensures { (layer : Layer) (held : Held)
+        → Holds layer found.old held → StandsIn layer number (place_of place.now)
         → option_map (λ text. text.now) id.entry
         ≡ identifier (place_of place.now).draft (place_of place.now).value
         → (place_of place.now).base ≡ Ok base.now.value
         → OnOk result
         (Holds layer found.new
-        (rs
-        ++ numbered number (resources_at (option_map (λ u. u.now.value) under.entry)
-        (place_of place.now)))
-        (ns ++ numbered number (names_at (option_map (λ u. u.now.value) under.entry) (place_of place.now))) ws ps) }
+        (with_meanings number (option_map (λ u. u.now.value) under.entry) (place_of place.now)
+        held)) }
 {
     let resource = ResourceRef::new(place.value.get(), place.draft);
     if under.is_none() && id.is_none() && !has_anchors(resource) {
@@ -183,33 +180,30 @@ fn add_place<'w, 'a: 'w>(
     }
     let entry = entry_of(alloc, number, place, base)?;
     let entry = found.add_entry(entry)?;
-    add_under(alloc, found, under, entry, resource)?;
-    add_by_base(alloc, found, id, base, entry, resource)
+    add_under(found, under, entry, resource)?;
+    add_by_base(found, id, base, entry, resource)
 }
 
 // Adds what the identifier of a place was resolved to, where it has one.
 fn add_base(
-    alloc: Global,
     found: &mut Found<'_>,
     outer: &Rc<Uri>,
     id: Option<&str>,
     base: &Rc<Uri>,
 ) -> Result<(), AllocError>
-    ensures { (layer : Layer) (rs : List (ℕ × (List ℕ × Place))) (ns : List (ℕ × Named)) (ws : List Wanted)
-        (ps : List Pair)
-        → Holds layer found.old rs ns ws ps
+    ensures { (layer : Layer) (held : Held)
+        → Holds layer found.old held
         → base_within outer.now.value (option_map (λ text. text.now) id.entry)
         ≡ Ok base.now.value
         → OnOk result
-        (Holds layer found.new rs ns ws
-        (ps
-        ++ pairs_of_identifier outer.now.value
-        (option_map (λ text. text.now) id.entry))) }
+        (Holds layer found.new
+        (with_identifiers held
+        (pairs_of_identifier outer.now.value (option_map (λ text. text.now) id.entry)))) }
 {
     let Some(id) = id else {
         return Ok(());
     };
-    found.add_identifier(alloc, outer.as_str(), id, base)
+    found.add_identifier(outer.as_str(), id, base)
 }
 
 // The URI that a reference points into; what its URI part was resolved to is added, where it has one.
@@ -220,12 +214,11 @@ fn referred(
     reference: &str,
 ) -> Result<Rc<Uri>, UriFault>
     ensures ok { IfOk result (λ uri. uri_target base.now.value reference.now ≡ Ok uri.value) }
-    ensures added { (layer : Layer) (rs : List (ℕ × (List ℕ × Place))) (ns : List (ℕ × Named))
-        (ws : List Wanted) (ps : List Pair)
-        → Holds layer found.old rs ns ws ps
+    ensures added { (layer : Layer) (held : Held)
+        → Holds layer found.old held
         → OnOk result
-        (Holds layer found.new rs ns ws
-        (ps ++ pairs_of_reference base.now.value reference.now)) }
+        (Holds layer found.new
+        (with_references held (pairs_of_reference base.now.value reference.now))) }
     ensures fault { IfErr result (IsFaultOf (uri_target base.now.value reference.now)) }
 {
     if reference.starts_with('#') {
@@ -234,7 +227,7 @@ fn referred(
     let text = uri_part(reference);
     let target = resolve_against(alloc, base.borrow(), text)?;
     let uri = shared(alloc, target)?;
-    found.add_resolved(alloc, base.as_str(), text, &uri)?;
+    found.add_reference(base.as_str(), text, &uri)?;
     Ok(uri)
 }
 
@@ -245,13 +238,13 @@ fn add_reference(
     value: &Value,
     base: &Rc<Uri>,
 ) -> Result<(), UriFault>
-    ensures added { (layer : Layer) (rs : List (ℕ × (List ℕ × Place))) (ns : List (ℕ × Named))
-        (ws : List Wanted) (ps : List Pair)
-        → Holds layer found.old rs ns ws ps
+    ensures added { (layer : Layer) (held : Held)
+        → Holds layer found.old held
         → OnOk result
-        (Holds layer found.new rs ns
-        (ws ++ wants_of_text Reference (reference_at base.now.value (view value.now)))
-        (ps ++ reference_pairs base.now.value (view value.now))) }
+        (Holds layer found.new
+        (with_wants
+        (with_references held (pairs_of_value base.now.value (view value.now)))
+        (wants_of_text Reference (reference_at base.now.value (view value.now))))) }
     ensures faultless { OnOk result
         (refusals_of (reference_at base.now.value (view value.now)) ≡ []) }
     ensures fault { IfErr result
@@ -279,12 +272,11 @@ fn schema_uri(alloc: Global, text: &str) -> Result<Rc<Uri>, UriFault>
 
 // Adds what a text under `$schema` names, where that is no known draft.
 fn add_meta_schema(alloc: Global, found: &mut Found<'_>, value: &Value) -> Result<(), UriFault>
-    ensures added { (layer : Layer) (rs : List (ℕ × (List ℕ × Place))) (ns : List (ℕ × Named))
-        (ws : List Wanted) (ps : List Pair)
-        → Holds layer found.old rs ns ws ps
+    ensures added { (layer : Layer) (held : Held)
+        → Holds layer found.old held
         → OnOk result
-        (Holds layer found.new rs ns
-        (ws ++ wants_of_text MetaSchema (schema_at (view value.now))) ps) }
+        (Holds layer found.new
+        (with_wants held (wants_of_text MetaSchema (schema_at (view value.now))))) }
     ensures faultless { OnOk result (refusals_of (schema_at (view value.now)) ≡ []) }
     ensures fault { IfErr result (IsFirstFault (refusals_of (schema_at (view value.now)))) }
 {
@@ -308,16 +300,9 @@ pub(crate) fn settle<'w, 'a: 'w>(
     under: Option<&Rc<Uri>>,
 ) -> Result<Rc<Uri>, UriFault>
     ensures base { IfOk result (λ base. (place_of place.now).base ≡ Ok base.value) }
-    ensures added { (layer : Layer) (rs : List (ℕ × (List ℕ × Place))) (ns : List (ℕ × Named))
-        (ws : List Wanted) (ps : List Pair)
-        → Holds layer found.old rs ns ws ps → StandsIn layer number (place_of place.now)
-        → OnOk result
-        (Holds layer found.new
-        (rs
-        ++ numbered number (resources_at (option_map (λ u. u.now.value) under.entry)
-        (place_of place.now)))
-        (ns ++ numbered number (names_at (option_map (λ u. u.now.value) under.entry) (place_of place.now)))
-        (ws ++ wants_at (place_of place.now).base (place_of place.now).value) (ps ++ pairs_at (place_of place.now))) }
+    ensures added { OnOk result
+        (AddsPlace number (option_map (λ u. u.now.value) under.entry) (place_of place.now)
+        found.old found.new) }
     ensures faultless { OnOk result
         (faults_at (place_of place.now).base (place_of place.now).value ≡ []) }
     ensures fault { IfErr result
@@ -326,7 +311,7 @@ pub(crate) fn settle<'w, 'a: 'w>(
     let value = place.value.get();
     let id = ResourceRef::new(value, place.draft).id();
     let base = base_of(alloc, &place.outer, id)?;
-    add_base(alloc, found, &place.outer, id, &base)?;
+    add_base(found, &place.outer, id, &base)?;
     add_place(alloc, found, number, place, under, id, &base)?;
     add_reference(alloc, found, value, &base)?;
     add_meta_schema(alloc, found, value)?;

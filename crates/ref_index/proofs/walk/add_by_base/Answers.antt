@@ -1,15 +1,15 @@
-use Rattle.std.proofs.Common.{◌≡◌, ◌++◌, OnOk, subst, rules}
+use Rattle.std.proofs.Common.{◌≡◌, OnOk, subst, rules}
 use Rattle.ref_definitions.specs.Resources.{resource_of}
 use Rattle.ref_definitions.specs.Anchors.{named_at, named_under}
 use Rattle.ref_index.specs.Spots.{numbered}
-use Rattle.ref_index.specs.Found.{Holds}
+use Rattle.ref_index.specs.Found.{Holds, with_resources, with_names}
 use Rattle.ref_index.proofs.Holding.{number_kept}
 use Rattle.ref_index.proofs.walk.add_by_base.Goals as goal
 
 pub returns : goal.returns
-returns c = λ layer rs ns ws ps p number held is tag named based.
+returns c = λ layer held p number holds is tag named based.
     let text : named_under c.as_str.result.now p ≡ named_at p = search rules in
-    let first = c.in_ok-add_identified.ensures.added layer rs ns ws ps p number held is named based in
+    let first = c.in_ok-add_identified.ensures.added layer held p number holds is named based in
     let there = number_kept layer _ _ number c.args.entry p c.in_ok-add_identified.ensures.entries is in
-    subst (λ l. OnOk c.add_names.result (Holds layer c.add_names.new.self (rs ++ numbered number (resource_of p)) (ns ++ numbered number l) ws ps)) text
-    (c.add_names.ensures.added layer (rs ++ numbered number (resource_of p)) ns ws ps p number first there tag)
+    subst (λ l. OnOk c.add_names.result (Holds layer c.add_names.new.self (with_names (with_resources held (numbered number (resource_of p))) (numbered number l)))) text
+    (c.add_names.ensures.added layer (with_resources held (numbered number (resource_of p))) p number first there tag)

@@ -1,10 +1,11 @@
 use Rattle.std.proofs.Common.{◌≡◌, ◌∙◌, ◌∷◌, ◌++◌, [], ◌<◌, ap, subst, get_or, length, Some, flat_map, arith, rules}
 use Rattle.std.specs.Prelude.{slice_get}
 use Rattle.std.proofs.lemmas.Option.{slice_get-get_or}
-use Rattle.ref_definitions.specs.Places.{places, root, levels_below}
+use Rattle.ref_definitions.specs.Places.{places, root, children_of, levels_below}
+use Rattle.ref_definitions.specs.Queue.{IsQueueBy}
 use Rattle.serde_json.specs.Data.{depth}
 use Rattle.ref_index.specs.Document.{document_of}
-use Rattle.ref_index.specs.inner.Queue.{place_of, IsQueue}
+use Rattle.ref_index.specs.inner.Queue.{place_of}
 use Rattle.ref_index.specs.Visits.{IsFirstFault, IsVisited, faults_of}
 use Rattle.ref_index.proofs.Walking.{begin, advance, finish, left, first_in_front, first_of_visit, head_is}
 use Rattle.ref_index.proofs.walk.walk.Goals as goal
@@ -36,7 +37,7 @@ returns-in_err-visit-2-clause-fault c =
     let v = get_or c.loop-head.queue.items c.loop-head.head c.in_ok-root.root in
     let here = slice_get-get_or c.loop-head.queue.items c.loop-head.head c.in_ok-root.root within in
     let is = c.loop-head.invariant in
-    let fault = first_of_visit d _ _ (place_of v) c.in_err-visit-2.field-0.0 (subst (IsQueue d _) (head_is c.loop-head.queue.items c.loop-head.head v within here) is.order) is.walk.faultless (c.in_err-visit-2.ensures.fault v here) in
+    let fault = first_of_visit d _ _ (place_of v) c.in_err-visit-2.field-0.0 (subst (IsQueueBy children_of d _) (head_is c.loop-head.queue.items c.loop-head.head v within here) is.order) is.walk.faultless (c.in_err-visit-2.ensures.fault v here) in
     search rules
 
 pub loop-head-smaller : goal.loop-head-smaller

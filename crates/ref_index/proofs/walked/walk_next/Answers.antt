@@ -1,4 +1,4 @@
-use Rattle.std.proofs.Common.{◌≡◌, ◌∷◌, ◌++◌, [], ◌∙◌, sym, ap, subst, map, length, Some, Result, Ok, Err, OnOk, arith}
+use Rattle.std.proofs.Common.{◌≡◌, ◌∷◌, ◌++◌, [], ◌∙◌, sym, ap, subst, map, length, Some, arith}
 use Rattle.std.specs.Prelude.{slice_get}
 use Rattle.std.proofs.lemmas.List.{map-append, length-map}
 use Rattle.std.proofs.lemmas.Option.{get_or_from_slice_get}
@@ -6,11 +6,8 @@ use Rattle.ref_index.specs.Document.{document_of}
 use Rattle.ref_index.specs.Visits.{IsFound, IsWalked}
 use Rattle.ref_definitions.specs.Places.{places}
 use Rattle.ref_index.proofs.Layers.{at_length, found_more}
+use Rattle.ref_index.proofs.Listing.{on_ok}
 use Rattle.ref_index.proofs.walked.walk_next.Goals as goal
-
-on_ok : {A E P Q : Type 0} (r : Result A E) → (P → Q) → OnOk r P → OnOk r Q
-on_ok (Ok x) then is = then is
-on_ok (Err e) then is = tt
 
 pub returns-clause-found : goal.returns-clause-found
 returns-clause-found c =

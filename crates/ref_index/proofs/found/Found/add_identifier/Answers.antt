@@ -1,20 +1,17 @@
-use Rattle.std.proofs.Common.{◌++◌, ◌∷◌, [], subst, sym}
-use Rattle.ref_definitions.specs.Cached.{Pair}
-use Rattle.ref_index.specs.Found.{ArePairsOf}
-use Rattle.ref_index.proofs.Holding.{identifier_more}
+use Rattle.ref_index.proofs.Holding.{pair_more}
+use Rattle.ref_index.proofs.Listing.{on_ok}
 use Rattle.ref_index.proofs.found.Found.add_identifier.Goals as goal
 
 pub returns : goal.returns
 returns c = record {
-  added = λ layer rs ns ws ps held means.
-      let old = c.args.self.now in
-      let pair : Pair = (c.args.base.now, c.args.text.now) in
-      let (t, more, is) = c.in_ok-push_resolved.ensures means in
-      record {
-        by_uri = held.by_uri;
-        by_name = held.by_name;
-        wanted = held.wanted;
-        by_pair = subst (λ l. ArePairsOf l old.resolved.items (ps ++ pair ∷ [])) (sym more) (identifier_more old.identifiers.items old.resolved.items t ps pair held.by_pair is);
-        known = held.known;
-      };
+  added = λ layer held holds means. on_ok c.push_resolved.result
+      (λ more. record {
+        by_uri = holds.by_uri;
+        by_name = holds.by_name;
+        wanted = holds.wanted;
+        of_identifiers = pair_more c.args.self.now.identifiers _ held.identifiers (c.args.base.now, c.args.text.now) holds.of_identifiers more;
+        of_references = holds.of_references;
+        known = holds.known;
+      })
+      (c.push_resolved.ensures means);
 }

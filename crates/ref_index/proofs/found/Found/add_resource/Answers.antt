@@ -1,15 +1,24 @@
-use Rattle.std.proofs.Common.{◌≡◌, string_bytes, rules}
+use Rattle.std.proofs.Common.{◌≡◌, ℕ, List, ◌∷◌, [], ◌++◌, sym, refl, subst, rules}
+use Rattle.std.specs.List.{AllZip}
+use Rattle.ref_definitions.specs.Places.{Place}
 use Rattle.ref_index.specs.Found.{IsResourceOf}
 use Rattle.ref_index.proofs.Holding.{known_with, zip_push}
+use Rattle.ref_index.proofs.Listing.{on_ok}
 use Rattle.ref_index.proofs.found.Found.add_resource.Goals as goal
 
 pub returns-clause-added : goal.returns-clause-added
-returns-clause-added c = λ layer rs ns ws ps p number held is.
-    let text : string_bytes c.in_ok-text.text ≡ c.args.uri.now.value = search rules in
-    record {
-      by_uri = rw c.in_ok-push.ensures.items (zip_push (IsResourceOf layer c.args.self.now.entries.items) c.args.self.now.resources.items rs _ _ held.by_uri (text, c.new.ensures.bytes, is));
-      by_name = held.by_name;
-      wanted = held.wanted;
-      by_pair = held.by_pair;
-      known = λ u. known_with u.value c.args.uri.now.value number p rs _ _ (held.known u) (c.in_ok-identify.ensures u);
-    }
+returns-clause-added c = λ layer held p number holds is.
+    let old = c.args.self.now in
+    let text : c.as_str.result.now ≡ c.args.uri.now.value = search rules in
+    let one : ℕ × (List ℕ × Place) = (number, (c.args.uri.now.value, p)) in
+    on_ok c.push.result
+    (λ more. record {
+      by_uri = subst (λ l. AllZip (IsResourceOf layer old.entries.items) l (held.resources ++ one ∷ [])) (sym more)
+          (zip_push (IsResourceOf layer old.entries.items) old.resources held.resources _ one holds.by_uri (text, refl, is));
+      by_name = holds.by_name;
+      wanted = holds.wanted;
+      of_identifiers = holds.of_identifiers;
+      of_references = holds.of_references;
+      known = λ u. known_with u.value c.args.uri.now.value number p held.resources _ _ (holds.known u) (c.in_ok-identify.ensures u);
+    })
+    c.push.ensures.value

@@ -3,7 +3,8 @@ use Rattle.std.specs.Prelude.{slice_get}
 use Rattle.std.specs.List.{last_or}
 use Rattle.ref_parts.specs.Table.{is_under}
 use Rattle.ref_definitions.specs.Anchors.{Named, names, last_named}
-use Rattle.ref_index.specs.Index.{IsIndexOf, IsNameIn}
+use Rattle.ref_index.specs.Found.{IsNameOf}
+use Rattle.ref_index.specs.Index.{IsIndexOf}
 use Rattle.ref_index.specs.Spots.{numbered_names, last_name}
 use Rattle.ref_index.proofs.Spots.{last_name_is}
 use Rattle.ref_index.proofs.Looking.{none_found, none_is_some, name_both, name_found, got, tells, stands_at}
@@ -18,7 +19,7 @@ returns-in_err-named c =
     let table = c.self.inside.by_name in
     let is = subst (λ l. IsIndexOf l entries c.self.inside.by_uri table c.self.inside.by_pair c.self.inside.is_normal) c.self.view_is c.self.invariant in
     let nothing : option_copied c.get.result.0 ≡ None = ap option_copied c.in_err-named.was in
-    let last = none_found (IsNameIn layer entries) (λ e. e.2) (last_or None (filter (is_under uri name) table)) (last_name uri name layer) (name_both layer entries uri name table (numbered_names layer) is.name) (sym c.get.ensures.value ∙ nothing) in
+    let last = none_found (IsNameOf layer entries) (λ e. e.2) (last_or None (filter (is_under uri name) table)) (last_name uri name layer) (name_both layer entries uri name table (numbered_names layer) is.name) (sym c.get.ensures.value ∙ nothing) in
     let none : last_named uri name (names layer) ≡ None = last_name_is uri name layer ∙ ap (option_map (λ (n : ℕ × Named). n.1)) last in
     search rules
 

@@ -14,9 +14,8 @@ returns-in_err-resolved c =
     let by_uri = c.self.inside.by_uri in
     let table = c.self.inside.by_pair in
     let is = subst (λ l. IsIndexOf l c.self.inside.entries.items by_uri c.self.inside.by_name table c.self.inside.is_normal) c.self.view_is c.self.invariant in
-    let (ps, zipped, each, only) = is.pair in
-    let absent = pair_absent by_uri base text ps (last_or None (filter (is_under base text) table)) (pair_both by_uri base text table ps zipped) (sym c.get.ensures.value ∙ ap option_copied c.in_err-resolved.was) in
-    let unresolved : ¬ (Contains (pairs c.args.self.now) (base, text)) = λ there. absent (each (base, text) there) in
+    let ps = pairs c.args.self.now in
+    let unresolved : ¬ (Contains ps (base, text)) = pair_absent by_uri base text ps (last_or None (filter (is_under base text) table)) (pair_both by_uri base text table ps is.pair) (sym c.get.ensures.value ∙ ap option_copied c.in_err-resolved.was) in
     search rules
 
 pub returns : goal.returns
@@ -28,9 +27,9 @@ returns c =
     let by_uri = c.self.inside.by_uri in
     let table = c.self.inside.by_pair in
     let is = subst (λ l. IsIndexOf l entries by_uri c.self.inside.by_name table c.self.inside.is_normal) c.self.view_is c.self.invariant in
-    let (ps, zipped, each, only) = is.pair in
+    let ps = pairs c.args.self.now in
     let found = c.in_ok-resolved.resolved.now in
-    let (means, number) = pair_found by_uri base text ps (last_or None (filter (is_under base text) table)) found (pair_both by_uri base text table ps zipped) (sym c.get.ensures.value ∙ ap option_copied c.in_ok-resolved.was) in
+    let (means, number) = pair_found by_uri base text ps (last_or None (filter (is_under base text) table)) found (pair_both by_uri base text table ps is.pair) (sym c.get.ensures.value ∙ ap option_copied c.in_ok-resolved.was) in
     let at = rw c.as_slice.ensures.value at c.entry_at.ensures in
     record {
       value = means;

@@ -4,7 +4,8 @@ use Rattle.std.specs.List.{last_or}
 use Rattle.ref_parts.specs.Table.{is_under}
 use Rattle.ref_definitions.specs.Places.{Place}
 use Rattle.ref_definitions.specs.Resources.{resources, last_under}
-use Rattle.ref_index.specs.Index.{IsIndexOf, IsResourceIn, IsFoundAt}
+use Rattle.ref_index.specs.Found.{IsResourceOf}
+use Rattle.ref_index.specs.Index.{IsIndexOf, IsFoundAt}
 use Rattle.ref_index.specs.Spots.{numbered_resources, last_resource, spot_under, spot_of}
 use Rattle.ref_index.proofs.Spots.{last_resource_is}
 use Rattle.ref_index.proofs.Looking.{none_found, uri_both, resource_found, got, entry_there, if_there, stands_at}
@@ -18,7 +19,7 @@ returns-in_err-number c =
     let table = c.self.inside.by_uri in
     let is = subst (λ l. IsIndexOf l entries table c.self.inside.by_name c.self.inside.by_pair c.self.inside.is_normal) c.self.view_is c.self.invariant in
     let nothing : option_copied c.get.result.0 ≡ None = ap option_copied c.in_err-number.was in
-    let last = none_found (IsResourceIn layer entries) (λ e. e.2) (last_or None (filter (is_under uri []) table)) (last_resource uri layer) (uri_both layer entries uri table (numbered_resources layer) is.resource) (sym c.get.ensures.value ∙ nothing) in
+    let last = none_found (IsResourceOf layer entries) (λ e. e.2) (last_or None (filter (is_under uri []) table)) (last_resource uri layer) (uri_both layer entries uri table (numbered_resources layer) is.resource) (sym c.get.ensures.value ∙ nothing) in
     let none : last_under uri (resources layer) ≡ None = last_resource_is uri layer ∙ ap (option_map (λ (r : ℕ × (List ℕ × Place)). r.1)) last in
     search rules
 
