@@ -24,7 +24,7 @@ use Rattle.ref_definitions.specs.Bases.{Along, along_part}
 use Rattle.ref_definitions.specs.Bases as bases
 use Rattle.ref_definitions.specs.Pointers.{step_into, walked_along, pointed_value}
 use Rattle.ref_error.specs.declared.error.Error.{Error}
-use Rattle.ref_error.specs.Errors.{IsFaultOf}
+use Rattle.ref_error.specs.Errors.{IsFaultOf, Gives}
 use Rattle.ref_resolver.specs.inner.Walking.{Passed, accepted_id, stepped_into, changed_base, based, stepped_along, passed_along, leads_to, pointed_to}
 use Rattle.ref_error.proofs.Saying.{fault_as}
 use Rattle.ref_resolver.proofs.Faults.{fault_ends, goes_on, refused_after}
@@ -155,6 +155,14 @@ pub fault_leads : (draft : Draft) (pointer base : List ℕ) (value : Data) (ts :
     → IsFaultOf (passed_along draft pointer (record { base = base; reached = Schema }) value ts) e → IsFaultOf (leads_to draft pointer base value ts) e
 fault_leads draft pointer base value ts e is =
     fault_ends (walked_along draft pointer (record { base = base; since = [] }) value ts) (λ at. Ok (at.0, at.1.base)) e (fault_same draft pointer base value ts e is)
+
+-- what a walk from a base without parts gives
+pub gives_leads : {B : Type 0} (draft : Draft) (pointer base : List ℕ) (value : Data) (ts : List (List ℕ)) (passed : Passed) (at : Data × Passed) (r : Result B Error) → passed ≡ record { base = base; reached = Schema }
+    → Gives (λ _. at) (passed_along draft pointer passed value ts) r → Gives (λ _. (at.0, at.1.base)) (leads_to draft pointer base value ts) r
+gives_leads draft pointer base value ts passed at (Ok done) start gives =
+    leads_same draft pointer base value ts ∙ ap without_parts (ap (λ p. passed_along draft pointer p value ts) (sym start) ∙ gives)
+gives_leads draft pointer base value ts passed at (Err e) start says =
+    fault_leads draft pointer base value ts e (subst (λ p. IsFaultOf (passed_along draft pointer p value ts) e) start says)
 
 answered : (answer : Result (Data × Along) Fault) (value : Data) (base : List ℕ) → with_parts answer ≡ Ok (value, base) → (at : Data × Along) × (answer ≡ Ok at) × (at.0 ≡ value)
 answered (Ok at) value base is = (at, refl, (let same : (at.0, at.1.base) ≡ (value, base) = cc in ap (λ (p : Data × List ℕ). p.0) same))

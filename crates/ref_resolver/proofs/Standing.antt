@@ -1,5 +1,5 @@
 -- Where a value is, part by part of a pointer.
-use Rattle.std.proofs.Common.{◌≡◌, ℕ, true, false, List, [], ◌∷◌, ◌++◌, map, Some, None, is_some, Result, Ok, Err, IfOk, IfErr, OnOk, sym, ap, ◌∙◌}
+use Rattle.std.proofs.Common.{◌≡◌, ℕ, true, false, List, [], ◌∷◌, ◌++◌, map, Some, None, is_some, Result, Ok, Err, IfOk, IfErr, OnOk, sym, ap, subst, ◌∙◌}
 use Rattle.std.specs.Option.{ok_or}
 use Rattle.serde_json.specs.Data.{Data, null, boolean, number, string, array, object}
 use Rattle.serde_json.specs.Find.{get_item, get_member, as_array}
@@ -33,9 +33,19 @@ if_ok P Q (Ok a) then is = then a is
 if_ok P Q (Err e) then is = tt
 
 -- what an answer brings with it, of a call that gives it
-pub if_given : {A X : Type 0} (view : X → A) (meaning : Result A Fault) (Q : X → Type 0) (r : Result X Error) → ((x : X) → meaning ≡ Ok (view x) → Q x) → Gives view meaning r → IfOk r Q
-if_given view meaning Q (Ok x) then gives = then x gives
-if_given view meaning Q (Err e) then gives = tt
+pub on_given : {A X : Type 0} (at : A) (meaning : Result A Fault) (Q : Type 0) (r : Result X Error) → (meaning ≡ Ok at → Q) → Gives (λ _. at) meaning r → OnOk r Q
+on_given at meaning Q (Ok x) then gives = then gives
+on_given at meaning Q (Err e) then gives = tt
+
+-- and with what it says of its own on success
+pub on_both : {A X P Q : Type 0} (at : A) (meaning : Result A Fault) (r : Result X Error) → (meaning ≡ Ok at → P → Q) → Gives (λ _. at) meaning r → OnOk r P → OnOk r Q
+on_both at meaning (Ok x) then gives is = then gives is
+on_both at meaning (Err e) then gives is = tt
+
+-- the fault of one meaning is that of an equal one
+pub fault_given : {A X : Type 0} (view : X → A) (meaning other : Result A Fault) (r : Result X Error) → other ≡ meaning → Gives view meaning r → IfErr r (IsFaultOf other)
+fault_given view meaning other (Ok x) same gives = tt
+fault_given view meaning other (Err e) same says = subst (λ a. IsFaultOf a e) (sym same) says
 
 pub on_ok : {A E P Q : Type 0} (r : Result A E) → (P → Q) → OnOk r P → OnOk r Q
 on_ok (Ok a) then is = then is

@@ -19,9 +19,9 @@ ghost use Rattle.ref_resolver.specs.inner.Scoped.{dynamic_under, IsDynamicUnder,
 
 use crate::layers::Layers;
 use crate::located::{Located, LocatedName};
-use crate::pointed::{Pointed, Walk, follow_pointer};
+use crate::pointed::{Along, Walk, follow_pointer};
 use crate::resolver::{Resolved, Resolver};
-use ref_draft::{Draft, ResourceRef};
+use ref_draft::{Draft, Reached, ResourceRef};
 use ref_error::{Error, Reason, RetrieveError};
 use ref_index::reference::shared;
 use ref_uri::Uri;
@@ -226,7 +226,13 @@ pub(crate) fn at_pointer<'r>(
         draft,
         pointer,
     };
-    let Pointed { value, base } = follow_pointer(alloc, walk, base, place.value, text)?;
+    let mut along = Along {
+        value: place.value,
+        base,
+        reached: Reached::Schema,
+    };
+    follow_pointer(alloc, &walk, &mut along, text)?;
+    let Along { value, base, .. } = along;
     let resolver = Resolver {
         layers,
         base,

@@ -19,7 +19,7 @@ use ref_index::Index;
 use ref_index::reference::shared;
 use ref_uri::uri::resolve_against;
 use ref_uri::{Uri, UriRef};
-use std::alloc::Global;
+use std::alloc::{AllocError, Global};
 use std::rc::Rc;
 
 /// The indexes of a registry's own documents and of its parents', nearest first, which resolvers borrow.
@@ -161,20 +161,41 @@ impl<'r> Layers<'r> {
         ensures place { IfOk result
             (λ t. IfSome t.1 (IsMeant (meant_place (world_in self.now) t.0.value))) }
     {
-        if let Some(found) = self.own.resolved(base.as_str(), uri) {
-            let place = place_of(self.own, found.entry);
-            return Ok((found.uri.clone()?, place));
+        if seems_absolute(uri) {
+            if let Some(found) = self.identified(&base, uri)? {
+                return Ok(found);
+            }
         }
-        if let Some(uri) = resolved_above(self.parents, base.as_str(), uri) {
-            return Ok((uri.clone()?, None));
-        }
-        self.resolve_anew(alloc, base, uri)
+        self.resolve_known(alloc, base, uri)
     }
 
-    // The same where no layer has resolved the text: a URI that identifies a place of the own documents, in normal
-    // form, needn't be resolved.
+    // What a text means that identifies a place of the own documents, in normal form: then it means itself, and needs no
+    // look-up of what was resolved.
     #[inline(never)]
-    fn resolve_anew(
+    fn identified(
+        &self,
+        base: &UriRef<'_>,
+        uri: &str,
+    ) -> Result<Option<(Rc<Uri>, Option<Located<'r>>)>, AllocError>
+        ensures uri { IfOk result
+            (λ found. IfSome found (λ t. uri_against base.now uri.now ≡ Ok t.0.value)) }
+        ensures place { IfOk result
+            (λ found. IfSome found
+            (λ t. IfSome t.1 (IsMeant (meant_place (world_in self.now) t.0.value)))) }
+    {
+        if !base.has_scheme() {
+            return Ok(None);
+        }
+        let Some(entry) = self.own.identified(uri) else {
+            return Ok(None);
+        };
+        let place = place_of(self.own, Some(entry));
+        Ok(Some((entry.base.clone()?, place)))
+    }
+
+    // The same, by what was resolved when the documents were prepared.
+    #[inline(always)]
+    fn resolve_known(
         &self,
         alloc: Global,
         base: UriRef<'_>,
@@ -185,14 +206,24 @@ impl<'r> Layers<'r> {
         ensures place { IfOk result
             (λ t. IfSome t.1 (IsMeant (meant_place (world_in self.now) t.0.value))) }
     {
-        if base.has_scheme() {
-            if let Some(entry) = self.own.identified(uri) {
-                let place = place_of(self.own, Some(entry));
-                return Ok((entry.base.clone()?, place));
-            }
+        if let Some(found) = self.own.resolved(base.as_str(), uri) {
+            let place = place_of(self.own, found.entry);
+            return Ok((found.uri.clone()?, place));
+        }
+        if let Some(uri) = resolved_above(self.parents, base.as_str(), uri) {
+            return Ok((uri.clone()?, None));
         }
         Ok((anew(alloc, base, uri)?, None))
     }
+}
+
+// Whether the fourth, fifth or sixth byte of a text is a `:`, as in `urn:`, `http:`, `file:` and `https:`.
+#[inline(always)]
+fn seems_absolute(text: &str) -> bool {
+    let [_, _, _, fourth, fifth, sixth, ..] = text.as_bytes() else {
+        return false;
+    };
+    *fourth == b':' || *fifth == b':' || *sixth == b':'
 }
 
 // The URI that a text means against a base, where that wasn't resolved before. Takes memory for the URI.

@@ -157,23 +157,23 @@ fn push_part(
 fn step_on<'v>(
     alloc: Global,
     walk: &Walk<'_, '_>,
-    along: Along<'v>,
+    along: &mut Along<'v>,
     path: &mut Vec<JsonPointerSegment<'_>>,
     token: &str,
-) -> Result<Along<'v>, Error>
-    ensures gives { Gives (λ a. (view a.value.now, along_of a))
-        (stepped_along walk.now.draft walk.now.pointer.now (along_of along.entry)
-        (view along.entry.value.now) token.now)
+) -> Result<(), Error>
+    ensures gives { Gives (λ _. (view along.new.value.now, along_of along.new))
+        (stepped_along walk.now.draft walk.now.pointer.now (along_of along.old)
+        (view along.old.value.now) token.now)
         result }
     ensures path { (start : Data)
-        → value_at start (map part_of path.old.items) ≡ Some (view along.entry.value.now)
-        → IfOk result (λ a. value_at start (map part_of path.new.items) ≡ Some (view a.value.now)) }
+        → value_at start (map part_of path.old.items) ≡ Some (view along.old.value.now)
+        → OnOk result (value_at start (map part_of path.new.items) ≡ Some (view along.new.value.now)) }
     ensures parts { (more : List (List ℕ))
-        → IfOk result
-        (λ a. map part_of path.new.items
-        ++ parts_along walk.now.pointer.now (view a.value.now) more
+        → OnOk result
+        (map part_of path.new.items
+        ++ parts_along walk.now.pointer.now (view along.new.value.now) more
         ≡ map part_of path.old.items
-        ++ parts_along walk.now.pointer.now (view along.entry.value.now) (token.now ∷ more)) }
+        ++ parts_along walk.now.pointer.now (view along.old.value.now) (token.now ∷ more)) }
 {
     push_part(alloc, path, along.value, token)?;
     step(alloc, walk, along, token)
@@ -211,11 +211,10 @@ fn walk_on(
     };
     let mut rest = text;
     while let Some((token, more)) = cut_at_slash(rest) {
-        along = step_on(alloc, &walk, along, path, token)?;
+        step_on(alloc, &walk, &mut along, path, token)?;
         rest = more;
     }
-    let _ = step_on(alloc, &walk, along, path, rest)?;
-    Ok(())
+    step_on(alloc, &walk, &mut along, path, rest)
 }
 
 // What is after the fragment's first `/`, decoded and then walked, as `follow_pointer` does.

@@ -1,13 +1,14 @@
 //! The walk along the pointer of a reference's fragment (RFC 6901), with the base URI along it.
-ghost use Rattle.std.specs.Prelude.{◌≡◌, ◌≢◌, ◌==◌, ◌∷◌, ◌++◌, All, position, IfOk, MatchOption, option_map, ok_or, None, if◌then◌else◌};
+ghost use Rattle.std.specs.Prelude.{◌≡◌, ◌≢◌, ◌==◌, ◌∷◌, ◌++◌, All, position, IfOk, OnOk, MatchOption, option_map, ok_or, None, if◌then◌else◌};
 ghost use Rattle.serde_json.specs.View.{view};
 ghost use Rattle.std.specs.Cow.{cow_str_bytes};
 ghost use Rattle.ref_parts.specs.Pointer.{slash, tilde, tokens, unescape};
 ghost use Rattle.ref_draft.specs.Schema.{identifier};
+ghost use Rattle.ref_draft.specs.declared.reached.Reached.TheVariants.{Schema};
 ghost use Rattle.ref_definitions.specs.Pointers as world;
 ghost use Rattle.ref_definitions.specs.Fault.{PointerToNowhere, InvalidArrayIndex, InvalidPercentEncoding};
 ghost use Rattle.ref_error.specs.Errors.{Gives, SaysOrMemory};
-ghost use Rattle.ref_resolver.specs.inner.Walking.{along_of, accepted_id, stepped_into, stepped_along, passed_along, leads_to, pointed_to};
+ghost use Rattle.ref_resolver.specs.inner.Walking.{along_of, accepted_id, stepped_into, stepped_along, passed_along, pointed_to};
 
 use crate::layers::Layers;
 use percent_encoding::{DecodeError, percent_decode};
@@ -113,27 +114,30 @@ fn key_of<'t>(alloc: Global, token: &'t str) -> Result<CowStr<'t>, AllocError>
     }
 }
 
-// The value that a token leads to, and what the parts lead to with the one that it is.
+// Goes to the value that a token leads to, with the part that it is. The base stays.
 #[inline(always)]
 fn step_into<'r>(
     alloc: Global,
     walk: &Walk<'_, '_>,
-    value: &'r Value,
-    reached: Reached,
+    along: &mut Along<'r>,
     token: &str,
-) -> Result<(Reached, &'r Value), Error>
-    ensures gives { Gives (λ s. (s.0, view s.1.now))
-        (stepped_into walk.now.draft walk.now.pointer.now reached (view value.now) token.now)
+) -> Result<(), Error>
+    ensures gives { Gives (λ _. (along.new.reached, view along.new.value.now))
+        (stepped_into walk.now.draft walk.now.pointer.now along.old.reached
+        (view along.old.value.now) token.now)
         result }
+    ensures base { OnOk result (along.new.base.value ≡ along.old.base.value) }
 {
-    if value.is_array() {
+    if along.value.is_array() {
         let index = index_in(alloc, walk.pointer, token)?;
-        let item = found(alloc, walk.pointer, value.get(index))?;
-        return Ok((reached.index(), item));
+        along.value = found(alloc, walk.pointer, along.value.get(index))?;
+        along.reached = along.reached.index();
+        return Ok(());
     }
     let key = key_of(alloc, token)?;
-    let member = found(alloc, walk.pointer, value.get(key.as_str()))?;
-    Ok((reached.key(walk.draft, key.as_str()), member))
+    along.value = found(alloc, walk.pointer, along.value.get(key.as_str()))?;
+    along.reached = along.reached.key(walk.draft, key.as_str());
+    Ok(())
 }
 
 // The identifier of a value, where the parts since the last change are accepted at it.
@@ -154,36 +158,24 @@ fn accepted_id<'v>(draft: Draft, reached: Reached, value: &'v Value) -> Option<&
 pub(crate) fn step<'r>(
     alloc: Global,
     walk: &Walk<'_, '_>,
-    along: Along<'r>,
+    along: &mut Along<'r>,
     token: &str,
-) -> Result<Along<'r>, Error>
-    ensures gives { Gives (λ a. (view a.value.now, along_of a))
-        (stepped_along walk.now.draft walk.now.pointer.now (along_of along.entry)
-        (view along.entry.value.now) token.now)
+) -> Result<(), Error>
+    ensures gives { Gives (λ _. (view along.new.value.now, along_of along.new))
+        (stepped_along walk.now.draft walk.now.pointer.now (along_of along.old)
+        (view along.old.value.now) token.now)
         result }
 {
-    let Along {
-        value,
-        base,
-        reached,
-    } = along;
-    let (mut reached, value) = step_into(alloc, walk, value, reached, token)?;
-    let Some(id) = accepted_id(walk.draft, reached, value) else {
-        return Ok(Along {
-            value,
-            base,
-            reached,
-        });
+    step_into(alloc, walk, along, token)?;
+    let Some(id) = accepted_id(walk.draft, along.reached, along.value) else {
+        return Ok(());
     };
-    let uri = walk.layers.resolve_uri(alloc, base.borrow(), id)?;
-    if uri.as_str() != base.as_str() {
-        reached = Reached::Schema;
+    let uri = walk.layers.resolve_uri(alloc, along.base.borrow(), id)?;
+    if uri.as_str() != along.base.as_str() {
+        along.reached = Reached::Schema;
     }
-    Ok(Along {
-        value,
-        base: uri,
-        reached,
-    })
+    along.base = uri;
+    Ok(())
 }
 
 // Where the first `/` of a text stands. A search by bytes, which decodes no character; most tokens are short.
@@ -209,53 +201,21 @@ pub(crate) fn cut_at_slash(text: &str) -> Option<(&str, &str)>
 #[inline(always)]
 fn walk_along<'r>(
     alloc: Global,
-    walk: Walk<'_, '_>,
-    along: Along<'r>,
+    walk: &Walk<'_, '_>,
+    along: &mut Along<'r>,
     text: &str,
-) -> Result<Along<'r>, Error>
-    ensures gives { Gives (λ a. (view a.value.now, along_of a))
-        (passed_along walk.entry.draft walk.entry.pointer.now (along_of along.entry)
-        (view along.entry.value.now) (tokens text.now))
+) -> Result<(), Error>
+    ensures gives { Gives (λ _. (view along.new.value.now, along_of along.new))
+        (passed_along walk.now.draft walk.now.pointer.now (along_of along.old)
+        (view along.old.value.now) (tokens text.now))
         result }
 {
-    let mut along = along;
     let mut rest = text;
     while let Some((token, more)) = cut_at_slash(rest) {
-        along = step(alloc, &walk, along, token)?;
+        step(alloc, walk, along, token)?;
         rest = more;
     }
-    step(alloc, &walk, along, rest)
-}
-
-/// The value that a pointer's text leads to from the value of a resource, with the base there: what is after the
-/// fragment's first `/` is percent-decoded as a whole, and then split (RFC 6901, 6).
-#[derive(Drop)]
-pub struct Pointed<'r> {
-    pub value: &'r Value,
-    pub base: Rc<Uri>,
-}
-
-// Token by token, from the value of a resource.
-#[inline(always)]
-fn walk_from<'r>(
-    alloc: Global,
-    walk: Walk<'_, '_>,
-    base: Rc<Uri>,
-    value: &'r Value,
-    text: &str,
-) -> Result<Pointed<'r>, Error>
-    ensures gives { Gives (λ p. (view p.value.now, p.base.value))
-        (leads_to walk.entry.draft walk.entry.pointer.now base.value (view value.now)
-        (tokens text.now))
-        result }
-{
-    let along = Along {
-        value,
-        base,
-        reached: Reached::Schema,
-    };
-    let Along { value, base, .. } = walk_along(alloc, walk, along, text)?;
-    Ok(Pointed { value, base })
+    step(alloc, walk, along, rest)
 }
 
 // The fault of a pointer whose triples make no UTF-8.
@@ -269,22 +229,23 @@ pub(crate) fn no_utf8(alloc: Global, pointer: &str) -> Error
     }
 }
 
-// What a pointer leads to, as `follow_pointer` says it, where its text is decoded first. Few texts are, so what decoding takes
+// Follows a pointer, as `follow_pointer` says it, where its text is decoded first. Few texts are, so what decoding takes
 // stays out of the others.
 #[inline(never)]
 fn follow_decoded<'r>(
     alloc: Global,
-    walk: Walk<'_, '_>,
-    base: Rc<Uri>,
-    value: &'r Value,
+    walk: &Walk<'_, '_>,
+    along: &mut Along<'r>,
     text: &str,
-) -> Result<Pointed<'r>, Error>
-    ensures gives { Gives (λ p. (view p.value.now, p.base.value))
-        (pointed_to walk.entry.draft walk.entry.pointer.now base.value (view value.now) text.now)
+) -> Result<(), Error>
+    ensures gives { along.old.reached ≡ Schema
+        → Gives (λ _. (view along.new.value.now, along.new.base.value))
+        (pointed_to walk.now.draft walk.now.pointer.now along.old.base.value
+        (view along.old.value.now) text.now)
         result }
 {
     match percent_decode(text.as_bytes()).decode_utf8(alloc) {
-        Ok(decoded) => walk_from(alloc, walk, base, value, decoded.as_str()),
+        Ok(decoded) => walk_along(alloc, walk, along, decoded.as_str()),
         Err(DecodeError::OutOfMemory) => Err(Error::Memory(AllocError)),
         Err(DecodeError::Utf8(_)) => Err(no_utf8(alloc, walk.pointer)),
     }
@@ -298,8 +259,8 @@ fn percent_in(text: &str) -> Option<usize>
     text.as_bytes().iter().position(|byte| *byte == b'%')
 }
 
-/// The value that a pointer leads to from the value of a resource, with the base there (RFC 6901, 3, 4 and 6): `text` is what
-/// is after the fragment's first `/`.
+/// Goes from the value of a resource to the one that a pointer leads to, with the base there (RFC 6901, 3, 4 and 6): `text` is
+/// what is after the fragment's first `/`. It is percent-decoded as a whole, and then split.
 ///
 /// Refuses as `InvalidPercentEncoding` where the decoded bytes are no UTF-8, as `InvalidArrayIndex` and
 /// `PointerToNowhere` for the first part that is unresolvable, as `InvalidUri` for an identifier on the way that means
@@ -308,17 +269,18 @@ fn percent_in(text: &str) -> Option<usize>
 #[inline(always)]
 pub(crate) fn follow_pointer<'r>(
     alloc: Global,
-    walk: Walk<'_, '_>,
-    base: Rc<Uri>,
-    value: &'r Value,
+    walk: &Walk<'_, '_>,
+    along: &mut Along<'r>,
     text: &str,
-) -> Result<Pointed<'r>, Error>
-    ensures gives { Gives (λ p. (view p.value.now, p.base.value))
-        (pointed_to walk.entry.draft walk.entry.pointer.now base.value (view value.now) text.now)
+) -> Result<(), Error>
+    ensures gives { along.old.reached ≡ Schema
+        → Gives (λ _. (view along.new.value.now, along.new.base.value))
+        (pointed_to walk.now.draft walk.now.pointer.now along.old.base.value
+        (view along.old.value.now) text.now)
         result }
 {
     match percent_in(text) {
-        Some(_) => follow_decoded(alloc, walk, base, value, text),
-        None => walk_from(alloc, walk, base, value, text),
+        Some(_) => follow_decoded(alloc, walk, along, text),
+        None => walk_along(alloc, walk, along, text),
     }
 }

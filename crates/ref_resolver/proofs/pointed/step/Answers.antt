@@ -11,14 +11,15 @@ use Rattle.ref_resolver.proofs.pointed.step.Goals as goal
 
 pub returns-in_err-uri : goal.returns-in_err-uri
 returns-in_err-uri c =
-    let passed = along_of c.args.along in
-    let s : Reached × Data = (c.in_ok-reached.reached, view c.in_ok-reached.value.now) in
+    let passed = along_of c.args.along.now in
+    let there = c.step_into.new.along in
+    let s : Reached × Data = (there.reached, view there.value.now) in
     let draft = c.args.walk.now.draft in
     let accepted : Some c.in-Some.id.now ≡ accepted_id draft s.0 s.1 = search rules in
     let base : c.borrow.result ≡ passed.base = search rules in
     let here = subst (λ b. IsFaultOf (as_invalid_uri (base_within b (Some c.in-Some.id.now))) c.in_err-uri.field-0.0) base c.in_err-uri.ensures.gives in
     let at_id = subst (λ i. IsFaultOf (as_invalid_uri (base_within passed.base i)) c.in_err-uri.field-0.0) accepted here in
-    let fault = step_refused draft c.args.walk.now.pointer.now passed (view c.args.along.value.now) c.args.token.now s c.in_err-uri.field-0.0 c.in_ok-reached.ensures.gives at_id in
+    let fault = step_refused draft c.args.walk.now.pointer.now passed (view c.args.along.now.value.now) c.args.token.now s c.in_err-uri.field-0.0 c.in_ok-step_into.ensures.gives at_id in
     search rules
 
 pub returns : goal.returns

@@ -1,19 +1,17 @@
 use Rattle.std.proofs.Common.{map, Ok, IfSome, sym, ap, subst, ◌∙◌, rules}
-use Rattle.ref_definitions.specs.Fault.{as_invalid_uri}
 use Rattle.ref_definitions.specs.Resources.{last_under, resources, meant_place}
 use Rattle.ref_resolver.specs.Layered.{world_in}
 use Rattle.ref_resolver.specs.inner.Located.{IsMeant}
 use Rattle.ref_resolver.proofs.Locating.{meant_near}
-use Rattle.ref_resolver.proofs.layers.Layers.resolve_anew.Goals as goal
+use Rattle.ref_resolver.proofs.layers.Layers.identified.Goals as goal
 
-pub returns-in-Some-clause-gives : goal.returns-in-Some-clause-gives
-returns-in-Some-clause-gives c =
-    let uri = c.args.uri.now in
-    let means = c.in-Some.ensures.itself c.args.base (search rules) in
-    ap as_invalid_uri (means ∙ ap (λ u. Ok u) (sym c.in-Some.ensures.base ∙ sym c.in_ok-clone.ensures.cases))
+pub returns-clause-uri : goal.returns-clause-uri
+returns-clause-uri c =
+    let means = c.in-Some.ensures.itself c.args.base.now (search rules) in
+    means ∙ ap (λ u. Ok u) (sym c.in-Some.ensures.base ∙ sym c.in_ok-clone.ensures.cases)
 
-pub returns-in-Some-clause-place : goal.returns-in-Some-clause-place
-returns-in-Some-clause-place c =
+pub returns-clause-place : goal.returns-clause-place
+returns-clause-place c =
     let l = c.args.self.now in
     let w = world_in l in
     let uri = c.args.uri.now in

@@ -3,7 +3,7 @@ use Rattle.ref_definitions.specs.Resources.{last_under, resources, meant_place}
 use Rattle.ref_resolver.specs.Layered.{world_in}
 use Rattle.ref_resolver.specs.inner.Located.{IsMeant}
 use Rattle.ref_resolver.proofs.Locating.{meant_near}
-use Rattle.ref_resolver.proofs.layers.Layers.resolve_place.Goals as goal
+use Rattle.ref_resolver.proofs.layers.Layers.resolve_known.Goals as goal
 
 pub returns-in-Some-clause-place : goal.returns-in-Some-clause-place
 returns-in-Some-clause-place c =
