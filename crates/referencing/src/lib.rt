@@ -27,8 +27,8 @@ pub use ref_error::{DefaultRetriever, Error, MapRetriever, Reason, Retrieve, Ret
 pub use ref_index::{Contents, Document, Place};
 pub use ref_parts::path::{JsonPointerNode, JsonPointerSegment};
 pub use ref_parts::{
-    BorrowedKey, Iter, List, SmallMap, SortedTable, first_escape, parse_index, pointer, pointer_of,
-    unescape_segment, value_at, write_escaped_str, write_index,
+    BorrowedKey, Iter, List, SmallMap, SortedTable, TableEntries, first_escape, parse_index,
+    pointer, pointer_of, unescape_segment, value_at, write_escaped_str, write_index,
 };
 pub use ref_resolver::{Location, Resolved, Resolver};
 pub use ref_uri::{

@@ -1,5 +1,0 @@
-use Rattle.std.proofs.Common.{rules}
-use Rattle.referencing.proofs.builder.above.Goals as goal
-
-pub returns : goal.returns
-returns c = search rules
