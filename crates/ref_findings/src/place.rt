@@ -104,7 +104,8 @@ impl<'v> Place<'v> {
         self.draft.anchors(self.value)
     }
 
-    /// Its visit, as an index takes it. Shares its path and URI; takes no memory.
+    /// Its visit, as an index takes it. Shares its path and URI: by the code it takes no memory, and fails only where one of them
+    /// has no count left for one more handle.
     pub fn visit(&self) -> Result<Visit<'v, 'v>, AllocError>
         ensures value { IfOk result (λ visit. visited_place visit ≡ place_of self.now) }
     {

@@ -5,7 +5,7 @@ use Rattle.ref_findings.specs.Sources.{world_of, unsound_sources}
 use Rattle.ref_findings.specs.Bearers.{numbered_sites, sites, uris_borne, names_borne}
 use Rattle.ref_findings.specs.Findings.{Known, unread_sources, place_findings, has_reference}
 use Rattle.ref_findings.specs.Entries.{source_of, IsFindingOf}
-use Rattle.ref_findings.specs.inner.Seen.{Survey, seen_survey, site_of, sound_in, unsound_in, AreSurveys}
+use Rattle.ref_findings.specs.inner.Seen.{Survey, seen_survey, site_of, sound_in, unsound_in, AreSurveys, known_among}
 use Rattle.ref_findings.proofs.Knowing.{known_with, world_is, unsound_is, sites_are, known_is, surveys_are}
 use Rattle.ref_findings.proofs.list.report.Goals as goal
 
@@ -36,8 +36,11 @@ returns c =
     let same = known_is (index ∷ []) bad ls (world_of draft ss hs) (unsound_sources draft ss hs) (sites draft ss)
     (world_is draft ss hs ts us index c.in_ok-surveys.ensures.value c.in_ok-others.ensures.value layer)
     (unsound_is draft ss hs ts us bad c.in_ok-surveys.ensures.value c.in_ok-others.ensures.value entries) at_sites in
-    let found : IfOk c.reported.result (λ report. AllZip IsFindingOf report.findings.items (unread_sources ss ++ place_findings (known_with (index ∷ []) bad ls (uris_borne ls) (names_borne ls)) ls)) = search rules in
-    let counted : IfOk c.reported.result (λ report. report.references ≡ length (filter has_reference ls)) = search rules in
+    let sliced : c.as_slice-6.result.now ≡ c.in_ok-sites.sites.items = search rules in
+    let found : IfOk c.reported.result (λ report. AllZip IsFindingOf report.findings.items (unread_sources ss ++ place_findings (known_with (index ∷ []) bad ls (uris_borne ls) (names_borne ls)) ls)) =
+    subst (λ items. IfOk c.reported.result (λ report. AllZip IsFindingOf report.findings.items (unread_sources ss ++ place_findings (known_among index bad (map site_of items)) (map site_of items)))) sliced c.reported.ensures.findings in
+    let counted : IfOk c.reported.result (λ report. report.references ≡ length (filter has_reference ls)) =
+    subst (λ items. IfOk c.reported.result (λ report. report.references ≡ length (filter has_reference (map site_of items)))) sliced c.reported.ensures.references in
     record {
       findings = subst (λ (k : Known). IfOk c.reported.result (λ report. AllZip IsFindingOf report.findings.items (unread_sources ss ++ place_findings k k.sites))) same found;
       references = subst (λ l. IfOk c.reported.result (λ report. report.references ≡ length (filter has_reference l))) at_sites counted;
