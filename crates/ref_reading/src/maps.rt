@@ -5,7 +5,7 @@ use ref_uri::uri::from_str;
 use ref_uri::{Uri, UriFault};
 use serde_json::Value;
 use std::alloc::{AllocError, Global};
-use std::fs;
+use std::{fs, io};
 
 /// A folder from which documents are read whose URIs begin with a prefix.
 #[derive(Drop)]
@@ -102,19 +102,20 @@ impl<'r> Maps<'r> {
     }
 
     // The text of a file. Of one that can't be read standard error says why.
-    fn read_text(&self, path: &str) -> Option<String> {
+    fn read_text(&self, path: &str) -> Result<Option<String>, AllocError> {
         match fs::read_to_string(self.rt, path) {
-            Ok(text) => Some(text),
+            Ok(text) => Ok(Some(text)),
+            Err(error) if error.kind() == io::ErrorKind::OutOfMemory => Err(AllocError),
             Err(error) => {
                 let _ = eprintln!(self.rt; "patchsard: {path}: {error}");
-                None
+                Ok(None)
             }
         }
     }
 
     // Reads a file.
     fn read(&self, alloc: Global, path: &str) -> Result<Option<Value>, AllocError> {
-        let Some(text) = self.read_text(path) else {
+        let Some(text) = self.read_text(path)? else {
             return Ok(None);
         };
         match Value::from_str(alloc, text.as_str()) {
@@ -132,7 +133,7 @@ impl<'r> Maps<'r> {
         let Some(path) = self.path_of(alloc, uri)? else {
             return Ok(None);
         };
-        Ok(self.read_text(path.as_str()))
+        self.read_text(path.as_str())
     }
 
     fn document(&self, alloc: Global, uri: &str) -> Result<Option<Value>, AllocError> {
