@@ -6,7 +6,7 @@ use std::process::Abort;
 
 /// Ends the test where two values differ.
 pub fn same<T: PartialEq + fmt::Debug + Copy>(rt: &impl Abort, found: T, wanted: T) {
-    assert_eq!(rt; found, wanted);
+    same_at(rt, found, wanted, "an assertion of the test itself");
 }
 
 /// Ends the test where two values differ, and says where.
@@ -17,11 +17,6 @@ pub fn same_at<T: PartialEq + fmt::Debug + Copy>(
     place: &str,
 ) {
     assert_eq!(rt; found, wanted, "at {place}");
-}
-
-/// What a value is displayed as.
-fn displayed<T: fmt::Display>(alloc: Global, value: &T) -> Result<String, AllocError> {
-    format!(in alloc; "{value}")
 }
 
 /// What a value is shown as for debugging.
@@ -47,7 +42,7 @@ pub fn assert_displayed<T: fmt::Display>(
     value: &T,
     text: &str,
 ) -> Result<(), AllocError> {
-    same(rt, displayed(alloc, value)?.as_str(), text);
+    same(rt, format!(in alloc; "{value}")?.as_str(), text);
     Ok(())
 }
 

@@ -47,19 +47,14 @@ pub const ROWS: &str = r##"
 ["2019-09",["dependencies","a","2019-09"],["items",0,"2019-09"],["items",1,"2019-09"]]
 "##;
 
-/// Ends the test where `subresources_of` gives others.
-fn assert_subresources(rt: &impl Abort, row: &Row<'_>) {
+pub fn children(rt: &impl Abort, alloc: Global, row: &Row<'_>) -> Result<(), AllocError> {
     let mut count = 0usize;
     for child in row.draft(0).subresources_of(row.given()) {
         row.same(rt, Some(child), row.row(2).value(count));
         count = count.saturating_add(1);
     }
     row.same(rt, count, row.row(2).len());
-}
-
-pub fn children(rt: &impl Abort, alloc: Global, row: &Row<'_>) -> Result<(), AllocError> {
-    assert_subresources(rt, row);
-    let mut count = 0usize;
+    count = 0;
     for child in row.draft(0).walk_children(alloc, row.given())?.iter() {
         row.same(rt, Some(child.value), row.row(1).value(count));
         count = count.saturating_add(1);

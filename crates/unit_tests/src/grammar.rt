@@ -1,5 +1,8 @@
 //! The grammar of RFC 3986, written from the end of a text to its front, and each component by itself.
 
+/// What may be in a scheme.
+const OF_SCHEMES: &str = "abcdefghijklmnopqrstuvwxyzABCDEFGHIJKLMNOPQRSTUVWXYZ0123456789+-.";
+
 /// Letters, digits, these characters, and triples.
 fn holds(part: &str, others: &str) -> bool {
     let mut digits_to_come = 0;
@@ -21,18 +24,26 @@ fn holds(part: &str, others: &str) -> bool {
     digits_to_come == 0
 }
 
+/// Whether a text has these characters alone.
+fn is_of(text: &str, characters: &str) -> bool {
+    for c in text.chars() {
+        if !characters.contains(c) {
+            return false;
+        }
+    }
+    true
+}
+
 fn is_scheme(scheme: &str) -> bool {
-    scheme.starts_with(|c: char| c.is_ascii_alphabetic())
-        && scheme
-            .chars()
-            .all(|c| c.is_ascii_alphanumeric() || "+-.".contains(c))
+    let begins = match scheme.chars().next() {
+        Some(first) => first.is_ascii_alphabetic(),
+        None => false,
+    };
+    begins && is_of(scheme, OF_SCHEMES)
 }
 
 fn is_address(address: &str) -> bool {
-    let plain = !address.is_empty()
-        && address
-            .chars()
-            .all(|c| c.is_ascii_hexdigit() || c == ':' || c == '.');
+    let plain = !address.is_empty() && is_of(address, "0123456789abcdefABCDEF:.");
     let later = match address.split_once('.') {
         Some((version, rest)) => {
             let digits = version
@@ -40,7 +51,7 @@ fn is_address(address: &str) -> bool {
                 .or(version.strip_prefix('V'))
                 .unwrap_or("");
             !digits.is_empty()
-                && digits.chars().all(|c| c.is_ascii_hexdigit())
+                && is_of(digits, "0123456789abcdefABCDEF")
                 && !rest.is_empty()
                 && !rest.contains('%')
                 && holds(rest, ":")
@@ -48,10 +59,6 @@ fn is_address(address: &str) -> bool {
         None => false,
     };
     plain || later
-}
-
-fn is_port(port: &str) -> bool {
-    port.chars().all(|c| c.is_ascii_digit())
 }
 
 fn is_authority(authority: &str) -> bool {
@@ -64,12 +71,12 @@ fn is_authority(authority: &str) -> bool {
             Some((address, "")) => is_address(address),
             Some((address, port)) => is_address(address)
                 && port.starts_with(':')
-                && is_port(port.strip_prefix(':').unwrap_or("")),
+                && is_of(port.strip_prefix(':').unwrap_or(""), "0123456789"),
             None => false,
         },
         None => {
             let (name, port) = rest.split_once(':').unwrap_or((rest, ""));
-            holds(name, "") && is_port(port)
+            holds(name, "") && is_of(port, "0123456789")
         }
     }
 }

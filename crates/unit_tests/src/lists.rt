@@ -95,34 +95,21 @@ fn list_of(alloc: Global, items: &Row<'_>) -> Result<List<usize>, AllocError> {
     Ok(list)
 }
 
-// What an iterator of a list gives at first and then again and again.
-fn given_by(list: &List<usize>) -> [Option<usize>; 4] {
-    let mut items = list.iter();
-    [
-        items.next().copied(),
-        items.next().copied(),
-        items.next().copied(),
-        items.next().copied(),
-    ]
-}
-
-fn sum_of(list: &List<usize>) -> usize {
+// Ends the test where a list tells something else.
+fn assert_items(rt: &impl Abort, list: &List<usize>, row: &Row<'_>) {
+    let items = row.row(0);
+    let mut given = list.iter();
+    for place in 0..4usize {
+        row.same(rt, given.next().copied(), items.number(place));
+    }
+    row.same(rt, list.is_empty(), items.len() == 0);
+    row.same(rt, front_of(list).copied(), row.number(1));
+    row.same(rt, iter_of(list).next().copied(), row.number(1));
     let mut sum = 0usize;
     for item in list {
         sum = sum.saturating_add(*item);
     }
-    sum
-}
-
-// Ends the test where a list tells something else.
-fn assert_items(rt: &impl Abort, list: &List<usize>, row: &Row<'_>) {
-    let items = row.row(0);
-    let given = [items.number(0), items.number(1), items.number(2), None];
-    row.same(rt, given_by(list), given);
-    row.same(rt, list.is_empty(), items.len() == 0);
-    row.same(rt, front_of(list).copied(), row.number(1));
-    row.same(rt, iter_of(list).next().copied(), row.number(1));
-    row.same(rt, Some(sum_of(list)), row.number(2));
+    row.same(rt, Some(sum), row.number(2));
 }
 
 pub fn lists(rt: &impl Abort, alloc: Global, row: &Row<'_>) -> Result<(), AllocError> {

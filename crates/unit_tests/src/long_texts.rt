@@ -71,27 +71,17 @@ fn around(alloc: Global, front: &str, count: usize, behind: &str) -> Result<Stri
     format!(in alloc; "{front}{amid}{behind}")
 }
 
-/// A piece after a front and up to 40 `g`, with `g` after it up to 40 in all and without.
-fn at_each_place(
-    rt: &impl Abort,
-    alloc: Global,
-    front: &str,
-    piece: &str,
-) -> Result<(), AllocError> {
-    for count in 0..=40usize {
-        let text = around(alloc, front, count, piece)?;
-        agrees(rt, text.as_str());
-        let text = around(alloc, text.as_str(), 40usize.saturating_sub(count), "")?;
-        agrees(rt, text.as_str());
-    }
-    Ok(())
-}
-
 /// A bad byte, a lone `%`, a triple and marks at each place of a component, and components of each length: texts that
-/// reach from one block of sixteen bytes into the next.
+/// reach from one block of sixteen bytes into the next. Each piece is after a front and up to 40 `g`, with `g` after it
+/// up to 40 in all and without.
 pub fn places(rt: &impl Abort, alloc: Global, row: &Row<'_>) -> Result<(), AllocError> {
     for column in 1..row.len() {
-        at_each_place(rt, alloc, row.text(0), row.text(column))?;
+        for count in 0..=40usize {
+            let text = around(alloc, row.text(0), count, row.text(column))?;
+            agrees(rt, text.as_str());
+            let text = around(alloc, text.as_str(), 40usize.saturating_sub(count), "")?;
+            agrees(rt, text.as_str());
+        }
     }
     Ok(())
 }
@@ -157,12 +147,6 @@ pub fn short_texts(rt: &impl Abort, alloc: Global, row: &Row<'_>) -> Result<(), 
     Ok(())
 }
 
-/// Ends the test where a URI isn't `http://h` with these two texts after it.
-fn assert_ends(rt: &impl Abort, uri: &str, kept: &str, row: &Row<'_>) {
-    let path = uri.strip_prefix("http://h").unwrap_or("");
-    row.same(rt, path.strip_prefix(kept), row.optional(4));
-}
-
 /// Where a path leads from `http://h/b`, as a reference or as a text.
 fn led(alloc: Global, path: &str, row: &Row<'_>) -> Result<Uri, Fail> {
     if row.table() == "repeated references" {
@@ -172,12 +156,13 @@ fn led(alloc: Global, path: &str, row: &Row<'_>) -> Result<Uri, Fail> {
     }
 }
 
-/// A path that is a piece again and again, and where it leads.
+/// A path that is a piece again and again, and where it leads: to `http://h` with two texts after it.
 pub fn repeated(rt: &impl Abort, alloc: Global, row: &Row<'_>) -> Result<(), Fail> {
     let path = row.text(0).repeat(alloc, row.count(1))?;
     let uri = led(alloc, path.as_str(), row)?;
     let kept = row.text(2).repeat(alloc, row.count(3))?;
-    assert_ends(rt, uri.as_str(), kept.as_str(), row);
+    let path = uri.as_str().strip_prefix("http://h").unwrap_or("");
+    row.same(rt, path.strip_prefix(kept.as_str()), row.optional(4));
     Ok(())
 }
 
@@ -197,18 +182,13 @@ fn assert_meant(
     Ok(())
 }
 
-/// A text whose name is so many `g` and one more.
-fn name_of(rt: &impl Abort, alloc: Global, row: &Row<'_>, len: usize) -> Result<(), Fail> {
-    let text = around(alloc, "/g", len, row.text(0))?;
-    let kept = if row.is_true(2) { len } else { 0 };
-    let expected = around(alloc, row.text(1), kept, row.text(3))?;
-    assert_meant(rt, alloc, text.as_str(), expected.as_str(), row)
-}
-
-/// Dot segments and triples after a name of each length, which stays or goes.
+/// Dot segments and triples after a name of each length, so many `g` and one more, which stays or goes.
 pub fn names(rt: &impl Abort, alloc: Global, row: &Row<'_>) -> Result<(), Fail> {
     for len in 0..=40usize {
-        name_of(rt, alloc, row, len)?;
+        let text = around(alloc, "/g", len, row.text(0))?;
+        let kept = if row.is_true(2) { len } else { 0 };
+        let expected = around(alloc, row.text(1), kept, row.text(3))?;
+        assert_meant(rt, alloc, text.as_str(), expected.as_str(), row)?;
     }
     Ok(())
 }

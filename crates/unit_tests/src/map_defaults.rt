@@ -50,46 +50,30 @@ fn replace<K: Eq + Hash + Drop>(
 }
 
 // Ends the test where a write at the key of a row finds something else, or leaves something else.
-fn assert_replaced(
-    rt: &impl Abort,
-    alloc: Global,
-    map: &mut SmallMap<String, usize, 2>,
-    row: &Row<'_>,
-) -> Result<(), AllocError> {
-    let key = String::from_str(alloc, row.text(0))?;
-    row.same(rt, replace(map, alloc, key, row.count(1))?, row.count(2));
-    row.same(rt, value_at(map, "key"), row.number(3));
-    row.same(rt, value_at(map, "missing"), row.number(4));
-    Ok(())
-}
-
 pub fn defaults(rt: &impl Abort, alloc: Global, row: &Row<'_>) -> Result<(), AllocError> {
+    let key = String::from_str(alloc, row.text(0))?;
     let mut map = map_of(alloc, String::from_str(alloc, "key")?, 42usize)?;
-    assert_replaced(rt, alloc, &mut map, row)
+    let found = replace(&mut map, alloc, key, row.count(1))?;
+    row.same(rt, found, row.count(2));
+    row.same(rt, value_at(&map, "key"), row.number(3));
+    row.same(rt, value_at(&map, "missing"), row.number(4));
+    Ok(())
 }
 
 // Grows a map of two pairs past its bound by a default, and then by another.
-fn assert_grown(
-    rt: &impl Abort,
-    alloc: Global,
-    map: &mut SmallMap<usize, usize, 2>,
-) -> Result<(), AllocError> {
-    same(rt, replace(map, alloc, 3, 30)?, 0);
-    let wanted = (false, [None, Some(10), Some(20), Some(30), None]);
-    same(rt, told(map), wanted);
-    same(rt, add_default(map, alloc, 4), true);
-    write_at(map, alloc, 2, 21)?;
-    same(rt, add_default(map, alloc, 2), true);
-    let wanted = (false, [None, Some(10), Some(21), Some(30), Some(0)]);
-    same(rt, told(map), wanted);
-    Ok(())
-}
-
 #[test]
 fn a_default_keeps_what_is_there(rt: HostRuntime) -> Result<(), AllocError> {
     let mut map = map_of(rt.alloc(), 1usize, 10usize)?;
     map.insert(rt.alloc(), 2, 20)?;
-    assert_grown(&rt, rt.alloc(), &mut map)
+    same(&rt, replace(&mut map, rt.alloc(), 3, 30)?, 0);
+    let wanted = (false, [None, Some(10), Some(20), Some(30), None]);
+    same(&rt, told(&map), wanted);
+    same(&rt, add_default(&mut map, rt.alloc(), 4), true);
+    write_at(&mut map, rt.alloc(), 2, 21)?;
+    same(&rt, add_default(&mut map, rt.alloc(), 2), true);
+    let wanted = (false, [None, Some(10), Some(21), Some(30), Some(0)]);
+    same(&rt, told(&map), wanted);
+    Ok(())
 }
 
 // ---- maps of maps
@@ -115,79 +99,56 @@ fn value_below(
     value_at(map.get(&outer)?, inner)
 }
 
-// Ends the test where a map isn't written below, where a map of 10 at a was and where none was: there it grows past its bound.
-fn assert_written_below(
-    rt: &impl Abort,
-    alloc: Global,
-    map: &mut SmallMap<usize, SmallMap<String, usize, 2>, 2>,
-) -> Result<(), AllocError> {
-    same(rt, write_below(map, alloc, 1, "b", 20)?, 0);
-    for (key, value) in [("c", 30), ("d", 40), ("e", 50)] {
-        same(rt, write_below(map, alloc, 2, key, value)?, 0);
-    }
-    same(rt, value_below(map, 1, "a"), Some(10));
-    same(rt, value_below(map, 1, "b"), Some(20));
-    for (key, value) in [("c", 30), ("d", 40), ("e", 50)] {
-        same(rt, value_below(map, 2, key), Some(value));
-    }
-    Ok(())
-}
-
+// A map is written below, where a map of 10 at a was and where none was: there it grows past its bound.
 #[test]
 fn a_map_holds_maps(rt: HostRuntime) -> Result<(), AllocError> {
     let inner = map_of(rt.alloc(), String::from_str(rt.alloc(), "a")?, 10usize)?;
     let mut map = map_of(rt.alloc(), 1usize, inner)?;
-    assert_written_below(&rt, rt.alloc(), &mut map)
+    same(&rt, write_below(&mut map, rt.alloc(), 1, "b", 20)?, 0);
+    for (key, value) in [("c", 30), ("d", 40), ("e", 50)] {
+        same(&rt, write_below(&mut map, rt.alloc(), 2, key, value)?, 0);
+    }
+    same(&rt, value_below(&map, 1, "a"), Some(10));
+    same(&rt, value_below(&map, 1, "b"), Some(20));
+    for (key, value) in [("c", 30), ("d", 40), ("e", 50)] {
+        same(&rt, value_below(&map, 2, key), Some(value));
+    }
+    Ok(())
 }
 
 // ---- out of memory
 
 // Puts a default at 1, 20 at 2, and a default at 3 and again at 2. Only the third growth takes memory; a map without it has the
 // first two, inline.
-fn assert_defaults(rt: &impl Abort, alloc: Global, map: &mut SmallMap<usize, usize, 2>) {
-    same(rt, add_default(map, alloc, 1), true);
-    same(rt, map.insert(alloc, 2, 20).is_ok(), true);
-    let is_added = add_default(map, alloc, 3);
-    let last = if is_added { Some(0) } else { None };
-    let wanted = (!is_added, [None, Some(0), Some(20), last, None]);
-    same(rt, told(map), wanted);
-    same(rt, add_default(map, alloc, 2), true);
-    same(rt, told(map), wanted);
-}
-
 #[test]
 fn a_refused_default_keeps_the_pairs(rt: HostRuntime) {
     let mut map = SmallMap::new();
-    assert_defaults(&rt, rt.alloc(), &mut map);
-}
-
-// Puts the tenfold of a number at it, again where that is refused: the first two take no memory, and the map is as before
-// and lacks the number after the first refusal, and has it without one.
-fn put_again(
-    rt: &impl Abort,
-    alloc: Global,
-    map: &mut SmallMap<usize, usize, 2>,
-    key: usize,
-) -> Result<(), AllocError> {
-    let value = key.saturating_mul(10);
-    let before = told(map);
-    let is_refused = map.insert(alloc, key, value).is_err();
-    same(rt, map.get(&key).is_none(), is_refused);
-    if is_refused {
-        same(rt, (key >= 2, told(map)), (true, before));
-        map.insert(alloc, key, value)?;
-    }
-    same(rt, map.is_small(), key < 2);
-    Ok(())
+    same(&rt, add_default(&mut map, rt.alloc(), 1), true);
+    same(&rt, map.insert(rt.alloc(), 2, 20).is_ok(), true);
+    let is_added = add_default(&mut map, rt.alloc(), 3);
+    let last = if is_added { Some(0) } else { None };
+    let wanted = (!is_added, [None, Some(0), Some(20), last, None]);
+    same(&rt, told(&map), wanted);
+    same(&rt, add_default(&mut map, rt.alloc(), 2), true);
+    same(&rt, told(&map), wanted);
 }
 
 // A map keeps its pairs where a growth is refused, as the one past its bound and those of a hashed map, and takes them
-// where there is memory.
+// where there is memory. The tenfold of a number is put at it, again where that is refused: the first two take no memory, and
+// the map is as before and lacks the number after the first refusal, and has it without one.
 #[test]
 fn a_refused_growth_keeps_the_pairs(rt: HostRuntime) -> Result<(), AllocError> {
     let mut map: SmallMap<usize, usize, 2> = SmallMap::new();
     for key in 0..40usize {
-        put_again(&rt, rt.alloc(), &mut map, key)?;
+        let value = key.saturating_mul(10);
+        let before = told(&map);
+        let is_refused = map.insert(rt.alloc(), key, value).is_err();
+        same(&rt, map.get(&key).is_none(), is_refused);
+        if is_refused {
+            same(&rt, (key >= 2, told(&map)), (true, before));
+            map.insert(rt.alloc(), key, value)?;
+        }
+        same(&rt, map.is_small(), key < 2);
     }
     for key in 0..40usize {
         same(&rt, value_at(&map, &key), Some(key.saturating_mul(10)));

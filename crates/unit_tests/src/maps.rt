@@ -118,28 +118,6 @@ fn text_and_keys_stand_for_equal_keys(rt: HostRuntime) -> Result<(), Fail> {
 
 // ---- maps from texts to numbers
 
-fn put_counts(
-    map: &mut SmallMap<String, usize, 2>,
-    alloc: Global,
-    pairs: &Row<'_>,
-) -> Result<(), AllocError> {
-    for place in 0..pairs.len() {
-        let pair = pairs.row(place);
-        map.insert(alloc, String::from_str(alloc, pair.text(0))?, pair.count(1))?;
-    }
-    Ok(())
-}
-
-/// The value at a key that is owned.
-fn value_at_owned(
-    alloc: Global,
-    map: &SmallMap<String, usize, 2>,
-    key: &str,
-) -> Result<Option<usize>, AllocError> {
-    let key = String::from_str(alloc, key)?;
-    Ok(value_at(map, &key))
-}
-
 /// Ends the test where a map answers otherwise than its row, by text or by key.
 fn assert_counts(
     rt: &impl Abort,
@@ -149,14 +127,17 @@ fn assert_counts(
 ) -> Result<(), AllocError> {
     let wanted = (row.row(0).len() < 3, row.number(2));
     row.same(rt, (is_inline(map), value_at(map, row.text(1))), wanted);
-    let by_key = value_at_owned(alloc, map, row.text(1))?;
-    row.same(rt, by_key, row.number(2));
+    let key = String::from_str(alloc, row.text(1))?;
+    row.same(rt, value_at(map, &key), row.number(2));
     assert_shown(rt, alloc, map, row.text(3))
 }
 
 pub fn maps_of_texts(rt: &impl Abort, alloc: Global, row: &Row<'_>) -> Result<(), AllocError> {
-    let mut map = made();
-    put_counts(&mut map, alloc, &row.row(0))?;
+    let mut map: SmallMap<String, usize, 2> = made();
+    for place in 0..row.row(0).len() {
+        let pair = row.row(0).row(place);
+        map.insert(alloc, String::from_str(alloc, pair.text(0))?, pair.count(1))?;
+    }
     assert_counts(rt, alloc, &map, row)
 }
 
@@ -209,15 +190,14 @@ fn assert_tells<const N: usize>(
     row.same(rt, told(map), (wanted.is_true(0), values));
 }
 
-pub fn with_two_slots(rt: &impl Abort, alloc: Global, row: &Row<'_>) -> Result<(), AllocError> {
-    let mut map: SmallMap<usize, usize, 2> = SmallMap::new();
-    put_numbers(&mut map, alloc, &row.row(0))?;
-    assert_tells(rt, &map, row, 1);
-    Ok(())
-}
-
-pub fn without_slots(rt: &impl Abort, alloc: Global, row: &Row<'_>) -> Result<(), AllocError> {
-    let mut map: SmallMap<usize, usize, 0> = SmallMap::new();
+/// Of a map with so many slots as this one, which is empty.
+pub fn with_slots<const N: usize>(
+    rt: &impl Abort,
+    alloc: Global,
+    empty: SmallMap<usize, usize, N>,
+    row: &Row<'_>,
+) -> Result<(), AllocError> {
+    let mut map = empty;
     put_numbers(&mut map, alloc, &row.row(0))?;
     assert_tells(rt, &map, row, 1);
     Ok(())
@@ -259,33 +239,16 @@ fn put_text(
     map.insert(alloc, key, String::from_str(alloc, text)?)
 }
 
-/// The text at a text.
-fn text_at<'m>(map: &'m SmallMap<String, String, 2>, key: &str) -> Option<&'m str> {
-    match map.get(key) {
-        Some(text) => Some(text.as_str()),
-        None => None,
-    }
-}
-
 /// Ends the test where a map tells something else.
 fn assert_texts(rt: &impl Abort, map: &SmallMap<String, String, 2>, told: &Row<'_>) {
     told.same(rt, is_inline(map), told.is_true(0));
     for (key, column) in [("a", 1usize), ("b", 2), ("c", 3)] {
-        told.same(rt, text_at(map, key), told.optional(column));
+        let text = match map.get(key) {
+            Some(text) => Some(text.as_str()),
+            None => None,
+        };
+        told.same(rt, text, told.optional(column));
     }
-}
-
-/// Puts these pairs in turn.
-fn put_texts(
-    map: &mut SmallMap<String, String, 2>,
-    alloc: Global,
-    pairs: &Row<'_>,
-) -> Result<(), AllocError> {
-    for place in 0..pairs.len() {
-        let pair = pairs.row(place);
-        put_text(map, alloc, pair.text(0), pair.text(1))?;
-    }
-    Ok(())
 }
 
 /// Ends the test where a copy does not keep its texts when its map is changed.
@@ -303,7 +266,10 @@ fn assert_kept(
 
 pub fn copies_of_texts(rt: &impl Abort, alloc: Global, row: &Row<'_>) -> Result<(), AllocError> {
     let mut map = SmallMap::new();
-    put_texts(&mut map, alloc, &row.row(0))?;
+    for place in 0..row.row(0).len() {
+        let pair = row.row(0).row(place);
+        put_text(&mut map, alloc, pair.text(0), pair.text(1))?;
+    }
     assert_kept(rt, alloc, &mut map, row)?;
     assert_texts(rt, &map, &row.row(3));
     Ok(())

@@ -45,6 +45,14 @@ fn item<'a>(alloc: Global, key: &'a str) -> Result<JsonPointerNode<'a>, AllocErr
     JsonPointerNode::new().push(alloc, key)?.push(alloc, 3usize)
 }
 
+// Whether what is made is equal to a node.
+fn is_alike<'a>(
+    made: Result<JsonPointerNode<'a>, AllocError>,
+    node: &JsonPointerNode<'a>,
+) -> Result<bool, AllocError> {
+    Ok(made? == *node)
+}
+
 // Whether a key is pushed onto the root as it is as text.
 fn is_pushed<'a, S: Into<JsonPointerSegment<'a>>>(
     alloc: Global,
@@ -52,7 +60,7 @@ fn is_pushed<'a, S: Into<JsonPointerSegment<'a>>>(
     key: &'a str,
 ) -> Result<bool, AllocError> {
     let root = JsonPointerNode::new();
-    Ok(root.push(alloc, part)? == root.push(alloc, key)?)
+    is_alike(root.push(alloc, part), &root.push(alloc, key)?)
 }
 
 #[test]
@@ -87,21 +95,7 @@ fn stands_below<'a>(
         return Ok(false);
     };
     let is_key = *parent.segment() == JsonPointerSegment::from(key);
-    Ok(is_key && is_root(root) && root.push(alloc, key)? == *parent)
-}
-
-// Whether a node is equal to its copy.
-fn is_copied(node: &JsonPointerNode<'_>) -> Result<bool, AllocError> {
-    Ok(node.clone()? == *node)
-}
-
-// Whether a node is equal to the path of a key and then the index 3.
-fn is_item<'a>(
-    alloc: Global,
-    node: &JsonPointerNode<'a>,
-    key: &'a str,
-) -> Result<bool, AllocError> {
-    Ok(item(alloc, key)? == *node)
+    Ok(is_key && is_root(root) && is_alike(root.push(alloc, key), parent)?)
 }
 
 // A node has its parts and its parent, and is equal to its copy and to one that was made as it was, and to none of another key.
@@ -110,9 +104,9 @@ fn a_node_has_its_parts_and_is_compared(rt: HostRuntime) -> Result<(), AllocErro
     let node = item(rt.alloc(), "a")?;
     same(&rt, *node.segment() == JsonPointerSegment::Index(3), true);
     same(&rt, stands_below(rt.alloc(), &node, "a")?, true);
-    same(&rt, is_copied(&node)?, true);
-    same(&rt, is_item(rt.alloc(), &node, "a")?, true);
-    same(&rt, is_item(rt.alloc(), &node, "b")?, false);
+    same(&rt, is_alike(node.clone(), &node)?, true);
+    same(&rt, is_alike(item(rt.alloc(), "a"), &node)?, true);
+    same(&rt, is_alike(item(rt.alloc(), "b"), &node)?, false);
     Ok(())
 }
 
@@ -130,18 +124,12 @@ fn a_refused_part_leaves_the_node(rt: HostRuntime) -> Result<(), AllocError> {
     Ok(())
 }
 
-// The path of the indexes below a count.
-fn long_node(alloc: Global, count: usize) -> Result<JsonPointerNode<'static>, AllocError> {
-    let mut node = JsonPointerNode::new();
-    for index in 0..count {
-        node = node.push(alloc, index)?;
-    }
-    Ok(node)
-}
-
 #[test]
 fn a_long_node_is_dropped(rt: HostRuntime) -> Result<(), AllocError> {
-    let node = long_node(rt.alloc(), 100_000)?;
+    let mut node = JsonPointerNode::new();
+    for index in 0..100_000usize {
+        node = node.push(rt.alloc(), index)?;
+    }
     let is_last = *node.segment() == JsonPointerSegment::Index(99_999);
     same(&rt, is_last, true);
     Ok(())

@@ -93,8 +93,10 @@ pub fn scans(rt: &impl Abort, alloc: Global, row: &Row<'_>) -> Result<(), AllocE
     Ok(())
 }
 
-/// What is lent has the draft of its value, or the draft that it is lent with.
-fn assert_lent(rt: &impl Abort, value: &Value, row: &Row<'_>) {
+/// What is lent has the draft of its value, or the draft that it is lent with. What is owned has the draft of its value, and
+/// is equal to its copy and to none of Draft 7.
+pub fn resources(rt: &impl Abort, row: &Row<'_>) -> Result<(), AllocError> {
+    let value = row.document(0);
     let lent = ResourceRef::from_contents(value);
     row.same(
         rt,
@@ -103,11 +105,10 @@ fn assert_lent(rt: &impl Abort, value: &Value, row: &Row<'_>) {
     );
     let lent = Draft::Draft4.create_resource_ref(value);
     row.same(rt, (lent.draft(), lent.contents()), (Draft::Draft4, value));
-}
-
-/// Whether a resource is equal to its copy.
-fn is_copied(resource: &Resource) -> Result<bool, AllocError> {
-    Ok(resource.clone()? == *resource)
+    let owned = resource_of(row)?;
+    assert_copied(rt, &owned, row)?;
+    assert_given_back(rt, owned, row);
+    assert_other(rt, resource_of(row)?, row)
 }
 
 /// Ends the test where a resource hasn't the draft and the contents of its row.
@@ -118,7 +119,7 @@ fn assert_owned(rt: &impl Abort, draft: Draft, contents: &Value, row: &Row<'_>) 
 /// Ends the test where a resource isn't equal to its copy.
 fn assert_copied(rt: &impl Abort, owned: &Resource, row: &Row<'_>) -> Result<(), AllocError> {
     assert_owned(rt, owned.draft(), owned.contents(), row);
-    row.same(rt, is_copied(owned)?, true);
+    row.same(rt, owned.clone()? == *owned, true);
     Ok(())
 }
 
@@ -138,15 +139,6 @@ fn assert_given_back(rt: &impl Abort, owned: Resource, row: &Row<'_>) {
 /// A resource of the value of a row.
 fn resource_of(row: &Row<'_>) -> Result<Resource, AllocError> {
     Ok(Resource::from_contents(row.document(0).clone()?))
-}
-
-/// What is owned has the draft of its value, and is equal to its copy and to none of Draft 7.
-pub fn resources(rt: &impl Abort, row: &Row<'_>) -> Result<(), AllocError> {
-    assert_lent(rt, row.document(0), row);
-    let owned = resource_of(row)?;
-    assert_copied(rt, &owned, row)?;
-    assert_given_back(rt, owned, row);
-    assert_other(rt, resource_of(row)?, row)
 }
 
 #[test]

@@ -57,7 +57,7 @@ impl<'a> Row<'a> {
 
     /// The text under a key of the first column.
     pub fn under(&self, key: &str) -> Option<&'a str> {
-        self.value(0)?.get(key)?.as_str()
+        self.document(0).get(key).and_then(Value::as_str)
     }
 
     /// The text in a column that has one.
@@ -142,33 +142,31 @@ fn ask_line<R: Abort>(
     tables::ask(rt, alloc, &row)
 }
 
-/// Asks each row of a table.
-fn ask_table<R: Abort>(rt: &R, alloc: Global, table: &str, lines: &str) -> Result<(), Fail> {
+/// Asks each row of a table, and counts them.
+fn ask_table<R: Abort>(rt: &R, alloc: Global, table: &str, lines: &str) -> Result<usize, Fail> {
     let mut given = Value::Null;
+    let mut count = 0usize;
     for line in lines.lines() {
+        if line.starts_with('[') {
+            count = count.saturating_add(1);
+        }
         if !line.is_empty() && !line.starts_with("//") {
             ask_line(rt, alloc, table, line, &mut given)?;
         }
     }
-    Ok(())
-}
-
-/// How many of these lines are rows. Ends the test where the heading has another number.
-fn count_of(rt: &impl Abort, heading: &str, number: &str, lines: &str) -> usize {
-    let count = lines.lines().filter(|line| line.starts_with('[')).count();
-    same_at(rt, Some(count), number.parse().ok(), heading);
-    count
+    Ok(count)
 }
 
 /// Asks each row of a text, and counts them. A line that begins with `# ` names the table of the rows after it, with
-/// their number after a colon; one that begins with `//` is skipped.
+/// their number after a colon; one that begins with `//` is skipped. Ends the test where the heading has another number.
 pub fn for_each_row<R: Abort>(rt: &R, alloc: Global, rows: &str) -> Result<usize, Fail> {
     let mut count = 0usize;
     for section in rows.split("\n# ") {
         let (heading, lines) = section.split_once('\n').unwrap_or((section, ""));
         let (table, number) = heading.split_once(": ").unwrap_or((heading, "0"));
-        count = count.saturating_add(count_of(rt, heading, number, lines));
-        ask_table(rt, alloc, table, lines)?;
+        let rows = ask_table(rt, alloc, table, lines)?;
+        same_at(rt, Some(rows), number.parse().ok(), heading);
+        count = count.saturating_add(rows);
     }
     Ok(count)
 }

@@ -4,7 +4,7 @@ ghost use Rattle.ref_parts.specs.Table.{entries_of, last_value, pair_count};
 
 use crate::asserts::same;
 use crate::row::Row;
-use ref_parts::SortedTable;
+use ref_parts::{SortedTable, TableEntries};
 use std::alloc::{AllocError, Global};
 use std::fmt;
 use std::process::Abort;
@@ -99,27 +99,39 @@ fn a_table_lends_what_it_owns_and_what_it_borrows(rt: HostRuntime) -> Result<(),
 
 // ---- tables of numbers
 
-/// A table of the entries of a row.
-fn table_of_row(alloc: Global, given: &Row<'_>) -> Result<SortedTable<usize>, AllocError> {
-    let mut entries = Vec::new(alloc);
-    for place in 0..given.len() {
-        let entry = given.row(place);
-        enter(
-            &mut entries,
-            alloc,
-            entry.text(0),
-            entry.text(1),
-            entry.count(2),
-        )?;
+/// The table of the same entries, the first in one list and the others in another, which is joined to it; each value is one too
+/// high until it is changed.
+fn joined_of(alloc: Global, row: &Row<'_>) -> Result<SortedTable<usize>, AllocError> {
+    let mut joined = TableEntries::new(alloc);
+    let mut others = TableEntries::new(alloc);
+    for place in 0..row.row(0).len() {
+        let entry = row.row(0).row(place);
+        let value = entry.count(2).saturating_add(1);
+        if place == 0 {
+            joined.push(entry.text(0), entry.text(1), value)?;
+        } else {
+            others.push(entry.text(0), entry.text(1), value)?;
+        }
     }
-    table_of(alloc, entries)
+    joined.append(others)?;
+    joined.change_values(|value| *value = value.saturating_sub(1));
+    joined.into_table(alloc)
 }
 
 pub fn tables(rt: &impl Abort, alloc: Global, row: &Row<'_>) -> Result<(), AllocError> {
-    let table = table_of_row(alloc, &row.row(0))?;
+    let mut entries = Vec::new(alloc);
+    for place in 0..row.row(0).len() {
+        let entry = row.row(0).row(place);
+        let (first, second) = (entry.text(0), entry.text(1));
+        enter(&mut entries, alloc, first, second, entry.count(2))?;
+    }
+    let table = table_of(alloc, entries)?;
     row.same(rt, count_of(&table), row.count(1));
     let (value, probes) = table.get(row.text(3), row.text(4));
     row.same(rt, probes <= row.count(2), true);
+    row.same(rt, value.copied(), row.number(5));
+    let joined = joined_of(alloc, row)?;
+    let (value, _) = joined.get(row.text(3), row.text(4));
     row.same(rt, value.copied(), row.number(5));
     Ok(())
 }
@@ -132,16 +144,6 @@ fn uri_of(alloc: Global, number: usize) -> Result<String, AllocError> {
 
 fn name_of(number: usize) -> &'static str {
     if number % 2 == 0 { "0" } else { "1" }
-}
-
-/// A table of the numbers below a count, each under its URI and name.
-fn table_of_numbers(alloc: Global, count: usize) -> Result<SortedTable<usize>, AllocError> {
-    let mut entries = Vec::new(alloc);
-    for number in 0..count {
-        let uri = uri_of(alloc, number)?;
-        enter(&mut entries, alloc, uri.as_str(), name_of(number), number)?;
-    }
-    table_of(alloc, entries)
 }
 
 /// Ends the test where a table lacks a number, has something under a name that none has, or takes more than ten probes
@@ -162,25 +164,31 @@ fn assert_number(
 
 #[test]
 fn a_thousand_pairs_take_at_most_ten_probes(rt: HostRuntime) -> Result<(), AllocError> {
-    let table = table_of_numbers(rt.alloc(), 1_000)?;
+    let mut entries = Vec::new(rt.alloc());
+    for number in 0..1_000usize {
+        let uri = uri_of(rt.alloc(), number)?;
+        enter(
+            &mut entries,
+            rt.alloc(),
+            uri.as_str(),
+            name_of(number),
+            number,
+        )?;
+    }
+    let table = table_of(rt.alloc(), entries)?;
     for number in 0..1_000usize {
         assert_number(&rt, rt.alloc(), &table, number)?;
     }
     Ok(())
 }
 
-/// A table of so many values under one pair.
-fn table_of_equal_pairs(alloc: Global, count: usize) -> Result<SortedTable<usize>, AllocError> {
-    let mut entries = Vec::new(alloc);
-    for place in 0..count {
-        enter(&mut entries, alloc, "a", "b", place)?;
-    }
-    table_of(alloc, entries)
-}
-
 #[test]
 fn of_equal_pairs_the_last_stays(rt: HostRuntime) -> Result<(), AllocError> {
-    let table = table_of_equal_pairs(rt.alloc(), 100_000)?;
+    let mut entries = Vec::new(rt.alloc());
+    for place in 0..100_000usize {
+        enter(&mut entries, rt.alloc(), "a", "b", place)?;
+    }
+    let table = table_of(rt.alloc(), entries)?;
     same(&rt, count_of(&table), 1);
     let (value, probes) = table.get("a", "b");
     same(&rt, (value.copied(), probes), (Some(99_999), 1));

@@ -5,6 +5,7 @@ use crate::row::{Row, for_each_row};
 use crate::{
     children, drafts, lists, long_texts, map_defaults, maps, reading, sorted_tables, texts, uris,
 };
+use ref_parts::SmallMap;
 use std::alloc::{AllocError, Global};
 use std::process::Abort;
 use std::test::Fail;
@@ -38,23 +39,16 @@ pub fn ask<R: Abort>(rt: &R, alloc: Global, row: &Row<'_>) -> Result<(), Fail> {
         "components" => uris::components(rt, row),
         "URIs" => uris::uris(rt, alloc, row),
         "fragments" => uris::fragments(rt, alloc, row),
-        "targets" => uris::targets(rt, alloc, row),
+        "targets" => uris::leads(rt, uris::target(alloc, row.text(0), row.text(1)), row),
         "normal forms" => uris::normal_forms(rt, alloc, row),
         "meanings" => uris::meanings(rt, alloc, row),
-        "meanings against bases" => uris::meanings_against_bases(rt, alloc, row),
+        "meanings against bases" => uris::leads(
+            rt,
+            uris::meaning(alloc, row.text(0), row.text(1)),
+            row,
+        ),
         "repeated references" | "repeated texts" => long_texts::repeated(rt, alloc, row),
         "names of each length" => long_texts::names(rt, alloc, row),
-        _ => ask_for_fault(rt, alloc, row),
-    }
-}
-
-/// Of the tables on why texts are no URIs.
-fn ask_for_fault<R: Abort>(rt: &R, alloc: Global, row: &Row<'_>) -> Result<(), Fail> {
-    match row.table() {
-        "parsed URIs" => uris::parsed_uris(rt, alloc, row),
-        "faults" => uris::faults(rt, alloc, row),
-        "faults against bases" => uris::faults_against_bases(rt, alloc, row),
-        "references without a target" => uris::without_a_target(rt, alloc, row),
         _ => Ok(ask_with_memory(rt, alloc, row)?),
     }
 }
@@ -62,6 +56,9 @@ fn ask_for_fault<R: Abort>(rt: &R, alloc: Global, row: &Row<'_>) -> Result<(), F
 /// Of the tables whose rows have an answer wherever there is memory.
 fn ask_with_memory<R: Abort>(rt: &R, alloc: Global, row: &Row<'_>) -> Result<(), AllocError> {
     match row.table() {
+        "parsed URIs" | "faults" | "faults against bases" | "references without a target" => {
+            uris::told(rt, alloc, row)
+        }
         "places" => long_texts::places(rt, alloc, row),
         "short texts" => long_texts::short_texts(rt, alloc, row),
         "tokens" => texts::tokens(rt, alloc, row),
@@ -78,8 +75,18 @@ fn ask_with_memory<R: Abort>(rt: &R, alloc: Global, row: &Row<'_>) -> Result<(),
 fn ask_of_maps<R: Abort>(rt: &R, alloc: Global, row: &Row<'_>) -> Result<(), AllocError> {
     match row.table() {
         "maps of texts" => maps::maps_of_texts(rt, alloc, row),
-        "maps with two slots" => maps::with_two_slots(rt, alloc, row),
-        "maps without slots" => maps::without_slots(rt, alloc, row),
+        "maps with two slots" => maps::with_slots(
+            rt,
+            alloc,
+            SmallMap::<usize, usize, 2>::new(),
+            row,
+        ),
+        "maps without slots" => maps::with_slots(
+            rt,
+            alloc,
+            SmallMap::<usize, usize, 0>::new(),
+            row,
+        ),
         "copies" => maps::copies(rt, alloc, row),
         "copies of texts" => maps::copies_of_texts(rt, alloc, row),
         "defaults" => map_defaults::defaults(rt, alloc, row),

@@ -157,17 +157,6 @@ pub fn pointers(rt: &impl Abort, alloc: Global, row: &Row<'_>) -> Result<(), All
     Ok(())
 }
 
-/// Pushes and clears, or pushes, what the columns have.
-fn fill(buffer: &mut EncodedBuffer, row: &Row<'_>) -> Result<(), AllocError> {
-    for column in 0..5usize {
-        buffer.push_str(row.text(column))?;
-        if column < 2 {
-            buffer.clear();
-        }
-    }
-    Ok(())
-}
-
 /// Ends the test where a text is decoded to another.
 fn assert_decoded(
     rt: &impl Abort,
@@ -180,7 +169,12 @@ fn assert_decoded(
 
 pub fn buffers(rt: &impl Abort, alloc: Global, row: &Row<'_>) -> Result<(), AllocError> {
     let mut buffer = EncodedBuffer::new(alloc);
-    fill(&mut buffer, row)?;
+    for column in 0..5usize {
+        buffer.push_str(row.text(column))?;
+        if column < 2 {
+            buffer.clear();
+        }
+    }
     row.same(rt, buffer.as_str(), row.text(5));
     row.same(rt, buffer.as_encoded().as_str(), row.text(5));
     assert_decoded(rt, buffer.decode(alloc), row)?;
@@ -215,29 +209,21 @@ fn assert_found(
     Ok(())
 }
 
-/// In texts of up to 25 bytes, and in some that have more than a block of 64.
-fn assert_found_at_each_place(
-    rt: &impl Abort,
-    alloc: Global,
-    pair: (&str, &str),
-) -> Result<(), AllocError> {
-    for others in 0..25usize {
-        for before in 0..others.saturating_add(1) {
-            assert_found(rt, alloc, pair, before, others.saturating_sub(before))?;
-        }
-    }
-    for before in 60..90usize {
-        assert_found(rt, alloc, pair, before, 9)?;
-    }
-    Ok(())
-}
-
+// In texts of up to 25 bytes, and in some that have more than a block of 64.
 #[test]
 fn the_first_escape_is_found_at_each_place(rt: HostRuntime) -> Result<(), AllocError> {
     let others = b"\xff\xff\xff\xff\xff\xff\xff\xff".as_slice();
     same(&rt, first_escape(others), None);
     for pair in [("~", "/"), ("~", "."), ("/", "/"), ("/", ".")] {
-        assert_found_at_each_place(&rt, rt.alloc(), pair)?;
+        for others in 0..25usize {
+            for before in 0..others.saturating_add(1) {
+                let after = others.saturating_sub(before);
+                assert_found(&rt, rt.alloc(), pair, before, after)?;
+            }
+        }
+        for before in 60..90usize {
+            assert_found(&rt, rt.alloc(), pair, before, 9)?;
+        }
     }
     Ok(())
 }

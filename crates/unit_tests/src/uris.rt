@@ -317,7 +317,8 @@ fn assert_texts(rt: &impl Abort, texts: [Option<&str>; 6], row: &Row<'_>) {
 }
 
 /// Ends the test where a reference has other components than its row.
-fn assert_components(rt: &impl Abort, reference: &UriRef<'_>, row: &Row<'_>) {
+pub fn components(rt: &impl Abort, row: &Row<'_>) -> Result<(), Fail> {
+    let reference = UriRef::parse(row.text(0))?;
     let texts = [
         Some(reference.as_str()),
         reference.scheme(),
@@ -330,11 +331,6 @@ fn assert_components(rt: &impl Abort, reference: &UriRef<'_>, row: &Row<'_>) {
     let has = (reference.has_scheme(), reference.has_fragment());
     let wanted = (row.optional(1).is_some(), row.optional(5).is_some());
     row.same(rt, has, wanted);
-}
-
-pub fn components(rt: &impl Abort, row: &Row<'_>) -> Result<(), Fail> {
-    let reference = UriRef::parse(row.text(0))?;
-    assert_components(rt, &reference, row);
     let stripped = reference.strip_fragment();
     row.same(rt, stripped.as_str(), row.text(6));
     let differs = [stripped < reference, stripped != reference];
@@ -342,7 +338,7 @@ pub fn components(rt: &impl Abort, row: &Row<'_>) -> Result<(), Fail> {
     Ok(())
 }
 
-/// Ends the test where a URI has other components than its row.
+/// Ends the test where a URI has other components than its row, or other texts without its fragment or as a reference.
 fn assert_uri(rt: &impl Abort, uri: &Uri, row: &Row<'_>) {
     let texts = [
         Some(uri.as_str()),
@@ -355,24 +351,14 @@ fn assert_uri(rt: &impl Abort, uri: &Uri, row: &Row<'_>) {
     assert_texts(rt, texts, row);
     let has = (uri.has_scheme(), uri.has_fragment());
     row.same(rt, has, (true, row.optional(5).is_some()));
-}
-
-/// Ends the test where a URI has other texts than its row, without its fragment or as a reference.
-fn assert_lent(rt: &impl Abort, alloc: Global, uri: &Uri, row: &Row<'_>) -> Result<(), AllocError> {
     row.same(rt, uri.strip_fragment().as_str(), row.text(6));
     row.same(rt, uri.borrow().as_str(), row.text(0));
-    assert_displayed(rt, alloc, &uri.borrow(), row.text(0))
 }
 
 pub fn uris(rt: &impl Abort, alloc: Global, row: &Row<'_>) -> Result<(), Fail> {
     let uri = Uri::parse(alloc, row.text(0))?;
     assert_uri(rt, &uri, row);
-    Ok(assert_lent(rt, alloc, &uri, row)?)
-}
-
-pub fn parsed_uris(rt: &impl Abort, alloc: Global, row: &Row<'_>) -> Result<(), Fail> {
-    let answer = Uri::parse(alloc, row.text(0));
-    Ok(assert_told(rt, alloc, answer, row.text(1))?)
+    Ok(assert_displayed(rt, alloc, &uri.borrow(), row.text(0))?)
 }
 
 /// Why a fragment was not put in the place of a URI's, if it wasn't.
@@ -392,19 +378,16 @@ fn assert_put(rt: &impl Abort, uri: &mut Uri, row: &Row<'_>) -> Result<(), Alloc
     Ok(())
 }
 
-/// Ends the test where a URI isn't equal to one without fragment just where it has none, or follows it else.
-fn assert_order(rt: &impl Abort, plain: &Uri, uri: &Uri, row: &Row<'_>) {
-    row.same(rt, plain < uri, uri.has_fragment());
-    row.same(rt, plain == uri, !uri.has_fragment());
-    let is_alike = plain != uri || hash_of(plain) == hash_of(uri);
-    row.same(rt, is_alike, true);
-}
-
+/// Puts the fragments of a row into a URI. Ends the test where it then isn't equal to the one without fragment just where it
+/// has none, or follows that else.
 pub fn fragments(rt: &impl Abort, alloc: Global, row: &Row<'_>) -> Result<(), Fail> {
     let mut uri = Uri::parse(alloc, row.text(0))?;
     let plain = uri.clone()?;
     assert_put(rt, &mut uri, row)?;
-    assert_order(rt, &plain, &uri, row);
+    row.same(rt, plain < uri, uri.has_fragment());
+    row.same(rt, plain == uri, !uri.has_fragment());
+    let is_alike = plain != uri || hash_of(&plain) == hash_of(&uri);
+    row.same(rt, is_alike, true);
     Ok(())
 }
 
@@ -414,9 +397,9 @@ pub fn target(alloc: Global, base: &str, reference: &str) -> Result<Uri, Fail> {
     Ok(UriRef::parse(reference)?.resolve_against(alloc, base)?)
 }
 
-pub fn targets(rt: &impl Abort, alloc: Global, row: &Row<'_>) -> Result<(), Fail> {
-    let found = target(alloc, row.text(0), row.text(1))?;
-    row.same(rt, found.as_str(), row.text(2));
+/// Ends the test where a base and a text lead to another URI.
+pub fn leads(rt: &impl Abort, found: Result<Uri, Fail>, row: &Row<'_>) -> Result<(), Fail> {
+    row.same(rt, found?.as_str(), row.text(2));
     Ok(())
 }
 
@@ -438,25 +421,42 @@ pub fn meaning(alloc: Global, base: &str, text: &str) -> Result<Uri, Fail> {
     Ok(uri::resolve_against(alloc, UriRef::parse(base)?, text)?)
 }
 
-pub fn meanings_against_bases(rt: &impl Abort, alloc: Global, row: &Row<'_>) -> Result<(), Fail> {
-    let found = meaning(alloc, row.text(0), row.text(1))?;
-    row.same(rt, found.as_str(), row.text(2));
-    Ok(())
+/// Ends the test where a text, or where there is a base a text against it, is told otherwise.
+pub fn told(rt: &impl Abort, alloc: Global, row: &Row<'_>) -> Result<(), AllocError> {
+    match row.table() {
+        "parsed URIs" => assert_told(rt, alloc, Uri::parse(alloc, row.text(0)), row.text(1)),
+        "faults" => assert_told(rt, alloc, uri::from_str(alloc, row.text(0)), row.text(1)),
+        _ => match UriRef::parse(row.text(0)) {
+            Ok(base) => told_against(rt, alloc, base, row),
+            Err(_) => {
+                row.same(rt, "no base", row.text(0));
+                Ok(())
+            }
+        },
+    }
 }
 
-pub fn faults(rt: &impl Abort, alloc: Global, row: &Row<'_>) -> Result<(), Fail> {
-    let answer = uri::from_str(alloc, row.text(0));
-    Ok(assert_told(rt, alloc, answer, row.text(1))?)
-}
-
-pub fn faults_against_bases(rt: &impl Abort, alloc: Global, row: &Row<'_>) -> Result<(), Fail> {
-    let base = UriRef::parse(row.text(0))?;
-    let answer = uri::resolve_against(alloc, base, row.text(1));
-    Ok(assert_told(rt, alloc, answer, row.text(2))?)
-}
-
-pub fn without_a_target(rt: &impl Abort, alloc: Global, row: &Row<'_>) -> Result<(), Fail> {
-    let base = UriRef::parse(row.text(0))?;
-    let answer = UriRef::parse(row.text(1))?.resolve_against(alloc, base);
-    Ok(assert_told(rt, alloc, answer, row.text(2))?)
+/// The same of a text against a base.
+fn told_against(
+    rt: &impl Abort,
+    alloc: Global,
+    base: UriRef<'_>,
+    row: &Row<'_>,
+) -> Result<(), AllocError> {
+    if row.table() == "faults against bases" {
+        let answer = uri::resolve_against(alloc, base, row.text(1));
+        return assert_told(rt, alloc, answer, row.text(2));
+    }
+    match UriRef::parse(row.text(1)) {
+        Ok(reference) => assert_told(
+            rt,
+            alloc,
+            reference.resolve_against(alloc, base),
+            row.text(2),
+        ),
+        Err(_) => {
+            row.same(rt, "no reference", row.text(1));
+            Ok(())
+        }
+    }
 }

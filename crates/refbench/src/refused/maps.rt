@@ -2,7 +2,7 @@
 use crate::refused::stop::{Stop, after, refused};
 use crate::refused::trial::{Calls, Trial, tried};
 use ref_parts::small_map::SmallMap;
-use ref_parts::table::SortedTable;
+use ref_parts::table::{SortedTable, TableEntries};
 use std::alloc::{AllocError, Global};
 
 /// A map of two pairs, as many as are in it without memory, and one of three.
@@ -38,6 +38,9 @@ impl Calls for Maps {
             "readers" => read(alloc, &self.three),
             "table.from_entries" => table(alloc),
             "table.readers" => read_table(alloc),
+            "entries.push" => pushed(alloc),
+            "entries.append" => joined(alloc),
+            "entries.into_table" => made(alloc),
             _ => Err(Stop::Wrong),
         }
     }
@@ -125,4 +128,53 @@ fn read_table(alloc: Global) -> Result<String, Stop> {
     let len = table.len();
     let (second, none) = (table.get("b", "").0.copied(), table.get("c", "").0.copied());
     after(format!(in alloc; "{len} {second:?} {none:?}"))
+}
+
+/// One entry under two texts.
+fn one_entry(alloc: Global) -> Result<TableEntries<u32>, AllocError> {
+    let mut entries = TableEntries::new(alloc);
+    entries.push("a", "", 1)?;
+    Ok(entries)
+}
+
+/// Whether entries are that one alone.
+fn is_one(alloc: Global, entries: TableEntries<u32>) -> Result<bool, Stop> {
+    let table = entries.into_table(alloc).ok().ok_or(Stop::After)?;
+    Ok(table.len() == 1 && table.get("a", "").0.copied() == Some(1))
+}
+
+/// How many pairs of texts entries have, and what the last one of two is.
+fn last_of(alloc: Global, entries: TableEntries<u32>) -> Result<String, Stop> {
+    let table = entries.into_table(alloc).ok().ok_or(Stop::After)?;
+    let (len, last) = (table.len(), table.get("bcdefghi", "").0.copied());
+    after(format!(in alloc; "{len} {last:?}"))
+}
+
+fn pushed(alloc: Global) -> Result<String, Stop> {
+    let mut entries = one_entry(alloc)?;
+    match entries.push("bcdefghi", "", 2) {
+        Ok(()) => last_of(alloc, entries),
+        Err(error) => Err(refused(&error, is_one(alloc, entries)?)),
+    }
+}
+
+fn joined(alloc: Global) -> Result<String, Stop> {
+    let mut entries = one_entry(alloc)?;
+    let mut others = TableEntries::new(alloc);
+    others.push("bcdefghi", "", 2)?;
+    match entries.append(others) {
+        Ok(()) => last_of(alloc, entries),
+        Err(error) => Err(refused(&error, is_one(alloc, entries)?)),
+    }
+}
+
+fn made(alloc: Global) -> Result<String, Stop> {
+    let entries = one_entry(alloc)?;
+    match entries.into_table(alloc) {
+        Ok(table) => {
+            let value = table.get("a", "").0.copied();
+            after(format!(in alloc; "{value:?}"))
+        }
+        Err(error) => Err(refused(&error, true)),
+    }
 }

@@ -1,6 +1,7 @@
 //! A document deeper than a text may nest: so many schemas, each under `not` of the one before. It is prepared, and a
 //! pointer through all of them is looked up. `lent` is not freed, and `owned` is, by the registry: the drop of a value
-//! goes as deep as the value.
+//! goes as deep as the value, and so do its copy, its comparison and its text, by which `copied`, `compared` and `printed` show
+//! how much stack those take.
 
 use crate::workloads::line::Line;
 use ref_error::Error;
@@ -48,7 +49,25 @@ fn of_lent(alloc: Global, document: &Value, pointer: &str) -> Result<u64, Error>
     )
 }
 
-/// That of a document of a line's size; nothing where a call is refused.
+/// How long the text of a document is, or 1 where a copy was made or is equal; the pointer's length of one that is lent.
+fn of_value(alloc: Global, document: &Value, line: Line<'_>, pointer: &str) -> Option<u64> {
+    match line.text {
+        "copied" => {
+            forget(document.clone().ok()?);
+            Some(1)
+        }
+        "compared" => {
+            let other = document_of(alloc, line.size).ok()?;
+            let is_equal = *document == other;
+            forget(other);
+            Some(u64::from(is_equal))
+        }
+        "printed" => Some(document.to_string(alloc).ok()?.len() as u64),
+        _ => of_lent(alloc, document, pointer).ok(),
+    }
+}
+
+/// What a line's workload answers of a document of its size; nothing where a call is refused.
 pub fn answer(alloc: Global, line: Line<'_>) -> Option<u64> {
     let pointer = pointer_of(alloc, line.size).ok()?;
     let document = document_of(alloc, line.size).ok()?;
@@ -56,7 +75,7 @@ pub fn answer(alloc: Global, line: Line<'_>) -> Option<u64> {
         let builder = Registry::new(alloc).add("http://a/r", document).ok()?;
         return followed(alloc, builder, pointer.as_str()).ok();
     }
-    let length = of_lent(alloc, &document, pointer.as_str()).ok();
+    let answer = of_value(alloc, &document, line, pointer.as_str());
     forget(document);
-    length
+    answer
 }

@@ -7,6 +7,7 @@ mod lookups;
 mod parts;
 mod places;
 mod registries;
+mod steps;
 mod vocabularies;
 
 use crate::refused::{Stop, Trial};
@@ -126,6 +127,7 @@ fn answer(alloc: Global, line: Line<'_>) -> Option<u64> {
         "add" | "extend" | "prepare" => registries::answer(alloc, line),
         "lookup" | "lookup-owned" | "dynamic" | "dynamic-owned" => lookups::answer(alloc, line),
         "places" | "locate" | "dangling" => places::answer(alloc, line),
+        "follow" => steps::answer(alloc, line),
         _ => measured(alloc, line),
     }
 }
