@@ -58,15 +58,40 @@ fn scope_of(followed: &Followed<'_>, last: &str) -> Option<u64> {
     Some(length)
 }
 
+/// How many URIs the scope has at the end of the steps in a registry.
+fn followed_in(
+    alloc: Global,
+    registry: &Registry<'_>,
+    steps: &[Step<'_>],
+    last: &str,
+) -> Option<u64> {
+    let base = from_str(alloc, "http://a/r").ok()?;
+    let followed = follow(alloc, registry, base, steps).ok()?;
+    scope_of(&followed, last)
+}
+
+/// The same over a document that is lent.
+fn followed(alloc: Global, document: &Value, steps: &[Step<'_>], last: &str) -> Option<u64> {
+    let builder = Registry::new(alloc).add("http://a/r", document).ok()?;
+    let registry = builder.prepare().ok()?;
+    followed_in(alloc, &registry, steps, last)
+}
+
+/// The document as a value.
+fn value_of(alloc: Global, size: usize) -> Option<Value> {
+    let text = document_of(alloc, size).ok()?;
+    Value::from_str(alloc, text.as_str()).ok()
+}
+
 /// How many URIs the scope has at the end; nothing where a step leads elsewhere or is refused.
 pub fn answer(alloc: Global, line: Line<'_>) -> Option<u64> {
-    let text = document_of(alloc, line.size).ok()?;
-    let document = Value::from_str(alloc, text.as_str()).ok()?;
+    let document = value_of(alloc, line.size)?;
     let references = references_of(alloc, line.size).ok()?;
     let steps = steps_of(alloc, references.as_slice(), line.times).ok()?;
-    let builder = Registry::new(alloc).add("http://a/r", &document).ok()?;
-    let registry = builder.prepare().ok()?;
-    let base = from_str(alloc, "http://a/r").ok()?;
-    let followed = follow(alloc, &registry, base, steps.as_slice()).ok()?;
-    scope_of(&followed, references.last()?.as_str())
+    followed(
+        alloc,
+        &document,
+        steps.as_slice(),
+        references.last()?.as_str(),
+    )
 }
