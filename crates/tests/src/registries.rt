@@ -6,7 +6,7 @@ use ref_error::{Error, Retrieve};
 use ref_uri::uri::from_str;
 use referencing::{IntoRegistryResource, Registry, RegistryBuilder, Resolver};
 use serde_json::Value;
-use std::alloc::Global;
+use std::alloc::{AllocError, Global};
 
 /// A builder with this draft, or without one.
 pub fn builder<'b>(alloc: Global, draft: Option<Draft>) -> RegistryBuilder<'b> {
@@ -58,21 +58,11 @@ fn retrieving<'v>(
 
 /// The registry of a row that begins with a draft, documents, and what can be retrieved, or `null` where no retriever is given.
 pub fn registry(alloc: Global, row: &Value) -> Result<Registry<'_>, Fault> {
-    let draft = row::draft(row, 1)?;
-    if row::column(row, 3)?.is_null() {
+    let draft = row::draft(row, 1);
+    if row::column(row, 3).is_null() {
         return unretrieving(alloc, draft, row, 2);
     }
     retrieving(alloc, draft, row)
-}
-
-/// The registry of documents above another.
-fn above<'b>(
-    alloc: Global,
-    parent: &'b Registry<'_>,
-    documents: Vec<(&'b str, &'b Value)>,
-) -> Result<Registry<'b>, Fault> {
-    let builder = done(alloc, parent.extend(alloc, documents))?;
-    done(alloc, builder.prepare())
 }
 
 /// The registry of a column's documents above another.
@@ -83,7 +73,8 @@ pub fn child<'b>(
     number: usize,
 ) -> Result<Registry<'b>, Fault> {
     let documents = row::documents(alloc, row, number)?;
-    above(alloc, parent, documents)
+    let builder = done(alloc, parent.extend(alloc, documents))?;
+    done(alloc, builder.prepare())
 }
 
 /// A resolver at the URI of a text.
@@ -102,9 +93,9 @@ pub fn known(
     registry: &Registry<'_>,
     row: &Value,
     number: usize,
-) -> Result<String, Fault> {
+) -> Result<String, AllocError> {
     let mut marks = String::new(alloc);
-    for uri in row::list(row, number)? {
+    for uri in row::list(row, number) {
         let is_known = registry.contains_resource(alloc, uri.as_str().unwrap_or("a b"))?;
         marks.push(if is_known { '+' } else { '-' })?;
     }
@@ -115,5 +106,5 @@ pub fn known(
 pub fn of_meta_schemas(alloc: Global, row: &Value) -> Result<String, Fault> {
     let pairs = row::documents(alloc, row, 1)?;
     let registry = done(alloc, Registry::from_meta_schemas(alloc, pairs.as_slice()))?;
-    known(alloc, &registry, row, 2)
+    made(known(alloc, &registry, row, 2))
 }
