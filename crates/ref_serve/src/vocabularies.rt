@@ -37,7 +37,10 @@ fn has(alloc: Global, set: &VocabularySet, uri: &str) -> bool
 {
     match Vocabulary::from_text(alloc, uri) {
         Ok(vocabulary) => set.contains(&vocabulary),
-        Err(_) => false,
+        Err(error) => {
+            drop(error);
+            false
+        }
     }
 }
 
