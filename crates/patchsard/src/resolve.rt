@@ -6,7 +6,7 @@ use ref_project::follow::followed;
 use ref_project::given::{Given, read_file};
 use ref_project::shown::push_found;
 use ref_project::world::{World, world_of};
-use ref_reading::{Document, Stop, say_of};
+use ref_reading::{Document, Stop};
 
 /// Follows a reference from a place of a file. The status is 0 where it resolves, 1 where it is unresolvable, and 2
 /// where a path couldn't be read.
@@ -16,13 +16,10 @@ pub fn resolve(
     given: &ArgMatches<'_>,
 ) -> Result<u8, Stop> {
     let read = read_file(rt, given, None)?;
-    let status = if read.has_failed {
-        Ok(2)
-    } else {
-        resolve_read(rt, console, given, &read)
-    };
-    drop(read);
-    status
+    if read.has_failed {
+        return Ok(2);
+    }
+    resolve_read(rt, console, given, &read)
 }
 
 // The same in what was read.
@@ -53,9 +50,7 @@ fn resolve_in(
 ) -> Result<u8, Stop> {
     match followed(rt.alloc(), document, world, from, reference) {
         Ok(Some(found)) => {
-            let pushed = push_found(rt.alloc(), &mut console.out, read, world, &found);
-            drop(found);
-            pushed?;
+            push_found(rt.alloc(), &mut console.out, read, world, found)?;
             Ok(0)
         }
         Ok(None) => {
@@ -65,11 +60,7 @@ fn resolve_in(
             );
             Ok(1)
         }
-        Err(error) => {
-            let status = unresolvable(rt, document, &error);
-            drop(error);
-            status
-        }
+        Err(error) => unresolvable(rt, document, &error),
     }
 }
 
@@ -78,6 +69,6 @@ fn unresolvable(rt: &HostRuntime, document: &Document, error: &Error) -> Result<
     if error.is_memory() {
         return Err(Stop::Memory);
     }
-    say_of(rt, document.shown.as_str(), error);
+    let _ = eprintln!(rt; "patchsard: {}: {error}", document.shown);
     Ok(1)
 }

@@ -10,7 +10,7 @@ use serde_json::{Map, Value};
 use std::alloc::Global;
 
 /// The calls.
-#[derive(Clone, Copy, Drop)]
+#[derive(Clone, Copy, PartialEq, Eq, Drop)]
 pub enum Call {
     Open,
     Lookup,

@@ -16,7 +16,7 @@ use serde_json::{Map, Value, put};
 use std::alloc::{AllocError, Global};
 
 /// What is wrong with a member of a call.
-#[derive(Clone, Copy, Drop)]
+#[derive(Clone, Copy, PartialEq, Eq, Drop)]
 pub enum Wrong {
     /// The call doesn't know it.
     UnknownField,
@@ -226,12 +226,10 @@ pub fn fault_members(alloc: Global, error: &Error) -> Result<Members, AllocError
 
 /// The error of a fault.
 #[tactic(auto, unfolding(crate::specs::Errors::fault_error))]
-pub fn fault_error(alloc: Global, error: Error) -> Stop<Value>
-    ensures { spec.IsStopOf error result }
+pub fn fault_error(alloc: Global, error: &Error) -> Stop<Value>
+    ensures { spec.IsStopOf error.now result }
 {
-    let members = fault_members(alloc, &error);
-    drop(error);
-    match members {
+    match fault_members(alloc, error) {
         Ok(members) => Stop::Because(Value::Object(members)),
         Err(_) => Stop::Memory,
     }

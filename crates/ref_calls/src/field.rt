@@ -69,7 +69,7 @@ fn uri_of_text(alloc: Global, text: &str) -> Result<Uri, Stop<Value>>
 {
     match from_str(alloc, text) {
         Ok(uri) => Ok(uri),
-        Err(fault) => Err(fault_error(alloc, Error::from(fault))),
+        Err(fault) => Err(fault_error(alloc, &Error::from(fault))),
     }
 }
 

@@ -5,4 +5,3 @@ pub mod Seen
 pub mod Queue
 pub mod Wanted
 pub mod Plain
-pub mod Adding

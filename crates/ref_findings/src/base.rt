@@ -55,10 +55,7 @@ pub(crate) fn nearest_base(
 {
     match base_of(alloc, outer, id)? {
         Ok(base) => Ok(base),
-        Err(error) => {
-            drop(error);
-            outer.clone()
-        }
+        Err(_) => outer.clone(),
     }
 }
 

@@ -1,11 +1,12 @@
 //! Documents that are walked one after another.
-ghost use Rattle.std.specs.Prelude.{◌≡◌, ◌∷◌, ◌++◌, ◌≤◌, [], map, take, length, slice_get, Some, None, true, false, OnOk, IfOk, IfErr, IfSome, MatchOption};
+ghost use Rattle.std.specs.Prelude.{◌≡◌, ◌∷◌, ◌++◌, ◌≤◌, [], map, flat_map, take, length, slice_get, Some, None, true, false, OnOk, IfOk, IfErr, IfSome, MatchOption};
 ghost use Rattle.std.specs.List.{AllByRecursion};
 ghost use Rattle.ref_definitions.specs.Wants.{Want as Wanted, faults, wants, is_open};
 ghost use Rattle.ref_index.specs.Document.{document_of};
 ghost use Rattle.ref_index.specs.Found.{want_of};
 ghost use Rattle.ref_index.specs.Listed.{IsListingOf, place_of};
-ghost use Rattle.ref_index.specs.Visits.{IsFirstFault, IsFound, WalksOver};
+ghost use Rattle.ref_index.specs.Visits.{IsFirstFault, IsFound, IsWalked, faults_of};
+ghost use Rattle.ref_definitions.specs.Places.{places};
 
 use crate::document::Document;
 use crate::found::{Found, Want};
@@ -36,7 +37,11 @@ fn walk_or_note<'a>(
 ) -> Result<(), UriFault>
     requires { IfSome listed
         (λ below. IsListingOf (document_of document.now) (map place_of below.now)) }
-    ensures { WalksOver (document_of document.now) number found.old found.new result }
+    ensures ok { OnOk result
+        (IsWalked (document_of document.now) number found.old found.new
+        (places (document_of document.now))) }
+    ensures fault { IfErr result
+        (IsFirstFault (flat_map faults_of (places (document_of document.now)))) }
 {
     match listed {
         Some(below) => note(alloc, found, number, document, below),

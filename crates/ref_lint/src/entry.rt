@@ -1,7 +1,7 @@
-//! An unresolvable reference, as it is listed.
+//! A unresolvable reference, as it is listed.
 use referencing::{Error, JsonPointerSegment};
 
-/// An unresolvable reference, and why.
+/// A unresolvable reference, and why.
 #[derive(Debug, Drop)]
 pub struct Dangling<'r> {
     /// The number of its document, counted from 0 in the order in which their URIs were first added, and after them those

@@ -1,7 +1,7 @@
 //! A message about a place in a file.
 
 /// The level of a message.
-#[derive(Clone, Copy, Drop)]
+#[derive(Clone, Copy, Debug, Drop, PartialEq, Eq)]
 pub enum Level {
     /// Something is wrong.
     Error,
@@ -20,7 +20,7 @@ impl Level {
 }
 
 /// Another place that a message speaks of.
-#[derive(Drop)]
+#[derive(Debug, Drop)]
 pub struct Other {
     /// The file, as it is shown.
     pub file: String,
@@ -33,7 +33,7 @@ pub struct Other {
 }
 
 /// A message about a place in a file.
-#[derive(Drop)]
+#[derive(Debug, Drop)]
 pub struct Message<'m> {
     /// The file, as it is shown.
     pub file: &'m str,

@@ -1,4 +1,5 @@
 //! Paths as JSON pointers, and as steps.
+use ref_error::Error;
 use ref_parts::path::JsonPointerSegment;
 use ref_positions::Places;
 use referencing::unescape_segment;
@@ -24,19 +25,7 @@ pub fn position(
     path: &[JsonPointerSegment<'_>],
 ) -> Result<(usize, usize), AllocError> {
     let mut places = Places::new(alloc)?;
-    let found = position_among(alloc, &mut places, text, path);
-    drop(places);
-    found
-}
-
-// The same, where nothing is asked for before.
-fn position_among(
-    alloc: Global,
-    places: &mut Places,
-    text: &str,
-    path: &[JsonPointerSegment<'_>],
-) -> Result<(usize, usize), AllocError> {
-    let place = place_of(places, path)?;
+    let place = place_of(&mut places, path)?;
     let located = places.locate(alloc, text)?;
     match located.value(place) {
         Some(position) => Ok((position.line(), position.column())),
@@ -44,32 +33,48 @@ fn position_among(
     }
 }
 
-/// The path that a pointer means in a value, where it leads to one (RFC 6901, 4).
+/// Lets an error go that says only that something isn't there. Out of memory is no such error.
+pub fn unless_memory(error: Error) -> Result<(), AllocError> {
+    let is_memory = error.is_memory();
+    drop(error);
+    if is_memory {
+        return Err(AllocError);
+    }
+    Ok(())
+}
+
+/// The path that a pointer means in a value (RFC 6901, 4). `PointerToNowhere` where it leads to none.
 pub fn path_to<'p>(
     alloc: Global,
     root: Option<&Value>,
     pointer: &'p str,
-) -> Result<Option<Vec<JsonPointerSegment<'p>>>, AllocError> {
+) -> Result<Vec<JsonPointerSegment<'p>>, Error> {
     let mut path = Vec::new(alloc);
     let mut value = root;
     for (number, segment) in pointer.split('/').enumerate() {
         if number == 0 {
-            if segment.is_empty() {
-                continue;
+            if !segment.is_empty() {
+                return Err(nowhere(alloc, pointer)?);
             }
-            return Ok(None);
+            continue;
         }
         let Some(here) = value else {
-            return Ok(None);
+            return Err(nowhere(alloc, pointer)?);
         };
         let part = part_of(alloc, here, segment)?;
         value = child(here, &part);
         push(&mut path, part)?;
     }
     if value.is_none() {
-        return Ok(None);
+        return Err(nowhere(alloc, pointer)?);
     }
-    Ok(Some(path))
+    Ok(path)
+}
+
+fn nowhere(alloc: Global, pointer: &str) -> Result<Error, AllocError> {
+    Ok(Error::PointerToNowhere {
+        pointer: String::from_str(alloc, pointer)?,
+    })
 }
 
 // The step that a segment means in a value.

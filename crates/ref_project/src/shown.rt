@@ -1,7 +1,7 @@
 //! What a reference leads to, as it is printed.
 use crate::follow::Found;
 use crate::given::Given;
-use crate::pointer::{path_to, position};
+use crate::pointer::{path_to, position, unless_memory};
 use crate::world::{World, without_fragment};
 use percent_encoding::{DecodeError, percent_decode_str};
 use ref_draft::Draft;
@@ -19,11 +19,12 @@ pub fn push_found(
     out: &mut String,
     given: &Given,
     world: &World<'_>,
-    found: &Found<'_>,
+    found: Found<'_>,
 ) -> Result<(), Stop> {
-    push_value(alloc, out, found.value)?;
+    let (value, resolver, draft) = found.resolved.into_inner();
+    push_value(alloc, out, value)?;
     push_place(alloc, out, given, world, found.uri.as_str())?;
-    push_scope(out, found.draft, &found.resolver)?;
+    push_scope(out, draft, &resolver)?;
     Ok(())
 }
 
@@ -133,8 +134,11 @@ fn place_in(
     let Some(document) = document else {
         return Ok(None);
     };
-    match path_to(alloc, document.value(), pointer)? {
-        Some(path) => Ok(Some(position(alloc, document.text.as_str(), path.as_slice())?)),
-        None => Ok(None),
+    match path_to(alloc, document.value(), pointer) {
+        Ok(path) => Ok(Some(position(alloc, document.text.as_str(), path.as_slice())?)),
+        Err(error) => {
+            unless_memory(error)?;
+            Ok(None)
+        }
     }
 }

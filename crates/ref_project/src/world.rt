@@ -3,15 +3,13 @@ use crate::given::Given;
 use ref_draft::Draft;
 use ref_error::{Error, Retrieve, RetrieveError};
 use ref_findings::{Finding, Problem};
-use ref_index::Place;
-use ref_reading::{Stop, say};
+use ref_reading::Stop;
 use ref_uri::Uri;
 use referencing::meta::uris_for_draft;
 use referencing::{Registry, RegistryBuilder};
 use serde_json::{Map, Value};
 use std::alloc::{AllocError, Global};
 use std::collections::BTreeMap;
-use std::rc::Rc;
 
 /// An empty document in place of each that isn't there.
 #[derive(Drop)]
@@ -70,7 +68,7 @@ fn stopped(rt: &HostRuntime, error: &Error) -> Stop {
     if error.is_memory() {
         return Stop::Memory;
     }
-    say(rt, error);
+    let _ = eprintln!(rt; "patchsard: {error}");
     Stop::Reported
 }
 
@@ -143,13 +141,8 @@ fn with_copy<'d>(
     let Some(uri) = given.uri(number) else {
         return Ok(builder);
     };
-    match given.sound_value(number, faulty).clone() {
-        Ok(value) => builder.add(uri.as_str(), value),
-        Err(error) => {
-            drop(builder);
-            Err(error.into())
-        }
-    }
+    let value = given.sound_value(number, faulty).clone()?;
+    builder.add(uri.as_str(), value)
 }
 
 // No documents.
@@ -223,24 +216,7 @@ pub fn without_fragment(uri: &str) -> &str {
 
 impl<'d> World<'d> {
     /// The places of all documents.
-    pub fn places(&self, alloc: Global) -> Result<Vec<Place<'_>>, AllocError> {
+    pub fn places(&self, alloc: Global) -> Result<Vec<ref_index::Place<'_>>, AllocError> {
         self.registry.places(alloc).ok().ok_or(AllocError)
-    }
-
-    /// The URI that a text means against the base of a place, where it means one.
-    pub fn resolved(
-        &self,
-        alloc: Global,
-        place: &Place<'_>,
-        text: &str,
-    ) -> Result<Option<Rc<Uri>>, AllocError> {
-        match self.registry.resolve_uri(alloc, place.base.borrow(), text) {
-            Ok(uri) => Ok(Some(uri)),
-            Err(error) => {
-                let is_memory = error.is_memory();
-                drop(error);
-                if is_memory { Err(AllocError) } else { Ok(None) }
-            }
-        }
     }
 }

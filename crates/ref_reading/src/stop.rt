@@ -1,10 +1,9 @@
 //! Why the program stops.
-use crate::said::say;
 use std::alloc::AllocError;
 use std::io;
 
 /// Why the program stops before its end.
-#[derive(Drop)]
+#[derive(Debug, Drop)]
 pub enum Stop {
     /// Memory ran out.
     Memory,
@@ -21,11 +20,11 @@ impl Stop {
     pub fn report(&self, rt: &HostRuntime) -> u8 {
         match self {
             Stop::Memory => {
-                say(rt, "out of memory");
+                let _ = eprintln!(rt; "patchsard: out of memory");
                 2
             }
             Stop::Write => {
-                say(rt, "cannot write to standard output");
+                let _ = eprintln!(rt; "patchsard: cannot write to standard output");
                 2
             }
             Stop::Closed => 0,

@@ -45,23 +45,22 @@ fn answer_request(alloc: Global, request: Request<'_>) -> Result<Report, AllocEr
     requires { RequestHoldsNoFloat (request_view request) }
     ensures { IfOk result (λ r. IsRequestReport (request_view request.entry) (report_view r)) }
 {
-    let parent = match parent_of(alloc, request.meta) {
+    let Request {
+        documents,
+        base,
+        steps,
+        remote,
+        meta,
+        draft,
+        limit,
+        lint,
+    } = request;
+    let parent = match parent_of(alloc, meta) {
         Ok(parent) => parent,
         Err(error) => return fault_report(alloc, "meta", error),
     };
-    let (draft, limit, lint) = (request.draft, request.limit, request.lint);
-    match world_of(
-        alloc,
-        &parent,
-        request.documents,
-        request.remote,
-        draft,
-        limit,
-    ) {
-        Ok(registry) => {
-            let steps = request.steps.as_slice();
-            world_report(alloc, &registry, request.base, steps, draft, lint)
-        }
+    match world_of(alloc, &parent, documents, remote, draft, limit) {
+        Ok(registry) => world_report(alloc, &registry, base, steps.as_slice(), draft, lint),
         Err(error) => fault_report(alloc, "prepare", error),
     }
 }

@@ -23,7 +23,7 @@ ghost use Rattle.ref_resolver.specs.inner.Located.{IsLocated, IsLocatedAt, IsNam
 ghost use Rattle.ref_resolver.specs.Locations.{StandsAt, IsWhere, GivesWhere, EndsAt, anchor_spot, naming_uri, parts_along, with_parts, located, recursive_reference, location_view};
 ghost use Rattle.ref_resolver.specs.inner.Names.{is_name};
 ghost use Rattle.ref_resolver.specs.Resolving.{resolver_of, world_of, at_pointer};
-ghost use Rattle.ref_resolver.specs.inner.Walking.{passed_along, Steps};
+ghost use Rattle.ref_resolver.specs.inner.Walking.{along_of, passed_along, stepped_along};
 
 use crate::fragment::{identified_base, is_name, not_named, not_retrieved, outermost, under_uri};
 use crate::layers::Layers;
@@ -161,7 +161,10 @@ fn step_on<'v>(
     path: &mut Vec<JsonPointerSegment<'_>>,
     token: &str,
 ) -> Result<(), Error>
-    ensures gives { Steps walk.now along.old token.now along.new result }
+    ensures gives { Gives (λ _. (view along.new.value.now, along_of along.new))
+        (stepped_along walk.now.draft walk.now.pointer.now (along_of along.old)
+        (view along.old.value.now) token.now)
+        result }
     ensures path { (start : Data)
         → value_at start (map part_of path.old.items) ≡ Some (view along.old.value.now)
         → OnOk result (value_at start (map part_of path.new.items) ≡ Some (view along.new.value.now)) }

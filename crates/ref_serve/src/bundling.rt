@@ -69,16 +69,14 @@ fn refusal_object(alloc: Global, refusal: &Refusal<'_>) -> Result<Value, AllocEr
 }
 
 // The same of an error, which may be that memory ran out.
-fn bundle_error(alloc: Global, error: BundleError<'_>) -> Result<Value, AllocError>
-    ensures { (answer : Result WorldBundle BundleRefusal) → IsRefusalOf answer error.entry
+fn bundle_error(alloc: Global, error: &BundleError<'_>) -> Result<Value, AllocError>
+    ensures { (answer : Result WorldBundle BundleRefusal) → IsRefusalOf answer error.now
         → IfOk result (λ d. spec.bundled_result answer ≡ Err (view d)) }
 {
-    let object = match &error {
+    match error {
         BundleError::Refused(refusal) => refusal_object(alloc, refusal),
         BundleError::Memory(_) => Err(AllocError),
-    };
-    drop(error);
-    object
+    }
 }
 
 /// One document in place of those that it needs.
@@ -91,6 +89,6 @@ pub fn bundle_document(alloc: Global, state: &State, tree: &Value) -> Result<Val
     let document = number_in(alloc, value, "document")?;
     match bundle(alloc, open.registry(), document) {
         Ok(bundle) => Ok(object_of(alloc, "bundle", bundle.value)?),
-        Err(error) => Err(Stop::Because(bundle_error(alloc, error)?)),
+        Err(error) => Err(Stop::Because(bundle_error(alloc, &error)?)),
     }
 }

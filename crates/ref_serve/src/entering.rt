@@ -58,6 +58,6 @@ pub fn enter(alloc: Global, state: &State, tree: &Value) -> Result<Value, Stop<V
     let draft = draft_of(alloc, tree)?;
     match entered(alloc, &resolver, draft, schema) {
         Ok(resolver) => Ok(resolver_object(alloc, &resolver)?),
-        Err(error) => Err(fault_error(alloc, error)),
+        Err(error) => Err(fault_error(alloc, &error)),
     }
 }

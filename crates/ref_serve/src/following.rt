@@ -144,14 +144,12 @@ fn stepped<'s>(
 }
 
 // The error of a step.
-fn step_error(alloc: Global, number: usize, error: Error) -> Result<Value, AllocError>
-    ensures error { (fault : Fault) → SaysFault error fault → IfOk result (λ d. view d
+fn step_error(alloc: Global, number: usize, error: &Error) -> Result<Value, AllocError>
+    ensures error { (fault : Fault) → SaysFault error.now fault → IfOk result (λ d. view d
         ≡ object_of (spec.step_members number fault)) }
-    ensures memory { is_memory error ≡ true → IsErr result }
+    ensures memory { is_memory error.now ≡ true → IsErr result }
 {
-    let members = fault_members(alloc, &error);
-    drop(error);
-    let mut members = members?;
+    let mut members = fault_members(alloc, error)?;
     put_number(alloc, &mut members, "step", number)?;
     Ok(Value::Object(members))
 }
@@ -179,7 +177,7 @@ fn all_followed<'s>(
     for (number, step) in steps.iter().enumerate() {
         followed = match stepped(alloc, followed, step) {
             Ok(next) => next,
-            Err(error) => return Err(Stop::Because(step_error(alloc, number, error)?)),
+            Err(error) => return Err(Stop::Because(step_error(alloc, number, &error)?)),
         };
     }
     Ok(followed)

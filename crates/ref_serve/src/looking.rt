@@ -60,7 +60,7 @@ fn found_or_stop(
 {
     match found_object(alloc, asked, resolver, reference) {
         Ok(object) => Ok(object),
-        Err(error) => Err(fault_error(alloc, error)),
+        Err(error) => Err(fault_error(alloc, &error)),
     }
 }
 

@@ -174,7 +174,7 @@ fn open_of(
     } = wanted;
     match registry_from(alloc, above, documents, draft, limit, remote) {
         Ok(registry) => Ok(Open::new(registry, numbers)),
-        Err(error) => Err(fault_error(alloc, error)),
+        Err(error) => Err(fault_error(alloc, &error)),
     }
 }
 
@@ -184,7 +184,7 @@ fn open_meta_schemas(alloc: Global, documents: Vec<Document>) -> Result<Open, St
 {
     match registry_from_meta_schemas(alloc, documents) {
         Ok(registry) => Ok(Open::new(registry, Vec::new(alloc))),
-        Err(error) => Err(in_field(alloc, fault_error(alloc, error), "parent")),
+        Err(error) => Err(in_field(alloc, fault_error(alloc, &error), "parent")),
     }
 }
 

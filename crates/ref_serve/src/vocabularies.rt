@@ -37,10 +37,7 @@ fn has(alloc: Global, set: &VocabularySet, uri: &str) -> bool
 {
     match Vocabulary::from_text(alloc, uri) {
         Ok(vocabulary) => set.contains(&vocabulary),
-        Err(error) => {
-            drop(error);
-            false
-        }
+        Err(_) => false,
     }
 }
 

@@ -6,7 +6,7 @@
 //! for memory, with that request refused. Where the call wants memory, it is made again, and after it other calls on
 //! the same values.
 //!
-//! A line `CALL TEXT SIZE TIMES`, two words and two numbers as `parse names 100 1`, is a workload, whose answer is how much the calls answered
+//! A line `CALL TEXT SIZE TIMES`, as `parse names 100 1`, is a workload, whose answer is how much the calls answered
 //! together; `nothing` as the call measures the workload itself. It prints the same on every run;
 //! `docs/MEASUREMENTS.md` says how it is run under `valgrind
 //! --tool=callgrind`, and what it showed.
@@ -20,19 +20,17 @@ mod refused;
 mod workloads;
 
 use crate::refused::{Stop, Trial};
-use crate::workloads::line_of;
 use std::alloc::Global;
 use std::process::ExitCode;
 
-/// What is printed of a line.
+/// What is printed of a line, which begins with a word.
 fn told(alloc: Global, line: &str) -> Result<Trial, Stop> {
     let (line, _) = line.split_once('\t').unwrap_or((line, ""));
-    match line_of(line) {
-        Some(workload) => workloads::row(alloc, line, workload),
-        None => {
-            let (group, call) = line.split_once(' ').unwrap_or((line, ""));
-            refused::row(alloc, group, call)
-        }
+    let (word, call) = line.split_once(' ').unwrap_or((line, ""));
+    if refused::is_group(word) {
+        refused::row(alloc, word, call)
+    } else {
+        workloads::row(alloc, line)
     }
 }
 
@@ -49,7 +47,7 @@ fn main(rt: HostRuntime) -> ExitCode {
             return ExitCode::from(Stop::After.status());
         }
         if trial.is_refused {
-            return ExitCode::from(Stop::Refused.status());
+            return ExitCode::from(trial.status());
         }
     }
     ExitCode::from(0)

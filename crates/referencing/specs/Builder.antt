@@ -45,7 +45,14 @@ new_builder retriever parents pending =
 
 -- the builder with this draft set, all else as it was
 abbrev pub setting_draft : {R : Type 0} → Draft → Builder R → Builder R
-setting_draft draft b = record b { draft = Some draft }
+setting_draft draft b =
+    record {
+      retriever = b.retriever;
+      limit = b.limit;
+      draft = Some draft;
+      parents = b.parents;
+      pending = b.pending;
+    }
 
 -- with this retriever
 abbrev pub retrieving_from : {R S : Type 0} → S → Builder R → Builder S
@@ -60,15 +67,36 @@ retrieving_from retriever b =
 
 -- with this limit
 abbrev pub limited_to : {R : Type 0} → ℕ → Builder R → Builder R
-limited_to limit b = record b { limit = limit }
+limited_to limit b =
+    record {
+      retriever = b.retriever;
+      limit = limit;
+      draft = b.draft;
+      parents = b.parents;
+      pending = b.pending;
+    }
 
 -- above these layers
 abbrev pub standing_above : {R : Type 0} → World → Builder R → Builder R
-standing_above parents b = record b { parents = parents }
+standing_above parents b =
+    record {
+      retriever = b.retriever;
+      limit = b.limit;
+      draft = b.draft;
+      parents = parents;
+      pending = b.pending;
+    }
 
 -- with these pending documents
 abbrev pub holding_pending : {R : Type 0} → List Pending → Builder R → Builder R
-holding_pending pending b = record b { pending = pending }
+holding_pending pending b =
+    record {
+      retriever = b.retriever;
+      limit = b.limit;
+      draft = b.draft;
+      parents = b.parents;
+      pending = pending;
+    }
 
 -- what is added: a text, a tree, and perhaps a draft
 abbrev pub addition : List ℕ → Data → Option Draft → Addition

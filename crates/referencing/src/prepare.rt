@@ -97,16 +97,24 @@ impl<'a, R: Retrieve + Drop> RegistryBuilder<'a, R> {
             (given_of (R.may_answer (builder_of self.entry).retriever)
             (R.may_refuse (builder_of self.entry).retriever) (builder_of self.entry))) }
     {
-        let draft = self.draft.unwrap_or(Draft::Draft202012);
-        let documents = documents(self.alloc, draft, self.pending)?;
-        let index = prepare(
-            self.alloc,
-            &self.retriever,
-            self.limit,
+        let RegistryBuilder {
+            alloc,
+            parents,
+            pending,
             draft,
-            self.parents.as_slice(),
+            limit,
+            retriever,
+        } = self;
+        let draft = draft.unwrap_or(Draft::Draft202012);
+        let documents = documents(alloc, draft, pending)?;
+        let index = prepare(
+            alloc,
+            &retriever,
+            limit,
+            draft,
+            parents.as_slice(),
             documents,
         )?;
-        Ok(Registry::from_index(self.alloc, index, self.parents)?)
+        Ok(Registry::from_index(alloc, index, parents)?)
     }
 }

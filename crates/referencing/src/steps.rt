@@ -96,13 +96,12 @@ fn stepped<'r>(
 }
 
 impl<'a> Registry<'a> {
-    /// A resolver at a base URI, with an empty dynamic scope. The URI need not mean a place, which is looked for once. Takes
-    /// memory for a handle.
+    /// A resolver at a base URI, with an empty dynamic scope. The URI need not mean a place. Takes memory for a handle.
     pub fn resolver<'r>(&'r self, alloc: Global, base: Uri) -> Result<Resolver<'r>, AllocError>
         ensures resolver { IfOk result (λ r. resolver_of r ≡ record { base = base; scope = [] }) }
         ensures world { IfOk result (λ r. world_of r ≡ self.now) }
     {
-        Ok(Resolver::new(alloc, self.layers(), base)?.with_place())
+        Resolver::new(alloc, self.layers(), base)
     }
 
     /// A resolver at a base URI with a dynamic scope, inner to outer, such as [`Resolver::into_parts`] gives. No URI
@@ -126,7 +125,7 @@ impl<'a> Registry<'a> {
             (lookup self.now (record { base = base; scope = [] }) reference.now) result }
         ensures world { IfOk result (λ found. world_found found ≡ self.now) }
     {
-        Resolver::new(alloc, self.layers(), base)?.lookup(alloc, reference)
+        self.resolver(alloc, base)?.lookup(alloc, reference)
     }
 }
 
@@ -151,7 +150,7 @@ pub fn follow<'r, 'a>(
     ensures reached { IfErr result
         (λ e. ReachesStep registry.now base (map step_of steps.now) e.step) }
 {
-    let resolver = match Resolver::new(alloc, registry.layers(), base) {
+    let resolver = match registry.resolver(alloc, base) {
         Ok(resolver) => resolver,
         Err(error) => return Err(FollowError {
             step: 0,

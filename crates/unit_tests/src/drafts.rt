@@ -4,7 +4,6 @@ use crate::asserts::{assert_shown, same};
 use crate::lists::hash_of;
 use crate::row::{DRAFTS, Row};
 use ref_draft::{Draft, ResourceRef};
-use serde_json::Value;
 use std::alloc::AllocError;
 use std::process::Abort;
 
@@ -108,9 +107,13 @@ pub fn detected(rt: &impl Abort, row: &Row<'_>) {
         };
         row.same(rt, draft.detect(value), wanted);
     }
-    if let Some(uri) = value.get("$schema").and_then(Value::as_str) {
+    if let Some(uri) = row.under("$schema") {
         row.same(rt, Draft::from_schema_uri(uri), row.draft(1));
     }
+}
+
+pub fn keywords(rt: &impl Abort, row: &Row<'_>) {
+    row.same(rt, row.draft(0).id_keyword(), row.text(1));
 }
 
 pub fn identifiers(rt: &impl Abort, row: &Row<'_>) {

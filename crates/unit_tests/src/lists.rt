@@ -1,9 +1,10 @@
 //! The shared list.
+ghost use Rattle.std.specs.Prelude.{◌≡◌, [], ◌∷◌, IfOk, IsTrue};
+
 use crate::asserts::{assert_shown, same, shown};
 use crate::row::Row;
 use ref_parts::List;
 use std::alloc::{AllocError, Global};
-use std::fmt;
 use std::hash::{DefaultHasher, Hash, Hasher};
 use std::process::Abort;
 use std::rc::Rc;
@@ -25,6 +26,14 @@ pub const ROWS: &str = r##"
 
 // ---- each call through the bounds of a generic caller
 
+fn pair_of<T: Drop>(alloc: Global, first: Rc<T>, second: Rc<T>) -> Result<List<T>, AllocError>
+    ensures { IfOk result (λ list. list ≡ first.value ∷ second.value ∷ []) }
+{
+    List::new()
+        .push_front(alloc, second)?
+        .push_front(alloc, first)
+}
+
 fn front_of<T: Drop>(list: &List<T>) -> Option<&T> {
     if list.is_empty() {
         return None;
@@ -40,29 +49,34 @@ fn count_of<T: Drop>(list: &List<T>) -> usize {
     count
 }
 
-// A copy of a list, which is equal to it and is shown so once the list is gone.
-fn copy_of<T: Eq + Hash + fmt::Debug + Drop>(
-    rt: &impl Abort,
-    alloc: Global,
-    list: List<T>,
-    text: &str,
-) -> Result<List<T>, AllocError> {
-    let copy = list.clone()?;
-    same(rt, copy == list, true);
-    same(
-        rt,
-        (count_of(&copy), hash_of(&copy)),
-        (count_of(&list), hash_of(&list)),
-    );
-    drop(list);
-    assert_shown(rt, alloc, &copy, text)?;
-    Ok(copy)
+fn copy_of<T: Clone>(value: &T) -> Result<T, AllocError>
+    ensures { IfOk result (T.is_clone value.now) }
+{
+    value.clone()
+}
+
+fn iter_of<I: IntoIterator>(items: I) -> I::IntoIter {
+    items.into_iter()
+}
+
+fn are_alike<T: PartialEq>(a: &T, b: &T) -> bool {
+    a == b
+}
+
+fn are_equal<T: Eq>(a: &T, b: &T) -> bool
+    ensures { result ≡ T.eq a.now b.now }
+{
+    a == b
 }
 
 pub fn hash_of<T: Hash>(value: &T) -> u64 {
     let mut hasher = DefaultHasher::new();
     value.hash(&mut hasher);
     hasher.finish()
+}
+
+fn let_go<T: Drop>(value: T) {
+    drop(value)
 }
 
 // ---- lists of numbers
@@ -81,34 +95,62 @@ fn list_of(alloc: Global, items: &Row<'_>) -> Result<List<usize>, AllocError> {
     Ok(list)
 }
 
-pub fn lists(rt: &impl Abort, alloc: Global, row: &Row<'_>) -> Result<(), AllocError> {
+// Ends the test where a list tells something else.
+fn assert_items(rt: &impl Abort, list: &List<usize>, row: &Row<'_>) {
     let items = row.row(0);
-    let list = list_of(alloc, &items)?;
     let mut given = list.iter();
     for place in 0..4usize {
         row.same(rt, given.next().copied(), items.number(place));
     }
     row.same(rt, list.is_empty(), items.len() == 0);
-    row.same(rt, front_of(&list).copied(), row.number(1));
+    row.same(rt, front_of(list).copied(), row.number(1));
+    row.same(rt, iter_of(list).next().copied(), row.number(1));
     let mut sum = 0usize;
-    for item in &list {
+    for item in list {
         sum = sum.saturating_add(*item);
     }
     row.same(rt, Some(sum), row.number(2));
-    let rest = shown(alloc, &list.iter())?;
-    row.same(rt, rest.as_str().starts_with("Iter { rest: "), true);
+}
+
+pub fn lists(rt: &impl Abort, alloc: Global, row: &Row<'_>) -> Result<(), AllocError> {
+    let list = list_of(alloc, &row.row(0))?;
+    assert_items(rt, &list, row);
+    let_go(shown(alloc, &list.iter())?);
     assert_shown(rt, alloc, &list, row.text(3))
 }
 
-// A list of a text and `b`.
-fn list_of_two(alloc: Global, first: Rc<String>) -> Result<List<String>, AllocError> {
-    let second = Rc::new(alloc, String::from_str(alloc, "b")?)?;
-    List::new()
-        .push_front(alloc, second)?
-        .push_front(alloc, first)
+// Ends the test where these aren't two equal lists of two texts, of which the first is a.
+fn assert_two_texts(
+    rt: &impl Abort,
+    alloc: Global,
+    list: &List<String>,
+    copy: &List<String>,
+) -> Result<(), AllocError> {
+    same(rt, count_of(copy), 2);
+    same(rt, are_equal(list, copy), true);
+    same(rt, hash_of(list), hash_of(copy));
+    assert_shown(rt, alloc, &front_of(list), "Some(\"a\")")
 }
 
-// Ends the test where a copy is shown otherwise, or with a text in front, once the copy is gone.
+// A list of `a` and `b`.
+fn list_of_two(alloc: Global, first: Rc<String>) -> Result<List<String>, AllocError> {
+    let second = Rc::new(alloc, String::from_str(alloc, "b")?)?;
+    pair_of(alloc, first, second)
+}
+
+// A copy of a list of two texts, which is asked and let go.
+fn copy_of_two(
+    rt: &impl Abort,
+    alloc: Global,
+    list: List<String>,
+) -> Result<List<String>, AllocError> {
+    let copy = copy_of(&list)?;
+    assert_two_texts(rt, alloc, &list, &copy)?;
+    let_go(list);
+    Ok(copy)
+}
+
+// Ends the test where a copy is shown otherwise, or a longer list once the copy is gone.
 fn assert_longer(
     rt: &impl Abort,
     alloc: Global,
@@ -117,7 +159,7 @@ fn assert_longer(
 ) -> Result<(), AllocError> {
     let longer = copy.push_front(alloc, first)?;
     assert_shown(rt, alloc, &copy, "[\"a\", \"b\"]")?;
-    drop(copy);
+    let_go(copy);
     assert_shown(rt, alloc, &longer, "[\"a\", \"a\", \"b\"]")
 }
 
@@ -126,8 +168,7 @@ fn assert_longer(
 fn a_list_of_texts_serves_generic_callers(rt: HostRuntime) -> Result<(), AllocError> {
     let first = Rc::new(rt.alloc(), String::from_str(rt.alloc(), "a")?)?;
     let list = list_of_two(rt.alloc(), first.clone()?)?;
-    same(&rt, count_of(&list), 2);
-    let copy = copy_of(&rt, rt.alloc(), list, "[\"a\", \"b\"]")?;
+    let copy = copy_of_two(&rt, rt.alloc(), list)?;
     assert_longer(&rt, rt.alloc(), copy, first)
 }
 
@@ -140,15 +181,26 @@ fn lengthened(list: List<usize>, alloc: Global, count: usize) -> Result<List<usi
     Ok(longer)
 }
 
-// Equal lists hash alike. A list is equal to its copy, and not to another with 7 in front.
+// Ends the test where a list isn't equal to its copy, or is equal to another with 7 in front.
+fn assert_copied(
+    rt: &impl Abort,
+    alloc: Global,
+    list: &List<usize>,
+    other: &List<usize>,
+) -> Result<(), AllocError> {
+    same(rt, list.clone()? == *list, true);
+    same(rt, *list == with_front(other, alloc, 7)?, false);
+    Ok(())
+}
+
+// Equal lists are so also by a call that only knows that they can be, and hash alike.
 pub fn equal_lists(rt: &impl Abort, alloc: Global, row: &Row<'_>) -> Result<(), AllocError> {
     let one = lengthened(List::new(), alloc, row.count(0))?;
     let two = lengthened(List::new(), alloc, row.count(1))?;
     row.same(rt, one == two, row.is_true(2));
+    row.same(rt, are_alike(&one, &two), row.is_true(2));
     row.same(rt, one != two || hash_of(&one) == hash_of(&two), true);
-    row.same(rt, one.clone()? == one, true);
-    row.same(rt, one == with_front(&two, alloc, 7)?, false);
-    Ok(())
+    assert_copied(rt, alloc, &one, &two)
 }
 
 // Ends the test where a list has another front, or another count of items.
@@ -165,7 +217,7 @@ fn a_list_of_a_million_items_is_dropped(rt: HostRuntime) -> Result<(), AllocErro
     let tail = lengthened(List::new(), rt.alloc(), 1_000_000)?;
     let longer = lengthened(tail.clone()?, rt.alloc(), 1_000)?;
     assert_front_and_count(&rt, &longer, 999, 1_001_000);
-    drop(longer);
+    let_go(longer);
     assert_front_and_count(&rt, &tail, 999_999, 1_000_000);
     Ok(())
 }

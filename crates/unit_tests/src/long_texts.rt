@@ -1,4 +1,6 @@
 //! Texts that are compared with the grammar, or that are long.
+ghost use Rattle.std.specs.Prelude.{◌<◌, length};
+
 use crate::asserts::same_at;
 use crate::grammar::accepts;
 use crate::row::Row;
@@ -87,45 +89,67 @@ pub fn places(rt: &impl Abort, alloc: Global, row: &Row<'_>) -> Result<(), Alloc
 /// The text of this number after a front: its digits are the characters, the lowest first.
 fn write_number(
     text: &mut String,
-    row: &Row<'_>,
+    front: &str,
+    alphabet: &[u8],
     len: usize,
     number: usize,
-) -> Result<(), AllocError> {
-    let alphabet = row.text(1).as_bytes();
+) -> Result<(), AllocError>
+    requires { 0 < length alphabet.now }
+{
     text.clear();
-    text.push_str(row.text(0))?;
+    text.push_str(front)?;
     let mut rest = number;
     for _ in 0..len {
-        let digit = rest.checked_rem(alphabet.len()).unwrap_or(0);
-        text.push(alphabet.get(digit).copied().unwrap_or(b' ') as char)?;
-        rest = rest.checked_div(alphabet.len()).unwrap_or(0);
+        text.push(alphabet[rest % alphabet.len()] as char)?;
+        rest /= alphabet.len();
     }
     Ok(())
 }
 
-/// Every short text of an alphabet: how many there are, and how many are references. Each is compared with the grammar.
-pub fn short_texts(rt: &impl Abort, alloc: Global, row: &Row<'_>) -> Result<(), AllocError> {
+/// Of the texts that begin so, up to `longest` characters of the alphabet after it: how many there are, and how many are
+/// references. Each is compared with the grammar.
+fn compare_with_the_grammar(
+    rt: &impl Abort,
+    alloc: Global,
+    front: &str,
+    alphabet: &[u8],
+    longest: usize,
+) -> Result<(usize, usize), AllocError>
+    requires { 0 < length alphabet.now }
+{
     let mut texts = 0usize;
     let mut references = 0usize;
     let mut text = String::new(alloc);
     let mut count = 1usize;
-    for len in 0..=row.count(2) {
+    for len in 0..=longest {
         for number in 0..count {
-            write_number(&mut text, row, len, number)?;
+            write_number(&mut text, front, alphabet, len, number)?;
             texts = texts.wrapping_add(1);
             if agrees(rt, text.as_str()) {
                 references = references.wrapping_add(1);
             }
         }
-        count = count.saturating_mul(row.text(1).len());
+        count = count.saturating_mul(alphabet.len());
     }
-    row.same(rt, (texts, references), (row.count(3), row.count(4)));
+    Ok((texts, references))
+}
+
+/// Every short text of an alphabet.
+pub fn short_texts(rt: &impl Abort, alloc: Global, row: &Row<'_>) -> Result<(), AllocError> {
+    let alphabet = row.text(1).as_bytes();
+    if alphabet.is_empty() {
+        row.same(rt, "no alphabet", row.text(1));
+        return Ok(());
+    }
+    let front = row.text(0);
+    let counts = compare_with_the_grammar(rt, alloc, front, alphabet, row.count(2))?;
+    row.same(rt, counts, (row.count(3), row.count(4)));
     Ok(())
 }
 
 /// Where a path leads from `http://h/b`, as a reference or as a text.
 fn led(alloc: Global, path: &str, row: &Row<'_>) -> Result<Uri, Fail> {
-    if row.table == "repeated references" {
+    if row.table() == "repeated references" {
         target(alloc, "http://h/b", path)
     } else {
         meaning(alloc, "http://h/b", path)

@@ -1,4 +1,7 @@
 //! Defaults in small maps, maps of maps, and growth that is refused.
+ghost use Rattle.std.specs.Prelude.{◌≡◌, ℕ, false, Some, OnOk, OnErr, nat_eq};
+ghost use Rattle.std.specs.Map.{lookup};
+
 use crate::asserts::same;
 use crate::maps::{map_of, told, value_at};
 use crate::row::Row;
@@ -14,6 +17,23 @@ fn add_default<K: Eq + Hash + Drop, V: Default + Drop>(
     key: K,
 ) -> bool {
     map.get_or_insert_default(alloc, key).is_ok()
+}
+
+// Writes at a key through what `get_or_insert_default` lends.
+fn write_at(
+    map: &mut SmallMap<usize, usize, 2>,
+    alloc: Global,
+    key: usize,
+    value: usize,
+) -> Result<(), AllocError>
+    ensures written { OnOk result (lookup (nat_eq key) map.new ≡ Some value) }
+    ensures kept { OnOk result
+        ((other : ℕ) → nat_eq key other ≡ false
+        → lookup (nat_eq other) map.new ≡ lookup (nat_eq other) map.old) }
+    ensures err { OnErr result (map.new ≡ map.old) }
+{
+    *map.get_or_insert_default(alloc, key)? = value;
+    Ok(())
 }
 
 // Writes at a key, and returns what was found there.
@@ -49,7 +69,7 @@ fn a_default_keeps_what_is_there(rt: HostRuntime) -> Result<(), AllocError> {
     let wanted = (false, [None, Some(10), Some(20), Some(30), None]);
     same(&rt, told(&map), wanted);
     same(&rt, add_default(&mut map, rt.alloc(), 4), true);
-    same(&rt, replace(&mut map, rt.alloc(), 2, 21)?, 20);
+    write_at(&mut map, rt.alloc(), 2, 21)?;
     same(&rt, add_default(&mut map, rt.alloc(), 2), true);
     let wanted = (false, [None, Some(10), Some(21), Some(30), Some(0)]);
     same(&rt, told(&map), wanted);

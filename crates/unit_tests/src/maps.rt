@@ -1,10 +1,14 @@
 //! The small map.
-use crate::asserts::assert_shown;
+ghost use Rattle.std.specs.Prelude.{◌≡◌, [], IfOk, IsTrue};
+ghost use Rattle.ref_parts.specs.FiniteMap.{IsClone, Puts};
+
+use crate::asserts::{assert_shown, same};
 use crate::row::Row;
 use ref_parts::{BorrowedKey, SmallMap};
 use std::alloc::{AllocError, Global};
 use std::hash::Hash;
 use std::process::Abort;
+use std::test::Fail;
 
 pub const ROWS: &str = r##"
 # maps of texts: 11
@@ -55,18 +59,37 @@ pub const ROWS: &str = r##"
 
 // ---- each call through the bounds of a generic caller
 
+fn made<T: Default>() -> T
+    ensures { T.is_default result }
+{
+    T::default()
+}
+
 pub fn map_of<K: Eq + Hash + Drop, V: Drop>(
     alloc: Global,
     key: K,
     value: V,
-) -> Result<SmallMap<K, V, 2>, AllocError> {
+) -> Result<SmallMap<K, V, 2>, AllocError>
+    ensures { IfOk result (λ map. Puts K.eq [] map key value) }
+{
     let mut map = SmallMap::new();
     map.insert(alloc, key, value)?;
     Ok(map)
 }
 
+fn copy_of<K: Eq + Hash + Clone + Drop, V: Clone + Drop, const N: usize>(
+    map: &SmallMap<K, V, N>,
+) -> Result<SmallMap<K, V, N>, AllocError>
+    requires { (x y : K) → K.is_clone x y → IsTrue (K.eq x y) }
+    ensures { IfOk result (IsClone K.is_clone V.is_clone map.now) }
+{
+    map.clone()
+}
+
 /// Whether a borrowed key stands for a key.
-fn stands_for<K: Eq + Hash, Q: BorrowedKey<K>>(borrowed: Q, key: &K) -> bool {
+fn stands_for<K: Eq + Hash, Q: BorrowedKey<K>>(borrowed: Q, key: &K) -> bool
+    ensures { result ≡ Q.is_for borrowed key.now }
+{
     borrowed.is_for(key)
 }
 
@@ -78,25 +101,44 @@ pub fn value_at<K: Eq + Hash, V: Copy, Q: BorrowedKey<K>, const N: usize>(
     map.get(key).copied()
 }
 
+pub fn is_inline<K: Eq + Hash, V, const N: usize>(map: &SmallMap<K, V, N>) -> bool {
+    map.is_small()
+}
+
+#[test]
+fn text_and_keys_stand_for_equal_keys(rt: HostRuntime) -> Result<(), Fail> {
+    let key = String::from_str(rt.alloc(), "key")?;
+    let missing = String::from_str(rt.alloc(), "missing")?;
+    same(&rt, stands_for("key", &key), true);
+    same(&rt, stands_for("kez", &key), false);
+    same(&rt, stands_for(&key, &key), true);
+    same(&rt, stands_for(&missing, &key), false);
+    Ok(())
+}
+
 // ---- maps from texts to numbers
 
-/// Ends the test where a map answers otherwise than its row, by text or by key, or a text stands for another key.
+/// Ends the test where a map answers otherwise than its row, by text or by key.
+fn assert_counts(
+    rt: &impl Abort,
+    alloc: Global,
+    map: &SmallMap<String, usize, 2>,
+    row: &Row<'_>,
+) -> Result<(), AllocError> {
+    let wanted = (row.row(0).len() < 3, row.number(2));
+    row.same(rt, (is_inline(map), value_at(map, row.text(1))), wanted);
+    let key = String::from_str(alloc, row.text(1))?;
+    row.same(rt, value_at(map, &key), row.number(2));
+    assert_shown(rt, alloc, map, row.text(3))
+}
+
 pub fn maps_of_texts(rt: &impl Abort, alloc: Global, row: &Row<'_>) -> Result<(), AllocError> {
-    let mut map: SmallMap<String, usize, 2> = SmallMap::default();
+    let mut map: SmallMap<String, usize, 2> = made();
     for place in 0..row.row(0).len() {
         let pair = row.row(0).row(place);
         map.insert(alloc, String::from_str(alloc, pair.text(0))?, pair.count(1))?;
     }
-    let wanted = (row.row(0).len() < 3, row.number(2));
-    row.same(rt, (map.is_small(), value_at(&map, row.text(1))), wanted);
-    let key = String::from_str(alloc, row.text(1))?;
-    row.same(rt, value_at(&map, &key), row.number(2));
-    let other = String::new(alloc);
-    row.same(rt, stands_for(row.text(1), &key), true);
-    row.same(rt, stands_for("kez", &key), false);
-    row.same(rt, stands_for(&key, &key), true);
-    row.same(rt, stands_for(&other, &key), false);
-    assert_shown(rt, alloc, &map, row.text(3))
+    assert_counts(rt, alloc, &map, row)
 }
 
 // ---- maps from numbers to numbers
@@ -119,7 +161,7 @@ pub type Told = (bool, [Option<usize>; 5]);
 
 pub fn told<const N: usize>(map: &SmallMap<usize, usize, N>) -> Told {
     (
-        map.is_small(),
+        is_inline(map),
         [
             value_at(map, &0),
             value_at(map, &1),
@@ -161,18 +203,27 @@ pub fn with_slots<const N: usize>(
     Ok(())
 }
 
-/// A map and its copy, before and after both are changed.
+/// Ends the test where a map and its copy tell something else, before or after both are changed.
+fn assert_copied(
+    rt: &impl Abort,
+    alloc: Global,
+    map: &mut SmallMap<usize, usize, 4>,
+    row: &Row<'_>,
+) -> Result<(), AllocError> {
+    let mut copy = copy_of(map)?;
+    assert_tells(rt, &copy, row, 1);
+    map.insert(alloc, 0, 7)?;
+    copy.insert(alloc, 4, 40)?;
+    assert_tells(rt, map, row, 2);
+    assert_tells(rt, &copy, row, 3);
+    Ok(())
+}
+
 pub fn copies(rt: &impl Abort, alloc: Global, row: &Row<'_>) -> Result<(), AllocError> {
     let mut map: SmallMap<usize, usize, 4> = SmallMap::new();
     put_numbers(&mut map, alloc, &row.row(0))?;
     assert_tells(rt, &map, row, 1);
-    let mut copy = map.clone()?;
-    assert_tells(rt, &copy, row, 1);
-    map.insert(alloc, 0, 7)?;
-    copy.insert(alloc, 4, 40)?;
-    assert_tells(rt, &map, row, 2);
-    assert_tells(rt, &copy, row, 3);
-    Ok(())
+    assert_copied(rt, alloc, &mut map, row)
 }
 
 // ---- maps from texts to texts
@@ -190,7 +241,7 @@ fn put_text(
 
 /// Ends the test where a map tells something else.
 fn assert_texts(rt: &impl Abort, map: &SmallMap<String, String, 2>, told: &Row<'_>) {
-    told.same(rt, map.is_small(), told.is_true(0));
+    told.same(rt, is_inline(map), told.is_true(0));
     for (key, column) in [("a", 1usize), ("b", 2), ("c", 3)] {
         let text = match map.get(key) {
             Some(text) => Some(text.as_str()),
@@ -200,16 +251,26 @@ fn assert_texts(rt: &impl Abort, map: &SmallMap<String, String, 2>, told: &Row<'
     }
 }
 
-/// A copy keeps its texts when its map is changed.
+/// Ends the test where a copy does not keep its texts when its map is changed.
+fn assert_kept(
+    rt: &impl Abort,
+    alloc: Global,
+    map: &mut SmallMap<String, String, 2>,
+    row: &Row<'_>,
+) -> Result<(), AllocError> {
+    let copy = copy_of(map)?;
+    put_text(map, alloc, row.text(1), "other")?;
+    assert_texts(rt, &copy, &row.row(2));
+    Ok(())
+}
+
 pub fn copies_of_texts(rt: &impl Abort, alloc: Global, row: &Row<'_>) -> Result<(), AllocError> {
     let mut map = SmallMap::new();
     for place in 0..row.row(0).len() {
         let pair = row.row(0).row(place);
         put_text(&mut map, alloc, pair.text(0), pair.text(1))?;
     }
-    let copy = map.clone()?;
-    put_text(&mut map, alloc, row.text(1), "other")?;
-    assert_texts(rt, &copy, &row.row(2));
+    assert_kept(rt, alloc, &mut map, row)?;
     assert_texts(rt, &map, &row.row(3));
     Ok(())
 }

@@ -1,33 +1,20 @@
 //! Segments and nodes.
 
-use crate::asserts::{assert_shown, same};
+use crate::asserts::same;
 use ref_parts::{JsonPointerNode, JsonPointerSegment};
 use std::alloc::{AllocError, Global};
 use std::borrow::CowStr;
-use std::process::Abort;
 
-// Whether what stands for a segment is pushed onto the root as the text of a key is, with that key as the segment, which is equal to
-// its copy.
-fn is_pushed<'a, S: Into<JsonPointerSegment<'a>>>(
-    alloc: Global,
-    part: S,
-    key: &'a str,
-) -> Result<bool, AllocError> {
-    let root = JsonPointerNode::new();
-    let node = root.push(alloc, part)?;
-    let copy = node.segment().clone()?;
-    let is_key = copy == JsonPointerSegment::from(key) && copy == *node.segment();
-    Ok(is_key && is_alike(root.push(alloc, key), &node)?)
+// Whether what stands for a segment is made that of a key.
+fn is_made<'a, S: Into<JsonPointerSegment<'a>>>(part: S, key: &'a str) -> bool {
+    part.into() == JsonPointerSegment::from(key)
 }
 
 #[test]
 fn segments_come_from_keys_and_indexes(rt: HostRuntime) -> Result<(), AllocError> {
     let name = String::from_str(rt.alloc(), "a")?;
-    same(&rt, is_pushed(rt.alloc(), &name, "a")?, true);
-    let lent = CowStr::Borrowed("a");
-    same(&rt, is_pushed(rt.alloc(), lent, "a")?, true);
-    let owned = CowStr::Owned(name);
-    same(&rt, is_pushed(rt.alloc(), owned, "a")?, true);
+    same(&rt, is_made(&name, "a"), true);
+    same(&rt, is_made(CowStr::Owned(name.clone()?), "a"), true);
     let index = JsonPointerSegment::from(3usize);
     same(&rt, index == JsonPointerSegment::Index(3), true);
     Ok(())
@@ -45,6 +32,14 @@ fn segments_are_copied_and_compared(rt: HostRuntime) -> Result<(), AllocError> {
     Ok(())
 }
 
+#[test]
+fn an_owned_key_is_copied(rt: HostRuntime) -> Result<(), AllocError> {
+    let name = String::from_str(rt.alloc(), "a")?;
+    let owned = JsonPointerSegment::from(CowStr::Owned(name));
+    same(&rt, owned.clone()? == JsonPointerSegment::from("a"), true);
+    Ok(())
+}
+
 // The path of a key and then the index 3.
 fn item<'a>(alloc: Global, key: &'a str) -> Result<JsonPointerNode<'a>, AllocError> {
     JsonPointerNode::new().push(alloc, key)?.push(alloc, 3usize)
@@ -58,43 +53,60 @@ fn is_alike<'a>(
     Ok(made? == *node)
 }
 
-// Ends the test where a node and those above it, up to the root, aren't shown as these texts in turn.
-fn assert_above(
-    rt: &impl Abort,
+// Whether a key is pushed onto the root as it is as text.
+fn is_pushed<'a, S: Into<JsonPointerSegment<'a>>>(
     alloc: Global,
-    node: &JsonPointerNode<'_>,
-    texts: [&str; 3],
-) -> Result<(), AllocError> {
-    let mut rest = Some(node);
-    for text in texts {
-        assert_shown(rt, alloc, &rest, text)?;
-        rest = match rest {
-            Some(node) => node.parent(),
-            None => None,
-        };
-    }
-    same(rt, rest.is_none(), true);
+    part: S,
+    key: &'a str,
+) -> Result<bool, AllocError> {
+    let root = JsonPointerNode::new();
+    is_alike(root.push(alloc, part), &root.push(alloc, key)?)
+}
+
+#[test]
+fn keys_are_pushed_alike(rt: HostRuntime) -> Result<(), AllocError> {
+    let key = String::from_str(rt.alloc(), "a")?;
+    same(&rt, is_pushed(rt.alloc(), &key, "a")?, true);
+    same(
+        &rt,
+        is_pushed(rt.alloc(), CowStr::Borrowed("a"), "a")?,
+        true,
+    );
     Ok(())
 }
 
-// A node has its parts and its parents, and is equal to its copy and to one that was made as it was, and to none of another key. The
-// root is at the index 0, and is the default.
+// Whether a node is the root: without a node above it, at the index 0, and equal to the default.
+fn is_root(node: &JsonPointerNode<'_>) -> bool {
+    node.parent().is_none()
+        && *node.segment() == JsonPointerSegment::Index(0)
+        && *node == JsonPointerNode::default()
+}
+
+// Whether the node above one is the path of a key after a root, with that key as its segment.
+fn stands_below<'a>(
+    alloc: Global,
+    node: &JsonPointerNode<'a>,
+    key: &'a str,
+) -> Result<bool, AllocError> {
+    let Some(parent) = node.parent() else {
+        return Ok(false);
+    };
+    let Some(root) = parent.parent() else {
+        return Ok(false);
+    };
+    let is_key = *parent.segment() == JsonPointerSegment::from(key);
+    Ok(is_key && is_root(root) && is_alike(root.push(alloc, key), parent)?)
+}
+
+// A node has its parts and its parent, and is equal to its copy and to one that was made as it was, and to none of another key.
 #[test]
 fn a_node_has_its_parts_and_is_compared(rt: HostRuntime) -> Result<(), AllocError> {
     let node = item(rt.alloc(), "a")?;
-    let texts = [
-        "Some([Index(3), Key(\"a\")])",
-        "Some([Key(\"a\")])",
-        "Some([])",
-    ];
-    assert_above(&rt, rt.alloc(), &node, texts)?;
     same(&rt, *node.segment() == JsonPointerSegment::Index(3), true);
+    same(&rt, stands_below(rt.alloc(), &node, "a")?, true);
     same(&rt, is_alike(node.clone(), &node)?, true);
     same(&rt, is_alike(item(rt.alloc(), "a"), &node)?, true);
     same(&rt, is_alike(item(rt.alloc(), "b"), &node)?, false);
-    let root = JsonPointerNode::new();
-    same(&rt, *root.segment() == JsonPointerSegment::Index(0), true);
-    same(&rt, root == JsonPointerNode::default(), true);
     Ok(())
 }
 

@@ -44,10 +44,9 @@ pub const ROWS: &str = r##"
 ["4",["const"],false,false]
 ["unknown",["prefixItems",0],true,true]
 
-# resources: 2
-// A value, its draft, its identifier, and in some rows what a resource of it is shown as, owned and lent.
+# resources: 1
+// A value, its draft and its identifier.
 [{"$schema":"http://json-schema.org/draft-06/schema#","$id":"k#"},"6","k"]
-[true,"2020-12",null,"Resource { contents: Bool(true), draft: Draft202012 }","ResourceRef { contents: Bool(true), draft: Draft202012 }"]
 "##;
 
 /// Ends the test where an anchor isn't of this draft and value, or has another name than the row, whose names have a
@@ -94,9 +93,9 @@ pub fn scans(rt: &impl Abort, alloc: Global, row: &Row<'_>) -> Result<(), AllocE
     Ok(())
 }
 
-/// What is lent has the draft of its value, or the draft that it is lent with. What is owned has the draft of its value, gives its
-/// contents back, and is equal to its copy alone.
-pub fn resources(rt: &impl Abort, alloc: Global, row: &Row<'_>) -> Result<(), AllocError> {
+/// What is lent has the draft of its value, or the draft that it is lent with. What is owned has the draft of its value, and
+/// is equal to its copy and to none of Draft 7.
+pub fn resources(rt: &impl Abort, row: &Row<'_>) -> Result<(), AllocError> {
     let value = row.document(0);
     let lent = ResourceRef::from_contents(value);
     row.same(
@@ -104,32 +103,61 @@ pub fn resources(rt: &impl Abort, alloc: Global, row: &Row<'_>) -> Result<(), Al
         (lent.draft(), lent.id()),
         (row.draft(1), row.optional(2)),
     );
-    let owned = Resource::from_contents(value.clone()?);
-    row.same(rt, (owned.draft(), owned.contents()), (row.draft(1), value));
-    row.same(rt, owned.clone()? == owned, true);
-    assert_others(rt, &owned, row)?;
-    if let Some(text) = row.optional(3) {
-        assert_shown(rt, alloc, &owned, text)?;
-        assert_shown(rt, alloc, &lent, row.text(4))?;
-    }
-    let (draft, contents) = owned.into_inner();
-    row.same(rt, (draft, &contents), (row.draft(1), value));
+    let lent = Draft::Draft4.create_resource_ref(value);
+    row.same(rt, (lent.draft(), lent.contents()), (Draft::Draft4, value));
+    let owned = resource_of(row)?;
+    assert_copied(rt, &owned, row)?;
+    assert_given_back(rt, owned, row);
+    assert_other(rt, resource_of(row)?, row)
+}
+
+/// Ends the test where a resource hasn't the draft and the contents of its row.
+fn assert_owned(rt: &impl Abort, draft: Draft, contents: &Value, row: &Row<'_>) {
+    row.same(rt, (draft, contents), (row.draft(1), row.document(0)));
+}
+
+/// Ends the test where a resource isn't equal to its copy.
+fn assert_copied(rt: &impl Abort, owned: &Resource, row: &Row<'_>) -> Result<(), AllocError> {
+    assert_owned(rt, owned.draft(), owned.contents(), row);
+    row.same(rt, owned.clone()? == *owned, true);
     Ok(())
 }
 
-/// Ends the test where a resource is equal to one of another draft or of other contents, or differs from one of the same; or where
-/// what is lent with a draft hasn't that.
-fn assert_others(rt: &impl Abort, owned: &Resource, row: &Row<'_>) -> Result<(), AllocError> {
-    let value = row.document(0);
-    let lent = Draft::Draft4.create_resource_ref(value);
-    row.same(rt, (lent.draft(), lent.contents()), (Draft::Draft4, value));
-    let other = Draft::Draft4.create_resource(value.clone()?);
-    row.same(rt, other != *owned, true);
-    let other = row.draft(1).create_resource(Value::Null);
-    row.same(rt, other != *owned, true);
-    let alike = row.draft(1).create_resource(value.clone()?);
-    row.same(rt, alike == *owned, true);
+/// Ends the test where a resource is equal to one of the same contents and of Draft 7.
+fn assert_other(rt: &impl Abort, owned: Resource, row: &Row<'_>) -> Result<(), AllocError> {
+    let other = Draft::Draft7.create_resource(row.document(0).clone()?);
+    row.same(rt, other != owned, true);
     Ok(())
+}
+
+/// Ends the test where a resource gives back other contents than it was made of.
+fn assert_given_back(rt: &impl Abort, owned: Resource, row: &Row<'_>) {
+    let (draft, contents) = owned.into_inner();
+    assert_owned(rt, draft, &contents, row);
+}
+
+/// A resource of the value of a row.
+fn resource_of(row: &Row<'_>) -> Result<Resource, AllocError> {
+    Ok(Resource::from_contents(row.document(0).clone()?))
+}
+
+#[test]
+fn resources_are_compared(rt: HostRuntime) {
+    let null = Draft::Draft7.create_resource(Value::Null);
+    let is_other = null != Draft::Draft7.create_resource(Value::Bool(true));
+    same(&rt, is_other, true);
+    let null = Draft::Draft202012.create_resource(Value::Null);
+    same(&rt, Resource::from_contents(Value::Null) == null, true);
+}
+
+#[test]
+fn resources_are_shown(rt: HostRuntime) -> Result<(), AllocError> {
+    let owned = Draft::Draft4.create_resource(Value::Bool(true));
+    let wanted = "Resource { contents: Bool(true), draft: Draft4 }";
+    assert_shown(&rt, rt.alloc(), &owned, wanted)?;
+    let lent = Draft::Draft4.create_resource_ref(owned.contents());
+    let wanted = "ResourceRef { contents: Bool(true), draft: Draft4 }";
+    assert_shown(&rt, rt.alloc(), &lent, wanted)
 }
 
 #[test]

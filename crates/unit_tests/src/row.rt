@@ -23,14 +23,18 @@ pub const DRAFTS: [Draft; 6] = [
 /// last line of the table before the row that is an object, under `given`.
 #[derive(Clone, Copy)]
 pub struct Row<'a> {
-    /// The name of its table.
-    pub table: &'a str,
+    table: &'a str,
     line: &'a str,
     given: &'a Value,
     columns: &'a Value,
 }
 
 impl<'a> Row<'a> {
+    /// The name of its table.
+    pub fn table(&self) -> &'a str {
+        self.table
+    }
+
     /// What is given for this row.
     pub fn given(&self) -> &'a Value {
         self.given.get("given").unwrap_or(self.given)
@@ -49,6 +53,11 @@ impl<'a> Row<'a> {
     /// The text in a column. `null` stands for none.
     pub fn optional(&self, column: usize) -> Option<&'a str> {
         self.value(column)?.as_str()
+    }
+
+    /// The text under a key of the first column.
+    pub fn under(&self, key: &str) -> Option<&'a str> {
+        self.document(0).get(key).and_then(Value::as_str)
     }
 
     /// The text in a column that has one.
@@ -77,7 +86,14 @@ impl<'a> Row<'a> {
 
     /// The draft that a column names.
     pub fn draft(&self, column: usize) -> Draft {
-        Draft::from_name(self.text(column)).unwrap_or(Draft::Unknown)
+        match self.text(column) {
+            "4" => Draft::Draft4,
+            "6" => Draft::Draft6,
+            "7" => Draft::Draft7,
+            "2019-09" => Draft::Draft201909,
+            "2020-12" => Draft::Draft202012,
+            _ => Draft::Unknown,
+        }
     }
 
     /// How many columns there are.

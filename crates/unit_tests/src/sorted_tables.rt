@@ -1,4 +1,7 @@
 //! The sorted table.
+ghost use Rattle.std.specs.Prelude.{◌≡◌, IfOk, option_copied};
+ghost use Rattle.ref_parts.specs.Table.{entries_of, last_value, pair_count};
+
 use crate::asserts::same;
 use crate::row::Row;
 use ref_parts::{SortedTable, TableEntries};
@@ -28,6 +31,27 @@ pub const ROWS: &str = r##"
 
 // ---- each call through the bounds of a generic caller
 
+fn table_of<V: Drop>(
+    alloc: Global,
+    entries: Vec<(String, String, V)>,
+) -> Result<SortedTable<V>, AllocError>
+    ensures { IfOk result (λ table. table ≡ entries_of entries.items) }
+{
+    SortedTable::from_entries(alloc, entries)
+}
+
+fn count_of<V: Drop>(table: &SortedTable<V>) -> usize
+    ensures { result ≡ pair_count table.now }
+{
+    table.len()
+}
+
+fn value_at<'a, V: Drop>(table: &'a SortedTable<V>, first: &str, second: &str) -> Option<&'a V>
+    ensures { option_copied result ≡ last_value first.now second.now table.now }
+{
+    table.get(first, second).0
+}
+
 /// Enters a value under two texts.
 fn enter<V: Drop>(
     entries: &mut Vec<(String, String, V)>,
@@ -42,17 +66,26 @@ fn enter<V: Drop>(
     Ok(())
 }
 
-/// Ends the test where a table of one value, under a text and the empty one, lends another.
+/// A table of one value, under a text and the empty one.
+fn table_of_one<V: Drop>(
+    alloc: Global,
+    first: &str,
+    value: V,
+) -> Result<SortedTable<V>, AllocError> {
+    let mut entries = Vec::new(alloc);
+    enter(&mut entries, alloc, first, "", value)?;
+    table_of(alloc, entries)
+}
+
+/// Ends the test where a table of one value lends another.
 fn assert_lent<V: PartialEq + fmt::Debug + Drop>(
     rt: &impl Abort,
     alloc: Global,
     value: V,
     wanted: &V,
 ) -> Result<(), AllocError> {
-    let mut entries = Vec::new(alloc);
-    enter(&mut entries, alloc, "a", "", value)?;
-    let table = SortedTable::from_entries(alloc, entries)?;
-    same(rt, (table.len(), table.get("a", "").0), (1, Some(wanted)));
+    let table = table_of_one(alloc, "a", value)?;
+    same(rt, value_at(&table, "a", ""), Some(wanted));
     Ok(())
 }
 
@@ -66,8 +99,8 @@ fn a_table_lends_what_it_owns_and_what_it_borrows(rt: HostRuntime) -> Result<(),
 
 // ---- tables of numbers
 
-/// The table of the entries of a row, which are pushed to two lists: the first to one and the others to another, which is appended to
-/// it. Each value is pushed one too high, and lowered again before the table is made.
+/// The table of the same entries, the first in one list and the others in another, which is joined to it; each value is one too
+/// high until it is changed.
 fn joined_of(alloc: Global, row: &Row<'_>) -> Result<SortedTable<usize>, AllocError> {
     let mut joined = TableEntries::new(alloc);
     let mut others = TableEntries::new(alloc);
@@ -85,14 +118,6 @@ fn joined_of(alloc: Global, row: &Row<'_>) -> Result<SortedTable<usize>, AllocEr
     joined.into_table(alloc)
 }
 
-/// Ends the test where a table answers otherwise than its row.
-fn assert_table(rt: &impl Abort, table: SortedTable<usize>, row: &Row<'_>) {
-    row.same(rt, table.len(), row.count(1));
-    let (value, probes) = table.get(row.text(3), row.text(4));
-    row.same(rt, probes <= row.count(2), true);
-    row.same(rt, value.copied(), row.number(5));
-}
-
 pub fn tables(rt: &impl Abort, alloc: Global, row: &Row<'_>) -> Result<(), AllocError> {
     let mut entries = Vec::new(alloc);
     for place in 0..row.row(0).len() {
@@ -100,8 +125,14 @@ pub fn tables(rt: &impl Abort, alloc: Global, row: &Row<'_>) -> Result<(), Alloc
         let (first, second) = (entry.text(0), entry.text(1));
         enter(&mut entries, alloc, first, second, entry.count(2))?;
     }
-    assert_table(rt, SortedTable::from_entries(alloc, entries)?, row);
-    assert_table(rt, joined_of(alloc, row)?, row);
+    let table = table_of(alloc, entries)?;
+    row.same(rt, count_of(&table), row.count(1));
+    let (value, probes) = table.get(row.text(3), row.text(4));
+    row.same(rt, probes <= row.count(2), true);
+    row.same(rt, value.copied(), row.number(5));
+    let joined = joined_of(alloc, row)?;
+    let (value, _) = joined.get(row.text(3), row.text(4));
+    row.same(rt, value.copied(), row.number(5));
     Ok(())
 }
 
@@ -144,7 +175,7 @@ fn a_thousand_pairs_take_at_most_ten_probes(rt: HostRuntime) -> Result<(), Alloc
             number,
         )?;
     }
-    let table = SortedTable::from_entries(rt.alloc(), entries)?;
+    let table = table_of(rt.alloc(), entries)?;
     for number in 0..1_000usize {
         assert_number(&rt, rt.alloc(), &table, number)?;
     }
@@ -157,8 +188,8 @@ fn of_equal_pairs_the_last_stays(rt: HostRuntime) -> Result<(), AllocError> {
     for place in 0..100_000usize {
         enter(&mut entries, rt.alloc(), "a", "b", place)?;
     }
-    let table = SortedTable::from_entries(rt.alloc(), entries)?;
-    same(&rt, table.len(), 1);
+    let table = table_of(rt.alloc(), entries)?;
+    same(&rt, count_of(&table), 1);
     let (value, probes) = table.get("a", "b");
     same(&rt, (value.copied(), probes), (Some(99_999), 1));
     Ok(())

@@ -30,7 +30,7 @@ pub const ROWS: &str = r##"
 ["/.abcdef","/~1.abcdef"]
 
 # indexes: 11
-// A text, and the index that it means, if it means one, which is then written so.
+// A text, and the index that it means, if it means one.
 ["0",0]
 ["10",10]
 ["18446744073709551615",18446744073709551615]
@@ -132,15 +132,12 @@ pub fn tokens(rt: &impl Abort, alloc: Global, row: &Row<'_>) -> Result<(), Alloc
     Ok(())
 }
 
-/// An index is written behind what the buffer holds.
-pub fn indexes(rt: &impl Abort, alloc: Global, row: &Row<'_>) -> Result<(), AllocError> {
+pub fn indexes(rt: &impl Abort, row: &Row<'_>) {
     row.same(rt, parse_index(row.text(0)), row.number(1));
-    if let Some(index) = row.number(1) {
-        let mut buffer = String::from_str(alloc, "/")?;
-        write_index(&mut buffer, index)?;
-        row.same(rt, buffer.as_str().strip_prefix('/'), row.optional(0));
-    }
-    Ok(())
+}
+
+pub fn first_escapes(rt: &impl Abort, row: &Row<'_>) {
+    row.same(rt, first_escape(row.text(0).as_bytes()), row.number(1));
 }
 
 /// A token without `~` lends its key.
@@ -160,6 +157,16 @@ pub fn pointers(rt: &impl Abort, alloc: Global, row: &Row<'_>) -> Result<(), All
     Ok(())
 }
 
+/// Ends the test where a text is decoded to another.
+fn assert_decoded(
+    rt: &impl Abort,
+    decoded: Result<String, AllocError>,
+    row: &Row<'_>,
+) -> Result<(), AllocError> {
+    row.same(rt, decoded?.as_str(), row.text(6));
+    Ok(())
+}
+
 pub fn buffers(rt: &impl Abort, alloc: Global, row: &Row<'_>) -> Result<(), AllocError> {
     let mut buffer = EncodedBuffer::new(alloc);
     for column in 0..5usize {
@@ -170,9 +177,17 @@ pub fn buffers(rt: &impl Abort, alloc: Global, row: &Row<'_>) -> Result<(), Allo
     }
     row.same(rt, buffer.as_str(), row.text(5));
     row.same(rt, buffer.as_encoded().as_str(), row.text(5));
-    row.same(rt, buffer.decode(alloc)?.as_str(), row.text(6));
-    let decoded = buffer.as_encoded().decode(alloc)?;
-    row.same(rt, decoded.as_str(), row.text(6));
+    assert_decoded(rt, buffer.decode(alloc), row)?;
+    assert_decoded(rt, buffer.as_encoded().decode(alloc), row)
+}
+
+#[test]
+fn the_greatest_index_is_written_behind_what_the_buffer_holds(
+    rt: HostRuntime,
+) -> Result<(), AllocError> {
+    let mut buffer = String::from_str(rt.alloc(), "/")?;
+    write_index(&mut buffer, 18446744073709551615)?;
+    same(&rt, buffer.as_str(), "/18446744073709551615");
     Ok(())
 }
 

@@ -3,7 +3,6 @@ use Rattle.std.specs.Prelude.{◌≡◌, ℕ, ◌≤◌, List, ◌++◌, map, ta
 use Rattle.serde_json.specs.Data.{Data}
 use Rattle.serde_json.specs.View.{view}
 use Rattle.ref_parts.specs.Path.{Part}
-use Rattle.ref_draft.specs.declared.draft.Draft.{Draft}
 use Rattle.ref_draft.specs.Schema.{identifier}
 use Rattle.ref_definitions.specs.World.{Document}
 use Rattle.ref_definitions.specs.Places.{Place, base_within, children_of}
@@ -24,20 +23,15 @@ abbrev pub path_of : ValueRef → List Part
 path_of (Lent value path) = parts_of path
 path_of (Kept value path) = parts_of path
 
--- the place with this path, value and draft, and this base around it
-abbrev pub place_with : List Part → Data → Draft → List ℕ → Place
-place_with path value draft outer =
-    record {
-      path = path;
-      value = value;
-      draft = draft;
-      outer = outer;
-      base = base_within outer (identifier draft value);
-    }
-
 -- the place of a visit
 abbrev pub place_of : Visit → Place
-place_of v = place_with (path_of v.value) (value_of v.value) v.draft v.outer.value
+place_of v = record {
+  path = path_of v.value;
+  value = value_of v.value;
+  draft = v.draft;
+  outer = v.outer.value;
+  base = base_within v.outer.value (identifier v.draft (value_of v.value));
+}
 
 -- The places before the head of the queue were listed after others.
 pub record IsListedTo (d : Document) (number : ℕ) (before after : List Listed) (queue : List Visit)

@@ -1,8 +1,8 @@
 //! Calls of builders above a registry.
-use crate::refused::documents::{
-    DOCUMENT, META, SUBRESOURCE, builder_of, retrieving, title_of, uri, value,
+use crate::refused::documents::{DOCUMENT, META, builder_of, retrieving, title_of, uri, value};
+use crate::refused::stop::{
+    Refusal, Stop, Told, after, before, fault, outcome, outcome_after, refused,
 };
-use crate::refused::stop::{Stop, Told, after, before, behind, debugged, fault, outcome};
 use crate::refused::trial::{Calls, Trial, tried};
 use ref_error::MapRetriever;
 use referencing::{Answer, Draft, Registry, RegistryBuilder, Step};
@@ -17,9 +17,17 @@ struct Builders<'p, 'a> {
     builder: RegistryBuilder<'p>,
 }
 
+/// The row of a call.
+pub fn row(alloc: Global, call: &str) -> Result<Trial, Stop> {
+    let meta = value(alloc, META)?;
+    let pairs = [("http://a/m", &meta)];
+    let parent = before(Registry::from_meta_schemas(alloc, &pairs))?;
+    row_above(alloc, &parent, call)
+}
+
 /// The row of a call above a registry.
-pub fn row(alloc: Global, parent: &Registry<'_>, call: &str) -> Result<Trial, Stop> {
-    let builder = before(alloc, parent.add(alloc, "http://a/r", Value::Null))?;
+fn row_above(alloc: Global, parent: &Registry<'_>, call: &str) -> Result<Trial, Stop> {
+    let builder = builder(alloc, parent)?;
     let mut builders = Builders { parent, builder };
     tried(
         alloc,
@@ -39,9 +47,18 @@ impl Calls for Builders<'_, '_> {
     fn answer(&mut self, alloc: Global, call: &str) -> Result<String, Stop> {
         match call.strip_prefix("parent.") {
             Some(call) => above(alloc, self.parent, call),
-            None => built(alloc, &self.builder, call),
+            None => built(alloc, self.parent, &self.builder, call),
         }
     }
+}
+
+/// A builder with a document above a registry.
+fn builder<'b>(alloc: Global, parent: &'b Registry<'_>) -> Result<RegistryBuilder<'b>, Stop> {
+    before(parent.add(alloc, "http://a/r", Value::Null))
+}
+
+fn pair() -> [(&'static str, Value); 1] {
+    [("http://a/y", Value::Null)]
 }
 
 fn pairs() -> [(&'static str, Value); 3] {
@@ -56,51 +73,67 @@ fn above(alloc: Global, parent: &Registry<'_>, call: &str) -> Result<String, Sto
     match call {
         "add" => ready(alloc, parent.add(alloc, "http://a/r", Value::Null)),
         "add invalid" => ready(alloc, parent.add(alloc, "a b", Value::Null)),
-        "extend" => ready(alloc, parent.extend(alloc, [("http://a/y", Value::Null)])),
+        "extend" => ready(alloc, parent.extend(alloc, pair())),
         "extend several" => ready(alloc, parent.extend(alloc, pairs())),
-        "contains_resource" => parent.told(alloc).ok().ok_or(Stop::Refused),
-        "find_vocabularies" => {
-            let schema = value(alloc, SUBRESOURCE)?;
-            let found = parent.find_vocabularies(alloc, Draft::Unknown, &schema);
-            debugged(alloc, found)
-        }
+        "contains_resource" => known(alloc, parent),
+        "find_vocabularies" => declared(alloc, parent),
         "lookup" => looked_up(alloc, parent),
         _ => prepared(alloc, parent, call),
     }
 }
 
-fn built(alloc: Global, given: &RegistryBuilder<'_>, call: &str) -> Result<String, Stop> {
+fn built(
+    alloc: Global,
+    parent: &Registry<'_>,
+    given: &RegistryBuilder<'_>,
+    call: &str,
+) -> Result<String, Stop> {
     match call {
         "from_meta_schemas" => meta_schemas(alloc, "http://a/m"),
         "from_meta_schemas invalid" => meta_schemas(alloc, "a b"),
-        "add" => ready(alloc, given.clone()?.add("http://a/x", Value::Null)),
-        "extend" => ready(alloc, given.clone()?.extend([("http://a/y", Value::Null)])),
-        "extend several" => ready(alloc, given.clone()?.extend(pairs())),
+        "add" => ready(
+            alloc,
+            builder(alloc, parent)?.add("http://a/x", Value::Null),
+        ),
+        "extend" => ready(alloc, builder(alloc, parent)?.extend(pair())),
+        "extend several" => ready(alloc, builder(alloc, parent)?.extend(pairs())),
         "clone" => ready(alloc, given.clone()),
         _ => Err(Stop::Wrong),
     }
 }
 
+/// Which URIs are known to a registry, or that memory was wanted.
+pub fn known(alloc: Global, registry: &Registry<'_>) -> Result<String, Stop> {
+    match marks(alloc, registry) {
+        Ok(text) => Ok(text),
+        Err(error) => Err(refused(&error, true)),
+    }
+}
+
 /// A `+` for each of these URIs that is known to a registry, and a `-` for each that isn't.
+pub fn marks(alloc: Global, registry: &Registry<'_>) -> Result<String, AllocError> {
+    let mut text = String::with_capacity(alloc, 4)?;
+    for uri in ["http://a/m", "http://a/r", "http://a/x", "http://a/y"] {
+        let is_known = registry.contains_resource(alloc, uri)?;
+        text.push(if is_known { '+' } else { '-' })?;
+    }
+    Ok(text)
+}
+
 impl Told for Registry<'_> {
     fn told(&self, alloc: Global) -> Result<String, AllocError> {
-        let mut text = String::with_capacity(alloc, 4)?;
-        for uri in ["http://a/m", "http://a/r", "http://a/x", "http://a/y"] {
-            let is_known = self.contains_resource(alloc, uri)?;
-            text.push(if is_known { '+' } else { '-' })?;
-        }
-        Ok(text)
+        marks(alloc, self)
     }
 }
 
 /// Which URIs are known once a builder that was made is prepared, or the fault.
-fn ready<E: fmt::Display + Drop>(
+fn ready<E: Refusal + fmt::Display + Drop>(
     alloc: Global,
     built: Result<RegistryBuilder<'_>, E>,
 ) -> Result<String, Stop> {
     match built {
-        Ok(builder) => behind(outcome(alloc, builder.prepare())),
-        Err(error) => fault(alloc, error),
+        Ok(builder) => outcome_after(alloc, builder.prepare()),
+        Err(error) => fault(alloc, &error),
     }
 }
 
@@ -110,27 +143,44 @@ fn meta_schemas(alloc: Global, uri: &str) -> Result<String, Stop> {
     outcome(alloc, Registry::from_meta_schemas(alloc, &pairs))
 }
 
+/// The vocabularies of a schema whose meta-schema is in a registry.
+fn declared(alloc: Global, registry: &Registry<'_>) -> Result<String, Stop> {
+    let schema = value(alloc, r#"{"$schema":"http://a/m"}"#)?;
+    outcome(
+        alloc,
+        registry.find_vocabularies(alloc, Draft::Unknown, &schema),
+    )
+}
+
 /// The title of the meta-schema.
 fn looked_up(alloc: Global, registry: &Registry<'_>) -> Result<String, Stop> {
-    let base = uri(alloc, "http://a/r")?;
-    match registry.lookup(alloc, base, "m") {
+    let resolver = registry.resolver(alloc, uri(alloc, "http://a/r")?)?;
+    match resolver.lookup(alloc, "m") {
         Ok(found) => after(String::from_str(alloc, title_of(found.contents()))),
-        Err(error) => fault(alloc, error),
+        Err(error) => fault(alloc, &error),
     }
 }
 
 fn prepared(alloc: Global, parent: &Registry<'_>, call: &str) -> Result<String, Stop> {
-    let text = match call {
-        "prepare without the document" => r#"{"$ref":"w"}"#,
-        _ => DOCUMENT,
-    };
-    let document = value(alloc, text)?;
+    let document = value(alloc, DOCUMENT)?;
     match call {
         "prepare without a retriever" => {
             outcome(alloc, builder_of(alloc, parent, &document)?.prepare())
         }
+        "prepare without the document" => prepared_without(alloc, parent, &document),
         _ => prepared_by(alloc, retrieving(alloc, parent, &document)?, call),
     }
+}
+
+/// A reference to a document that nothing has.
+fn prepared_without(
+    alloc: Global,
+    parent: &Registry<'_>,
+    document: &Value,
+) -> Result<String, Stop> {
+    let reference = value(alloc, r#"{"$ref":"w"}"#)?;
+    let builder = before(retrieving(alloc, parent, document)?.add("http://a/z", reference))?;
+    outcome(alloc, builder.prepare())
 }
 
 fn prepared_by(
@@ -139,15 +189,17 @@ fn prepared_by(
     call: &str,
 ) -> Result<String, Stop> {
     match call {
-        "prepare" | "prepare without the document" => outcome(alloc, builder.prepare()),
+        "prepare" => outcome(alloc, builder.prepare()),
         "prepare to the limit" => outcome(alloc, builder.retrieval_limit(0).prepare()),
-        "prepare_and_follow" => {
-            let base = uri(alloc, "http://a/r")?;
-            let steps = [Step::Lookup("x"), Step::Lookup("y")];
-            outcome(alloc, builder.prepare_and_follow(base, &steps))
-        }
+        "prepare_and_follow" => answered(alloc, builder),
         _ => Err(Stop::Wrong),
     }
+}
+
+fn answered(alloc: Global, builder: RegistryBuilder<'_, MapRetriever>) -> Result<String, Stop> {
+    let base = uri(alloc, "http://a/r")?;
+    let steps = [Step::Lookup("x"), Step::Lookup("y")];
+    outcome(alloc, builder.prepare_and_follow(base, &steps))
 }
 
 /// The title of the last value, and the base there.

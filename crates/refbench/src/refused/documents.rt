@@ -22,12 +22,12 @@ pub const SUBRESOURCE: &str = r#"{"$id":"s","$schema":"http://a/m"}"#;
 
 /// A value that is made before the call.
 pub fn value(alloc: Global, text: &str) -> Result<Value, Stop> {
-    before(alloc, Value::from_str(alloc, text))
+    before(Value::from_str(alloc, text))
 }
 
 /// A URI that is made before the call.
 pub fn uri(alloc: Global, text: &str) -> Result<Uri, Stop> {
-    before(alloc, from_str(alloc, text))
+    before(from_str(alloc, text))
 }
 
 /// One pair in a list.
@@ -54,7 +54,7 @@ pub fn builder_of<'b>(
     parent: &'b Registry<'_>,
     document: &'b Value,
 ) -> Result<RegistryBuilder<'b>, Stop> {
-    before(alloc, parent.add(alloc, "http://a/r", document))
+    before(parent.add(alloc, "http://a/r", document))
 }
 
 /// The same, by which documents are retrieved.

@@ -1,9 +1,9 @@
 //! The unresolvable references, of a document that the line gives.
 use crate::refused::documents::{list_of, uri, value};
-use crate::refused::stop::{Stop, before, debugged, outcome};
+use crate::refused::registries::{contained, leading_nowhere};
+use crate::refused::stop::{Stop, after, before};
 use crate::refused::trial::{Calls, Trial, tried};
 use ref_error::MapRetriever;
-use ref_lint::dangling;
 use referencing::{Draft, Registry};
 use serde_json::Value;
 use std::alloc::Global;
@@ -18,7 +18,8 @@ struct Linted<'s, 'a> {
 }
 
 /// The row of a call, which is `known`, or a list of the draft's number, a document at `http://a/r`, and one that is
-/// retrieved from `http://a/b`.
+/// retrieved from
+/// `http://a/b`.
 pub fn row(alloc: Global, call: &str) -> Result<Trial, Stop> {
     let given = value(alloc, if call == "known" { KNOWN } else { call })?;
     let registry = registry_of(alloc, &given)?;
@@ -43,15 +44,18 @@ fn registry_of(alloc: Global, given: &Value) -> Result<Registry<'_>, Stop> {
     };
     let retriever = retriever(alloc, given)?;
     let builder = Registry::new(alloc).draft(draft).retriever(retriever);
-    let builder = before(alloc, builder.add("http://a/r", document))?;
-    before(alloc, builder.prepare())
+    before(before(builder.add("http://a/r", document))?.prepare())
 }
 
 impl Calls for Linted<'_, '_> {
     fn answer(&mut self, alloc: Global, call: &str) -> Result<String, Stop> {
         if call == "known" {
-            return debugged(alloc, self.registry.contains_resource(alloc, "http://a/r"));
+            return contained(alloc, self.registry, "http://a/r");
         }
-        outcome(alloc, dangling(alloc, self.registry))
+        let told = leading_nowhere(alloc, self.registry)?;
+        if told.is_empty() {
+            return after(String::from_str(alloc, "none"));
+        }
+        Ok(told)
     }
 }

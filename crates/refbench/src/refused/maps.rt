@@ -1,5 +1,5 @@
 //! Calls of maps and tables of `ref_parts`.
-use crate::refused::stop::{Stop, Told, after, changed, debugged, outcome, shown};
+use crate::refused::stop::{Stop, after, refused};
 use crate::refused::trial::{Calls, Trial, tried};
 use ref_parts::small_map::SmallMap;
 use ref_parts::table::{SortedTable, TableEntries};
@@ -32,27 +32,15 @@ pub fn row(alloc: Global, call: &str) -> Result<Trial, Stop> {
 impl Calls for Maps {
     fn answer(&mut self, alloc: Global, call: &str) -> Result<String, Stop> {
         match call {
-            "insert" => {
-                let answer = self.two.insert(alloc, 3, 30);
-                grown(alloc, answer, &self.two)
-            }
-            "get_or_insert_default" => {
-                let answer = write_at(&mut self.two, alloc, 3);
-                grown(alloc, answer, &self.two)
-            }
-            "clone" => debugged(alloc, self.three.clone()),
+            "insert" => promoted(alloc, &mut self.two),
+            "get_or_insert_default" => promoted_by_default(alloc, &mut self.two),
+            "clone" => copied_map(alloc, &self.three),
             "readers" => read(alloc, &self.three),
-            "table.from_entries" => {
-                let entries = entries(alloc)?;
-                outcome(alloc, SortedTable::from_entries(alloc, entries))
-            }
+            "table.from_entries" => table(alloc),
             "table.readers" => read_table(alloc),
-            "entries.push" => lengthened(alloc, false),
-            "entries.append" => lengthened(alloc, true),
-            "entries.into_table" => {
-                let entries = one_entry(alloc, "a", 1)?;
-                debugged(alloc, first_of(entries.into_table(alloc)))
-            }
+            "entries.push" => pushed(alloc),
+            "entries.append" => joined(alloc),
+            "entries.into_table" => made(alloc),
             _ => Err(Stop::Wrong),
         }
     }
@@ -65,21 +53,25 @@ fn two_pairs(alloc: Global) -> Result<SmallMap<u32, u32, 2>, AllocError> {
     Ok(map)
 }
 
-/// What a map has at 1, 2 and 3, and whether it takes no memory.
-fn told(map: &SmallMap<u32, u32, 2>) -> ([Option<u32>; 3], bool) {
-    let (first, second) = (map.get(&1u32).copied(), map.get(&2u32).copied());
-    ([first, second, map.get(&3u32).copied()], map.is_small())
+/// What a map has at 1, 2 and 3, with 0 where it has nothing, and whether it takes no memory.
+fn told(map: &SmallMap<u32, u32, 2>) -> (u32, u32, u32, bool) {
+    (at(map, 1), at(map, 2), at(map, 3), map.is_small())
 }
 
-/// A map that a call lets grow past two pairs, or which has just these where the call wants memory.
-fn grown(
-    alloc: Global,
-    answer: Result<(), AllocError>,
-    map: &SmallMap<u32, u32, 2>,
-) -> Result<String, Stop> {
-    let stands = told(map) == ([Some(10), Some(20), None], true);
-    changed(alloc, answer, stands)?;
-    after(shown(alloc, map))
+fn at(map: &SmallMap<u32, u32, 2>, key: u32) -> u32 {
+    map.get(&key).copied().unwrap_or(0)
+}
+
+/// Whether a map has the two pairs, and nothing at 3.
+fn has_two(map: &SmallMap<u32, u32, 2>) -> bool {
+    told(map) == (10, 20, 0, true)
+}
+
+fn promoted(alloc: Global, map: &mut SmallMap<u32, u32, 2>) -> Result<String, Stop> {
+    match map.insert(alloc, 3, 30) {
+        Ok(()) => after(format!(in alloc; "{map:?}")),
+        Err(error) => Err(refused(&error, has_two(map))),
+    }
 }
 
 /// Writes at a key, with the default there first where it is new.
@@ -89,9 +81,22 @@ fn write_at(map: &mut SmallMap<u32, u32, 2>, alloc: Global, key: u32) -> Result<
     Ok(())
 }
 
+fn promoted_by_default(alloc: Global, map: &mut SmallMap<u32, u32, 2>) -> Result<String, Stop> {
+    match write_at(map, alloc, 3) {
+        Ok(()) => after(format!(in alloc; "{map:?}")),
+        Err(error) => Err(refused(&error, has_two(map))),
+    }
+}
+
+fn copied_map(alloc: Global, map: &SmallMap<u32, u32, 2>) -> Result<String, Stop> {
+    match map.clone() {
+        Ok(copy) => after(format!(in alloc; "{copy:?}")),
+        Err(error) => Err(refused(&error, told(map) == (10, 20, 30, false))),
+    }
+}
+
 fn read(alloc: Global, map: &SmallMap<u32, u32, 2>) -> Result<String, Stop> {
-    let (values, is_small) = told(map);
-    let third = values[2].unwrap_or(0);
+    let (_, _, third, is_small) = told(map);
     after(format!(in alloc; "{third} {is_small}"))
 }
 
@@ -105,12 +110,15 @@ fn entries(alloc: Global) -> Result<Vec<(String, String, u32)>, AllocError> {
     Ok(entries)
 }
 
-/// How many pairs of texts a table has, and what is under one of them.
-impl Told for SortedTable<u32> {
-    fn told(&self, alloc: Global) -> Result<String, AllocError> {
-        let len = self.len();
-        let last = self.get("b", "").0.copied().unwrap_or(0);
-        format!(in alloc; "{len} {last}")
+fn table(alloc: Global) -> Result<String, Stop> {
+    let entries = entries(alloc)?;
+    match SortedTable::from_entries(alloc, entries) {
+        Ok(table) => {
+            let len = table.len();
+            let last = table.get("b", "").0.copied().unwrap_or(0);
+            after(format!(in alloc; "{len} {last}"))
+        }
+        Err(error) => Err(refused(&error, true)),
     }
 }
 
@@ -122,31 +130,51 @@ fn read_table(alloc: Global) -> Result<String, Stop> {
     after(format!(in alloc; "{len} {second:?} {none:?}"))
 }
 
-/// One entry under a text and the empty one.
-fn one_entry(alloc: Global, text: &str, number: u32) -> Result<TableEntries<u32>, AllocError> {
+/// One entry under two texts.
+fn one_entry(alloc: Global) -> Result<TableEntries<u32>, AllocError> {
     let mut entries = TableEntries::new(alloc);
-    entries.push(text, "", number)?;
+    entries.push("a", "", 1)?;
     Ok(entries)
 }
 
-/// What a table has under `a`.
-fn first_of(table: Result<SortedTable<u32>, AllocError>) -> Result<Option<u32>, AllocError> {
-    Ok(table?.get("a", "").0.copied())
+/// Whether entries are that one alone.
+fn is_one(alloc: Global, entries: TableEntries<u32>) -> Result<bool, Stop> {
+    let table = entries.into_table(alloc).ok().ok_or(Stop::After)?;
+    Ok(table.len() == 1 && table.get("a", "").0.copied() == Some(1))
 }
 
-/// How many pairs of texts entries have, and what the last one of two is, which is pushed or in entries that are joined to one.
-/// Where that wants memory, they are to be the first one alone.
-fn lengthened(alloc: Global, is_joined: bool) -> Result<String, Stop> {
-    let mut entries = one_entry(alloc, "a", 1)?;
-    let answer = if is_joined {
-        let others = one_entry(alloc, "bcdefghi", 2)?;
-        entries.append(others)
-    } else {
-        entries.push("bcdefghi", "", 2)
-    };
+/// How many pairs of texts entries have, and what the last one of two is.
+fn last_of(alloc: Global, entries: TableEntries<u32>) -> Result<String, Stop> {
     let table = entries.into_table(alloc).ok().ok_or(Stop::After)?;
-    let (len, first) = (table.len(), table.get("a", "").0.copied());
-    let last = table.get("bcdefghi", "").0.copied();
-    changed(alloc, answer, (len, first) == (1, Some(1)))?;
+    let (len, last) = (table.len(), table.get("bcdefghi", "").0.copied());
     after(format!(in alloc; "{len} {last:?}"))
+}
+
+fn pushed(alloc: Global) -> Result<String, Stop> {
+    let mut entries = one_entry(alloc)?;
+    match entries.push("bcdefghi", "", 2) {
+        Ok(()) => last_of(alloc, entries),
+        Err(error) => Err(refused(&error, is_one(alloc, entries)?)),
+    }
+}
+
+fn joined(alloc: Global) -> Result<String, Stop> {
+    let mut entries = one_entry(alloc)?;
+    let mut others = TableEntries::new(alloc);
+    others.push("bcdefghi", "", 2)?;
+    match entries.append(others) {
+        Ok(()) => last_of(alloc, entries),
+        Err(error) => Err(refused(&error, is_one(alloc, entries)?)),
+    }
+}
+
+fn made(alloc: Global) -> Result<String, Stop> {
+    let entries = one_entry(alloc)?;
+    match entries.into_table(alloc) {
+        Ok(table) => {
+            let value = table.get("a", "").0.copied();
+            after(format!(in alloc; "{value:?}"))
+        }
+        Err(error) => Err(refused(&error, true)),
+    }
 }

@@ -24,6 +24,28 @@ use std::alloc::Global;
 pub use stop::Stop;
 pub use trial::Trial;
 
+/// The names of the groups of calls.
+const GROUPS: [&str; 13] = [
+    "uris",
+    "lists",
+    "maps",
+    "texts",
+    "drafts",
+    "vocabularies",
+    "builders",
+    "registries",
+    "retrievers",
+    "kinds",
+    "reports",
+    "lints",
+    "told",
+];
+
+/// Whether a word is the name of a group of calls.
+pub fn is_group(word: &str) -> bool {
+    GROUPS.contains(&word)
+}
+
 /// What the row of a call prints, which is of one of the groups.
 pub fn row(alloc: Global, group: &str, call: &str) -> Result<Trial, Stop> {
     match group {
@@ -33,7 +55,15 @@ pub fn row(alloc: Global, group: &str, call: &str) -> Result<Trial, Stop> {
         "texts" => texts::row(alloc, call),
         "drafts" => drafts::row(alloc, call),
         "vocabularies" => vocabularies::row(alloc, call),
-        "builders" | "registries" => registries::row(alloc, group, call),
+        _ => of_registries(alloc, group, call),
+    }
+}
+
+/// Of the groups on registries.
+fn of_registries(alloc: Global, group: &str, call: &str) -> Result<Trial, Stop> {
+    match group {
+        "builders" => builders::row(alloc, call),
+        "registries" => registries::row(alloc, call),
         "retrievers" => retrievers::row(alloc, call),
         "kinds" => kinds::row(alloc, call),
         "reports" => reports::row(alloc, call),

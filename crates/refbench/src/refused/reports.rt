@@ -1,5 +1,5 @@
 //! Runs of requests into a sink whose room was reserved before.
-use crate::refused::stop::{Stop, after};
+use crate::refused::stop::{Stop, after, refused};
 use crate::refused::trial::{Calls, Trial, tried};
 use ref_report::run::{RunError, run};
 use ref_report::{MemorySink, MemorySource, Status};
@@ -60,7 +60,7 @@ fn reported(alloc: Global, sink: &mut MemorySink, request: &str) -> Result<Strin
     }
     match answer {
         Ok(status) => after(told(alloc, status, sink.bytes.as_slice())),
-        Err(RunError::Memory) if sink.bytes.is_empty() => Err(Stop::Refused),
+        Err(RunError::Memory) => Err(refused(&AllocError, sink.bytes.is_empty())),
         Err(_) => Err(Stop::Wrong),
     }
 }

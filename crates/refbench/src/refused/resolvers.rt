@@ -1,20 +1,14 @@
 //! Calls of resolvers, and steps.
-use crate::refused::documents::title_of;
-use crate::refused::stop::{Stop, Told, after, debugged, displayed, outcome, shown};
+use crate::refused::documents::{SUBRESOURCE, title_of, uri, value};
+use crate::refused::stop::{Refusal, Stop, Told, after, outcome};
 use ref_uri::Uri;
 use referencing::{
-    Draft, Followed, Location, Registry, Resolved, Resolver, ResourceRef, Step, follow,
+    Draft, FollowError, Followed, Location, Registry, Resolved, Resolver, ResourceRef, Step, follow,
 };
-use serde_json::Value;
 use std::alloc::{AllocError, Global};
 
-/// What a call of a resolver answers, with a base and a schema for it.
-pub fn resolver(
-    alloc: Global,
-    resolver: &Resolver<'_>,
-    (base, schema): (&Uri, &Value),
-    call: &str,
-) -> Result<String, Stop> {
+/// What a call of a resolver answers.
+pub fn resolver(alloc: Global, resolver: &Resolver<'_>, call: &str) -> Result<String, Stop> {
     if let Some(reference) = call.strip_prefix("lookup ") {
         return outcome(alloc, resolver.lookup(alloc, reference));
     }
@@ -22,23 +16,15 @@ pub fn resolver(
         return outcome(alloc, resolver.location(alloc, reference));
     }
     match call {
-        "resolve_uri" => displayed(alloc, resolver.resolve_uri(alloc, base.borrow(), "z")),
-        "resolve_uri cached" => displayed(alloc, resolver.resolve_uri(alloc, base.borrow(), "x")),
-        "resolve_uri invalid" => {
-            displayed(alloc, resolver.resolve_uri(alloc, base.borrow(), "a b"))
-        }
+        "resolve_uri" => at(alloc, resolver, "z"),
+        "resolve_uri cached" => at(alloc, resolver, "x"),
+        "resolve_uri invalid" => at(alloc, resolver, "a b"),
         "lookup_recursive_ref" => outcome(alloc, resolver.lookup_recursive_ref(alloc)),
         "location_recursive" => outcome(alloc, resolver.location_recursive(alloc)),
-        "in_subresource" => {
-            let resource = ResourceRef::new(schema, Draft::Draft202012);
-            debugged(alloc, resolver.in_subresource(alloc, resource))
-        }
-        "clone" => debugged(alloc, resolver.clone()),
-        "find_vocabularies" => {
-            let found = resolver.find_vocabularies(alloc, Draft::Unknown, schema);
-            debugged(alloc, found)
-        }
-        "readers" => after(shown(alloc, resolver)),
+        "in_subresource" => entered(alloc, resolver),
+        "clone" => outcome(alloc, resolver.clone()),
+        "find_vocabularies" => declared(alloc, resolver),
+        "readers" => after(resolver.told(alloc)),
         "at_base" => based(alloc, resolver),
         _ => Err(Stop::Wrong),
     }
@@ -55,12 +41,23 @@ fn based(alloc: Global, resolver: &Resolver<'_>) -> Result<String, Stop> {
     after(format!(in alloc; "{title} {draft:?} {base} {is_outermost}"))
 }
 
+fn at(alloc: Global, resolver: &Resolver<'_>, text: &str) -> Result<String, Stop> {
+    let base = uri(alloc, "http://a/r")?;
+    outcome(alloc, resolver.resolve_uri(alloc, base.borrow(), text))
+}
+
 /// The title of what was found with the resolver there.
 impl Told for Resolved<'_> {
     fn told(&self, alloc: Global) -> Result<String, AllocError> {
         let title = title_of(self.contents());
         let resolver = self.resolver();
         format!(in alloc; "{title} {resolver:?}")
+    }
+}
+
+impl Told for Resolver<'_> {
+    fn told(&self, alloc: Global) -> Result<String, AllocError> {
+        format!(in alloc; "{self:?}")
     }
 }
 
@@ -76,18 +73,60 @@ impl Told for Location<'_> {
 /// The resolver to which steps lead.
 impl Told for Followed<'_> {
     fn told(&self, alloc: Global) -> Result<String, AllocError> {
-        shown(alloc, &self.resolver)
+        self.resolver.told(alloc)
     }
 }
 
-/// Where steps lead, or the number of the step that finds no value, with its fault.
-pub fn followed(
-    alloc: Global,
-    registry: &Registry<'_>,
-    base: &Uri,
-    steps: &[Step<'_>],
-) -> Result<String, Stop> {
-    let told = outcome(alloc, follow(alloc, registry, base.clone()?, steps))?;
-    let text = told.as_str();
-    after(String::from_str(alloc, text.strip_prefix("Step ").unwrap_or(text)))
+/// The vocabularies of a schema.
+fn declared(alloc: Global, resolver: &Resolver<'_>) -> Result<String, Stop> {
+    let schema = value(alloc, SUBRESOURCE)?;
+    outcome(
+        alloc,
+        resolver.find_vocabularies(alloc, Draft::Unknown, &schema),
+    )
+}
+
+fn entered(alloc: Global, resolver: &Resolver<'_>) -> Result<String, Stop> {
+    let schema = value(alloc, SUBRESOURCE)?;
+    let resource = ResourceRef::new(&schema, Draft::Draft202012);
+    outcome(alloc, resolver.in_subresource(alloc, resource))
+}
+
+/// What steps answer, and a new resolver.
+pub fn steps(alloc: Global, registry: &Registry<'_>, call: &str) -> Result<String, Stop> {
+    let base = uri(alloc, "http://a/r")?;
+    match call {
+        "resolver" => outcome(alloc, registry.resolver(alloc, base)),
+        "follow" => followed(alloc, registry, base),
+        "follow to a fault" => followed_to_fault(alloc, registry, base),
+        _ => Err(Stop::Wrong),
+    }
+}
+
+fn followed(alloc: Global, registry: &Registry<'_>, base: Uri) -> Result<String, Stop> {
+    let schema = value(alloc, SUBRESOURCE)?;
+    let steps = [
+        Step::Lookup("x"),
+        Step::Recursive,
+        Step::Lookup("y"),
+        Step::Enter(ResourceRef::new(&schema, Draft::Draft202012)),
+    ];
+    outcome(alloc, follow(alloc, registry, base, &steps))
+}
+
+fn followed_to_fault(alloc: Global, registry: &Registry<'_>, base: Uri) -> Result<String, Stop> {
+    let steps = [Step::Lookup("x"), Step::Lookup("#none")];
+    match follow(alloc, registry, base, &steps) {
+        Ok(_followed) => Err(Stop::Wrong),
+        Err(ended) => told(alloc, &ended),
+    }
+}
+
+/// The number of the step that finds no value, with its fault.
+fn told(alloc: Global, ended: &FollowError) -> Result<String, Stop> {
+    let (step, error) = (ended.step, &ended.error);
+    if error.is_memory() {
+        return Err(Stop::Refused);
+    }
+    after(format!(in alloc; "{step}: {error}"))
 }

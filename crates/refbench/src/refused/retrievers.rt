@@ -1,6 +1,6 @@
 //! Calls of retrievers.
 use crate::refused::documents::{pairs, retriever, title_of, uri};
-use crate::refused::stop::{Stop, Told, behind, fault, outcome};
+use crate::refused::stop::{Stop, Told, outcome, refused};
 use crate::refused::trial::{Calls, Trial, tried};
 use ref_error::{DefaultRetriever, MapRetriever, Retrieve};
 use ref_uri::Uri;
@@ -35,25 +35,38 @@ impl Calls for Retrievers {
     fn answer(&mut self, alloc: Global, call: &str) -> Result<String, Stop> {
         match call {
             "from_pairs" => made(alloc, &self.there),
-            "map" => outcome(alloc, self.map.retrieve(alloc, &self.there)),
-            "map without the document" => outcome(alloc, self.map.retrieve(alloc, &self.missing)),
-            "default" => outcome(alloc, DefaultRetriever.retrieve(alloc, &self.there)),
+            "map" => retrieved(alloc, &self.map, &self.there),
+            "map without the document" => retrieved(alloc, &self.map, &self.missing),
+            "default" => retrieved(alloc, &DefaultRetriever, &self.there),
             _ => Err(Stop::Wrong),
         }
     }
+}
+
+/// The title of what is retrieved, or the fault.
+fn retrieved<R: Retrieve>(alloc: Global, retriever: &R, uri: &Uri) -> Result<String, Stop> {
+    outcome(alloc, retriever.retrieve(alloc, uri))
 }
 
 /// The title of what a new retriever retrieves.
 fn made(alloc: Global, uri: &Uri) -> Result<String, Stop> {
     let pairs = pairs(alloc)?;
     match MapRetriever::from_pairs(alloc, pairs) {
-        Ok(map) => behind(outcome(alloc, map.retrieve(alloc, uri))),
-        Err(error) => fault(alloc, error),
+        Ok(map) => after_retrieval(retrieved(alloc, &map, uri)),
+        Err(error) => Err(refused(&error, true)),
     }
 }
 
 impl Told for Value {
     fn told(&self, alloc: Global) -> Result<String, AllocError> {
         String::from_str(alloc, title_of(self))
+    }
+}
+
+/// What is retrieved once a call has answered.
+fn after_retrieval(retrieved: Result<String, Stop>) -> Result<String, Stop> {
+    match retrieved {
+        Err(Stop::Refused) => Err(Stop::After),
+        other => other,
     }
 }

@@ -1,6 +1,10 @@
 //! Why a row has no answer.
 ghost use Rattle.std.specs.Prelude.{⊤};
 
+use ref_error::{Error, RetrieveError};
+use ref_uri::{ResolveFault, UriFault, UriParseFault};
+use referencing::{AnswerError, FollowError};
+use serde_json::Category;
 use std::alloc::{AllocError, Global};
 use std::fmt;
 
@@ -39,106 +43,145 @@ impl From<AllocError> for Stop {
     }
 }
 
+/// What a call may be refused with.
+pub trait Refusal {
+    /// Whether it is out of memory.
+    fn is_memory(&self) -> bool;
+}
+
+impl Refusal for AllocError {
+    fn is_memory(&self) -> bool {
+        true
+    }
+}
+
+impl Refusal for serde_json::Error {
+    fn is_memory(&self) -> bool {
+        matches!(self.classify(), Category::Memory)
+    }
+}
+
+impl Refusal for UriParseFault {
+    fn is_memory(&self) -> bool {
+        matches!(self, UriParseFault::Memory(_))
+    }
+}
+
+impl Refusal for ResolveFault {
+    fn is_memory(&self) -> bool {
+        matches!(self, ResolveFault::Memory(_))
+    }
+}
+
+impl Refusal for UriFault {
+    fn is_memory(&self) -> bool {
+        matches!(self, UriFault::Memory(_))
+    }
+}
+
+impl Refusal for RetrieveError {
+    fn is_memory(&self) -> bool {
+        matches!(self, RetrieveError::Memory(_))
+    }
+}
+
+impl Refusal for Error {
+    fn is_memory(&self) -> bool {
+        matches!(self, Error::Memory(_))
+    }
+}
+
+impl Refusal for FollowError {
+    fn is_memory(&self) -> bool {
+        self.error.is_memory()
+    }
+}
+
+impl Refusal for AnswerError {
+    fn is_memory(&self) -> bool {
+        match self {
+            AnswerError::Prepare(error) => error.is_memory(),
+            AnswerError::Follow(ended) => ended.is_memory(),
+            AnswerError::Memory(_) => true,
+        }
+    }
+}
+
 /// What a call returns.
 pub trait Told {
     /// What is printed of it.
     fn told(&self, alloc: Global) -> Result<String, AllocError>;
 }
 
-/// Whether the text of a fault is that of being out of memory, which may stand after the number of a step.
-pub fn is_memory(text: &str) -> bool {
-    text.ends_with("Out of memory") || text == "out of memory" || text == "memory allocation failed"
+impl Told for bool {
+    fn told(&self, alloc: Global) -> Result<String, AllocError> {
+        String::from_str(alloc, if *self { "true" } else { "false" })
+    }
+}
+
+impl Told for usize {
+    fn told(&self, alloc: Global) -> Result<String, AllocError> {
+        format!(in alloc; "{self}")
+    }
+}
+
+/// Why a refused call has no answer: only out of memory is right, and only where what it would have changed is as it was.
+pub fn refused<E: Refusal>(refusal: &E, stands: bool) -> Stop {
+    if refusal.is_memory() && stands {
+        Stop::Refused
+    } else {
+        Stop::Wrong
+    }
 }
 
 /// The text of a fault, which is the answer; out of memory is none.
-pub fn fault<E: fmt::Display + Drop>(alloc: Global, error: E) -> Result<String, Stop> {
-    let text = after(format!(in alloc; "{error}"))?;
-    if is_memory(text.as_str()) {
-        Err(Stop::Refused)
-    } else {
-        Ok(text)
+pub fn fault<E: Refusal + fmt::Display>(alloc: Global, error: &E) -> Result<String, Stop> {
+    if error.is_memory() {
+        return Err(Stop::Refused);
     }
+    after(format!(in alloc; "{error}"))
 }
 
 /// A text that is made once the call has answered.
 pub fn after(made: Result<String, AllocError>) -> Result<String, Stop> {
-    made.ok().ok_or(Stop::After)
-}
-
-/// The debug text of a value.
-pub fn shown<T: fmt::Debug>(alloc: Global, value: &T) -> Result<String, AllocError> {
-    format!(in alloc; "{value:?}")
+    match made {
+        Ok(text) => Ok(text),
+        Err(_) => Err(Stop::After),
+    }
 }
 
 /// What is printed of a call's answer, or the text of its fault. Of any kind of answer and of fault, so that it is proved once.
-pub fn outcome<T: Told + Drop, E: fmt::Display + Drop>(
+pub fn outcome<T: Told + Drop, E: Refusal + fmt::Display + Drop>(
     alloc: Global,
     answer: Result<T, E>,
 ) -> Result<String, Stop> {
     match answer {
         Ok(value) => after(value.told(alloc)),
-        Err(error) => fault(alloc, error),
+        Err(error) => fault(alloc, &error),
     }
 }
 
-/// The debug text of a call's answer, or the text of its fault.
-pub fn debugged<T: fmt::Debug + Drop, E: fmt::Display + Drop>(
+/// The same once the call has answered, where only out of memory may be in the way.
+pub fn outcome_after<T: Told + Drop, E: Refusal + Drop>(
     alloc: Global,
     answer: Result<T, E>,
 ) -> Result<String, Stop> {
     match answer {
-        Ok(value) => after(shown(alloc, &value)),
-        Err(error) => fault(alloc, error),
-    }
-}
-
-/// A call's answer as it is displayed, or the text of its fault.
-pub fn displayed<T: fmt::Display + Drop, E: fmt::Display + Drop>(
-    alloc: Global,
-    answer: Result<T, E>,
-) -> Result<String, Stop> {
-    match answer {
-        Ok(value) => after(format!(in alloc; "{value}")),
-        Err(error) => fault(alloc, error),
-    }
-}
-
-/// Goes on where a call has changed its value. Where it wants memory, the value is to stand as it was; nothing else may be in the way.
-pub fn changed<E: fmt::Display + Drop>(
-    alloc: Global,
-    answer: Result<(), E>,
-    stands: bool,
-) -> Result<(), Stop> {
-    match answer {
-        Ok(()) => Ok(()),
-        Err(error) => Err(if stands {
-            why(alloc, error)
-        } else {
-            Stop::Wrong
-        }),
-    }
-}
-
-/// Why a call has no answer: only where it wants memory is that right.
-fn why<E: fmt::Display + Drop>(alloc: Global, error: E) -> Stop {
-    fault(alloc, error).err().unwrap_or(Stop::Wrong)
-}
-
-/// What follows once a call has answered.
-pub fn behind(told: Result<String, Stop>) -> Result<String, Stop> {
-    match told {
-        Err(Stop::Refused) => Err(Stop::After),
-        other => other,
+        Ok(value) => after(value.told(alloc)),
+        Err(error) if error.is_memory() => Err(Stop::After),
+        Err(_) => Err(Stop::Wrong),
     }
 }
 
 /// A value that is made before the call: only where memory is refused it can't be made.
-pub fn before<T, E: fmt::Display + Drop>(alloc: Global, made: Result<T, E>) -> Result<T, Stop> {
+pub fn before<T, E: Refusal + Drop>(made: Result<T, E>) -> Result<T, Stop> {
     match made {
         Ok(value) => Ok(value),
-        Err(error) => match why(alloc, error) {
-            Stop::Refused => Err(Stop::Before),
-            _ => Err(Stop::Wrong),
-        },
+        Err(error) => Err(unmade(error.is_memory())),
     }
+}
+
+/// Why a value isn't made before the call: only where memory is refused it can't be made.
+fn unmade(is_memory: bool) -> Stop {
+    if is_memory { Stop::Before } else { Stop::Wrong }
 }

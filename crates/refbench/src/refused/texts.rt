@@ -1,13 +1,13 @@
 //! Calls of pointer text and of buffers of `ref_parts`.
-use crate::refused::documents::{title_of, value};
-use crate::refused::stop::{Stop, Told, after, changed, displayed, outcome};
+use crate::refused::documents::value;
+use crate::refused::stop::{Stop, after, refused};
 use crate::refused::trial::{Calls, Trial, tried};
 use ref_parts::{
     EncodedBuffer, first_escape, parse_index, pointer, unescape_segment, write_escaped_str,
     write_index,
 };
 use serde_json::Value;
-use std::alloc::{AllocError, Global};
+use std::alloc::Global;
 
 /// Buffers that hold `/` and, encoded, `a`, and one that is decoded; and a document.
 #[derive(Drop)]
@@ -38,20 +38,13 @@ pub fn row(alloc: Global, call: &str) -> Result<Trial, Stop> {
 impl Calls for Texts {
     fn answer(&mut self, alloc: Global, call: &str) -> Result<String, Stop> {
         match call {
-            "write_index" => {
-                let answer = write_index(&mut self.pointer, 18446744073709551615);
-                written(alloc, answer, self.pointer.as_str(), "/")
-            }
-            "write_escaped_str" => {
-                let key = "a/b~c and more than the room that there is";
-                let answer = write_escaped_str(&mut self.pointer, key);
-                written(alloc, answer, self.pointer.as_str(), "/")
-            }
-            "unescape_segment" => displayed(alloc, unescape_segment(alloc, "a~1b~0")),
-            "unescape_segment plain" => displayed(alloc, unescape_segment(alloc, "ab")),
+            "write_index" => index_written(alloc, &mut self.pointer),
+            "write_escaped_str" => key_written(alloc, &mut self.pointer),
+            "unescape_segment" => unescaped(alloc, "a~1b~0"),
+            "unescape_segment plain" => unescaped(alloc, "ab"),
             "encoded_buffer.push_str" => pushed(alloc, &mut self.grown),
-            "encoded_buffer.decode" => displayed(alloc, self.encoded.decode(alloc)),
-            "pointer" => outcome(alloc, pointer(alloc, &self.document, "/a~1b")),
+            "encoded_buffer.decode" => decoded(alloc, &self.encoded),
+            "pointer" => pointed(alloc, &self.document),
             "readers" => read(alloc),
             _ => Err(Stop::Wrong),
         }
@@ -64,36 +57,53 @@ fn encoded(alloc: Global, text: &str) -> Result<EncodedBuffer, Stop> {
     Ok(buffer)
 }
 
+fn index_written(alloc: Global, buffer: &mut String) -> Result<String, Stop> {
+    match write_index(buffer, 18446744073709551615) {
+        Ok(()) => after(String::from_str(alloc, buffer.as_str())),
+        Err(error) => Err(refused(&error, buffer.as_str() == "/")),
+    }
+}
+
+fn key_written(alloc: Global, buffer: &mut String) -> Result<String, Stop> {
+    match write_escaped_str(buffer, "a/b~c and more than the room that there is") {
+        Ok(()) => after(String::from_str(alloc, buffer.as_str())),
+        Err(error) => Err(refused(&error, buffer.as_str() == "/")),
+    }
+}
+
+fn unescaped(alloc: Global, token: &str) -> Result<String, Stop> {
+    match unescape_segment(alloc, token) {
+        Ok(key) => after(String::from_str(alloc, key.as_str())),
+        Err(error) => Err(refused(&error, true)),
+    }
+}
+
+fn pushed(alloc: Global, buffer: &mut EncodedBuffer) -> Result<String, Stop> {
+    match buffer.push_str("/ é and more than the room that there is") {
+        Ok(()) => after(String::from_str(alloc, buffer.as_str())),
+        Err(error) => Err(refused(&error, has_rows(buffer))),
+    }
+}
+
 /// Whether a buffer answers as one of `a`.
 fn has_rows(buffer: &EncodedBuffer) -> bool {
     buffer.as_str() == "a" && buffer.as_encoded().as_str() == "a"
 }
 
-fn pushed(alloc: Global, buffer: &mut EncodedBuffer) -> Result<String, Stop> {
-    let answer = buffer.push_str("/ é and more than the room that there is");
-    changed(alloc, answer, has_rows(buffer))?;
-    after(String::from_str(alloc, buffer.as_str()))
+fn decoded(alloc: Global, buffer: &EncodedBuffer) -> Result<String, Stop> {
+    match buffer.decode(alloc) {
+        Ok(text) => Ok(text),
+        Err(error) => Err(refused(&error, buffer.as_str() == "~%20?")),
+    }
 }
 
-/// The text of a buffer that is written to, which is to be the one before where the write wants memory.
-fn written(
-    alloc: Global,
-    answer: Result<(), AllocError>,
-    text: &str,
-    before: &str,
-) -> Result<String, Stop> {
-    changed(alloc, answer, text == before)?;
-    after(String::from_str(alloc, text))
-}
-
-/// The title of a value, or itself where it is a text.
-impl Told for Option<&Value> {
-    fn told(&self, alloc: Global) -> Result<String, AllocError> {
-        let text = match self {
-            Some(value) => title_of(value),
-            None => "no value",
-        };
-        String::from_str(alloc, text)
+fn pointed(alloc: Global, document: &Value) -> Result<String, Stop> {
+    match pointer(alloc, document, "/a~1b") {
+        Ok(found) => {
+            let text = found.and_then(Value::as_str).unwrap_or("none");
+            after(String::from_str(alloc, text))
+        }
+        Err(error) => Err(refused(&error, true)),
     }
 }
 

@@ -1,19 +1,18 @@
 //! Where memory was wanted, as a call tells it: while documents are prepared, at which step, or for the copy of an answer.
 use crate::refused::documents::{DOCUMENT, SUBRESOURCE, retriever, uri, value};
-use crate::refused::stop::{Stop, after, before, is_memory};
+use crate::refused::stop::{Refusal, Stop, after, before};
 use crate::refused::trial::Trial;
 use ref_error::MapRetriever;
 use referencing::{
-    Answer, AnswerError, Draft, Registry, RegistryBuilder, ResourceRef, Step, follow,
+    Answer, AnswerError, Draft, FollowError, Registry, RegistryBuilder, ResourceRef, Step, follow,
 };
 use std::alloc::Global;
-use std::fmt;
 
 /// The row of a call: `prepare`, `follow` with the number of steps, or `answer`, which is both with all steps.
 pub fn row(alloc: Global, call: &str) -> Result<Trial, Stop> {
     let document = value(alloc, DOCUMENT)?;
     let schema = value(alloc, SUBRESOURCE)?;
-    let builder = before(alloc, Registry::new(alloc).add("http://a/r", &document))?;
+    let builder = before(Registry::new(alloc).add("http://a/r", &document))?;
     let builder = builder.retriever(retriever(alloc)?);
     let steps = [
         Step::Lookup("x"),
@@ -40,25 +39,26 @@ fn line(alloc: Global, call: &str, told: &str, is_refused: bool) -> Result<Trial
     })
 }
 
-/// The line of a call that wanted memory, at a place, or else where its error says.
-fn wanted<E: fmt::Display + Drop>(
-    alloc: Global,
-    call: &str,
-    error: E,
-    place: Option<&str>,
-) -> Result<Trial, Stop> {
-    let text = after(format!(in alloc; "{error}"))?;
-    if !is_memory(text.as_str()) {
-        return Err(Stop::Wrong);
+/// The line of a call that wanted memory.
+fn wanted<E: Refusal>(alloc: Global, call: &str, error: &E, place: &str) -> Result<Trial, Stop> {
+    if error.is_memory() {
+        line(alloc, call, place, true)
+    } else {
+        Err(Stop::Wrong)
     }
-    line(alloc, call, place.unwrap_or(text.as_str()), true)
 }
 
 fn prepared(alloc: Global, builder: RegistryBuilder<'_, MapRetriever>) -> Result<Trial, Stop> {
-    match builder.prepare().err() {
-        Some(error) => wanted(alloc, "prepare", error, Some("Prepare")),
-        None => line(alloc, "prepare", "prepared", false),
+    match builder.prepare() {
+        Ok(_registry) => line(alloc, "prepare", "prepared", false),
+        Err(error) => wanted(alloc, "prepare", &error, "Prepare"),
     }
+}
+
+/// The line of steps that want memory.
+fn at_step(alloc: Global, call: &str, ended: &FollowError) -> Result<Trial, Stop> {
+    let place = after(format!(in alloc; "{ended}"))?;
+    wanted(alloc, call, &ended.error, place.as_str())
 }
 
 /// The line of steps in a registry.
@@ -71,7 +71,7 @@ fn stepped(
     let base = uri(alloc, "http://a/r")?;
     match follow(alloc, registry, base, steps) {
         Ok(followed) => line(alloc, call, followed.resolver.base_uri().as_str(), false),
-        Err(ended) => wanted(alloc, call, ended, None),
+        Err(ended) => at_step(alloc, call, &ended),
     }
 }
 
@@ -81,7 +81,7 @@ fn followed(
     builder: RegistryBuilder<'_, MapRetriever>,
     steps: &[Step<'_>],
 ) -> Result<Trial, Stop> {
-    let registry = before(alloc, builder.prepare())?;
+    let registry = before(builder.prepare())?;
     stepped(alloc, call, &registry, steps)
 }
 
@@ -89,9 +89,9 @@ fn followed(
 fn placed(alloc: Global, answer: &Result<Answer, AnswerError>) -> Result<Trial, Stop> {
     match answer {
         Ok(answer) => line(alloc, "answer", answer.base.as_str(), false),
-        Err(AnswerError::Prepare(error)) => wanted(alloc, "answer", error, Some("Prepare")),
-        Err(AnswerError::Follow(ended)) => wanted(alloc, "answer", ended, None),
-        Err(AnswerError::Memory(error)) => wanted(alloc, "answer", error, Some("Copy")),
+        Err(AnswerError::Prepare(error)) => wanted(alloc, "answer", error, "Prepare"),
+        Err(AnswerError::Follow(ended)) => at_step(alloc, "answer", ended),
+        Err(AnswerError::Memory(error)) => wanted(alloc, "answer", error, "Copy"),
     }
 }
 
@@ -101,8 +101,5 @@ fn answered(
     steps: &[Step<'_>],
 ) -> Result<Trial, Stop> {
     let base = uri(alloc, "http://a/r")?;
-    let answer = builder.prepare_and_follow(base, steps);
-    let placed = placed(alloc, &answer);
-    drop(answer);
-    placed
+    placed(alloc, &builder.prepare_and_follow(base, steps))
 }

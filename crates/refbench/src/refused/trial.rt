@@ -17,6 +17,17 @@ pub struct Trial {
     pub is_refused: bool,
 }
 
+impl Trial {
+    /// The status with which the program ends.
+    pub fn status(&self) -> u8 {
+        if self.is_refused {
+            Stop::Refused.status()
+        } else {
+            0
+        }
+    }
+}
+
 /// The line of a call.
 fn line(alloc: Global, group: &str, call: &str, answer: &str) -> Result<String, AllocError> {
     format!(in alloc; "{group} {call}: {answer}")

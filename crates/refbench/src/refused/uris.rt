@@ -1,9 +1,9 @@
 //! Calls of `ref_uri`.
-use crate::refused::stop::{Stop, after, before, changed, displayed};
+use crate::refused::stop::{Stop, Told, after, before, outcome, refused};
 use crate::refused::trial::{Calls, Trial, tried};
 use ref_uri::uri::{from_str, resolve_against};
 use ref_uri::{Uri, UriRef};
-use std::alloc::Global;
+use std::alloc::{AllocError, Global};
 
 /// URIs that are before a call.
 #[derive(Drop)]
@@ -19,9 +19,9 @@ struct Uris {
 /// The row of a call.
 pub fn row(alloc: Global, call: &str) -> Result<Trial, Stop> {
     let mut uris = Uris {
-        given: before(alloc, Uri::parse(alloc, "HTTP://A/./%7e"))?,
-        whole: before(alloc, Uri::parse(alloc, "http://a:1/b?c#d"))?,
-        set: before(alloc, Uri::parse(alloc, "http://a/r#x"))?,
+        given: before(Uri::parse(alloc, "HTTP://A/./%7e"))?,
+        whole: before(Uri::parse(alloc, "http://a:1/b?c#d"))?,
+        set: before(Uri::parse(alloc, "http://a/r#x"))?,
     };
     tried(
         alloc,
@@ -35,27 +35,27 @@ pub fn row(alloc: Global, call: &str) -> Result<Trial, Stop> {
 impl Calls for Uris {
     fn answer(&mut self, alloc: Global, call: &str) -> Result<String, Stop> {
         match call {
-            "parse" => displayed(alloc, Uri::parse(alloc, "http://a/r")),
-            "from_str" => displayed(alloc, from_str(alloc, "HTTP://A/x/../%72")),
-            "from_str invalid" => displayed(alloc, from_str(alloc, "a b")),
+            "parse" => outcome(alloc, Uri::parse(alloc, "http://a/r")),
+            "from_str" => outcome(alloc, from_str(alloc, "HTTP://A/x/../%72")),
+            "from_str invalid" => outcome(alloc, from_str(alloc, "a b")),
             "resolve_against" => meant_against(alloc, "http://a/b/c/d;p?q", "../g"),
             "resolve_against invalid" => meant_against(alloc, "http://a/b/c/d;p?q", "a b"),
             "resolve_against without a scheme" => meant_against(alloc, "b", "../g"),
-            "reference.resolve_against" => {
-                let base = reference("http://a/b/c/d;p?q")?;
-                displayed(alloc, reference("g;x=1/../y")?.resolve_against(alloc, base))
-            }
-            "reference.normalize" => displayed(
-                alloc,
-                reference("HTTP://A/./%7e")?.normalize(alloc),
-            ),
-            "normalize" => displayed(alloc, self.given.normalize(alloc)),
-            "clone" => displayed(alloc, self.whole.clone()),
+            "reference.resolve_against" => resolved(alloc),
+            "reference.normalize" => normal_text(alloc),
+            "normalize" => outcome(alloc, self.given.normalize(alloc)),
+            "clone" => outcome(alloc, self.whole.clone()),
             "set_fragment" => with_fragment(alloc, &mut self.set, Some("/properties/name")),
             "set_fragment none" => with_fragment(alloc, &mut self.set, None),
             "readers" => read(alloc, &self.whole),
             _ => Err(Stop::Wrong),
         }
+    }
+}
+
+impl Told for Uri {
+    fn told(&self, alloc: Global) -> Result<String, AllocError> {
+        String::from_str(alloc, self.as_str())
     }
 }
 
@@ -65,7 +65,20 @@ fn reference(text: &str) -> Result<UriRef<'_>, Stop> {
 }
 
 fn meant_against(alloc: Global, base: &str, text: &str) -> Result<String, Stop> {
-    displayed(alloc, resolve_against(alloc, reference(base)?, text))
+    outcome(alloc, resolve_against(alloc, reference(base)?, text))
+}
+
+fn resolved(alloc: Global) -> Result<String, Stop> {
+    let base = reference("http://a/b/c/d;p?q")?;
+    outcome(alloc, reference("g;x=1/../y")?.resolve_against(alloc, base))
+}
+
+fn normal_text(alloc: Global) -> Result<String, Stop> {
+    let given = reference("HTTP://A/./%7e")?;
+    match given.normalize(alloc) {
+        Ok(text) => Ok(text),
+        Err(error) => Err(refused(&error, given.as_str() == "HTTP://A/./%7e")),
+    }
 }
 
 /// The parts of a URI, with no text for those that it hasn't.
@@ -88,9 +101,10 @@ fn has_rows(uri: &Uri) -> bool {
 }
 
 fn with_fragment(alloc: Global, uri: &mut Uri, fragment: Option<&str>) -> Result<String, Stop> {
-    let answer = uri.set_fragment(fragment);
-    changed(alloc, answer, has_rows(uri))?;
-    after(String::from_str(alloc, uri.as_str()))
+    match uri.set_fragment(fragment) {
+        Ok(()) => after(String::from_str(alloc, uri.as_str())),
+        Err(error) => Err(refused(&error, has_rows(uri))),
+    }
 }
 
 fn read(alloc: Global, uri: &Uri) -> Result<String, Stop> {

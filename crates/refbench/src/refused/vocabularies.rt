@@ -1,6 +1,6 @@
 //! Calls of vocabularies.
 use crate::refused::documents::value;
-use crate::refused::stop::{Stop, Told, after, before, changed, debugged, outcome, shown};
+use crate::refused::stop::{Stop, Told, after, before, fault, outcome, refused};
 use crate::refused::trial::{Calls, Trial, tried};
 use ref_draft::Draft;
 use ref_vocabularies::{
@@ -13,11 +13,8 @@ const CORE: &str = "https://json-schema.org/draft/2020-12/vocab/core";
 
 const CUSTOM: &str = "https://example.com/v";
 
-/// The set of that one as it is shown.
-const ONE: &str = r#"["https://example.com/v"]"#;
-
 const META: &str =
-    r#"{"$schema":"http://a/m#","$vocabulary":{"https://json-schema.org/draft/2020-12/vocab/core":true,"https://example.com/v":true,"https://example.com/w":false}}"#;
+    r#"{"$vocabulary":{"https://json-schema.org/draft/2020-12/vocab/core":true,"https://example.com/v":true,"https://example.com/w":false}}"#;
 
 /// An empty set, one of a vocabulary that isn't known, that vocabulary, and a meta-schema.
 #[derive(Drop)]
@@ -48,7 +45,7 @@ pub fn row(alloc: Global, call: &str) -> Result<Trial, Stop> {
 }
 
 fn custom(alloc: Global, text: &str) -> Result<Vocabulary, Stop> {
-    before(alloc, Vocabulary::from_text(alloc, text))
+    before(Vocabulary::from_text(alloc, text))
 }
 
 impl Calls for Vocabularies {
@@ -59,14 +56,14 @@ impl Calls for Vocabularies {
             "from_text invalid" => outcome(alloc, Vocabulary::from_text(alloc, "a b")),
             "vocabulary.clone" => outcome(alloc, self.custom.clone()),
             "vocabulary.clone known" => outcome(alloc, Vocabulary::Core.clone()),
-            "set.add" => added(alloc, &mut self.empty, CUSTOM, "[]"),
-            "set.add known" => added(alloc, &mut self.one, CORE, ONE),
-            "set.add again" => added(alloc, &mut self.one, CUSTOM, ONE),
-            "set.clone" => debugged(alloc, self.one.clone()),
-            "set.clone known" => debugged(alloc, default_vocabularies(Draft::Draft7).clone()),
-            "find" => outcome(alloc, find(alloc, &self.meta)),
-            "declared_or_default" => debugged(alloc, declared_or_default(alloc, Some(&self.meta))),
-            "dialect" => outcome(alloc, Dialect::of(alloc, Draft::Unknown, &self.meta)),
+            "set.add" => added(alloc, &mut self.empty, CUSTOM, 0),
+            "set.add known" => added(alloc, &mut self.one, CORE, 1),
+            "set.add again" => added(alloc, &mut self.one, CUSTOM, 1),
+            "set.clone" => copied_set(alloc, &self.one),
+            "set.clone known" => outcome(alloc, default_vocabularies(Draft::Draft7).clone()),
+            "find" => found(alloc, &self.meta),
+            "declared_or_default" => outcome(alloc, declared_or_default(alloc, Some(&self.meta))),
+            "dialect" => spoken(alloc),
             _ => Err(Stop::Wrong),
         }
     }
@@ -85,32 +82,53 @@ impl Told for Vocabulary {
     }
 }
 
-/// The set that a meta-schema declares.
-impl Told for Option<VocabularySet> {
+impl Told for VocabularySet {
     fn told(&self, alloc: Global) -> Result<String, AllocError> {
-        match self {
-            Some(set) => shown(alloc, set),
-            None => String::from_str(alloc, "no set"),
+        format!(in alloc; "{self:?}")
+    }
+}
+
+/// Whether a set has so many vocabularies that aren't known, each that of the custom one, and none that is known.
+fn has(set: &VocabularySet, count: usize) -> bool {
+    let mut customs: usize = 0;
+    for uri in set.custom() {
+        customs = customs.saturating_add(1);
+        if uri != CUSTOM {
+            return false;
         }
+    }
+    customs == count && !set.contains(&Vocabulary::Core) && !set.contains(&Vocabulary::Applicator)
+}
+
+fn copied_set(alloc: Global, set: &VocabularySet) -> Result<String, Stop> {
+    match set.clone() {
+        Ok(copy) => after(copy.told(alloc)),
+        Err(error) => Err(refused(&error, has(set, 1))),
+    }
+}
+
+fn added(alloc: Global, set: &mut VocabularySet, text: &str, count: usize) -> Result<String, Stop> {
+    let vocabulary = custom(alloc, text)?;
+    match set.add(alloc, vocabulary) {
+        Ok(()) => after(set.told(alloc)),
+        Err(error) => Err(refused(&error, has(set, count))),
+    }
+}
+
+fn found(alloc: Global, meta: &Value) -> Result<String, Stop> {
+    match find(alloc, meta) {
+        Ok(Some(found)) => after(found.told(alloc)),
+        Ok(None) => Err(Stop::Wrong),
+        Err(error) => fault(alloc, &error),
     }
 }
 
 /// The URI under which the vocabularies of a schema are declared.
-impl Told for Dialect {
-    fn told(&self, alloc: Global) -> Result<String, AllocError> {
-        let text = match self {
-            Dialect::MetaSchema(uri) => uri.as_str(),
-            Dialect::Known(_) => "no URI",
-        };
-        String::from_str(alloc, text)
+fn spoken(alloc: Global) -> Result<String, Stop> {
+    let schema = value(alloc, r#"{"$schema":"http://a/m#"}"#)?;
+    match Dialect::of(alloc, Draft::Unknown, &schema) {
+        Ok(Dialect::MetaSchema(uri)) => after(String::from_str(alloc, uri.as_str())),
+        Ok(_) => Err(Stop::Wrong),
+        Err(error) => Err(refused(&error, true)),
     }
-}
-
-/// A set with one vocabulary more, or as it was before.
-fn added(alloc: Global, set: &mut VocabularySet, text: &str, before: &str) -> Result<String, Stop> {
-    let vocabulary = custom(alloc, text)?;
-    let answer = set.add(alloc, vocabulary);
-    let told = after(shown(alloc, set))?;
-    changed(alloc, answer, told.as_str() == before)?;
-    Ok(told)
 }

@@ -40,6 +40,15 @@ fn followed(alloc: Global, builder: RegistryBuilder<'_>, pointer: &str) -> Resul
     })
 }
 
+/// That of a document that is lent.
+fn of_lent(alloc: Global, document: &Value, pointer: &str) -> Result<u64, Error> {
+    followed(
+        alloc,
+        Registry::new(alloc).add("http://a/r", document)?,
+        pointer,
+    )
+}
+
 /// How long the text of a document is, or 1 where a copy was made or is equal; the pointer's length of one that is lent.
 fn of_value(alloc: Global, document: &Value, line: Line<'_>, pointer: &str) -> Option<u64> {
     match line.text {
@@ -54,10 +63,7 @@ fn of_value(alloc: Global, document: &Value, line: Line<'_>, pointer: &str) -> O
             Some(u64::from(is_equal))
         }
         "printed" => Some(document.to_string(alloc).ok()?.len() as u64),
-        _ => {
-            let builder = Registry::new(alloc).add("http://a/r", document).ok()?;
-            followed(alloc, builder, pointer).ok()
-        }
+        _ => of_lent(alloc, document, pointer).ok(),
     }
 }
 

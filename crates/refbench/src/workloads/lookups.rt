@@ -15,70 +15,109 @@ use referencing::{Draft, Registry, RegistryBuilder, Resolver};
 use serde_json::Value;
 use std::alloc::{AllocError, Global};
 
-/// A text with a number, among so many documents: a reference of a kind of look-up, or the URI of a `document`, of a `definition`, or of
-/// a `node`.
-fn text_of(alloc: Global, kind: &str, number: usize, size: usize) -> Result<String, AllocError> {
+/// The URI of a definition.
+fn definition_of(alloc: Global, number: usize) -> Result<String, AllocError> {
     let (document, key) = (number / DEFINITIONS, number % DEFINITIONS);
+    format!(in alloc; "http://example.com/d{document}/k{key}")
+}
+
+/// The `$ref` of a definition in so many documents.
+fn reference_of(alloc: Global, number: usize, size: usize) -> Result<String, AllocError> {
+    let (document, key) = (number / DEFINITIONS, number % DEFINITIONS);
+    let next = if document + 1 < size { document + 1 } else { 0 };
+    format!(in alloc; "../d{next}/k{key}")
+}
+
+/// The URI of a definition with its anchor after it.
+fn anchor_of(alloc: Global, number: usize) -> Result<String, AllocError> {
+    let (document, key) = (number / DEFINITIONS, number % DEFINITIONS);
+    format!(in alloc; "http://example.com/d{document}/k{key}#a{key}")
+}
+
+/// How many references a kind of look-up has in turn.
+fn count_of(kind: &str, size: usize) -> usize {
+    match kind {
+        "pointer" | "pointer-type" | "pointer-plain" => 1,
+        "anchor" => DEFINITIONS,
+        _ => size.saturating_mul(DEFINITIONS),
+    }
+}
+
+/// The reference of a number.
+fn numbered(alloc: Global, kind: &str, number: usize, size: usize) -> Result<String, AllocError> {
     match kind {
         "pointer" => String::from_str(alloc, "#/definitions/k7"),
         "pointer-type" => String::from_str(alloc, "#/definitions/k7/type"),
         "pointer-plain" => String::from_str(alloc, "#/definitions"),
         "anchor" => format!(in alloc; "#a{number}"),
-        "flat-ref" => {
-            let next = if document + 1 < size { document + 1 } else { 0 };
-            format!(in alloc; "../d{next}/k{key}")
-        }
-        "chain-anchor" => format!(in alloc; "http://example.com/d{document}/k{key}#a{key}"),
-        "document" => format!(in alloc; "http://example.com/d{number}/"),
-        "node" => format!(in alloc; "http://example.com/t{number}"),
-        _ => format!(in alloc; "http://example.com/d{document}/k{key}"),
-    }
-}
-
-/// How many references a kind of look-up has in turn, how many resolvers it starts from, and what their bases are the URIs of.
-fn counts_of(line: Line<'_>) -> (usize, usize, &'static str) {
-    let all = line.size.saturating_mul(DEFINITIONS);
-    match line.text {
-        "pointer" | "pointer-type" | "pointer-plain" => (1, line.size, "document"),
-        "anchor" => (DEFINITIONS, all, "definition"),
-        "flat-ref" => (all, all, "definition"),
-        _ => (all, 1, "document"),
+        "flat-ref" => reference_of(alloc, number, size),
+        "chain-anchor" => anchor_of(alloc, number),
+        _ => definition_of(alloc, number),
     }
 }
 
 /// What a kind of look-up refers to, one after another.
-fn references_of(alloc: Global, line: Line<'_>) -> Result<Vec<String>, AllocError> {
+fn references_of(alloc: Global, kind: &str, size: usize) -> Result<Vec<String>, AllocError> {
     let mut references = Vec::new(alloc);
-    let (count, _, _) = counts_of(line);
-    for number in 0..count {
-        references.push(text_of(alloc, line.text, number, line.size)?)?;
+    for number in 0..count_of(kind, size) {
+        references.push(numbered(alloc, kind, number, size)?)?;
     }
     Ok(references)
 }
 
+/// How many resolvers a kind of look-up starts from.
+fn starts_in(kind: &str, size: usize) -> usize {
+    match kind {
+        "pointer" | "pointer-type" | "pointer-plain" => size,
+        "anchor" | "flat-ref" => size.saturating_mul(DEFINITIONS),
+        _ => 1,
+    }
+}
+
+/// The base of the resolver of a number.
+fn base_of(alloc: Global, kind: &str, number: usize) -> Result<String, AllocError> {
+    match kind {
+        "anchor" | "flat-ref" => definition_of(alloc, number),
+        _ => format!(in alloc; "http://example.com/d{number}/"),
+    }
+}
+
 /// The resolver at the URI of a text.
-fn resolver_at<'r>(
+fn resolver_at<'r>(alloc: Global, registry: &'r Registry<'_>, base: &str) -> Option<Resolver<'r>> {
+    let base = from_str(alloc, base).ok()?;
+    registry.resolver(alloc, base).ok()
+}
+
+/// The resolver of a number.
+fn resolver_of<'r>(
     alloc: Global,
     registry: &'r Registry<'_>,
-    base: Result<String, AllocError>,
+    kind: &str,
+    number: usize,
 ) -> Option<Resolver<'r>> {
-    let base = from_str(alloc, base.ok()?.as_str()).ok()?;
-    registry.resolver(alloc, base).ok()
+    let base = base_of(alloc, kind, number).ok()?;
+    resolver_at(alloc, registry, base.as_str())
 }
 
 /// The resolvers from which a kind of look-up starts, one after another.
 fn resolvers_of<'r>(
     alloc: Global,
     registry: &'r Registry<'_>,
-    line: Line<'_>,
+    kind: &str,
+    size: usize,
 ) -> Option<Vec<Resolver<'r>>> {
     let mut resolvers = Vec::new(alloc);
-    let (_, count, kind) = counts_of(line);
-    for number in 0..count {
-        let base = text_of(alloc, kind, number, line.size);
-        resolvers.push(resolver_at(alloc, registry, base)?).ok()?;
+    for number in 0..starts_in(kind, size) {
+        let resolver = resolver_of(alloc, registry, kind, number)?;
+        push(&mut resolvers, resolver).ok()?;
     }
     Some(resolvers)
+}
+
+/// Adds a resolver after the others.
+fn push<'r>(resolvers: &mut Vec<Resolver<'r>>, resolver: Resolver<'r>) -> Result<(), AllocError> {
+    resolvers.push(resolver)?;
+    Ok(())
 }
 
 /// What is looked up in turn: each resolver with its reference, the shorter of both lists over and over.
@@ -165,38 +204,90 @@ fn here(alloc: Global, start: Resolver<'_>, is_lookup: bool, times: u32) -> Resu
     Ok(sum)
 }
 
-/// How many look-ups of a line are answered that start from resolvers in turn, each with its reference.
-fn from_resolvers(alloc: Global, registry: &Registry<'_>, line: Line<'_>) -> Option<u64> {
-    let references = references_of(alloc, line).ok()?;
-    let resolvers = resolvers_of(alloc, registry, line)?;
-    let starts = starts_of(alloc, resolvers.as_slice(), references.as_slice()).ok()?;
-    from_each(alloc, starts.as_slice(), line.times).ok()
+/// How many look-ups of a kind are answered, each from the answer of the last.
+fn chained(alloc: Global, start: Resolver<'_>, kind: &str, size: usize, times: u32) -> Option<u64> {
+    let references = references_of(alloc, kind, size).ok()?;
+    in_turn(alloc, start, references.as_slice(), times).ok()
 }
 
-/// How many look-ups of a line are answered in a registry.
-fn looked_up(alloc: Global, registry: &Registry<'_>, line: Line<'_>) -> Option<u64> {
-    if !["chain", "chain-anchor", "chain-ref", "here", "resolved"].contains(&line.text) {
-        return from_resolvers(alloc, registry, line);
+/// How many look-ups are answered that start from resolvers in turn, each with its reference.
+fn spread(
+    alloc: Global,
+    resolvers: &[Resolver<'_>],
+    references: &[String],
+    times: u32,
+) -> Option<u64> {
+    let starts = starts_of(alloc, resolvers, references).ok()?;
+    from_each(alloc, starts.as_slice(), times).ok()
+}
+
+/// How many look-ups of a kind are answered that start from resolvers in turn.
+fn from_resolvers(
+    alloc: Global,
+    registry: &Registry<'_>,
+    kind: &str,
+    size: usize,
+    times: u32,
+) -> Option<u64> {
+    let references = references_of(alloc, kind, size).ok()?;
+    let resolvers = resolvers_of(alloc, registry, kind, size)?;
+    spread(alloc, resolvers.as_slice(), references.as_slice(), times)
+}
+
+/// How many look-ups of a kind are answered in a registry.
+fn looked_up(
+    alloc: Global,
+    registry: &Registry<'_>,
+    kind: &str,
+    size: usize,
+    times: u32,
+) -> Option<u64> {
+    if !["chain", "chain-anchor", "chain-ref", "here", "resolved"].contains(&kind) {
+        return from_resolvers(alloc, registry, kind, size, times);
     }
-    let start = resolver_at(alloc, registry, text_of(alloc, "definition", 0, line.size))?;
-    match line.text {
-        "chain-ref" => along_references(alloc, start, line.times).ok(),
-        "here" => here(alloc, start, true, line.times).ok(),
-        "resolved" => here(alloc, start, false, line.times).ok(),
-        _ => {
-            let references = references_of(alloc, line).ok()?;
-            in_turn(alloc, start, references.as_slice(), line.times).ok()
-        }
+    let start = resolver_at(alloc, registry, "http://example.com/d0/k0")?;
+    match kind {
+        "chain-ref" => along_references(alloc, start, times).ok(),
+        "here" => here(alloc, start, true, times).ok(),
+        "resolved" => here(alloc, start, false, times).ok(),
+        _ => chained(alloc, start, kind, size, times),
     }
 }
 
-/// A resolver whose scope has the URIs of so many documents with the same dynamic anchor.
-fn among_nodes<'r>(alloc: Global, registry: &'r Registry<'_>, size: usize) -> Option<Resolver<'r>> {
-    let mut resolver = resolver_at(alloc, registry, text_of(alloc, "node", 0, size))?;
+/// The URI of a document with a dynamic anchor.
+fn node_uri_of(alloc: Global, number: usize) -> Result<String, AllocError> {
+    format!(in alloc; "http://example.com/t{number}")
+}
+
+/// A document with a dynamic anchor, under its URI.
+fn node_of(alloc: Global, number: usize) -> Option<(String, Value)> {
+    let uri = node_uri_of(alloc, number).ok()?;
+    let text = format!(in alloc; "{{\"$id\":\"{uri}\",\"$dynamicAnchor\":\"node\"}}").ok()?;
+    let value = Value::from_str(alloc, text.as_str()).ok()?;
+    Some((uri, value))
+}
+
+/// So many documents, each with the same dynamic anchor.
+fn nodes_of(alloc: Global, size: usize) -> Option<Vec<(String, Value)>> {
+    let mut documents = Vec::new(alloc);
     for number in 0..size {
-        let uri = text_of(alloc, "node", number, size).ok()?;
-        let found = resolver.lookup(alloc, uri.as_str()).ok()?;
-        resolver = found.into_inner().1;
+        documents.push(node_of(alloc, number)?).ok()?;
+    }
+    Some(documents)
+}
+
+/// The resolver to which the URI of the document of a number leads.
+fn at_node<'r>(alloc: Global, resolver: &Resolver<'r>, number: usize) -> Option<Resolver<'r>> {
+    let uri = node_uri_of(alloc, number).ok()?;
+    let found = resolver.lookup(alloc, uri.as_str()).ok()?;
+    Some(found.into_inner().1)
+}
+
+/// A resolver whose scope has the URIs of so many such documents.
+fn among_nodes<'r>(alloc: Global, registry: &'r Registry<'_>, size: usize) -> Option<Resolver<'r>> {
+    let mut resolver = resolver_at(alloc, registry, "http://example.com/t0")?;
+    for number in 0..size {
+        resolver = at_node(alloc, &resolver, number)?;
     }
     Some(resolver)
 }
@@ -211,22 +302,37 @@ fn dynamically(alloc: Global, resolver: &Resolver<'_>, times: u32) -> Result<u64
     Ok(sum)
 }
 
-/// Whether a dynamic anchor is looked up.
-fn is_dynamic(line: Line<'_>) -> bool {
-    line.call.starts_with("dynamic")
-}
-
 /// How many look-ups of a line are answered in the registry that a builder prepares.
 fn prepared(alloc: Global, builder: RegistryBuilder<'_>, line: Line<'_>) -> Option<u64> {
     let registry = builder.prepare().ok()?;
-    if is_dynamic(line) {
+    if is_dynamic(line.call) {
         let resolver = among_nodes(alloc, &registry, line.size)?;
         return dynamically(alloc, &resolver, line.times).ok();
     }
-    looked_up(alloc, &registry, line)
+    looked_up(alloc, &registry, line.text, line.size, line.times)
 }
 
-/// How many look-ups of a line are answered in documents that are borrowed.
+/// Whether a dynamic anchor is looked up.
+fn is_dynamic(call: &str) -> bool {
+    call.starts_with("dynamic")
+}
+
+/// The documents of a line.
+fn documents_for(alloc: Global, line: Line<'_>) -> Option<Vec<(String, Value)>> {
+    if is_dynamic(line.call) {
+        nodes_of(alloc, line.size)
+    } else {
+        documents_of(alloc, line.size)
+    }
+}
+
+/// How many look-ups of a line are answered in documents that are owned.
+fn owned(alloc: Global, documents: Vec<(String, Value)>, line: Line<'_>) -> Option<u64> {
+    let builder = Registry::new(alloc).draft(Draft::Draft202012);
+    prepared(alloc, builder.extend(documents).ok()?, line)
+}
+
+/// The same in documents that are borrowed.
 fn borrowed(alloc: Global, documents: &[(String, Value)], line: Line<'_>) -> Option<u64> {
     let documents = lent(alloc, documents).ok()?;
     let builder = Registry::new(alloc).draft(Draft::Draft202012);
@@ -235,11 +341,9 @@ fn borrowed(alloc: Global, documents: &[(String, Value)], line: Line<'_>) -> Opt
 
 /// How many look-ups of a line are answered; nothing where one is refused.
 pub fn answer(alloc: Global, line: Line<'_>) -> Option<u64> {
-    let kind = if is_dynamic(line) { "node" } else { "borrowed" };
-    let documents = documents_of(alloc, kind, line.size)?;
+    let documents = documents_for(alloc, line)?;
     if line.call.ends_with("-owned") {
-        let builder = Registry::new(alloc).draft(Draft::Draft202012);
-        return prepared(alloc, builder.extend(documents).ok()?, line);
+        return owned(alloc, documents, line);
     }
     borrowed(alloc, documents.as_slice(), line)
 }

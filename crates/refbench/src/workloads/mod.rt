@@ -11,8 +11,7 @@ mod steps;
 mod vocabularies;
 
 use crate::refused::{Stop, Trial};
-use crate::workloads::line::Line;
-pub use crate::workloads::line::line_of;
+use crate::workloads::line::{Line, line_of};
 use ref_uri::{UriRef, uri};
 use std::alloc::{AllocError, Global};
 
@@ -133,8 +132,9 @@ fn answer(alloc: Global, line: Line<'_>) -> Option<u64> {
     }
 }
 
-/// What is printed of a line with this text.
-pub fn row(alloc: Global, text: &str, line: Line<'_>) -> Result<Trial, Stop> {
+/// What is printed of a line.
+pub fn row(alloc: Global, text: &str) -> Result<Trial, Stop> {
+    let line = line_of(text).ok_or(Stop::Wrong)?;
     let sum = answer(alloc, line).ok_or(Stop::Wrong)?;
     let lines = format!(in alloc; "{text}: {sum}")?;
     Ok(Trial {

@@ -23,14 +23,17 @@ fn table_of(alloc: Global, size: usize) -> Result<SortedTable<usize>, AllocError
     SortedTable::from_entries(alloc, entries)
 }
 
+/// A number below the size, far from those of the keys before it.
+fn spread(key: usize, size: usize) -> usize {
+    key.wrapping_mul(7_919).checked_rem(size).unwrap_or(0)
+}
+
 /// How many probes so many look-ups take together.
 fn probes(alloc: Global, size: usize, times: u32) -> Result<u64, AllocError> {
     let table = table_of(alloc, size)?;
     let mut keys = Vec::with_capacity(alloc, KEYS)?;
     for key in 0..KEYS {
-        // a number below the size, far from those of the keys before it
-        let number = key.wrapping_mul(7_919).checked_rem(size).unwrap_or(0);
-        keys.push(uri_of(alloc, number)?)?;
+        keys.push(uri_of(alloc, spread(key, size))?)?;
     }
     let mut sum: u64 = 0;
     for turn in 0..times {

@@ -6,7 +6,14 @@ use ref_error::Error;
 use ref_lint::dangling;
 use ref_uri::uri::from_str;
 use referencing::{JsonPointerSegment, Registry};
+use serde_json::Value;
 use std::alloc::Global;
+
+/// The registry of documents.
+fn registry_of<'a>(alloc: Global, documents: Vec<(String, Value)>) -> Option<Registry<'a>> {
+    let builder = Registry::new(alloc).extend(documents).ok()?;
+    builder.prepare().ok()
+}
 
 /// How many places so many lists have together.
 fn listed(alloc: Global, registry: &Registry<'_>, times: u32) -> Result<u64, Error> {
@@ -44,9 +51,7 @@ fn linted(alloc: Global, registry: &Registry<'_>, times: u32) -> Result<u64, Err
 
 /// What so many calls answer together over so many documents; nothing where one is refused.
 pub fn answer(alloc: Global, line: Line<'_>) -> Option<u64> {
-    let documents = documents_of(alloc, line.text, line.size)?;
-    let builder = Registry::new(alloc).extend(documents).ok()?;
-    let registry = builder.prepare().ok()?;
+    let registry = registry_of(alloc, documents_of(alloc, line.size)?)?;
     let sum = match line.call {
         "places" => listed(alloc, &registry, line.times),
         "dangling" => linted(alloc, &registry, line.times),

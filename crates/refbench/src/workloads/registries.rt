@@ -1,8 +1,7 @@
 //! Workloads of `referencing`: documents added to a builder, and prepared.
 //!
 //! Of so many documents, each has twenty definitions with an identifier, an anchor, and a reference to the same definition of
-//! the next document; `members` is one document with so many definitions, each with an identifier, and `node` is so many, each
-//! with the same dynamic anchor.
+//! the next document; `members` is one document with so many definitions, each with an identifier.
 
 use crate::workloads::line::Line;
 use ref_error::Error;
@@ -13,84 +12,96 @@ use std::alloc::{AllocError, Global};
 /// How many definitions a document has.
 pub const DEFINITIONS: usize = 20;
 
-/// The text of the document with a number, which refers to that of the next number.
-fn text_of(alloc: Global, number: usize, next: usize) -> Result<String, AllocError> {
-    let mut text = format!(in alloc;
+/// The URI of a document.
+fn uri_of(alloc: Global, number: usize) -> Result<String, AllocError> {
+    format!(in alloc; "http://example.com/d{number}/")
+}
+
+/// The text of a definition of a document, which refers to that of the next number.
+fn definition_of(alloc: Global, key: usize, next: usize) -> Result<String, AllocError> {
+    let comma = if key > 0 { "," } else { "" };
+    format!(in alloc;
+        "{comma}\"k{key}\":{{\"$id\":\"k{key}\",\"$anchor\":\"a{key}\",\"$ref\":\"../d{next}/k{key}\",\"type\":\"object\"}}"
+    )
+}
+
+/// The text of a document before its definitions.
+fn front_of(alloc: Global, number: usize) -> Result<String, AllocError> {
+    format!(in alloc;
         "{{\"$id\":\"http://example.com/d{number}/\",\"$schema\":\"https://json-schema.org/draft/2020-12/schema\",\"definitions\":{{"
-    )?;
+    )
+}
+
+/// The text of a document, which refers to that of the next number.
+fn text_of(alloc: Global, number: usize, next: usize) -> Result<String, AllocError> {
+    let mut text = front_of(alloc, number)?;
     for key in 0..DEFINITIONS {
-        let comma = if key > 0 { "," } else { "" };
-        write!(
-            text,
-            "{comma}\"k{key}\":{{\"$id\":\"k{key}\",\"$anchor\":\"a{key}\",\"$ref\":\"../d{next}/k{key}\",\"type\":\"object\"}}"
-        )?;
+        let definition = definition_of(alloc, key, next)?;
+        text.push_str(definition.as_str())?;
     }
     text.push_str("}}")?;
     Ok(text)
+}
+
+/// The value of a text.
+fn value_of(alloc: Global, text: &str) -> Option<Value> {
+    Value::from_str(alloc, text).ok()
+}
+
+/// A document under its URI, which refers to that of the next number.
+fn document_of(alloc: Global, number: usize, next: usize) -> Option<(String, Value)> {
+    let text = text_of(alloc, number, next).ok()?;
+    let value = value_of(alloc, text.as_str())?;
+    Some((uri_of(alloc, number).ok()?, value))
+}
+
+/// So many documents under their URIs, of which the last refers to the first.
+pub fn documents_of(alloc: Global, size: usize) -> Option<Vec<(String, Value)>> {
+    let mut documents = Vec::new(alloc);
+    for number in 0..size {
+        let next = if number + 1 < size { number + 1 } else { 0 };
+        documents.push(document_of(alloc, number, next)?).ok()?;
+    }
+    Some(documents)
+}
+
+/// The text of a definition with an identifier.
+fn member_of(alloc: Global, number: usize) -> Result<String, AllocError> {
+    let comma = if number > 0 { "," } else { "" };
+    format!(in alloc; "{comma}\"k{number}\":{{\"$id\":\"k{number}\"}}")
 }
 
 /// The text of a document with so many definitions, each with an identifier.
 fn members_of(alloc: Global, size: usize) -> Result<String, AllocError> {
     let mut text = String::from_str(alloc, "{\"$defs\":{")?;
     for number in 0..size {
-        let comma = if number > 0 { "," } else { "" };
-        write!(text, "{comma}\"k{number}\":{{\"$id\":\"k{number}\"}}")?;
+        let member = member_of(alloc, number)?;
+        text.push_str(member.as_str())?;
     }
     text.push_str("}}")?;
     Ok(text)
 }
 
-/// The value of a text; nothing where memory is refused, or it isn't JSON.
-pub fn value_of(alloc: Global, text: Result<String, AllocError>) -> Option<Value> {
-    Value::from_str(alloc, text.ok()?.as_str()).ok()
+/// That document under its URI.
+fn document_with_members(alloc: Global, size: usize) -> Option<(String, Value)> {
+    let text = members_of(alloc, size).ok()?;
+    let value = value_of(alloc, text.as_str())?;
+    Some((String::from_str(alloc, "http://example.com/").ok()?, value))
 }
 
-/// The document of a text, under its URI.
-fn under(
-    alloc: Global,
-    uri: Result<String, AllocError>,
-    text: Result<String, AllocError>,
-) -> Option<(String, Value)> {
-    let value = value_of(alloc, text)?;
-    Some((uri.ok()?, value))
-}
-
-/// The document with a number, of so many of a kind; the last refers to the first.
-fn document_of(alloc: Global, kind: &str, number: usize, size: usize) -> Option<(String, Value)> {
-    match kind {
-        "members" => under(
-            alloc,
-            String::from_str(alloc, "http://example.com/"),
-            members_of(alloc, size),
-        ),
-        "node" => under(
-            alloc,
-            format!(in alloc; "http://example.com/t{number}"),
-            format!(in alloc;
-                "{{\"$id\":\"http://example.com/t{number}\",\"$dynamicAnchor\":\"node\"}}"
-            ),
-        ),
-        _ => {
-            let next = number.saturating_add(1).checked_rem(size).unwrap_or(0);
-            under(
-                alloc,
-                format!(in alloc; "http://example.com/d{number}/"),
-                text_of(alloc, number, next),
-            )
-        }
-    }
-}
-
-/// The documents of a kind, so many or with so many members, under their URIs.
-pub fn documents_of(alloc: Global, kind: &str, size: usize) -> Option<Vec<(String, Value)>> {
+/// That document alone.
+fn document_of_members(alloc: Global, size: usize) -> Option<Vec<(String, Value)>> {
     let mut documents = Vec::new(alloc);
-    let count = if kind == "members" { 1 } else { size };
-    for number in 0..count {
-        documents
-            .push(document_of(alloc, kind, number, size)?)
-            .ok()?;
-    }
+    documents.push(document_with_members(alloc, size)?).ok()?;
     Some(documents)
+}
+
+/// The documents of a kind.
+fn of_kind(alloc: Global, kind: &str, size: usize) -> Option<Vec<(String, Value)>> {
+    match kind {
+        "members" => document_of_members(alloc, size),
+        _ => documents_of(alloc, size),
+    }
 }
 
 /// A builder that has the documents, lent, one added after another.
@@ -126,8 +137,7 @@ fn extended<'a>(
 }
 
 /// How many registries are prepared of a builder that is copied for each.
-fn prepared(builder: Result<RegistryBuilder<'_>, Error>, times: u32) -> Result<u64, Error> {
-    let builder = builder?;
+fn prepared(builder: &RegistryBuilder<'_>, times: u32) -> Result<u64, Error> {
     let mut sum: u64 = 0;
     for _ in 0..times {
         builder.clone()?.prepare()?;
@@ -155,15 +165,25 @@ fn filled(
     Ok(sum)
 }
 
+/// How many registries are prepared of documents that are owned.
+fn prepared_owned(alloc: Global, documents: Vec<(String, Value)>, times: u32) -> Option<u64> {
+    let builder = Registry::new(alloc).extend(documents).ok()?;
+    prepared(&builder, times).ok()
+}
+
+/// The same of documents that are lent.
+fn prepared_lent(alloc: Global, documents: &[(String, Value)], times: u32) -> Option<u64> {
+    let builder = extended(alloc, documents).ok()?;
+    prepared(&builder, times).ok()
+}
+
 /// How many calls were made over documents of a kind; nothing where one is refused.
 pub fn answer(alloc: Global, line: Line<'_>) -> Option<u64> {
-    let documents = documents_of(alloc, line.text, line.size)?;
+    let documents = of_kind(alloc, line.text, line.size)?;
     match line.call {
         "add" => filled(alloc, false, documents.as_slice(), line.times).ok(),
         "extend" => filled(alloc, true, documents.as_slice(), line.times).ok(),
-        _ if line.text == "owned" => {
-            prepared(Registry::new(alloc).extend(documents), line.times).ok()
-        }
-        _ => prepared(extended(alloc, documents.as_slice()), line.times).ok(),
+        _ if line.text == "owned" => prepared_owned(alloc, documents, line.times),
+        _ => prepared_lent(alloc, documents.as_slice(), line.times),
     }
 }

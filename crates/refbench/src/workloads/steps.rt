@@ -2,7 +2,6 @@
 //! member with each of them as its `$id`.
 
 use crate::workloads::line::Line;
-use crate::workloads::registries::value_of;
 use ref_uri::uri::from_str;
 use referencing::{Followed, Registry, Step, follow};
 use serde_json::Value;
@@ -59,18 +58,34 @@ fn scope_of(followed: &Followed<'_>, last: &str) -> Option<u64> {
     Some(length)
 }
 
-/// How many URIs the scope has at the end of the steps over a document that is lent.
+/// How many URIs the scope has at the end of the steps in a registry.
+fn followed_in(
+    alloc: Global,
+    registry: &Registry<'_>,
+    steps: &[Step<'_>],
+    last: &str,
+) -> Option<u64> {
+    let base = from_str(alloc, "http://a/r").ok()?;
+    let followed = follow(alloc, registry, base, steps).ok()?;
+    scope_of(&followed, last)
+}
+
+/// The same over a document that is lent.
 fn followed(alloc: Global, document: &Value, steps: &[Step<'_>], last: &str) -> Option<u64> {
     let builder = Registry::new(alloc).add("http://a/r", document).ok()?;
     let registry = builder.prepare().ok()?;
-    let base = from_str(alloc, "http://a/r").ok()?;
-    let followed = follow(alloc, &registry, base, steps).ok()?;
-    scope_of(&followed, last)
+    followed_in(alloc, &registry, steps, last)
+}
+
+/// The document as a value.
+fn value_of(alloc: Global, size: usize) -> Option<Value> {
+    let text = document_of(alloc, size).ok()?;
+    Value::from_str(alloc, text.as_str()).ok()
 }
 
 /// How many URIs the scope has at the end; nothing where a step leads elsewhere or is refused.
 pub fn answer(alloc: Global, line: Line<'_>) -> Option<u64> {
-    let document = value_of(alloc, document_of(alloc, line.size))?;
+    let document = value_of(alloc, line.size)?;
     let references = references_of(alloc, line.size).ok()?;
     let steps = steps_of(alloc, references.as_slice(), line.times).ok()?;
     followed(

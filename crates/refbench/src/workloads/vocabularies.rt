@@ -1,8 +1,8 @@
 //! Workloads of `ref_vocabularies`: the vocabulary of a text, and what a meta-schema declares.
 
 use crate::workloads::line::Line;
-use crate::workloads::registries::value_of;
 use ref_vocabularies::{Vocabulary, find};
+use serde_json::Value;
 use std::alloc::{AllocError, Global};
 
 /// How long the URI of the vocabulary is that a text names: of a known one, the text; nothing where it is refused.
@@ -20,7 +20,8 @@ fn meta_schema_of(alloc: Global, size: usize) -> Result<String, AllocError> {
         "{\"$vocabulary\":{\"https://json-schema.org/draft/2020-12/vocab/core\":true",
     )?;
     for number in 0..size {
-        write!(text, ",\"https://example.com/vocab/{number:06}\":true")?;
+        let member = format!(in alloc; ",\"https://example.com/vocab/{number:06}\":true")?;
+        text.push_str(member.as_str())?;
     }
     text.push_str("}}")?;
     Ok(text)
@@ -28,7 +29,8 @@ fn meta_schema_of(alloc: Global, size: usize) -> Result<String, AllocError> {
 
 /// How many custom vocabularies so many calls find together in a meta-schema with so many; nothing where one is refused.
 pub fn answer(alloc: Global, line: Line<'_>) -> Option<u64> {
-    let document = value_of(alloc, meta_schema_of(alloc, line.size))?;
+    let text = meta_schema_of(alloc, line.size).ok()?;
+    let document = Value::from_str(alloc, text.as_str()).ok()?;
     let mut sum: u64 = 0;
     for _ in 0..line.times {
         if let Ok(Some(set)) = find(alloc, &document) {

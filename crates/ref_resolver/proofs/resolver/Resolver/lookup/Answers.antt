@@ -33,25 +33,22 @@ returns-in-Some-strip_prefix-clause-gives c =
     let rest = c.in-Some-strip_prefix.text.now in
     let (p, is, at) = c.in-Some.ensures.value in
     let text : c.as_str.result.now ≡ uri = search rules in
-    let text_there : c.as_str-2.result.now ≡ uri = search rules in
     let slash = rw c.in-Some-strip_prefix.is at (strip_prefix_char 47 fragment c.strip_prefix.result c.strip_prefix.ensures.cases (lit< tt)) in
     let same = pointer_leads w (resolver_of c.args.self.now) c.args.reference.now uri fragment p place rest (c.in_ok-uri.ensures.gives, c.in_ok-uri.ensures.fragment, ap (meant_place w) (sym text) ∙ is) at slash
-    ∙ ap (λ s. at_pointer (record { base = uri; scope = s }) place.entry.now.draft fragment (view place.value.now) rest) (sym (rw text_there at c.in_ok-scope.ensures)) in
+    ∙ ap (λ x. at_pointer x place.entry.now.draft fragment (view place.value.now) rest) (sym c.in_ok-resolver.ensures.resolver) in
     subst (λ a. Gives found_of a c.at_pointer.result) (sym same) c.at_pointer.ensures.gives
 
-pub returns-clause-gives : goal.returns-clause-gives
-returns-clause-gives c =
+pub returns-in-None-clause-gives : goal.returns-in-None-clause-gives
+returns-in-None-clause-gives c =
     let w = world_of c.args.self.now in
     let uri : List ℕ = c.in_ok-uri.field-0.uri.value in
     let fragment = c.in_ok-uri.field-0.fragment.now in
     let (p, is, at) = c.in-Some.ensures.value in
     let text : c.as_str.result.now ≡ uri = search rules in
-    let text_there : c.as_str-2.result.now ≡ uri = search rules in
-    let none = rw c.in_default-strip_prefix.is at (strip_prefix_char 47 fragment c.strip_prefix.result c.strip_prefix.ensures.cases (lit< tt)) in
+    let none = rw c.in-None.is at (strip_prefix_char 47 fragment c.strip_prefix.result c.strip_prefix.ensures.cases (lit< tt)) in
     let name : is_name fragment ≡ false = sym c.is_name.ensures ∙ c.if-is_name.false in
-    let place = c.in-Some.place in
-    whole_leads w (resolver_of c.args.self.now) c.args.reference.now uri fragment p place (c.in_ok-uri.ensures.gives, c.in_ok-uri.ensures.fragment, ap (meant_place w) (sym text) ∙ is) at name none
-    ∙ ap (λ s. Ok (record { value = view place.value.now; draft = place.entry.now.draft; resolver = record { base = uri; scope = s } })) (sym (rw text_there at c.in_ok-scope.ensures))
+    let same = whole_leads w (resolver_of c.args.self.now) c.args.reference.now uri fragment p c.in-Some.place (c.in_ok-uri.ensures.gives, c.in_ok-uri.ensures.fragment, ap (meant_place w) (sym text) ∙ is) at name none in
+    same ∙ ap (λ f. Ok f) (sym (rw c.in_ok-resolver.ensures.resolver at c.at_value.ensures.found))
 
 pub returns-then-is_name-clause-gives : goal.returns-then-is_name-clause-gives
 returns-then-is_name-clause-gives c =
