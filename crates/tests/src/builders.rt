@@ -1,6 +1,6 @@
 //! Builders that are made here, since no row can tell how a document is lent: what they hold, and how they and their
 //! copies are shown.
-use crate::fault::{Fault, debugged, done, made};
+use crate::fault::{Fault, done, made};
 use crate::inputs::held;
 use crate::registries::known;
 use crate::row;
@@ -19,37 +19,35 @@ fn with_lent<'a: 'b, 'b>(
     done(alloc, builder.add("urn:b", value))
 }
 
-/// What the registry of it then holds.
-fn lent_for_less(alloc: Global, value: &Value) -> Result<String, Fault> {
-    let builder = done(alloc, Registry::new(alloc).add("urn:a", Value::Null))?;
+/// What the registry of a builder and of a value that is lent then holds.
+fn held_with(alloc: Global, builder: RegistryBuilder<'_>, value: &Value) -> Result<String, Fault> {
     let builder = with_lent(alloc, builder, value)?;
     let registry = done(alloc, builder.prepare())?;
     held(alloc, &registry)
 }
 
-/// A builder with a draft and a document, or above a registry.
-fn builder<'b>(
-    alloc: Global,
-    parent: Option<&'b Registry<'_>>,
-) -> Result<RegistryBuilder<'b>, Error> {
-    match parent {
-        Some(parent) => parent.add(alloc, "http://a/r", Value::Null),
-        None => Registry::new(alloc)
-            .draft(Draft::Draft7)
-            .add("http://a/r", Value::Null),
-    }
+/// What the registry of it then holds.
+fn lent_for_less(alloc: Global) -> Result<String, Fault> {
+    let builder = done(alloc, Registry::new(alloc).add("urn:a", Value::Null))?;
+    held_with(alloc, builder, &Value::Bool(true))
 }
 
-/// How a builder's copy is shown.
-fn shown_by_copy(alloc: Global) -> Result<String, Fault> {
-    let builder = done(alloc, builder(alloc, None))?;
-    debugged(alloc, builder.clone())
+/// A builder with a draft and a document.
+fn with_draft(alloc: Global) -> Result<RegistryBuilder<'static>, Fault> {
+    let builder = Registry::new(alloc).draft(Draft::Draft7);
+    done(alloc, builder.add("http://a/r", Value::Null))
+}
+
+/// How a builder is shown.
+fn shown(alloc: Global, builder: &RegistryBuilder<'_>) -> Result<String, Fault> {
+    made(format!(in alloc; "{builder:?}"))
 }
 
 /// How a builder above a registry is shown.
 fn shown_above(alloc: Global) -> Result<String, Fault> {
     let parent = done(alloc, Registry::new(alloc).prepare())?;
-    debugged(alloc, builder(alloc, Some(&parent)))
+    let builder = done(alloc, parent.add(alloc, "http://a/r", Value::Null))?;
+    shown(alloc, &builder)
 }
 
 /// What a builder becomes with another document.
@@ -68,7 +66,7 @@ fn with_another(
     row: &Value,
 ) -> Result<String, Fault> {
     let registry = done(alloc, becoming(builder, uri))?;
-    made(known(alloc, &registry, row, 2))
+    known(alloc, &registry, row, 2)
 }
 
 /// The same of a builder and of its copy, each with a document of its own.
@@ -86,19 +84,35 @@ fn both(
 /// The same of a builder of one document and what can be retrieved.
 fn apart(alloc: Global, row: &Value) -> Result<String, Fault> {
     let retriever = row::retriever(alloc, row, 3)?;
+    let document = row::column(row, 4)?;
     let builder = Registry::new(alloc).retriever(&retriever);
-    match builder.add("http://a/r", row::column(row, 4)) {
+    match builder.add("http://a/r", document) {
         Ok(builder) => both(alloc, builder, row),
         Err(_) => Err(Fault::Form("the document is refused")),
     }
 }
 
+/// How a builder's copy is shown.
+fn shown_by_copy(alloc: Global, builder: &RegistryBuilder<'_>) -> Result<String, Fault> {
+    let copy = builder.clone()?;
+    shown(alloc, &copy)
+}
+
+/// How a builder with a draft and a document is shown, or its copy.
+fn shown_with_draft(alloc: Global, is_copy: bool) -> Result<String, Fault> {
+    let builder = with_draft(alloc)?;
+    if is_copy {
+        return shown_by_copy(alloc, &builder);
+    }
+    shown(alloc, &builder)
+}
+
 /// What is asked of the builder that a row names.
 pub fn of_name(alloc: Global, row: &Value) -> Result<String, Fault> {
-    match row::text(row, 1) {
-        "lent for less" => lent_for_less(alloc, &Value::Bool(true)),
-        "shown" => debugged(alloc, builder(alloc, None)),
-        "shown by its copy" => shown_by_copy(alloc),
+    match row::text(row, 1)? {
+        "lent for less" => lent_for_less(alloc),
+        "shown" => shown_with_draft(alloc, false),
+        "shown by its copy" => shown_with_draft(alloc, true),
         "shown above a registry" => shown_above(alloc),
         _ => apart(alloc, row),
     }

@@ -10,27 +10,21 @@ use ref_report::{Failed, Input, MemorySink, MemorySource, Output, Sink, Source, 
 use std::alloc::{AllocError, Global};
 use std::io::{self, ErrorKind, Read, Write};
 
-/// A reader of the library's that gives a byte at a time, and where it gave so many a read fails, as by a signal or else. So many more are
-/// given then.
+// A reader of the library's that gives a byte at a time, and fails once it gave so many: for ever, or once.
 #[derive(Drop)]
-pub struct ByteReader<'a> {
-    pub bytes: &'a [u8],
-    pub left: usize,
-    pub then: usize,
-    pub is_signal: bool,
+struct FailsAfter<'a> {
+    bytes: &'a [u8],
+    left: usize,
+    is_for_ever: bool,
 }
 
-impl Read for ByteReader<'_> {
+impl Read for FailsAfter<'_> {
     ghost remaining = { λ _. None };
 
     fn read(&mut self, buffer: &mut [u8]) -> io::Result<usize> {
         if self.left == 0 {
-            self.left = self.then;
-            return Err(io::Error::from(if self.is_signal {
-                ErrorKind::Interrupted
-            } else {
-                ErrorKind::Other
-            }));
+            self.left = if self.is_for_ever { 0 } else { usize::MAX };
+            return Err(io::Error::from(ErrorKind::Other));
         }
         self.left -= 1;
         let room = buffer.len().min(1);
@@ -38,15 +32,15 @@ impl Read for ByteReader<'_> {
     }
 }
 
-/// A source of the tests' own that gives a byte at a time, and fails once it gave so many.
+// A source of the tests' own that gives a byte at a time, and fails once it gave so many.
 #[derive(Drop)]
-pub struct ByteSource<'a> {
-    pub inner: MemorySource<'a>,
-    pub left: usize,
-    pub failures: u64,
+struct Faulty<'a> {
+    inner: MemorySource<'a>,
+    left: usize,
+    failures: u64,
 }
 
-impl Source for ByteSource<'_> {
+impl Source for Faulty<'_> {
     ghost remaining = { λ _. None };
 
     ghost ended = { λ s. is_at_end s.inner };
@@ -86,6 +80,23 @@ impl Sink for Small {
     }
 }
 
+// A sink of which each write fails.
+#[derive(Drop)]
+struct Broken {
+    failures: u64,
+}
+
+impl Sink for Broken {
+    ghost taken = { λ _. None };
+
+    ghost failures = { λ s. s.failures };
+
+    fn write_all(&mut self, _bytes: &[u8]) -> Result<(), Failed> {
+        self.failures = self.failures.saturating_add(1);
+        Err(Failed)
+    }
+}
+
 // A writer that takes a byte at a write, and fails once it took so many; of which a flush fails too, where it isn't to
 // be flushed.
 #[derive(Drop)]
@@ -118,12 +129,11 @@ impl Write for Narrow {
 
 // Whether a request, of which a read fails after so many bytes, ends as one that failed, with nothing written and no
 // other failure. A reader whose read failed isn't at its end.
-fn is_refused(alloc: Global, request: &str, left: usize, then: usize) -> bool {
-    let mut reader = Input::new(ByteReader {
+fn is_refused(alloc: Global, request: &str, left: usize, is_for_ever: bool) -> bool {
+    let mut reader = Input::new(FailsAfter {
         bytes: request.as_bytes(),
         left,
-        then,
-        is_signal: false,
+        is_for_ever,
     });
     let mut writer = MemorySink::new(alloc);
     let answer = run(alloc, &mut reader, &mut writer);
@@ -133,9 +143,19 @@ fn is_refused(alloc: Global, request: &str, left: usize, then: usize) -> bool {
         && writer.bytes.is_empty()
 }
 
+// Whether a request is refused so whichever read fails, the one at its end included, once and for ever.
+fn is_refused_at_each_read(alloc: Global, request: &str) -> bool {
+    for left in 0..request.len() + 1 {
+        if !is_refused(alloc, request, left, true) || !is_refused(alloc, request, left, false) {
+            return false;
+        }
+    }
+    true
+}
+
 // The same of a source of the tests' own.
 fn is_refused_by_a_source(alloc: Global, request: &str, left: usize) -> bool {
-    let mut reader = ByteSource {
+    let mut reader = Faulty {
         inner: MemorySource::new(request.as_bytes()),
         left,
         failures: 0,
@@ -145,13 +165,10 @@ fn is_refused_by_a_source(alloc: Global, request: &str, left: usize) -> bool {
     answer == Err(RunError::Read) && reader.failures == 1 && writer.bytes.is_empty()
 }
 
-// Whether that is so whichever read fails, the one at its end included, for ever and once, of both.
-fn are_reads_told(alloc: Global, request: &str) -> bool {
+// Whether that is so whichever read fails.
+fn is_refused_by_each_source(alloc: Global, request: &str) -> bool {
     for left in 0..request.len() + 1 {
-        if !is_refused(alloc, request, left, 0)
-            || !is_refused(alloc, request, left, usize::MAX)
-            || !is_refused_by_a_source(alloc, request, left)
-        {
+        if !is_refused_by_a_source(alloc, request, left) {
             return false;
         }
     }
@@ -169,6 +186,24 @@ fn is_ended_by_a_sink(
     let mut writer = Small { room, failures: 0 };
     let answer = run(alloc, &mut reader, &mut writer);
     (answer, writer.failures) == ended
+}
+
+// Whether a failure is given by a sink that has less room than a report has bytes, and none by one that has as much.
+fn is_told_by_each_sink(alloc: Global, request: &str, ending: &Ending<'_>) -> bool {
+    for room in 0..ending.report.len() {
+        if !is_ended_by_a_sink(alloc, request, room, (Err(RunError::Write), 1)) {
+            return false;
+        }
+    }
+    is_ended_by_a_sink(alloc, request, ending.report.len(), (Ok(ending.status), 0))
+}
+
+// Whether a failed write is said, of a sink of which each fails.
+fn is_told(alloc: Global, request: &str) -> bool {
+    let mut reader = MemorySource::new(request.as_bytes());
+    let mut writer = Broken { failures: 0 };
+    let answer = run(alloc, &mut reader, &mut writer);
+    answer == Err(RunError::Write) && writer.failures == 1
 }
 
 // Whether a run on a request, whose writer has so much room, ends so, with so many writes that failed, and the room filled.
@@ -189,20 +224,26 @@ fn is_ended(
     (answer, writer.failures) == ended && writer.writer.taken == room
 }
 
-// Whether a failure is told by a sink that has less room than a report has bytes, and at whichever byte of it a write fails; none
-// where there is as much room; and a failed flush, once the whole report is written.
-fn are_writes_told(alloc: Global, request: &str, ending: &Ending<'_>) -> bool {
+// Whether a failure is said at whichever byte of a report a write fails, and none where none does.
+fn is_told_at_each_byte(alloc: Global, request: &str, ending: &Ending<'_>) -> bool {
     for room in 0..ending.report.len() {
-        if !is_ended_by_a_sink(alloc, request, room, (Err(RunError::Write), 1))
-            || !is_ended(alloc, request, room, true, (Err(RunError::Write), 1))
-        {
+        if !is_ended(alloc, request, room, true, (Err(RunError::Write), 1)) {
             return false;
         }
     }
-    let room = ending.report.len();
-    is_ended_by_a_sink(alloc, request, room, (Ok(ending.status), 0))
-        && is_ended(alloc, request, room, true, (Ok(ending.status), 0))
-        && is_ended(alloc, request, room, false, (Err(RunError::Write), 1))
+    is_ended(
+        alloc,
+        request,
+        ending.report.len(),
+        true,
+        (Ok(ending.status), 0),
+    )
+}
+
+// Whether a failed flush is said, once the whole report is written.
+fn is_told_at_the_flush(alloc: Global, request: &str, ending: &Ending<'_>) -> bool {
+    let ended = (Err(RunError::Write), 1);
+    is_ended(alloc, request, ending.report.len(), false, ended)
 }
 
 // Whether a report is written into a sink with just its room, without a growth. Where `run` wants memory, nothing is written.
@@ -232,13 +273,21 @@ fn is_written_into_its_room(
 /// Runs on a request of which each read, each write and a flush fails in turn, and one into a sink that has just the
 /// report's room.
 pub fn each(alloc: Global, request: &str, ending: &Ending<'_>) -> Result<(), Fault> {
-    let reads = are_reads_told(alloc, request);
+    let reads = is_refused_at_each_read(alloc, request);
     expect(reads, "a failed read isn't told")?;
-    let writes = are_writes_told(alloc, request, ending);
+    let sources = is_refused_by_each_source(alloc, request);
+    expect(sources, "a source that failed isn't told")?;
+    let sinks = is_told_by_each_sink(alloc, request, ending);
+    expect(sinks, "a sink that failed isn't told")?;
+    let write = is_told(alloc, request);
+    expect(write, "a failed write isn't told")?;
+    let bytes = is_told_at_each_byte(alloc, request, ending);
     expect(
-        writes,
-        "a failed write or flush isn't told, or the report is another",
+        bytes,
+        "a failure at a byte isn't told, or the report is another",
     )?;
+    let flush = is_told_at_the_flush(alloc, request, ending);
+    expect(flush, "a failed flush isn't told")?;
     let room = is_written_into_its_room(alloc, request, ending)?;
     expect(room, "the report isn't written into its room")
 }

@@ -2,7 +2,7 @@
 use crate::answers::agreed;
 use crate::fault::{Fault, made};
 use crate::registries::{child, known, unretrieving};
-use crate::{lookups, registries, resources, vocabularies};
+use crate::{lookups, resources, vocabularies};
 use referencing::Registry;
 use serde_json::Value;
 use std::alloc::{AllocError, Global};
@@ -22,15 +22,20 @@ pub fn of_documents(
     }
 }
 
-/// Whether documents above a registry are prepared, or the text of the fault, and then which URIs that still knows by
-/// itself: of a row of the documents in its second column, and the URIs after them.
-fn of_children(alloc: Global, parent: &Registry<'_>, row: &Value) -> Result<String, Fault> {
-    let fault = child(alloc, parent, row, 2).err();
-    let still = known(alloc, parent, row, 3)?;
-    match &fault {
-        Some(fault) => made(format!(in alloc; "{fault} {still}")),
-        None => made(format!(in alloc; "prepared {still}")),
+/// Whether the registry of a column's documents above another is prepared, or the text of the fault.
+fn outcome(alloc: Global, parent: &Registry<'_>, row: &Value) -> Result<String, AllocError> {
+    match child(alloc, parent, row, 2) {
+        Ok(_) => String::from_str(alloc, "prepared"),
+        Err(fault) => format!(in alloc; "{fault}"),
     }
+}
+
+/// Of documents above a registry, and then which URIs that still knows by itself: of a row of the documents in its
+/// second column, and the URIs after them.
+fn of_children(alloc: Global, parent: &Registry<'_>, row: &Value) -> Result<String, Fault> {
+    let child = outcome(alloc, parent, row)?;
+    let still = known(alloc, parent, row, 3)?;
+    made(format!(in alloc; "{child} {still}"))
 }
 
 /// The same of the tables on the child.
@@ -45,11 +50,17 @@ fn of_child(
     match table {
         "vocabularies" => vocabularies::by_registry(alloc, &child, row),
         "vocabularies at bases" => vocabularies::at_bases(alloc, &child, row),
-        "shown registries" => made(format!(in alloc; "{parent:?} {child:?}")),
+        "shown registries" => shown(alloc, parent, &child),
         "texts by children" => by_copies(alloc, &child, row),
-        "locations by children" => lookups::reached(alloc, &child, table, row),
-        _ => of_grandchild(alloc, parent, &child, table, row),
+        "lookups by generations" => led_by_grandchild(alloc, &child, row),
+        "locations by children" => lookups::stands(alloc, &child, row),
+        _ => of_generations(alloc, parent, &child, row),
     }
+}
+
+/// How a registry is shown, and one above it.
+fn shown(alloc: Global, parent: &Registry<'_>, child: &Registry<'_>) -> Result<String, Fault> {
+    made(format!(in alloc; "{parent:?} {child:?}"))
 }
 
 /// Which URIs are known to a registry, and what a text means against a base.
@@ -67,32 +78,27 @@ fn by_copies(alloc: Global, registry: &Registry<'_>, row: &Value) -> Result<Stri
     agreed(alloc, first, again, ["at first", "by the copy"])
 }
 
-/// Of the registry of a column's documents above a registry: where steps lead from a base, or which URIs are known to it and to
-/// those below it.
-fn of_grandchild(
-    alloc: Global,
-    parent: &Registry<'_>,
-    child: &Registry<'_>,
-    table: &str,
-    row: &Value,
-) -> Result<String, Fault> {
-    let grandchild = registries::child(alloc, child, row, 3)?;
-    if table == "lookups by generations" {
-        return lookups::led(alloc, &grandchild, row);
-    }
-    let first = known_to_both(alloc, parent, child, row)?;
-    let last = known(alloc, &grandchild, row, 4)?;
-    made(format!(in alloc; "{first} {last}"))
+/// Where steps lead from a base in the registry of a column's documents above a registry.
+fn led_by_grandchild(alloc: Global, child: &Registry<'_>, row: &Value) -> Result<String, Fault> {
+    let grandchild = crate::registries::child(alloc, child, row, 3)?;
+    lookups::led(alloc, &grandchild, row)
 }
 
-/// Which URIs are known to a registry, and to its child.
-fn known_to_both(
+/// Which URIs are known to the registry of a column's documents above a registry.
+fn of_grandchild(alloc: Global, child: &Registry<'_>, row: &Value) -> Result<String, Fault> {
+    let grandchild = crate::registries::child(alloc, child, row, 3)?;
+    known(alloc, &grandchild, row, 4)
+}
+
+/// Which URIs are known to a registry, its child and the child's child.
+fn of_generations(
     alloc: Global,
     parent: &Registry<'_>,
     child: &Registry<'_>,
     row: &Value,
-) -> Result<String, AllocError> {
-    let first = known(alloc, parent, row, 4)?;
+) -> Result<String, Fault> {
+    let third = of_grandchild(alloc, child, row)?;
     let second = known(alloc, child, row, 4)?;
-    format!(in alloc; "{first} {second}")
+    let first = known(alloc, parent, row, 4)?;
+    made(format!(in alloc; "{first} {second} {third}"))
 }

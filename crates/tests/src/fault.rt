@@ -67,33 +67,3 @@ pub fn made<T>(answer: Result<T, AllocError>) -> Result<T, Fault> {
         Err(_) => Err(Fault::Memory),
     }
 }
-
-/// What a call returns as it is displayed, or the text of its refusal.
-pub fn displayed<T: fmt::Display + Drop, E: fmt::Display + Drop>(
-    alloc: Global,
-    answer: Result<T, E>,
-) -> Result<String, Fault> {
-    match answer {
-        Ok(value) => made(format!(in alloc; "{value}")),
-        Err(error) => Err(refused(alloc, error)),
-    }
-}
-
-/// The debug text of what a call returns, or the text of its refusal.
-pub fn debugged<T: fmt::Debug + Drop, E: fmt::Display + Drop>(
-    alloc: Global,
-    answer: Result<T, E>,
-) -> Result<String, Fault> {
-    match answer {
-        Ok(value) => made(format!(in alloc; "{value:?}")),
-        Err(error) => Err(refused(alloc, error)),
-    }
-}
-
-/// A text that is made, or that of a refusal, which is then the answer.
-pub fn told(answer: Result<String, Fault>) -> Result<String, Fault> {
-    match answer {
-        Ok(text) | Err(Fault::Text(text)) => Ok(text),
-        Err(fault) => Err(fault),
-    }
-}

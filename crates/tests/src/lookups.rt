@@ -1,12 +1,14 @@
 //! Where references lead, step by step from a base.
 use crate::answers::agreed;
-use crate::fault::{Fault, done, made, told};
+use crate::fault::{Fault, done, made};
 use crate::registries::resolver;
 use crate::row;
+use crate::tables::Asked;
 use ref_draft::{Draft, ResourceRef};
-use referencing::{Followed, Registry, Resolved, Resolver, Step, follow};
+use referencing::{FollowError, Followed, Registry, Resolved, Resolver, Step, follow};
 use serde_json::Value;
 use std::alloc::{AllocError, Global};
+use std::fmt;
 
 /// The steps of a row: a reference that is looked up, `*` for a recursive one, or else a schema of 2020-12 that is entered.
 fn steps_of<'r>(alloc: Global, values: &'r [Value]) -> Result<Vec<Step<'r>>, AllocError> {
@@ -26,8 +28,24 @@ fn steps_of<'r>(alloc: Global, values: &'r [Value]) -> Result<Vec<Step<'r>>, All
 fn shown(alloc: Global, followed: &Followed<'_>) -> Result<String, AllocError> {
     let resolver = &followed.resolver;
     match followed.last {
-        Some((value, draft)) => { format!(in alloc; "{value} {draft:?} {resolver:?}") }
+        Some((value, draft)) => {
+            let value = value.to_string(alloc)?;
+            format!(in alloc; "{value} {draft:?} {resolver:?}")
+        }
         None => format!(in alloc; "{resolver:?}"),
+    }
+}
+
+/// The number of a step, and the text of its fault.
+fn faulted<E: fmt::Display>(alloc: Global, step: usize, error: &E) -> Result<String, Fault> {
+    made(format!(in alloc; "{step}: {error}"))
+}
+
+/// Where steps led, or the number and the text of a fault.
+fn told(alloc: Global, answer: &Result<Followed<'_>, FollowError>) -> Result<String, Fault> {
+    match answer {
+        Ok(followed) => made(shown(alloc, followed)),
+        Err(ended) => faulted(alloc, ended.step, &ended.error),
     }
 }
 
@@ -39,13 +57,7 @@ fn led_by_steps(
     steps: &[Step<'_>],
 ) -> Result<String, Fault> {
     let base = row::uri_of(alloc, base)?;
-    let followed = done(alloc, follow(alloc, registry, base, steps))?;
-    made(shown(alloc, &followed))
-}
-
-/// The number of a step, and the text of its fault, as `follow` has them.
-fn faulted(alloc: Global, step: usize, fault: Fault) -> Result<String, Fault> {
-    made(format!(in alloc; "Step {step}: {fault}"))
+    told(alloc, &follow(alloc, registry, base, steps))
 }
 
 /// Where a look-up leads.
@@ -85,28 +97,19 @@ fn led_by_calls(
     for (number, step) in steps.iter().enumerate() {
         at = match stepped(alloc, &at, step) {
             Ok(next) => next,
-            Err(fault) => return faulted(alloc, number, fault),
+            Err(fault) => return faulted(alloc, number, &fault),
         };
     }
     made(shown(alloc, &at))
 }
 
-/// Where steps lead from a base, by `follow` and by calls on resolvers.
-pub fn led_from(
-    alloc: Global,
-    registry: &Registry<'_>,
-    base: &str,
-    steps: &[Step<'_>],
-) -> Result<String, Fault> {
-    let by_steps = told(led_by_steps(alloc, registry, base, steps))?;
-    let by_calls = led_by_calls(alloc, registry, base, steps)?;
-    agreed(alloc, by_steps, by_calls, ["by steps", "by calls"])
-}
-
-/// The same of the steps of a row, and of the base in the column before them.
+/// Where the steps of a row lead from the base in the column before them, by `follow` and by calls on resolvers.
 pub fn led(alloc: Global, registry: &Registry<'_>, row: &Value) -> Result<String, Fault> {
-    let steps = steps_of(alloc, row::list(row, 5))?;
-    led_from(alloc, registry, row::text(row, 4), steps.as_slice())
+    let base = row::text(row, 4)?;
+    let steps = steps_of(alloc, row::list(row, 5)?)?;
+    let by_steps = led_by_steps(alloc, registry, base, steps.as_slice())?;
+    let by_calls = led_by_calls(alloc, registry, base, steps.as_slice())?;
+    agreed(alloc, by_steps, by_calls, ["by steps", "by calls"])
 }
 
 /// The debug texts of an answer and of the one to a reference that is looked up from its resolver.
@@ -115,12 +118,23 @@ fn both(alloc: Global, first: &Resolved<'_>, second: &str) -> Result<String, Fau
     made(format!(in alloc; "{first:?} {second:?}"))
 }
 
-/// The debug texts of the answers to two references in a row's columns after those of the registry and a base, the second looked up
-/// from the resolver of the first one's answer.
-pub fn answers(alloc: Global, registry: &Registry<'_>, row: &Value) -> Result<String, Fault> {
-    let resolver = resolver(alloc, registry, row::text(row, 4))?;
-    let first = done(alloc, resolver.lookup(alloc, row::text(row, 5)))?;
-    both(alloc, &first, row::text(row, 6))
+/// The debug texts of the answers to two references, the second looked up from the resolver of the first one's answer.
+fn answered(
+    alloc: Global,
+    registry: &Registry<'_>,
+    base: &str,
+    references: [&str; 2],
+) -> Result<String, Fault> {
+    let [first, second] = references;
+    let resolver = resolver(alloc, registry, base)?;
+    let first = done(alloc, resolver.lookup(alloc, first))?;
+    both(alloc, &first, second)
+}
+
+/// The same of a base and the references in a row's columns after those of the registry.
+fn answers(alloc: Global, registry: &Registry<'_>, row: &Value) -> Result<String, Fault> {
+    let (base, first, second) = (row::text(row, 4)?, row::text(row, 5)?, row::text(row, 6)?);
+    answered(alloc, registry, base, [first, second])
 }
 
 /// Where the value stands that a reference leads to from a resolver, or a recursive one, which is `*`: the layer, the
@@ -136,6 +150,16 @@ fn standing(alloc: Global, resolver: &Resolver<'_>, reference: &str) -> Result<S
     made(format!(in alloc; "{layer} {document} {pointer}"))
 }
 
+/// The same of the reference in a row, and of the resolver to which its steps lead from the base in the column before them.
+pub fn stands(alloc: Global, registry: &Registry<'_>, row: &Value) -> Result<String, Fault> {
+    let base = row::uri(alloc, row, 4)?;
+    let steps = steps_of(alloc, row::list(row, 5)?)?;
+    match follow(alloc, registry, base, steps.as_slice()) {
+        Ok(followed) => standing(alloc, &followed.resolver, row::text(row, 6)?),
+        Err(_) => Err(Fault::Form("a step leads nowhere")),
+    }
+}
+
 /// The base of a resolver, and after it the URIs of its scope, the innermost first.
 fn base_and_scope(alloc: Global, resolver: &Resolver<'_>) -> Result<String, AllocError> {
     let mut text = String::from_str(alloc, resolver.base_uri().as_str())?;
@@ -146,18 +170,24 @@ fn base_and_scope(alloc: Global, resolver: &Resolver<'_>) -> Result<String, Allo
     Ok(text)
 }
 
-/// The same, or where a reference leads, of the resolver to which the steps of a row lead from the base in the column before them.
-pub fn reached(
-    alloc: Global,
-    registry: &Registry<'_>,
-    table: &str,
-    row: &Value,
-) -> Result<String, Fault> {
-    let base = row::uri_of(alloc, row::text(row, 4))?;
-    let steps = steps_of(alloc, row::list(row, 5))?;
-    let followed = done(alloc, follow(alloc, registry, base, steps.as_slice()))?;
-    match table {
-        "scopes" => made(base_and_scope(alloc, &followed.resolver)),
-        _ => standing(alloc, &followed.resolver, row::text(row, 6)),
+/// The same of the resolver to which the steps of a row lead from the base in the column before them.
+fn scoped(alloc: Global, registry: &Registry<'_>, row: &Value) -> Result<String, Fault> {
+    let base = row::uri(alloc, row, 4)?;
+    let steps = steps_of(alloc, row::list(row, 5)?)?;
+    match follow(alloc, registry, base, steps.as_slice()) {
+        Ok(followed) => made(base_and_scope(alloc, &followed.resolver)),
+        Err(_) => Err(Fault::Form("a step leads nowhere")),
+    }
+}
+
+/// What is found of a registry by a row of a table on look-ups.
+pub fn found(asked: Asked<'_, '_>) -> Result<String, Fault> {
+    let (alloc, registry, row) = (asked.alloc, asked.registry, asked.row);
+    match asked.table {
+        "answers" => answers(alloc, registry, row),
+        "lookups" => led(alloc, registry, row),
+        "scopes" => scoped(alloc, registry, row),
+        "locations" => stands(alloc, registry, row),
+        _ => Err(Fault::Form("no such table")),
     }
 }

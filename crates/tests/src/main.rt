@@ -35,6 +35,21 @@ use serde_json::Value;
 use std::alloc::{AllocError, Global};
 use std::io;
 
+/// What is said of a row that has an answer, which is counted where it is the expected one.
+fn told_of_answer(
+    alloc: Global,
+    tally: &mut Tally,
+    table: &str,
+    found: &str,
+    expected: &str,
+) -> Result<String, AllocError> {
+    if found == expected {
+        tally.count(alloc, table)
+    } else {
+        tally.tell(alloc, table, found, expected)
+    }
+}
+
 /// What is said of a row, which is counted where its answer, or the text of the fault in its place, is the expected one.
 fn told_of_row(
     alloc: Global,
@@ -42,13 +57,21 @@ fn told_of_row(
     given: &Value,
     row: &Value,
 ) -> Result<String, AllocError> {
-    let table = row::text(row, 0);
+    let table = row::text(row, 0).unwrap_or("no table");
     let expected = row::last(row).unwrap_or("no answer");
     let found = match tables::found(alloc, given, table, row) {
         Ok(found) => found,
         Err(fault) => format!(in alloc; "{fault}")?,
     };
-    tally.tell(alloc, table, found.as_str(), expected)
+    told_of_answer(alloc, tally, table, found.as_str(), expected)
+}
+
+/// The text of a request, where a line gives one.
+fn request_of(line: &str) -> Option<&str> {
+    if line == "request" {
+        return Some("");
+    }
+    line.strip_prefix("request ")
 }
 
 /// What is said of a line, which may give something for the rows after it.
@@ -58,13 +81,14 @@ fn told_of_line(
     given: &mut Value,
     line: &str,
 ) -> Result<String, AllocError> {
-    if let Some(request) = line.strip_prefix("request") {
-        let request = request.strip_prefix(' ').unwrap_or(request);
+    if let Some(request) = request_of(line) {
         *given = Value::String(String::from_str(alloc, request)?);
         return tally.give(alloc);
     }
-    let row = Value::from_str(alloc, line).unwrap_or(Value::Null);
-    if row::text(&row, 0) == "given" {
+    let Ok(row) = Value::from_str(alloc, line) else {
+        return tally.unread(alloc);
+    };
+    if row::text(&row, 0).ok() == Some("given") {
         *given = row;
         return tally.give(alloc);
     }

@@ -9,9 +9,9 @@ pub fn each(alloc: Global, request: &str, ending: &Ending<'_>) -> Result<(), Fau
     let bytes = request.as_bytes();
     for end in 0..bytes.len() {
         let found = at_once(alloc, &bytes[..end]);
-        compare(alloc, found, "where it is cut off", ending)?;
+        compare(alloc, &found, "where it is cut off", ending)?;
     }
     let longer = format!(in alloc; "{request}x")?;
     let found = at_once(alloc, longer.as_str().as_bytes());
-    compare(alloc, found, "with a byte more", ending)
+    compare(alloc, &found, "with a byte more", ending)
 }

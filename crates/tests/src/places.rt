@@ -3,6 +3,7 @@ use crate::answers::agreed;
 use crate::fault::{Fault, done, made};
 use crate::registries::holding;
 use crate::row;
+use crate::tables::Asked;
 use ref_draft::Draft;
 use ref_uri::Uri;
 use referencing::{JsonPointerSegment, Place, Registry, Resolved, parse_index, write_index};
@@ -58,6 +59,22 @@ fn place_text(
     format!(in alloc; "{number}{path} {base} {draft:?}; ")
 }
 
+/// The texts of places.
+fn told(alloc: Global, places: &[Place<'_>]) -> Result<String, AllocError> {
+    let mut text = String::new(alloc);
+    for place in places {
+        let line = place_text(alloc, place, place.base.as_str(), place.draft)?;
+        text.push_str(line.as_str())?;
+    }
+    Ok(text)
+}
+
+/// The places of a registry.
+fn listed(alloc: Global, registry: &Registry<'_>) -> Result<String, Fault> {
+    let places = done(alloc, registry.places(alloc))?;
+    made(told(alloc, places.as_slice()))
+}
+
 /// A place as its path leads to it from a base.
 fn located_place(
     alloc: Global,
@@ -73,66 +90,70 @@ fn located_place(
     made(place_text(alloc, place, resolver.base_uri().as_str(), draft))
 }
 
-/// The texts of places, or of what their paths lead to from a base where there is one.
-fn texts(
+/// Places as their paths lead to them from a base.
+fn located_from(
     alloc: Global,
     registry: &Registry<'_>,
-    base: Option<&Uri>,
+    base: &Uri,
     places: &[Place<'_>],
 ) -> Result<String, Fault> {
     let mut text = String::new(alloc);
     for place in places {
-        let line = match base {
-            Some(base) => located_place(alloc, registry, base, place)?,
-            None => place_text(alloc, place, place.base.as_str(), place.draft)?,
-        };
+        let line = located_place(alloc, registry, base, place)?;
         text.push_str(line.as_str())?;
     }
     Ok(text)
 }
 
-/// The places of a registry.
-pub fn listed(alloc: Global, registry: &Registry<'_>, base: Option<&Uri>) -> Result<String, Fault> {
-    let places = done(alloc, registry.places(alloc))?;
-    texts(alloc, registry, base, places.as_slice())
-}
-
-/// The places of a registry, as they are listed, and as their paths lead to them from `http://a/r`.
-fn listed_alike(alloc: Global, registry: &Registry<'_>) -> Result<String, Fault> {
+/// The places of a registry as their paths lead to them from `http://a/r`.
+fn located_places(alloc: Global, registry: &Registry<'_>) -> Result<String, Fault> {
     let base = row::uri_of(alloc, "http://a/r")?;
-    let located = listed(alloc, registry, Some(&base))?;
-    let listed = listed(alloc, registry, None)?;
-    agreed(alloc, listed, located, ["as listed", "as located"])
+    let places = done(alloc, registry.places(alloc))?;
+    located_from(alloc, registry, &base, places.as_slice())
 }
 
-/// The same of a document at `http://a/r`, which is lent, by a draft.
+/// The places of a document at `http://a/r`, which is lent, by a draft: as they are listed, and as their paths lead to them.
 pub fn agreeing(alloc: Global, row: &Value) -> Result<String, Fault> {
-    let (draft, document) = (row::draft(row, 1), row::column(row, 2));
+    let (draft, document) = (row::draft(row, 1)?, row::column(row, 2)?);
     let registry = done(alloc, holding(alloc, draft, document))?;
-    listed_alike(alloc, &registry)
+    let listed = listed(alloc, &registry)?;
+    let located = located_places(alloc, &registry)?;
+    agreed(alloc, listed, located, ["as listed", "as located"])
 }
 
 /// A value with its base and draft.
 fn shown(alloc: Global, found: Resolved<'_>) -> Result<String, AllocError> {
     let (value, resolver, draft) = found.into_inner();
+    let value = value.to_string(alloc)?;
     let base = resolver.base_uri().as_str();
     format!(in alloc; "{value} {base} {draft:?}")
 }
 
 /// Where a path leads: of a base and the path in a row's columns after those of the registry.
-pub fn located(alloc: Global, registry: &Registry<'_>, row: &Value) -> Result<String, Fault> {
-    let base = row::uri_of(alloc, row::text(row, 4))?;
-    let path = path_of(alloc, row::text(row, 5))?;
+fn located(alloc: Global, registry: &Registry<'_>, row: &Value) -> Result<String, Fault> {
+    let base = row::uri(alloc, row, 4)?;
+    let path = path_of(alloc, row::text(row, 5)?)?;
     let found = done(alloc, registry.locate(alloc, &base, path.as_slice()))?;
     made(shown(alloc, found))
 }
 
 /// The value at a path, or `none`: of a document's number and the path.
-pub fn value(alloc: Global, registry: &Registry<'_>, row: &Value) -> Result<String, Fault> {
-    let number = row::number(row, 4).unwrap_or(0);
-    let path = path_of(alloc, row::text(row, 5))?;
+fn value(alloc: Global, registry: &Registry<'_>, row: &Value) -> Result<String, Fault> {
+    let number = row::number(row, 4)?;
+    let path = path_of(alloc, row::text(row, 5)?)?;
     match registry.value_at(number, path.as_slice()) {
         Some(value) => made(value.to_string(alloc)),
         None => made(String::from_str(alloc, "none")),
+    }
+}
+
+/// What is found of a registry by a row of a table on places.
+pub fn found(asked: Asked<'_, '_>) -> Result<String, Fault> {
+    let (alloc, registry, row) = (asked.alloc, asked.registry, asked.row);
+    match asked.table {
+        "places" => listed(alloc, registry),
+        "paths" => located(alloc, registry, row),
+        "values" => value(alloc, registry, row),
+        _ => Err(Fault::Form("no such table")),
     }
 }

@@ -6,7 +6,7 @@ use ref_error::{Error, Retrieve};
 use ref_uri::uri::from_str;
 use referencing::{IntoRegistryResource, Registry, RegistryBuilder, Resolver};
 use serde_json::Value;
-use std::alloc::{AllocError, Global};
+use std::alloc::Global;
 
 /// A builder with this draft, or without one.
 pub fn builder<'b>(alloc: Global, draft: Option<Draft>) -> RegistryBuilder<'b> {
@@ -58,11 +58,21 @@ fn retrieving<'v>(
 
 /// The registry of a row that begins with a draft, documents, and what can be retrieved, or `null` where no retriever is given.
 pub fn registry(alloc: Global, row: &Value) -> Result<Registry<'_>, Fault> {
-    let draft = row::draft(row, 1);
-    if row::column(row, 3).is_null() {
+    let draft = row::draft(row, 1)?;
+    if row::column(row, 3)?.is_null() {
         return unretrieving(alloc, draft, row, 2);
     }
     retrieving(alloc, draft, row)
+}
+
+/// The registry of documents above another.
+fn above<'b>(
+    alloc: Global,
+    parent: &'b Registry<'_>,
+    documents: Vec<(&'b str, &'b Value)>,
+) -> Result<Registry<'b>, Fault> {
+    let builder = done(alloc, parent.extend(alloc, documents))?;
+    done(alloc, builder.prepare())
 }
 
 /// The registry of a column's documents above another.
@@ -73,8 +83,7 @@ pub fn child<'b>(
     number: usize,
 ) -> Result<Registry<'b>, Fault> {
     let documents = row::documents(alloc, row, number)?;
-    let builder = done(alloc, parent.extend(alloc, documents))?;
-    done(alloc, builder.prepare())
+    above(alloc, parent, documents)
 }
 
 /// A resolver at the URI of a text.
@@ -93,9 +102,9 @@ pub fn known(
     registry: &Registry<'_>,
     row: &Value,
     number: usize,
-) -> Result<String, AllocError> {
+) -> Result<String, Fault> {
     let mut marks = String::new(alloc);
-    for uri in row::list(row, number) {
+    for uri in row::list(row, number)? {
         let is_known = registry.contains_resource(alloc, uri.as_str().unwrap_or("a b"))?;
         marks.push(if is_known { '+' } else { '-' })?;
     }
@@ -106,5 +115,5 @@ pub fn known(
 pub fn of_meta_schemas(alloc: Global, row: &Value) -> Result<String, Fault> {
     let pairs = row::documents(alloc, row, 1)?;
     let registry = done(alloc, Registry::from_meta_schemas(alloc, pairs.as_slice()))?;
-    made(known(alloc, &registry, row, 2))
+    known(alloc, &registry, row, 2)
 }

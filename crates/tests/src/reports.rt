@@ -24,8 +24,8 @@ fn status_of(name: &str) -> Result<Status, Fault> {
 /// The report that a row expects on a request, where the runs of its table all end so.
 pub fn of_request(alloc: Global, request: &str, table: &str, row: &Value) -> Result<String, Fault> {
     let ending = Ending {
-        status: status_of(row::text(row, 1))?,
-        report: row::text(row, 2),
+        status: status_of(row::text(row, 1)?)?,
+        report: row::text(row, 2)?,
     };
     compare(alloc, request, table, &ending)?;
     made(String::from_str(alloc, ending.report))

@@ -1,128 +1,164 @@
-//! The tables of rows, and how a row is asked, by its table.
-use crate::fault::{Fault, debugged, displayed};
+//! The tables of rows, each with the module that asks its rows.
+use crate::fault::Fault;
 use crate::{
     builders, families, faults, inputs, lookups, places, registries, reports, resources, retrieval,
-    retrievers, row, sets, used, vocabularies,
+    retrievers, sets, used, vocabularies,
 };
-use ref_vocabularies::{
-    Vocabulary, VocabularySet, declared_or_default, default_vocabularies, find,
-};
+use referencing::Registry;
 use serde_json::Value;
 use std::alloc::Global;
+
+/// What asks the rows of a table.
+#[derive(Clone, Copy, Drop)]
+enum Group {
+    /// `families`, of registries that a `given` row describes.
+    GivenFamilies,
+    /// `families`, of registries that the row describes.
+    Families,
+    Faults,
+    Retrievers,
+    Vocabularies,
+    Sets,
+    Inputs,
+    Builders,
+    Retrieval,
+    MetaSchemas,
+    TextsByResolvers,
+    PathsOfPlaces,
+    Uses,
+    /// `places`, of the registry that the row's first columns describe: a draft, documents, and what can be retrieved, or `null` where no
+    /// retriever is given.
+    Places,
+    /// `resources`, of such a registry.
+    Resources,
+    /// `lookups`, of such a registry.
+    Lookups,
+}
+
+/// Each table, by its name.
+const TABLES: [(&str, Group); 58] = [
+    ("vocabularies", Group::GivenFamilies),
+    ("vocabularies by the parent", Group::GivenFamilies),
+    ("vocabularies at bases", Group::GivenFamilies),
+    ("children", Group::Families),
+    ("generations", Group::Families),
+    ("lookups by generations", Group::Families),
+    ("shown registries", Group::Families),
+    ("texts by children", Group::Families),
+    ("locations by children", Group::Families),
+    ("faults", Group::Faults),
+    ("reasons", Group::Faults),
+    ("refusals", Group::Faults),
+    ("default retriever", Group::Retrievers),
+    ("retrievers", Group::Retrievers),
+    ("vocabulary names", Group::Vocabularies),
+    ("declared vocabularies", Group::Vocabularies),
+    ("dialects", Group::Vocabularies),
+    ("default vocabularies", Group::Vocabularies),
+    ("declared or default vocabularies", Group::Vocabularies),
+    ("vocabularies passed on", Group::Vocabularies),
+    ("URIs of drafts", Group::Vocabularies),
+    ("vocabulary sets", Group::Sets),
+    ("sets of bits", Group::Sets),
+    ("single bits", Group::Sets),
+    ("custom vocabularies", Group::Sets),
+    ("equal sets", Group::Sets),
+    ("contained vocabularies", Group::Sets),
+    ("grown sets", Group::Sets),
+    ("builders", Group::Inputs),
+    ("kinds", Group::Inputs),
+    ("kinds with titles", Group::Inputs),
+    ("made builders", Group::Builders),
+    ("calls of a retriever", Group::Retrieval),
+    ("retrievers without memory", Group::Retrieval),
+    ("refusing retrievers", Group::Retrieval),
+    ("endless retrieval", Group::Retrieval),
+    ("any document", Group::Retrieval),
+    ("meta-schemas", Group::MetaSchemas),
+    ("texts by resolvers", Group::TextsByResolvers),
+    ("paths of places", Group::PathsOfPlaces),
+    ("validator", Group::Uses),
+    ("bundler", Group::Uses),
+    ("openapi", Group::Uses),
+    ("dialect", Group::Uses),
+    ("editor", Group::Uses),
+    ("bookmarks", Group::Uses),
+    ("shown faults", Group::Uses),
+    ("places", Group::Places),
+    ("paths", Group::Places),
+    ("values", Group::Places),
+    ("resources", Group::Resources),
+    ("retrieved drafts", Group::Resources),
+    ("texts", Group::Resources),
+    ("copies", Group::Resources),
+    ("answers", Group::Lookups),
+    ("lookups", Group::Lookups),
+    ("scopes", Group::Lookups),
+    ("locations", Group::Lookups),
+];
+
+/// What asks the rows of the table with a name.
+fn group_of(name: &str) -> Option<Group> {
+    for (table, group) in &TABLES {
+        if *table == name {
+            return Some(*group);
+        }
+    }
+    None
+}
 
 /// What is found of a row.
 pub fn found(alloc: Global, given: &Value, table: &str, row: &Value) -> Result<String, Fault> {
     if let Some(request) = given.as_str() {
         return reports::of_request(alloc, request, table, row);
     }
-    match table {
-        "vocabularies" | "vocabularies by the parent" | "vocabularies at bases" => {
-            families::of_documents(alloc, given, table, row)
-        }
-        _ => of_row(alloc, table, row),
+    match group_of(table) {
+        Some(Group::GivenFamilies) => families::of_documents(alloc, given, table, row),
+        Some(group) => of_row(alloc, group, table, row),
+        None => Err(Fault::Form("no such table")),
     }
 }
 
 /// Of a row that describes all that is asked.
-fn of_row(alloc: Global, table: &str, row: &Value) -> Result<String, Fault> {
-    match table {
-        "children"
-        | "generations"
-        | "lookups by generations"
-        | "shown registries"
-        | "texts by children"
-        | "locations by children" => families::of_documents(alloc, row, table, row),
-        "meta-schemas" => registries::of_meta_schemas(alloc, row),
-        "texts by resolvers" => resources::resolved_by_resolvers(alloc, row),
-        "paths of places" => places::agreeing(alloc, row),
-        "builders" => inputs::added(alloc, row),
-        "kinds" | "kinds with titles" => inputs::of_kinds(alloc, row),
-        "made builders" => builders::of_name(alloc, row),
-        "default retriever" => retrievers::by_default(alloc, row),
-        "retrievers" => retrievers::of_documents(alloc, row),
-        _ => of_faults(alloc, table, row),
+fn of_row(alloc: Global, group: Group, table: &str, row: &Value) -> Result<String, Fault> {
+    match group {
+        Group::GivenFamilies | Group::Families => families::of_documents(alloc, row, table, row),
+        Group::Faults => faults::found(alloc, table, row),
+        Group::Retrievers => retrievers::found(alloc, table, row),
+        Group::Vocabularies => vocabularies::found(alloc, table, row),
+        Group::Sets => sets::found(alloc, table, row),
+        Group::Inputs => inputs::found(alloc, table, row),
+        Group::Builders => builders::of_name(alloc, row),
+        Group::Retrieval => retrieval::found(alloc, table, row),
+        Group::MetaSchemas => registries::of_meta_schemas(alloc, row),
+        Group::TextsByResolvers => resources::resolved_by_resolvers(alloc, row),
+        Group::PathsOfPlaces => places::agreeing(alloc, row),
+        Group::Uses => used::found(alloc, table, row),
+        Group::Places | Group::Resources | Group::Lookups => of_registry(alloc, group, table, row),
     }
 }
 
-/// Of the tables on faults, and on retrieval.
-fn of_faults(alloc: Global, table: &str, row: &Value) -> Result<String, Fault> {
-    match table {
-        "faults" => faults::shown(alloc, faults::fault_of(alloc, row)?),
-        "reasons" => displayed(alloc, faults::reason_of(alloc, row::text(row, 1))),
-        "refusals" => faults::shown(alloc, faults::refusal_of(alloc, row::text(row, 1))?),
-        "calls of a retriever" => retrieval::calls(alloc, row),
-        "retrievers without memory" => retrieval::is_exhausted(alloc, row),
-        "refusing retrievers" => retrieval::refused(alloc, row),
-        "endless retrieval" => retrieval::endless(alloc, row),
-        "any document" => retrieval::any(alloc, row),
-        _ => of_vocabularies(alloc, table, row),
-    }
+/// What a row of a table asks of a registry.
+#[derive(Clone, Copy, Drop)]
+pub struct Asked<'q, 'd> {
+    pub alloc: Global,
+    pub registry: &'q Registry<'d>,
+    pub table: &'q str,
+    pub row: &'q Value,
 }
 
-/// Of the tables on vocabularies.
-fn of_vocabularies(alloc: Global, table: &str, row: &Value) -> Result<String, Fault> {
-    match table {
-        "vocabulary names" => debugged(alloc, Vocabulary::from_text(alloc, row::text(row, 1))),
-        "declared vocabularies" => debugged(alloc, find(alloc, row::column(row, 1))),
-        "dialects" => vocabularies::dialect(alloc, row),
-        "default vocabularies" => {
-            debugged(
-                alloc,
-                default_vocabularies(row::named_draft(row, 1)).clone(),
-            )
-        }
-        "declared or default vocabularies" => {
-            debugged(alloc, declared_or_default(alloc, row::list(row, 1).first()))
-        }
-        "vocabularies passed on" => vocabularies::passed_on(alloc, row),
-        "URIs of drafts" => vocabularies::uris_of_drafts(alloc, row),
-        _ => of_sets(alloc, table, row),
-    }
-}
-
-/// Of the tables on sets of vocabularies, of which the first two are of texts, and of bits and texts: the set of them.
-fn of_sets(alloc: Global, table: &str, row: &Value) -> Result<String, Fault> {
-    match table {
-        "vocabulary sets" => debugged(alloc, sets::set_of(alloc, VocabularySet::new(), row, 1)),
-        "sets of bits" => debugged(alloc, sets::set_of(alloc, sets::of_bits(row, 1), row, 2)),
-        "single bits" => sets::of_a_bit(alloc, row),
-        "custom vocabularies" => sets::custom(alloc, row),
-        "equal sets" => sets::are_equal(alloc, row),
-        "contained vocabularies" => sets::contains(alloc, row),
-        "grown sets" => sets::grown(alloc, row),
-        _ => of_uses(alloc, table, row),
-    }
-}
-
-/// Of the tables on uses, of a document and of what is asked of it.
-fn of_uses(alloc: Global, table: &str, row: &Value) -> Result<String, Fault> {
-    let (document, given, text) = (row::column(row, 1), row::column(row, 2), row::text(row, 2));
-    match table {
-        "validator" => used::verdict(alloc, document, given),
-        "bundler" => used::bundled(alloc, document, given),
-        "openapi" => used::described(alloc, document, given),
-        "dialect" => used::declared(alloc, document, given),
-        "editor" => used::edited(alloc, document, text),
-        "bookmarks" => used::marked(alloc, document, row::number(row, 2).unwrap_or(0)),
-        "shown faults" => used::asked(alloc, document, text),
-        _ => of_registry(alloc, table, row),
-    }
-}
-
-/// Of a row whose first columns describe a registry: a draft, documents, and what can be retrieved, or `null` where no retriever is
-/// given.
-fn of_registry(alloc: Global, table: &str, row: &Value) -> Result<String, Fault> {
+/// Of a row whose first columns describe a registry.
+fn of_registry(alloc: Global, group: Group, table: &str, row: &Value) -> Result<String, Fault> {
     let registry = registries::registry(alloc, row)?;
-    match table {
-        "places" => places::listed(alloc, &registry, None),
-        "paths" => places::located(alloc, &registry, row),
-        "values" => places::value(alloc, &registry, row),
-        "resources" | "retrieved drafts" => resources::known_twice(alloc, &registry, row),
-        "texts" => resources::resolved(alloc, &registry, row),
-        "copies" => resources::copies(alloc, &registry, row),
-        "answers" => lookups::answers(alloc, &registry, row),
-        "lookups" => lookups::led(alloc, &registry, row),
-        "scopes" | "locations" => lookups::reached(alloc, &registry, table, row),
-        _ => Err(Fault::Form("no such table")),
+    let asked = Asked {
+        alloc,
+        registry: &registry,
+        table,
+        row,
+    };
+    match group {
+        Group::Places => places::found(asked),
+        Group::Resources => resources::found(asked),
+        _ => lookups::found(asked),
     }
 }
