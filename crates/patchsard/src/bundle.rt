@@ -2,20 +2,19 @@
 use crate::console::Console;
 use crate::write::write_file;
 use clap::ArgMatches;
-use ref_bundle::{Bundle, BundleError, Embedded};
+use ref_bundle::{Bundle, Embedded};
 use ref_draft::Draft;
-use ref_error::Error;
 use ref_findings::{Finding, Problem};
+use ref_index::Place;
 use ref_messages::push_text;
 use ref_parts::pointer_of;
 use ref_positions::splice::{Added, Part, with_added, with_parts};
-use ref_project::describe::{Describer, order_of};
+use ref_project::Describer;
 use ref_project::given::{Given, faulty_of, read_file};
-use ref_project::spots::spots_of;
 use ref_project::world::{World, outside_of, world_above};
-use ref_reading::Stop;
 use ref_reading::document::parsed;
 use ref_reading::options::maps;
+use ref_reading::{Stop, say};
 use ref_uri::UriRef;
 use referencing::{Registry, ResourceRef};
 use serde_json::Value;
@@ -32,10 +31,13 @@ pub fn bundle(
     given: &ArgMatches<'_>,
 ) -> Result<u8, Stop> {
     let read = read_file(rt, given, given.get_str("output"))?;
-    if read.has_failed {
-        return Ok(2);
-    }
-    bundle_read(rt, console, given, &read)
+    let status = if read.has_failed {
+        Ok(2)
+    } else {
+        bundle_read(rt, console, given, &read)
+    };
+    drop(read);
+    status
 }
 
 // The bundle of what was read.
@@ -51,62 +53,60 @@ fn bundle_read(
 }
 
 // The same above a registry of what stays outside.
-fn bundle_above<'d>(
-    rt: &HostRuntime,
+fn bundle_above<'s, 'd>(
+    rt: &'s HostRuntime,
     console: &mut Console<'_>,
-    given: &ArgMatches<'_>,
+    given: &'s ArgMatches<'_>,
     read: &'d Given,
-    list: &[Finding<'d>],
+    list: &'s [Finding<'d>],
     outside: &Registry<'_>,
 ) -> Result<u8, Stop> {
     let faulty = faulty_of(rt.alloc(), read.len(), list)?;
     let world = world_above(rt, outside, read, faulty.as_slice())?;
     let sources = Sources {
+        rt,
+        given,
         read,
         list,
         world: &world,
     };
     match ref_bundle::bundle(rt.alloc(), &world.registry, 0) {
-        Ok(bundle) => sources.write(rt, console, given, &bundle),
-        Err(BundleError::Memory(_)) => Err(Stop::Memory),
-        Err(BundleError::Refused(refusal)) => sources.refuse(rt, given, &refusal),
+        Ok(bundle) => sources.write(console, &bundle),
+        Err(error) => {
+            let status = sources.refuse(&error);
+            drop(error);
+            status
+        }
     }
 }
 
-/// What a bundle is made from.
+/// What a bundle is made from, and what is asked for.
 #[derive(Clone, Copy, Drop)]
-pub struct Sources<'d, 'l, 'w, 'o> {
+pub struct Sources<'s, 'a, 'd, 'w, 'o> {
+    pub rt: &'s HostRuntime,
+    given: &'s ArgMatches<'a>,
     pub read: &'d Given,
-    list: &'l [Finding<'d>],
+    list: &'s [Finding<'d>],
     pub world: &'w World<'o>,
 }
 
-impl<'d, 'l, 'w, 'o> Sources<'d, 'l, 'w, 'o> {
+impl<'s, 'a, 'd, 'w, 'o> Sources<'s, 'a, 'd, 'w, 'o> {
     /// The number of what was read as a document, where it was read.
     pub fn source(&self, document: usize) -> Option<usize> {
         self.world.sources.get(document).copied()
     }
 
-    fn write(
-        &self,
-        rt: &HostRuntime,
-        console: &mut Console<'_>,
-        given: &ArgMatches<'_>,
-        bundle: &Bundle,
-    ) -> Result<u8, Stop> {
-        let needed = self.needed(rt.alloc(), bundle)?;
-        if self.has_faults(rt, needed.as_slice())?
-            || self.is_incomplete(rt, given, bundle, needed.as_slice())?
-        {
-            let _ = eprintln!(rt; "patchsard: not bundled");
+    fn write(&self, console: &mut Console<'_>, bundle: &Bundle) -> Result<u8, Stop> {
+        if self.has_problems(bundle)? {
+            say(self.rt, "not bundled");
             return Ok(1);
         }
-        let Some(text) = self.text(rt, given, bundle)? else {
+        let Some(text) = self.text(bundle)? else {
             return Ok(3);
         };
-        self.say_uri(rt, bundle)?;
-        match given.get_str("output") {
-            Some(path) => write_file(rt, path, text.as_str()),
+        self.say_uri(bundle);
+        match self.given.get_str("output") {
+            Some(path) => write_file(self.rt, path, text.as_str()),
             None => {
                 console.out.push_str(text.as_str())?;
                 Ok(0)
@@ -114,77 +114,83 @@ impl<'d, 'l, 'w, 'o> Sources<'d, 'l, 'w, 'o> {
         }
     }
 
+    // Whether a document that is needed has faults, or something that is needed isn't there.
+    fn has_problems(&self, bundle: &Bundle) -> Result<bool, Stop> {
+        let needed = self.needed(bundle)?;
+        Ok(self.has_faults(needed.as_slice())? || self.is_incomplete(bundle, needed.as_slice())?)
+    }
+
     // Prints what is wrong with the documents that are needed, and answers whether that keeps them from being bundled:
     // an unresolvable pointer or anchor doesn't.
-    fn has_faults(&self, rt: &HostRuntime, needed: &[bool]) -> Result<bool, Stop> {
-        let alloc = rt.alloc();
-        let mut out = String::new(alloc);
+    fn has_faults(&self, needed: &[bool]) -> Result<bool, AllocError> {
+        let mut describer = Describer::new(self.rt.alloc(), self.read, self.list, false)?;
+        let is_faulty = self.say_faults(&mut describer, needed);
+        drop(describer);
+        is_faulty
+    }
+
+    fn say_faults(
+        &self,
+        describer: &mut Describer<'_, '_>,
+        needed: &[bool],
+    ) -> Result<bool, AllocError> {
+        let mut out = String::new(self.rt.alloc());
         let mut is_faulty = false;
-        let spots = spots_of(alloc, self.read.documents.as_slice(), self.list)?;
-        let mut describer = Describer::new(alloc, self.read, spots);
-        for place in order_of(alloc, &describer, self.list, false)? {
-            let Some(finding) = self.list.get(place.3) else {
-                continue;
-            };
-            if concerns(finding, needed) {
-                is_faulty |= is_fault(finding);
-                let message = describer.message(place.3, finding)?;
-                push_text(&mut out, &message)?;
+        for place in 0..describer.len() {
+            if let Some(finding) = describer.finding(place) {
+                if concerns(finding, needed) {
+                    is_faulty |= is_fault(finding);
+                    push_message(&mut out, describer, place)?;
+                }
             }
         }
-        let _ = eprint!(rt; "{out}");
+        let _ = eprint!(self.rt; "{out}");
         Ok(is_faulty)
     }
 
     // Whether a needed document isn't there, or a needed place refers to none, or to the root by a URI that its
     // identifier replaces.
-    fn is_incomplete(
-        &self,
-        rt: &HostRuntime,
-        given: &ArgMatches<'_>,
-        bundle: &Bundle,
-        needed: &[bool],
-    ) -> Result<bool, Stop> {
-        let mut is_incomplete = false;
-        for embedded in &bundle.embedded {
-            if self.source(embedded.document).is_none() {
-                let uri = embedded.uri.as_str();
-                let _ = eprintln!(rt;
-                    "patchsard: document '{uri}' is not among the given files\n    help: {BY_NAME}"
-                );
-                is_incomplete = true;
-            }
-        }
-        let places = self.world.places(rt.alloc())?;
+    fn is_incomplete(&self, bundle: &Bundle, needed: &[bool]) -> Result<bool, Stop> {
+        let mut is_incomplete = self.say_missing(bundle);
+        let places = self.world.places(self.rt.alloc())?;
         let replaced = self.replaced(places.as_slice());
         for place in &places {
             if let Some(number) = self.source(place.document) {
                 if is_true(needed, number) {
-                    is_incomplete |= self.is_lost(rt, given, number, place, replaced)?;
+                    is_incomplete |= self.is_lost(number, place, replaced)?;
                 }
             }
         }
         Ok(is_incomplete)
     }
 
+    // Says which needed documents aren't there, and answers whether there are some.
+    fn say_missing(&self, bundle: &Bundle) -> bool {
+        let mut is_missing = false;
+        for embedded in &bundle.embedded {
+            if self.source(embedded.document).is_none() {
+                let uri = embedded.uri.as_str();
+                let _ = eprintln!(self.rt;
+                    "patchsard: document '{uri}' is not among the given files\n    help: {BY_NAME}"
+                );
+                is_missing = true;
+            }
+        }
+        is_missing
+    }
+
     // Whether a place refers to no document, or to the root by a URI that its identifier replaces.
     fn is_lost(
         &self,
-        rt: &HostRuntime,
-        given: &ArgMatches<'_>,
         number: usize,
-        place: &ref_index::Place<'_>,
+        place: &Place<'_>,
         replaced: Option<&str>,
     ) -> Result<bool, Stop> {
         let mut is_lost = false;
         for keyword in ["$ref", "$dynamicRef"] {
             if let Some(text) = place.value.get(keyword).and_then(Value::as_str) {
-                if let Some((why, help)) = self.lost(rt.alloc(), place, text, replaced)? {
-                    let at = self.place_in(rt, given, number, place.path.as_slice())?;
-                    let pointer = pointer_of(rt.alloc(), place.path.as_slice())?;
-                    let _ = eprintln!(rt;
-                        "{at}: error: {why}\n    {keyword} '{text}' at '{pointer}'\n    help: {help}"
-                    );
+                if let Some(why) = self.lost(place, text, replaced)? {
+                    self.say_lost(number, place, (keyword, text), why)?;
                     is_lost = true;
                 }
             }
@@ -192,25 +198,36 @@ impl<'d, 'l, 'w, 'o> Sources<'d, 'l, 'w, 'o> {
         Ok(is_lost)
     }
 
+    // Says why a reference of a place has no meaning in a bundle, and what to change.
+    fn say_lost(
+        &self,
+        number: usize,
+        place: &Place<'_>,
+        (keyword, text): (&str, &str),
+        (why, help): (&str, &str),
+    ) -> Result<(), Stop> {
+        let at = self.place_in(number, place.path.as_slice())?;
+        let pointer = pointer_of(self.rt.alloc(), place.path.as_slice())?;
+        let _ = eprintln!(self.rt;
+            "{at}: error: {why}\n    {keyword} '{text}' at '{pointer}'\n    help: {help}"
+        );
+        Ok(())
+    }
+
     // Why a reference of a place has no meaning in a bundle, and what to change.
     fn lost(
         &self,
-        alloc: Global,
-        place: &ref_index::Place<'_>,
+        place: &Place<'_>,
         text: &str,
         replaced: Option<&str>,
-    ) -> Result<Option<(&'static str, &'static str)>, Stop> {
+    ) -> Result<Option<(&'static str, &'static str)>, AllocError> {
+        let alloc = self.rt.alloc();
         let (front, _) = text.rsplit_once('#').unwrap_or((text, ""));
-        let base = place.base.borrow();
-        let uri = match self.world.registry.resolve_uri(alloc, base, front) {
-            Ok(uri) => uri,
-            Err(Error::Memory(_)) => return Err(Stop::Memory),
-            Err(_) => {
-                return Ok(Some((
-                    "It is not a URI reference",
-                    "write it as RFC 3986 asks, with % escapes",
-                )));
-            }
+        let Some(uri) = self.world.resolved(alloc, place, front)? else {
+            return Ok(Some((
+                "It is not a URI reference",
+                "write it as RFC 3986 asks, with % escapes",
+            )));
         };
         if !self.world.registry.contains_resource(alloc, uri.as_str())? {
             return Ok(Some(("Its document is not among the given files", BY_NAME)));
@@ -225,32 +242,31 @@ impl<'d, 'l, 'w, 'o> Sources<'d, 'l, 'w, 'o> {
     }
 
     // The root's URI, where its identifier gives another in place of it.
-    fn replaced(&self, places: &[ref_index::Place<'_>]) -> Option<&str> {
+    fn replaced(&self, places: &[Place<'_>]) -> Option<&str> {
         let uri = self.world.registry.documents().first()?.uri.as_str();
         let base = places.first()?.base.as_str();
         if uri == base { None } else { Some(uri) }
     }
 
     // Says under which URI a bundle is to be read that has no absolute identifier.
-    fn say_uri(&self, rt: &HostRuntime, bundle: &Bundle) -> Result<(), Stop> {
+    fn say_uri(&self, bundle: &Bundle) {
         let Some(root) = self.read.documents.first() else {
-            return Ok(());
+            return;
         };
         let draft = self.draft(0);
         let keyword = draft.id_keyword();
         let id = ResourceRef::new(&bundle.value, draft).id().unwrap_or("");
         if !bundle.embedded.is_empty() && !is_absolute(id) {
-            let _ = eprintln!(rt;
+            let _ = eprintln!(self.rt;
                 "patchsard: note: the bundle has no absolute {keyword}; its references keep their meaning where it is read under {}",
                 root.uri.as_str()
             );
         }
-        Ok(())
     }
 
     // Which of what was read is needed.
-    fn needed(&self, alloc: Global, bundle: &Bundle) -> Result<Vec<bool>, AllocError> {
-        let mut needed = vec![in alloc; false; self.read.len()]?;
+    fn needed(&self, bundle: &Bundle) -> Result<Vec<bool>, AllocError> {
+        let mut needed = vec![in self.rt.alloc(); false; self.read.len()]?;
         set(&mut needed, self.source(0));
         for embedded in &bundle.embedded {
             set(&mut needed, self.source(embedded.document));
@@ -259,52 +275,48 @@ impl<'d, 'l, 'w, 'o> Sources<'d, 'l, 'w, 'o> {
     }
 
     // The text of a bundle, or nothing where what was made has another value.
-    fn text(
-        &self,
-        rt: &HostRuntime,
-        given: &ArgMatches<'_>,
-        bundle: &Bundle,
-    ) -> Result<Option<String>, Stop> {
-        let alloc = rt.alloc();
-        let text = if given.get_flag("minify") {
-            let mut line = bundle.value.to_string(alloc)?;
-            line.push('\n')?;
-            Some(line)
+    fn text(&self, bundle: &Bundle) -> Result<Option<String>, Stop> {
+        let text = if self.given.get_flag("minify") {
+            Some(minified(self.rt.alloc(), &bundle.value)?)
         } else {
-            self.spliced(rt, given, bundle)?
+            self.spliced(bundle)?
         };
         let Some(text) = text else {
-            let _ = eprintln!(rt;
-                "patchsard: the text of a document can't be read again; nothing is written"
-            );
+            let why = "the text of a document can't be read again; nothing is written";
+            say(self.rt, why);
             return Ok(None);
         };
-        match parsed(alloc, text.as_str())? {
-            Ok(value) if value == bundle.value => Ok(Some(text)),
-            Ok(_) => {
-                let _ = eprintln!(rt;
-                    "patchsard: the text that was made isn't that of the bundle; nothing is written"
-                );
-                Ok(None)
+        if self.is_text_of(text.as_str(), &bundle.value)? {
+            return Ok(Some(text));
+        }
+        Ok(None)
+    }
+
+    // Whether a text is that of a value. Where it isn't standard error says so.
+    fn is_text_of(&self, text: &str, value: &Value) -> Result<bool, AllocError> {
+        match parsed(self.rt.alloc(), text)? {
+            Ok(made) => {
+                let is_same = made == *value;
+                drop(made);
+                if !is_same {
+                    let why = "the text that was made isn't that of the bundle; nothing is written";
+                    say(self.rt, why);
+                }
+                Ok(is_same)
             }
             Err(fault) => {
-                let _ = eprintln!(rt;
+                let _ = eprintln!(self.rt;
                     "patchsard: the bundle can't be read: {}; nothing is written",
                     fault.text
                 );
-                Ok(None)
+                Ok(false)
             }
         }
     }
 
     // The text of the root with those of the documents that are embedded.
-    fn spliced(
-        &self,
-        rt: &HostRuntime,
-        given: &ArgMatches<'_>,
-        bundle: &Bundle,
-    ) -> Result<Option<String>, Stop> {
-        let alloc = rt.alloc();
+    fn spliced(&self, bundle: &Bundle) -> Result<Option<String>, Stop> {
+        let alloc = self.rt.alloc();
         let Some(root) = self.read.documents.first() else {
             return Ok(None);
         };
@@ -313,7 +325,7 @@ impl<'d, 'l, 'w, 'o> Sources<'d, 'l, 'w, 'o> {
         }
         let mut parts = Vec::new(alloc);
         for embedded in &bundle.embedded {
-            match self.part(rt, given, embedded)? {
+            match self.part(embedded)? {
                 Some(part) => push(&mut parts, part)?,
                 None => return Ok(None),
             }
@@ -329,14 +341,9 @@ impl<'d, 'l, 'w, 'o> Sources<'d, 'l, 'w, 'o> {
         }
     }
 
-    fn part(
-        &self,
-        rt: &HostRuntime,
-        given: &ArgMatches<'_>,
-        embedded: &Embedded,
-    ) -> Result<Option<Part>, Stop> {
-        let alloc = rt.alloc();
-        let Some(text) = self.source_text(rt, given, embedded.document)? else {
+    fn part(&self, embedded: &Embedded) -> Result<Option<Part>, Stop> {
+        let alloc = self.rt.alloc();
+        let Some(text) = self.source_text(embedded.document)? else {
             return Ok(None);
         };
         let keyword = self.draft(embedded.document).id_keyword();
@@ -364,33 +371,46 @@ impl<'d, 'l, 'w, 'o> Sources<'d, 'l, 'w, 'o> {
     }
 
     // The text of a document that was read.
-    fn source_text(
-        &self,
-        rt: &HostRuntime,
-        given: &ArgMatches<'_>,
-        document: usize,
-    ) -> Result<Option<String>, Stop> {
+    fn source_text(&self, document: usize) -> Result<Option<String>, Stop> {
         match self.source(document) {
-            Some(number) => self.text_in(rt, given, number),
+            Some(number) => self.text_in(number),
             None => Ok(None),
         }
     }
 
     /// The text of what was read with this number. That of a document from a map is read again.
-    pub fn text_in(
-        &self,
-        rt: &HostRuntime,
-        given: &ArgMatches<'_>,
-        number: usize,
-    ) -> Result<Option<String>, Stop> {
+    pub fn text_in(&self, number: usize) -> Result<Option<String>, Stop> {
         if let Some(document) = self.read.documents.get(number) {
             return Ok(Some(document.text.clone()?));
         }
         match self.read.uri(number) {
-            Some(uri) => Ok(maps(rt, given)?.text(rt.alloc(), uri.as_str())?),
+            Some(uri) => Ok(maps(self.rt, self.given)?.text(self.rt.alloc(), uri.as_str())?),
             None => Ok(None),
         }
     }
+}
+
+// Adds the message on the finding at a place.
+fn push_message(
+    out: &mut String,
+    describer: &mut Describer<'_, '_>,
+    place: usize,
+) -> Result<(), AllocError> {
+    match describer.message(place)? {
+        Some(message) => {
+            let pushed = push_text(out, &message);
+            drop(message);
+            pushed
+        }
+        None => Ok(()),
+    }
+}
+
+// A value on a line.
+fn minified(alloc: Global, value: &Value) -> Result<String, AllocError> {
+    let mut line = value.to_string(alloc)?;
+    line.push('\n')?;
+    Ok(line)
 }
 
 // Whether a text is a URI with a scheme.

@@ -1,5 +1,5 @@
 //! Standard output, a large piece at a time.
-use ref_reading::Stop;
+use ref_reading::{Stop, say_of};
 use std::env;
 use std::io::Write;
 
@@ -46,7 +46,7 @@ pub fn go_to(rt: &HostRuntime, folder: &str) -> Result<(), Stop> {
     match env::set_current_dir(rt, folder) {
         Ok(()) => Ok(()),
         Err(error) => {
-            let _ = eprintln!(rt; "patchsard: {folder}: {error}");
+            say_of(rt, folder, error);
             Err(Stop::Reported)
         }
     }

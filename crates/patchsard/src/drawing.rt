@@ -2,7 +2,7 @@
 use crate::console::Console;
 use clap::ArgMatches;
 use ref_messages::{push_dot, push_mermaid};
-use ref_project::given::read_given;
+use ref_project::given::{Given, read_given};
 use ref_project::graph::graph_of;
 use ref_reading::Stop;
 
@@ -13,11 +13,25 @@ pub fn draw(
     given: &ArgMatches<'_>,
 ) -> Result<u8, Stop> {
     let read = read_given(rt, given)?;
-    let graph = graph_of(rt, &read)?;
-    if given.get_str("format") == Some("dot") {
-        push_dot(&mut console.out, &graph)?;
-    } else {
-        push_mermaid(&mut console.out, &graph)?;
-    }
-    Ok(if read.has_failed { 2 } else { 0 })
+    let drawn = draw_read(rt, console, given, &read);
+    let has_failed = read.has_failed;
+    drop(read);
+    drawn?;
+    Ok(if has_failed { 2 } else { 0 })
+}
+
+fn draw_read(
+    rt: &HostRuntime,
+    console: &mut Console<'_>,
+    given: &ArgMatches<'_>,
+    read: &Given,
+) -> Result<(), Stop> {
+    let graph = graph_of(rt, read)?;
+    let out = &mut console.out;
+    let drawn = match given.get_str("format") {
+        Some("dot") => push_dot(out, &graph),
+        _ => push_mermaid(out, &graph),
+    };
+    drop(graph);
+    Ok(drawn?)
 }

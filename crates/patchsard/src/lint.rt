@@ -1,12 +1,10 @@
 //! `patchsard lint`.
 use crate::console::Console;
 use clap::ArgMatches;
-use ref_findings::Finding;
 use ref_messages::{Level, Message, push_annotation, push_line, push_sarif, push_text};
-use ref_project::describe::{Describer, order_of};
+use ref_project::Describer;
 use ref_project::given::{Given, read_given};
 use ref_project::rules::RULES;
-use ref_project::spots::spots_of;
 use ref_reading::Stop;
 use std::alloc::{AllocError, Global};
 use std::io;
@@ -86,23 +84,15 @@ fn list_all(
     given: &Given,
 ) -> Result<Count, Stop> {
     let report = given.report(alloc)?;
-    let list = report.findings.as_slice();
-    let spots = spots_of(alloc, given.documents.as_slice(), list)?;
-    let mut describer = Describer::new(alloc, given, spots);
-    let order = order_of(alloc, &describer, list, is_verbose)?;
+    let mut describer = Describer::new(alloc, given, report.findings.as_slice(), is_verbose)?;
     let mut count = Count {
         references: report.references,
         errors: 0,
         notes: 0,
     };
-    print(
-        alloc,
-        console,
-        form,
-        &mut describer,
-        list,
-        (order.as_slice(), &mut count),
-    )?;
+    let printed = print(alloc, console, form, &mut describer, &mut count);
+    drop(describer);
+    printed?;
     Ok(count)
 }
 
@@ -115,53 +105,50 @@ fn form_of(given: &ArgMatches<'_>) -> Form {
     }
 }
 
-// Prints messages on the findings with these numbers, and counts them.
-fn print<'d>(
+// Prints the messages on findings, and counts them.
+fn print(
     alloc: Global,
     console: &mut Console<'_>,
     form: Form,
-    describer: &mut Describer<'d>,
-    list: &[Finding<'d>],
-    (order, count): (&[(usize, usize, usize, usize)], &mut Count),
+    describer: &mut Describer<'_, '_>,
+    count: &mut Count,
 ) -> Result<(), Stop> {
     if form == Form::Sarif {
-        print_log(alloc, console, describer, list, (order, count))?;
+        print_log(alloc, console, describer, count)?;
     } else {
-        print_each(alloc, console, form, describer, list, (order, count))?;
+        print_each(alloc, console, form, describer, count)?;
     }
     console.finish()
 }
 
-fn print_each<'d>(
+fn print_each(
     alloc: Global,
     console: &mut Console<'_>,
     form: Form,
-    describer: &mut Describer<'d>,
-    list: &[Finding<'d>],
-    (order, count): (&[(usize, usize, usize, usize)], &mut Count),
+    describer: &mut Describer<'_, '_>,
+    count: &mut Count,
 ) -> Result<(), Stop> {
-    for place in order {
-        if let Some(finding) = list.get(place.3) {
-            let message = describer.message(place.3, finding)?;
+    for place in 0..describer.len() {
+        if let Some(message) = describer.message(place)? {
             count.add(message.level);
-            push_message(alloc, console, form, &message)?;
+            let pushed = push_message(alloc, console, form, &message);
+            drop(message);
+            pushed?;
         }
     }
     Ok(())
 }
 
 // Prints all as one log in SARIF.
-fn print_log<'d>(
+fn print_log(
     alloc: Global,
     console: &mut Console<'_>,
-    describer: &mut Describer<'d>,
-    list: &[Finding<'d>],
-    (order, count): (&[(usize, usize, usize, usize)], &mut Count),
+    describer: &mut Describer<'_, '_>,
+    count: &mut Count,
 ) -> Result<(), AllocError> {
     let mut messages = Vec::new(alloc);
-    for place in order {
-        if let Some(finding) = list.get(place.3) {
-            let message = describer.message(place.3, finding)?;
+    for place in 0..describer.len() {
+        if let Some(message) = describer.message(place)? {
             count.add(message.level);
             keep(&mut messages, message)?;
         }

@@ -15,7 +15,7 @@ mod write;
 
 use crate::console::Console;
 use clap::ArgMatches;
-use ref_reading::{Stop, command};
+use ref_reading::{Stop, command, say};
 use std::process::ExitCode;
 use std::{env, io};
 
@@ -33,7 +33,7 @@ fn words_of(rt: &HostRuntime) -> Result<Vec<String>, Stop> {
         Ok(words) => Ok(words.collect(rt.alloc())?),
         Err(error) if error.kind() == io::ErrorKind::OutOfMemory => Err(Stop::Memory),
         Err(_) => {
-            let _ = eprintln!(rt; "patchsard: an argument is not UTF-8");
+            say(rt, "an argument is not UTF-8");
             Err(Stop::Reported)
         }
     }
@@ -43,12 +43,19 @@ fn run(rt: &HostRuntime) -> Result<u8, Stop> {
     let words = words_of(rt)?;
     let command = command::patchsard(rt.alloc())?;
     match command.try_get_matches_from(words.as_slice()) {
-        Ok(matches) => asked(rt, &matches),
+        Ok(matches) => {
+            let status = asked(rt, &matches);
+            drop(matches);
+            status
+        }
         Err(error) => {
-            if error.print(rt).is_err() {
-                return Err(Stop::Write);
+            let printed = error.print(rt);
+            let status = if error.exit_code() == 0 { 0 } else { 2 };
+            drop(error);
+            match printed {
+                Ok(()) => Ok(status),
+                Err(_) => Err(Stop::Write),
             }
-            Ok(if error.exit_code() == 0 { 0 } else { 2 })
         }
     }
 }

@@ -6,7 +6,7 @@ use ref_index::Place;
 use ref_project::given::{Given, read_given};
 use ref_project::listing::push_document;
 use ref_project::world::{World, world_of};
-use ref_reading::{Document, Stop};
+use ref_reading::{Document, Stop, say_of};
 use std::alloc::Global;
 
 /// Lists each subschema of files. The status is 0, 1 where a file has no places for a fault of its own, and 2 where a
@@ -17,8 +17,11 @@ pub fn places(
     given: &ArgMatches<'_>,
 ) -> Result<u8, Stop> {
     let read = read_given(rt, given)?;
-    let status = listed(rt, console, &read)?;
-    Ok(if read.has_failed { 2 } else { status })
+    let status = listed(rt, console, &read);
+    let has_failed = read.has_failed;
+    drop(read);
+    let status = status?;
+    Ok(if has_failed { 2 } else { status })
 }
 
 fn listed(rt: &HostRuntime, console: &mut Console<'_>, given: &Given) -> Result<u8, Stop> {
@@ -35,10 +38,8 @@ fn report_left_out(rt: &HostRuntime, documents: &[Document], faulty: &[bool]) ->
     let mut status = 0;
     for (document, is_faulty) in documents.iter().zip(faulty.iter()) {
         if *is_faulty || document.value().is_none() {
-            let _ = eprintln!(rt;
-                "patchsard: {}: left out, since it has faults: see patchsard lint",
-                document.shown
-            );
+            let why = "left out, since it has faults: see patchsard lint";
+            say_of(rt, document.shown.as_str(), why);
             status = 1;
         }
     }

@@ -1,9 +1,8 @@
 //! What is wrong where there is no bundle, and what to change.
 use crate::bundle::Sources;
-use clap::ArgMatches;
 use percent_encoding::{DecodeError, percent_decode};
-use ref_bundle::{Obstacle, Problem, Refusal};
-use ref_error::Error;
+use ref_bundle::{BundleError, Obstacle, Problem, Refusal};
+use ref_index::Place;
 use ref_parts::path::JsonPointerSegment;
 use ref_parts::{pointer_of, unescape_segment};
 use ref_project::pointer::position;
@@ -12,55 +11,59 @@ use ref_uri::parts::parts;
 use serde_json::Value;
 use std::alloc::{AllocError, Global};
 
-impl<'d, 'l, 'w, 'o> Sources<'d, 'l, 'w, 'o> {
+impl<'s, 'a, 'd, 'w, 'o> Sources<'s, 'a, 'd, 'w, 'o> {
     /// Says why there is no bundle, and what to change. The status is 1.
-    pub fn refuse(
-        &self,
-        rt: &HostRuntime,
-        given: &ArgMatches<'_>,
-        refusal: &Refusal<'_>,
-    ) -> Result<u8, Stop> {
-        let alloc = rt.alloc();
-        let path = refusal.path.as_slice();
-        let place = self.place(rt, given, refusal.document, path)?;
-        let problem = &refusal.problem;
-        let text = text_of(alloc, problem)?;
-        let _ = eprintln!(rt; "{place}: error: {text}");
-        self.say_reference(rt, refusal)?;
-        self.say_other(rt, given, problem)?;
-        let _ = eprintln!(rt; "    help: {}", advice(problem));
+    pub fn refuse(&self, error: &BundleError<'_>) -> Result<u8, Stop> {
+        match error {
+            BundleError::Refused(refusal) => self.say_refusal(refusal),
+            BundleError::Memory(_) => Err(Stop::Memory),
+        }
+    }
+
+    fn say_refusal(&self, refusal: &Refusal<'_>) -> Result<u8, Stop> {
+        self.say_problem(refusal)?;
+        self.say_reference(refusal)?;
+        self.say_other(&refusal.problem)?;
+        let _ = eprintln!(self.rt; "    help: {}", advice(&refusal.problem));
         Ok(1)
     }
 
+    // Says where something is wrong, and what.
+    fn say_problem(&self, refusal: &Refusal<'_>) -> Result<(), Stop> {
+        let place = self.place(refusal.document, refusal.path.as_slice())?;
+        let text = text_of(self.rt.alloc(), &refusal.problem)?;
+        let _ = eprintln!(self.rt; "{place}: error: {text}");
+        Ok(())
+    }
+
     // Says which reference is refused, where one is, and the pointer to its place.
-    fn say_reference(&self, rt: &HostRuntime, refusal: &Refusal<'_>) -> Result<(), Stop> {
-        let alloc = rt.alloc();
+    fn say_reference(&self, refusal: &Refusal<'_>) -> Result<(), AllocError> {
+        let alloc = self.rt.alloc();
         let pointer = pointer_of(alloc, refusal.path.as_slice())?;
         let places = self.world.places(alloc)?;
         for place in &places {
             if place.document == refusal.document
-                && pointer_of(alloc, place.path.as_slice())?.as_str() == pointer.as_str()
+                && is_at(alloc, place.path.as_slice(), pointer.as_str())?
             {
-                if let Some((keyword, text)) = self.refused(alloc, place, &refusal.problem)? {
-                    let _ = eprintln!(rt; "    {keyword} '{text}' at '{pointer}'");
+                if let Some((keyword, text)) = self.refused(place, &refusal.problem)? {
+                    let _ = eprintln!(self.rt; "    {keyword} '{text}' at '{pointer}'");
                     return Ok(());
                 }
             }
         }
-        let _ = eprintln!(rt; "    at '{pointer}'");
+        let _ = eprintln!(self.rt; "    at '{pointer}'");
         Ok(())
     }
 
     // The keyword and the text of the reference of a place that has a problem.
     fn refused<'p>(
         &self,
-        alloc: Global,
-        place: &ref_index::Place<'p>,
+        place: &Place<'p>,
         problem: &Problem<'_>,
-    ) -> Result<Option<(&'static str, &'p str)>, Stop> {
+    ) -> Result<Option<(&'static str, &'p str)>, AllocError> {
         for keyword in ["$ref", "$dynamicRef", "$schema"] {
             if let Some(text) = place.value.get(keyword).and_then(Value::as_str) {
-                if self.is_refused(alloc, place, text, problem)? {
+                if self.is_refused(place, text, problem)? {
                     return Ok(Some((keyword, text)));
                 }
             }
@@ -71,94 +74,58 @@ impl<'d, 'l, 'w, 'o> Sources<'d, 'l, 'w, 'o> {
     // Whether a reference of a place is the one that has a problem.
     fn is_refused(
         &self,
-        alloc: Global,
-        place: &ref_index::Place<'_>,
+        place: &Place<'_>,
         text: &str,
         problem: &Problem<'_>,
-    ) -> Result<bool, Stop> {
+    ) -> Result<bool, AllocError> {
         let (front, fragment) = parts(text);
-        match problem {
-            Problem::ReplacedUri { uri, .. } => { self.is_to(alloc, place, front, uri.as_str()) }
-            Problem::ShadowedUri { uri, .. } => {
-                Ok(is_name(fragment) && self.is_to(alloc, place, front, uri.as_str())?)
-            }
+        let (uri, is_meant) = match problem {
+            Problem::ReplacedUri { uri, .. } => (uri, true),
+            Problem::ShadowedUri { uri, .. } => (uri, is_name(fragment)),
             Problem::AddedMember { uri, key } => {
-                Ok(
-                    has_key(alloc, fragment, key.as_str())?
-                        && self.is_to(alloc, place, front, uri.as_str())?,
-                )
+                (uri, has_key(self.rt.alloc(), fragment, key.as_str())?)
             }
-            _ => Ok(false),
-        }
+            _ => return Ok(false),
+        };
+        Ok(is_meant && self.is_to(place, front, uri.as_str())?)
     }
 
     // Whether a reference of a place without its fragment gives a URI.
-    fn is_to(
-        &self,
-        alloc: Global,
-        place: &ref_index::Place<'_>,
-        front: &str,
-        uri: &str,
-    ) -> Result<bool, Stop> {
-        match self
-            .world
-            .registry
-            .resolve_uri(alloc, place.base.borrow(), front)
-        {
-            Ok(given) => Ok(given.as_str() == uri),
-            Err(Error::Memory(_)) => Err(Stop::Memory),
-            Err(_) => Ok(false),
+    fn is_to(&self, place: &Place<'_>, front: &str, uri: &str) -> Result<bool, AllocError> {
+        match self.world.resolved(self.rt.alloc(), place, front)? {
+            Some(given) => Ok(given.as_str() == uri),
+            None => Ok(false),
         }
     }
 
     // Says where the other schema is that has the same URI.
-    fn say_other(
-        &self,
-        rt: &HostRuntime,
-        given: &ArgMatches<'_>,
-        problem: &Problem<'_>,
-    ) -> Result<(), Stop> {
-        let other = match problem {
-            Problem::SharedUri { document, path, .. } => {
-                self.place(rt, given, *document, path.as_slice())?
-            }
-            Problem::ShadowedUri { document, path, .. } => {
-                self.place(rt, given, *document, path.as_slice())?
-            }
+    fn say_other(&self, problem: &Problem<'_>) -> Result<(), Stop> {
+        let (document, path) = match problem {
+            Problem::SharedUri { document, path, .. } => (*document, path.as_slice()),
+            Problem::ShadowedUri { document, path, .. } => (*document, path.as_slice()),
             _ => return Ok(()),
         };
-        let _ = eprintln!(rt; "    other: {other}");
+        let other = self.place(document, path)?;
+        let _ = eprintln!(self.rt; "    other: {other}");
         Ok(())
     }
 
-    /// The file, the line and the column of a place of a document.
-    pub fn place(
-        &self,
-        rt: &HostRuntime,
-        given: &ArgMatches<'_>,
-        document: usize,
-        path: &[JsonPointerSegment<'_>],
-    ) -> Result<String, Stop> {
+    // The file, the line and the column of a place of a document.
+    fn place(&self, document: usize, path: &[JsonPointerSegment<'_>]) -> Result<String, Stop> {
         match self.source(document) {
-            Some(number) => self.place_in(rt, given, number, path),
+            Some(number) => self.place_in(number, path),
             None => Ok(String::from_str(
-                rt.alloc(),
+                self.rt.alloc(),
                 "a document that is not among the given files",
             )?),
         }
     }
 
-    /// The same of what was read with this number.
-    pub fn place_in(
-        &self,
-        rt: &HostRuntime,
-        given: &ArgMatches<'_>,
-        number: usize,
-        path: &[JsonPointerSegment<'_>],
-    ) -> Result<String, Stop> {
-        let alloc = rt.alloc();
+    /// The file, the line and the column of a place of what was read with this number.
+    pub fn place_in(&self, number: usize, path: &[JsonPointerSegment<'_>]) -> Result<String, Stop> {
+        let alloc = self.rt.alloc();
         let name = self.read.name(number);
-        match self.text_in(rt, given, number)? {
+        match self.text_in(number)? {
             Some(text) => {
                 let (line, column) = position(alloc, text.as_str(), path)?;
                 Ok(format!(in alloc; "{name}:{line}:{column}")?)
@@ -166,6 +133,16 @@ impl<'d, 'l, 'w, 'o> Sources<'d, 'l, 'w, 'o> {
             None => Ok(String::from_str(alloc, name)?),
         }
     }
+}
+
+// Whether a pointer is that of a path.
+fn is_at(
+    alloc: Global,
+    path: &[JsonPointerSegment<'_>],
+    pointer: &str,
+) -> Result<bool, AllocError> {
+    let own = pointer_of(alloc, path)?;
+    Ok(own.as_str() == pointer)
 }
 
 // What is wrong where there is no bundle.
@@ -180,31 +157,35 @@ fn text_of(alloc: Global, problem: &Problem<'_>) -> Result<String, AllocError> {
             "The root's $defs (definitions in Drafts 4, 6 and 7) is no object",
         ),
         Problem::KeyTaken { uri } => {
-            format!(in alloc; "There is a definition '{}' already", uri.as_str())
+            ["There is a definition '", uri.as_str(), "' already"].join(alloc, "")
         }
         Problem::SharedUri { uri, .. } => {
-            format!(in alloc; "Two schemas have the URI '{}'", uri.as_str())
+            ["Two schemas have the URI '", uri.as_str(), "'"].join(alloc, "")
         }
-        Problem::ReplacedUri { uri, base } => {
-            format!(in alloc;
-                "It refers to a document by '{}', but by its identifier the document's URI is '{}'",
-                uri.as_str(),
-                base.as_str()
-            )
-        }
-        Problem::ShadowedUri { uri, base, .. } => {
-            format!(in alloc;
-                "It refers to an anchor of '{}', which stays outside, and whose URI by its identifier is '{}', as another schema's is",
-                uri.as_str(),
-                base.as_str()
-            )
-        }
-        Problem::AddedMember { uri, key } => {
-            format!(in alloc;
-                "It points to the member '{key}' of '{}', and the bundle adds or changes that member",
-                uri.as_str()
-            )
-        }
+        Problem::ReplacedUri { uri, base } => [
+            "It refers to a document by '",
+            uri.as_str(),
+            "', but by its identifier the document's URI is '",
+            base.as_str(),
+            "'",
+        ]
+        .join(alloc, ""),
+        Problem::ShadowedUri { uri, base, .. } => [
+            "It refers to an anchor of '",
+            uri.as_str(),
+            "', which stays outside, and whose URI by its identifier is '",
+            base.as_str(),
+            "', as another schema's is",
+        ]
+        .join(alloc, ""),
+        Problem::AddedMember { uri, key } => [
+            "It points to the member '",
+            key.as_str(),
+            "' of '",
+            uri.as_str(),
+            "', and the bundle adds or changes that member",
+        ]
+        .join(alloc, ""),
     }
 }
 

@@ -6,7 +6,7 @@ use ref_project::follow::followed;
 use ref_project::given::{Given, read_file};
 use ref_project::shown::push_found;
 use ref_project::world::{World, world_of};
-use ref_reading::{Document, Stop};
+use ref_reading::{Document, Stop, say_of};
 
 /// Follows a reference from a place of a file. The status is 0 where it resolves, 1 where it is unresolvable, and 2
 /// where a path couldn't be read.
@@ -16,10 +16,13 @@ pub fn resolve(
     given: &ArgMatches<'_>,
 ) -> Result<u8, Stop> {
     let read = read_file(rt, given, None)?;
-    if read.has_failed {
-        return Ok(2);
-    }
-    resolve_read(rt, console, given, &read)
+    let status = if read.has_failed {
+        Ok(2)
+    } else {
+        resolve_read(rt, console, given, &read)
+    };
+    drop(read);
+    status
 }
 
 // The same in what was read.
@@ -50,7 +53,9 @@ fn resolve_in(
 ) -> Result<u8, Stop> {
     match followed(rt.alloc(), document, world, from, reference) {
         Ok(Some(found)) => {
-            push_found(rt.alloc(), &mut console.out, read, world, found)?;
+            let pushed = push_found(rt.alloc(), &mut console.out, read, world, &found);
+            drop(found);
+            pushed?;
             Ok(0)
         }
         Ok(None) => {
@@ -60,7 +65,11 @@ fn resolve_in(
             );
             Ok(1)
         }
-        Err(error) => unresolvable(rt, document, &error),
+        Err(error) => {
+            let status = unresolvable(rt, document, &error);
+            drop(error);
+            status
+        }
     }
 }
 
@@ -69,6 +78,6 @@ fn unresolvable(rt: &HostRuntime, document: &Document, error: &Error) -> Result<
     if error.is_memory() {
         return Err(Stop::Memory);
     }
-    let _ = eprintln!(rt; "patchsard: {}: {error}", document.shown);
+    say_of(rt, document.shown.as_str(), error);
     Ok(1)
 }

@@ -1,5 +1,5 @@
 //! `patchsard serve`.
-use ref_reading::Stop;
+use ref_reading::{Stop, say};
 use ref_serve::{Input, Output, RunError, State, serve};
 
 /// Answers the calls on standard input, one a line, on standard output. The status is 0 where the input ends.
@@ -10,7 +10,7 @@ pub fn serve_calls(rt: &HostRuntime) -> Result<u8, Stop> {
     match serve(rt.alloc(), &mut reader, &mut writer, &mut state) {
         Ok(()) => Ok(0),
         Err(RunError::Read) => {
-            let _ = eprintln!(rt; "patchsard: cannot read standard input");
+            say(rt, "cannot read standard input");
             Err(Stop::Reported)
         }
         Err(RunError::Write) => Err(Stop::Write),

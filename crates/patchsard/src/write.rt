@@ -1,5 +1,5 @@
 //! A file that is written whole or not at all.
-use ref_reading::Stop;
+use ref_reading::{Stop, say_of};
 use std::alloc::AllocError;
 use std::fs::{File, Permissions};
 use std::io::Write;
@@ -26,7 +26,7 @@ pub fn write_file(rt: &HostRuntime, path: &str, text: &str) -> Result<u8, Stop> 
 
 // Says why a file can't be written.
 fn refused(rt: &HostRuntime, path: &str, error: io::Error) -> u8 {
-    let _ = eprintln!(rt; "patchsard: {path}: {error}");
+    say_of(rt, path, error);
     if error.kind() == io::ErrorKind::AlreadyExists {
         let _ = eprintln!(rt; "    help: remove it, unless another run is writing it");
     }

@@ -1,5 +1,5 @@
 -- The tables of the URIs that places have.
-use Rattle.std.proofs.Common.{◌≡◌, ℕ, Bool, true, false, not, ◌&&◌, ◌==◌, List, [], ◌∷◌, ◌++◌, map, flat_map, filter, bytes_eq, Option, Some, None, option_map, option_copied, Bor, String, string_bytes, Global, refl, ap, sym, ◌∙◌}
+use Rattle.std.proofs.Common.{◌≡◌, ℕ, Bool, true, false, not, ◌&&◌, ◌==◌, List, [], ◌∷◌, ◌++◌, map, flat_map, filter, bytes_eq, Option, Some, None, option_map, option_copied, Bor, refl, ap, sym, ◌∙◌}
 use Rattle.std.specs.List.{AllZip, last_or}
 use Rattle.std.specs.Option.{option_map_or, option_to_list}
 use Rattle.std.specs.Cmp.{nat_eq_equiv}
@@ -8,7 +8,7 @@ use Rattle.std.proofs.Math.Bool.{and-true}
 use Rattle.std.proofs.lemmas.Slice.Eq.{bytes_eq-Decides}
 use Rattle.std.proofs.lemmas.List.{map-append}
 use Rattle.std.proofs.lemmas.List.Elements.{filter-append}
-use Rattle.ref_parts.specs.Table.{Entry, entries_of, is_under, last_value}
+use Rattle.ref_parts.specs.Table.{Entry, is_under, last_value}
 use Rattle.ref_parts.specs.Path.{path_eq}
 use Rattle.ref_parts.specs.Segment.{part_of}
 use Rattle.ref_parts.specs.declared.path.JsonPointerSegment.{JsonPointerSegment}
@@ -19,7 +19,7 @@ use Rattle.ref_definitions.specs.Resources.{last_under, resource_of, own_uri}
 use Rattle.ref_bundle.specs.Needed.{counted_documents, Site, borne_in, sites_of_uris}
 use Rattle.ref_bundle.specs.Bundle.{is_site, other_bearer}
 use Rattle.ref_bundle.specs.inner.Seen.{Seen, see, seen_in}
-use Rattle.ref_bundle.specs.inner.Tables.{site_of, table_entries_of, table_of, entry_under, borne_at, is_other}
+use Rattle.ref_bundle.specs.inner.Tables.{site_of, table_of, entry_under, borne_at, is_other}
 use Rattle.ref_bundle.specs.declared.tables.Site as rust
 use Rattle.ref_bundle.proofs.Numbers.{and_left, and_right}
 use Rattle.ref_bundle.proofs.Filters.{last_mapped, filter_and, filter_turned, filter_agree, last_passing, none_last, joined_filter}
@@ -128,13 +128,10 @@ last_missing uri es bs is at = missing (last_under uri bs) (sym (found uri es bs
 
 -- ---- entries
 
-pub one_entered : (es : List (String Global × String Global × rust.Site)) (e : String Global × String Global × rust.Site) (uri : List ℕ) (site : Site)
-    → string_bytes e.0 ≡ uri → string_bytes e.1 ≡ [] → site_of e.2 ≡ site → table_entries_of (es ++ e ∷ []) ≡ table_entries_of es ++ entry_under (uri, site) ∷ []
-one_entered es e uri site first second third =
-    map-append (λ (x : String Global × String Global × rust.Site). (string_bytes x.0, string_bytes x.1, site_of x.2)) es (e ∷ [])
-    ∙ ap (λ u. table_entries_of es ++ (u, string_bytes e.1, site_of e.2) ∷ []) first
-    ∙ ap (λ u. table_entries_of es ++ (uri, u, site_of e.2) ∷ []) second
-    ∙ ap (λ s. table_entries_of es ++ (uri, [], s) ∷ []) third
+pub one_entered : (es : List (Entry rust.Site)) (uri : List ℕ) (place : rust.Site) (site : Site) → site_of place ≡ site → table_of (es ++ (uri, [], place) ∷ []) ≡ table_of es ++ entry_under (uri, site) ∷ []
+one_entered es uri place site is =
+    map-append (λ (x : Entry rust.Site). (x.0, x.1, site_of x.2)) es ((uri, [], place) ∷ [])
+    ∙ ap (λ s. table_of es ++ (uri, [], s) ∷ []) is
 
 pub copied_parts : (xs ys : List JsonPointerSegment) → AllZip (λ s copy. part_of copy ≡ part_of s) xs ys → map part_of ys ≡ map part_of xs
 copied_parts [] [] all = refl
@@ -190,7 +187,3 @@ second_table bs last layer es all same is =
 pub copied_site : (o : Option (Bor rust.Site)) → option_map (λ s. site_of s.now) o ≡ option_map site_of (option_copied o)
 copied_site None = refl
 copied_site (Some s) = refl
-
-pub tabled_entries : (es : List (String Global × String Global × rust.Site)) → table_of (entries_of es) ≡ table_entries_of es
-tabled_entries [] = refl
-tabled_entries (e ∷ es) = ap (λ l. (string_bytes e.0, string_bytes e.1, site_of e.2) ∷ l) (tabled_entries es)

@@ -4,3 +4,4 @@ pub mod Seen
 pub mod Tables
 pub mod First
 pub mod Obstacles
+pub mod Among

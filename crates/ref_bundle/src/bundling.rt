@@ -9,6 +9,7 @@ ghost use Rattle.ref_bundle.specs.inner.Seen.{HasBase};
 ghost use Rattle.ref_bundle.specs.inner.Tables.{AreTables};
 ghost use Rattle.ref_bundle.specs.Needed.{referred_in};
 
+use crate::among::Among;
 use crate::bundled::{Bundle, Embedded};
 use crate::embedding::{Part, added_schema, part_of, tree_with};
 use crate::error::{BundleError, Problem};
@@ -134,9 +135,17 @@ fn bundle_with<'r>(
 {
     let parts = parts_of(alloc, owns, needed, top.number)?;
     let top = part_of(alloc, top)?;
-    match first_refusal(alloc, bearers, owns, needed, &top, parts.as_slice())? {
+    let embedded = parts.as_slice();
+    let among = Among {
+        bearers,
+        owns,
+        needed,
+        top: &top,
+        parts: embedded,
+    };
+    match first_refusal(alloc, &among)? {
         Some(refusal) => Err(BundleError::Refused(refusal)),
-        None => Ok(bundle_of(alloc, &top, parts.as_slice())?),
+        None => Ok(bundle_of(alloc, &top, embedded)?),
     }
 }
 

@@ -104,7 +104,10 @@ fn is_given(alloc: Global, outer: &Rc<Uri>, text: &str, uri: &Rc<Uri>) -> Result
 {
     match resolve_against(alloc, outer.borrow(), text) {
         Ok(given) => Ok(given.as_str() == uri.as_str()),
-        Err(UriFault::Invalid(_)) => Ok(false),
+        Err(UriFault::Invalid(error)) => {
+            drop(error);
+            Ok(false)
+        }
         Err(UriFault::Memory(error)) => Err(error),
     }
 }

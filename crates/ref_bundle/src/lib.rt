@@ -5,6 +5,7 @@
 //! are in it, and what refuses one is said there over the plain documents.
 #![tactic(auto)]
 
+mod among;
 mod bundled;
 mod bundling;
 mod embedding;

@@ -9,12 +9,13 @@ ghost use Rattle.ref_bundle.specs.Bundle as bundle;
 ghost use Rattle.ref_bundle.specs.Bundle.{replaced_in, shadowed_uri, added_in, embedded_problems, reference_problems};
 ghost use Rattle.ref_bundle.specs.Bundle.{is_embedded_as, is_added_definition, added_definition, root_problems};
 ghost use Rattle.ref_bundle.specs.Saying.{problem_said};
-ghost use Rattle.ref_bundle.specs.inner.Seen.{seen_spot, seen_reference, document_in, layer_in, part_document, numbered_part};
-ghost use Rattle.ref_bundle.specs.inner.Seen.{HasPlaces, AreOwn, HasBase};
-ghost use Rattle.ref_bundle.specs.inner.Reach.{AreMarked};
+ghost use Rattle.ref_bundle.specs.inner.Seen.{seen_spot, seen_reference, document_in, part_document};
+ghost use Rattle.ref_bundle.specs.inner.Among.{AreAmong, layer_of, world_of, root_of, SaysFirst};
+ghost use Rattle.ref_bundle.specs.inner.Seen.{HasPlaces, HasBase};
 ghost use Rattle.ref_bundle.specs.inner.Tables.{AreTables};
-ghost use Rattle.ref_bundle.specs.inner.First.{first, references_seen};
+ghost use Rattle.ref_bundle.specs.inner.First.{references_seen};
 
+use crate::among::Among;
 use crate::embedding::{Part, added_schema, definitions_keyword, part_of};
 use crate::error::Problem;
 use crate::first::first_found;
@@ -75,9 +76,8 @@ fn shadowed<'r>(
 // The problem of a URI that is that of a document, in place of which its root's identifier gives another.
 fn replaced_in<'r>(part: &Part<'_>, uri: &Rc<Uri>) -> Result<Option<Problem<'r>>, AllocError>
     requires { HasBase part.now }
-    ensures { IfOk result
-        (λ o. option_map problem_said o
-        ≡ first (replaced_in uri.now.value (part_document part.now))) }
+    ensures { SaysFirst result
+        (replaced_in uri.now.value (part_document part.now)) }
 {
     if part.uri.as_str() != uri.as_str() {
         return Ok(None);
@@ -138,9 +138,8 @@ fn added_in<'r>(
     reference: &Reference<'_>,
 ) -> Result<Option<Problem<'r>>, AllocError>
     requires { HasBase part.now }
-    ensures { IfOk result
-        (λ o. option_map problem_said o
-        ≡ first (added_in draft (seen_reference reference.now) (part_document part.now))) }
+    ensures { SaysFirst result
+        (added_in draft (seen_reference reference.now) (part_document part.now)) }
 {
     let Some(key) = first_key(alloc, reference.fragment)? else {
         return Ok(None);
@@ -160,11 +159,9 @@ fn added_at<'r>(
     reference: &Reference<'_>,
 ) -> Result<Option<Problem<'r>>, AllocError>
     requires { HasBase part.now }
-    ensures { IfOk result
-        (λ o. option_map problem_said o
-        ≡ first
+    ensures { SaysFirst result
         (if path_eq (map part_of path.now) [] then
-        added_in draft (seen_reference reference.now) (part_document part.now) else [])) }
+        added_in draft (seen_reference reference.now) (part_document part.now) else []) }
 {
     if path.is_empty() {
         return added_in(alloc, draft, part, reference);
@@ -181,11 +178,9 @@ fn embedded_problem<'r>(
     reference: &Reference<'_>,
 ) -> Result<Option<Problem<'r>>, AllocError>
     requires { HasPlaces own.now }
-    ensures { IfOk result
-        (λ o. option_map problem_said o
-        ≡ first
+    ensures { SaysFirst result
         (embedded_problems draft (seen_reference reference.now) (map part_of path.now)
-        (document_in own.now))) }
+        (document_in own.now)) }
 {
     let part = part_of(alloc, own)?;
     first_found(
@@ -197,20 +192,19 @@ fn embedded_problem<'r>(
 // Whether a document, by its number, is one that is embedded, and has this base URI.
 fn is_embedded_as(
     alloc: Global,
-    owns: &[Own<'_>],
-    needed: &[bool],
-    top: usize,
+    among: &Among<'_, '_, '_>,
     uri: &str,
     number: usize,
 ) -> Result<bool, AllocError>
-    requires own { AreOwn owns.now }
-    requires needed { AreMarked (layer_in owns.now) top needed.now }
-    ensures { IfOk result (λ is. is ≡ is_embedded_as (layer_in owns.now) top uri.now number) }
+    requires { AreAmong among.now }
+    ensures { IfOk result
+        (λ is. is
+        ≡ is_embedded_as (layer_of among.now) among.now.top.now.number uri.now number) }
 {
-    if number == top || !is_marked(needed, number) {
+    if number == among.top.number || !is_marked(among.needed, number) {
         return Ok(false);
     }
-    match owns.get(number) {
+    match among.owns.get(number) {
         Some(own) => Ok(base_uri(alloc, own)?.as_str() == uri),
         None => Ok(false),
     }
@@ -219,19 +213,16 @@ fn is_embedded_as(
 // Whether a bundle adds the definition under a key.
 fn is_added_definition(
     alloc: Global,
-    bearers: &Bearers<'_, '_>,
-    owns: &[Own<'_>],
-    needed: &[bool],
-    top: usize,
+    among: &Among<'_, '_, '_>,
     key: &str,
 ) -> Result<bool, AllocError>
-    requires own { AreOwn owns.now }
-    requires tables { AreTables (layer_in owns.now) bearers.now }
-    requires needed { AreMarked (layer_in owns.now) top needed.now }
-    ensures { IfOk result (λ is. is ≡ is_added_definition (layer_in owns.now) top key.now) }
+    requires { AreAmong among.now }
+    ensures { IfOk result
+        (λ is. is
+        ≡ is_added_definition (layer_of among.now) among.now.top.now.number key.now) }
 {
-    match bearers.document_under(key) {
-        Some(number) => is_embedded_as(alloc, owns, needed, top, key, number),
+    match among.bearers.document_under(key) {
+        Some(number) => is_embedded_as(alloc, among, key, number),
         None => Ok(false),
     }
 }
@@ -239,26 +230,19 @@ fn is_added_definition(
 // The problem of a pointer from the root to a definition that is added, or to what is below it.
 fn added_definition<'r>(
     alloc: Global,
-    bearers: &Bearers<'_, '_>,
-    owns: &[Own<'_>],
-    needed: &[bool],
-    top: &Part<'_>,
+    among: &Among<'_, 'r, '_>,
     reference: &Reference<'_>,
 ) -> Result<Option<Problem<'r>>, AllocError>
-    requires own { AreOwn owns.now }
-    requires tables { AreTables (layer_in owns.now) bearers.now }
-    requires needed { AreMarked (layer_in owns.now) top.now.number needed.now }
-    ensures { IfOk result
-        (λ o. option_map problem_said o
-        ≡ first
-        (added_definition (layer_in owns.now) (numbered_part top.now)
-        (seen_reference reference.now))) }
+    requires { AreAmong among.now }
+    ensures { SaysFirst result
+        (added_definition (layer_of among.now) (root_of among.now)
+        (seen_reference reference.now)) }
 {
-    let keyword = definitions_keyword(top.draft);
+    let keyword = definitions_keyword(among.top.draft);
     let Some(key) = second_key(alloc, keyword, reference.fragment)? else {
         return Ok(None);
     };
-    if is_added_definition(alloc, bearers, owns, needed, top.number, key.as_str())? {
+    if is_added_definition(alloc, among, key.as_str())? {
         return added_member(reference, key);
     }
     Ok(None)
@@ -267,24 +251,17 @@ fn added_definition<'r>(
 // The first problem of a reference to the place at a path of the root's document.
 fn root_problem<'r>(
     alloc: Global,
-    bearers: &Bearers<'_, '_>,
-    owns: &[Own<'_>],
-    needed: &[bool],
-    top: &Part<'_>,
+    among: &Among<'_, 'r, '_>,
     path: &[JsonPointerSegment<'_>],
     reference: &Reference<'_>,
 ) -> Result<Option<Problem<'r>>, AllocError>
-    requires own { AreOwn owns.now }
-    requires tables { AreTables (layer_in owns.now) bearers.now }
-    requires needed { AreMarked (layer_in owns.now) top.now.number needed.now }
-    ensures { IfOk result
-        (λ o. option_map problem_said o
-        ≡ first
-        (root_problems (layer_in owns.now) (numbered_part top.now) (seen_reference reference.now)
-        (map part_of path.now))) }
+    requires { AreAmong among.now }
+    ensures { SaysFirst result
+        (root_problems (layer_of among.now) (root_of among.now) (seen_reference reference.now)
+        (map part_of path.now)) }
 {
     if path.is_empty() {
-        return added_definition(alloc, bearers, owns, needed, top, reference);
+        return added_definition(alloc, among, reference);
     }
     Ok(None)
 }
@@ -292,30 +269,23 @@ fn root_problem<'r>(
 // The first problem of a reference, by the own place that its URI means, or else by the place of a parent.
 fn reference_problem<'r>(
     alloc: Global,
-    bearers: &Bearers<'r, '_>,
-    owns: &[Own<'_>],
-    needed: &[bool],
-    top: &Part<'_>,
+    among: &Among<'_, 'r, '_>,
     reference: &Reference<'_>,
 ) -> Result<Option<Problem<'r>>, AllocError>
-    requires own { AreOwn owns.now }
-    requires tables { AreTables (layer_in owns.now) bearers.now }
-    requires needed { AreMarked (layer_in owns.now) top.now.number needed.now }
-    ensures { IfOk result
-        (λ o. option_map problem_said o
-        ≡ first
-        (reference_problems (layer_in owns.now) bearers.now.registry.now (numbered_part top.now)
-        (seen_reference reference.now))) }
+    requires { AreAmong among.now }
+    ensures { SaysFirst result
+        (reference_problems (layer_of among.now) (world_of among.now) (root_of among.now)
+        (seen_reference reference.now)) }
 {
-    let Some(site) = bearers.site_under(reference.uri.as_str()) else {
-        return shadowed(alloc, bearers, reference);
+    let Some(site) = among.bearers.site_under(reference.uri.as_str()) else {
+        return shadowed(alloc, among.bearers, reference);
     };
     let path = site.path.as_slice();
-    if site.document == top.number {
-        return root_problem(alloc, bearers, owns, needed, top, path, reference);
+    if site.document == among.top.number {
+        return root_problem(alloc, among, path, reference);
     }
-    match owns.get(site.document) {
-        Some(own) => embedded_problem(alloc, top.draft, own, path, reference),
+    match among.owns.get(site.document) {
+        Some(own) => embedded_problem(alloc, among.top.draft, own, path, reference),
         None => Ok(None),
     }
 }
@@ -323,24 +293,17 @@ fn reference_problem<'r>(
 /// The first problem of what a place refers to.
 pub(crate) fn reference_problems<'r>(
     alloc: Global,
-    bearers: &Bearers<'r, '_>,
-    owns: &[Own<'_>],
-    needed: &[bool],
-    top: &Part<'_>,
+    among: &Among<'_, 'r, '_>,
     spot: &Spot<'_>,
 ) -> Result<Option<Problem<'r>>, AllocError>
-    requires own { AreOwn owns.now }
-    requires tables { AreTables (layer_in owns.now) bearers.now }
-    requires needed { AreMarked (layer_in owns.now) top.now.number needed.now }
-    ensures value { IfOk result
-        (λ o. option_map problem_said o
-        ≡ first
-        (references_seen (layer_in owns.now) bearers.now.registry.now (numbered_part top.now)
-        (seen_spot spot.now))) }
+    requires { AreAmong among.now }
+    ensures value { SaysFirst result
+        (references_seen (layer_of among.now) (world_of among.now) (root_of among.now)
+        (seen_spot spot.now)) }
 {
     let references = references(alloc, spot)?;
     for reference in &references {
-        if let Some(problem) = reference_problem(alloc, bearers, owns, needed, top, reference)? {
+        if let Some(problem) = reference_problem(alloc, among, reference)? {
             return Ok(Some(problem));
         }
     }

@@ -12,12 +12,14 @@ ghost use Rattle.ref_bundle.specs.Needed.{sites_of_uris};
 ghost use Rattle.ref_bundle.specs.Bundle.{at_path, shared_uri, place_refusals};
 ghost use Rattle.ref_bundle.specs.Bundle.{map_refusals, root_refusals, refusals_in};
 ghost use Rattle.ref_bundle.specs.Saying.{problem_said, refusal_said};
-ghost use Rattle.ref_bundle.specs.inner.Reach.{is_marked, AreMarked};
-ghost use Rattle.ref_bundle.specs.inner.Seen.{seen_spot, own_uri_of, numbered_document, document_in, layer_in, part_document};
-ghost use Rattle.ref_bundle.specs.inner.Seen.{numbered_part, HasPlaces, AreOwn, HasBase};
+ghost use Rattle.ref_bundle.specs.inner.Reach.{is_marked};
+ghost use Rattle.ref_bundle.specs.inner.Seen.{seen_spot, own_uri_of, numbered_document, document_in, part_document};
+ghost use Rattle.ref_bundle.specs.inner.Among.{AreAmong, layer_of, world_of, root_of, parts_of, SaysFirst, RefusesFirst};
+ghost use Rattle.ref_bundle.specs.inner.Seen.{numbered_part, HasPlaces, HasBase};
 ghost use Rattle.ref_bundle.specs.inner.Tables.{AreTables};
-ghost use Rattle.ref_bundle.specs.inner.First.{first, shared_seen, references_seen, refusals_seen, taken_in, whole_refusals};
+ghost use Rattle.ref_bundle.specs.inner.First.{shared_seen, references_seen, refusals_seen, taken_in, whole_refusals};
 
+use crate::among::Among;
 use crate::embedding::{Part, definitions_keyword, obstacle, part_of};
 use crate::error::{Problem, Refusal};
 use crate::first::first_found;
@@ -71,12 +73,11 @@ fn shared_uri<'r>(
     uri: Option<&Uri>,
 ) -> Result<Option<Problem<'r>>, AllocError>
     ensures { (layer : Layer) → AreTables layer bearers.now
-        → IfOk result (λ o. option_map problem_said o
-        ≡ first
+        → SaysFirst result
         (flat_map
         (shared_uri (sites_of_uris layer)
         ((seen_spot spot.now).document, (seen_spot spot.now).path))
-        (option_to_list (option_map (λ u. u.now) uri.entry)))) }
+        (option_to_list (option_map (λ u. u.now) uri.entry))) }
 {
     let Some(uri) = uri else {
         return Ok(None);
@@ -99,8 +100,8 @@ fn shared_uris<'r>(
     spot: &Spot<'r>,
 ) -> Result<Option<Problem<'r>>, AllocError>
     ensures { (layer : Layer) → AreTables layer bearers.now
-        → IfOk result (λ o. option_map problem_said o
-        ≡ first (shared_seen layer own.now.uri.now (seen_spot spot.now))) }
+        → SaysFirst result
+        (shared_seen layer own.now.uri.now (seen_spot spot.now)) }
 {
     first_found(
         shared_uri(alloc, bearers, spot, root_uri(own.uri, spot)),
@@ -111,24 +112,19 @@ fn shared_uris<'r>(
 // The first problem of a place.
 fn place_problem<'r>(
     alloc: Global,
-    bearers: &Bearers<'r, '_>,
-    owns: &[Own<'r>],
-    needed: &[bool],
-    top: &Part<'_>,
+    among: &Among<'_, 'r, '_>,
     own: &Own<'r>,
     spot: &Spot<'r>,
 ) -> Result<Option<Problem<'r>>, AllocError>
-    requires own { AreOwn owns.now }
-    requires tables { AreTables (layer_in owns.now) bearers.now }
-    requires needed { AreMarked (layer_in owns.now) top.now.number needed.now }
-    ensures { IfOk result (λ o. option_map problem_said o
-        ≡ first (shared_seen (layer_in owns.now) own.now.uri.now (seen_spot spot.now)
-        ++ references_seen (layer_in owns.now) bearers.now.registry.now (numbered_part top.now)
-        (seen_spot spot.now))) }
+    requires { AreAmong among.now }
+    ensures { SaysFirst result
+        (shared_seen (layer_of among.now) own.now.uri.now (seen_spot spot.now)
+        ++ references_seen (layer_of among.now) (world_of among.now) (root_of among.now)
+        (seen_spot spot.now)) }
 {
     first_found(
-        shared_uris(alloc, bearers, own, spot),
-        reference_problems(alloc, bearers, owns, needed, top, spot),
+        shared_uris(alloc, among.bearers, own, spot),
+        reference_problems(alloc, among, spot),
     )
 }
 
@@ -152,23 +148,17 @@ fn at_place<'r>(
 // The first refusal of a place.
 fn place_refusal<'r>(
     alloc: Global,
-    bearers: &Bearers<'r, '_>,
-    owns: &[Own<'r>],
-    needed: &[bool],
-    top: &Part<'_>,
+    among: &Among<'_, 'r, '_>,
     own: &Own<'r>,
     spot: &Spot<'r>,
 ) -> Result<Option<Refusal<'r>>, AllocError>
-    requires own { AreOwn owns.now }
-    requires tables { AreTables (layer_in owns.now) bearers.now }
-    requires needed { AreMarked (layer_in owns.now) top.now.number needed.now }
-    ensures { IfOk result (λ o. option_map refusal_said o
-        ≡ first
-        (refusals_seen (layer_in owns.now) bearers.now.registry.now (numbered_part top.now)
+    requires { AreAmong among.now }
+    ensures { RefusesFirst result
+        (refusals_seen (layer_of among.now) (world_of among.now) (root_of among.now)
         own.now.uri.now
-        (seen_spot spot.now))) }
+        (seen_spot spot.now)) }
 {
-    match place_problem(alloc, bearers, owns, needed, top, own, spot)? {
+    match place_problem(alloc, among, own, spot)? {
         Some(problem) => Ok(Some(at_place(alloc, spot, problem)?)),
         None => Ok(None),
     }
@@ -177,23 +167,17 @@ fn place_refusal<'r>(
 // The first refusal of the places of a document.
 fn places_refusal<'r>(
     alloc: Global,
-    bearers: &Bearers<'r, '_>,
-    owns: &[Own<'r>],
-    needed: &[bool],
-    top: &Part<'_>,
+    among: &Among<'_, 'r, '_>,
     own: &Own<'r>,
 ) -> Result<Option<Refusal<'r>>, AllocError>
-    requires own { AreOwn owns.now }
-    requires tables { AreTables (layer_in owns.now) bearers.now }
-    requires needed { AreMarked (layer_in owns.now) top.now.number needed.now }
+    requires among { AreAmong among.now }
     requires places { HasPlaces own.now }
-    ensures { IfOk result (λ o. option_map refusal_said o
-        ≡ first
-        (place_refusals (layer_in owns.now) bearers.now.registry.now (numbered_part top.now)
-        (numbered_document own.now))) }
+    ensures { RefusesFirst result
+        (place_refusals (layer_of among.now) (world_of among.now) (root_of among.now)
+        (numbered_document own.now)) }
 {
     for spot in &own.places {
-        if let Some(refusal) = place_refusal(alloc, bearers, owns, needed, top, own, spot)? {
+        if let Some(refusal) = place_refusal(alloc, among, own, spot)? {
             return Ok(Some(refusal));
         }
     }
@@ -256,8 +240,8 @@ fn taken_by<'r>(
     part: &Part<'_>,
 ) -> Result<Option<Refusal<'r>>, AllocError>
     requires { HasBase part.now }
-    ensures { IfOk result (λ o. option_map refusal_said o
-        ≡ first (taken_in top keyword.now (view value.now) (numbered_part part.now))) }
+    ensures { RefusesFirst result
+        (taken_in top keyword.now (view value.now) (numbered_part part.now)) }
 {
     if value.get(part.base.as_str()).is_some() {
         return Ok(Some(key_taken(alloc, top, keyword, part)?));
@@ -274,9 +258,8 @@ fn taken<'r>(
     parts: &[Part<'_>],
 ) -> Result<Option<Refusal<'r>>, AllocError>
     requires { AllByRecursion HasBase parts.now }
-    ensures { IfOk result (λ o. option_map refusal_said o
-        ≡ first
-        (flat_map (taken_in top keyword.now (view value.now)) (map numbered_part parts.now))) }
+    ensures { RefusesFirst result
+        (flat_map (taken_in top keyword.now (view value.now)) (map numbered_part parts.now)) }
 {
     for part in parts {
         if let Some(refusal) = taken_by(alloc, top, keyword, value, part)? {
@@ -295,10 +278,9 @@ fn map_refusal<'r>(
     parts: &[Part<'_>],
 ) -> Result<Option<Refusal<'r>>, AllocError>
     requires { AllByRecursion HasBase parts.now }
-    ensures { IfOk result (λ o. option_map refusal_said o
-        ≡ first
+    ensures { RefusesFirst result
         (map_refusals top keyword.now (option_map (λ v. view v.now) value.entry)
-        (map numbered_part parts.now))) }
+        (map numbered_part parts.now)) }
 {
     let Some(value) = value else {
         return Ok(None);
@@ -316,8 +298,8 @@ fn root_refusal<'r>(
     parts: &[Part<'_>],
 ) -> Result<Option<Refusal<'r>>, AllocError>
     requires { AllByRecursion HasBase parts.now }
-    ensures { IfOk result (λ o. option_map refusal_said o
-        ≡ first (root_refusals (numbered_part top.now) (map numbered_part parts.now))) }
+    ensures { RefusesFirst result
+        (root_refusals (numbered_part top.now) (map numbered_part parts.now)) }
 {
     if parts.is_empty() {
         return Ok(None);
@@ -334,11 +316,10 @@ fn own_refusal<'r>(
 ) -> Result<Option<Refusal<'r>>, AllocError>
     requires top { HasBase top.now }
     requires places { HasPlaces own.now }
-    ensures { IfOk result (λ o. option_map refusal_said o
-        ≡ first
+    ensures { RefusesFirst result
         (map (λ o. at_path own.now.number [] (bundle.NotEmbedded o))
         (option_to_list (obstacle (part_document top.now)
-        (document_in own.now))))) }
+        (document_in own.now)))) }
 {
     let part = part_of(alloc, own)?;
     match obstacle(alloc, top, &part)? {
@@ -357,10 +338,9 @@ fn whole_refusal<'r>(
     requires top { HasBase top.now }
     requires parts { AllByRecursion HasBase parts.now }
     requires places { HasPlaces own.now }
-    ensures { IfOk result (λ o. option_map refusal_said o
-        ≡ first
+    ensures { RefusesFirst result
         (whole_refusals (numbered_part top.now) (map numbered_part parts.now)
-        (numbered_document own.now))) }
+        (numbered_document own.now)) }
 {
     if own.number == top.number {
         root_refusal(alloc, top, parts)
@@ -372,27 +352,18 @@ fn whole_refusal<'r>(
 // The first refusal of a needed document.
 fn refusal_in<'r>(
     alloc: Global,
-    bearers: &Bearers<'r, '_>,
-    owns: &[Own<'r>],
-    needed: &[bool],
-    top: &Part<'_>,
-    parts: &[Part<'_>],
+    among: &Among<'_, 'r, '_>,
     own: &Own<'r>,
 ) -> Result<Option<Refusal<'r>>, AllocError>
-    requires own { AreOwn owns.now }
-    requires tables { AreTables (layer_in owns.now) bearers.now }
-    requires needed { AreMarked (layer_in owns.now) top.now.number needed.now }
-    requires top { HasBase top.now }
-    requires parts { AllByRecursion HasBase parts.now }
+    requires among { AreAmong among.now }
     requires places { HasPlaces own.now }
-    ensures { IfOk result (λ o. option_map refusal_said o
-        ≡ first
-        (refusals_in (layer_in owns.now) bearers.now.registry.now (numbered_part top.now)
-        (map numbered_part parts.now) (numbered_document own.now))) }
+    ensures { RefusesFirst result
+        (refusals_in (layer_of among.now) (world_of among.now) (root_of among.now)
+        (parts_of among.now) (numbered_document own.now)) }
 {
     first_found(
-        whole_refusal(alloc, top, parts, own),
-        places_refusal(alloc, bearers, owns, needed, top, own),
+        whole_refusal(alloc, among.top, among.parts, own),
+        places_refusal(alloc, among, own),
     )
 }
 
@@ -409,27 +380,18 @@ pub(crate) fn is_marked(marks: &[bool], number: usize) -> bool
 // The first refusal of a document, where it is needed.
 fn refusal_if_needed<'r>(
     alloc: Global,
-    bearers: &Bearers<'r, '_>,
-    owns: &[Own<'r>],
-    needed: &[bool],
-    top: &Part<'_>,
-    parts: &[Part<'_>],
+    among: &Among<'_, 'r, '_>,
     own: &Own<'r>,
 ) -> Result<Option<Refusal<'r>>, AllocError>
-    requires own { AreOwn owns.now }
-    requires tables { AreTables (layer_in owns.now) bearers.now }
-    requires needed { AreMarked (layer_in owns.now) top.now.number needed.now }
-    requires top { HasBase top.now }
-    requires parts { AllByRecursion HasBase parts.now }
+    requires among { AreAmong among.now }
     requires places { HasPlaces own.now }
-    ensures { IfOk result (λ o. option_map refusal_said o
-        ≡ first
-        (if is_marked needed.now own.now.number then
-        refusals_in (layer_in owns.now) bearers.now.registry.now (numbered_part top.now)
-        (map numbered_part parts.now) (numbered_document own.now) else [])) }
+    ensures { RefusesFirst result
+        (if is_marked among.now.needed.now own.now.number then
+        refusals_in (layer_of among.now) (world_of among.now) (root_of among.now)
+        (parts_of among.now) (numbered_document own.now) else []) }
 {
-    if is_marked(needed, own.number) {
-        return refusal_in(alloc, bearers, owns, needed, top, parts, own);
+    if is_marked(among.needed, own.number) {
+        return refusal_in(alloc, among, own);
     }
     Ok(None)
 }
@@ -437,26 +399,17 @@ fn refusal_if_needed<'r>(
 /// The first refusal of the needed documents.
 pub(crate) fn first_refusal<'r>(
     alloc: Global,
-    bearers: &Bearers<'r, '_>,
-    owns: &[Own<'r>],
-    needed: &[bool],
-    top: &Part<'_>,
-    parts: &[Part<'_>],
+    among: &Among<'_, 'r, '_>,
 ) -> Result<Option<Refusal<'r>>, AllocError>
-    requires own { AreOwn owns.now }
-    requires tables { AreTables (layer_in owns.now) bearers.now }
-    requires needed { AreMarked (layer_in owns.now) top.now.number needed.now }
-    requires top { HasBase top.now }
-    requires parts { AllByRecursion HasBase parts.now }
-    ensures value { IfOk result (λ o. option_map refusal_said o
-        ≡ first
+    requires { AreAmong among.now }
+    ensures value { RefusesFirst result
         (flat_map
-        (λ e. if is_marked needed.now e.0 then
-        refusals_in (layer_in owns.now) bearers.now.registry.now (numbered_part top.now)
-        (map numbered_part parts.now) e else []) (map numbered_document owns.now))) }
+        (λ e. if is_marked among.now.needed.now e.0 then
+        refusals_in (layer_of among.now) (world_of among.now) (root_of among.now)
+        (parts_of among.now) e else []) (map numbered_document among.now.owns.now)) }
 {
-    for own in owns {
-        if let Some(refusal) = refusal_if_needed(alloc, bearers, owns, needed, top, parts, own)? {
+    for own in among.owns {
+        if let Some(refusal) = refusal_if_needed(alloc, among, own)? {
             return Ok(Some(refusal));
         }
     }

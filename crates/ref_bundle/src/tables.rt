@@ -7,12 +7,12 @@ ghost use Rattle.ref_definitions.specs.World.{Layer};
 ghost use Rattle.ref_bundle.specs.Needed.{borne_in, sites_of_uris, site_under, document_under};
 ghost use Rattle.ref_bundle.specs.Bundle.{is_site, other_bearer};
 ghost use Rattle.ref_bundle.specs.inner.Seen.{seen_spot, numbered_document, layer_in, HasPlaces, AreOwn};
-ghost use Rattle.ref_bundle.specs.inner.Tables.{site_of, table_entries_of, table_of, entry_under, is_other, is_other_in};
+ghost use Rattle.ref_bundle.specs.inner.Tables.{site_of, table_of, entry_under, is_other, is_other_in};
 ghost use Rattle.ref_bundle.specs.inner.Tables.{AreTables, borne_at};
 
 use crate::own::{Own, Spot};
 use crate::uris::own_uri;
-use referencing::{JsonPointerSegment, Registry, SortedTable};
+use referencing::{JsonPointerSegment, Registry, SortedTable, TableEntries};
 use std::alloc::{AllocError, Global};
 
 /// A place: the number of its document, and its path there.
@@ -21,9 +21,6 @@ pub(crate) struct Site<'r> {
     pub document: usize,
     pub path: Vec<JsonPointerSegment<'r>>,
 }
-
-// The entries of a table: a URI, an empty text, and a place.
-type Entries<'r> = Vec<(String, String, Site<'r>)>;
 
 /// Which place is the last to have each URI, and which is the last of those that aren't that one; and the registry, whose
 /// parents have others.
@@ -66,18 +63,16 @@ fn is_at(site: &Site<'_>, document: usize, path: &[JsonPointerSegment<'_>]) -> b
 // Adds the entry of a URI.
 fn push<'r>(
     alloc: Global,
-    entries: &mut Entries<'r>,
+    entries: &mut TableEntries<Site<'r>>,
     uri: &str,
     document: usize,
     path: &[JsonPointerSegment<'r>],
 ) -> Result<(), AllocError>
-    ensures { OnOk result (table_entries_of entries.new.items ≡ table_entries_of entries.old.items
+    ensures { OnOk result (table_of entries.new ≡ table_of entries.old
         ++ entry_under (uri.now, (document, map part_of path.now)) ∷ []) }
 {
-    let uri = String::from_str(alloc, uri)?;
-    let second = String::from_str(alloc, "")?;
     let path = path.to_vec(alloc)?;
-    entries.push((uri, second, Site { document, path }))?;
+    entries.push(uri, "", Site { document, path })?;
     Ok(())
 }
 
@@ -116,13 +111,13 @@ fn is_other(
 // Adds the entry of a URI, where there is no table, or another place is last under it there.
 fn push_other<'r>(
     alloc: Global,
-    entries: &mut Entries<'r>,
+    entries: &mut TableEntries<Site<'r>>,
     last: Option<&SortedTable<Site<'r>>>,
     uri: &str,
     document: usize,
     path: &[JsonPointerSegment<'r>],
 ) -> Result<(), AllocError>
-    ensures { OnOk result (table_entries_of entries.new.items ≡ table_entries_of entries.old.items
+    ensures { OnOk result (table_of entries.new ≡ table_of entries.old
         ++ map entry_under (filter (is_other (option_map (λ t. table_of t.now) last.entry)) ((
           uri.now,
           (document, map part_of path.now),
@@ -137,11 +132,11 @@ fn push_other<'r>(
 // Adds that of the URI that a place has by its identifier.
 fn push_place<'r>(
     alloc: Global,
-    entries: &mut Entries<'r>,
+    entries: &mut TableEntries<Site<'r>>,
     last: Option<&SortedTable<Site<'r>>>,
     spot: &Spot<'r>,
 ) -> Result<(), AllocError>
-    ensures { OnOk result (table_entries_of entries.new.items ≡ table_entries_of entries.old.items
+    ensures { OnOk result (table_of entries.new ≡ table_of entries.old
         ++ map entry_under
         (filter (is_other (option_map (λ t. table_of t.now) last.entry))
         (borne_at (seen_spot spot.now)))) }
@@ -162,11 +157,11 @@ fn push_place<'r>(
 // Adds those of the URIs that places have by their identifiers.
 fn push_places<'r>(
     alloc: Global,
-    entries: &mut Entries<'r>,
+    entries: &mut TableEntries<Site<'r>>,
     last: Option<&SortedTable<Site<'r>>>,
     places: &[Spot<'r>],
 ) -> Result<(), AllocError>
-    ensures { OnOk result (table_entries_of entries.new.items ≡ table_entries_of entries.old.items
+    ensures { OnOk result (table_of entries.new ≡ table_of entries.old
         ++ flat_map
         (λ s. map entry_under
         (filter (is_other (option_map (λ t. table_of t.now) last.entry)) (borne_at s)))
@@ -181,12 +176,12 @@ fn push_places<'r>(
 // Adds those of the URIs of a document and of its places.
 fn push_own<'r>(
     alloc: Global,
-    entries: &mut Entries<'r>,
+    entries: &mut TableEntries<Site<'r>>,
     last: Option<&SortedTable<Site<'r>>>,
     own: &Own<'r>,
 ) -> Result<(), AllocError>
     requires { HasPlaces own.now }
-    ensures { OnOk result (table_entries_of entries.new.items ≡ table_entries_of entries.old.items
+    ensures { OnOk result (table_of entries.new ≡ table_of entries.old
         ++ map entry_under
         (filter (is_other (option_map (λ t. table_of t.now) last.entry)) (borne_in
         (numbered_document own.now)))) }
@@ -208,11 +203,11 @@ fn table_of<'r>(
         (filter (is_other (option_map (λ t. table_of t.now) last.entry)) (borne_in e)))
         (map numbered_document owns.now)) }
 {
-    let mut entries = Vec::new(alloc);
+    let mut entries = TableEntries::new(alloc);
     for own in owns {
         push_own(alloc, &mut entries, last, own)?;
     }
-    let table = SortedTable::from_entries(alloc, entries)?;
+    let table = entries.into_table(alloc)?;
     Ok(table)
 }
 

@@ -37,7 +37,10 @@ fn resolved(alloc: Global, base: &Rc<Uri>, text: &str) -> Result<Option<Rc<Uri>>
 {
     match resolve_against(alloc, base.borrow(), text) {
         Ok(uri) => Ok(Some(Rc::new(alloc, uri)?)),
-        Err(UriFault::Invalid(_)) => Ok(None),
+        Err(UriFault::Invalid(error)) => {
+            drop(error);
+            Ok(None)
+        }
         Err(UriFault::Memory(error)) => Err(error),
     }
 }
@@ -71,7 +74,10 @@ fn meta_schema(alloc: Global, text: &str) -> Result<Option<Rc<Uri>>, AllocError>
 {
     match from_str(alloc, text) {
         Ok(uri) => Ok(Some(without_fragment(alloc, uri)?)),
-        Err(UriFault::Invalid(_)) => Ok(None),
+        Err(UriFault::Invalid(error)) => {
+            drop(error);
+            Ok(None)
+        }
         Err(UriFault::Memory(error)) => Err(error),
     }
 }

@@ -23,7 +23,8 @@ use Rattle.ref_index.specs.Listed.{IsLeftOut, AreNoted, none, noted, left_out, I
 use Rattle.ref_index.specs.Visits.{ChildrenStandAt}
 use Rattle.ref_findings.specs.declared.place.Place as rust
 use Rattle.ref_findings.specs.inner.Plain.{IsPlain}
-use Rattle.ref_findings.specs.inner.Seen.{place_of, place_with}
+use Rattle.ref_index.specs.inner.Queue.{place_with}
+use Rattle.ref_findings.specs.inner.Seen.{place_of}
 use Rattle.ref_findings.specs.Places.{places_near}
 use Rattle.ref_findings.specs.Sources.{Source, places_in, is_sound}
 use Rattle.ref_findings.proofs.Sound.{faultless_document, same_places, sound_places}

@@ -5,3 +5,4 @@ pub mod Seen
 pub mod Queue
 pub mod Wanted
 pub mod Plain
+pub mod Adding

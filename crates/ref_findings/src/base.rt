@@ -55,7 +55,10 @@ pub(crate) fn nearest_base(
 {
     match base_of(alloc, outer, id)? {
         Ok(base) => Ok(base),
-        Err(_) => outer.clone(),
+        Err(error) => {
+            drop(error);
+            outer.clone()
+        }
     }
 }
 

@@ -11,7 +11,7 @@ use serde_json::Value;
 use std::rc::Rc;
 
 /// What is found in sources.
-#[derive(Debug, Drop)]
+#[derive(Drop)]
 pub struct Report<'v> {
     /// What is wrong, and what is noted.
     pub findings: Vec<Finding<'v>>,
@@ -20,7 +20,7 @@ pub struct Report<'v> {
 }
 
 /// Something that is wrong with a source, or a note on it.
-#[derive(Debug, Drop)]
+#[derive(Drop)]
 pub struct Finding<'v> {
     /// The number of its source, counted from 0.
     pub source: usize,
@@ -35,7 +35,7 @@ pub struct Finding<'v> {
 }
 
 /// What is wrong, or is noted.
-#[derive(Debug, Drop)]
+#[derive(Drop)]
 pub enum Problem<'v> {
     /// The source is no JSON.
     NotJson,
@@ -81,7 +81,7 @@ pub enum Problem<'v> {
 }
 
 /// A place that has a URI or the name of an anchor.
-#[derive(Debug, Drop)]
+#[derive(Drop)]
 pub struct Bearer<'v> {
     /// The number of its source, counted from 0.
     pub source: usize,

@@ -1,17 +1,16 @@
 //! The documents that sources want and that are retrieved.
-ghost use Rattle.std.specs.Prelude.{◌≡◌, ◌+◌, ◌≤◌, ◌<◌, List, [], ◌∷◌, ◌++◌, length, map, flat_map, option_map, IfOk, IfSome, IfNone, OnOk};
+ghost use Rattle.std.specs.Prelude.{◌≡◌, ◌+◌, ◌≤◌, ◌<◌, [], ◌∷◌, length, map, flat_map, option_map, IfOk, IfSome, IfNone, OnOk};
 ghost use Rattle.std.specs.Option.{option_to_list};
 ghost use Rattle.std.specs.List.{AllByRecursion};
 ghost use Rattle.serde_json.specs.View.{view};
 ghost use Rattle.ref_definitions.specs.Resources.{own_uri};
 ghost use Rattle.ref_error.specs.Retrieving.{retriever_of};
-ghost use Rattle.ref_findings.specs.Sources as spec;
 ghost use Rattle.ref_findings.specs.Sources.{uris_in};
 ghost use Rattle.ref_findings.specs.Gathered.{referred_uri, dialect_uri, wanted_at, wanted_by, MayReturn, IsGathered};
 ghost use Rattle.ref_findings.specs.Entries.{source_of};
 ghost use Rattle.ref_findings.specs.Held.{held_source};
 ghost use Rattle.ref_findings.specs.inner.Seen.{place_of, seen_survey};
-ghost use Rattle.ref_findings.specs.inner.Wanted.{AreMet, Grows, wanted_of, uris_seen, wanted_seen, source_asked, IsGoing};
+ghost use Rattle.ref_findings.specs.inner.Wanted.{AreMet, Grows, wanted_of, uris_seen, wanted_seen, source_asked, GoesOn};
 
 use crate::base::{meta_schema_uri, nearest_base, target_of};
 use crate::bearers::own_uri;
@@ -164,7 +163,10 @@ fn retrieved<R: Retrieve>(
 {
     match retriever.retrieve(alloc, uri) {
         Ok(value) => Ok(Some(value)),
-        Err(RetrieveError::Refused(_)) => Ok(None),
+        Err(RetrieveError::Refused(reason)) => {
+            drop(reason);
+            Ok(None)
+        }
         Err(RetrieveError::Memory(error)) => Err(error),
     }
 }
@@ -216,15 +218,9 @@ fn retrieve<R: Retrieve>(
     wants: &mut Wants,
 ) -> Result<Option<Held>, AllocError>
     requires { wants.old.next < length wants.old.wanted.items }
-    ensures going { (sources gathered : List spec.Source)
-        → IsGoing
-        (retriever_of (R.may_answer retriever.now)
-        (R.may_refuse retriever.now)) draft sources wants.old gathered
-        → IfOk result
-        (λ held. IsGoing
-        (retriever_of (R.may_answer retriever.now)
-        (R.may_refuse retriever.now)) draft sources wants.new
-        (gathered ++ option_to_list (option_map held_source held))) }
+    ensures going { GoesOn
+        (retriever_of (R.may_answer retriever.now) (R.may_refuse retriever.now)) draft wants.old
+        wants.new result }
     ensures answer { IfOk result
         (λ o. IfSome o (λ held. R.may_answer retriever.now held.uri (view held.value))) }
     ensures passed { IfOk result (λ held. wants.new.next ≡ wants.old.next + 1) }
@@ -246,15 +242,9 @@ fn retrieve_next<R: Retrieve>(
     retriever: &R,
     wants: &mut Wants,
 ) -> Result<Option<Held>, AllocError>
-    ensures going { (sources gathered : List spec.Source)
-        → IsGoing
-        (retriever_of (R.may_answer retriever.now)
-        (R.may_refuse retriever.now)) draft sources wants.old gathered
-        → IfOk result
-        (λ held. IsGoing
-        (retriever_of (R.may_answer retriever.now)
-        (R.may_refuse retriever.now)) draft sources wants.new
-        (gathered ++ option_to_list (option_map held_source held))) }
+    ensures going { GoesOn
+        (retriever_of (R.may_answer retriever.now) (R.may_refuse retriever.now)) draft wants.old
+        wants.new result }
     ensures answer { IfOk result
         (λ o. IfSome o (λ held. R.may_answer retriever.now held.uri (view held.value))) }
     ensures ended { IfOk result
@@ -268,15 +258,6 @@ fn retrieve_next<R: Retrieve>(
     Ok(None)
 }
 
-// Adds what the places of a source have and want.
-fn add_survey(alloc: Global, wants: &mut Wants, survey: &Survey<'_, '_>) -> Result<(), AllocError>
-    ensures { OnOk result
-        (Grows wants.old wants.new (uris_seen (seen_survey survey.now))
-        (wanted_seen (seen_survey survey.now))) }
-{
-    wants.add_document(alloc, &survey.source.uri, survey.places.as_slice())
-}
-
 // Adds what the places of sources have and want.
 fn add_surveys(
     alloc: Global,
@@ -288,7 +269,7 @@ fn add_surveys(
         (flat_map wanted_seen (map seen_survey surveys.now))) }
 {
     for survey in surveys {
-        add_survey(alloc, wants, survey)?;
+        wants.add_document(alloc, &survey.source.uri, survey.places.as_slice())?;
     }
     Ok(())
 }

@@ -1,15 +1,16 @@
 //! The list of all that is found.
-ghost use Rattle.std.specs.Prelude.{◌≡◌, List, [], ◌∷◌, ◌++◌, Some, map, filter, length, option_map, Option, IfOk, OnOk};
-ghost use Rattle.std.specs.List.{AllZip};
+ghost use Rattle.std.specs.Prelude.{◌≡◌, [], ◌∷◌, ◌++◌, Some, map, filter, length, option_map, Option, IfOk};
+ghost use Rattle.std.specs.List.{AllZip, AllByRecursion};
 ghost use Rattle.ref_draft.specs.declared.anchor.Anchor.{Anchor};
 ghost use Rattle.ref_draft.specs.Views.{anchor_name};
 ghost use Rattle.ref_findings.specs.Places.{nearest_base};
 ghost use Rattle.ref_findings.specs.Findings as spec;
 ghost use Rattle.ref_findings.specs.Findings.{finding_at, anchor_finding, source_findings, identifier_findings, reference_findings, schema_findings, anchor_findings, findings_at, place_findings, no_json, not_json, unread_sources, has_reference, references, findings};
 ghost use Rattle.ref_findings.specs.Entries.{source_of, IsProblemOf, IsFindingOf};
+ghost use Rattle.ref_findings.specs.inner.Adding.{Adds};
 ghost use Rattle.ref_findings.specs.inner.Keywords.{keyword_text};
 ghost use Rattle.ref_findings.specs.inner.Meanings.{IsMaybe};
-ghost use Rattle.ref_findings.specs.inner.Seen.{site_of, known_in, known_among};
+ghost use Rattle.ref_findings.specs.inner.Seen.{site_of, seen_survey, survey_in, PlacesStand, known_in, known_among};
 
 use crate::base::nearest_base;
 use crate::bearers::{names_of, own_uri, source_uri, unsound_of, uris_of};
@@ -18,7 +19,7 @@ use crate::keyword::{Keyword, keyword_at};
 use crate::problem::Known;
 use crate::site::Site;
 use crate::source::Source;
-use crate::survey::{index_of, sites_of, surveys_of};
+use crate::survey::{Survey, index_of, sites_of, surveys_of};
 use ref_draft::{Anchor, AnchorIter, Draft};
 use ref_index::Index;
 use ref_index::path::segments_of;
@@ -59,11 +60,9 @@ fn add<'v>(
     keyword: Option<Keyword>,
     problem: Option<Problem<'v>>,
 ) -> Result<(), AllocError>
-    ensures { (p : Option spec.Problem) (fs : List spec.Finding) → IsMaybe p problem.entry
-        → AllZip IsFindingOf list.old.items fs
-        → OnOk result
-        (AllZip IsFindingOf list.new.items
-        (fs ++ finding_at (site_of site.now) (option_map keyword_text keyword) p)) }
+    ensures { (p : Option spec.Problem) → IsMaybe p problem.entry
+        → Adds list.old.items list.new.items result
+        (finding_at (site_of site.now) (option_map keyword_text keyword) p) }
 {
     let Some(problem) = problem else {
         return Ok(());
@@ -81,10 +80,8 @@ fn add_source_uri<'v>(
     number: usize,
     site: &Site<'_, 'v>,
 ) -> Result<(), AllocError>
-    ensures { (fs : List spec.Finding) → AllZip IsFindingOf list.old.items fs
-        → OnOk result
-        (AllZip IsFindingOf list.new.items
-        (fs ++ source_findings (known_in known.now) number (site_of site.now))) }
+    ensures { Adds list.old.items list.new.items result
+        (source_findings (known_in known.now) number (site_of site.now)) }
 {
     if !site.place.is_root() {
         return Ok(());
@@ -105,10 +102,8 @@ fn add_identifier<'v>(
     number: usize,
     site: &Site<'_, 'v>,
 ) -> Result<(), AllocError>
-    ensures { (fs : List spec.Finding) → AllZip IsFindingOf list.old.items fs
-        → OnOk result
-        (AllZip IsFindingOf list.new.items
-        (fs ++ identifier_findings (known_in known.now) number (site_of site.now))) }
+    ensures { Adds list.old.items list.new.items result
+        (identifier_findings (known_in known.now) number (site_of site.now)) }
 {
     let Some(id) = site.place.id() else {
         return Ok(());
@@ -125,10 +120,8 @@ fn add_reference<'v>(
     known: &Known<'_, 'v>,
     site: &Site<'_, 'v>,
 ) -> Result<(), AllocError>
-    ensures { (fs : List spec.Finding) → AllZip IsFindingOf list.old.items fs
-        → OnOk result
-        (AllZip IsFindingOf list.new.items
-        (fs ++ reference_findings (known_in known.now) (site_of site.now))) }
+    ensures { Adds list.old.items list.new.items result
+        (reference_findings (known_in known.now) (site_of site.now)) }
 {
     let Some(reference) = site.place.reference() else {
         return Ok(());
@@ -145,10 +138,8 @@ fn add_schema<'v>(
     known: &Known<'_, 'v>,
     site: &Site<'_, 'v>,
 ) -> Result<(), AllocError>
-    ensures { (fs : List spec.Finding) → AllZip IsFindingOf list.old.items fs
-        → OnOk result
-        (AllZip IsFindingOf list.new.items
-        (fs ++ schema_findings (known_in known.now) (site_of site.now))) }
+    ensures { Adds list.old.items list.new.items result
+        (schema_findings (known_in known.now) (site_of site.now)) }
 {
     let Some(text) = site.place.schema() else {
         return Ok(());
@@ -167,13 +158,9 @@ fn add_anchor<'v>(
     base: &Rc<Uri>,
     anchor: Anchor<'v>,
 ) -> Result<(), AllocError>
-    ensures { (fs : List spec.Finding) → base.now.value ≡ nearest_base (site_of site.now).1
-        → AllZip IsFindingOf list.old.items fs
-        → OnOk result
-        (AllZip IsFindingOf list.new.items
-        (fs
-        ++ anchor_finding (known_in known.now) number (site_of site.now)
-        (anchor_name anchor.entry))) }
+    ensures { base.now.value ≡ nearest_base (site_of site.now).1
+        → Adds list.old.items list.new.items result
+        (anchor_finding (known_in known.now) number (site_of site.now) (anchor_name anchor.entry)) }
 {
     let problem = known.of_name(alloc, number, base, anchor.name())?;
     let keyword = Keyword::of_anchor(site.place.draft, &anchor);
@@ -188,10 +175,8 @@ fn add_anchors<'v>(
     number: usize,
     site: &Site<'_, 'v>,
 ) -> Result<(), AllocError>
-    ensures { (fs : List spec.Finding) → AllZip IsFindingOf list.old.items fs
-        → OnOk result
-        (AllZip IsFindingOf list.new.items
-        (fs ++ anchor_findings (known_in known.now) number (site_of site.now))) }
+    ensures { Adds list.old.items list.new.items result
+        (anchor_findings (known_in known.now) number (site_of site.now)) }
 {
     let anchors = site.place.anchors();
     if matches!(anchors, AnchorIter::Empty) {
@@ -216,10 +201,8 @@ fn add_site<'v>(
     number: usize,
     site: &Site<'_, 'v>,
 ) -> Result<(), AllocError>
-    ensures { (fs : List spec.Finding) → AllZip IsFindingOf list.old.items fs
-        → OnOk result
-        (AllZip IsFindingOf list.new.items
-        (fs ++ findings_at (known_in known.now) number (site_of site.now))) }
+    ensures { Adds list.old.items list.new.items result
+        (findings_at (known_in known.now) number (site_of site.now)) }
 {
     add_source_uri(alloc, list, known, number, site)?;
     if site.place.is_plain() {
@@ -251,9 +234,7 @@ fn add_source<'v>(
     number: usize,
     source: &Source<'v>,
 ) -> Result<(), AllocError>
-    ensures { (fs : List spec.Finding) → AllZip IsFindingOf list.old.items fs
-        → OnOk result
-        (AllZip IsFindingOf list.new.items (fs ++ not_json (number, source_of source.now))) }
+    ensures { Adds list.old.items list.new.items result (not_json (number, source_of source.now)) }
 {
     if source.value.is_some() {
         return Ok(());
@@ -282,10 +263,8 @@ fn add_sites<'v>(
     known: &Known<'_, 'v>,
     sites: &[Site<'_, 'v>],
 ) -> Result<(), AllocError>
-    ensures { (fs : List spec.Finding) → AllZip IsFindingOf list.old.items fs
-        → OnOk result
-        (AllZip IsFindingOf list.new.items
-        (fs ++ place_findings (known_in known.now) (map site_of sites.now))) }
+    ensures { Adds list.old.items list.new.items result
+        (place_findings (known_in known.now) (map site_of sites.now)) }
 {
     for (number, site) in sites.iter().enumerate() {
         add_site(alloc, list, known, number, site)?;
@@ -357,6 +336,33 @@ fn reported<'k, 'v>(
     })
 }
 
+// What is found in sources, by their places and those of what is held beside them.
+fn surveyed<'v>(
+    alloc: Global,
+    draft: Draft,
+    sources: &[Source<'v>],
+    held: &[Source<'v>],
+    surveys: &[Survey<'_, 'v>],
+    others: &[Survey<'_, 'v>],
+) -> Result<Report<'v>, AllocError>
+    requires surveys { map seen_survey surveys.now
+        ≡ map (survey_in draft) (map source_of sources.now) }
+    requires others { map seen_survey others.now
+        ≡ map (survey_in draft) (map source_of held.now) }
+    requires stand { AllByRecursion PlacesStand surveys.now }
+    requires others_stand { AllByRecursion PlacesStand others.now }
+    ensures findings { IfOk result
+        (λ report. AllZip IsFindingOf report.findings.items
+        (findings draft (map source_of sources.now) (map source_of held.now))) }
+    ensures references { IfOk result
+        (λ report. report.references ≡ references draft (map source_of sources.now)) }
+{
+    let index = index_of(alloc, draft, surveys, others)?;
+    let unsound = unsound_of(alloc, surveys, others)?;
+    let sites = sites_of(alloc, surveys)?;
+    reported(alloc, sources, &index, &unsound, sites.as_slice())
+}
+
 /// All that is wrong with the references of sources, and what is to be noted: first those sources that are no JSON,
 /// then source by source what is wrong at its places, level by level. `held` are other documents that references may
 /// lead to.
@@ -385,10 +391,14 @@ pub fn report<'v>(
 {
     let surveys = surveys_of(alloc, draft, sources)?;
     let others = surveys_of(alloc, draft, held)?;
-    let index = index_of(alloc, draft, surveys.as_slice(), others.as_slice())?;
-    let unsound = unsound_of(alloc, surveys.as_slice(), others.as_slice())?;
-    let sites = sites_of(alloc, surveys.as_slice())?;
-    reported(alloc, sources, &index, &unsound, sites.as_slice())
+    surveyed(
+        alloc,
+        draft,
+        sources,
+        held,
+        surveys.as_slice(),
+        others.as_slice(),
+    )
 }
 
 /// All that is wrong with the references of sources, and what is to be noted, as [`report`] lists it.

@@ -33,7 +33,8 @@ impl<'v> Place<'v> {
     ghost use Rattle.ref_draft.specs.Views.{anchor_name, anchors_left};
     ghost use Rattle.ref_definitions.specs.Places.{identifier_of};
     ghost use Rattle.ref_findings.specs.Bearers.{is_root};
-    ghost use Rattle.ref_findings.specs.inner.Seen.{place_of, place_with};
+    ghost use Rattle.ref_index.specs.inner.Queue.{place_with};
+    ghost use Rattle.ref_findings.specs.inner.Seen.{place_of};
 
     /// The place of a value.
     pub fn new(
@@ -112,7 +113,7 @@ impl<'v> Place<'v> {
         let above = self.path.clone()?;
         let outer = self.outer.clone()?;
         Ok(Visit {
-            value: ValueRef::Lent(self.value, Below { above, tail: None }),
+            value: ValueRef::Borrowed(self.value, Below { above, tail: None }),
             draft: self.draft,
             outer,
         })

@@ -130,6 +130,7 @@ fn leads_nowhere<'v>(uri: Rc<Uri>, reference: &str, error: Error) -> Option<Prob
         → IsMaybe (by_fault uri.value reference.now fault) result }
 {
     if is_unretrievable(&error) {
+        drop(error);
         return missing(uri, reference);
     }
     Some(Problem::LeadsNowhere { uri, error })

@@ -11,8 +11,9 @@ use Rattle.ref_definitions.specs.World.{Layer}
 use Rattle.ref_index.specs.declared.entry.Entry.{Entry}
 use Rattle.ref_index.specs.Spots.{numbered}
 use Rattle.ref_definitions.specs.Cached.{Pair}
+use Rattle.ref_index.specs.declared.found.Found.{Found}
 use Rattle.ref_index.specs.declared.found.ResolvedUri.{ResolvedUri}
-use Rattle.ref_index.specs.Found.{IsNumberOf, IsPairOf, name_entry}
+use Rattle.ref_index.specs.Found.{FoundLists, Holds, IsNumberOf, IsPairOf, name_entry}
 
 -- a URI more among those that identify places
 known_more : (before : Bool) (here : Bool) → (before || (here || false)) ≡ cond here true before
@@ -47,6 +48,12 @@ Resolved = table.Entry ResolvedUri
 
 pub pair_more : (old new : List Resolved) (ps : List Pair) (p : Pair) → AllZip IsPairOf old ps → (t : Resolved) × (new ≡ old ++ t ∷ []) × IsPairOf t p → AllZip IsPairOf new (ps ++ p ∷ [])
 pair_more old new ps p all (t, more, is) = subst (λ l. AllZip IsPairOf l (ps ++ p ∷ [])) (sym more) (zip_push IsPairOf old ps t p all is)
+
+-- what is held, with other pairs
+pub pairs_held : (layer : Layer) (f : Found) (held : FoundLists) (identifiers references : List Resolved) (of_identifiers of_references : List Pair) → Holds layer f held → AllZip IsPairOf identifiers of_identifiers → AllZip IsPairOf references of_references
+    → Holds layer (record f { identifiers = identifiers; references = references }) (record held { identifiers = of_identifiers; references = of_references })
+pairs_held layer f held identifiers references of_identifiers of_references holds first second =
+    record { by_uri = holds.by_uri; by_name = holds.by_name; wanted = holds.wanted; of_identifiers = first; of_references = second; known = holds.known }
 
 -- an entry's number, where the entries are the same
 pub number_kept : (layer : Layer) (before after : List Entry) (number n : ℕ) (p : Place) → after ≡ before → IsNumberOf layer before number n p → IsNumberOf layer after number n p

@@ -1,9 +1,10 @@
 -- A document after others.
-use Rattle.std.proofs.Common.{◌≡◌, ℕ, zero, suc, List, [], ◌∷◌, ◌++◌, flat_map, length, Some, ⊎_elim, refl, sym, ap, ◌∙◌, subst, append-nil}
+use Rattle.std.proofs.Common.{◌≡◌, ℕ, zero, suc, List, [], ◌∷◌, ◌++◌, flat_map, length, Some, Result, Ok, Err, OnOk, IfErr, ⊎_elim, refl, sym, ap, ◌∙◌, subst, append-nil}
 use Rattle.std.specs.Prelude.{slice_get}
 use Rattle.std.specs.List.{AllZip, Contains}
 use Rattle.std.proofs.lemmas.List.Elements.{All-contains, All-from_recursion, Contains-push_cases}
 use Rattle.std.proofs.lemmas.Grind.{flat_map-append}
+use Rattle.ref_uri.specs.declared.error.UriFault.{UriFault}
 use Rattle.ref_parts.specs.Table as table
 use Rattle.ref_definitions.specs.World.{Document, Layer}
 use Rattle.ref_definitions.specs.Places.{Place, places}
@@ -15,8 +16,8 @@ use Rattle.ref_index.specs.declared.entry.Entry.{Entry}
 use Rattle.ref_index.specs.declared.found.Found.{Found}
 use Rattle.ref_parts.specs.declared.path.JsonPointerSegment.{JsonPointerSegment}
 use Rattle.ref_index.specs.declared.entry.NamedEntry.{NamedEntry}
-use Rattle.ref_index.specs.Found.{IsPathOf, IsEntryOf, IsNumberOf, IsResourceOf, IsNameOf, Held, Holds}
-use Rattle.ref_index.specs.Visits.{IsWalked, IsFound, held_of, ChildrenStandAt, faults_of, wants_of}
+use Rattle.ref_index.specs.Found.{IsPathOf, IsEntryOf, IsNumberOf, IsResourceOf, IsNameOf, FoundLists, Holds}
+use Rattle.ref_index.specs.Visits.{IsFirstFault, IsWalked, WalksOver, IsFound, held_of, ChildrenStandAt, faults_of, wants_of}
 use Rattle.ref_index.proofs.Spots.{numbered_more}
 use Rattle.ref_index.proofs.Visiting.{holds_same}
 
@@ -55,7 +56,7 @@ resources_stay layer entries e = zip_weaker (IsResourceOf layer entries) (IsReso
 pub names_stay : (layer : Layer) (entries : List Entry) (e : Entry) (ts : List (table.Entry NamedEntry)) (ns : List (ℕ × Named)) → AllZip (IsNameOf layer entries) ts ns → AllZip (IsNameOf layer (entries ++ e ∷ [])) ts ns
 names_stay layer entries e = zip_weaker (IsNameOf layer entries) (IsNameOf layer (entries ++ e ∷ [])) (λ t n is. (is.0, is.1, is.2, number_stays layer entries e n.0 t.2.entry n.1.place is.3))
 
-pub holds_stays : (layer more : Layer) (f : Found) (held : Held) → Holds layer f held → Holds (layer ++ more) f held
+pub holds_stays : (layer more : Layer) (f : Found) (held : FoundLists) → Holds layer f held → Holds (layer ++ more) f held
 holds_stays layer more f held holds = record {
   by_uri = zip_weaker (IsResourceOf layer f.entries.items) (IsResourceOf (layer ++ more) f.entries.items) (λ t r is. (is.0, is.1, (is.2.0, is.2.1, entry_stays layer more is.2.0 r.1.1 is.2.2, is.2.3))) f.resources held.resources holds.by_uri;
   by_name = zip_weaker (IsNameOf layer f.entries.items) (IsNameOf (layer ++ more) f.entries.items) (λ t n is. (is.0, is.1, is.2, (is.3.0, is.3.1, entry_stays layer more is.3.0 n.1.place is.3.2, is.3.3))) f.names held.names holds.by_name;
@@ -72,6 +73,15 @@ one_more f layer d = ap (λ l. flat_map f layer ++ l) (sym (append-nil (f d))) �
 
 pub faults_more : (layer : Layer) (d : Document) → faults layer ≡ [] → flat_map faults_of (places d) ≡ faults (layer ++ d ∷ [])
 faults_more layer d none = ap (λ l. l ++ flat_map faults_of (places d)) (sym none) ∙ one_more (λ e. flat_map faults_of (places e)) layer d
+
+-- what a walk tells where it ends, and where it is refused
+pub walk_ended : {A : Type 0} (d : Document) (number : ℕ) (old new : Found) (r : Result A UriFault) → WalksOver d number old new r → OnOk r (IsWalked d number old new (places d))
+walk_ended d number old new (Ok done) is = is
+walk_ended d number old new (Err fault) is = tt
+
+pub walk_refused : {A : Type 0} (d : Document) (number : ℕ) (old new : Found) (r : Result A UriFault) → WalksOver d number old new r → IfErr r (IsFirstFault (flat_map faults_of (places d)))
+walk_refused d number old new (Ok done) is = tt
+walk_refused d number old new (Err fault) is = is
 
 pub found_more : (layer : Layer) (d : Document) (old new : Found) → IsFound layer old → IsWalked d (length layer) old new (places d) → IsFound (layer ++ d ∷ []) new
 found_more layer d old new is walk = record {

@@ -13,15 +13,15 @@ use Rattle.ref_parts.specs.Table.{is_under, last_value}
 use Rattle.ref_definitions.specs.World.{Layer}
 use Rattle.ref_definitions.specs.Places.{Place}
 use Rattle.ref_definitions.specs.Resources.{last_under, resources}
-use Rattle.ref_definitions.specs.Anchors.{Named}
+use Rattle.ref_definitions.specs.Anchors.{Named, last_named, names}
 use Rattle.ref_definitions.specs.Cached.{Pair}
 use Rattle.ref_index.specs.declared.entry.Entry.{Entry}
 use Rattle.ref_index.specs.declared.entry.NamedEntry.{NamedEntry}
 use Rattle.ref_index.specs.declared.found.ResolvedUri.{ResolvedUri}
-use Rattle.ref_index.specs.Spots.{Spot, numbered_resources, last_resource, spot_of}
+use Rattle.ref_index.specs.Spots.{Spot, numbered_resources, numbered_names, last_resource, last_name, spot_under, spot_of}
 use Rattle.ref_index.specs.Found.{IsEntryOf, IsNumberOf, IsResourceOf, IsNameOf, kind_of}
-use Rattle.ref_index.proofs.Spots.{last_resource_is}
-use Rattle.ref_index.specs.Index.{IsPairIn, IsFoundAt, IsFoundWhere}
+use Rattle.ref_index.proofs.Spots.{last_resource_is, last_name_is}
+use Rattle.ref_index.specs.Index.{IsPairIn, IsFoundWhere}
 
 -- ---- lists of the same places
 
@@ -141,28 +141,27 @@ none_is_some a is = cc
 some_is : {A : Type 0} (a b : A) → Some a ≡ Some b → a ≡ b
 some_is a b is = cc
 
-pub none_found : {A B V : Type 0} (R : A → B → Type 0) (f : A → V) (o : Option A) (u : Option B) → Both R o u → option_map f o ≡ None → u ≡ None
+none_found : {A B V : Type 0} (R : A → B → Type 0) (f : A → V) (o : Option A) (u : Option B) → Both R o u → option_map f o ≡ None → u ≡ None
 none_found R f None None both is = refl
 none_found R f None (Some b) both is = absurd both
 none_found R f (Some a) u both is = cc
 
-pub some_found : {A B V : Type 0} (R : A → B → Type 0) (f : A → V) (o : Option A) (u : Option B) (v : V) → Both R o u → option_map f o ≡ Some v → (b : B) × (u ≡ Some b) × (a : A) × (f a ≡ v) × R a b
+some_found : {A B V : Type 0} (R : A → B → Type 0) (f : A → V) (o : Option A) (u : Option B) (v : V) → Both R o u → option_map f o ≡ Some v → (b : B) × (u ≡ Some b) × (a : A) × (f a ≡ v) × R a b
 some_found R f None u v both is = cc
 some_found R f (Some a) None v both is = absurd both
 some_found R f (Some a) (Some b) v both is = (b, refl, a, (cc), both)
 
--- the entry with a number that was found
-pub name_found : (layer : Layer) (entries : List Entry) (o : Option (table.Entry NamedEntry)) (u : Option (ℕ × Named)) (v : NamedEntry) → Both (IsNameOf layer entries) o u → option_map (λ e. e.2) o ≡ Some v
-    → (n : ℕ × Named) × (u ≡ Some n) × (kind_of v.is_dynamic ≡ n.1.kind) × IsNumberOf layer entries n.0 v.entry n.1.place
-name_found layer entries o u v both is =
-    let (n, found, a, same, at) = some_found (IsNameOf layer entries) (λ e. e.2) o u v both is in
+-- a name that a table has, and one that it hasn't
+pub name_found : (layer : Layer) (entries : List Entry) (uri name : List ℕ) (by_name : List (table.Entry NamedEntry)) (v : NamedEntry) → AllZip (IsNameOf layer entries) by_name (numbered_names layer) → last_value uri name by_name ≡ Some v
+    → (n : ℕ × Named) × (last_name uri name layer ≡ Some n) × (kind_of v.is_dynamic ≡ n.1.kind) × IsNumberOf layer entries n.0 v.entry n.1.place
+name_found layer entries uri name by_name v all is =
+    let (n, found, a, same, at) = some_found (IsNameOf layer entries) (λ e. e.2) (last_or None (filter (is_under uri name) by_name)) (last_name uri name layer) v (name_both layer entries uri name by_name (numbered_names layer) all) is in
     (n, found, subst (λ v. kind_of v.is_dynamic ≡ n.1.kind) same at.2, subst (λ v. IsNumberOf layer entries n.0 v.entry n.1.place) same at.3)
 
-pub resource_found : (layer : Layer) (entries : List Entry) (o : Option (table.Entry ℕ)) (u : Option (ℕ × (List ℕ × Place))) (v : ℕ) → Both (IsResourceOf layer entries) o u → option_map (λ e. e.2) o ≡ Some v
-    → (r : ℕ × (List ℕ × Place)) × (u ≡ Some r) × IsNumberOf layer entries r.0 v r.1.1
-resource_found layer entries o u v both is =
-    let (r, found, a, same, at) = some_found (IsResourceOf layer entries) (λ e. e.2) o u v both is in
-    (r, found, subst (λ w. IsNumberOf layer entries r.0 w r.1.1) same at.2)
+pub name_absent : (layer : Layer) (entries : List Entry) (uri name : List ℕ) (by_name : List (table.Entry NamedEntry)) → AllZip (IsNameOf layer entries) by_name (numbered_names layer) → last_value uri name by_name ≡ None → last_named uri name (names layer) ≡ None
+name_absent layer entries uri name by_name all none =
+    last_name_is uri name layer
+    ∙ ap (option_map (λ (n : ℕ × Named). n.1)) (none_found (IsNameOf layer entries) (λ e. e.2) (last_or None (filter (is_under uri name) by_name)) (last_name uri name layer) (name_both layer entries uri name by_name (numbered_names layer) all) none)
 
 pub tells : (layer : Layer) (entries : List Entry) (number n : ℕ) (p : Place) (e : Entry) → IsNumberOf layer entries number n p → slice_get entries n ≡ Some e → IsEntryOf layer e p × (e.document ≡ number)
 tells layer entries number n p e is at =
@@ -181,45 +180,50 @@ pub got : {A : Type 0} (xs : List A) (i : ℕ) (r : Option (Bor A)) → IsItemAt
 got xs i None (is, lent, within, past, more) = sym (slice_get_past xs i past)
 got xs i (Some b) (is, lent, within, there, more) = sym (slice_get_read xs (length xs) i b.now refl there.0 lent)
 
-pub entry_there : (layer : Layer) (entries : List Entry) (number n : ℕ) (p : Place) (result : Option (Bor Entry)) (None_is : Type 0) (Some_is : Entry → Type 0) → IsNumberOf layer entries number n p → option_copied result ≡ slice_get entries n
-    → ((e : Entry) → IsEntryOf layer e p → e.document ≡ number → Some_is e) → MatchOption result None_is (λ e. Some_is e.now)
-entry_there layer entries number n p None None_is Some_is is same then = absurd (none_is_some is.0 (same ∙ is.1))
-entry_there layer entries number n p (Some b) None_is Some_is is same then = let at = tells layer entries number n p b.now is (sym same) in then b.now at.0 at.1
+-- the entry with a number is there
+entry_there : (layer : Layer) (entries : List Entry) (number n : ℕ) (p : Place) (result : Option (Bor Entry)) → IsNumberOf layer entries number n p → option_copied result ≡ slice_get entries n
+    → (b : Bor Entry) × (result ≡ Some b) × IsEntryOf layer b.now p × (b.now.document ≡ number)
+entry_there layer entries number n p None is same = absurd (none_is_some is.0 (same ∙ is.1))
+entry_there layer entries number n p (Some b) is same = let at = tells layer entries number n p b.now is (sym same) in (b, refl, at.0, at.1)
 
--- what holds of an entry in any case holds where there is one
-pub where_there : {A : Type 0} (o : Option A) (None_is : Type 0) (P : A → Type 0) → MatchOption o ⊥ P → MatchOption o None_is P
-where_there None None_is P is = absurd is
-where_there (Some x) None_is P is = is
+-- an entry is that of the last resource under a URI, and says where this stands, or there is neither
+abbrev pub IsResourceFound : Layer → List ℕ → Option (Bor Entry) → Type 0
+IsResourceFound layer uri result =
+    IsFoundWhere layer result (last_under uri (resources layer)) × IfSome result (λ e. spot_under uri layer ≡ Some (spot_of e.now))
 
-pub if_there : {A : Type 0} (o : Option A) (P : A → Type 0) → MatchOption o ⊥ P → IfSome o P
-if_there None P is = absurd is
-if_there (Some x) P is = is
+abbrev spot_at : ℕ × (List ℕ × Place) → Spot
+spot_at r = record { document = r.0; path = r.1.1.path }
 
--- the entry with a number that a table of resources has, or there is none
-by_number : (layer : Layer) (entries : List Entry) (o : Option (table.Entry ℕ)) (u : Option (ℕ × (List ℕ × Place))) (result : Option (Bor Entry)) → Both (IsResourceOf layer entries) o u
-    → MatchOption (option_map (λ e. e.2) o) (result ≡ None) (λ n. option_copied result ≡ slice_get entries n) → IsFoundWhere layer result (option_map (λ (r : ℕ × (List ℕ × Place)). r.1) u)
-by_number layer entries None None result both same = subst (λ r. IsFoundWhere layer r None) (sym same) refl
-by_number layer entries None (Some r) result both same = absurd both
-by_number layer entries (Some e) None result both same = absurd both
-by_number layer entries (Some e) (Some r) result both same =
-    entry_there layer entries r.0 e.2 r.1.1 result (Some r.1 ≡ None) (λ x. IsFoundAt layer x (Some r.1)) both.2 same (λ x tells number. (r.1, refl, tells))
+by_number : (layer : Layer) (entries : List Entry) (uri : List ℕ) (o : Option (table.Entry ℕ)) (u : Option (ℕ × (List ℕ × Place))) (result : Option (Bor Entry)) → last_resource uri layer ≡ u → Both (IsResourceOf layer entries) o u
+    → MatchOption (option_map (λ e. e.2) o) (result ≡ None) (λ n. option_copied result ≡ slice_get entries n) → IsResourceFound layer uri result
+by_number layer entries uri None None result last both none =
+    let found : last_under uri (resources layer) ≡ None = last_resource_is uri layer ∙ ap (option_map (λ (r : ℕ × (List ℕ × Place)). r.1)) last in
+    subst (IsResourceFound layer uri) (sym none) (found, tt)
+by_number layer entries uri None (Some r) result last both same = absurd both
+by_number layer entries uri (Some e) None result last both same = absurd both
+by_number layer entries uri (Some e) (Some r) result last both same =
+    let found : last_under uri (resources layer) ≡ Some r.1 = last_resource_is uri layer ∙ ap (option_map (λ (x : ℕ × (List ℕ × Place)). x.1)) last in
+    let (b, is, told, number) = entry_there layer entries r.0 e.2 r.1.1 result both.2 same in
+    subst (IsResourceFound layer uri) (sym is) ((r.1, found, told), ap (option_map spot_at) last ∙ stands_at layer r.0 r.1.1 b.now told number)
 
-pub place_found : (layer : Layer) (entries : List Entry) (uri : List ℕ) (by_uri : List (table.Entry ℕ)) (result : Option (Bor Entry)) → AllZip (IsResourceOf layer entries) by_uri (numbered_resources layer)
-    → MatchOption (last_value uri [] by_uri) (result ≡ None) (λ n. option_copied result ≡ slice_get entries n) → IsFoundWhere layer result (last_under uri (resources layer))
-place_found layer entries uri by_uri result all same =
-    subst (IsFoundWhere layer result) (sym (last_resource_is uri layer))
-    (by_number layer entries (last_or None (filter (is_under uri []) by_uri)) (last_resource uri layer) result (uri_both layer entries uri by_uri (numbered_resources layer) all) same)
+-- the entry with the number that a table has for a URI, where it has one
+pub resource_found : (layer : Layer) (entries : List Entry) (uri : List ℕ) (by_uri : List (table.Entry ℕ)) (number : Option ℕ) (result : Option (Bor Entry)) → AllZip (IsResourceOf layer entries) by_uri (numbered_resources layer)
+    → number ≡ last_value uri [] by_uri → MatchOption number (result ≡ None) (λ n. option_copied result ≡ slice_get entries n) → IsResourceFound layer uri result
+resource_found layer entries uri by_uri number result all is same =
+    by_number layer entries uri (last_or None (filter (is_under uri []) by_uri)) (last_resource uri layer) result refl (uri_both layer entries uri by_uri (numbered_resources layer) all)
+    (subst (λ o. MatchOption o (result ≡ None) (λ n. option_copied result ≡ slice_get entries n)) is same)
 
 -- a pair that none was found of is none of the list
-pub pair_absent : (by_uri : List (table.Entry ℕ)) (base text : List ℕ) (ps : List Pair) (o : Option (table.Entry ResolvedUri)) → Both (IsPairIn by_uri) o (last_pair base text ps) → option_map (λ e. e.2) o ≡ None → ¬ (Contains ps (base, text))
-pair_absent by_uri base text ps o both none =
-    not_there (λ p. bytes_eq p.0 base && bytes_eq p.1 text) ps (base, text) (itself base text) (none_found (IsPairIn by_uri) (λ e. e.2) o (last_pair base text ps) both none)
+pub pair_absent : (by_uri : List (table.Entry ℕ)) (base text : List ℕ) (by_pair : List (table.Entry ResolvedUri)) (ps : List Pair) → AllZip (IsPairIn by_uri) by_pair ps → last_value base text by_pair ≡ None → ¬ (Contains ps (base, text))
+pair_absent by_uri base text by_pair ps all none =
+    not_there (λ p. bytes_eq p.0 base && bytes_eq p.1 text) ps (base, text) (itself base text)
+    (none_found (IsPairIn by_uri) (λ e. e.2) (last_or None (filter (is_under base text) by_pair)) (last_pair base text ps) (pair_both by_uri base text by_pair ps all) none)
 
 -- what was found of a pair is the URI that it means, with its number
-pub pair_found : (by_uri : List (table.Entry ℕ)) (base text : List ℕ) (ps : List Pair) (o : Option (table.Entry ResolvedUri)) (v : ResolvedUri) → Both (IsPairIn by_uri) o (last_pair base text ps) → option_map (λ e. e.2) o ≡ Some v
+pub pair_found : (by_uri : List (table.Entry ℕ)) (base text : List ℕ) (by_pair : List (table.Entry ResolvedUri)) (ps : List Pair) (v : ResolvedUri) → AllZip (IsPairIn by_uri) by_pair ps → last_value base text by_pair ≡ Some v
     → (uri_against base text ≡ Ok v.uri.value) × (v.entry ≡ last_value v.uri.value [] by_uri)
-pair_found by_uri base text ps o v both is =
-    let (p, found, e, same, at) = some_found (IsPairIn by_uri) (λ e. e.2) o (last_pair base text ps) v both is in
+pair_found by_uri base text by_pair ps v all is =
+    let (p, found, e, same, at) = some_found (IsPairIn by_uri) (λ e. e.2) (last_or None (filter (is_under base text) by_pair)) (last_pair base text ps) v (pair_both by_uri base text by_pair ps all) is in
     let texts = same_texts base text p (last_passes (λ q. bytes_eq q.0 base && bytes_eq q.1 text) ps None (λ x none. cc) p found) in (
       subst (λ b. uri_against b text ≡ Ok v.uri.value) texts.0 (subst (λ t. uri_against p.0 t ≡ Ok v.uri.value) texts.1 (subst (λ w. uri_against p.0 p.1 ≡ Ok w.uri.value) same at.2)),
       subst (λ w. w.entry ≡ last_value w.uri.value [] by_uri) same at.3,

@@ -4,10 +4,17 @@ use Rattle.std.specs.Prelude.{slice_get}
 use Rattle.std.specs.List.{list_any, last_or, AllByRecursion}
 use Rattle.std.proofs.lemmas.List.{map_more, take-map, drop-append-le, length-map, length-take-le}
 use Rattle.std.specs.Option.{option_map_or}
+use Rattle.std.specs.HashSet.{contains}
+use Rattle.std.specs.declared.alloc.Global.{Global}
+use Rattle.std.specs.declared.rc.Rc.{Rc}
 use Rattle.ref_definitions.specs.World.{Layer, World}
 use Rattle.ref_definitions.specs.Places.{Place}
 use Rattle.ref_definitions.specs.Resources.{last_under, resources, meant_place}
 use Rattle.ref_definitions.proofs.Last.{last_there}
+use Rattle.ref_index.specs.declared.found.Found.{Found}
+use Rattle.ref_index.specs.Spots.{numbered_resources}
+use Rattle.ref_index.specs.Found.{FoundLists, Holds, is_same}
+use Rattle.ref_index.proofs.Spots.{known_alike}
 
 any_step : (r : List ℕ × Place) (rs : List (List ℕ × Place)) (test : List ℕ × Place → Bool) (here : Bool) → list_any test rs ≡ is_some (last_or None (filter test rs))
     → (here || list_any test rs) ≡ is_some (last_or None (cond here (r ∷ filter test rs) (filter test rs)))
@@ -23,11 +30,19 @@ one_or None behind = refl
 one_or (Some e) behind = refl
 
 -- of the nearest layer, and of those after it
-pub meaning_or : (layer : Layer) (parents : World) (uri : List ℕ) → is_some (meant_place (layer ∷ parents) uri) ≡ (is_some (last_under uri (resources layer)) || is_some (meant_place parents uri))
+meaning_or : (layer : Layer) (parents : World) (uri : List ℕ) → is_some (meant_place (layer ∷ parents) uri) ≡ (is_some (last_under uri (resources layer)) || is_some (meant_place parents uri))
 meaning_or layer parents uri = one_or (last_under uri (resources layer)) (meant_place parents uri)
 
-pub known_is : (uri : List ℕ) (rs : List (List ℕ × Place)) → list_any (λ (r : List ℕ × Place). bytes_eq r.0 uri) rs ≡ is_some (last_under uri rs)
+known_is : (uri : List ℕ) (rs : List (List ℕ × Place)) → list_any (λ (r : List ℕ × Place). bytes_eq r.0 uri) rs ≡ is_some (last_under uri rs)
 known_is uri rs = any_last (λ r. bytes_eq r.0 uri) rs
+
+-- a URI means a place where it is among those found, or where one of the parents has it
+pub meant_or : (layer : Layer) (parents : World) (f : Found) (held : FoundLists) (uri : Rc (List ℕ) Global) (known : Bool) → Holds layer f held → held.resources ≡ numbered_resources layer → known ≡ contains is_same f.identified uri
+    → is_some (meant_place (layer ∷ parents) uri.value) ≡ (known || is_some (meant_place parents uri.value))
+meant_or layer parents f held uri known holds same is =
+    meaning_or layer parents uri.value
+    ∙ ap (λ b. b || is_some (meant_place parents uri.value))
+    (sym (known_is uri.value (resources layer)) ∙ sym (holds.known uri ∙ ap (list_any (λ (r : ℕ × (List ℕ × Place)). bytes_eq r.1.0 uri.value)) same ∙ known_alike uri.value layer) ∙ sym is)
 
 -- ---- wants in turn
 

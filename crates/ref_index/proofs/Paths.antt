@@ -1,5 +1,5 @@
 -- Paths, and the value that one leads to.
-use Rattle.std.proofs.Common.{◌≡◌, List, [], ◌∷◌, ◌++◌, Some, None, map, reverse, refl, sym, ap, ◌∙◌}
+use Rattle.std.proofs.Common.{◌≡◌, List, [], ◌∷◌, ◌++◌, Some, map, reverse, refl, sym, ap, ◌∙◌}
 use Rattle.std.proofs.lemmas.List.{map-append, reverse-append}
 use Rattle.std.specs.Prelude.{unwrap_or, take, length}
 use Rattle.std.specs.List.{last_or}
@@ -15,11 +15,6 @@ last_stands [] before is = cc
 last_stands (part ∷ path) before is =
     let same : take (length path) (part ∷ path) ≡ before = cc in
     last_behind part path ∙ ap (λ ps. ps ++ last_part (part ∷ path) ∷ []) same
-
--- one that has none is the root
-pub without_parent : (path : List Part) → parent_path path ≡ None → path ≡ []
-without_parent [] is = refl
-without_parent (part ∷ path) is = cc
 
 -- ---- turned round
 

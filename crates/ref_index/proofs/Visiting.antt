@@ -13,12 +13,12 @@ use Rattle.ref_definitions.specs.Places.{Place}
 use Rattle.ref_definitions.specs.Cached.{Pair, pairs_of_value}
 use Rattle.ref_definitions.specs.Wants.{Want, Reference, MetaSchema, wants_of_text, refusals_of, reference_at, schema_at, wants_at, faults_at}
 use Rattle.ref_index.specs.declared.found.Found.{Found}
-use Rattle.ref_index.specs.Found.{Held, Holds, IsResourceOf, IsNameOf, IsPairOf}
+use Rattle.ref_index.specs.Found.{FoundLists, Holds, IsResourceOf, IsNameOf, IsPairOf}
 use Rattle.ref_index.specs.Visits.{IsFirstFault}
 
 -- ---- the same lists under other names
 
-pub holds_same : (layer : Layer) (f : Found) (held other : Held) → held.resources ≡ other.resources → held.names ≡ other.names → held.wants ≡ other.wants → held.identifiers ≡ other.identifiers → held.references ≡ other.references
+pub holds_same : (layer : Layer) (f : Found) (held other : FoundLists) → held.resources ≡ other.resources → held.names ≡ other.names → held.wants ≡ other.wants → held.identifiers ≡ other.identifiers → held.references ≡ other.references
     → Holds layer f held → Holds layer f other
 holds_same layer f held other resources names wants identifiers references holds = record {
   by_uri = subst (AllZip (IsResourceOf layer f.entries.items) f.resources) resources holds.by_uri;

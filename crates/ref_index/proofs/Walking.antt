@@ -1,20 +1,21 @@
 -- The walk, place by place, over plain values.
-use Rattle.std.proofs.Common.{◌≡◌, ℕ, zero, suc, ◌+◌, ◌<◌, ◌≤◌, List, [], ◌∷◌, ◌++◌, map, flat_map, take, drop, length, Option, Some, None, Result, Ok, Err, refl, sym, ap, ◌∙◌, subst, append_assoc, append-nil, arith, length-append}
+use Rattle.std.proofs.Common.{◌≡◌, ℕ, zero, suc, ◌+◌, ◌<◌, ◌≤◌, List, [], ◌∷◌, ◌++◌, map, flat_map, take, drop, length, get_or, Option, Some, None, Result, Ok, Err, refl, sym, ap, ◌∙◌, subst, append_assoc, append-nil, arith, length-append}
 use Rattle.std.specs.Prelude.{slice_get, option_and_then}
 use Rattle.std.proofs.lemmas.Option.{get_or_from_slice_get}
 use Rattle.std.proofs.lemmas.List.{take_more, drop_more, drop_all, take-append-le, drop-append-le, map-append, flat_map_more, length-take-le, length-map}
 use Rattle.std.proofs.lemmas.Grind.{flat_map-append}
 use Rattle.serde_json.specs.Data.{Data}
-use Rattle.ref_parts.specs.Path.{Part, value_at}
-use Rattle.ref_draft.specs.declared.draft.Draft.{Draft}
-use Rattle.ref_draft.specs.Schema.{identifier}
+use Rattle.serde_json.specs.View.{view}
+use Rattle.ref_parts.specs.Path.{Part, Key, value_at}
+use Rattle.ref_draft.specs.declared.spec.walk.Child.{Child}
 use Rattle.ref_draft.specs.Children.{Walked, AllStand, walked_children}
+use Rattle.ref_draft.specs.Views.{segment_parts, walked_child}
 use Rattle.ref_draft.proofs.Lists.{all_append}
 use Rattle.ref_uri.specs.Targets.{Refusal}
 use Rattle.ref_uri.specs.declared.error.UriFault.{UriFault}
 use Rattle.ref_uri.specs.declared.error.UriFault.TheVariants.{Invalid, Memory}
 use Rattle.ref_definitions.specs.World.{Document}
-use Rattle.ref_definitions.specs.Places.{Place, base_within, root, child_place, children_with, children_of, places}
+use Rattle.ref_definitions.specs.Places.{Place, root, child_place, children_with, children_of, places}
 use Rattle.ref_definitions.specs.Queue.{IsQueueBy}
 use Rattle.ref_definitions.specs.Resources.{resource_of}
 use Rattle.ref_definitions.proofs.Changes.{value_at-append}
@@ -24,21 +25,11 @@ use Rattle.ref_definitions.specs.Anchors.{named_under}
 use Rattle.ref_definitions.specs.Cached.{identifier_pairs_at, reference_pairs_at}
 use Rattle.ref_index.specs.declared.found.Found.{Found}
 use Rattle.ref_index.specs.declared.queue.Visit.{Visit}
-use Rattle.ref_index.specs.inner.Queue.{path_of, place_of, value_of}
-use Rattle.ref_index.specs.Visits.{AddsPlace, AddsPlaces, ChildrenCame, IsFirstFault, IsVisited, IsWalked, AllStandIn, ChildrenStandAt, IsAt, faults_of, names_of, wants_of}
+use Rattle.ref_index.specs.inner.Queue.{path_of, place_of, place_with, value_of}
+use Rattle.ref_index.specs.Visits.{AddsPlace, AddsPlaces, Came, ChildrenCame, IsFirstFault, IsVisited, IsWalked, AllStandIn, ChildrenStandAt, IsAt, faults_of, names_of, wants_of}
 use Rattle.ref_index.specs.Spots.{numbered}
 use Rattle.ref_index.proofs.Spots.{numbered_behind}
 use Rattle.ref_index.proofs.Visiting.{holds_same}
-
--- ---- the visit of a child
-
-abbrev place_with : List Part → Data → Draft → List ℕ → Place
-place_with path value draft outer = record { path = path; value = value; draft = draft; outer = outer; base = base_within outer (identifier draft value) }
-
-pub visit_is : (v : Visit) (path : List Part) (base : List ℕ) (child : Walked) → path_of v.value ≡ path ++ child.path → value_of v.value ≡ child.value → v.draft ≡ child.draft → v.outer.value ≡ base → place_of v ≡ child_place path base child
-visit_is v path base child at value draft outer =
-    ap (λ p. place_with p (value_of v.value) v.draft v.outer.value) at ∙ ap (λ d. place_with (path ++ child.path) d v.draft v.outer.value) value
-    ∙ ap (λ d. place_with (path ++ child.path) child.value d v.outer.value) draft ∙ ap (place_with (path ++ child.path) child.value child.draft) outer
 
 -- ---- values at paths
 
@@ -176,28 +167,51 @@ finish d number old new queue head all is =
     subst (IsWalked d number old new)
     (sym (at_end children_of d (map place_of (take head queue)) (subst (λ l. IsQueueBy children_of d (map place_of (take head queue)) (map place_of l)) (drop_all head queue all) is.order))) is.walk
 
-pub left_in : (d : Document) (queue : List Visit) (head : ℕ) (v : Visit) → head < length queue → slice_get queue head ≡ Some v → IsQueueBy children_of d (map place_of (take head queue)) (map place_of (drop head queue)) → head < length (places d)
-left_in d queue head v within here order =
+-- the element at a place of a list
+pub element_there : {X : Type 0} (xs : List X) (i : ℕ) → i < length xs → (x : X) × (slice_get xs i ≡ Some x)
+element_there [] i within = absurd (omega (arith, within))
+element_there (x ∷ xs) zero within = (x, refl)
+element_there (x ∷ xs) (suc i) within = element_there xs i (omega (arith, within))
+
+-- what is pushed onto an empty list is there alone
+pub first_there : {X : Type 0} (xs empty : List X) (x : X) → xs ≡ empty ++ x ∷ [] → empty ≡ [] → (xs ≡ x ∷ []) × (slice_get xs 0 ≡ Some x)
+first_there xs empty x pushed none =
+    let one = pushed ∙ ap (λ l. l ++ x ∷ []) none in
+    (one, ap (λ l. slice_get l 0) one)
+
+pub left_in : (d : Document) (queue : List Visit) (head : ℕ) → head < length queue → IsQueueBy children_of d (map place_of (take head queue)) (map place_of (drop head queue)) → head < length (places d)
+left_in d queue head within order =
+    let (v, here) = element_there queue head within in
     let some = beginning children_of d (map place_of (take head queue)) (place_of v ∷ map place_of (drop (head + 1) queue)) (subst (IsQueueBy children_of d (map place_of (take head queue))) (head_is queue head v within here) order) in
     let long : length (places d) ≡ length (map place_of (take head queue)) + suc (length (map place_of (drop (head + 1) queue) ++ some.0)) = ap length some.1 ∙ length-append (map place_of (take head queue)) _ in
     omega (arith, length-map (take head queue) place_of, length-take-le head queue (omega arith))
 
-pub left : (d : Document) (number : ℕ) (old new : Found) (queue : List Visit) (head : ℕ) (v : Visit) → head < length queue → slice_get queue head ≡ Some v → IsAt d number old new queue head → head < length (places d)
-left d number old new queue head v within here is = left_in d queue head v within here is.order
+-- ---- the children of a place
 
--- the children of a visit's place that were added to a queue came to it
-pub came : (w v : Visit) (value : Data) (base : List ℕ) (queue after more : List Visit) (children : List Walked) → w ≡ v → value_of w.value ≡ value → children ≡ walked_children w.draft value → AllStand value children → after ≡ queue ++ more
-    → map place_of more ≡ map (child_place (path_of w.value) base) children → ChildrenCame (path_of v.value) (value_of v.value) v.draft base queue after
-came w v value base queue after more children same is are stand grown placed =
-    subst (λ u. ChildrenCame (path_of u.value) (value_of u.value) u.draft base queue after) same
-    (subst (λ d. ChildrenCame (path_of w.value) d w.draft base queue after) (sym is)
-    (more, grown, placed ∙ ap (map (child_place (path_of w.value) base)) are, subst (AllStand value) are stand))
+-- one child more came
+pub one_more_came : (path : List Part) (base : List ℕ) (children : List Child) (child : Child) (queue now after : List Visit) (below : List Part) → Came path base (map walked_child children) queue now
+    → below ≡ path ++ Key child.keyword.now ∷ segment_parts child.segment → (v : Visit) × (after ≡ now ++ v ∷ []) × (place_of v ≡ place_with below (view child.value.now) child.draft base)
+    → Came path base (map walked_child (children ++ child ∷ [])) queue after
+one_more_came path base children child queue now after below (more, grown, placed) is (v, longer, at) =
+    let here : place_of v ≡ child_place path base (walked_child child) = at ∙ ap (λ p. place_with p (view child.value.now) child.draft base) is in (
+      more ++ v ∷ [],
+      longer ∙ ap (λ l. l ++ v ∷ []) grown ∙ append_assoc queue more (v ∷ []),
+      map-append place_of more (v ∷ []) ∙ ap (λ l. l ++ place_of v ∷ []) placed ∙ ap (λ p. map (child_place path base) (map walked_child children) ++ p ∷ []) here
+          ∙ sym (map-append (child_place path base) (map walked_child children) (walked_child child ∷ [])) ∙ ap (map (child_place path base)) (sym (map-append walked_child children (child ∷ []))),
+    )
 
--- of a place without children none came
-pub none_came : (w v : Visit) (value : Data) (base : List ℕ) (queue : List Visit) (children : List Walked) → w ≡ v → value_of w.value ≡ value → children ≡ walked_children w.draft value → AllStand value children → children ≡ []
-    → ChildrenCame (path_of v.value) (value_of v.value) v.draft base queue queue
-none_came w v value base queue children same is are stand none =
-    came w v value base queue queue [] children same is are stand (sym (append-nil queue)) (ap (map (child_place (path_of w.value) base)) (sym none))
+-- where there are no children, none came
+pub none_came : (path : List Part) (base : List ℕ) (queue : List Visit) (children : List Walked) → children ≡ [] → Came path base children queue queue
+none_came path base queue children none = ([], sym (append-nil queue), sym (ap (map (child_place path base)) none))
+
+-- the children of the place at an index of the queue came to it
+pub came : (queue after : List Visit) (index : ℕ) (w v : Visit) (path : List Part) (value : Data) (base : List ℕ) (children : List Walked) → w ≡ get_or queue index w → slice_get queue index ≡ Some v → path_of w.value ≡ path
+    → value_of w.value ≡ value → children ≡ walked_children w.draft value → AllStand value children → Came path base children queue after → ChildrenCame (path_of v.value) (value_of v.value) v.draft base queue after
+came queue after index w v path value base children read there path_is is are stand pushed =
+    subst (λ u. ChildrenCame (path_of u.value) (value_of u.value) u.draft base queue after) (read ∙ get_or_from_slice_get queue index v w there)
+    (subst (λ p. ChildrenCame p (value_of w.value) w.draft base queue after) (sym path_is)
+    (subst (λ d. ChildrenCame path d w.draft base queue after) (sym is)
+    (subst (λ cs. Came path base cs queue after) are pushed, subst (AllStand value) are stand)))
 
 pub nothing : {X : Type 0} (xs : List X) → length xs ≡ 0 → xs ≡ []
 nothing [] none = refl

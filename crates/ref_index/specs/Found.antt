@@ -1,5 +1,5 @@
 -- That what the walk has found is what the definitions list.
-use Rattle.std.specs.Prelude.{◌≡◌, ℕ, List, [], ◌++◌, map, string_bytes, slice_get, Bool, true, false, Some, Ok, IfSome, String}
+use Rattle.std.specs.Prelude.{◌≡◌, ℕ, List, [], ◌++◌, map, slice_get, Bool, true, false, Some, Ok, IfSome}
 use Rattle.std.specs.List.{AllZip, list_any}
 use Rattle.std.specs.Str.{bytes_eq}
 use Rattle.std.specs.HashSet.{contains}
@@ -84,7 +84,7 @@ is_same u v = bytes_eq u.value v.value
 
 -- What may be found, each list in its order: resources and names, each with the number of its document, wants, and what
 -- identifiers and what references are resolved from.
-pub record Held : Type 0 where
+pub record FoundLists : Type 0 where
   pub resources : List (ℕ × (List ℕ × Place))
   pub names : List (ℕ × Named)
   pub wants : List Wanted
@@ -92,62 +92,33 @@ pub record Held : Type 0 where
   pub references : List Pair
 
 -- nothing is held
-abbrev pub nothing_held : Held
+abbrev pub nothing_held : FoundLists
 nothing_held = record { resources = []; names = []; wants = []; identifiers = []; references = [] }
 
 -- these resources are held too, after the others
-abbrev pub with_resources : Held → List (ℕ × (List ℕ × Place)) → Held
-with_resources held more = record {
-  resources = held.resources ++ more;
-  names = held.names;
-  wants = held.wants;
-  identifiers = held.identifiers;
-  references = held.references;
-}
+abbrev pub with_resources : FoundLists → List (ℕ × (List ℕ × Place)) → FoundLists
+with_resources held more = record held { resources = held.resources ++ more }
 
 -- these names too
-abbrev pub with_names : Held → List (ℕ × Named) → Held
-with_names held more = record {
-  resources = held.resources;
-  names = held.names ++ more;
-  wants = held.wants;
-  identifiers = held.identifiers;
-  references = held.references;
-}
+abbrev pub with_names : FoundLists → List (ℕ × Named) → FoundLists
+with_names held more = record held { names = held.names ++ more }
 
 -- these wants too
-abbrev pub with_wants : Held → List Wanted → Held
-with_wants held more = record {
-  resources = held.resources;
-  names = held.names;
-  wants = held.wants ++ more;
-  identifiers = held.identifiers;
-  references = held.references;
-}
+abbrev pub with_wants : FoundLists → List Wanted → FoundLists
+with_wants held more = record held { wants = held.wants ++ more }
 
 -- these pairs of identifiers too
-abbrev pub with_identifiers : Held → List Pair → Held
-with_identifiers held more = record {
-  resources = held.resources;
-  names = held.names;
-  wants = held.wants;
-  identifiers = held.identifiers ++ more;
-  references = held.references;
-}
+abbrev pub with_identifiers : FoundLists → List Pair → FoundLists
+with_identifiers held more = record held { identifiers = held.identifiers ++ more }
 
 -- these pairs of references too
-abbrev pub with_references : Held → List Pair → Held
-with_references held more = record {
-  resources = held.resources;
-  names = held.names;
-  wants = held.wants;
-  identifiers = held.identifiers;
-  references = held.references ++ more;
-}
+abbrev pub with_references : FoundLists → List Pair → FoundLists
+with_references held more = record held { references = held.references ++ more }
 
--- What was found is this and no more, in this order: of each resource and each name an entry of the document with its number,
--- each want, and of each pair its URI; the set of URIs is that of the resources.
-pub record Holds (layer : Layer) (f : Found) (held : Held) : Type 0 where
+-- What was found is this, each list in its order: of each resource and each name an entry of the document with its number,
+-- each want, and of each pair its URI; the set of URIs is that of the resources. Of entries that none of them names nothing is
+-- said.
+pub record Holds (layer : Layer) (f : Found) (held : FoundLists) : Type 0 where
   pub by_uri : AllZip (IsResourceOf layer f.entries.items) f.resources held.resources
   pub by_name : AllZip (IsNameOf layer f.entries.items) f.names held.names
   pub wanted : map want_of f.wants.items ≡ held.wants

@@ -1,8 +1,7 @@
 -- That the tables of an index tell the places of its documents.
-use Rattle.std.specs.Prelude.{◌≡◌, ℕ, Bool, true, List, [], Option, Some, None, MatchOption, String, Ok}
+use Rattle.std.specs.Prelude.{◌≡◌, ℕ, Bool, true, List, [], Option, Some, None, MatchOption, Ok}
 use Rattle.std.specs.Borrow.{Bor}
 use Rattle.std.specs.List.{AllZip, Contains}
-use Rattle.std.specs.declared.alloc.Global.{Global}
 use Rattle.ref_uri.specs.Targets.{uri_against}
 use Rattle.ref_parts.specs.Table as table
 use Rattle.ref_parts.specs.Table.{last_value}

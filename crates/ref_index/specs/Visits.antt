@@ -1,28 +1,30 @@
 -- What one visited place adds, for private clauses.
-use Rattle.std.specs.Prelude.{◌≡◌, ℕ, List, [], ◌∷◌, ◌++◌, ◌≤◌, map, flat_map, take, drop, length, ⊤, slice_get, Option, Some, None, Result, Ok}
+use Rattle.std.specs.Prelude.{◌≡◌, ℕ, List, [], ◌∷◌, ◌++◌, ◌≤◌, map, flat_map, take, drop, length, ⊤, slice_get, Option, Some, None, Result, Ok, Err}
 use Rattle.serde_json.specs.Data.{Data}
 use Rattle.std.specs.List.{AllByRecursion, Contains}
+use Rattle.std.specs.declared.alloc.Global.{Global}
+use Rattle.std.specs.declared.rc.Rc.{Rc}
 use Rattle.ref_parts.specs.Path.{Part, value_at}
 use Rattle.ref_uri.specs.Reference.{with_fragment}
 use Rattle.ref_uri.specs.Targets.{Refusal, uri_of}
 use Rattle.ref_definitions.specs.Results.{◌>>=◌}
-use Rattle.ref_uri.specs.Errors.{SaysRefusal}
+use Rattle.ref_uri.specs.Errors.{IsFaultOf, SaysRefusal}
 use Rattle.ref_uri.specs.declared.error.UriFault.{UriFault}
 use Rattle.ref_uri.specs.declared.error.UriFault.TheVariants.{Invalid, Memory}
 use Rattle.ref_definitions.specs.World.{Document, Layer}
-use Rattle.ref_definitions.specs.Places.{Place, root, child_place, children_of}
+use Rattle.ref_definitions.specs.Places.{Place, root, child_place, children_of, places}
 use Rattle.ref_definitions.specs.Queue.{IsQueueBy}
 use Rattle.ref_definitions.specs.Resources.{resource_of}
 use Rattle.ref_definitions.specs.Anchors.{Named, named_under, named_at}
 use Rattle.ref_definitions.specs.Cached.{identifier_pairs_at, reference_pairs_at, identifier_pairs, reference_pairs}
 use Rattle.ref_definitions.specs.Wants.{Want, wants_at, faults_at, wants, faults}
 use Rattle.ref_definitions.specs.Agreement.{ChildrenStand}
-use Rattle.ref_draft.specs.Children.{AllStand, walked_children}
+use Rattle.ref_draft.specs.Children.{Walked, AllStand, walked_children}
 use Rattle.ref_draft.specs.declared.draft.Draft.{Draft}
 use Rattle.ref_index.specs.declared.found.Found.{Found}
 use Rattle.ref_index.specs.declared.queue.Visit.{Visit}
 use Rattle.ref_index.specs.Spots.{numbered, numbered_resources, numbered_names}
-use Rattle.ref_index.specs.Found.{Held, Holds, with_resources, with_names, with_wants, with_identifiers, with_references}
+use Rattle.ref_index.specs.Found.{FoundLists, Holds, with_resources, with_names, with_wants, with_identifiers, with_references}
 use Rattle.ref_index.specs.inner.Queue.{place_of, value_of}
 
 -- the URI that a text names a meta-schema by: its fragment takes no part
@@ -35,6 +37,16 @@ IsFirstFault faults (Invalid error) =
     (refusal : Refusal) × (more : List Refusal) × (faults ≡ refusal ∷ more)
     × SaysRefusal error refusal
 IsFirstFault faults (Memory error) = ⊤
+
+-- the result is the URI that is meant, or says the fault that is meant, or is out of memory
+abbrev pub GivesUri : Result (List ℕ) Refusal → Result (Rc (List ℕ) Global) UriFault → Type 0
+GivesUri meaning (Ok uri) = meaning ≡ Ok uri.value
+GivesUri meaning (Err fault) = IsFaultOf meaning fault
+
+-- there is none of these faults, or the result says the first, or is out of memory
+abbrev pub RefusesFor : {A : Type 0} → List Refusal → Result A UriFault → Type 0
+RefusesFor faults (Ok done) = faults ≡ []
+RefusesFor faults (Err fault) = IsFirstFault faults fault
 
 -- the place is in the document with this number
 pub record StandsIn (layer : Layer) (number : ℕ) (p : Place) : Type 0 where
@@ -72,21 +84,26 @@ wants_of p = wants_at p.base p.value
 abbrev pub names_of : Place → List Named
 names_of p = named_at p
 
+-- children came to the queue, below this path, with this base around them
+abbrev pub Came : List Part → List ℕ → List Walked → List Visit → List Visit → Type 0
+Came path base children queue after =
+    (more : List Visit) × (after ≡ queue ++ more)
+    × (map place_of more ≡ map (child_place path base) children)
+
 -- the children of a place with this path, value, draft and base came to the queue, and are at their paths below it
 abbrev pub ChildrenCame : List Part → Data → Draft → List ℕ → List Visit → List Visit → Type 0
 ChildrenCame path value draft base queue after =
-    (more : List Visit) × (after ≡ queue ++ more)
-    × (map place_of more ≡ map (child_place path base) (walked_children draft value))
+    Came path base (walked_children draft value) queue after
     × AllStand value (walked_children draft value)
 
 -- what identifies and names a place is held too, first under a URI of its document, where there is one
-abbrev pub with_meanings : ℕ → Option (List ℕ) → Place → Held → Held
+abbrev pub with_meanings : ℕ → Option (List ℕ) → Place → FoundLists → FoundLists
 with_meanings number under p held =
     with_names (with_resources held (numbered number (resources_at under p)))
     (numbered number (names_at under p))
 
 -- all that is found of a place too
-abbrev pub with_place : ℕ → Option (List ℕ) → Place → Held → Held
+abbrev pub with_place : ℕ → Option (List ℕ) → Place → FoundLists → FoundLists
 with_place number under p held =
     with_references
     (with_identifiers (with_wants (with_meanings number under p held) (wants_of p))
@@ -95,11 +112,11 @@ with_place number under p held =
 -- what was found has that of a place too, and where it is a root under a URI of its document
 abbrev pub AddsPlace : ℕ → Option (List ℕ) → Place → Found → Found → Type 0
 AddsPlace number under p old new =
-    (layer : Layer) (held : Held) → Holds layer old held → StandsIn layer number p
+    (layer : Layer) (held : FoundLists) → Holds layer old held → StandsIn layer number p
     → Holds layer new (with_place number under p held)
 
 -- all that is found of places of a document too, after what its root is under its URI
-abbrev pub with_places : Document → ℕ → List Place → Held → Held
+abbrev pub with_places : Document → ℕ → List Place → FoundLists → FoundLists
 with_places d number visited held = record {
   resources = held.resources ++ numbered number ((d.uri, root d) ∷ flat_map resource_of visited);
   names = held.names
@@ -112,7 +129,7 @@ with_places d number visited held = record {
 -- what was found has that of places of a document too, after that of its root under its URI
 abbrev pub AddsPlaces : Document → ℕ → List Place → Found → Found → Type 0
 AddsPlaces d number visited old new =
-    (layer : Layer) (held : Held) → slice_get layer number ≡ Some d → Holds layer old held
+    (layer : Layer) (held : FoundLists) → slice_get layer number ≡ Some d → Holds layer old held
     → Holds layer new (with_places d number visited held)
 
 -- A place was visited: what it is identified by, is named and wants was added, it has no fault, and its children came
@@ -138,6 +155,11 @@ pub record IsWalked (d : Document) (number : ℕ) (old new : Found)
   pub faultless : flat_map faults_of visited ≡ []
   pub children : AllByRecursion ChildrenStandAt visited
 
+-- all places of a document were visited, or the result says the first of their faults, or is out of memory
+abbrev pub WalksOver : {A : Type 0} → Document → ℕ → Found → Found → Result A UriFault → Type 0
+WalksOver d number old new (Ok done) = IsWalked d number old new (places d)
+WalksOver d number old new (Err fault) = IsFirstFault (flat_map faults_of (places d)) fault
+
 -- each place's value is at its path
 abbrev pub AllStandIn : Document → List Place → Type 0
 AllStandIn d ps = AllByRecursion (λ p. value_at d.tree p.path ≡ Some p.value) ps
@@ -151,7 +173,7 @@ pub record IsAt (d : Document) (number : ℕ) (old new : Found) (queue : List Vi
   pub walk : IsWalked d number old new (map place_of (take head queue))
 
 -- all that the documents of a layer have, with these wants
-abbrev pub held_of : Layer → List Want → Held
+abbrev pub held_of : Layer → List Want → FoundLists
 held_of layer wanted = record {
   resources = numbered_resources layer;
   names = numbered_names layer;

@@ -12,7 +12,7 @@ ghost use Rattle.ref_definitions.specs.Anchors.{named_under};
 ghost use Rattle.ref_uri.specs.Targets.{uri_against};
 ghost use Rattle.ref_index.specs.Spots.{numbered};
 ghost use Rattle.ref_index.specs.declared.found.ResolvedUri.{ResolvedUri as Resolved};
-ghost use Rattle.ref_index.specs.Found.{Held, Holds, IsNumberOf, IsPairOf, cause_of, is_same, kind_of, name_entry, nothing_held, with_resources, with_names, with_wants, with_identifiers, with_references};
+ghost use Rattle.ref_index.specs.Found.{FoundLists, Holds, IsNumberOf, IsPairOf, cause_of, is_same, kind_of, name_entry, nothing_held, with_resources, with_names, with_wants, with_identifiers, with_references};
 
 use crate::entry::{Entry, NamedEntry};
 use ref_draft::{Anchor, AnchorIter, ResourceRef};
@@ -83,9 +83,9 @@ impl<'a> Found<'a> {
         }
     }
 
-    /// Adds the entry of a place, and returns its number.
+    /// Adds the entry of a place, and returns its number. Copies nothing.
     pub fn add_entry(&mut self, entry: Entry<'a>) -> Result<usize, AllocError>
-        ensures added { (layer : Layer) (held : Held)
+        ensures added { (layer : Layer) (held : FoundLists)
             → Holds layer self.old held → OnOk result (Holds layer self.new held) }
         ensures entry { IfOk result
             (λ number. slice_get self.new.entries.items number ≡ Some entry.entry) }
@@ -95,10 +95,10 @@ impl<'a> Found<'a> {
         Ok(number)
     }
 
-    /// Adds that a URI identifies the place of an entry. Takes memory where the lists have no room left, and is refused where
-    /// there is none.
+    /// Adds that a URI identifies the place of an entry. Its text is copied, and its handle shared. Takes memory where the
+    /// lists have no room left, and is refused where there is none.
     pub fn add_resource(&mut self, uri: &Rc<Uri>, entry: usize) -> Result<(), AllocError>
-        ensures added { (layer : Layer) (held : Held) (p : Place) (number : ℕ)
+        ensures added { (layer : Layer) (held : FoundLists) (p : Place) (number : ℕ)
             → Holds layer self.old held → IsNumberOf layer self.old.entries.items number entry p
             → OnOk result
             (Holds layer self.new (with_resources held ((number, (uri.now.value, p)) ∷ []))) }
@@ -110,7 +110,7 @@ impl<'a> Found<'a> {
 
     // Adds that an anchor names a place.
     fn add_name(&mut self, uri: &str, entry: usize, anchor: Anchor<'_>) -> Result<(), AllocError>
-        ensures added { (layer : Layer) (held : Held) (p : Place) (number : ℕ)
+        ensures added { (layer : Layer) (held : FoundLists) (p : Place) (number : ℕ)
             → Holds layer self.old held → IsNumberOf layer self.old.entries.items number entry p
             → OnOk result
             (Holds layer self.new
@@ -122,14 +122,14 @@ impl<'a> Found<'a> {
             .push(uri, anchor.name(), NamedEntry { is_dynamic, entry })
     }
 
-    /// Adds the anchors of a place under a URI.
+    /// Adds the anchors of a place under a URI. The URI and each name are copied.
     pub fn add_names(
         &mut self,
         uri: &str,
         entry: usize,
         resource: ResourceRef<'_>,
     ) -> Result<(), AllocError>
-        ensures added { (layer : Layer) (held : Held) (p : Place) (number : ℕ)
+        ensures added { (layer : Layer) (held : FoundLists) (p : Place) (number : ℕ)
             → Holds layer self.old held → IsNumberOf layer self.old.entries.items number entry p
             → resource_ref resource.entry ≡ tagged_value p.draft p.value
             → OnOk result
@@ -146,9 +146,9 @@ impl<'a> Found<'a> {
         }
     }
 
-    /// Adds a want.
+    /// Adds a want. Copies nothing.
     pub fn add_want(&mut self, cause: Cause, uri: Rc<Uri>) -> Result<(), AllocError>
-        ensures added { (layer : Layer) (held : Held)
+        ensures added { (layer : Layer) (held : FoundLists)
             → Holds layer self.old held
             → OnOk result
             (Holds layer self.new
@@ -158,14 +158,15 @@ impl<'a> Found<'a> {
         Ok(())
     }
 
-    /// Adds what an identifier means against a base; the URI's entry isn't known yet.
+    /// Adds what an identifier means against a base; the URI's entry isn't known yet. The base and the text are copied, and
+    /// the URI is shared.
     pub fn add_identifier(
         &mut self,
         base: &str,
         text: &str,
         uri: &Rc<Uri>,
     ) -> Result<(), AllocError>
-        ensures added { (layer : Layer) (held : Held)
+        ensures added { (layer : Layer) (held : FoundLists)
             → Holds layer self.old held → uri_against base.now text.now ≡ Ok uri.now.value
             → OnOk result
             (Holds layer self.new (with_identifiers held ((base.now, text.now) ∷ []))) }
@@ -173,9 +174,10 @@ impl<'a> Found<'a> {
         push_resolved(&mut self.identifiers, base, text, uri)
     }
 
-    /// Adds what the text of a reference means against a base; the URI's entry isn't known yet.
+    /// Adds what the text of a reference means against a base; the URI's entry isn't known yet. The base and the text are
+    /// copied, and the URI is shared.
     pub fn add_reference(&mut self, base: &str, text: &str, uri: &Rc<Uri>) -> Result<(), AllocError>
-        ensures added { (layer : Layer) (held : Held)
+        ensures added { (layer : Layer) (held : FoundLists)
             → Holds layer self.old held → uri_against base.now text.now ≡ Ok uri.now.value
             → OnOk result
             (Holds layer self.new (with_references held ((base.now, text.now) ∷ []))) }

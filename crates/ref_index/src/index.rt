@@ -1,5 +1,5 @@
 //! The documents of a registry with the index of their places.
-ghost use Rattle.std.specs.Prelude.{◌≡◌, ◌++◌, ℕ, List, map, length, MatchOption, IfOk, IfSome, option_map, option_copied, is_some, slice_get, true, Some, None, Ok};
+ghost use Rattle.std.specs.Prelude.{◌≡◌, ℕ, List, map, length, MatchOption, IfOk, IfSome, option_map, option_copied, is_some, slice_get, true, Some, None, Ok};
 ghost use Rattle.std.specs.List.{Contains};
 ghost use Rattle.serde_json.specs.View.{view};
 ghost use Rattle.ref_uri.specs.Components.{scheme};
@@ -28,7 +28,6 @@ use ref_uri::{Uri, UriFault};
 use serde_json::Value;
 use std::alloc::{AllocError, Global};
 use std::marker::Model;
-use std::rc::Rc;
 
 /// Documents, and the entries of places in them, with a table of the URIs that identify their places, one of the names
 /// that anchors give them, and one of the URIs that were resolved on the way, each with the entry of the place that it
@@ -45,25 +44,26 @@ pub struct Index<'a> {
 }
 
 impl<'a> Model for Index<'a> {
-    ghost use Rattle.std.specs.Prelude.{List, map};
-    ghost use Rattle.ref_definitions.specs.World.{Document as WorldDocument};
+    ghost use Rattle.ref_definitions.specs.World.{Layer};
     ghost use Rattle.ref_index.specs.inner.Codes.{layer_code};
 
-    ghost Value = { List WorldDocument };
+    ghost Value = { Layer };
 
     ghost coded = { layer_code };
 
-    ghost use Rattle.ref_index.specs.Document.{document_of};
+    ghost use Rattle.ref_index.specs.Document.{layer_of};
     ghost use Rattle.ref_index.specs.Index.{IsIndexOf};
 
-    ghost view = { λ i. map document_of i.documents.items };
+    ghost view = { λ i. layer_of i.documents.items };
 
-    ghost invariant = { λ i. IsIndexOf (map document_of i.documents.items) i.entries.items i.by_uri i.by_name i.by_pair i.is_normal };
+    ghost invariant = { λ i. IsIndexOf (layer_of i.documents.items) i.entries.items i.by_uri i.by_name i.by_pair i.is_normal };
 }
 
 impl<'a> Index<'a> {
-    /// The index of documents that were walked. Takes memory for the three tables, which are sorted once, and a look-up
-    /// for each URI that was resolved; and puts each document's URI in normal form, to compare the two.
+    /// The index of documents that were walked. The entries, and the texts and values of the three tables, which are sorted
+    /// once, are moved in; the texts of references are copied behind those of identifiers; wants and the set of URIs are let
+    /// go. Takes memory for the tables, and a look-up for each URI that was resolved; and puts each document's URI in normal
+    /// form, to compare the two.
     pub fn new(
         alloc: Global,
         documents: Vec<Document<'a>>,
@@ -134,8 +134,8 @@ impl<'a> Index<'a> {
             (λ e. IsFoundAt self.now e.now (last_under uri.now (resources self.now))) }
         ensures spot { IfSome result (λ e. spot_under uri.now self.now ≡ Some (spot_of e.now)) }
     {
-        let number = self.by_uri.get(uri, "").0?;
-        self.entries.get(*number)
+        let number = self.by_uri.get(uri, "").0.copied();
+        entry_at(self.entries.as_slice(), number)
     }
 
     /// The place that a URI means in these documents, where its base is that very URI, in normal form: then the URI
@@ -239,6 +239,7 @@ fn set_entries(by_uri: &SortedTable<usize>, pairs: &mut TableEntries<ResolvedUri
 }
 
 // The entry with a number, where there is one.
+#[inline(always)]
 fn entry_at<'i, 'a>(entries: &'i [Entry<'a>], number: Option<usize>) -> Option<&'i Entry<'a>>
     ensures { MatchOption number (result ≡ None)
         (λ n. option_copied result ≡ slice_get entries.now n) }

@@ -1,9 +1,8 @@
 //! Documents whose places a caller has listed already, so that they are not walked again.
-ghost use Rattle.std.specs.Prelude.{◌≡◌, ◌∷◌, map, flat_map, OnOk, IfErr};
-ghost use Rattle.ref_definitions.specs.Places.{places};
+ghost use Rattle.std.specs.Prelude.{map};
 ghost use Rattle.ref_index.specs.Document.{document_of};
 ghost use Rattle.ref_index.specs.Listed.{IsListingOf, place_of};
-ghost use Rattle.ref_index.specs.Visits.{IsFirstFault, IsWalked, faults_of};
+ghost use Rattle.ref_index.specs.Visits.{WalksOver};
 
 use crate::document::Document;
 use crate::found::Found;
@@ -24,11 +23,7 @@ pub(crate) fn note<'a>(
     below: &[Visit<'a, 'a>],
 ) -> Result<(), UriFault>
     requires { IsListingOf (document_of document.now) (map place_of below.now) }
-    ensures ok { OnOk result
-        (IsWalked (document_of document.now) number found.old found.new
-        (places (document_of document.now))) }
-    ensures fault { IfErr result
-        (IsFirstFault (flat_map faults_of (places (document_of document.now)))) }
+    ensures { WalksOver (document_of document.now) number found.old found.new result }
 {
     let root = root_of(alloc, document)?;
     let _ = settle(alloc, found, number, &root, Some(&root.outer))?;

@@ -5,7 +5,7 @@ ghost use Rattle.ref_definitions.specs.World.{Layer};
 ghost use Rattle.ref_definitions.specs.Resources.{meant_place};
 ghost use Rattle.ref_definitions.specs.Wants.{Want as Wanted, is_open};
 ghost use Rattle.ref_index.specs.Spots.{numbered_resources};
-ghost use Rattle.ref_index.specs.Found.{Held, Holds};
+ghost use Rattle.ref_index.specs.Found.{FoundLists, Holds};
 
 use crate::found::Found;
 use crate::index::Index;
@@ -27,7 +27,7 @@ fn is_known_above(parents: &[&Index<'_>], uri: &str) -> bool
 /// Whether a URI means a place, in what was found so far or in a parent. A look-up in a hashed set, and then in each parent's
 /// table; takes no memory.
 pub fn has_meaning(found: &Found<'_>, parents: &[&Index<'_>], uri: &Rc<Uri>) -> bool
-    ensures value { (layer : Layer) (held : Held)
+    ensures value { (layer : Layer) (held : FoundLists)
         → Holds layer found.now held → held.resources ≡ numbered_resources layer
         → result ≡ is_some (meant_place (layer ∷ map (λ p. p.now) parents.now) uri.now.value) }
 {
@@ -40,11 +40,11 @@ pub fn first_open(found: &Found<'_>, parents: &[&Index<'_>], from: usize) -> usi
     requires { from ≤ vec_len found.now.wants }
     ensures from { from ≤ result }
     ensures within { result ≤ vec_len found.now.wants }
-    ensures met { (layer : Layer) (held : Held)
+    ensures met { (layer : Layer) (held : FoundLists)
         → Holds layer found.now held → held.resources ≡ numbered_resources layer
         → AllByRecursion (λ w. is_open (layer ∷ map (λ p. p.now) parents.now) w ≡ false)
         (drop from (take result held.wants)) }
-    ensures open { (layer : Layer) (held : Held) (w : Wanted)
+    ensures open { (layer : Layer) (held : FoundLists) (w : Wanted)
         → Holds layer found.now held → held.resources ≡ numbered_resources layer
         → slice_get held.wants result ≡ Some w
         → is_open (layer ∷ map (λ p. p.now) parents.now) w ≡ true }

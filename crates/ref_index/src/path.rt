@@ -98,6 +98,21 @@ pub fn owned<'a>(
     Ok(parts)
 }
 
+/// The path of what a keyword holds: under an index or a key, or the keyword's value itself. Takes memory for a link where
+/// there is an index or a key.
+pub fn path_within<'w>(
+    alloc: Global,
+    keyword: JsonPointerNode<'w>,
+    segment: Option<JsonPointerSegment<'w>>,
+) -> Result<JsonPointerNode<'w>, AllocError>
+    ensures value { IfOk result (λ within. within ≡ keyword.entry ++ segment_parts segment.entry) }
+{
+    match segment {
+        Some(segment) => keyword.push(alloc, segment),
+        None => Ok(keyword),
+    }
+}
+
 /// The path of a child of a place: the path of that, a keyword, and what follows it. Takes memory for one link or two.
 pub fn path_below<'w>(
     alloc: Global,
@@ -109,10 +124,7 @@ pub fn path_below<'w>(
         (λ below. below ≡ path.now ++ Key keyword.now ∷ segment_parts segment.entry) }
 {
     let keyword = path.push(alloc, keyword)?;
-    match segment {
-        Some(segment) => keyword.push(alloc, segment),
-        None => Ok(keyword),
-    }
+    path_within(alloc, keyword, segment)
 }
 
 /// What follows the path of a place in that of a child: a keyword, and the index or key after it, where there is one.
@@ -180,6 +192,21 @@ impl<'w> Below<'w> {
             above: JsonPointerNode::new(),
             tail: None,
         }
+    }
+
+    /// The path of a child of a place: that of the place, which is shared, a keyword, and what follows it. Takes no memory, and
+    /// fails only where the last link of the place's path has no count left for one more handle.
+    pub fn of_child(
+        path: &JsonPointerNode<'w>,
+        keyword: &'w str,
+        segment: Option<JsonPointerSegment<'w>>,
+    ) -> Result<Below<'w>, AllocError>
+        ensures value { IfOk result
+            (λ below. parts_of below ≡ path.now ++ Key keyword.now ∷ segment_parts segment.entry) }
+    {
+        let above = path.clone()?;
+        let tail = Some(Tail { keyword, segment });
+        Ok(Below { above, tail })
     }
 
     /// The path with links for what follows. Takes memory for one or two.

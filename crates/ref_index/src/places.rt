@@ -121,7 +121,7 @@ fn kept_root_of<'w, 'a>(
 {
     let uri = document.uri.clone()?;
     Ok(Visit {
-        value: ValueRef::Kept(document.contents.value(), Below::root()),
+        value: ValueRef::Owned(document.contents.value(), Below::root()),
         draft: document.draft,
         outer: shared(alloc, uri)?,
     })

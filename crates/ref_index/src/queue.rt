@@ -14,12 +14,13 @@ use serde_json::Value;
 use std::alloc::{AllocError, Global};
 use std::rc::Rc;
 
-/// A value in a document that is walked, and its path there: both are lent for as long as the registry lives, or kept by
-/// the document.
+/// A value in a document that is walked, and its path there.
 #[derive(Drop)]
 pub enum ValueRef<'w, 'a> {
-    Lent(&'a Value, Below<'a>),
-    Kept(&'w Value, Below<'w>),
+    /// Both are lent for as long as the registry lives, since the document's contents are borrowed.
+    Borrowed(&'a Value, Below<'a>),
+    /// Both are lent for as long as the walk, since the document owns its contents, or a share of them.
+    Owned(&'w Value, Below<'w>),
 }
 
 impl<'w, 'a: 'w> ValueRef<'w, 'a> {
@@ -29,9 +30,9 @@ impl<'w, 'a: 'w> ValueRef<'w, 'a> {
         ensures path { path_of result ≡ [] }
     {
         match contents {
-            Contents::Borrowed(value) => ValueRef::Lent(*value, Below::root()),
-            Contents::Shared(value) => ValueRef::Kept(&**value, Below::root()),
-            Contents::Owned(value) => ValueRef::Kept(value, Below::root()),
+            Contents::Borrowed(value) => ValueRef::Borrowed(*value, Below::root()),
+            Contents::Shared(value) => ValueRef::Owned(&**value, Below::root()),
+            Contents::Owned(value) => ValueRef::Owned(value, Below::root()),
         }
     }
 
@@ -40,8 +41,8 @@ impl<'w, 'a: 'w> ValueRef<'w, 'a> {
         ensures value { view result.now ≡ value_of self.now }
     {
         match self {
-            ValueRef::Lent(value, _) => *value,
-            ValueRef::Kept(value, _) => *value,
+            ValueRef::Borrowed(value, _) => *value,
+            ValueRef::Owned(value, _) => *value,
         }
     }
 
@@ -50,8 +51,8 @@ impl<'w, 'a: 'w> ValueRef<'w, 'a> {
         ensures value { IfSome result (λ value. view value.now ≡ value_of self.now) }
     {
         match self {
-            ValueRef::Lent(value, _) => Some(*value),
-            ValueRef::Kept(_, _) => None,
+            ValueRef::Borrowed(value, _) => Some(*value),
+            ValueRef::Owned(_, _) => None,
         }
     }
 
@@ -61,8 +62,8 @@ impl<'w, 'a: 'w> ValueRef<'w, 'a> {
         ensures value { IfOk result (λ parts. map part_of parts.items ≡ path_of self.now) }
     {
         match self {
-            ValueRef::Lent(_, path) => path.segments(alloc),
-            ValueRef::Kept(_, path) => path.owned(alloc),
+            ValueRef::Borrowed(_, path) => path.segments(alloc),
+            ValueRef::Owned(_, path) => path.owned(alloc),
         }
     }
 
@@ -72,8 +73,8 @@ impl<'w, 'a: 'w> ValueRef<'w, 'a> {
         ensures value { IfOk result (λ parts. map part_of parts.items ≡ path_of self.now) }
     {
         match self {
-            ValueRef::Lent(_, path) => path.owned(alloc),
-            ValueRef::Kept(_, path) => path.segments(alloc),
+            ValueRef::Borrowed(_, path) => path.owned(alloc),
+            ValueRef::Owned(_, path) => path.segments(alloc),
         }
     }
 }

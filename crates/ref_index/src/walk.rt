@@ -1,29 +1,27 @@
 //! The walk over the places of a document.
-ghost use Rattle.std.specs.Prelude.{◌≡◌, ◌<◌, ℕ, List, [], ◌∷◌, ◌++◌, map, flat_map, length, option_map, slice_get, false, Some, Ok, OnOk, IfOk, IfErr};
+ghost use Rattle.std.specs.Prelude.{◌≡◌, ◌<◌, ℕ, [], ◌∷◌, ◌++◌, map, length, option_map, slice_get, false, Some, Ok, OnOk, IfOk, IfErr};
 ghost use Rattle.serde_json.specs.View.{view};
-ghost use Rattle.ref_draft.specs.Schema.{identifier, text_under};
+ghost use Rattle.ref_draft.specs.Schema.{identifier};
 ghost use Rattle.ref_draft.specs.Views.{resource_ref, tagged_value, walked_child};
 ghost use Rattle.ref_draft.specs.Anchors.{anchors};
-ghost use Rattle.ref_uri.specs.Errors.{IsFaultOf};
 ghost use Rattle.ref_uri.specs.Targets.{target as uri_target};
 ghost use Rattle.ref_definitions.specs.World.{Layer};
-ghost use Rattle.ref_definitions.specs.Places.{Place, base_within, child_place, root, places};
+ghost use Rattle.ref_definitions.specs.Places.{Place, base_within, root};
 ghost use Rattle.ref_definitions.specs.Resources.{resource_of};
 ghost use Rattle.ref_definitions.specs.Anchors.{named_at};
 ghost use Rattle.ref_definitions.specs.Cached.{pairs_of_identifier, pairs_of_reference, pairs_of_value};
-ghost use Rattle.ref_definitions.specs.Wants.{Reference, MetaSchema, reference_at, schema_at, wants_of_text, refusals_of, faults_at};
-ghost use Rattle.ref_index.specs.Contents.{tree_of};
+ghost use Rattle.ref_definitions.specs.Wants.{Reference, MetaSchema, reference_at, schema_at, wants_of_text, refusals_of};
 ghost use Rattle.ref_index.specs.Spots.{numbered};
-ghost use Rattle.ref_index.specs.Found.{Held, Holds, IsEntryOf, IsNumberOf, with_resources, with_names, with_wants, with_identifiers, with_references};
-ghost use Rattle.ref_index.specs.inner.Queue.{path_of, place_of, value_of};
+ghost use Rattle.ref_index.specs.Found.{FoundLists, Holds, IsEntryOf, IsNumberOf, with_resources, with_names, with_wants, with_identifiers, with_references};
+ghost use Rattle.ref_index.specs.inner.Queue.{path_of, place_of, place_with, value_of};
 ghost use Rattle.ref_index.specs.declared.queue.Visit.{Visit};
 ghost use Rattle.ref_index.specs.Document.{document_of};
-ghost use Rattle.ref_index.specs.Visits.{meta_schema_uri, AddsPlace, IsFirstFault, StandsIn, ChildrenCame, IsVisited, IsWalked, faults_of, under_document, names_under, with_meanings};
+ghost use Rattle.ref_index.specs.Visits.{meta_schema_uri, AddsPlace, GivesUri, IsFirstFault, RefusesFor, StandsIn, Came, ChildrenCame, IsVisited, WalksOver, faults_of, under_document, names_under, with_meanings};
 
 use crate::document::Document;
 use crate::entry::Entry;
 use crate::found::{Cause, Found};
-use crate::path::{Below, Tail};
+use crate::path::Below;
 use crate::queue::{ValueRef, Visit};
 use crate::reference::shared;
 use ref_draft::{AnchorIter, Child, Draft, ResourceRef};
@@ -37,11 +35,8 @@ use std::rc::Rc;
 
 // The base of a place: its identifier against the base around it, or that base.
 fn base_of(alloc: Global, outer: &Rc<Uri>, id: Option<&str>) -> Result<Rc<Uri>, UriFault>
-    ensures ok { IfOk result
-        (λ base. base_within outer.now.value (option_map (λ text. text.now) id.entry)
-        ≡ Ok base.value) }
-    ensures fault { IfErr result
-        (IsFaultOf (base_within outer.now.value (option_map (λ text. text.now) id.entry))) }
+    ensures { GivesUri (base_within outer.now.value (option_map (λ text. text.now) id.entry))
+        result }
 {
     match id {
         Some(id) => {
@@ -93,7 +88,7 @@ fn add_under(
     entry: usize,
     resource: ResourceRef<'_>,
 ) -> Result<(), AllocError>
-    ensures added { (layer : Layer) (held : Held) (p : Place) (number : ℕ)
+    ensures added { (layer : Layer) (held : FoundLists) (p : Place) (number : ℕ)
         → Holds layer found.old held → IsNumberOf layer found.old.entries.items number entry p
         → resource_ref resource.entry ≡ tagged_value p.draft p.value
         → OnOk result
@@ -118,7 +113,7 @@ fn add_identified(
     base: &Rc<Uri>,
     entry: usize,
 ) -> Result<(), AllocError>
-    ensures added { (layer : Layer) (held : Held) (p : Place) (number : ℕ)
+    ensures added { (layer : Layer) (held : FoundLists) (p : Place) (number : ℕ)
         → Holds layer found.old held → IsNumberOf layer found.old.entries.items number entry p
         → option_map (λ text. text.now) id.entry ≡ identifier p.draft p.value
         → p.base ≡ Ok base.now.value
@@ -140,7 +135,7 @@ fn add_by_base(
     entry: usize,
     resource: ResourceRef<'_>,
 ) -> Result<(), AllocError>
-    ensures { (layer : Layer) (held : Held) (p : Place) (number : ℕ)
+    ensures { (layer : Layer) (held : FoundLists) (p : Place) (number : ℕ)
         → Holds layer found.old held → IsNumberOf layer found.old.entries.items number entry p
         → resource_ref resource.entry ≡ tagged_value p.draft p.value
         → option_map (λ text. text.now) id.entry ≡ identifier p.draft p.value
@@ -164,7 +159,7 @@ fn add_place<'w, 'a: 'w>(
     id: Option<&str>,
     base: &Rc<Uri>,
 ) -> Result<(), AllocError>
-    ensures { (layer : Layer) (held : Held)
+    ensures { (layer : Layer) (held : FoundLists)
         → Holds layer found.old held → StandsIn layer number (place_of place.now)
         → option_map (λ text. text.now) id.entry
         ≡ identifier (place_of place.now).draft (place_of place.now).value
@@ -191,7 +186,7 @@ fn add_base(
     id: Option<&str>,
     base: &Rc<Uri>,
 ) -> Result<(), AllocError>
-    ensures { (layer : Layer) (held : Held)
+    ensures { (layer : Layer) (held : FoundLists)
         → Holds layer found.old held
         → base_within outer.now.value (option_map (λ text. text.now) id.entry)
         ≡ Ok base.now.value
@@ -213,13 +208,12 @@ fn referred(
     base: &Rc<Uri>,
     reference: &str,
 ) -> Result<Rc<Uri>, UriFault>
-    ensures ok { IfOk result (λ uri. uri_target base.now.value reference.now ≡ Ok uri.value) }
-    ensures added { (layer : Layer) (held : Held)
+    ensures gives { GivesUri (uri_target base.now.value reference.now) result }
+    ensures added { (layer : Layer) (held : FoundLists)
         → Holds layer found.old held
         → OnOk result
         (Holds layer found.new
         (with_references held (pairs_of_reference base.now.value reference.now))) }
-    ensures fault { IfErr result (IsFaultOf (uri_target base.now.value reference.now)) }
 {
     if reference.starts_with('#') {
         return Ok(base.clone()?);
@@ -238,17 +232,15 @@ fn add_reference(
     value: &Value,
     base: &Rc<Uri>,
 ) -> Result<(), UriFault>
-    ensures added { (layer : Layer) (held : Held)
+    ensures added { (layer : Layer) (held : FoundLists)
         → Holds layer found.old held
         → OnOk result
         (Holds layer found.new
         (with_wants
         (with_references held (pairs_of_value base.now.value (view value.now)))
         (wants_of_text Reference (reference_at base.now.value (view value.now))))) }
-    ensures faultless { OnOk result
-        (refusals_of (reference_at base.now.value (view value.now)) ≡ []) }
-    ensures fault { IfErr result
-        (IsFirstFault (refusals_of (reference_at base.now.value (view value.now)))) }
+    ensures faults { RefusesFor (refusals_of (reference_at base.now.value (view value.now)))
+        result }
 {
     let Some(reference) = value.get("$ref").and_then(Value::as_str) else {
         return Ok(());
@@ -260,8 +252,7 @@ fn add_reference(
 
 // The URI that a text names a meta-schema by, without its fragment.
 fn schema_uri(alloc: Global, text: &str) -> Result<Rc<Uri>, UriFault>
-    ensures ok { IfOk result (λ uri. meta_schema_uri text.now ≡ Ok uri.value) }
-    ensures fault { IfErr result (IsFaultOf (meta_schema_uri text.now)) }
+    ensures { GivesUri (meta_schema_uri text.now) result }
 {
     let mut uri = from_str(alloc, text)?;
     if let Err(error) = uri.set_fragment(None) {
@@ -272,13 +263,12 @@ fn schema_uri(alloc: Global, text: &str) -> Result<Rc<Uri>, UriFault>
 
 // Adds what a text under `$schema` names, where that is no known draft.
 fn add_meta_schema(alloc: Global, found: &mut Found<'_>, value: &Value) -> Result<(), UriFault>
-    ensures added { (layer : Layer) (held : Held)
+    ensures added { (layer : Layer) (held : FoundLists)
         → Holds layer found.old held
         → OnOk result
         (Holds layer found.new
         (with_wants held (wants_of_text MetaSchema (schema_at (view value.now))))) }
-    ensures faultless { OnOk result (refusals_of (schema_at (view value.now)) ≡ []) }
-    ensures fault { IfErr result (IsFirstFault (refusals_of (schema_at (view value.now)))) }
+    ensures faults { RefusesFor (refusals_of (schema_at (view value.now))) result }
 {
     let Some(text) = value.get("$schema").and_then(Value::as_str) else {
         return Ok(());
@@ -303,10 +293,7 @@ pub(crate) fn settle<'w, 'a: 'w>(
     ensures added { OnOk result
         (AddsPlace number (option_map (λ u. u.now.value) under.entry) (place_of place.now)
         found.old found.new) }
-    ensures faultless { OnOk result
-        (faults_at (place_of place.now).base (place_of place.now).value ≡ []) }
-    ensures fault { IfErr result
-        (IsFirstFault (faults_at (place_of place.now).base (place_of place.now).value)) }
+    ensures faults { RefusesFor (faults_of (place_of place.now)) result }
 {
     let value = place.value.get();
     let id = ResourceRef::new(value, place.draft).id();
@@ -318,90 +305,81 @@ pub(crate) fn settle<'w, 'a: 'w>(
     Ok(base)
 }
 
-// Adds a child of a place to the queue, whose value is lent.
-fn push_lent_child<'w, 'a: 'w>(
+/// Adds a visit to the queue.
+pub(crate) fn push_visit<'w, 'a>(
     queue: &mut Vec<Visit<'w, 'a>>,
-    path: &JsonPointerNode<'a>,
-    child: Child<'a>,
-    base: &Rc<Uri>,
+    visit: Visit<'w, 'a>,
 ) -> Result<(), AllocError>
-    ensures { OnOk result ((v : Visit) × (queue.new.items ≡ queue.old.items ++ v ∷ [])
-        × (place_of v ≡ child_place path.now base.now.value (walked_child child.entry))) }
+    ensures { OnOk result (queue.new.items ≡ queue.old.items ++ visit.entry ∷ []) }
 {
-    let Child {
-        keyword,
-        segment,
-        value,
-        draft,
-    } = child;
-    let outer = base.clone()?;
-    let above = path.clone()?;
-    let tail = Some(Tail { keyword, segment });
-    queue.push(Visit {
-        value: ValueRef::Lent(value, Below { above, tail }),
-        draft,
-        outer,
-    })?;
+    queue.push(visit)?;
     Ok(())
 }
 
-// Adds a child of a place to the queue, whose value is kept.
-fn push_kept_child<'w, 'a>(
+// Adds a place to the queue, with this base around it.
+fn push_place<'w, 'a>(
     queue: &mut Vec<Visit<'w, 'a>>,
-    path: &JsonPointerNode<'w>,
-    child: Child<'w>,
+    value: ValueRef<'w, 'a>,
+    draft: Draft,
     base: &Rc<Uri>,
 ) -> Result<(), AllocError>
     ensures { OnOk result ((v : Visit) × (queue.new.items ≡ queue.old.items ++ v ∷ [])
-        × (place_of v ≡ child_place path.now base.now.value (walked_child child.entry))) }
+        × (place_of v
+        ≡ place_with (path_of value.entry) (value_of value.entry) draft base.now.value)) }
 {
-    let Child {
-        keyword,
-        segment,
-        value,
-        draft,
-    } = child;
     let outer = base.clone()?;
-    let above = path.clone()?;
-    let tail = Some(Tail { keyword, segment });
-    queue.push(Visit {
-        value: ValueRef::Kept(value, Below { above, tail }),
-        draft,
-        outer,
-    })?;
-    Ok(())
+    push_visit(
+        queue,
+        Visit {
+            value,
+            draft,
+            outer,
+        },
+    )
 }
 
-// Adds children to the queue. Their values, and the path that they are below, are lent for as long as the registry lives.
-fn push_lent<'w, 'a: 'w>(
+// Adds children to the queue, which are in a document whose contents are borrowed.
+fn push_borrowed<'w, 'a: 'w>(
     queue: &mut Vec<Visit<'w, 'a>>,
     path: &JsonPointerNode<'a>,
     children: Vec<Child<'a>>,
     base: &Rc<Uri>,
 ) -> Result<(), AllocError>
-    ensures { OnOk result ((more : List Visit) × (queue.new.items ≡ queue.old.items ++ more)
-        × (map place_of more
-        ≡ map (child_place path.now base.now.value) (map walked_child children.entry.items))) }
+    ensures { OnOk result
+        (Came path.now base.now.value
+        (map walked_child children.entry.items) queue.old.items queue.new.items) }
 {
     for child in children {
-        push_lent_child(queue, path, child, base)?;
+        let below = Below::of_child(path, child.keyword, child.segment)?;
+        push_place(
+            queue,
+            ValueRef::Borrowed(child.value, below),
+            child.draft,
+            base,
+        )?;
     }
     Ok(())
 }
 
-// Adds children to the queue. Their values, and the path that they are below, are kept by the document.
-fn push_kept<'w, 'a>(
+// Adds children to the queue, which are in a document that owns its contents.
+fn push_owned<'w, 'a>(
     queue: &mut Vec<Visit<'w, 'a>>,
     path: &JsonPointerNode<'w>,
     children: Vec<Child<'w>>,
     base: &Rc<Uri>,
 ) -> Result<(), AllocError>
-    ensures { OnOk result ((more : List Visit) × (queue.new.items ≡ queue.old.items ++ more)
-        × (map place_of more
-        ≡ map (child_place path.now base.now.value) (map walked_child children.entry.items))) }
+    ensures { OnOk result
+        (Came path.now base.now.value
+        (map walked_child children.entry.items) queue.old.items queue.new.items) }
 {
     for child in children {
-        push_kept_child(queue, path, child, base)?;
+        let below = Below::of_child(path, child.keyword, child.segment)?;
+        push_place(
+            queue,
+            ValueRef::Owned(child.value, below),
+            child.draft,
+            base,
+        )?;
     }
     Ok(())
 }
@@ -421,34 +399,23 @@ pub(crate) fn push_children<'w, 'a: 'w>(
 {
     let place = &queue[at];
     match &place.value {
-        ValueRef::Lent(value, path) => {
+        ValueRef::Borrowed(value, path) => {
             let children = place.draft.walk_children(alloc, *value)?;
             if children.is_empty() {
                 return Ok(());
             }
             let path = path.linked(alloc)?;
-            push_lent(queue, &path, children, base)
+            push_borrowed(queue, &path, children, base)
         }
-        ValueRef::Kept(value, path) => {
+        ValueRef::Owned(value, path) => {
             let children = place.draft.walk_children(alloc, *value)?;
             if children.is_empty() {
                 return Ok(());
             }
             let path = path.linked(alloc)?;
-            push_kept(queue, &path, children, base)
+            push_owned(queue, &path, children, base)
         }
     }
-}
-
-/// Adds a visit to the queue.
-pub(crate) fn push_visit<'w, 'a>(
-    queue: &mut Vec<Visit<'w, 'a>>,
-    visit: Visit<'w, 'a>,
-) -> Result<(), AllocError>
-    ensures { OnOk result (queue.new.items ≡ queue.old.items ++ visit.entry ∷ []) }
-{
-    queue.push(visit)?;
-    Ok(())
 }
 
 // Visits the place at the head of the queue, and adds its children.
@@ -501,11 +468,7 @@ pub fn walk<'a>(
     number: usize,
     document: &Document<'a>,
 ) -> Result<(), UriFault>
-    ensures ok { OnOk result
-        (IsWalked (document_of document.now) number found.old found.new
-        (places (document_of document.now))) }
-    ensures fault { IfErr result
-        (IsFirstFault (flat_map faults_of (places (document_of document.now)))) }
+    ensures walked { WalksOver (document_of document.now) number found.old found.new result }
 {
     let root = root_of(alloc, document)?;
     let uri = root.outer.clone()?;

@@ -1,12 +1,11 @@
 //! Documents that are walked one after another.
-ghost use Rattle.std.specs.Prelude.{◌≡◌, ◌∷◌, ◌++◌, ◌≤◌, [], map, flat_map, take, length, slice_get, Some, None, true, false, OnOk, IfOk, IfErr, IfSome, MatchOption};
+ghost use Rattle.std.specs.Prelude.{◌≡◌, ◌∷◌, ◌++◌, ◌≤◌, [], map, take, length, slice_get, Some, None, true, false, OnOk, IfOk, IfErr, IfSome, MatchOption};
 ghost use Rattle.std.specs.List.{AllByRecursion};
 ghost use Rattle.ref_definitions.specs.Wants.{Want as Wanted, faults, wants, is_open};
 ghost use Rattle.ref_index.specs.Document.{document_of};
 ghost use Rattle.ref_index.specs.Found.{want_of};
 ghost use Rattle.ref_index.specs.Listed.{IsListingOf, place_of};
-ghost use Rattle.ref_index.specs.Visits.{IsFirstFault, IsFound, IsWalked, faults_of};
-ghost use Rattle.ref_definitions.specs.Places.{places};
+ghost use Rattle.ref_index.specs.Visits.{IsFirstFault, IsFound, WalksOver};
 
 use crate::document::Document;
 use crate::found::{Found, Want};
@@ -37,11 +36,7 @@ fn walk_or_note<'a>(
 ) -> Result<(), UriFault>
     requires { IfSome listed
         (λ below. IsListingOf (document_of document.now) (map place_of below.now)) }
-    ensures ok { OnOk result
-        (IsWalked (document_of document.now) number found.old found.new
-        (places (document_of document.now))) }
-    ensures fault { IfErr result
-        (IsFirstFault (flat_map faults_of (places (document_of document.now)))) }
+    ensures { WalksOver (document_of document.now) number found.old found.new result }
 {
     match listed {
         Some(below) => note(alloc, found, number, document, below),
@@ -82,20 +77,19 @@ pub struct Walked<'a> {
 }
 
 impl<'a> Model for Walked<'a> {
-    ghost use Rattle.std.specs.Prelude.{List, map};
-    ghost use Rattle.ref_definitions.specs.World.{Document as WorldDocument};
+    ghost use Rattle.ref_definitions.specs.World.{Layer};
     ghost use Rattle.ref_index.specs.inner.Codes.{layer_code};
 
-    ghost Value = { List WorldDocument };
+    ghost Value = { Layer };
 
     ghost coded = { layer_code };
 
-    ghost use Rattle.ref_index.specs.Document.{document_of};
+    ghost use Rattle.ref_index.specs.Document.{layer_of};
     ghost use Rattle.ref_index.specs.Visits.{IsFound};
 
-    ghost view = { λ w. map document_of w.documents.items };
+    ghost view = { λ w. layer_of w.documents.items };
 
-    ghost invariant = { λ w. IsFound (map document_of w.documents.items) w.found };
+    ghost invariant = { λ w. IsFound (layer_of w.documents.items) w.found };
 }
 
 impl<'a> Walked<'a> {

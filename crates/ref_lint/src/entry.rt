@@ -1,7 +1,7 @@
-//! A unresolvable reference, as it is listed.
+//! An unresolvable reference, as it is listed.
 use referencing::{Error, JsonPointerSegment};
 
-/// A unresolvable reference, and why.
+/// An unresolvable reference, and why.
 #[derive(Debug, Drop)]
 pub struct Dangling<'r> {
     /// The number of its document, counted from 0 in the order in which their URIs were first added, and after them those

@@ -1,5 +1,5 @@
-//! The references in a registry's documents that are unresolvable, for linters. It stands on the public calls of `referencing`
-//! alone.
+//! The references in a registry's documents that are unresolvable, for linters. Its code calls `referencing` alone; its clauses
+//! cite the definitions that those of `referencing` cite.
 //!
 //! Read `specs/Dangling.antt` first: which references those are is said there over the plain documents.
 #![tactic(auto)]

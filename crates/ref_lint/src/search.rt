@@ -35,8 +35,7 @@ fn fault_at(
         (IsWhy (lookup registry.now (record { base = base.now; scope = [] }) reference.now)) }
     ensures memory { IfErr result IsMemory }
 {
-    let resolver = registry.resolver(alloc, base.clone()?)?;
-    match resolver.lookup(alloc, reference) {
+    match registry.lookup(alloc, base.clone()?, reference) {
         Ok(_) => Ok(None),
         Err(Error::Memory(error)) => Err(Error::Memory(error)),
         Err(error) => Ok(Some(error)),

@@ -2,7 +2,7 @@
 use std::alloc::AllocError;
 
 /// A document in a drawing.
-#[derive(Debug, Drop)]
+#[derive(Drop)]
 pub struct Node {
     /// What it is called.
     pub name: String,
@@ -11,7 +11,7 @@ pub struct Node {
 }
 
 /// The references of one document that lead into another one, or into itself.
-#[derive(Clone, Copy, Debug, Drop)]
+#[derive(Drop)]
 pub struct Edge {
     /// The number of the document that has them.
     pub from: usize,
@@ -24,7 +24,7 @@ pub struct Edge {
 }
 
 /// What is drawn.
-#[derive(Debug, Drop)]
+#[derive(Drop)]
 pub struct Graph {
     /// The documents, by their numbers.
     pub nodes: Vec<Node>,

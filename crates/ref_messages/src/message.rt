@@ -1,7 +1,7 @@
 //! A message about a place in a file.
 
 /// The level of a message.
-#[derive(Clone, Copy, Debug, Drop, PartialEq, Eq)]
+#[derive(Clone, Copy, Drop)]
 pub enum Level {
     /// Something is wrong.
     Error,
@@ -20,7 +20,7 @@ impl Level {
 }
 
 /// Another place that a message speaks of.
-#[derive(Debug, Drop)]
+#[derive(Drop)]
 pub struct Other {
     /// The file, as it is shown.
     pub file: String,
@@ -33,7 +33,7 @@ pub struct Other {
 }
 
 /// A message about a place in a file.
-#[derive(Debug, Drop)]
+#[derive(Drop)]
 pub struct Message<'m> {
     /// The file, as it is shown.
     pub file: &'m str,

@@ -4,7 +4,7 @@ use crate::message::{Message, Other};
 use std::alloc::{AllocError, Global};
 
 /// A kind of messages.
-#[derive(Clone, Copy, Debug, Drop)]
+#[derive(Clone, Copy, Drop)]
 pub struct Rule {
     /// Its name.
     pub code: &'static str,

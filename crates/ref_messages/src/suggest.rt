@@ -17,7 +17,7 @@ const STEPS_OF_A_COMPARISON: usize = 16;
 /// Searches for names that are one or two letters away from another. A name that is passed is a step, and one that is
 /// compared 16. A search takes 65,536 steps at most, and all searches together a number that is given, so that many
 /// searches among many names cost no more than that: what is not reached by then is not suggested.
-#[derive(Debug, Drop)]
+#[derive(Drop)]
 pub struct Suggester {
     // How many steps all searches may take yet, and this one.
     left: usize,

@@ -199,11 +199,20 @@ module _ {K V : Type 0} (C : K → K → Type 0) (D : V → V → Type 0) where
   IsSlotClone (Some e) None = ⊥
   IsSlotClone (Some e) (Some f) = C e.0 f.0 × D e.1 f.1
 
-  pub slots_cloned : (R : Option (K × V) → Option (K × V) → Type 0) → ((e f : Option (K × V)) → R e f → IsSlotClone e f) → (slots copy : List (Option (K × V))) → AllZip R slots copy → AllZip IsSlotClone slots copy
-  slots_cloned R each [] [] h = tt
-  slots_cloned R each [] (f ∷ copy) h = absurd h
-  slots_cloned R each (e ∷ slots) [] h = absurd h
-  slots_cloned R each (e ∷ slots) (f ∷ copy) h = (each e f h.0, slots_cloned R each slots copy h.1)
+  module _ (R : Option (K × V) → Option (K × V) → Type 0) (filled : (f : K × V) → R None (Some f) → ⊥) (emptied : (e : K × V) → R (Some e) None → ⊥) (both : (e f : K × V) → R (Some e) (Some f) → C e.0 f.0 × D e.1 f.1) where
+    -- two slots are clones where the relation holds of them
+    slot_cloned : (e f : Option (K × V)) → R e f → IsSlotClone e f
+    slot_cloned None None h = tt
+    slot_cloned None (Some f) h = filled f h
+    slot_cloned (Some e) None h = emptied e h
+    slot_cloned (Some e) (Some f) h = both e f h
+
+    -- the slots are clones where the relation holds of each two
+    pub slots_cloned : (slots copy : List (Option (K × V))) → AllZip R slots copy → AllZip IsSlotClone slots copy
+    slots_cloned [] [] h = tt
+    slots_cloned [] (f ∷ copy) h = absurd h
+    slots_cloned (e ∷ slots) [] h = absurd h
+    slots_cloned (e ∷ slots) (f ∷ copy) h = (slot_cloned e f h.0, slots_cloned slots copy h.1)
 
   pub pairs_cloned : (slots copy : List (Option (K × V))) → AllZip IsSlotClone slots copy → IsClone C D (pairs slots) (pairs copy)
   pairs_cloned [] [] h = tt

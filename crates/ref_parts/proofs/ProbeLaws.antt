@@ -18,7 +18,7 @@ use Rattle.ref_parts.proofs.TableLaws.{filter_none, last_at, apart_by_key, key_t
 -- ---- counts
 
 -- a number has at most as many binary digits as any power of two above it
-pub below_digits : (p n d : ℕ) → 2 ^ p ≤ n → n < 2 ^ d → p < d
+below_digits : (p n d : ℕ) → 2 ^ p ≤ n → n < 2 ^ d → p < d
 below_digits p n d at_least above =
     elim (ltb p d) as (λ b. ltb p d ≡ b → p < d) [
       | true ↦ λ yes. ltb-true p d yes
@@ -26,16 +26,16 @@ below_digits p n d at_least above =
     ] refl
 
 -- a probe leaves at most half of the entries
-pub halved : (left next p n : ℕ) → left * 2 ^ p ≤ n → next + next ≤ left → next * 2 ^ (p + 1) ≤ n
-halved left next p n known half =
+pub halved : (left next p counted n : ℕ) → left * 2 ^ p ≤ n → counted ≡ p + 1 → next + next ≤ left → next * 2 ^ counted ≤ n
+halved left next p counted n known one half =
     let more : (next + next) * 2 ^ p ≤ left * 2 ^ p = mul-le-mul_right (2 ^ p) half in
-    rw (pow-add 2 p 1) (omega (arith, more, known))
+    rw one (rw (pow-add 2 p 1) (omega (arith, more, known)))
 
--- what is left has an entry, so there are that many
-pub enough : (left p n : ℕ) → left * 2 ^ p ≤ n → 0 < left → 2 ^ p ≤ n
-enough left p n known some =
+-- what is left has an entry, so one probe more is at most one for each binary digit
+pub within_digits : (left p counted n d : ℕ) → left * 2 ^ p ≤ n → 0 < left → counted ≡ p + 1 → n < 2 ^ d → counted ≤ d
+within_digits left p counted n d known some one above =
     let more : 1 * 2 ^ p ≤ left * 2 ^ p = mul-le-mul_right (2 ^ p) some in
-    omega (arith, more, known)
+    omega (arith, one, below_digits p n d (omega (arith, more, known)) above)
 
 -- ---- places
 

@@ -2,7 +2,7 @@
 use crate::given::Given;
 use crate::resources::Resources;
 use crate::rules::code_of;
-use crate::spots::{Spots, first_of};
+use crate::spots::{Spots, first_of, spots_of};
 use crate::suggestions::suggestion;
 use ref_error::Error;
 use ref_findings::{Bearer, Finding, Problem};
@@ -15,36 +15,69 @@ use std::alloc::{AllocError, Global};
 // How many steps suggestions may take in all.
 const STEPS: usize = 3_200_000;
 
-/// What messages are made from.
+/// The messages on findings, in the order in which they are listed: by file, line and column.
 #[derive(Drop)]
-pub struct Describer<'d> {
+pub struct Describer<'l, 'd> {
     alloc: Global,
     given: &'d Given,
+    list: &'l [Finding<'d>],
+    // The file, the line, the column and the number of each that is listed.
+    order: Vec<(usize, usize, usize, usize)>,
     spots: Spots<'d>,
     // What references may mean, once something is to be suggested.
     resources: Option<Resources<'d>>,
     suggester: Suggester,
 }
 
-impl<'d> Describer<'d> {
-    /// What messages on findings in these files are made from.
-    pub fn new(alloc: Global, given: &'d Given, spots: Spots<'d>) -> Describer<'d> {
-        Describer {
+impl<'l, 'd> Describer<'l, 'd> {
+    /// The messages on findings in these files, with those on references that weren't checked where they are asked for.
+    pub fn new(
+        alloc: Global,
+        given: &'d Given,
+        list: &'l [Finding<'d>],
+        is_verbose: bool,
+    ) -> Result<Describer<'l, 'd>, AllocError> {
+        let spots = spots_of(alloc, given.documents.as_slice(), list)?;
+        let order = order_of(alloc, given, &spots, list, is_verbose)?;
+        Ok(Describer {
             alloc,
             given,
+            list,
+            order,
             spots,
             resources: None,
             suggester: Suggester::new(STEPS),
+        })
+    }
+
+    /// How many findings are listed.
+    pub fn len(&self) -> usize {
+        self.order.len()
+    }
+
+    /// The finding that is listed at a place, from 0.
+    pub fn finding(&self, place: usize) -> Option<&'l Finding<'d>> {
+        let list = self.list;
+        list.get(self.order.get(place)?.3)
+    }
+
+    /// The message on the finding that is listed at a place, from 0.
+    pub fn message(&mut self, place: usize) -> Result<Option<Message<'d>>, AllocError> {
+        let Some(listed) = self.order.get(place).copied() else {
+            return Ok(None);
+        };
+        match self.finding(place) {
+            Some(finding) => Ok(Some(self.message_on(listed, finding)?)),
+            None => Ok(None),
         }
     }
 
-    /// The message on the finding with a number.
-    pub fn message(
+    // The message on a finding, where it is listed so.
+    fn message_on(
         &mut self,
-        number: usize,
+        (_, line, column, number): (usize, usize, usize, usize),
         finding: &Finding<'d>,
     ) -> Result<Message<'d>, AllocError> {
-        let (line, column) = self.place(number, finding);
         let mut message = Message {
             file: self.given.name(finding.source),
             line,
@@ -59,8 +92,13 @@ impl<'d> Describer<'d> {
             suggestion: None,
             first: None,
         };
-        self.complete(&mut message, number, finding)?;
-        Ok(message)
+        match self.complete(&mut message, number, finding) {
+            Ok(()) => Ok(message),
+            Err(error) => {
+                drop(message);
+                Err(error)
+            }
+        }
     }
 
     // Adds to a message what takes memory.
@@ -78,25 +116,6 @@ impl<'d> Describer<'d> {
         Ok(())
     }
 
-    /// The line and the column of the finding with a number.
-    pub fn place(&self, number: usize, finding: &Finding<'_>) -> (usize, usize) {
-        if let Some(fault) = self.fault(finding.source) {
-            return (fault.line, fault.column);
-        }
-        match self.spots.own(number, finding) {
-            Some(position) => (position.line(), position.column()),
-            None => (1, 1),
-        }
-    }
-
-    // Why the text of a file is not JSON, and where.
-    fn fault(&self, source: usize) -> Option<&Fault> {
-        match &self.given.documents.get(source)?.value {
-            Ok(_) => None,
-            Err(fault) => Some(fault),
-        }
-    }
-
     fn text(&self, finding: &Finding<'_>) -> Result<String, AllocError> {
         let alloc = self.alloc;
         match &finding.problem {
@@ -104,29 +123,29 @@ impl<'d> Describer<'d> {
             Problem::InvalidUri(error) => error.to_string(alloc),
             Problem::LeadsNowhere { error, .. } => error.to_string(alloc),
             Problem::MissingDocument { uri } => {
-                format!(in alloc; "Document '{}' is not among the given files", uri.as_str())
+                ["Document '", uri.as_str(), "' is not among the given files"].join(alloc, "")
             }
-            Problem::Unchecked { uri } => {
-                format!(in alloc;
-                    "Meta-schema '{}' is not among the given files: the fragment is not checked",
-                    uri.as_str()
-                )
-            }
-            Problem::UnknownDialect { uri } => {
-                format!(in alloc;
-                    "Meta-schema '{}' is not among the given files: read as Draft 2020-12",
-                    uri.as_str()
-                )
-            }
+            Problem::Unchecked { uri } => [
+                "Meta-schema '",
+                uri.as_str(),
+                "' is not among the given files: the fragment is not checked",
+            ]
+            .join(alloc, ""),
+            Problem::UnknownDialect { uri } => [
+                "Meta-schema '",
+                uri.as_str(),
+                "' is not among the given files: read as Draft 2020-12",
+            ]
+            .join(alloc, ""),
             Problem::DuplicateIdentifier { uri, .. } => {
-                format!(in alloc; "Two schemas have the identifier '{}'", uri.as_str())
+                ["Two schemas have the identifier '", uri.as_str(), "'"].join(alloc, "")
             }
             Problem::DuplicateAnchor { uri, .. } => anchor_text(alloc, uri, finding.text),
         }
     }
 
     fn not_json(&self, source: usize) -> Result<String, AllocError> {
-        let why = match self.fault(source) {
+        let why = match fault_of(self.given, source) {
             Some(fault) => fault.text.as_str(),
             None => "",
         };
@@ -176,17 +195,42 @@ impl<'d> Describer<'d> {
     }
 }
 
-/// The numbers of the findings that are listed, by file, line and column.
-pub fn order_of(
+// The line and the column of the finding with a number.
+fn position_of(
+    given: &Given,
+    spots: &Spots<'_>,
+    number: usize,
+    finding: &Finding<'_>,
+) -> (usize, usize) {
+    if let Some(fault) = fault_of(given, finding.source) {
+        return (fault.line, fault.column);
+    }
+    match spots.own(number, finding) {
+        Some(position) => (position.line(), position.column()),
+        None => (1, 1),
+    }
+}
+
+// Why the text of a file is not JSON, and where.
+fn fault_of(given: &Given, source: usize) -> Option<&Fault> {
+    match &given.documents.get(source)?.value {
+        Ok(_) => None,
+        Err(fault) => Some(fault),
+    }
+}
+
+// The findings that are listed, each by its file, line, column and number.
+fn order_of(
     alloc: Global,
-    describer: &Describer<'_>,
+    given: &Given,
+    spots: &Spots<'_>,
     list: &[Finding<'_>],
     is_verbose: bool,
 ) -> Result<Vec<(usize, usize, usize, usize)>, AllocError> {
     let mut order = Vec::new(alloc);
     for (number, finding) in list.iter().enumerate() {
         if is_verbose || !matches!(finding.problem, Problem::Unchecked { .. }) {
-            let (line, column) = describer.place(number, finding);
+            let (line, column) = position_of(given, spots, number, finding);
             order.push((finding.source, line, column, number))?;
         }
     }
@@ -202,12 +246,20 @@ fn level_of(problem: &Problem<'_>) -> Level {
     }
 }
 
-fn anchor_text(alloc: Global, uri: &Uri, name: Option<&str>) -> Result<String, AllocError> {
+fn anchor_text<'x>(
+    alloc: Global,
+    uri: &'x Uri,
+    name: Option<&'x str>,
+) -> Result<String, AllocError> {
     let name = name.unwrap_or("").trim_start_matches('#');
-    format!(in alloc;
-        "Two schemas of '{}' have the anchor '{name}'",
-        uri.as_str()
-    )
+    [
+        "Two schemas of '",
+        uri.as_str(),
+        "' have the anchor '",
+        name,
+        "'",
+    ]
+    .join(alloc, "")
 }
 
 // What the text under a keyword was resolved to, where nothing else says it.

@@ -1,19 +1,25 @@
 //! What a reference leads to from a place of a file.
 use crate::pointer::path_to;
 use crate::world::{World, bearers, without_fragment};
+use ref_draft::Draft;
 use ref_error::Error;
 use ref_parts::path::JsonPointerSegment;
 use ref_reading::Document;
 use ref_uri::Uri;
-use referencing::Resolved;
+use referencing::Resolver;
+use serde_json::Value;
 use std::alloc::{AllocError, Global};
 use std::rc::Rc;
 
 /// What a reference leads to.
 #[derive(Drop)]
 pub struct Found<'w> {
-    /// The value, with its draft, its base URI and the dynamic scope.
-    pub resolved: Resolved<'w>,
+    /// The value.
+    pub value: &'w Value,
+    /// Its draft.
+    pub draft: Draft,
+    /// The base URI there, and the dynamic scope.
+    pub resolver: Resolver<'w>,
     /// The URI that the reference means.
     pub uri: Rc<Uri>,
 }
@@ -31,8 +37,13 @@ pub fn followed<'w>(
     if !is_there(alloc, world, uri.as_str())? {
         return Ok(None);
     }
-    let resolved = world.registry.lookup(alloc, base, reference)?;
-    Ok(Some(Found { resolved, uri }))
+    let (value, resolver, draft) = world.registry.lookup(alloc, base, reference)?.into_inner();
+    Ok(Some(Found {
+        value,
+        draft,
+        resolver,
+        uri,
+    }))
 }
 
 // The base URI at a place of the first document, whose pointer is given.
@@ -42,8 +53,12 @@ fn base_of(
     world: &World<'_>,
     from: &str,
 ) -> Result<Uri, Error> {
-    let path = path_to(alloc, document.value(), from)?;
-    Ok(base_at(alloc, &document.uri, world, path.as_slice())?)
+    match path_to(alloc, document.value(), from)? {
+        Some(path) => Ok(base_at(alloc, &document.uri, world, path.as_slice())?),
+        None => Err(Error::PointerToNowhere {
+            pointer: String::from_str(alloc, from)?,
+        }),
+    }
 }
 
 // The base URI at a path of the first document: that of the innermost schema there.

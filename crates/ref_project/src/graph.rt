@@ -1,6 +1,5 @@
 //! Which file refers to which.
 use crate::given::{Given, faulty_of};
-use crate::pointer::unless_memory;
 use crate::world::{World, bearers, without_fragment, world_of};
 use ref_draft::Draft;
 use ref_findings::{Finding, Problem};
@@ -18,7 +17,7 @@ pub fn graph_of(rt: &HostRuntime, given: &Given) -> Result<Graph, Stop> {
     let list = given.findings(alloc)?;
     let faulty = faulty_of(alloc, given.len(), list.as_slice())?;
     let world = world_of(rt, given, faulty.as_slice())?;
-    drawn(alloc, given, &world, list.as_slice())
+    Ok(drawn(alloc, given, &world, list.as_slice())?)
 }
 
 fn drawn(
@@ -26,12 +25,15 @@ fn drawn(
     given: &Given,
     world: &World<'_>,
     list: &[Finding<'_>],
-) -> Result<Graph, Stop> {
+) -> Result<Graph, AllocError> {
     let mut drawing = Drawing::new(alloc, given, world)?;
-    drawing.add_documents(given, world)?;
-    drawing.add_references(world)?;
-    drawing.add_broken(list)?;
-    Ok(drawing.finish()?)
+    match drawing.add_all(given, world, list) {
+        Ok(()) => drawing.finish(),
+        Err(error) => {
+            drop(drawing);
+            Err(error)
+        }
+    }
 }
 
 // What is drawn so far.
@@ -61,6 +63,18 @@ impl Drawing {
         })
     }
 
+    // Adds the documents and their references.
+    fn add_all(
+        &mut self,
+        given: &Given,
+        world: &World<'_>,
+        list: &[Finding<'_>],
+    ) -> Result<(), AllocError> {
+        self.add_documents(given, world)?;
+        self.add_references(world)?;
+        self.add_broken(list)
+    }
+
     // Adds the documents: files by their paths, and what was read from maps by its URI.
     fn add_documents(&mut self, given: &Given, world: &World<'_>) -> Result<(), AllocError> {
         for (node, number) in world.sources.iter().enumerate() {
@@ -88,10 +102,9 @@ impl Drawing {
         let Some(reference) = place.value.get("$ref").and_then(Value::as_str) else {
             return Ok(());
         };
-        let base = place.base.borrow();
-        match world.registry.resolve_uri(self.alloc, base, reference) {
-            Ok(uri) => self.add(place.document, reference, &uri),
-            Err(error) => unless_memory(error),
+        match world.resolved(self.alloc, place, reference)? {
+            Some(uri) => self.add(place.document, reference, &uri),
+            None => Ok(()),
         }
     }
 

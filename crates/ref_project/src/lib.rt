@@ -2,7 +2,7 @@
 //! what a reference leads to, and which file refers to which.
 #![tactic(auto)]
 
-pub mod describe;
+mod describe;
 pub mod follow;
 pub mod given;
 pub mod graph;
@@ -11,7 +11,7 @@ pub mod pointer;
 mod resources;
 pub mod rules;
 pub mod shown;
-pub mod spots;
+mod spots;
 mod suggestions;
 pub mod world;
 

@@ -20,7 +20,20 @@ pub fn push_document(
         return Ok(());
     }
     let mut asked = Places::new(alloc)?;
-    let numbers = numbers_of(alloc, &mut asked, places)?;
+    let pushed = push_located(alloc, out, document, places, &mut asked);
+    drop(asked);
+    pushed
+}
+
+// Adds the lines, with what is asked for in the document.
+fn push_located(
+    alloc: Global,
+    out: &mut String,
+    document: &Document,
+    places: &[Place<'_>],
+    asked: &mut Places,
+) -> Result<(), AllocError> {
+    let numbers = numbers_of(alloc, asked, places)?;
     let located = asked.locate(alloc, document.text.as_str())?;
     for (place, number) in places.iter().zip(numbers.iter()) {
         let position = located.value(*number);

@@ -1,5 +1,4 @@
 //! Paths as JSON pointers, and as steps.
-use ref_error::Error;
 use ref_parts::path::JsonPointerSegment;
 use ref_positions::Places;
 use referencing::unescape_segment;
@@ -25,7 +24,19 @@ pub fn position(
     path: &[JsonPointerSegment<'_>],
 ) -> Result<(usize, usize), AllocError> {
     let mut places = Places::new(alloc)?;
-    let place = place_of(&mut places, path)?;
+    let found = position_among(alloc, &mut places, text, path);
+    drop(places);
+    found
+}
+
+// The same, where nothing is asked for before.
+fn position_among(
+    alloc: Global,
+    places: &mut Places,
+    text: &str,
+    path: &[JsonPointerSegment<'_>],
+) -> Result<(usize, usize), AllocError> {
+    let place = place_of(places, path)?;
     let located = places.locate(alloc, text)?;
     match located.value(place) {
         Some(position) => Ok((position.line(), position.column())),
@@ -33,48 +44,32 @@ pub fn position(
     }
 }
 
-/// Lets an error go that says only that something isn't there. Out of memory is no such error.
-pub fn unless_memory(error: Error) -> Result<(), AllocError> {
-    let is_memory = error.is_memory();
-    drop(error);
-    if is_memory {
-        return Err(AllocError);
-    }
-    Ok(())
-}
-
-/// The path that a pointer means in a value (RFC 6901, 4). `PointerToNowhere` where it leads to none.
+/// The path that a pointer means in a value, where it leads to one (RFC 6901, 4).
 pub fn path_to<'p>(
     alloc: Global,
     root: Option<&Value>,
     pointer: &'p str,
-) -> Result<Vec<JsonPointerSegment<'p>>, Error> {
+) -> Result<Option<Vec<JsonPointerSegment<'p>>>, AllocError> {
     let mut path = Vec::new(alloc);
     let mut value = root;
     for (number, segment) in pointer.split('/').enumerate() {
         if number == 0 {
-            if !segment.is_empty() {
-                return Err(nowhere(alloc, pointer)?);
+            if segment.is_empty() {
+                continue;
             }
-            continue;
+            return Ok(None);
         }
         let Some(here) = value else {
-            return Err(nowhere(alloc, pointer)?);
+            return Ok(None);
         };
         let part = part_of(alloc, here, segment)?;
         value = child(here, &part);
         push(&mut path, part)?;
     }
     if value.is_none() {
-        return Err(nowhere(alloc, pointer)?);
+        return Ok(None);
     }
-    Ok(path)
-}
-
-fn nowhere(alloc: Global, pointer: &str) -> Result<Error, AllocError> {
-    Ok(Error::PointerToNowhere {
-        pointer: String::from_str(alloc, pointer)?,
-    })
+    Ok(Some(path))
 }
 
 // The step that a segment means in a value.

@@ -1,7 +1,7 @@
 //! What a reference leads to, as it is printed.
 use crate::follow::Found;
 use crate::given::Given;
-use crate::pointer::{path_to, position, unless_memory};
+use crate::pointer::{path_to, position};
 use crate::world::{World, without_fragment};
 use percent_encoding::{DecodeError, percent_decode_str};
 use ref_draft::Draft;
@@ -19,12 +19,11 @@ pub fn push_found(
     out: &mut String,
     given: &Given,
     world: &World<'_>,
-    found: Found<'_>,
+    found: &Found<'_>,
 ) -> Result<(), Stop> {
-    let (value, resolver, draft) = found.resolved.into_inner();
-    push_value(alloc, out, value)?;
+    push_value(alloc, out, found.value)?;
     push_place(alloc, out, given, world, found.uri.as_str())?;
-    push_scope(out, draft, &resolver)?;
+    push_scope(out, found.draft, &found.resolver)?;
     Ok(())
 }
 
@@ -134,11 +133,8 @@ fn place_in(
     let Some(document) = document else {
         return Ok(None);
     };
-    match path_to(alloc, document.value(), pointer) {
-        Ok(path) => Ok(Some(position(alloc, document.text.as_str(), path.as_slice())?)),
-        Err(error) => {
-            unless_memory(error)?;
-            Ok(None)
-        }
+    match path_to(alloc, document.value(), pointer)? {
+        Some(path) => Ok(Some(position(alloc, document.text.as_str(), path.as_slice())?)),
+        None => Ok(None),
     }
 }

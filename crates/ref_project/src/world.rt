@@ -3,13 +3,15 @@ use crate::given::Given;
 use ref_draft::Draft;
 use ref_error::{Error, Retrieve, RetrieveError};
 use ref_findings::{Finding, Problem};
-use ref_reading::Stop;
+use ref_index::Place;
+use ref_reading::{Stop, say};
 use ref_uri::Uri;
 use referencing::meta::uris_for_draft;
 use referencing::{Registry, RegistryBuilder};
 use serde_json::{Map, Value};
 use std::alloc::{AllocError, Global};
 use std::collections::BTreeMap;
+use std::rc::Rc;
 
 /// An empty document in place of each that isn't there.
 #[derive(Drop)]
@@ -68,7 +70,7 @@ fn stopped(rt: &HostRuntime, error: &Error) -> Stop {
     if error.is_memory() {
         return Stop::Memory;
     }
-    let _ = eprintln!(rt; "patchsard: {error}");
+    say(rt, error);
     Stop::Reported
 }
 
@@ -141,8 +143,13 @@ fn with_copy<'d>(
     let Some(uri) = given.uri(number) else {
         return Ok(builder);
     };
-    let value = given.sound_value(number, faulty).clone()?;
-    builder.add(uri.as_str(), value)
+    match given.sound_value(number, faulty).clone() {
+        Ok(value) => builder.add(uri.as_str(), value),
+        Err(error) => {
+            drop(builder);
+            Err(error.into())
+        }
+    }
 }
 
 // No documents.
@@ -216,7 +223,24 @@ pub fn without_fragment(uri: &str) -> &str {
 
 impl<'d> World<'d> {
     /// The places of all documents.
-    pub fn places(&self, alloc: Global) -> Result<Vec<ref_index::Place<'_>>, AllocError> {
+    pub fn places(&self, alloc: Global) -> Result<Vec<Place<'_>>, AllocError> {
         self.registry.places(alloc).ok().ok_or(AllocError)
+    }
+
+    /// The URI that a text means against the base of a place, where it means one.
+    pub fn resolved(
+        &self,
+        alloc: Global,
+        place: &Place<'_>,
+        text: &str,
+    ) -> Result<Option<Rc<Uri>>, AllocError> {
+        match self.registry.resolve_uri(alloc, place.base.borrow(), text) {
+            Ok(uri) => Ok(Some(uri)),
+            Err(error) => {
+                let is_memory = error.is_memory();
+                drop(error);
+                if is_memory { Err(AllocError) } else { Ok(None) }
+            }
+        }
     }
 }

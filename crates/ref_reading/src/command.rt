@@ -226,26 +226,22 @@ fn arg_of<'c>(alloc: Global, word: Word) -> Arg<'c> {
 }
 
 fn plain_arg<'c>(alloc: Global, row: Row<'c>) -> Arg<'c> {
-    let arg = Arg::new(alloc, row.name).help(row.help);
+    let arg = Arg::new(alloc, row.name)
+        .help(row.help)
+        .action(action_of(row.kind));
     match row.kind {
-        Kind::Place => arg
-            .value_name(row.value)
-            .required(true)
-            .action(ArgAction::Set),
-        Kind::Places => arg
-            .value_name(row.value)
-            .required(true)
-            .action(ArgAction::Append)
-            .num_args(1..),
-        Kind::Value => arg
-            .long(row.name)
-            .value_name(row.value)
-            .action(ArgAction::Set),
-        Kind::Values => arg
-            .long(row.name)
-            .value_name(row.value)
-            .action(ArgAction::Append),
-        Kind::Flag => arg.long(row.name).action(ArgAction::SetTrue),
+        Kind::Place => arg.value_name(row.value).required(true),
+        Kind::Places => arg.value_name(row.value).required(true).num_args(1..),
+        Kind::Value | Kind::Values => arg.value_name(row.value).long(row.name),
+        Kind::Flag => arg.long(row.name),
+    }
+}
+
+fn action_of(kind: Kind) -> ArgAction {
+    match kind {
+        Kind::Place | Kind::Value => ArgAction::Set,
+        Kind::Places | Kind::Values => ArgAction::Append,
+        Kind::Flag => ArgAction::SetTrue,
     }
 }
 

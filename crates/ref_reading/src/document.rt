@@ -2,7 +2,7 @@
 use crate::buffer::Buffer;
 use crate::files::File;
 use crate::options::Reading;
-use crate::stop::Stop;
+use crate::said::say_of;
 use json::{Reader, Scratch, Token};
 use ref_files::{file_uri, uri_below};
 use ref_positions::Position;
@@ -49,7 +49,7 @@ pub fn read_all(
     reading: &Reading<'_>,
     files: Vec<File>,
     has_failed: &mut bool,
-) -> Result<Vec<Document>, Stop> {
+) -> Result<Vec<Document>, AllocError> {
     let mut documents = Vec::new(rt.alloc());
     let mut buffer = Buffer::new(rt.alloc());
     for file in files {
@@ -72,28 +72,36 @@ fn read(
     reading: &Reading<'_>,
     buffer: &mut Buffer,
     file: File,
-) -> Result<Option<Document>, Stop> {
-    let alloc = rt.alloc();
+) -> Result<Option<Document>, AllocError> {
     let bytes = match buffer.read(rt, file.path.as_str()) {
         Ok(bytes) => bytes,
         Err(error) => {
-            let _ = eprintln!(rt; "patchsard: {}: {error}", file.shown);
+            say_of(rt, file.shown.as_str(), error);
             return Ok(None);
         }
     };
+    match uri_of(rt, reading, &file)? {
+        Some(uri) => Ok(Some(made(rt.alloc(), file.shown, uri, bytes)?)),
+        None => Ok(None),
+    }
+}
+
+// The URI that a file stands under. Of one whose path gives none standard error says so.
+fn uri_of(rt: &HostRuntime, reading: &Reading<'_>, file: &File) -> Result<Option<Uri>, AllocError> {
+    let alloc = rt.alloc();
     let text = match reading.base {
         Some(base) => uri_below(alloc, base, file.below.as_str())?,
         None => file_uri(alloc, file.path.as_str())?,
     };
-    let uri = match from_str(alloc, text.as_str()) {
-        Ok(uri) => uri,
-        Err(UriFault::Memory(error)) => return Err(error.into()),
-        Err(UriFault::Invalid(_)) => {
-            let _ = eprintln!(rt; "patchsard: {}: no URI can be made of its path", file.shown);
-            return Ok(None);
+    match from_str(alloc, text.as_str()) {
+        Ok(uri) => Ok(Some(uri)),
+        Err(UriFault::Memory(error)) => Err(error),
+        Err(UriFault::Invalid(error)) => {
+            drop(error);
+            say_of(rt, file.shown.as_str(), "no URI can be made of its path");
+            Ok(None)
         }
-    };
-    Ok(Some(made(alloc, file.shown, uri, bytes)?))
+    }
 }
 
 fn made(alloc: Global, shown: String, uri: Uri, bytes: &[u8]) -> Result<Document, AllocError> {
@@ -136,13 +144,19 @@ fn fault_at(alloc: Global, text: &str, offset: usize, why: &str) -> Result<Fault
 pub fn parsed(alloc: Global, text: &str) -> Result<Result<Value, Fault>, AllocError> {
     match Value::from_str(alloc, text) {
         Ok(value) => Ok(Ok(value)),
-        Err(error) if error.is_memory() => Err(AllocError),
-        Err(error) => Ok(Err(fault_of(alloc, text, &error)?)),
+        Err(error) => {
+            let fault = fault_of(alloc, text, &error);
+            drop(error);
+            Ok(Err(fault?))
+        }
     }
 }
 
-// The reader counts bytes on a line, where people count characters.
+// Why a text is no JSON, unless memory ran out. The reader counts bytes on a line, where people count characters.
 fn fault_of(alloc: Global, text: &str, error: &serde_json::Error) -> Result<Fault, AllocError> {
+    if error.is_memory() {
+        return Err(AllocError);
+    }
     let said = error.to_string(alloc)?;
     let why = if is_deep(alloc, text)? {
         "Not JSON: nested more than 127 levels deep"

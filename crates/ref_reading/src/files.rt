@@ -1,12 +1,14 @@
 //! The files that paths name, and those below folders.
+use crate::said::say_of;
 use clap::ArgMatches;
 use std::alloc::{AllocError, Global};
 use std::collections::BTreeMap;
+use std::fmt::Display;
 use std::fs::DirEntry;
 use std::{fs, io};
 
 /// A file that is to be read.
-#[derive(Debug, Drop, PartialEq, Eq, PartialOrd, Ord)]
+#[derive(Drop)]
 pub struct File {
     /// Its path as it is shown, which begins with what was given.
     pub shown: String,
@@ -100,13 +102,13 @@ impl<'r> Listing<'r> {
         for (_, file) in self.files {
             files.push(file)?;
         }
-        files.sort_unstable();
+        files.sort_unstable_by(|file, other| file.shown.cmp(&other.shown));
         Ok(files)
     }
 
-    fn fail<D: std::fmt::Display + Drop>(&mut self, path: &str, why: D) {
+    fn fail<D: Display + Drop>(&mut self, path: &str, why: D) {
         self.has_failed = true;
-        let _ = eprintln!(self.rt; "patchsard: {path}: {why}");
+        say_of(self.rt, path, why);
     }
 
     fn is_excluded(&self, path: &str) -> bool {
@@ -191,26 +193,35 @@ impl<'r> Listing<'r> {
                 return Ok(());
             }
         };
-        let is_json = name.ends_with(".json");
         if kind.is_dir() {
             if name.starts_with('.') {
                 return Ok(());
             }
-            let path = joined(alloc, folder.path.as_str(), name)?;
-            let below = joined(alloc, folder.below.as_str(), name)?;
+            let (path, below) = place_in(alloc, folder, name)?;
             return self.push_folder(shown, path, below);
         }
-        if is_json && kind.is_file() {
-            let path = joined(alloc, folder.path.as_str(), name)?;
-            let below = joined(alloc, folder.below.as_str(), name)?;
+        if !name.ends_with(".json") {
+            return Ok(());
+        }
+        if kind.is_file() {
+            let (path, below) = place_in(alloc, folder, name)?;
             return self.add_file(shown.as_str(), path, below);
         }
-        if is_json && kind.is_symlink() {
-            let _ = eprintln!(self.rt;
-                "patchsard: {shown}: a link, which is not followed; name it to read it"
-            );
-        } else if is_json {
+        if kind.is_symlink() {
+            let why = "a link, which is not followed; name it to read it";
+            say_of(self.rt, shown.as_str(), why);
+        } else {
             self.fail(shown.as_str(), "not a regular file");
+        }
+        Ok(())
+    }
+
+    // Adds the files that a word of the command line names, and those below the folders that it names.
+    fn add_given(&mut self, given: &ArgMatches<'_>, word: &str) -> Result<(), AllocError> {
+        if let Some(paths) = given.get_strs(word) {
+            for path in paths {
+                self.add(*path)?;
+            }
         }
         Ok(())
     }
@@ -223,12 +234,7 @@ pub fn list_given(listing: &mut Listing<'_>, given: &ArgMatches<'_>) -> Result<(
             listing.exclude(*path)?;
         }
     }
-    if let Some(paths) = given.get_strs("paths") {
-        for path in paths {
-            listing.add(*path)?;
-        }
-    }
-    Ok(())
+    listing.add_given(given, "paths")
 }
 
 /// The file that a command line names, and after it those of `--with` without a file that is to be written. Where it is
@@ -241,21 +247,28 @@ pub fn list_file(
 ) -> Result<Vec<File>, AllocError> {
     let mut own = Listing::new(rt);
     own.add_one(given.get_str("file").unwrap_or(""))?;
+    *has_failed |= own.has_failed;
+    let mut files = own.into_files()?;
+    for other in list_others(rt, given, output, has_failed)? {
+        put_other(&mut files, other)?;
+    }
+    Ok(files)
+}
+
+// The files of `--with` without one that is to be written.
+fn list_others(
+    rt: &HostRuntime,
+    given: &ArgMatches<'_>,
+    output: Option<&str>,
+    has_failed: &mut bool,
+) -> Result<Vec<File>, AllocError> {
     let mut others = Listing::new(rt);
     if let Some(path) = output {
         others.exclude(path)?;
     }
-    if let Some(paths) = given.get_strs("with") {
-        for path in paths {
-            others.add(*path)?;
-        }
-    }
-    *has_failed |= own.has_failed || others.has_failed;
-    let mut files = own.into_files()?;
-    for other in others.into_files()? {
-        put_other(&mut files, other)?;
-    }
-    Ok(files)
+    others.add_given(given, "with")?;
+    *has_failed |= others.has_failed;
+    others.into_files()
 }
 
 // Adds a file after the first, or takes its path below its folder where it is the first.
@@ -280,6 +293,13 @@ fn last_name(path: &str) -> &str {
         Some((_, name)) => name,
         None => path,
     }
+}
+
+// The path of a name in a folder, and its path below the folder that was given.
+fn place_in(alloc: Global, folder: &Folder, name: &str) -> Result<(String, String), AllocError> {
+    let path = joined(alloc, folder.path.as_str(), name)?;
+    let below = joined(alloc, folder.below.as_str(), name)?;
+    Ok((path, below))
 }
 
 // The path of a name in a folder; what stands in `.` is shown by its name.

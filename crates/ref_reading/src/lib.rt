@@ -8,8 +8,10 @@ pub mod document;
 pub mod files;
 pub mod maps;
 pub mod options;
+mod said;
 pub mod stop;
 
 pub use document::Document;
 pub use maps::Maps;
+pub use said::{say, say_of};
 pub use stop::Stop;

@@ -1,4 +1,5 @@
 //! Documents that are read from folders by their URIs.
+use crate::said::say_of;
 use ref_error::{Reason, Retrieve, RetrieveError};
 use ref_files::{below_prefix, names_of, path_below};
 use ref_uri::uri::from_str;
@@ -107,7 +108,7 @@ impl<'r> Maps<'r> {
             Ok(text) => Ok(Some(text)),
             Err(error) if error.kind() == io::ErrorKind::OutOfMemory => Err(AllocError),
             Err(error) => {
-                let _ = eprintln!(self.rt; "patchsard: {path}: {error}");
+                say_of(self.rt, path, error);
                 Ok(None)
             }
         }
@@ -120,10 +121,13 @@ impl<'r> Maps<'r> {
         };
         match Value::from_str(alloc, text.as_str()) {
             Ok(value) => Ok(Some(value)),
-            Err(error) if error.is_memory() => Err(AllocError),
             Err(error) => {
-                let _ = eprintln!(self.rt; "patchsard: {path}: {error}");
-                Ok(None)
+                let is_memory = error.is_memory();
+                if !is_memory {
+                    say_of(self.rt, path, &error);
+                }
+                drop(error);
+                if is_memory { Err(AllocError) } else { Ok(None) }
             }
         }
     }

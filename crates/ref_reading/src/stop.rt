@@ -1,9 +1,10 @@
 //! Why the program stops.
+use crate::said::say;
 use std::alloc::AllocError;
 use std::io;
 
 /// Why the program stops before its end.
-#[derive(Debug, Drop)]
+#[derive(Drop)]
 pub enum Stop {
     /// Memory ran out.
     Memory,
@@ -20,11 +21,11 @@ impl Stop {
     pub fn report(&self, rt: &HostRuntime) -> u8 {
         match self {
             Stop::Memory => {
-                let _ = eprintln!(rt; "patchsard: out of memory");
+                say(rt, "out of memory");
                 2
             }
             Stop::Write => {
-                let _ = eprintln!(rt; "patchsard: cannot write to standard output");
+                say(rt, "cannot write to standard output");
                 2
             }
             Stop::Closed => 0,

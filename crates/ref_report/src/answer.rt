@@ -45,22 +45,24 @@ fn answer_request(alloc: Global, request: Request<'_>) -> Result<Report, AllocEr
     requires { RequestHoldsNoFloat (request_view request) }
     ensures { IfOk result (λ r. IsRequestReport (request_view request.entry) (report_view r)) }
 {
-    let Request {
-        documents,
-        base,
-        steps,
-        remote,
-        meta,
-        draft,
-        limit,
-        lint,
-    } = request;
-    let parent = match parent_of(alloc, meta) {
+    let parent = match parent_of(alloc, request.meta) {
         Ok(parent) => parent,
         Err(error) => return fault_report(alloc, "meta", error),
     };
-    match world_of(alloc, &parent, documents, remote, draft, limit) {
-        Ok(registry) => world_report(alloc, &registry, base, steps.as_slice(), draft, lint),
+    let (draft, limit, lint) = (request.draft, request.limit, request.lint);
+    match world_of(
+        alloc,
+        &parent,
+        request.documents,
+        request.remote,
+        draft,
+        limit,
+    ) {
+        Ok(registry) => {
+            let base = request.base;
+            let steps = request.steps.as_slice();
+            world_report(alloc, &registry, base, steps, draft, lint)
+        }
         Err(error) => fault_report(alloc, "prepare", error),
     }
 }

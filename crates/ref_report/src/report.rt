@@ -17,7 +17,9 @@ use std::alloc::{AllocError, Global};
 /// The lines that a run writes, and how it ended.
 #[derive(Drop)]
 pub struct Report {
+    /// How the run ended.
     pub status: Status,
+    /// The lines.
     pub text: String,
 }
 

@@ -29,18 +29,26 @@ pub enum Step<'a> {
 /// is copied, since a retriever owns it.
 #[derive(Drop)]
 pub struct Request<'a> {
+    /// The documents that are added.
     pub documents: Vec<Document<'a>>,
+    /// The URI that the first step is looked up against.
     pub base: Uri,
+    /// The steps.
     pub steps: Vec<Step<'a>>,
+    /// What can be retrieved.
     pub remote: Option<Vec<(Uri, Value)>>,
+    /// The meta-schemas.
     pub meta: Option<Vec<Document<'a>>>,
+    /// The draft of documents that name none.
     pub draft: Option<Draft>,
+    /// How many documents may be retrieved.
     pub limit: Option<u64>,
+    /// Whether unresolvable references are listed.
     pub lint: Option<bool>,
 }
 
 /// What is wrong with a request, in the order in which it is tested.
-#[derive(Clone, Copy, Debug, Drop, PartialEq, Eq)]
+#[derive(Clone, Copy, Drop)]
 pub enum BadRequest {
     /// The bytes are no JSON.
     NotJson,
@@ -285,7 +293,10 @@ fn retrievable_of(alloc: Global, value: &Value) -> Result<Option<(Uri, Value)>, 
     match from_str(alloc, uri) {
         Ok(uri) => Ok(Some((uri, tree.clone()?))),
         Err(UriFault::Memory(refused)) => Err(refused),
-        Err(UriFault::Invalid(_)) => Ok(None),
+        Err(UriFault::Invalid(refused)) => {
+            drop(refused);
+            Ok(None)
+        }
     }
 }
 
@@ -299,7 +310,10 @@ fn base_of(alloc: Global, value: &Value) -> Result<Option<Uri>, AllocError>
     match from_str(alloc, text) {
         Ok(uri) => Ok(Some(uri)),
         Err(UriFault::Memory(refused)) => Err(refused),
-        Err(UriFault::Invalid(_)) => Ok(None),
+        Err(UriFault::Invalid(refused)) => {
+            drop(refused);
+            Ok(None)
+        }
     }
 }
 

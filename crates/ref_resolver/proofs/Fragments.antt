@@ -43,3 +43,10 @@ dynamic_moved w r v s n name world at called is =
 
 pub plain_there : (w : World) (r : Resolver) (n : Named) → n.kind ≡ Plain → named_found w r n n.kind ≡ Ok (record { value = n.place.value; draft = n.place.draft; resolver = r })
 plain_there w r n is = ap (named_found w r n) is
+
+-- the same by what a call has of its place
+pub plain_located : (w : World) (r : Resolver) (n : Named) (l : Located) → n.kind ≡ Plain → IsLocated l n.place → named_found w r n n.kind ≡ Ok (record { value = view l.value.now; draft = l.entry.now.draft; resolver = r })
+plain_located w r n l is at =
+    plain_there w r n is
+    ∙ ap (λ v. Ok (record { value = v; draft = n.place.draft; resolver = r })) (sym at.value)
+    ∙ ap (λ d. Ok (record { value = view l.value.now; draft = d; resolver = r })) (sym at.draft)

@@ -10,7 +10,9 @@ use Rattle.ref_definitions.specs.Resources.{last_under, resources, meant_place}
 use Rattle.ref_definitions.specs.Fault.{Fault}
 use Rattle.ref_definitions.specs.Anchors.{Named, last_named, names, named_entry, named_by_identifier, not_named, anchor}
 use Rattle.ref_resolver.specs.declared.located.Located.{Located}
-use Rattle.ref_resolver.specs.inner.Located.{IsLocated, IsLocatedIn, IsMeant, IsMeantIn}
+use Rattle.ref_resolver.specs.declared.located.LocatedName.{LocatedName}
+use Rattle.ref_resolver.specs.declared.located.NumberedName.{NumberedName}
+use Rattle.ref_resolver.specs.inner.Located.{IsLocated, IsLocatedIn, IsLocatedAt, IsMeant, IsMeantIn, IsMeantAt, IsNameAt, IsNamedIn, IsNamedAt}
 
 pub meant_of : (layer : Layer) (o : Option Located) (found : Option (List ℕ × Place)) (r : List ℕ × Place) → found ≡ Some r → MatchOption o ⊥ (λ l. IsLocatedIn layer l r.1)
     → MatchOption o (found ≡ None) (IsMeantIn layer (option_map (λ e. e.1) found))
@@ -19,7 +21,7 @@ meant_of layer (Some l) found r is at = (r.1, ap (option_map (λ e. e.1)) is, at
 
 -- ---- the layers of parents, which are counted from 1
 
-pub parent_layer : {A : Type 0} (own : Layer) (v : A → Layer) (xs : List A) (i : ℕ) (x : A) → i < length xs → x ≡ get_or xs i x → slice_get (own ∷ map v xs) (i + 1) ≡ Some (v x)
+parent_layer : {A : Type 0} (own : Layer) (v : A → Layer) (xs : List A) (i : ℕ) (x : A) → i < length xs → x ≡ get_or xs i x → slice_get (own ∷ map v xs) (i + 1) ≡ Some (v x)
 parent_layer own v xs i x within is =
     let next : i + 1 ≡ suc i = omega arith in
     ap (slice_get (own ∷ map v xs)) next ∙ slice_get-map v xs i ∙ ap (option_map v) (slice_get-get_or xs i x within ∙ ap (λ y. Some y) (sym is))
@@ -64,6 +66,34 @@ near_name At layer parents uri name = near_name_step At (last_named uri name (na
 
 pub far_name : (layer : Layer) (parents : World) (uri name : List ℕ) → last_named uri name (names layer) ≡ None → named_entry (layer ∷ parents) uri name ≡ named_entry parents uri name
 far_name layer parents uri name = far_name_step (last_named uri name (names layer)) (named_entry parents uri name)
+
+-- ---- the next of the parents
+
+module _ {A : Type 0} (v : A → Layer) (xs : List A) (i : ℕ) (x : A) (within : i < length xs) (is : x ≡ get_or xs i x) where
+  -- a URI that it has means the place there
+  pub meant_next : (own : Layer) (uri : List ℕ) (l : Located) → meant_place (map v xs) uri ≡ meant_place (map v (drop i xs)) uri → IsMeantIn (v x) (option_map (λ e. e.1) (last_under uri (resources (v x)))) l
+      → IsMeantAt (own ∷ map v xs) (meant_place (map v xs) uri) (record { layer = i + 1; place = l })
+  meant_next own uri l same (p, found, at) =
+      subst (λ o. IsMeantAt (own ∷ map v xs) o (record { layer = i + 1; place = l })) (sym (same ∙ parents_step (λ w. meant_place w uri) v xs i x within is))
+      (near (IsLocatedAt (own ∷ map v xs) (record { layer = i + 1; place = l })) (v x) (map v (drop (i + 1) xs)) uri (p, found, record { layer = v x; numbered = parent_layer own v xs i x within is; there = at }))
+
+  -- one that it hasn't means what it means behind
+  pub meant_beyond : (uri : List ℕ) → meant_place (map v xs) uri ≡ meant_place (map v (drop i xs)) uri → last_under uri (resources (v x)) ≡ None → meant_place (map v xs) uri ≡ meant_place (map v (drop (i + 1) xs)) uri
+  meant_beyond uri same none = same ∙ parents_step (λ w. meant_place w uri) v xs i x within is ∙ far (v x) (map v (drop (i + 1) xs)) uri none
+
+  -- a name that it has means the place there
+  pub named_next : (own : Layer) (uri name : List ℕ) (l : LocatedName) (numbered : NumberedName) → numbered ≡ record { named = l.named; place = record { layer = i + 1; place = l.place } }
+      → named_entry (map v xs) uri name ≡ named_entry (map v (drop i xs)) uri name → IsNamedIn (v x) (last_named uri name (names (v x))) l → IsNamedAt (own ∷ map v xs) (named_entry (map v xs) uri name) numbered
+  named_next own uri name l numbered made same (n, found, (kind, at)) =
+      let there : NumberedName = record { named = l.named; place = record { layer = i + 1; place = l.place } } in
+      subst (IsNamedAt (own ∷ map v xs) (named_entry (map v xs) uri name)) (sym made)
+      (subst (λ o. IsNamedAt (own ∷ map v xs) o there) (sym (same ∙ parents_step (λ w. named_entry w uri name) v xs i x within is))
+      (near_name (IsNameAt (own ∷ map v xs) there) (v x) (map v (drop (i + 1) xs)) uri name (n, found, (kind, record { layer = v x; numbered = parent_layer own v xs i x within is; there = at }))))
+
+  -- one that it hasn't means what it means behind
+  pub named_beyond : (uri name : List ℕ) → named_entry (map v xs) uri name ≡ named_entry (map v (drop i xs)) uri name → last_named uri name (names (v x)) ≡ None
+      → named_entry (map v xs) uri name ≡ named_entry (map v (drop (i + 1) xs)) uri name
+  named_beyond uri name same none = same ∙ parents_step (λ w. named_entry w uri name) v xs i x within is ∙ far_name (v x) (map v (drop (i + 1) xs)) uri name none
 
 -- ---- the entry of a name, or of a name under the base of the place there
 

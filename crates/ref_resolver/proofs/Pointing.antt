@@ -140,7 +140,7 @@ pub leads_same : (draft : Draft) (pointer base : List ℕ) (value : Data) (ts : 
     → leads_to draft pointer base value ts ≡ without_parts (passed_along draft pointer (record { base = base; reached = Schema }) value ts)
 leads_same draft pointer base value ts = same_walk draft pointer ts base [] Schema value (λ object rest. refl)
 
-no_answer : (answer : Result (Data × Along) Fault) (fault : Fault) → with_parts answer ≡ Err fault → answer ≡ Err fault
+pub no_answer : (answer : Result (Data × Along) Fault) (fault : Fault) → with_parts answer ≡ Err fault → answer ≡ Err fault
 no_answer (Ok at) fault is = absurd (cc)
 no_answer (Err other) fault is = (let same : other ≡ fault = cc in ap (λ f. Err f) same)
 

@@ -6,7 +6,7 @@ use Rattle.std.proofs.lemmas.List.Elements.{filter-append}
 use Rattle.ref_definitions.specs.World.{World}
 use Rattle.ref_definitions.specs.Fault.{Fault}
 use Rattle.ref_definitions.specs.Anchors.{Named, anchor}
-use Rattle.ref_definitions.specs.Lookup.{Resolver, Found, fault_of, entry_of, is_dynamic, unless_fault, entry_found, outermost, in_scope}
+use Rattle.ref_definitions.specs.Lookup.{Resolver, Found, fault_of, entry_of, is_dynamic, unless_fault, entry_found, outermost, by_scope, in_scope}
 use Rattle.serde_json.specs.View.{view}
 use Rattle.ref_resolver.specs.declared.located.Located.{Located}
 use Rattle.ref_resolver.specs.inner.Located.{IsLocated}
@@ -80,18 +80,26 @@ module _ (w : World) (r : Resolver) (name : List ℕ) (e : List ℕ × Named) (u
   pub turn_ended : (fault : Fault) → dynamic_under w uri name ≡ Err fault → from_here r e (in_scope w name left) ≡ Err fault
   turn_ended fault is = ap (λ xs. from_here r e (in_scope w name xs)) steps ∙ ended r e means (in_scope w name more) fault is
 
-  pub turn_passed : dynamic_under w uri name ≡ Ok [] → from_here r e (in_scope w name left) ≡ from_here r e (in_scope w name more)
+  turn_passed : dynamic_under w uri name ≡ Ok [] → from_here r e (in_scope w name left) ≡ from_here r e (in_scope w name more)
   turn_passed is = ap (λ xs. from_here r e (in_scope w name xs)) steps ∙ passed r e means (in_scope w name more) is
 
-  pub turn_taken : (n : Named) → dynamic_under w uri name ≡ Ok ((uri, n) ∷ []) → from_here r e (in_scope w name left) ≡ from_here r (uri, n) (in_scope w name more)
+  turn_taken : (n : Named) → dynamic_under w uri name ≡ Ok ((uri, n) ∷ []) → from_here r e (in_scope w name left) ≡ from_here r (uri, n) (in_scope w name more)
   turn_taken n is = ap (λ xs. from_here r e (in_scope w name xs)) steps ∙ taken r e (uri, n) means (in_scope w name more) is
 
   -- the last entry alone
-  pub last_turn_passed : dynamic_under w uri name ≡ Ok [] → outermost e (flat_map entry_of (in_scope w name left)) ≡ outermost e (flat_map entry_of (in_scope w name more))
+  last_turn_passed : dynamic_under w uri name ≡ Ok [] → outermost e (flat_map entry_of (in_scope w name left)) ≡ outermost e (flat_map entry_of (in_scope w name more))
   last_turn_passed is = ap (λ xs. outermost e (flat_map entry_of (in_scope w name xs))) steps ∙ last_passed e means (in_scope w name more) is
 
-  pub last_turn_taken : (n : Named) → dynamic_under w uri name ≡ Ok ((uri, n) ∷ []) → outermost e (flat_map entry_of (in_scope w name left)) ≡ outermost (uri, n) (flat_map entry_of (in_scope w name more))
+  last_turn_taken : (n : Named) → dynamic_under w uri name ≡ Ok ((uri, n) ∷ []) → outermost e (flat_map entry_of (in_scope w name left)) ≡ outermost (uri, n) (flat_map entry_of (in_scope w name more))
   last_turn_taken n is = ap (λ xs. outermost e (flat_map entry_of (in_scope w name xs))) steps ∙ last_taken e (uri, n) means (in_scope w name more) is
+
+-- a place is that of the entry that was found last, which stands for the first one where these URIs are to come
+abbrev pub StandsFor : World → Resolver → List ℕ → Named → List ℕ → List (List ℕ) → Located → Type 0
+StandsFor w r name n uri left l =
+    (m : Named) × (by_scope r n (in_scope w name r.scope) ≡ from_here r (uri, m) (in_scope w name left))
+    × IsLocated l m.place
+    × (anchor w r.base name ≡ Ok n → anchor w uri name ≡ Ok m)
+    × (outermost (r.base, n) (flat_map entry_of (in_scope w name r.scope)) ≡ outermost (uri, m) (flat_map entry_of (in_scope w name left)))
 
 -- the entry's place, as the code has it
 pub found_under : (r : Resolver) (uri : List ℕ) (n : Named) (l : Located) → IsLocated l n.place → entry_found r (uri, n) ≡ under_uri r uri l.entry.now.draft (view l.value.now)
@@ -101,7 +109,7 @@ no_list : {A : Type 0} (x : A) (xs : List A) → [] ≡ x ∷ xs → ⊥
 no_list x xs is = cc
 
 -- a dynamic entry is what the name means
-pub dynamic_means : (uri : List ℕ) (meaning : Result Named Fault) (n : Named) → dynamic_of (uri, meaning) ≡ Ok ((uri, n) ∷ []) → meaning ≡ Ok n
+dynamic_means : (uri : List ℕ) (meaning : Result Named Fault) (n : Named) → dynamic_of (uri, meaning) ≡ Ok ((uri, n) ∷ []) → meaning ≡ Ok n
 dynamic_means uri meaning n is = by_answer meaning n is
   where
     first : Named → List (List ℕ × Named) → Named
@@ -115,3 +123,15 @@ dynamic_means uri meaning n is = by_answer meaning n is
     by_answer : (meaning : Result Named Fault) (n : Named) → dynamic_of (uri, meaning) ≡ Ok ((uri, n) ∷ []) → meaning ≡ Ok n
     by_answer (Ok m) n is = ap (λ k. Ok k) (by_kind (is_dynamic m.kind) m n (no_fault [] (filter dynamic ((uri, m) ∷ [])) ((uri, n) ∷ []) is).1)
     by_answer (Err fault) n is = absurd (no_list (uri, n) [] (no_fault (fault_of (uri, Err fault)) [] ((uri, n) ∷ []) is).1)
+
+-- a URI without a dynamic entry keeps the place
+pub place_stays : (w : World) (r : Resolver) (name : List ℕ) (n : Named) (uri outer : List ℕ) (left more : List (List ℕ)) (l : Located) → left ≡ outer ∷ more → dynamic_under w outer name ≡ Ok [] → StandsFor w r name n uri left l
+    → StandsFor w r name n uri more l
+place_stays w r name n uri outer left more l steps none (m, same, at, meant, last) =
+    (m, same ∙ turn_passed w r name (uri, m) outer left more steps none, at, meant, last ∙ last_turn_passed w r name (uri, m) outer left more steps none)
+
+-- one with a dynamic entry has the place of that entry
+pub place_taken : (w : World) (r : Resolver) (name : List ℕ) (n : Named) (uri outer : List ℕ) (left more : List (List ℕ)) (l found : Located) → left ≡ outer ∷ more
+    → (d : Named) × (dynamic_under w outer name ≡ Ok ((outer, d) ∷ [])) × IsLocated found d.place → StandsFor w r name n uri left l → StandsFor w r name n outer more found
+place_taken w r name n uri outer left more l found steps (d, dynamic, there) (m, same, at, meant, last) =
+    (d, same ∙ turn_taken w r name (uri, m) outer left more steps d dynamic, there, λ first. dynamic_means outer (anchor w outer name) d dynamic, last ∙ last_turn_taken w r name (uri, m) outer left more steps d dynamic)

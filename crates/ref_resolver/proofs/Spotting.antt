@@ -1,5 +1,5 @@
 -- Where places stand, layer by layer, and what a reference points at there.
-use Rattle.std.proofs.Common.{◌≡◌, ℕ, suc, Bool, true, false, eqb, List, [], ◌∷◌, ◌++◌, flat_map, Option, Some, None, option_map, IfSome, Bor, Ok, refl, sym, ap, ◌∙◌, append_assoc}
+use Rattle.std.proofs.Common.{◌≡◌, ℕ, suc, ◌+◌, ◌<◌, arith, Bool, true, false, eqb, List, [], ◌∷◌, ◌++◌, length, get_or, drop, map, flat_map, Option, Some, None, option_map, IfSome, Bor, Ok, refl, sym, ap, ◌∙◌, append_assoc}
 use Rattle.std.specs.Prelude.{not, option_and_then}
 use Rattle.std.specs.Option.{option_or, option_map_or}
 use Rattle.std.specs.Result.{result_ok}
@@ -29,6 +29,7 @@ use Rattle.ref_resolver.specs.Locations.{uri_spot_from, uri_spot, name_spot_from
 use Rattle.ref_resolver.specs.inner.Names.{is_name}
 use Rattle.ref_resolver.specs.inner.Walking.{Passed, stepped_into, based, stepped_along}
 use Rattle.ref_resolver.proofs.Fragments.{no_name}
+use Rattle.ref_resolver.proofs.Locating.{parents_step}
 
 -- ---- what was looked up
 
@@ -73,6 +74,33 @@ near_name_spot number layer world uri name s is = ap (λ o. option_or (option_ma
 
 pub far_name_spot : (number : ℕ) (layer : Layer) (world : World) (uri name : List ℕ) → last_named uri name (names layer) ≡ None → name_spot_from number (layer ∷ world) uri name ≡ name_spot_from (suc number) world uri name
 far_name_spot number layer world uri name none = ap (λ o. option_or (option_map (λ (x : Spot). (number, x)) o) (name_spot_from (suc number) world uri name)) (no_named_spot uri name layer none)
+
+-- ---- the next of the parents
+
+module _ {A : Type 0} (v : A → Layer) (xs : List A) (i : ℕ) (x : A) (within : i < length xs) (is : x ≡ get_or xs i x) where
+  -- a URI that it has stands there
+  pub spot_next : (uri : List ℕ) (s : Spot) → uri_spot_from 1 (map v xs) uri ≡ uri_spot_from (i + 1) (map v (drop i xs)) uri → spot_under uri (v x) ≡ Some s → uri_spot_from 1 (map v xs) uri ≡ Some (i + 1, s)
+  spot_next uri s same at = same ∙ parents_step (λ w. uri_spot_from (i + 1) w uri) v xs i x within is ∙ near_spot (i + 1) (v x) (map v (drop (i + 1) xs)) uri s at
+
+  -- one that it hasn't stands where it stands behind
+  pub spot_beyond : (uri : List ℕ) → uri_spot_from 1 (map v xs) uri ≡ uri_spot_from (i + 1) (map v (drop i xs)) uri → last_under uri (resources (v x)) ≡ None
+      → uri_spot_from 1 (map v xs) uri ≡ uri_spot_from ((i + 1) + 1) (map v (drop (i + 1) xs)) uri
+  spot_beyond uri same none =
+      let next : suc (i + 1) ≡ (i + 1) + 1 = omega arith in
+      same ∙ parents_step (λ w. uri_spot_from (i + 1) w uri) v xs i x within is ∙ far_spot (i + 1) (v x) (map v (drop (i + 1) xs)) uri none ∙ ap (λ n. uri_spot_from n (map v (drop (i + 1) xs)) uri) next
+
+  -- a name that it has stands there
+  pub name_spot_next : (uri name : List ℕ) (s : Spot) → name_spot_from 1 (map v xs) uri name ≡ name_spot_from (i + 1) (map v (drop i xs)) uri name → spot_named uri name (v x) ≡ Some s
+      → name_spot_from 1 (map v xs) uri name ≡ Some (i + 1, s)
+  name_spot_next uri name s same at = same ∙ parents_step (λ w. name_spot_from (i + 1) w uri name) v xs i x within is ∙ near_name_spot (i + 1) (v x) (map v (drop (i + 1) xs)) uri name s at
+
+  -- one that it hasn't stands where it stands behind
+  pub name_spot_beyond : (uri name : List ℕ) → name_spot_from 1 (map v xs) uri name ≡ name_spot_from (i + 1) (map v (drop i xs)) uri name → last_named uri name (names (v x)) ≡ None
+      → name_spot_from 1 (map v xs) uri name ≡ name_spot_from ((i + 1) + 1) (map v (drop (i + 1) xs)) uri name
+  name_spot_beyond uri name same none =
+      let next : suc (i + 1) ≡ (i + 1) + 1 = omega arith in
+      same ∙ parents_step (λ w. name_spot_from (i + 1) w uri name) v xs i x within is ∙ far_name_spot (i + 1) (v x) (map v (drop (i + 1) xs)) uri name none
+      ∙ ap (λ n. name_spot_from n (map v (drop (i + 1) xs)) uri name) next
 
 -- ---- what an anchor means
 

@@ -1,6 +1,6 @@
 -- Where the value is that a look-up returns: in the document with which number, of the layer with which number, and at which
 -- path there.
-use Rattle.std.specs.Prelude.{◌≡◌, ℕ, suc, ◌==◌, List, [], ◌∷◌, ◌++◌, map, flat_map, codes, slice_get, Option, Some, None, option_map, option_and_then, Result, Ok, Err, if◌then◌else◌}
+use Rattle.std.specs.Prelude.{◌≡◌, ℕ, suc, ◌==◌, List, [], ◌∷◌, ◌++◌, map, flat_map, codes, slice_get, Option, Some, None, option_map, option_and_then, Result, Ok, Err, OnOk, if◌then◌else◌}
 use Rattle.std.specs.List.{take_while, last_or}
 use Rattle.std.specs.Option.{option_or, option_map_or, unwrap_or}
 use Rattle.std.specs.Result.{result_ok}
@@ -128,3 +128,10 @@ GivesWhere w answer (Err error) = IsFaultOf answer error
 abbrev pub EndsAt : {A : Type 0} → Data → List JsonPointerSegment → Result (Data × A) Fault → Type 0
 EndsAt {A = A} start path answer =
     (at : Data × A) × (answer ≡ Ok at) × (value_at start (map part_of path) ≡ Some at.0)
+
+-- a path from a start to a value is made longer, up to the value that a walk ends at; for private clauses
+abbrev pub LeadsOn : {A B E : Type 0} → List JsonPointerSegment → List JsonPointerSegment → Data
+    → Result (Data × A) Fault → Result B E → Type 0
+LeadsOn before after value answer result =
+    (start : Data) → value_at start (map part_of before) ≡ Some value
+    → OnOk result (EndsAt start after answer)

@@ -70,8 +70,8 @@ impl<'r> Resolver<'r> {
         if contents.get("$schema").is_some() {
             return self.layers.find_vocabularies(alloc, draft, contents);
         }
-        match self.layers.value_under(self.base.as_str()) {
-            Some(value) => self.layers.find_vocabularies(alloc, draft, value),
+        match self.at_base() {
+            Some((value, _)) => self.layers.find_vocabularies(alloc, draft, value),
             None => self.layers.find_vocabularies(alloc, draft, contents),
         }
     }

@@ -19,9 +19,8 @@ ghost use Rattle.ref_resolver.specs.inner.Scoped.{dynamic_under, IsDynamicUnder,
 
 use crate::layers::Layers;
 use crate::located::{Located, LocatedName};
-use crate::pointed::{Along, Walk, follow_pointer};
 use crate::resolver::{Resolved, Resolver};
-use ref_draft::{Draft, Reached, ResourceRef};
+use ref_draft::{Draft, ResourceRef};
 use ref_error::{Error, Reason, RetrieveError};
 use ref_index::reference::shared;
 use ref_uri::Uri;
@@ -135,7 +134,11 @@ pub(crate) fn under_uri<'r>(
         Some(id) => resolver.layers.resolve_uri(alloc, uri.borrow(), id)?,
         None => handle(alloc, uri, &place.entry.base)?,
     };
-    Ok(at_value(place.value, draft, resolver.with_base(base)?))
+    Ok(Resolved {
+        contents: place.value,
+        resolver: resolver.with_base(base, None)?,
+        draft,
+    })
 }
 
 // The place of the outermost dynamic anchor of a name in the dynamic scope, or else the place that was found first (2020-12
@@ -165,80 +168,6 @@ pub(crate) fn outermost<'s, 'r>(
         }
     }
     Ok((uri, place))
-}
-
-// What a plain anchor's name leads to: its place.
-#[inline(always)]
-pub(crate) fn plain_found<'r>(resolver: Resolver<'r>, place: Located<'r>) -> Resolved<'r>
-    ensures found { (world : World) (n : Named) → n.kind ≡ Plain → IsLocated place.entry n.place
-        → named_found world (resolver_of resolver.entry) n n.kind ≡ Ok (found_of result) }
-    ensures world { world_found result ≡ world_of resolver.entry }
-{
-    at_value(place.value, place.entry.draft, resolver)
-}
-
-// A value of a resource that a resolver is at.
-#[inline(always)]
-pub(crate) fn at_value<'r>(
-    contents: &'r Value,
-    draft: Draft,
-    resolver: Resolver<'r>,
-) -> Resolved<'r>
-    ensures found { found_of result
-        ≡ record {
-          value = view contents.now;
-          draft = draft;
-          resolver = resolver_of resolver.entry;
-        } }
-    ensures world { world_found result ≡ world_of resolver.entry }
-{
-    Resolved {
-        contents,
-        resolver,
-        draft,
-    }
-}
-
-// What a pointer leads to in the resource at a place, where `text` is the fragment after its first `/`. Its many values
-// stay out of the look-up of whole resources.
-#[inline(never)]
-pub(crate) fn at_pointer<'r>(
-    alloc: Global,
-    resolver: Resolver<'r>,
-    place: Located<'r>,
-    pointer: &str,
-    text: &str,
-) -> Result<Resolved<'r>, Error>
-    ensures gives { Gives found_of
-        (at_pointer (resolver_of resolver.entry) place.entry.entry.now.draft pointer.now
-        (view place.entry.value.now) text.now)
-        result }
-    ensures world { IfOk result (λ found. world_found found ≡ world_of resolver.entry) }
-{
-    let draft = place.entry.draft;
-    let Resolver {
-        layers,
-        base,
-        scope,
-    } = resolver;
-    let walk = Walk {
-        layers,
-        draft,
-        pointer,
-    };
-    let mut along = Along {
-        value: place.value,
-        base,
-        reached: Reached::Schema,
-    };
-    follow_pointer(alloc, &walk, &mut along, text)?;
-    let Along { value, base, .. } = along;
-    let resolver = Resolver {
-        layers,
-        base,
-        scope,
-    };
-    Ok(at_value(value, draft, resolver))
 }
 
 // Whether a fragment is a name.

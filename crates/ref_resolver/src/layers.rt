@@ -148,7 +148,8 @@ impl<'r> Layers<'r> {
     }
 
     /// The URI that a text means against a base, as `resolve_uri` gives it, and the place that it means, where the
-    /// index of the own documents has that beside the URI, or finds it under the text.
+    /// index of the own documents finds that under the text, or has it beside the URI. One or two look-ups for the own
+    /// documents, and one for each parent.
     #[inline(always)]
     pub(crate) fn resolve_place(
         &self,
@@ -166,7 +167,14 @@ impl<'r> Layers<'r> {
                 return Ok(found);
             }
         }
-        self.resolve_known(alloc, base, uri)
+        if let Some(found) = self.own.resolved(base.as_str(), uri) {
+            let place = place_of(self.own, found.entry);
+            return Ok((found.uri.clone()?, place));
+        }
+        if let Some(uri) = resolved_above(self.parents, base.as_str(), uri) {
+            return Ok((uri.clone()?, None));
+        }
+        Ok((anew(alloc, base, uri)?, None))
     }
 
     // What a text means that identifies a place of the own documents, in normal form: then it means itself, and needs no
@@ -191,29 +199,6 @@ impl<'r> Layers<'r> {
         };
         let place = place_of(self.own, Some(entry));
         Ok(Some((entry.base.clone()?, place)))
-    }
-
-    // The same, by what was resolved when the documents were prepared.
-    #[inline(always)]
-    fn resolve_known(
-        &self,
-        alloc: Global,
-        base: UriRef<'_>,
-        uri: &str,
-    ) -> Result<(Rc<Uri>, Option<Located<'r>>), Error>
-        ensures gives { Gives (λ t. t.0.value) (as_invalid_uri (uri_against base.entry uri.now))
-            result }
-        ensures place { IfOk result
-            (λ t. IfSome t.1 (IsMeant (meant_place (world_in self.now) t.0.value))) }
-    {
-        if let Some(found) = self.own.resolved(base.as_str(), uri) {
-            let place = place_of(self.own, found.entry);
-            return Ok((found.uri.clone()?, place));
-        }
-        if let Some(uri) = resolved_above(self.parents, base.as_str(), uri) {
-            return Ok((uri.clone()?, None));
-        }
-        Ok((anew(alloc, base, uri)?, None))
     }
 }
 

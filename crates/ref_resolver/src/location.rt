@@ -20,10 +20,10 @@ ghost use Rattle.ref_error.specs.Errors.{IsFaultOf, Gives};
 ghost use Rattle.ref_index.specs.Spots.{spot_of};
 ghost use Rattle.ref_resolver.specs.Layered.{world_in};
 ghost use Rattle.ref_resolver.specs.inner.Located.{IsLocated, IsLocatedAt, IsNamedAt};
-ghost use Rattle.ref_resolver.specs.Locations.{StandsAt, IsWhere, GivesWhere, EndsAt, anchor_spot, naming_uri, parts_along, with_parts, located, recursive_reference, location_view};
+ghost use Rattle.ref_resolver.specs.Locations.{StandsAt, IsWhere, GivesWhere, LeadsOn, anchor_spot, naming_uri, parts_along, with_parts, located, recursive_reference, location_view};
 ghost use Rattle.ref_resolver.specs.inner.Names.{is_name};
 ghost use Rattle.ref_resolver.specs.Resolving.{resolver_of, world_of, at_pointer};
-ghost use Rattle.ref_resolver.specs.inner.Walking.{along_of, passed_along, stepped_along};
+ghost use Rattle.ref_resolver.specs.inner.Walking.{passed_along, Steps};
 
 use crate::fragment::{identified_base, is_name, not_named, not_retrieved, outermost, under_uri};
 use crate::layers::Layers;
@@ -161,10 +161,7 @@ fn step_on<'v>(
     path: &mut Vec<JsonPointerSegment<'_>>,
     token: &str,
 ) -> Result<(), Error>
-    ensures gives { Gives (λ _. (view along.new.value.now, along_of along.new))
-        (stepped_along walk.now.draft walk.now.pointer.now (along_of along.old)
-        (view along.old.value.now) token.now)
-        result }
+    ensures gives { Steps walk.now along.old token.now along.new result }
     ensures path { (start : Data)
         → value_at start (map part_of path.old.items) ≡ Some (view along.old.value.now)
         → OnOk result (value_at start (map part_of path.new.items) ≡ Some (view along.new.value.now)) }
@@ -188,13 +185,10 @@ fn walk_on(
     path: &mut Vec<JsonPointerSegment<'_>>,
     text: &str,
 ) -> Result<(), Error>
-    ensures ok { (start : Data)
-        → value_at start (map part_of path.old.items) ≡ Some (view value.now)
-        → OnOk result
-        (EndsAt start path.new.items
+    ensures ok { LeadsOn path.old.items path.new.items (view value.now)
         (passed_along walk.entry.draft walk.entry.pointer.now
-        (record { base = base.value; reached = Schema }) (view value.now)
-        (tokens text.now))) }
+        (record { base = base.value; reached = Schema }) (view value.now) (tokens text.now))
+        result }
     ensures parts { OnOk result
         (map part_of path.new.items
         ≡ map part_of path.old.items
@@ -226,12 +220,10 @@ fn follow_on(
     path: &mut Vec<JsonPointerSegment<'_>>,
     text: &str,
 ) -> Result<(), Error>
-    ensures ok { (start : Data)
-        → value_at start (map part_of path.old.items) ≡ Some (view value.now)
-        → OnOk result
-        (EndsAt start path.new.items
+    ensures ok { LeadsOn path.old.items path.new.items (view value.now)
         (pointed_value walk.entry.draft walk.entry.pointer.now base.value
-        (view value.now) text.now)) }
+        (view value.now) text.now)
+        result }
     ensures parts { OnOk result
         (map part_of path.new.items
         ≡ map part_of path.old.items

@@ -1,14 +1,12 @@
 //! The walk along the pointer of a reference's fragment (RFC 6901), with the base URI along it.
-ghost use Rattle.std.specs.Prelude.{◌≡◌, ◌≢◌, ◌==◌, ◌∷◌, ◌++◌, All, position, IfOk, OnOk, MatchOption, option_map, ok_or, None, if◌then◌else◌};
+ghost use Rattle.std.specs.Prelude.{◌≡◌, ◌≢◌, ◌==◌, ◌||◌, ◌∷◌, ◌++◌, ◌<◌, true, length, take, slice_index, All, position, OnOk, MatchOption, option_map, ok_or, Some, None, Ok, if◌then◌else◌};
 ghost use Rattle.serde_json.specs.View.{view};
-ghost use Rattle.std.specs.Cow.{cow_str_bytes};
 ghost use Rattle.ref_parts.specs.Pointer.{slash, tilde, tokens, unescape};
 ghost use Rattle.ref_draft.specs.Schema.{identifier};
-ghost use Rattle.ref_draft.specs.declared.reached.Reached.TheVariants.{Schema};
 ghost use Rattle.ref_definitions.specs.Pointers as world;
 ghost use Rattle.ref_definitions.specs.Fault.{PointerToNowhere, InvalidArrayIndex, InvalidPercentEncoding};
 ghost use Rattle.ref_error.specs.Errors.{Gives, SaysOrMemory};
-ghost use Rattle.ref_resolver.specs.inner.Walking.{along_of, accepted_id, stepped_into, stepped_along, passed_along, pointed_to};
+ghost use Rattle.ref_resolver.specs.inner.Walking.{along_of, accepted_id, changed_base, stepped_into, stepped_along, passed_along, Steps, Follows};
 
 use crate::layers::Layers;
 use percent_encoding::{DecodeError, percent_decode};
@@ -18,7 +16,6 @@ use ref_parts::escape::unescape_segment;
 use ref_uri::Uri;
 use serde_json::Value;
 use std::alloc::{AllocError, Global};
-use std::borrow::CowStr;
 use std::rc::Rc;
 
 /// A value on the way of a pointer, with the base there and what the parts since it last changed lead to.
@@ -95,25 +92,6 @@ fn index_in(alloc: Global, pointer: &str, token: &str) -> Result<usize, Error>
     }
 }
 
-// Where the first `~` of a token stands. A search by bytes, as that for a `/`.
-#[inline(always)]
-fn tilde_in(token: &str) -> Option<usize>
-    ensures { result ≡ position (λ b. b == tilde) token.now }
-{
-    token.as_bytes().iter().position(|byte| *byte == b'~')
-}
-
-// A token as a key. One without `~` is borrowed at once.
-#[inline(always)]
-fn key_of<'t>(alloc: Global, token: &'t str) -> Result<CowStr<'t>, AllocError>
-    ensures { IfOk result (λ key. cow_str_bytes key ≡ unescape token.now) }
-{
-    match tilde_in(token) {
-        Some(_) => unescape_segment(alloc, token),
-        None => Ok(CowStr::Borrowed(token)),
-    }
-}
-
 // Goes to the value that a token leads to, with the part that it is. The base stays.
 #[inline(always)]
 fn step_into<'r>(
@@ -134,7 +112,7 @@ fn step_into<'r>(
         along.reached = along.reached.index();
         return Ok(());
     }
-    let key = key_of(alloc, token)?;
+    let key = unescape_segment(alloc, token)?;
     along.value = found(alloc, walk.pointer, along.value.get(key.as_str()))?;
     along.reached = along.reached.key(walk.draft, key.as_str());
     Ok(())
@@ -153,6 +131,19 @@ fn accepted_id<'v>(draft: Draft, reached: Reached, value: &'v Value) -> Option<&
     }
 }
 
+// Makes a URI the base: where it is another, what the parts lead to is forgotten.
+#[inline(always)]
+fn change_base(along: &mut Along<'_>, uri: Rc<Uri>)
+    ensures value { along.new.value ≡ along.old.value }
+    ensures base { along_of along.new
+        ≡ changed_base along.old.base.value along.old.reached uri.value }
+{
+    if uri.as_str() != along.base.as_str() {
+        along.reached = Reached::Schema;
+    }
+    along.base = uri;
+}
+
 // One token further: an identifier of the value there, where the parts since the last change are accepted at it, is a base
 // against the one before.
 pub(crate) fn step<'r>(
@@ -161,20 +152,14 @@ pub(crate) fn step<'r>(
     along: &mut Along<'r>,
     token: &str,
 ) -> Result<(), Error>
-    ensures gives { Gives (λ _. (view along.new.value.now, along_of along.new))
-        (stepped_along walk.now.draft walk.now.pointer.now (along_of along.old)
-        (view along.old.value.now) token.now)
-        result }
+    ensures gives { Steps walk.now along.old token.now along.new result }
 {
     step_into(alloc, walk, along, token)?;
     let Some(id) = accepted_id(walk.draft, along.reached, along.value) else {
         return Ok(());
     };
     let uri = walk.layers.resolve_uri(alloc, along.base.borrow(), id)?;
-    if uri.as_str() != along.base.as_str() {
-        along.reached = Reached::Schema;
-    }
-    along.base = uri;
+    change_base(along, uri);
     Ok(())
 }
 
@@ -186,15 +171,25 @@ fn slash_in(text: &str) -> Option<usize>
     text.as_bytes().iter().position(|byte| *byte == b'/')
 }
 
+// What is before a `/` of a text, and what follows it.
+#[inline(always)]
+fn cut_at(text: &str, place: usize) -> (&str, &str)
+    requires within { place < length text.now }
+    requires slash { slice_index text.now place ≡ slash }
+    ensures cut { text.now ≡ result.0.now ++ (slash ∷ result.1.now) }
+    ensures token { result.0.now ≡ take place text.now }
+{
+    let (token, _) = text.split_at(place);
+    (token, &text[place + 1..])
+}
+
 // What is before the first `/` of a text, and what follows that.
 #[inline(always)]
 pub(crate) fn cut_at_slash(text: &str) -> Option<(&str, &str)>
     ensures { MatchOption result (All (λ b. b ≢ slash) text.now)
         (λ cut. (text.now ≡ cut.0.now ++ (slash ∷ cut.1.now)) × All (λ b. b ≢ slash) cut.0.now) }
 {
-    let place = slash_in(text)?;
-    let (token, _) = text.split_at(place);
-    Some((token, &text[place + 1..]))
+    Some(cut_at(text, slash_in(text)?))
 }
 
 // Token by token.
@@ -229,8 +224,8 @@ pub(crate) fn no_utf8(alloc: Global, pointer: &str) -> Error
     }
 }
 
-// Follows a pointer, as `follow_pointer` says it, where its text is decoded first. Few texts are, so what decoding takes
-// stays out of the others.
+// Follows a pointer, as `follow_pointer` says it: its text is decoded first, and each token unescaped. Few texts are, so
+// what that takes stays out of the others, with all that faults take.
 #[inline(never)]
 fn follow_decoded<'r>(
     alloc: Global,
@@ -238,12 +233,9 @@ fn follow_decoded<'r>(
     along: &mut Along<'r>,
     text: &str,
 ) -> Result<(), Error>
-    ensures gives { along.old.reached ≡ Schema
-        → Gives (λ _. (view along.new.value.now, along.new.base.value))
-        (pointed_to walk.now.draft walk.now.pointer.now along.old.base.value
-        (view along.old.value.now) text.now)
-        result }
+    ensures gives { Follows walk.now along.old text.now along.new result }
 {
+    along.reached = Reached::Schema;
     match percent_decode(text.as_bytes()).decode_utf8(alloc) {
         Ok(decoded) => walk_along(alloc, walk, along, decoded.as_str()),
         Err(DecodeError::OutOfMemory) => Err(Error::Memory(AllocError)),
@@ -251,12 +243,93 @@ fn follow_decoded<'r>(
     }
 }
 
-// Where the first `%` of a text stands. A search by bytes, as that for a `/`.
+// Goes to the value under a token that is a key as it stands, with the part that it is. The base stays. False where there
+// is none.
 #[inline(always)]
-fn percent_in(text: &str) -> Option<usize>
-    ensures { result ≡ position (λ b. b == 37) text.now }
+fn step_under<'r>(walk: &Walk<'_, '_>, along: &mut Along<'r>, token: &str) -> bool
+    requires key { token.now ≡ unescape token.now }
+    ensures value { result ≡ true
+        → stepped_into walk.now.draft walk.now.pointer.now along.old.reached
+        (view along.old.value.now) token.now
+        ≡ Ok (along.new.reached, view along.new.value.now) }
+    ensures base { along.new.base.value ≡ along.old.base.value }
 {
-    text.as_bytes().iter().position(|byte| *byte == b'%')
+    if along.value.is_array() {
+        let Some(index) = index_of(token) else {
+            return false;
+        };
+        let Some(value) = along.value.get(index) else {
+            return false;
+        };
+        along.value = value;
+        along.reached = along.reached.index();
+        return true;
+    }
+    let Some(value) = along.value.get(token) else {
+        return false;
+    };
+    along.value = value;
+    along.reached = along.reached.key(walk.draft, token);
+    true
+}
+
+// One token further, as `step` goes, where the token is a key as it stands, and an identifier there was resolved before. False
+// where it isn't known where that leads.
+#[inline(always)]
+fn step_plainly<'r>(walk: &Walk<'_, '_>, along: &mut Along<'r>, token: &str) -> bool
+    requires plain { All (λ b. b ≢ tilde) token.now }
+    ensures steps { result ≡ true
+        → stepped_along walk.now.draft walk.now.pointer.now (along_of along.old)
+        (view along.old.value.now) token.now
+        ≡ Ok (view along.new.value.now, along_of along.new) }
+{
+    if !step_under(walk, along, token) {
+        return false;
+    }
+    let Some(id) = accepted_id(walk.draft, along.reached, along.value) else {
+        return true;
+    };
+    let Some(uri) = walk.layers.resolved_uri(&along.base.borrow(), id) else {
+        return false;
+    };
+    let Ok(uri) = uri.clone() else {
+        return false;
+    };
+    change_base(along, uri);
+    true
+}
+
+// Where the first `/`, `%` or `~` of a text stands. A search by bytes, which decodes no character; most tokens are short.
+#[inline(always)]
+fn mark_in(text: &str) -> Option<usize>
+    ensures { result ≡ position (λ b. b == slash || b == 37 || b == tilde) text.now }
+{
+    text.as_bytes()
+        .iter()
+        .position(|byte| *byte == b'/' || *byte == b'%' || *byte == b'~')
+}
+
+// Token by token, as `walk_along` goes, where the text has no `%` and no `~`. False where it isn't known where that leads.
+#[inline(always)]
+fn walk_plainly<'r>(walk: &Walk<'_, '_>, along: &mut Along<'r>, text: &str) -> bool
+    ensures decoded { result ≡ true → All (λ b. b ≢ 37) text.now }
+    ensures passed { result ≡ true
+        → passed_along walk.now.draft walk.now.pointer.now (along_of along.old)
+        (view along.old.value.now) (tokens text.now)
+        ≡ Ok (view along.new.value.now, along_of along.new) }
+{
+    let mut rest = text;
+    while let Some(place) = mark_in(rest) {
+        if rest.as_bytes()[place] != b'/' {
+            return false;
+        }
+        let (token, more) = cut_at(rest, place);
+        if !step_plainly(walk, along, token) {
+            return false;
+        }
+        rest = more;
+    }
+    step_plainly(walk, along, rest)
 }
 
 /// Goes from the value of a resource to the one that a pointer leads to, with the base there (RFC 6901, 3, 4 and 6): `text` is
@@ -264,8 +337,8 @@ fn percent_in(text: &str) -> Option<usize>
 ///
 /// Refuses as `InvalidPercentEncoding` where the decoded bytes are no UTF-8, as `InvalidArrayIndex` and
 /// `PointerToNowhere` for the first part that is unresolvable, as `InvalidUri` for an identifier on the way that means
-/// no URI, and as `Memory`. Without a
-/// `%` no text is decoded.
+/// no URI, and as `Memory`. Where the text has no `%` and no `~`, and the identifiers on the way were resolved before, none
+/// is decoded, unescaped or resolved. Where that leads nowhere, the walk is made once more.
 #[inline(always)]
 pub(crate) fn follow_pointer<'r>(
     alloc: Global,
@@ -273,14 +346,14 @@ pub(crate) fn follow_pointer<'r>(
     along: &mut Along<'r>,
     text: &str,
 ) -> Result<(), Error>
-    ensures gives { along.old.reached ≡ Schema
-        → Gives (λ _. (view along.new.value.now, along.new.base.value))
-        (pointed_to walk.now.draft walk.now.pointer.now along.old.base.value
-        (view along.old.value.now) text.now)
-        result }
+    ensures gives { Follows walk.now along.old text.now along.new result }
 {
-    match percent_in(text) {
-        Some(_) => follow_decoded(alloc, walk, along, text),
-        None => walk_along(alloc, walk, along, text),
+    let (value, base) = (along.value, along.base.clone()?);
+    along.reached = Reached::Schema;
+    if walk_plainly(walk, along, text) {
+        return Ok(());
     }
+    along.value = value;
+    along.base = base;
+    follow_decoded(alloc, walk, along, text)
 }

@@ -1,29 +1,19 @@
 //! Where references lead from a base URI.
-ghost use Rattle.std.specs.Prelude.{◌≡◌, ℕ, List, Some, true, [], ◌++◌, codes, if◌then◌else◌, IfOk, IfSome, MatchOption, Ok, Err, None};
+ghost use Rattle.std.specs.Prelude.{◌≡◌, ℕ, List, Some, [], ◌++◌, codes, if◌then◌else◌, IfOk, IfSome, MatchOption, Ok, Err, None};
 ghost use Rattle.std.specs.Fmt.{WritesOnOk};
 ghost use Rattle.std.specs.List.{join_by};
 ghost use Rattle.serde_json.specs.View.{view};
 ghost use Rattle.ref_uri.specs.Targets.{uri_against, target, uri_part, fragment_part};
 ghost use Rattle.ref_definitions.specs.Fault.{as_invalid_uri};
-ghost use Rattle.ref_definitions.specs.Anchors.{Named, anchor, not_named};
-ghost use Rattle.ref_draft.specs.Anchors.{Dynamic};
-ghost use Rattle.ref_draft.specs.Views.{resource_ref};
-ghost use Rattle.ref_definitions.specs.Lookup.{moved_resolver, in_subresource, lookup, named_found};
-ghost use Rattle.ref_error.specs.Errors.{IsFaultOf, Gives};
-ghost use Rattle.ref_definitions.specs.Places.{Place};
 ghost use Rattle.ref_definitions.specs.Resources.{meant_place};
 ghost use Rattle.ref_resolver.specs.Layered.{world_in};
-ghost use Rattle.ref_resolver.specs.inner.Located.{IsLocated, IsMeant};
-ghost use Rattle.ref_resolver.specs.Resolving.{resolver_of, world_of, found_of, world_found};
-ghost use Rattle.ref_resolver.specs.inner.Names.{is_name};
+ghost use Rattle.ref_resolver.specs.inner.Located.{IsMeant, IsKnown, known_once};
 
-use crate::fragment::{
-    at_pointer, at_value, is_name, meaning, not_named, not_retrieved, outermost, plain_found,
-    under_uri,
-};
+use crate::fragment::{is_name, meaning, not_named, not_retrieved, outermost, under_uri};
 use crate::layers::Layers;
 use crate::located::Located;
-use ref_draft::{Draft, ResourceRef};
+use crate::pointed::{Along, Walk, follow_pointer};
+use ref_draft::{Draft, Reached, ResourceRef};
 use ref_error::Error;
 use ref_parts::list::List;
 use ref_uri::{Uri, UriRef};
@@ -38,7 +28,10 @@ use std::rc::Rc;
 pub struct Resolver<'r> {
     pub(crate) layers: Layers<'r>,
     pub(crate) base: Rc<Uri>,
+    // The place that the base means, where that is known without a look-up.
+    place: Option<Located<'r>>,
     pub(crate) scope: List<Uri>,
+    ghost known: { IfSome place (IsKnown (meant_place (world_in layers) base.value)) } by { known_once place (meant_place (world_in layers) base.value) },
 }
 
 // What a reference points into: the URI, the place that it means, where that is known without a look-up, and the fragment.
@@ -66,17 +59,25 @@ fn cut_at_hash(reference: &str) -> (&str, &str)
 }
 
 impl<'r> Resolver<'r> {
+    ghost use Rattle.std.specs.Prelude.{true};
+    ghost use Rattle.ref_definitions.specs.Anchors.{Named, anchor, not_named};
+    ghost use Rattle.ref_draft.specs.Anchors.{Dynamic};
+    ghost use Rattle.ref_draft.specs.Views.{resource_ref};
+    ghost use Rattle.ref_definitions.specs.Lookup.{moved_resolver, in_subresource, lookup, named_found};
+    ghost use Rattle.ref_definitions.specs.Places.{Place};
+    ghost use Rattle.ref_error.specs.Errors.{IsFaultOf, Gives};
+    ghost use Rattle.ref_resolver.specs.Resolving.{resolver_of, world_of, found_of, world_found, at_pointer};
+    ghost use Rattle.ref_resolver.specs.inner.Located.{IsLocated};
+    ghost use Rattle.ref_resolver.specs.inner.Names.{is_name};
+
     /// A resolver over layers at a base URI, with an empty dynamic scope. The URI need not mean a place. Takes memory
     /// for a handle.
     pub fn new(alloc: Global, layers: Layers<'r>, base: Uri) -> Result<Resolver<'r>, AllocError>
         ensures resolver { IfOk result (λ r. resolver_of r ≡ record { base = base; scope = [] }) }
         ensures world { IfOk result (λ r. world_of r ≡ world_in layers.entry) }
     {
-        Ok(Resolver {
-            layers,
-            base: Rc::new(alloc, base)?,
-            scope: List::new(),
-        })
+        let base = Rc::new(alloc, base)?;
+        Ok(Resolver::from_parts(layers, base, List::new()))
     }
 
     /// A resolver over layers at a base URI, with this dynamic scope, inner to outer. No URI need mean a place. Takes
@@ -88,6 +89,28 @@ impl<'r> Resolver<'r> {
         Resolver {
             layers,
             base,
+            place: None,
+            scope,
+        }
+    }
+
+    /// This resolver, which knows the place that its base means, so that look-ups of fragments from it needn't look for that. A
+    /// look-up for each layer, up to the first that has it; takes no memory.
+    pub fn with_place(self) -> Resolver<'r>
+        ensures resolver { resolver_of result ≡ resolver_of self.entry }
+        ensures world { world_of result ≡ world_of self.entry }
+    {
+        let Resolver {
+            layers,
+            base,
+            scope,
+            ..
+        } = self;
+        let place = layers.resource(base.as_str());
+        Resolver {
+            layers,
+            base,
+            place,
             scope,
         }
     }
@@ -141,7 +164,7 @@ impl<'r> Resolver<'r> {
         if let Some(fragment) = reference.strip_prefix('#') {
             return Ok(Target {
                 uri: self.base.clone()?,
-                place: None,
+                place: self.place,
                 fragment,
             });
         }
@@ -154,8 +177,13 @@ impl<'r> Resolver<'r> {
         })
     }
 
-    // This resolver with another base.
-    pub(crate) fn with_base(&self, base: Rc<Uri>) -> Result<Resolver<'r>, AllocError>
+    // This resolver with another base, and the place that it means, where that is known.
+    pub(crate) fn with_base(
+        &self,
+        base: Rc<Uri>,
+        place: Option<Located<'r>>,
+    ) -> Result<Resolver<'r>, AllocError>
+        requires known { IfSome place (IsKnown (meant_place (world_of self.now) base.value)) }
         ensures resolver { IfOk result
             (λ r. resolver_of r ≡ record (resolver_of self.now) { base = base.value }) }
         ensures world { IfOk result (λ r. world_of r ≡ world_of self.now) }
@@ -163,25 +191,35 @@ impl<'r> Resolver<'r> {
         Ok(Resolver {
             layers: self.layers,
             base,
+            place,
             scope: self.scope.clone()?,
         })
     }
 
-    // This resolver at a URI: the old base goes before the scope where the scope was empty or the base changes.
+    // The dynamic scope at a URI: the old base goes before it where it was empty or the base changes.
     #[inline(always)]
+    pub(crate) fn scope_at(&self, alloc: Global, uri: &str) -> Result<List<Uri>, AllocError>
+        ensures { IfOk result
+            (λ scope. scope ≡ (moved_resolver (resolver_of self.now) uri.now).scope) }
+    {
+        if self.scope.is_empty() || uri != self.base.as_str() {
+            self.scope.push_front(alloc, self.base.clone()?)
+        } else {
+            self.scope.clone()
+        }
+    }
+
+    // This resolver at a URI.
     pub(crate) fn moved(&self, alloc: Global, uri: Rc<Uri>) -> Result<Resolver<'r>, AllocError>
         ensures resolver { IfOk result
             (λ r. resolver_of r ≡ moved_resolver (resolver_of self.now) uri.value) }
         ensures world { IfOk result (λ r. world_of r ≡ world_of self.now) }
     {
-        let scope = if self.scope.is_empty() || uri.as_str() != self.base.as_str() {
-            self.scope.push_front(alloc, self.base.clone()?)?
-        } else {
-            self.scope.clone()?
-        };
+        let scope = self.scope_at(alloc, uri.as_str())?;
         Ok(Resolver {
             layers: self.layers,
             base: uri,
+            place: None,
             scope,
         })
     }
@@ -200,11 +238,11 @@ impl<'r> Resolver<'r> {
             result }
         ensures world { IfOk result (λ r. world_of r ≡ world_of self.now) }
     {
-        let base = match subresource.id() {
-            Some(id) => self.layers.resolve_uri(alloc, self.base.borrow(), id)?,
-            None => self.base.clone()?,
+        let Some(id) = subresource.id() else {
+            return Ok(self.clone()?);
         };
-        Ok(self.with_base(base)?)
+        let base = self.layers.resolve_uri(alloc, self.base.borrow(), id)?;
+        Ok(self.with_base(base, None)?)
     }
 
     /// Where a reference leads (2020-12 Core, 8.2.3): what is before its last `#` means a place by its URI, against the
@@ -215,8 +253,10 @@ impl<'r> Resolver<'r> {
     /// means no place; as `InvalidPercentEncoding`, `InvalidArrayIndex` and `PointerToNowhere` for a pointer that leads
     /// nowhere; as `NoSuchAnchor` and, where there is a `/` in it, `InvalidAnchor` for a name that nothing has; and as
     /// `Memory`. Look-ups in tables, one for each part of a pointer, and for a dynamic anchor one for each URI of the scope;
-    /// no value is copied. By the code, `#` takes no memory where the scope isn't empty and the base means a place; no
-    /// clause says so, but [`Resolver::at_base`] takes none by its signature.
+    /// of a fragment alone, the place of the base isn't looked for where it is known: it is at what a look-up of a URI without
+    /// a fragment finds, and in a resolver of a registry. No value is copied. By the code, `#` takes no memory
+    /// where the scope isn't empty and the base means a place; no clause says so, but [`Resolver::at_base`] takes none by its
+    /// signature.
     pub fn lookup(&self, alloc: Global, reference: &str) -> Result<Resolved<'r>, Error>
         ensures gives { Gives found_of
             (lookup (world_of self.now) (resolver_of self.now) reference.now) result }
@@ -233,11 +273,20 @@ impl<'r> Resolver<'r> {
         let Some(place) = self.layers.resource_or(place, uri.as_str()) else {
             return Err(not_retrieved(alloc, &uri));
         };
-        let resolver = self.moved(alloc, uri)?;
-        match fragment.strip_prefix('/') {
-            Some(text) => at_pointer(alloc, resolver, place, fragment, text),
-            None => Ok(at_value(place.value, place.entry.draft, resolver)),
+        let scope = self.scope_at(alloc, uri.as_str())?;
+        if let Some(text) = fragment.strip_prefix('/') {
+            return self.at_pointer(alloc, uri, scope, place, fragment, text);
         }
+        Ok(Resolved {
+            contents: place.value,
+            resolver: Resolver {
+                layers: self.layers,
+                base: uri,
+                place: Some(place),
+                scope,
+            },
+            draft: place.entry.draft,
+        })
     }
 
     /// The value that the base means, and its draft: what [`Resolver::lookup`] of `#` finds. `None` where it means no place. A
@@ -249,8 +298,50 @@ impl<'r> Resolver<'r> {
             × (meant_place (world_of self.now) (resolver_of self.now).base ≡ Some place)
             × (view found.0.now ≡ place.value) × (found.1 ≡ place.draft)) }
     {
-        let place = self.layers.resource(self.base.as_str())?;
+        let place = self.layers.resource_or(self.place, self.base.as_str())?;
         Some((place.value, place.entry.draft))
+    }
+
+    // What a pointer leads to in the resource at a place under a URI, with the scope there, where `text` is the fragment after
+    // its first `/`. Its many values stay out of the look-up of whole resources.
+    #[inline(never)]
+    fn at_pointer(
+        &self,
+        alloc: Global,
+        uri: Rc<Uri>,
+        scope: List<Uri>,
+        place: Located<'r>,
+        pointer: &str,
+        text: &str,
+    ) -> Result<Resolved<'r>, Error>
+        ensures gives { Gives found_of
+            (at_pointer (record { base = uri.value; scope = scope })
+            place.entry.entry.now.draft pointer.now (view place.entry.value.now) text.now)
+            result }
+        ensures world { IfOk result (λ found. world_found found ≡ world_of self.now) }
+    {
+        let walk = Walk {
+            layers: self.layers,
+            draft: place.entry.draft,
+            pointer,
+        };
+        let mut along = Along {
+            value: place.value,
+            base: uri,
+            reached: Reached::Schema,
+        };
+        follow_pointer(alloc, &walk, &mut along, text)?;
+        let Along { value, base, .. } = along;
+        Ok(Resolved {
+            contents: value,
+            resolver: Resolver {
+                layers: walk.layers,
+                base,
+                place: None,
+                scope,
+            },
+            draft: walk.draft,
+        })
     }
 
     // Where a name leads under a URI.
@@ -268,8 +359,17 @@ impl<'r> Resolver<'r> {
         if found.named.is_dynamic {
             return self.at_dynamic(alloc, uri, name, found.place);
         }
-        let resolver = self.moved(alloc, uri)?;
-        Ok(plain_found(resolver, found.place))
+        let scope = self.scope_at(alloc, uri.as_str())?;
+        Ok(Resolved {
+            contents: found.place.value,
+            resolver: Resolver {
+                layers: self.layers,
+                base: uri,
+                place: None,
+                scope,
+            },
+            draft: found.place.entry.draft,
+        })
     }
 
     // Where a name leads under a URI where a dynamic anchor has it, at the place that was found. The many values of
@@ -320,6 +420,8 @@ pub struct Resolved<'r> {
 }
 
 impl<'r> Resolved<'r> {
+    ghost use Rattle.ref_resolver.specs.Resolving.{resolver_of, world_of, found_of, world_found};
+
     /// The value, which is the document's own. Takes no memory.
     pub fn contents(&self) -> &'r Value
         ensures value { view result.now ≡ (found_of self.now).value }
@@ -350,10 +452,12 @@ impl<'r> Resolved<'r> {
 /// so. It fails only where the URI or the scope has no count left for one more handle, which `std::rc::Rc` returns as
 /// out of memory.
 impl<'r> Clone for Resolver<'r> {
+    ghost use Rattle.ref_resolver.specs.Resolving.{resolver_of, world_of};
+
     ghost is_clone = { λ resolver copy. (resolver_of copy ≡ resolver_of resolver) × (world_of copy ≡ world_of resolver) };
 
     fn clone(&self) -> Result<Resolver<'r>, AllocError> {
-        Ok(self.with_base(self.base.clone()?)?)
+        Ok(self.with_base(self.base.clone()?, self.place)?)
     }
 }
 
@@ -361,6 +465,7 @@ impl<'r> Clone for Resolver<'r> {
 impl<'r> PartialEq for Resolver<'r> {
     ghost use Rattle.std.specs.Prelude.{bytes_eq};
     ghost use Rattle.std.specs.Cmp.{partial_equiv_from_equiv};
+    ghost use Rattle.ref_resolver.specs.Resolving.{resolver_of};
     ghost use Rattle.ref_resolver.specs.inner.Comparing.{by_base};
 
     ghost eq = { λ a b. bytes_eq (resolver_of a).base (resolver_of b).base };

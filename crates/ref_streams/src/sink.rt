@@ -25,7 +25,9 @@ pub trait Sink {
 /// Bytes kept in memory. A write fails only where its growth is refused, and leaves the bytes as they were.
 #[derive(Drop)]
 pub struct MemorySink {
+    /// The bytes that were written.
     pub bytes: Vec<u8>,
+    /// How many writes failed.
     pub failures: u64,
 }
 
@@ -70,7 +72,9 @@ impl Sink for MemorySink {
 /// output doesn't.
 #[derive(Drop)]
 pub struct Output<W: Drop> {
+    /// The writer.
     pub writer: W,
+    /// How many writes failed.
     pub failures: u64,
 }
 

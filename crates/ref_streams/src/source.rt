@@ -33,7 +33,9 @@ pub trait Source {
 /// Bytes in memory, of which no read fails.
 #[derive(Drop)]
 pub struct MemorySource<'a> {
+    /// The bytes, those that were read too.
     pub bytes: &'a [u8],
+    /// How many of them were read.
     pub position: usize,
     pub ghost within: { position ≤ length bytes.now },
 }
@@ -79,8 +81,11 @@ impl Source for MemorySource<'_> {
 /// input doesn't.
 #[derive(Drop)]
 pub struct Input<R: Drop> {
+    /// The reader.
     pub reader: R,
+    /// Whether the last read that didn't fail gave no byte.
     pub ended: bool,
+    /// How many reads failed.
     pub failures: u64,
 }
 

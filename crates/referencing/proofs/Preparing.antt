@@ -1,5 +1,5 @@
 -- What outcomes say of a registry and of the limit.
-use Rattle.std.proofs.Common.{◌≡◌, ℕ, List, Ok, Err, sym, subst}
+use Rattle.std.proofs.Common.{◌≡◌, ◌∙◌, ℕ, List, map, Ok, Err, ap, sym, subst}
 use Rattle.serde_json.specs.Data.{Data}
 use Rattle.ref_draft.specs.declared.draft.Draft.{Draft}
 use Rattle.ref_definitions.specs.World.{Layer, World}
@@ -7,19 +7,21 @@ use Rattle.ref_definitions.specs.Fault as fault
 use Rattle.ref_definitions.specs.Fault.{Fault}
 use Rattle.ref_definitions.specs.Preparing.{Given, IsOutcome}
 use Rattle.ref_definitions.specs.Closure.{IsReady, IsUsedUp}
+use Rattle.ref_definitions.specs.Pending.{builder_draft, document_of}
 use Rattle.ref_definitions.proofs.Closure.{outcome_laws}
 use Rattle.ref_error.specs.declared.error.Error.{Error}
 use Rattle.ref_error.specs.declared.error.Error.TheVariants as error
 use Rattle.ref_index.specs.Retrieval.{given_with, IsFaultyOutcome}
-use Rattle.referencing.specs.Prepared.{LimitIsUsedUp, AreComplete}
+use Rattle.referencing.specs.Builder.{Builder}
+use Rattle.referencing.specs.Prepared.{given_of, LimitIsUsedUp, AreComplete}
 use Rattle.ref_error.specs.Errors.{IsMemory}
 
--- what is given, told otherwise
-pub same_given : (P : Given → Type 0) (may_answer : List ℕ → Data → Type 0) (may_refuse : List ℕ → List ℕ → Type 0) (limit : ℕ) (d d' : Draft) (ps ps' : World) (ds ds' : Layer) → d ≡ d' → ps ≡ ps' → ds ≡ ds'
-    → P (given_with may_answer may_refuse limit d ps ds) → P (given_with may_answer may_refuse limit d' ps' ds')
-same_given P may_answer may_refuse limit d d' ps ps' ds ds' draft parents documents is =
-    subst (λ x. P (given_with may_answer may_refuse limit d' ps' x)) documents
-    (subst (λ x. P (given_with may_answer may_refuse limit d' x ds)) parents (subst (λ x. P (given_with may_answer may_refuse limit x ps ds)) draft is))
+-- what a builder gives, told by its draft, the indexes of its parents and its documents
+pub given_by : {R : Type 0} (P : Given → Type 0) (may_answer : List ℕ → Data → Type 0) (may_refuse : List ℕ → List ℕ → Type 0) (b : Builder R) (draft : Draft) (parents : World) (documents : Layer) → draft ≡ builder_draft b.draft → parents ≡ b.parents
+    → documents ≡ map (document_of draft) b.pending → P (given_with may_answer may_refuse b.limit draft parents documents) → P (given_of may_answer may_refuse b)
+given_by P may_answer may_refuse b draft parents documents set above added is =
+    subst (λ x. P (given_with may_answer may_refuse b.limit (builder_draft b.draft) b.parents x)) (added ∙ ap (λ d. map (document_of d) b.pending) set)
+    (subst (λ x. P (given_with may_answer may_refuse b.limit (builder_draft b.draft) x documents)) above (subst (λ d. P (given_with may_answer may_refuse b.limit d parents documents)) set is))
 
 pub ready_of : (g : Given) (layer : Layer) → IsOutcome g (Ok layer) → IsReady g layer
 ready_of g layer outcome = (outcome_laws g).ready layer outcome

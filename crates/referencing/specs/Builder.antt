@@ -1,5 +1,6 @@
 -- What contracts see of a builder.
 use Rattle.std.specs.Prelude.{◌≡◌, ℕ, List, map, Option, None, Some, Result, Ok}
+use Rattle.std.specs.Iterator.{Drains}
 use Rattle.serde_json.specs.Data.{Data}
 use Rattle.ref_uri.specs.Targets.{Refusal}
 use Rattle.ref_draft.specs.declared.draft.Draft.{Draft}
@@ -45,14 +46,7 @@ new_builder retriever parents pending =
 
 -- the builder with this draft set, all else as it was
 abbrev pub setting_draft : {R : Type 0} → Draft → Builder R → Builder R
-setting_draft draft b =
-    record {
-      retriever = b.retriever;
-      limit = b.limit;
-      draft = Some draft;
-      parents = b.parents;
-      pending = b.pending;
-    }
+setting_draft draft b = record b { draft = Some draft }
 
 -- with this retriever
 abbrev pub retrieving_from : {R S : Type 0} → S → Builder R → Builder S
@@ -67,36 +61,15 @@ retrieving_from retriever b =
 
 -- with this limit
 abbrev pub limited_to : {R : Type 0} → ℕ → Builder R → Builder R
-limited_to limit b =
-    record {
-      retriever = b.retriever;
-      limit = limit;
-      draft = b.draft;
-      parents = b.parents;
-      pending = b.pending;
-    }
+limited_to limit b = record b { limit = limit }
 
 -- above these layers
 abbrev pub standing_above : {R : Type 0} → World → Builder R → Builder R
-standing_above parents b =
-    record {
-      retriever = b.retriever;
-      limit = b.limit;
-      draft = b.draft;
-      parents = parents;
-      pending = b.pending;
-    }
+standing_above parents b = record b { parents = parents }
 
 -- with these pending documents
 abbrev pub holding_pending : {R : Type 0} → List Pending → Builder R → Builder R
-holding_pending pending b =
-    record {
-      retriever = b.retriever;
-      limit = b.limit;
-      draft = b.draft;
-      parents = b.parents;
-      pending = pending;
-    }
+holding_pending pending b = record b { pending = pending }
 
 -- what is added: a text, a tree, and perhaps a draft
 abbrev pub addition : List ℕ → Data → Option Draft → Addition
@@ -106,3 +79,9 @@ addition text tree draft = record { text = text; tree = tree; draft = draft }
 abbrev pub Adds : {R : Type 0} → Result (List Pending) Refusal → Builder R → Builder R → Type 0
 Adds additions old new =
     (pending : List Pending) × (additions ≡ Ok pending) × (new ≡ holding_pending pending old)
+
+-- something holds of all the items that what `into_iter` made of a value gave
+abbrev pub OfAllFrom : {U S A : Type 0} → (U → S → Type 0) → (S → Option A → S → Type 0) → U
+    → (List A → Type 0) → Type 0
+OfAllFrom {S = S} {A = A} becomes steps x Holds =
+    (it : S) × (xs : List A) × becomes x it × Drains steps it xs × Holds xs

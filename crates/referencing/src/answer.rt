@@ -12,7 +12,7 @@ use ref_error::{Error, Retrieve};
 use ref_parts::list::List;
 use ref_uri::Uri;
 use serde_json::Value;
-use std::alloc::{AllocError, Global};
+use std::alloc::AllocError;
 use std::fmt;
 use std::rc::Rc;
 

@@ -1,11 +1,11 @@
 //! What a registry is made of, before it is prepared.
 ghost use Rattle.std.specs.Prelude.{◌≡◌, List, [], None, map, IfOk, IfErr, OnOk, OnErr};
-ghost use Rattle.std.specs.Iterator.{Drains, Yields, IsFinite};
+ghost use Rattle.std.specs.Iterator.{Yields, IsFiniteIterable};
 ghost use Rattle.ref_definitions.specs.Fault.{as_invalid_uri};
 ghost use Rattle.ref_definitions.specs.Pending.{with_addition, with_additions, with_pending};
 ghost use Rattle.ref_index.specs.Contents.{tree_of};
 ghost use Rattle.ref_error.specs.Errors.{IsFaultOf};
-ghost use Rattle.referencing.specs.Builder.{pending_under, builder_of, setting_draft, retrieving_from, limited_to, standing_above, addition, Adds};
+ghost use Rattle.referencing.specs.Builder.{pending_under, builder_of, setting_draft, retrieving_from, limited_to, standing_above, addition, Adds, OfAllFrom};
 
 use crate::input::{IntoRegistryResource, PendingResource, shared};
 use indexmap::IndexMap;
@@ -132,15 +132,14 @@ impl<'a, R: Drop> RegistryBuilder<'a, R> {
     ) -> Result<RegistryBuilder<'b, R>, Error>
     where
         'a: 'b,
-        requires ends { (it : I.IntoIter) → I.into_iter_gives pairs it
-            → I.IntoIter.can_next it × IsFinite (I.IntoIter.remaining it) }
+        requires ends { IsFiniteIterable I.into_iter_gives I.IntoIter.can_next I.IntoIter.remaining
+            pairs }
         ensures ok { IfOk result
-            (λ b. (it : I.IntoIter) × (xs : List (U × T)) × I.into_iter_gives pairs it
-            × Drains I.IntoIter.next_gives it xs
-            × Adds
+            (λ b. OfAllFrom I.into_iter_gives I.IntoIter.next_gives pairs
+            (λ xs. Adds
             (with_additions (builder_of self.entry).pending
             (map (λ x. addition (U.text x.0) (T.tree x.1) (T.given_draft x.1)) xs))
-            (builder_of self.entry) (builder_of b)) }
+            (builder_of self.entry) (builder_of b))) }
         ensures fault { IfErr result
             (λ error. (it : I.IntoIter) × (xs : List (U × T)) × I.into_iter_gives pairs it
             × ((rest : I.IntoIter) × Yields I.IntoIter.next_gives it xs rest)

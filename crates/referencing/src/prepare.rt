@@ -97,24 +97,16 @@ impl<'a, R: Retrieve + Drop> RegistryBuilder<'a, R> {
             (given_of (R.may_answer (builder_of self.entry).retriever)
             (R.may_refuse (builder_of self.entry).retriever) (builder_of self.entry))) }
     {
-        let RegistryBuilder {
-            alloc,
-            parents,
-            pending,
-            draft,
-            limit,
-            retriever,
-        } = self;
-        let draft = draft.unwrap_or(Draft::Draft202012);
-        let documents = documents(alloc, draft, pending)?;
+        let draft = self.draft.unwrap_or(Draft::Draft202012);
+        let documents = documents(self.alloc, draft, self.pending)?;
         let index = prepare(
-            alloc,
-            &retriever,
-            limit,
+            self.alloc,
+            &self.retriever,
+            self.limit,
             draft,
-            parents.as_slice(),
+            self.parents.as_slice(),
             documents,
         )?;
-        Ok(Registry::from_index(alloc, index, parents)?)
+        Ok(Registry::from_index(self.alloc, index, self.parents)?)
     }
 }

@@ -1,6 +1,6 @@
 //! A registry: documents, and the places in them that references lead to.
 ghost use Rattle.std.specs.Prelude.{◌≡◌, ℕ, List, [], ◌∷◌, map, IfOk, IfErr, IfSome, IsSome, option_map, slice_get, Some, Ok, Err};
-ghost use Rattle.std.specs.Iterator.{Drains, Yields, IsFinite};
+ghost use Rattle.std.specs.Iterator.{Yields, IsFiniteIterable};
 ghost use Rattle.std.specs.List.{Contains};
 ghost use Rattle.serde_json.specs.View.{view};
 ghost use Rattle.ref_uri.specs.Targets.{uri_against};
@@ -11,7 +11,7 @@ ghost use Rattle.ref_definitions.specs.Fault.{as_invalid_uri};
 ghost use Rattle.ref_definitions.specs.Wants.{faults, open_wants};
 ghost use Rattle.ref_error.specs.Errors.{Gives, IsFaultOf};
 ghost use Rattle.ref_definitions.specs.Pending.{with_addition, with_additions};
-ghost use Rattle.referencing.specs.Builder.{builder_of, addition, Adds, new_builder};
+ghost use Rattle.referencing.specs.Builder.{builder_of, addition, Adds, OfAllFrom, new_builder};
 ghost use Rattle.ref_resolver.specs.Layered.{world_in, IsHeld};
 ghost use Rattle.referencing.specs.Prepared.{contains_resource, ReferencesAreRetrieved};
 
@@ -94,15 +94,14 @@ impl<'a> Registry<'a> {
         alloc: Global,
         pairs: I,
     ) -> Result<RegistryBuilder<'b>, Error>
-        requires ends { (it : I.IntoIter) → I.into_iter_gives pairs it
-            → I.IntoIter.can_next it × IsFinite (I.IntoIter.remaining it) }
+        requires ends { IsFiniteIterable I.into_iter_gives I.IntoIter.can_next I.IntoIter.remaining
+            pairs }
         ensures ok { IfOk result
-            (λ b. (it : I.IntoIter) × (xs : List (U × T)) × I.into_iter_gives pairs it
-            × Drains I.IntoIter.next_gives it xs
-            × Adds
+            (λ b. OfAllFrom I.into_iter_gives I.IntoIter.next_gives pairs
+            (λ xs. Adds
             (with_additions []
             (map (λ x. addition (U.text x.0) (T.tree x.1) (T.given_draft x.1)) xs))
-            (new_builder (builder_of b).retriever self.now []) (builder_of b)) }
+            (new_builder (builder_of b).retriever self.now []) (builder_of b))) }
         ensures fault { IfErr result
             (λ error. (it : I.IntoIter) × (xs : List (U × T)) × I.into_iter_gives pairs it
             × ((rest : I.IntoIter) × Yields I.IntoIter.next_gives it xs rest)

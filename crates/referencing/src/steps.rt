@@ -73,13 +73,13 @@ fn after_lookup<'r>(found: Resolved<'r>) -> Followed<'r>
 // One step further.
 fn stepped<'r>(
     alloc: Global,
-    followed: Followed<'r>,
+    followed: &Followed<'r>,
     step: &Step<'_>,
 ) -> Result<Followed<'r>, Error>
     ensures gives { Gives followed_of
-        (world.after_step (world_of followed.entry.resolver) (followed_of followed.entry)
+        (world.after_step (world_of followed.now.resolver) (followed_of followed.now)
         (step_of step.now)) result }
-    ensures world { IfOk result (λ f. world_of f.resolver ≡ world_of followed.entry.resolver) }
+    ensures world { IfOk result (λ f. world_of f.resolver ≡ world_of followed.now.resolver) }
 {
     let resolver = &followed.resolver;
     match step {
@@ -96,12 +96,13 @@ fn stepped<'r>(
 }
 
 impl<'a> Registry<'a> {
-    /// A resolver at a base URI, with an empty dynamic scope. The URI need not mean a place. Takes memory for a handle.
+    /// A resolver at a base URI, with an empty dynamic scope. The URI need not mean a place, which is looked for once. Takes
+    /// memory for a handle.
     pub fn resolver<'r>(&'r self, alloc: Global, base: Uri) -> Result<Resolver<'r>, AllocError>
         ensures resolver { IfOk result (λ r. resolver_of r ≡ record { base = base; scope = [] }) }
         ensures world { IfOk result (λ r. world_of r ≡ self.now) }
     {
-        Resolver::new(alloc, self.layers(), base)
+        Ok(Resolver::new(alloc, self.layers(), base)?.with_place())
     }
 
     /// A resolver at a base URI with a dynamic scope, inner to outer, such as [`Resolver::into_parts`] gives. No URI
@@ -125,7 +126,7 @@ impl<'a> Registry<'a> {
             (lookup self.now (record { base = base; scope = [] }) reference.now) result }
         ensures world { IfOk result (λ found. world_found found ≡ self.now) }
     {
-        self.resolver(alloc, base)?.lookup(alloc, reference)
+        Resolver::new(alloc, self.layers(), base)?.lookup(alloc, reference)
     }
 }
 
@@ -150,7 +151,7 @@ pub fn follow<'r, 'a>(
     ensures reached { IfErr result
         (λ e. ReachesStep registry.now base (map step_of steps.now) e.step) }
 {
-    let resolver = match registry.resolver(alloc, base) {
+    let resolver = match Resolver::new(alloc, registry.layers(), base) {
         Ok(resolver) => resolver,
         Err(error) => return Err(FollowError {
             step: 0,
@@ -162,7 +163,7 @@ pub fn follow<'r, 'a>(
         resolver,
     };
     for (number, step) in steps.iter().enumerate() {
-        followed = match stepped(alloc, followed, step) {
+        followed = match stepped(alloc, &followed, step) {
             Ok(next) => next,
             Err(error) => return Err(FollowError {
                 step: number,

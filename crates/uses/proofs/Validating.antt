@@ -7,6 +7,7 @@ use Rattle.referencing.specs.Child.{Child}
 use Rattle.referencing.specs.Children.{Walked, walked_children}
 use Rattle.referencing.specs.Views.{walked_child}
 use Rattle.referencing.specs.Results.{◌>>=◌}
+use Rattle.referencing.specs.Targets.{Refusal}
 use Rattle.referencing.specs.World.{World}
 use Rattle.referencing.specs.Fault.{Fault, as_invalid_uri}
 use Rattle.referencing.specs.Lookup.{Resolver, Found, in_subresource}
@@ -32,6 +33,11 @@ fault_as answer other (error.UnknownSpecification specification) also (fault, is
 fault_as answer other (error.CircularMetaschema uri) also (fault, is, says) = (fault, also fault is, says)
 fault_as answer other (error.RetrievalLimit uri limit) also (fault, is, says) = (fault, also fault is, says)
 fault_as answer other (error.Memory memory) also is = tt
+
+-- what a URI's meaning is where it is no fault
+pub meant : {A : Type 0} (meaning : Result A Refusal) (x : A) → as_invalid_uri meaning ≡ Ok x → meaning ≡ Ok x
+meant (Ok y) x is = (let same : y ≡ x = cc in ap (λ z. Ok z) same)
+meant (Err refusal) x is = cc
 
 -- ---- one answer, unless it is valid
 

@@ -10,7 +10,7 @@ use std::alloc::Global;
 use std::rc::Rc;
 
 /// The value at a place and the base URI there, by the URI of its document and a fragment that begins with `#/`
-/// (RFC 6901, 6). Refuses as [`Resolver::lookup`](referencing::Resolver::lookup) does, whose cost it has.
+/// (RFC 6901, 6). Refuses as [`Registry::lookup`](referencing::Registry::lookup) does, whose cost it has.
 pub fn value_and_base<'r>(
     alloc: Global,
     registry: &'r Registry<'_>,
@@ -24,8 +24,7 @@ pub fn value_and_base<'r>(
     ensures fault { IfErr result
         (IsFaultOf (lookup registry.now (record { base = document; scope = [] }) fragment.now)) }
 {
-    let resolver = registry.resolver(alloc, document)?;
-    let (value, inner, _) = resolver.lookup(alloc, fragment)?.into_inner();
+    let (value, inner, _) = registry.lookup(alloc, document, fragment)?.into_inner();
     let base = inner.base_uri().clone()?;
     Ok((value, base))
 }

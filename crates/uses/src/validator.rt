@@ -4,7 +4,7 @@ ghost use Rattle.serde_json.specs.View.{view};
 ghost use Rattle.referencing.specs.Views.{walked_child};
 ghost use Rattle.referencing.specs.Fault.{Fault};
 ghost use Rattle.referencing.specs.Lookup.{Found};
-ghost use Rattle.referencing.specs.Errors.{IsFaultOf};
+ghost use Rattle.referencing.specs.Errors.{IsFaultOf, Gives};
 ghost use Rattle.referencing.specs.Resolving.{resolver_of, world_of, found_of, world_found};
 ghost use Rattle.uses.specs.Validating.{referred_from, is_valid, is_of_type, part_for, validated_within};
 
@@ -98,14 +98,10 @@ pub fn validated(
     instance: &Value,
     depth: usize,
 ) -> Result<Verdict, Error>
-    ensures value { IfOk result
-        (λ verdict. validated_within (world_of resolver.now) depth (resolver_of resolver.now) draft
-        (view schema.now) (view instance.now)
-        ≡ Ok verdict) }
-    ensures fault { IfErr result
-        (IsFaultOf
+    ensures gives { Gives (λ verdict. verdict)
         (validated_within (world_of resolver.now) depth (resolver_of resolver.now) draft
-        (view schema.now) (view instance.now))) }
+        (view schema.now) (view instance.now))
+        result }
 {
     if depth == 0 {
         return Ok(Verdict::TooDeep);

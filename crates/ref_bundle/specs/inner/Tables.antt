@@ -1,7 +1,6 @@
 -- The tables of the URIs that places have.
-use Rattle.std.specs.Prelude.{◌≡◌, ℕ, Bool, true, false, not, List, [], map, filter, String, string_bytes, Option, Some, None, option_map}
+use Rattle.std.specs.Prelude.{◌≡◌, ℕ, Bool, true, false, not, List, [], map, filter, Option, Some, None, option_map}
 use Rattle.std.specs.Option.{option_map_or, option_to_list}
-use Rattle.std.specs.declared.alloc.Global.{Global}
 use Rattle.ref_parts.specs.Segment.{part_of}
 use Rattle.ref_parts.specs.Table.{Entry, last_value}
 use Rattle.ref_definitions.specs.World.{Layer}
@@ -15,11 +14,7 @@ use Rattle.ref_bundle.specs.declared.tables.Bearers as rust_bearers
 abbrev pub site_of : rust_site.Site → Site
 site_of s = (s.document, map part_of s.path.items)
 
--- entries that are to become a table, and those of a table
-abbrev pub table_entries_of : List (String Global × String Global × rust_site.Site)
-    → List (Entry Site)
-table_entries_of es = map (λ e. (string_bytes e.0, string_bytes e.1, site_of e.2)) es
-
+-- the entries of a table, or those that it is to be made from
 abbrev pub table_of : List (Entry rust_site.Site) → List (Entry Site)
 table_of es = map (λ e. (e.0, e.1, site_of e.2)) es
 

@@ -4,14 +4,13 @@ use Rattle.std.specs.List.{AllByRecursion}
 use Rattle.std.specs.Option.{option_to_list}
 use Rattle.ref_parts.specs.Table.{Entry}
 use Rattle.ref_parts.specs.Path.{Part, Key}
-use Rattle.serde_json.specs.Data.{Data}
 use Rattle.ref_definitions.specs.World.{Document, Layer}
 use Rattle.ref_definitions.specs.Resources.{own_uri}
 use Rattle.serde_json.specs.View.{view}
-use Rattle.ref_draft.specs.Schema.{identifier}
 use Rattle.ref_draft.specs.declared.draft.Draft.{Draft}
-use Rattle.ref_definitions.specs.Places.{Place, base_within}
+use Rattle.ref_definitions.specs.Places.{Place}
 use Rattle.ref_index.specs.Visits.{ChildrenStandAt}
+use Rattle.ref_index.specs.inner.Queue.{place_with}
 use Rattle.ref_resolver.specs.Layered.{world_in}
 use Rattle.ref_findings.specs.declared.place.Place as rust
 use Rattle.ref_findings.specs.declared.walk.Keyword as rust_keyword
@@ -23,18 +22,7 @@ use Rattle.ref_findings.specs.Bearers.{Site, uris_borne, names_borne}
 use Rattle.ref_findings.specs.Findings.{Known}
 use Rattle.ref_findings.specs.Entries.{source_of}
 
--- a place, by its path, value, draft and the base around it
-abbrev pub place_with : List Part → Data → Draft → List ℕ → Place
-place_with path value draft outer =
-    record {
-      path = path;
-      value = value;
-      draft = draft;
-      outer = outer;
-      base = base_within outer (identifier draft value);
-    }
-
--- that of the program
+-- a place of the program, as the definitions see it
 abbrev pub place_of : rust.Place → Place
 place_of p = place_with p.path (view p.value.now) p.draft p.outer.value
 

@@ -1,5 +1,5 @@
 -- What the program wants and knows while it gathers documents.
-use Rattle.std.specs.Prelude.{◌≡◌, ℕ, true, List, ◌∷◌, ◌++◌, flat_map, map, filter, length, bytes_eq, is_some, Option, option_map}
+use Rattle.std.specs.Prelude.{◌≡◌, ℕ, true, List, ◌∷◌, ◌++◌, flat_map, map, filter, length, bytes_eq, is_some, Option, option_map, Result, IfOk}
 use Rattle.std.specs.HashMap.{get}
 use Rattle.std.specs.List.{list_any, AllByRecursion}
 use Rattle.std.specs.Option.{option_to_list}
@@ -11,6 +11,7 @@ use Rattle.ref_findings.specs.inner.Seen.{Survey}
 use Rattle.ref_findings.specs.declared.gathering.Wants as rust
 use Rattle.ref_findings.specs.declared.gathering.Held.{Held}
 use Rattle.ref_findings.specs.Sources.{Source, uris_in}
+use Rattle.ref_findings.specs.Held.{held_source}
 use Rattle.ref_findings.specs.Gathered.{wanted_at, wanted_by, is_known, has_tree, IsRun}
 
 -- the URIs that are wanted
@@ -56,3 +57,10 @@ pub record IsGoing (retriever : Retriever) (draft : Draft) (sources : List Sourc
   pub run : IsRun retriever draft sources asked
   pub returned : filter has_tree asked ≡ gathered
   pub state : IsState draft (sources ++ asked) w
+
+-- where a call succeeds, documents that were gathered at the first wants are so at the others, with the one that it returns
+abbrev pub GoesOn : {E : Type 0} → Retriever → Draft → rust.Wants → rust.Wants → Result (Option Held) E → Type 0
+GoesOn retriever draft before after result =
+    (sources gathered : List Source) → IsGoing retriever draft sources before gathered
+    → IfOk result
+    (λ held. IsGoing retriever draft sources after (gathered ++ option_to_list (option_map held_source held)))

@@ -1,10 +1,16 @@
 -- What a call has of a place that was looked up.
-use Rattle.std.specs.Prelude.{◌≡◌, slice_get, Option, Some, Ok}
+use Rattle.std.specs.Prelude.{◌≡◌, ℕ, List, slice_get, Option, option_map, IfSome, None, Some, Ok, refl}
+use Rattle.std.specs.Result.{result_ok}
+use Rattle.std.specs.Coded.{Coded, coded×, coded_ℕ, coded_list, coded_option}
+use base.Stored.{Coded-set}
+use Rattle.serde_json.specs.Data.{Data}
 use Rattle.serde_json.specs.View.{view}
+use Rattle.ref_draft.specs.declared.draft.Draft.{Draft}
 use Rattle.ref_definitions.specs.World.{Layer, World}
 use Rattle.ref_definitions.specs.Places.{Place}
 use Rattle.ref_definitions.specs.Anchors.{Named}
 use Rattle.ref_index.specs.Found.{IsPathOf, kind_of}
+use Rattle.ref_index.specs.inner.Codes.{tree_code, draft_code}
 use Rattle.ref_resolver.specs.declared.located.Located.{Located}
 use Rattle.ref_resolver.specs.declared.located.LocatedName.{LocatedName}
 use Rattle.ref_resolver.specs.declared.located.Numbered.{Numbered}
@@ -30,6 +36,29 @@ pub record IsLocatedAt (w : World) (l : Numbered) (p : Place) : Type 0 where
 -- of the place that a URI means
 abbrev pub IsMeant : Option Place → Located → Type 0
 IsMeant found l = (p : Place) × (found ≡ Some p) × IsLocated l p
+
+-- what is told of a place
+abbrev Told : Type 0
+Told = Data × (Draft × Option (List ℕ))
+
+abbrev told : Place → Told
+told p = (p.value, (p.draft, result_ok p.base))
+
+-- of the place that a URI means, as an equation
+abbrev pub IsKnown : Option Place → Located → Type 0
+IsKnown found l =
+    option_map told found
+    ≡ Some (view l.value.now, (l.entry.now.draft, Some l.entry.now.base.value))
+
+told_code : Coded (Option Told)
+told_code =
+    coded_option (coded× tree_code (coded× draft_code (coded_option (coded_list coded_ℕ))))
+
+-- which has one proof at most
+pub known_once : (place : Option Located) (found : Option Place)
+    → IsProp (IfSome place (IsKnown found))
+known_once None found = λ _ _. refl
+known_once (Some l) found = Coded-set told_code _ _
 
 -- of the place that a URI means in a layer
 abbrev pub IsMeantIn : Layer → Option Place → Located → Type 0

@@ -2,6 +2,7 @@
 -- to, in place of these parts.
 use Rattle.std.specs.Prelude.{ℕ, List, [], ◌∷◌, bytes_eq, Option, None, Result, Ok, if◌then◌else◌}
 use Rattle.serde_json.specs.Data.{Data}
+use Rattle.serde_json.specs.View.{view}
 use Rattle.ref_draft.specs.declared.draft.Draft.{Draft}
 use Rattle.ref_draft.specs.declared.reached.Reached.{Reached}
 use Rattle.ref_draft.specs.declared.reached.Reached.TheVariants.{Schema}
@@ -13,7 +14,10 @@ use Rattle.ref_definitions.specs.Results.{◌>>=◌}
 use Rattle.ref_definitions.specs.Places.{base_within}
 use Rattle.ref_definitions.specs.Fault.{Fault, as_invalid_uri}
 use Rattle.ref_definitions.specs.Pointers.{step_into, walked_along, pointed_value}
+use Rattle.ref_error.specs.declared.error.Error.{Error}
+use Rattle.ref_error.specs.Errors.{Gives}
 use Rattle.ref_resolver.specs.declared.pointed.Along.{Along}
+use Rattle.ref_resolver.specs.declared.pointed.Walk.{Walk}
 
 -- the base at a value of the way, and what the parts since it last changed lead to
 pub record Passed : Type 0 where
@@ -58,6 +62,13 @@ passed_along draft pointer passed value (token ∷ tokens) =
     stepped_along draft pointer passed value token
     >>= λ s. passed_along draft pointer s.1 s.0 tokens
 
+-- a step along a token goes from one value of the way to another, or is refused
+abbrev pub Steps : {B : Type 0} → Walk → Along → List ℕ → Along → Result B Error → Type 0
+Steps walk from token to result =
+    Gives (λ _. (view to.value.now, along_of to))
+    (stepped_along walk.draft walk.pointer.now (along_of from) (view from.value.now) token)
+    result
+
 -- where tokens lead, with the base there
 abbrev pub leads_to : Draft → List ℕ → List ℕ → Data → List (List ℕ) → Result (Data × List ℕ) Fault
 leads_to draft pointer base value tokens =
@@ -68,3 +79,10 @@ leads_to draft pointer base value tokens =
 abbrev pub pointed_to : Draft → List ℕ → List ℕ → Data → List ℕ → Result (Data × List ℕ) Fault
 pointed_to draft pointer base value text =
     pointed_value draft pointer base value text >>= λ at. Ok (at.0, at.1.base)
+
+-- a pointer leads from the value of a resource to another, or is refused
+abbrev pub Follows : {B : Type 0} → Walk → Along → List ℕ → Along → Result B Error → Type 0
+Follows walk from text to result =
+    Gives (λ _. (view to.value.now, to.base.value))
+    (pointed_to walk.draft walk.pointer.now from.base.value (view from.value.now) text)
+    result

@@ -1,10 +1,11 @@
 use Rattle.std.proofs.Common.{◌≡◌, ◌==◌, ◌&&◌, ℕ, Bool, List, not, None, Some, map, filter, option_map, refl, ap, sym, subst, ◌∙◌, rules}
+use Rattle.std.specs.List.{AllByRecursion}
 use Rattle.ref_definitions.specs.World.{Document}
 use Rattle.ref_bundle.specs.Needed.{counted_documents}
 use Rattle.ref_bundle.specs.Bundle.{to_embed, bundle_of}
 use Rattle.ref_bundle.specs.Saying.{refusal_said, bundle_said}
 use Rattle.ref_bundle.specs.inner.Reach.{is_marked, AreMarked}
-use Rattle.ref_bundle.specs.inner.Seen.{document_in, layer_in, numbered_document, numbered_part}
+use Rattle.ref_bundle.specs.inner.Seen.{document_in, layer_in, numbered_document, numbered_part, HasBase}
 use Rattle.ref_bundle.specs.declared.own.Own.{Own}
 use Rattle.ref_bundle.specs.declared.embedding.Part.{Part}
 use Rattle.ref_bundle.proofs.Gathering.{document_at}
@@ -12,11 +13,18 @@ use Rattle.ref_bundle.proofs.Running.{reached_are_needed}
 use Rattle.ref_bundle.proofs.Whole.{parts_are, first_is, is_refused, is_bundle}
 use Rattle.ref_bundle.proofs.bundling.bundle_with.Goals as goal
 
-pub first_refusal-requires-clause-needed : goal.first_refusal-requires-clause-needed
-first_refusal-requires-clause-needed c =
+pub first_refusal-requires : goal.first_refusal-requires
+first_refusal-requires c =
     let layer = layer_in c.args.owns.now in
     let same : c.in_ok-top.top.number ≡ c.args.top.now.number = ap (λ (e : ℕ × Document). e.0) c.in_ok-top.ensures.value in
-    subst (λ n. AreMarked layer n c.args.needed.now) (sym same) (reached_are_needed layer c.args.top.now.number c.args.needed.now c.requires.needed)
+    record {
+      order = c.requires.own.order;
+      places = c.requires.own.places;
+      tables = c.requires.tables;
+      needed = subst (λ n. AreMarked layer n c.args.needed.now) (sym same) (reached_are_needed layer c.args.top.now.number c.args.needed.now c.requires.needed);
+      root = c.in_ok-top.ensures.base;
+      parts = subst (AllByRecursion HasBase) (sym c.as_slice-embedded.ensures.value) c.in_ok-parts.ensures.bases;
+    }
 
 -- the parts are the documents that have to be embedded
 parts_to_embed : (owns : List Own) (n : ℕ) (marks : List Bool) (slice parts : List Part) → AreMarked (layer_in owns) n marks → map numbered_document owns ≡ counted_documents 0 (layer_in owns) → slice ≡ parts
@@ -30,10 +38,10 @@ returns-in-Some-clause-fault c =
     let n = c.args.top.now.number in
     let marks = c.args.needed.now in
     let are : AreMarked (layer_in owns) n marks = reached_are_needed (layer_in owns) n marks c.requires.needed in
-    let embeds = parts_to_embed owns n marks c.as_slice.result.now c.in_ok-parts.parts.items are c.requires.own.order c.as_slice.ensures.value c.in_ok-parts.ensures.parts in
+    let embeds = parts_to_embed owns n marks c.as_slice-embedded.result.now c.in_ok-parts.parts.items are c.requires.own.order c.as_slice-embedded.ensures.value c.in_ok-parts.ensures.parts in
     let said : option_map refusal_said c.in_ok-refusal.field-0 ≡ Some (refusal_said c.in-Some.refusal) = search rules in
     is_refused (layer_in owns) c.args.bearers.now.registry.now n (document_in c.args.top.now) (refusal_said c.in-Some.refusal) (document_at document_in owns (layer_in owns) n (Some c.args.top.now) refl c.requires.top)
-    (sym said ∙ first_is (layer_in owns) c.args.bearers.now.registry.now n (document_in c.args.top.now) marks (numbered_part c.in_ok-top.top) (map numbered_part c.as_slice.result.now) (map numbered_document owns) (option_map refusal_said c.in_ok-refusal.field-0) c.requires.own.order are c.in_ok-top.ensures.value embeds c.in_ok-refusal.ensures.value)
+    (sym said ∙ first_is (layer_in owns) c.args.bearers.now.registry.now n (document_in c.args.top.now) marks (numbered_part c.in_ok-top.top) (map numbered_part c.as_slice-embedded.result.now) (map numbered_document owns) (option_map refusal_said c.in_ok-refusal.field-0) c.requires.own.order are c.in_ok-top.ensures.value embeds c.in_ok-refusal.ensures.value)
 
 pub returns-clause-value : goal.returns-clause-value
 returns-clause-value c =
@@ -42,10 +50,9 @@ returns-clause-value c =
     let n = own.number in
     let marks = c.args.needed.now in
     let are : AreMarked layer n marks = reached_are_needed layer n marks c.requires.needed in
-    let embeds = parts_to_embed c.args.owns.now n marks c.as_slice.result.now c.in_ok-parts.parts.items are c.requires.own.order c.as_slice.ensures.value c.in_ok-parts.ensures.parts in
-    let shown = parts_to_embed c.args.owns.now n marks c.as_slice-in-None.result.now c.in_ok-parts.parts.items are c.requires.own.order c.as_slice-in-None.ensures.value c.in_ok-parts.ensures.parts in
+    let embeds = parts_to_embed c.args.owns.now n marks c.as_slice-embedded.result.now c.in_ok-parts.parts.items are c.requires.own.order c.as_slice-embedded.ensures.value c.in_ok-parts.ensures.parts in
     let said : option_map refusal_said c.in_ok-refusal.field-0 ≡ None = search rules in
     let document = ap (λ (e : ℕ × Document). e.1) c.in_ok-top.ensures.value in
     is_bundle layer c.args.bearers.now.registry.now n (document_in own) (bundle_said c.in_ok-bundle_of-in-None.field-0) (document_at document_in c.args.owns.now layer n (Some own) refl c.requires.top)
-    (sym said ∙ first_is layer c.args.bearers.now.registry.now n (document_in own) marks (numbered_part c.in_ok-top.top) (map numbered_part c.as_slice.result.now) (map numbered_document c.args.owns.now) (option_map refusal_said c.in_ok-refusal.field-0) c.requires.own.order are c.in_ok-top.ensures.value embeds c.in_ok-refusal.ensures.value)
-    (c.in_ok-bundle_of-in-None.ensures ∙ ap (λ d. bundle_of d (map numbered_part c.as_slice-in-None.result.now)) document ∙ ap (bundle_of (document_in own)) shown)
+    (sym said ∙ first_is layer c.args.bearers.now.registry.now n (document_in own) marks (numbered_part c.in_ok-top.top) (map numbered_part c.as_slice-embedded.result.now) (map numbered_document c.args.owns.now) (option_map refusal_said c.in_ok-refusal.field-0) c.requires.own.order are c.in_ok-top.ensures.value embeds c.in_ok-refusal.ensures.value)
+    (c.in_ok-bundle_of-in-None.ensures ∙ ap (λ d. bundle_of d (map numbered_part c.as_slice-embedded.result.now)) document ∙ ap (bundle_of (document_in own)) embeds)

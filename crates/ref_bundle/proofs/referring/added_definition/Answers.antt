@@ -22,11 +22,11 @@ definition_by layer top draft r keyword key read b named is some tested =
 pub returns-then-branch : goal.returns-then-branch
 returns-then-branch c =
     let key = string_bytes c.in-Some.key in
-    let by = definition_by (layer_in c.args.owns.now) c.args.top.now.number c.args.top.now.draft (seen_reference c.args.reference.now) c.definitions_keyword-keyword.result.now key (option_map string_bytes c.in_ok-key.field-0) true
+    let by = definition_by (layer_in c.args.among.now.owns.now) c.args.among.now.top.now.number c.args.among.now.top.now.draft (seen_reference c.args.reference.now) c.definitions_keyword-keyword.result.now key (option_map string_bytes c.in_ok-key.field-0) true
     c.definitions_keyword-keyword.ensures.value c.in_ok-key.ensures.value (search rules) (search rules) in
     subst (λ t. IfOk c.added_member.result (λ o. option_map problem_said o ≡ t)) by c.added_member.ensures
 
 pub returns : goal.returns
 returns c =
-    definition_by (layer_in c.args.owns.now) c.args.top.now.number c.args.top.now.draft (seen_reference c.args.reference.now) c.definitions_keyword-keyword.result.now (string_bytes c.in-Some.key) (option_map string_bytes c.in_ok-key.field-0) false
+    definition_by (layer_in c.args.among.now.owns.now) c.args.among.now.top.now.number c.args.among.now.top.now.draft (seen_reference c.args.reference.now) c.definitions_keyword-keyword.result.now (string_bytes c.in-Some.key) (option_map string_bytes c.in_ok-key.field-0) false
     c.definitions_keyword-keyword.ensures.value c.in_ok-key.ensures.value (search rules) (search rules)

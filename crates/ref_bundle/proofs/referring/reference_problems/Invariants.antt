@@ -5,4 +5,4 @@ use Rattle.ref_bundle.specs.inner.First.{first}
 use Rattle.ref_bundle.proofs.referring.reference_problems.Given as goal
 
 abbrev pub invariant-loop-reference : goal.invariant-loop-reference
-invariant-loop-reference l = first (flat_map (reference_problems (layer_in l.owns) l.bearers.registry.now (numbered_part l.top)) (map seen_reference (take l.reference-index l.reference-items))) ≡ None
+invariant-loop-reference l = first (flat_map (reference_problems (layer_in l.among.owns.now) l.among.bearers.now.registry.now (numbered_part l.among.top.now)) (map seen_reference (take l.reference-index l.reference-items))) ≡ None

@@ -10,7 +10,7 @@ use Rattle.ref_bundle.proofs.referring.root_problem.Goals as goal
 
 pub returns-then-is_empty : goal.returns-then-is_empty
 returns-then-is_empty c =
-    let added = added_definition (layer_in c.args.owns.now) (numbered_part c.args.top.now) (seen_reference c.args.reference.now) in
+    let added = added_definition (layer_in c.args.among.now.owns.now) (numbered_part c.args.among.now.top.now) (seen_reference c.args.reference.now) in
     let tested : c.is_empty.result ≡ (length c.args.path.now == 0) = search rules in
     let is : c.is_empty.result ≡ true = search rules in
     let empty : path_eq (map part_of c.args.path.now) [] ≡ true = empty_path c.args.path.now c.is_empty.result tested ∙ is in
@@ -18,7 +18,7 @@ returns-then-is_empty c =
 
 pub returns : goal.returns
 returns c =
-    let added = added_definition (layer_in c.args.owns.now) (numbered_part c.args.top.now) (seen_reference c.args.reference.now) in
+    let added = added_definition (layer_in c.args.among.now.owns.now) (numbered_part c.args.among.now.top.now) (seen_reference c.args.reference.now) in
     let tested : c.is_empty.result ≡ (length c.args.path.now == 0) = search rules in
     let is : c.is_empty.result ≡ false = search rules in
     let some : path_eq (map part_of c.args.path.now) [] ≡ false = empty_path c.args.path.now c.is_empty.result tested ∙ is in

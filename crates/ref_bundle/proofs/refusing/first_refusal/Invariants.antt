@@ -7,4 +7,4 @@ use Rattle.ref_bundle.proofs.refusing.first_refusal.Given as goal
 
 abbrev pub invariant-loop-own : goal.invariant-loop-own
 invariant-loop-own l =
-    first (flat_map (λ e. cond (is_marked l.needed e.0) (refusals_in (layer_in l.owns) l.bearers.registry.now (numbered_part l.top) (map numbered_part l.parts) e) []) (map numbered_document (take l.own-index l.owns))) ≡ None
+    first (flat_map (λ e. cond (is_marked l.among.needed.now e.0) (refusals_in (layer_in l.among.owns.now) l.among.bearers.now.registry.now (numbered_part l.among.top.now) (map numbered_part l.among.parts.now) e) []) (map numbered_document (take l.own-index l.among.owns.now))) ≡ None

@@ -19,21 +19,21 @@ all_are layer world top own items lent places =
 pub returns-in-Some : goal.returns-in-Some
 returns-in-Some c =
     let l = c.loop-spot in
-    let f : Seen → List BundleRefusal = refusals_seen (layer_in c.args.owns.now) c.args.bearers.now.registry.now (numbered_part c.args.top.now) c.args.own.now.uri.now in
+    let f : Seen → List BundleRefusal = refusals_seen (layer_in c.args.among.now.owns.now) c.args.among.now.bearers.now.registry.now (numbered_part c.args.among.now.top.now) c.args.own.now.uri.now in
     let said : option_map refusal_said c.in_ok-refusal.field-0 ≡ Some (refusal_said c.in-Some.refusal) = search rules in
     found_here f seen_spot c.deref-spot-items.result.now l.spot-index c.spot-item.result (refusal_said c.in-Some.refusal) c.loop-spot-test.true c.spot-item.is l.invariant (sym said ∙ c.in_ok-refusal.ensures)
-    ∙ all_are (layer_in c.args.owns.now) c.args.bearers.now.registry.now (numbered_part c.args.top.now) c.args.own.now c.deref-spot-items.result.now c.deref-spot-items.ensures.value c.requires.places
+    ∙ all_are (layer_in c.args.among.now.owns.now) c.args.among.now.bearers.now.registry.now (numbered_part c.args.among.now.top.now) c.args.own.now c.deref-spot-items.result.now c.deref-spot-items.ensures.value c.requires.places
 
 pub returns : goal.returns
 returns c =
     let items = c.deref-spot-items.result.now in
-    let f : Seen → List BundleRefusal = refusals_seen (layer_in c.args.owns.now) c.args.bearers.now.registry.now (numbered_part c.args.top.now) c.args.own.now.uri.now in
-    let all = all_are (layer_in c.args.owns.now) c.args.bearers.now.registry.now (numbered_part c.args.top.now) c.args.own.now items c.deref-spot-items.ensures.value c.requires.places in
+    let f : Seen → List BundleRefusal = refusals_seen (layer_in c.args.among.now.owns.now) c.args.among.now.bearers.now.registry.now (numbered_part c.args.among.now.top.now) c.args.own.now.uri.now in
+    let all = all_are (layer_in c.args.among.now.owns.now) c.args.among.now.bearers.now.registry.now (numbered_part c.args.among.now.top.now) c.args.own.now items c.deref-spot-items.ensures.value c.requires.places in
     sym (sym all ∙ sym (ap (λ ss. first (flat_map f ss)) (taken_all seen_spot items c.loop-spot.spot-index (omega arith))) ∙ c.loop-spot.invariant)
 
 pub loop-spot-preserved : goal.loop-spot-preserved
 loop-spot-preserved c =
     let l = c.loop-spot in
-    let f : Seen → List BundleRefusal = refusals_seen (layer_in c.args.owns.now) c.args.bearers.now.registry.now (numbered_part c.args.top.now) c.args.own.now.uri.now in
+    let f : Seen → List BundleRefusal = refusals_seen (layer_in c.args.among.now.owns.now) c.args.among.now.bearers.now.registry.now (numbered_part c.args.among.now.top.now) c.args.own.now.uri.now in
     let said : option_map refusal_said c.in_ok-refusal.field-0 ≡ None = search rules in
     none_more f seen_spot c.deref-spot-items.result.now l.spot-index c.spot-item.result c.loop-spot-test.true c.spot-item.is l.invariant (sym said ∙ c.in_ok-refusal.ensures)

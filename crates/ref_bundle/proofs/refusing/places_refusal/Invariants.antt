@@ -4,4 +4,4 @@ use Rattle.ref_bundle.specs.inner.First.{first, refusals_seen}
 use Rattle.ref_bundle.proofs.refusing.places_refusal.Given as goal
 
 abbrev pub invariant-loop-spot : goal.invariant-loop-spot
-invariant-loop-spot l = first (flat_map (refusals_seen (layer_in l.owns) l.bearers.registry.now (numbered_part l.top) l.own.uri.now) (map seen_spot (take l.spot-index l.spot-items))) ≡ None
+invariant-loop-spot l = first (flat_map (refusals_seen (layer_in l.among.owns.now) l.among.bearers.now.registry.now (numbered_part l.among.top.now) l.own.uri.now) (map seen_spot (take l.spot-index l.spot-items))) ≡ None

@@ -9,7 +9,7 @@ use Rattle.ref_bundle.proofs.refusing.refusal_in.Goals as goal
 pub returns : goal.returns
 returns c =
     let own = numbered_document c.args.own.now in
-    let whole = whole_refusals (numbered_part c.args.top.now) (map numbered_part c.args.parts.now) own in
-    let places = place_refusals (layer_in c.args.owns.now) c.args.bearers.now.registry.now (numbered_part c.args.top.now) own in
+    let whole = whole_refusals (numbered_part c.args.among.now.top.now) (map numbered_part c.args.among.now.parts.now) own in
+    let places = place_refusals (layer_in c.args.among.now.owns.now) c.args.among.now.bearers.now.registry.now (numbered_part c.args.among.now.top.now) own in
     subst (λ o. IfOk o (λ r. option_map refusal_said r ≡ first (whole ++ places))) (sym c.first_found.ensures.value)
     (passed_on refusal_said whole places c.whole_refusal.result c.places_refusal.result c.whole_refusal.ensures c.places_refusal.ensures)

@@ -9,7 +9,7 @@ use Rattle.ref_findings.proofs.Zips.{zip_append}
 use Rattle.ref_findings.proofs.list.add.Goals as goal
 
 pub returns : goal.returns
-returns c = λ p fs maybe zip.
+returns c = λ p maybe fs zip.
     let s = site_of c.args.site.now in
     let keyword = option_map keyword_text c.args.keyword in
     let f = c.in_ok-finding.finding in

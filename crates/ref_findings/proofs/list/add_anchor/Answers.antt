@@ -9,7 +9,7 @@ use Rattle.ref_findings.specs.inner.Seen.{site_of, known_in}
 use Rattle.ref_findings.proofs.list.add_anchor.Goals as goal
 
 pub returns : goal.returns
-returns c = λ fs near zip.
+returns c = λ near fs zip.
     let k = known_in c.args.known.now in
     let n = c.args.number in
     let s = site_of c.args.site.now in
@@ -18,4 +18,4 @@ returns c = λ fs near zip.
     subst (λ x. IsMaybe (name_problem k n (nearest_base s.1) x) c.in_ok-problem.problem) c.name.ensures.value
     (subst (λ b. IsMaybe (name_problem k n b c.name.result.now) c.in_ok-problem.problem) near c.in_ok-problem.ensures.value) in
     subst (λ w. OnOk c.add.result (AllZip IsFindingOf c.add.new.list.items (fs ++ finding_at s (Some w) (name_problem k n (nearest_base s.1) a.0)))) c.of_anchor-keyword.ensures.value
-    (c.add.ensures (name_problem k n (nearest_base s.1) a.0) fs said zip)
+    (c.add.ensures (name_problem k n (nearest_base s.1) a.0) said fs zip)

@@ -17,4 +17,4 @@ returns c = λ fs zip.
     let said : IsMaybe (identifier_problem k n s.1) c.in_ok-problem.problem =
     subst (λ o. IsMaybe (option_and_then (λ id. by_base k n (base_within s.1.outer o)) o) c.in_ok-problem.problem) (sym there) c.in_ok-problem.ensures.value in
     subst (λ w. OnOk c.add.result (AllZip IsFindingOf c.add.new.list.items (fs ++ finding_at s (Some w) (identifier_problem k n s.1)))) c.of_identifier-keyword.ensures.value
-    (c.add.ensures (identifier_problem k n s.1) fs said zip)
+    (c.add.ensures (identifier_problem k n s.1) said fs zip)

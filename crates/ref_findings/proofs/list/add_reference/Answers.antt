@@ -16,5 +16,5 @@ returns c = λ fs zip.
     let near : c.in_ok-base.base.value ≡ nearest_base s.1 = search rules in
     let said : IsMaybe (reference_problem k (nearest_base s.1) c.in-Some.reference.now) c.in_ok-problem.problem =
     subst (λ b. IsMaybe (reference_problem k b c.in-Some.reference.now) c.in_ok-problem.problem) near c.in_ok-problem.ensures.value in
-    c.add.ensures (option_and_then (reference_problem k (nearest_base s.1)) text) fs
-    (subst (λ o. IsMaybe (option_and_then (reference_problem k (nearest_base s.1)) o) c.in_ok-problem.problem) (sym there) said) zip
+    c.add.ensures (option_and_then (reference_problem k (nearest_base s.1)) text)
+    (subst (λ o. IsMaybe (option_and_then (reference_problem k (nearest_base s.1)) o) c.in_ok-problem.problem) (sym there) said) fs zip

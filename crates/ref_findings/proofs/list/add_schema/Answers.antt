@@ -12,5 +12,5 @@ returns c = λ fs zip.
     let s = site_of c.args.site.now in
     let text = text_under (codes "$schema") s.1.value in
     let there : text ≡ Some c.in-Some.text.now = search rules in
-    c.add.ensures (option_and_then (schema_problem k) text) fs
-    (subst (λ o. IsMaybe (option_and_then (schema_problem k) o) c.in_ok-problem.problem) (sym there) c.in_ok-problem.ensures.value) zip
+    c.add.ensures (option_and_then (schema_problem k) text)
+    (subst (λ o. IsMaybe (option_and_then (schema_problem k) o) c.in_ok-problem.problem) (sym there) c.in_ok-problem.ensures.value) fs zip

@@ -12,5 +12,5 @@ returns c = λ fs zip.
     let n = c.args.number in
     let s = site_of c.args.site.now in
     let there : source_uri s.1 ≡ Some c.in-Some.uri.now.value = search rules in
-    c.add.ensures (option_and_then (uri_problem k n) (source_uri s.1)) fs
-    (subst (λ o. IsMaybe (option_and_then (uri_problem k n) o) c.in_ok-problem.problem) (sym there) c.in_ok-problem.ensures.value) zip
+    c.add.ensures (option_and_then (uri_problem k n) (source_uri s.1))
+    (subst (λ o. IsMaybe (option_and_then (uri_problem k n) o) c.in_ok-problem.problem) (sym there) c.in_ok-problem.ensures.value) fs zip

@@ -1,47 +1,13 @@
-use Rattle.std.proofs.Common.{◌≡◌, ◌∙◌, ◌∷◌, ◌++◌, [], map, flat_map, filter, length, ap, sym, subst, rules, IfOk}
-use Rattle.std.specs.List.{AllZip, enumerate_from}
-use Rattle.std.proofs.lemmas.Simd.{map-map}
-use Rattle.ref_findings.specs.Sources.{world_of, unsound_sources}
-use Rattle.ref_findings.specs.Bearers.{numbered_sites, sites, uris_borne, names_borne}
-use Rattle.ref_findings.specs.Findings.{Known, unread_sources, place_findings, has_reference}
-use Rattle.ref_findings.specs.Entries.{source_of, IsFindingOf}
-use Rattle.ref_findings.specs.inner.Seen.{Survey, seen_survey, site_of, sound_in, unsound_in, AreSurveys, known_among}
-use Rattle.ref_findings.proofs.Knowing.{known_with, world_is, unsound_is, sites_are, known_is, surveys_are}
+use Rattle.std.proofs.Common.{◌≡◌, ◌∙◌, map, ap, rules}
+use Rattle.ref_findings.specs.inner.Seen.{seen_survey}
 use Rattle.ref_findings.proofs.list.report.Goals as goal
 
-pub index_of-requires-clause-surveys : goal.index_of-requires-clause-surveys
-index_of-requires-clause-surveys c =
+pub surveyed-requires-clause-surveys : goal.surveyed-requires-clause-surveys
+surveyed-requires-clause-surveys c =
     let lent : c.as_slice.result.now ≡ c.in_ok-surveys.surveys.items = search rules in
-    subst (AreSurveys c.args.draft) (sym (ap (map seen_survey) lent ∙ c.in_ok-surveys.ensures.value)) (surveys_are c.args.draft (map source_of c.args.sources.now))
+    ap (map seen_survey) lent ∙ c.in_ok-surveys.ensures.value
 
-pub index_of-requires-clause-others : goal.index_of-requires-clause-others
-index_of-requires-clause-others c =
+pub surveyed-requires-clause-others : goal.surveyed-requires-clause-others
+surveyed-requires-clause-others c =
     let lent : c.as_slice-2.result.now ≡ c.in_ok-others.others.items = search rules in
-    subst (AreSurveys c.args.draft) (sym (ap (map seen_survey) lent ∙ c.in_ok-others.ensures.value)) (surveys_are c.args.draft (map source_of c.args.held.now))
-
-pub returns : goal.returns
-returns c =
-    let draft = c.args.draft in
-    let ss = map source_of c.args.sources.now in
-    let hs = map source_of c.args.held.now in
-    let ts = map seen_survey c.in_ok-surveys.surveys.items in
-    let us = map seen_survey c.in_ok-others.others.items in
-    let ls = map site_of c.in_ok-sites.sites.items in
-    let index = c.in_ok-index.index in
-    let bad = c.in_ok-unsound.unsound in
-    let layer : index ≡ flat_map (sound_in draft) ts ++ flat_map (sound_in draft) us = search rules in
-    let entries : bad ≡ flat_map unsound_in ts ++ flat_map unsound_in us = search rules in
-    let placed : ls ≡ flat_map numbered_sites (enumerate_from 0 (map (λ s. (seen_survey s).places) c.in_ok-surveys.surveys.items)) = search rules in
-    let at_sites : ls ≡ sites draft ss = sites_are draft ss ts ls c.in_ok-surveys.ensures.value (placed ∙ ap (λ l. flat_map numbered_sites (enumerate_from 0 l)) (sym (map-map (λ (t : Survey). t.places) seen_survey c.in_ok-surveys.surveys.items))) in
-    let same = known_is (index ∷ []) bad ls (world_of draft ss hs) (unsound_sources draft ss hs) (sites draft ss)
-    (world_is draft ss hs ts us index c.in_ok-surveys.ensures.value c.in_ok-others.ensures.value layer)
-    (unsound_is draft ss hs ts us bad c.in_ok-surveys.ensures.value c.in_ok-others.ensures.value entries) at_sites in
-    let sliced : c.as_slice-6.result.now ≡ c.in_ok-sites.sites.items = search rules in
-    let found : IfOk c.reported.result (λ report. AllZip IsFindingOf report.findings.items (unread_sources ss ++ place_findings (known_with (index ∷ []) bad ls (uris_borne ls) (names_borne ls)) ls)) =
-    subst (λ items. IfOk c.reported.result (λ report. AllZip IsFindingOf report.findings.items (unread_sources ss ++ place_findings (known_among index bad (map site_of items)) (map site_of items)))) sliced c.reported.ensures.findings in
-    let counted : IfOk c.reported.result (λ report. report.references ≡ length (filter has_reference ls)) =
-    subst (λ items. IfOk c.reported.result (λ report. report.references ≡ length (filter has_reference (map site_of items)))) sliced c.reported.ensures.references in
-    record {
-      findings = subst (λ (k : Known). IfOk c.reported.result (λ report. AllZip IsFindingOf report.findings.items (unread_sources ss ++ place_findings k k.sites))) same found;
-      references = subst (λ l. IfOk c.reported.result (λ report. report.references ≡ length (filter has_reference l))) at_sites counted;
-    }
+    ap (map seen_survey) lent ∙ c.in_ok-others.ensures.value

@@ -9,11 +9,11 @@ use Rattle.ref_index.proofs.Noting.{memory_alone, noted_faultless, noted_stand, 
 use Rattle.ref_index.proofs.Walking.{adds_root, adds_more}
 use Rattle.ref_index.proofs.listed.note.Goals as goal
 
-pub returns-in_err-settle-clause-fault : goal.returns-in_err-settle-clause-fault
-returns-in_err-settle-clause-fault c =
+pub returns-in_err-settle : goal.returns-in_err-settle
+returns-in_err-settle c =
     let d = document_of c.args.document.now in
     let none : faults_of (place_of c.in_ok-root.root) ≡ [] = ap faults_of c.in_ok-root.ensures ∙ (noted_faultless d (map place_of c.args.below.now) c.requires).0 in
-    let fault = memory_alone _ (flat_map faults_of (places d)) c.in_err-settle.field-0.0 none c.in_err-settle.ensures.fault in
+    let fault = memory_alone _ (flat_map faults_of (places d)) c.in_err-settle.field-0.0 none c.in_err-settle.ensures.faults in
     search rules
 
 pub loop-place-init : goal.loop-place-init
@@ -25,12 +25,12 @@ loop-place-init c =
     subst (λ u. AddsPlace c.args.number (Some u) (place_of v) c.args.found.now c.settle.new.found) under c.in_ok-settle.ensures.added in
     subst (λ p. AddsPlaces d c.args.number (p ∷ []) c.args.found.now c.settle.new.found) c.in_ok-root.ensures (adds_root d c.args.number c.args.found.now c.settle.new.found (place_of v) c.in_ok-root.ensures added)
 
-pub returns-in_err-settle-2-clause-fault : goal.returns-in_err-settle-2-clause-fault
-returns-in_err-settle-2-clause-fault c =
+pub returns-in_err-settle-2 : goal.returns-in_err-settle-2
+returns-in_err-settle-2 c =
     let d = document_of c.args.document.now in
     let below = map place_of c.args.below.now in
     let none = all_at (λ p. faults_of p ≡ []) place_of c.args.below.now c.loop-place.place-index c.place-item.result (noted_faultless d below c.requires).1 c.loop-place-test.true c.place-item.is in
-    let fault = memory_alone _ (flat_map faults_of (places d)) c.in_err-settle-2.field-0.0 none c.in_err-settle-2.ensures.fault in
+    let fault = memory_alone _ (flat_map faults_of (places d)) c.in_err-settle-2.field-0.0 none c.in_err-settle-2.ensures.faults in
     search rules
 
 pub loop-place-preserved : goal.loop-place-preserved
@@ -43,8 +43,8 @@ loop-place-preserved c =
     subst (λ l. AddsPlaces d c.args.number (root d ∷ l) c.args.found.now c.settle-in-loop-place.new.found) (sym (taken_more vs i v c.loop-place-test.true c.place-item.is))
     (adds_more d c.args.number c.args.found.now c.loop-place.found c.settle-in-loop-place.new.found (root d ∷ map place_of (take i vs)) (place_of v) at c.loop-place.invariant c.in_ok-settle-2.ensures.added)
 
-pub returns-clause-ok : goal.returns-clause-ok
-returns-clause-ok c =
+pub returns : goal.returns
+returns c =
     let d = document_of c.args.document.now in
     let vs = c.args.below.now in
     let all : take c.loop-place.place-index vs ≡ vs = take_all c.loop-place.place-index vs (omega arith) in

@@ -24,8 +24,8 @@ returns c = λ v at.
     (λ pushed. (
       longer,
       (
-        pushed.0,
-        pushed.1,
-        pushed.2 ∙ ap (λ b. children_with b (place_of w)) (sym based),
+        pushed.0.0,
+        pushed.0.1,
+        pushed.0.2 ∙ ap (λ b. children_with b (place_of w)) (sym based),
       ),
     )) (c.push_children.ensures w (subst (λ u. slice_get c.args.queue.now.items c.args.head ≡ Some u) (sym same) at)))

@@ -1,46 +1,43 @@
-use Rattle.std.proofs.Common.{◌≡◌, ◌∙◌, sym, ap, map, length, vec_len, arith}
+use Rattle.std.proofs.Common.{◌≡◌, ◌∙◌, Vec, Bool, true, [], eqb, sym, refl, ap, map, length, vec_len, arith}
+use Rattle.std.specs.declared.alloc.Global.{Global}
 use Rattle.std.proofs.lemmas.Bool.{eqb-true}
-use Rattle.std.proofs.lemmas.Option.{get_or_from_slice_get}
 use Rattle.serde_json.specs.View.{view}
+use Rattle.ref_draft.specs.declared.spec.walk.Child.{Child}
 use Rattle.ref_draft.specs.Views.{walked_child}
-use Rattle.ref_definitions.specs.Places.{child_place}
 use Rattle.ref_index.specs.inner.Queue.{path_of, value_of}
 use Rattle.ref_index.proofs.Listing.{on_ok}
 use Rattle.ref_index.proofs.Walking.{came, none_came, nothing}
 use Rattle.ref_index.proofs.walk.push_children.Goals as goal
 
-pub returns-then-is_empty : goal.returns-then-is_empty
-returns-then-is_empty c = λ v at.
-    let w = c.index-place.result.now in
-    let same : w ≡ v = c.index-place.ensures ∙ get_or_from_slice_get c.args.queue.now.items c.args.at v w at in
-    let children = c.in_ok-children-in-Lent.children in
-    let zero = eqb-true (vec_len children) 0 (sym c.is_empty.ensures ∙ c.if-is_empty.true) in
+-- a place without children
+no_children : (children : Vec Child Global) (is_empty : Bool) → is_empty ≡ eqb (vec_len children) 0 → is_empty ≡ true → map walked_child children.items ≡ []
+no_children children is_empty is empty =
+    let zero = eqb-true (vec_len children) 0 (sym is ∙ empty) in
     let len : length children.items ≡ 0 = omega (arith, zero) in
-    none_came w v (view c.in-Lent.value.now) c.args.base.now.value c.args.queue.now.items (map walked_child children.items) same (ap value_of c.in-Lent.is) c.in_ok-children-in-Lent.ensures.children c.in_ok-children-in-Lent.ensures.found (ap (map walked_child) (nothing children.items len))
+    ap (map walked_child) (nothing children.items len)
+
+pub returns-then-is_empty : goal.returns-then-is_empty
+returns-then-is_empty c = λ v there.
+    let children = map walked_child c.in_ok-children-in-Borrowed.children.items in
+    let none = none_came (path_of c.index-place.result.now.value) c.args.base.now.value c.args.queue.now.items children (no_children c.in_ok-children-in-Borrowed.children c.is_empty.result c.is_empty.ensures c.if-is_empty.true) in
+    came c.args.queue.now.items c.args.queue.now.items c.args.at c.index-place.result.now v (path_of c.index-place.result.now.value) (view c.in-Borrowed.value.now) c.args.base.now.value children c.index-place.ensures there refl (ap value_of c.in-Borrowed.is) c.in_ok-children-in-Borrowed.ensures.children c.in_ok-children-in-Borrowed.ensures.found none
+
+pub returns-in_ok-path-in-Borrowed : goal.returns-in_ok-path-in-Borrowed
+returns-in_ok-path-in-Borrowed c = λ v there.
+    let path : c.in_ok-path-in-Borrowed.path ≡ path_of c.index-place.result.now.value = c.in_ok-path-in-Borrowed.ensures.value ∙ sym (ap path_of c.in-Borrowed.is) in
+    on_ok c.push_borrowed.result
+    (came c.args.queue.now.items c.push_borrowed.new.queue.items c.args.at c.index-place.result.now v c.in_ok-path-in-Borrowed.path (view c.in-Borrowed.value.now) c.args.base.now.value (map walked_child c.in_ok-children-in-Borrowed.children.items) c.index-place.ensures there (sym path)
+    (ap value_of c.in-Borrowed.is) c.in_ok-children-in-Borrowed.ensures.children c.in_ok-children-in-Borrowed.ensures.found) c.push_borrowed.ensures
 
 pub returns-then-is_empty-2 : goal.returns-then-is_empty-2
-returns-then-is_empty-2 c = λ v at.
-    let w = c.index-place.result.now in
-    let same : w ≡ v = c.index-place.ensures ∙ get_or_from_slice_get c.args.queue.now.items c.args.at v w at in
-    let children = c.in_ok-children-in-Kept.children in
-    let zero = eqb-true (vec_len children) 0 (sym c.is_empty-in-Kept.ensures ∙ c.if-is_empty-2.true) in
-    let len : length children.items ≡ 0 = omega (arith, zero) in
-    none_came w v (view c.in-Kept.value.now) c.args.base.now.value c.args.queue.now.items (map walked_child children.items) same (ap value_of c.in-Kept.is) c.in_ok-children-in-Kept.ensures.children c.in_ok-children-in-Kept.ensures.found (ap (map walked_child) (nothing children.items len))
+returns-then-is_empty-2 c = λ v there.
+    let children = map walked_child c.in_ok-children-in-Owned.children.items in
+    let none = none_came (path_of c.index-place.result.now.value) c.args.base.now.value c.args.queue.now.items children (no_children c.in_ok-children-in-Owned.children c.is_empty-in-Owned.result c.is_empty-in-Owned.ensures c.if-is_empty-2.true) in
+    came c.args.queue.now.items c.args.queue.now.items c.args.at c.index-place.result.now v (path_of c.index-place.result.now.value) (view c.in-Owned.value.now) c.args.base.now.value children c.index-place.ensures there refl (ap value_of c.in-Owned.is) c.in_ok-children-in-Owned.ensures.children c.in_ok-children-in-Owned.ensures.found none
 
-pub returns-in_ok-path-in-Lent : goal.returns-in_ok-path-in-Lent
-returns-in_ok-path-in-Lent c = λ v at.
-    let w = c.index-place.result.now in
-    let same : w ≡ v = c.index-place.ensures ∙ get_or_from_slice_get c.args.queue.now.items c.args.at v w at in
-    let children = map walked_child c.in_ok-children-in-Lent.children.items in
-    let path : c.in_ok-path-in-Lent.path ≡ path_of w.value = c.in_ok-path-in-Lent.ensures.value ∙ sym (ap path_of c.in-Lent.is) in
-    on_ok c.push_lent.result
-    (λ pushed. came w v (view c.in-Lent.value.now) c.args.base.now.value c.args.queue.now.items c.push_lent.new.queue.items pushed.0 children same (ap value_of c.in-Lent.is) c.in_ok-children-in-Lent.ensures.children c.in_ok-children-in-Lent.ensures.found pushed.1 (pushed.2 ∙ ap (λ p. map (child_place p c.args.base.now.value) children) path)) c.push_lent.ensures
-
-pub returns-in_ok-path-in-Kept : goal.returns-in_ok-path-in-Kept
-returns-in_ok-path-in-Kept c = λ v at.
-    let w = c.index-place.result.now in
-    let same : w ≡ v = c.index-place.ensures ∙ get_or_from_slice_get c.args.queue.now.items c.args.at v w at in
-    let children = map walked_child c.in_ok-children-in-Kept.children.items in
-    let path : c.in_ok-path-in-Kept.path ≡ path_of w.value = c.in_ok-path-in-Kept.ensures.value ∙ sym (ap path_of c.in-Kept.is) in
-    on_ok c.push_kept.result
-    (λ pushed. came w v (view c.in-Kept.value.now) c.args.base.now.value c.args.queue.now.items c.push_kept.new.queue.items pushed.0 children same (ap value_of c.in-Kept.is) c.in_ok-children-in-Kept.ensures.children c.in_ok-children-in-Kept.ensures.found pushed.1 (pushed.2 ∙ ap (λ p. map (child_place p c.args.base.now.value) children) path)) c.push_kept.ensures
+pub returns-in_ok-path-in-Owned : goal.returns-in_ok-path-in-Owned
+returns-in_ok-path-in-Owned c = λ v there.
+    let path : c.in_ok-path-in-Owned.path ≡ path_of c.index-place.result.now.value = c.in_ok-path-in-Owned.ensures.value ∙ sym (ap path_of c.in-Owned.is) in
+    on_ok c.push_owned.result
+    (came c.args.queue.now.items c.push_owned.new.queue.items c.args.at c.index-place.result.now v c.in_ok-path-in-Owned.path (view c.in-Owned.value.now) c.args.base.now.value (map walked_child c.in_ok-children-in-Owned.children.items) c.index-place.ensures there (sym path)
+    (ap value_of c.in-Owned.is) c.in_ok-children-in-Owned.ensures.children c.in_ok-children-in-Owned.ensures.found) c.push_owned.ensures

@@ -13,20 +13,20 @@ use Rattle.ref_index.specs.Visits.{IsFirstFault, with_meanings}
 use Rattle.ref_index.proofs.Visiting.{first_of_base, first_of_reference, wants_where, references_where, holds_same}
 use Rattle.ref_index.proofs.walk.settle.Goals as goal
 
-pub returns-in_err-base-clause-fault : goal.returns-in_err-base-clause-fault
-returns-in_err-base-clause-fault c =
+pub returns-in_err-base-clause-faults : goal.returns-in_err-base-clause-faults
+returns-in_err-base-clause-faults c =
     let p = place_of c.args.place.now in
     let outer = c.args.place.now.outer.value in
     let same = c.id-id.ensures.value ∙ ap id_of c.new.ensures.value ∙ ap (identifier p.draft) c.get-value.ensures.value in
-    let fault = first_of_base p.base p.value c.in_err-base.field-0.0 (subst (λ id. IsFaultOf (base_within outer id) c.in_err-base.field-0.0) same c.in_err-base.ensures.fault) in
+    let fault = first_of_base p.base p.value c.in_err-base.field-0.0 (subst (λ id. IsFaultOf (base_within outer id) c.in_err-base.field-0.0) same c.in_err-base.ensures) in
     search rules
 
-pub returns-in_err-add_reference-clause-fault : goal.returns-in_err-add_reference-clause-fault
-returns-in_err-add_reference-clause-fault c =
+pub returns-in_err-add_reference-clause-faults : goal.returns-in_err-add_reference-clause-faults
+returns-in_err-add_reference-clause-faults c =
     let p = place_of c.args.place.now in
     let based : p.base ≡ Ok c.in_ok-base.base.value = search rules in
     let base = c.in_ok-base.base.value in
-    let first = subst (λ d. IsFirstFault (refusals_of (reference_at base d)) c.in_err-add_reference.field-0.0) c.get-value.ensures.value c.in_err-add_reference.ensures.fault in
+    let first = subst (λ d. IsFirstFault (refusals_of (reference_at base d)) c.in_err-add_reference.field-0.0) c.get-value.ensures.value c.in_err-add_reference.ensures.faults in
     let fault = first_of_reference p.base base p.value c.in_err-add_reference.field-0.0 based first in
     search rules
 
@@ -40,7 +40,7 @@ returns-clause-added c = λ layer held holds stands.
     let outer = c.args.place.now.outer.value in
     let same = c.id-id.ensures.value ∙ ap id_of c.new.ensures.value ∙ ap (identifier p.draft) c.get-value.ensures.value in
     let identified = with_identifiers held (identifier_pairs_at p) in
-    let kept = subst (λ id. Holds layer c.add_base.new.found (with_identifiers held (pairs_of_identifier outer id))) same (c.in_ok-add_base.ensures layer held holds c.in_ok-base.ensures.ok) in
+    let kept = subst (λ id. Holds layer c.add_base.new.found (with_identifiers held (pairs_of_identifier outer id))) same (c.in_ok-add_base.ensures layer held holds c.in_ok-base.ensures) in
     let meant = with_meanings c.args.number under p identified in
     let placed = c.in_ok-add_place.ensures layer identified kept stands same based in
     let referring = λ (d : Data). with_wants (with_references meant (pairs_of_value base d)) (wants_of_text Reference (reference_at base d)) in

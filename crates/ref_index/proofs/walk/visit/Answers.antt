@@ -14,10 +14,10 @@ returns-clause-ok c = λ v at.
     let pushed = c.in_ok-push_children.ensures w (subst (λ u. slice_get c.args.queue.now.items c.args.head ≡ Some u) (sym same) at) in
     let visited : IsVisited c.args.number (option_map (λ u. u.now.value) c.args.under) w c.args.found.now c.settle.new.found c.args.queue.now.items c.push_children.new.queue.items = record {
       added = c.in_ok-base.ensures.added;
-      faultless = c.in_ok-base.ensures.faultless;
-      more = pushed.0;
-      grown = pushed.1;
-      children = pushed.2 ∙ ap (λ b. children_with b (place_of w)) (sym based);
-      stand = pushed.3;
+      faultless = c.in_ok-base.ensures.faults;
+      more = pushed.0.0;
+      grown = pushed.0.1;
+      children = pushed.0.2 ∙ ap (λ b. children_with b (place_of w)) (sym based);
+      stand = pushed.1;
     } in
     subst (λ u. IsVisited c.args.number (option_map (λ u. u.now.value) c.args.under) u c.args.found.now c.settle.new.found c.args.queue.now.items c.push_children.new.queue.items) same visited

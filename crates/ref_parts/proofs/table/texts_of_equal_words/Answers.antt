@@ -1,22 +1,10 @@
-use Rattle.std.proofs.Common.{◌≡◌, bytes_eq, true, false, refl, sym, ap, ◌∙◌}
-use Rattle.std.proofs.lemmas.Bool.{false≢true}
-use Rattle.std.specs.Ordering.{nat_cmp, ordering_then, is_eq}
+use Rattle.std.proofs.Common.{◌≡◌, bytes_eq, true, false, sym, ap, ◌∙◌}
+use Rattle.std.specs.Ordering.{nat_cmp, is_eq}
 use Rattle.std.specs.Cmp.Lexicographic.{slice_cmp}
-use Rattle.std.specs.declared.cmp.Ordering.{Ordering}
-use Rattle.std.specs.declared.cmp.Ordering.TheVariants.{Less, Equal, Greater}
 use Rattle.std.proofs.lemmas.Map.Text.{is_eq-slice_cmp}
 use Rattle.ref_parts.specs.inner.SortedEntries.{text_between}
+use Rattle.ref_parts.proofs.OrderLaws.{first_decides, second_decides}
 use Rattle.ref_parts.proofs.table.texts_of_equal_words.Goals as goal
-
-first_decides : (x y : Ordering) → is_eq x ≡ false → x ≡ ordering_then x y
-first_decides Less y unlike = refl
-first_decides Equal y unlike = absurd (false≢true (sym unlike))
-first_decides Greater y unlike = refl
-
-second_decides : (x y : Ordering) → is_eq x ≡ true → y ≡ ordering_then x y
-second_decides Less y alike = absurd (false≢true alike)
-second_decides Equal y alike = refl
-second_decides Greater y alike = absurd (false≢true alike)
 
 pub returns-then-eq : goal.returns-then-eq
 returns-then-eq g c =

@@ -24,8 +24,8 @@ pub returns-in-Ok-world_of : goal.returns-in-Ok-world_of
 returns-in-Ok-world_of c =
     let r = request_view c.args.request in
     let world = c.in-Ok-world_of.registry in
-    let steps : map (step_in (builder_draft r.draft)) (map step_view c.as_slice.result.now) ≡ steps_of r =
-    ap (λ ss. map (step_in (builder_draft r.draft)) (map step_view ss)) c.as_slice.ensures.value in
+    let steps : map (step_in (builder_draft r.draft)) (map step_view c.as_slice-steps.result.now) ≡ steps_of r =
+    ap (λ ss. map (step_in (builder_draft r.draft)) (map step_view ss)) c.as_slice-steps.ensures.value in
     IfOk-weaker c.world_report.result _ _
     (λ report is. world_reported r (unwrap_or c.in-Ok.parent []) world _ _ (report_view report) c.in-Ok.ensures.ok c.in-Ok-world_of.ensures.ok steps refl is)
     c.world_report.ensures

@@ -3,8 +3,8 @@ use Rattle.std.specs.Result.{result_ok}
 use Rattle.serde_json.specs.View.{view}
 use Rattle.ref_draft.specs.Views.{tagged_value, id_of, resource_ref}
 use Rattle.ref_definitions.specs.Places.{identifier_of}
-use Rattle.ref_definitions.specs.Resources.{own_uri}
-use Rattle.ref_definitions.specs.Anchors.{named_entry, named_by_identifier}
+use Rattle.ref_definitions.specs.Resources.{own_uri, meant_place}
+use Rattle.ref_definitions.specs.Anchors.{named_entry}
 use Rattle.ref_uri.specs.Targets.{Refusal}
 use Rattle.ref_resolver.specs.Layered.{world_in}
 use Rattle.ref_resolver.proofs.fragment.identified_base.Goals as goal
@@ -17,8 +17,8 @@ some_text : (id : Option (Bor (List ℕ))) → is_some (option_map (λ text. tex
 some_text None = refl
 some_text (Some i) = refl
 
-pub returns-clause-value : goal.returns-clause-value
-returns-clause-value c = λ name.
+pub returns : goal.returns
+returns c =
     let w = world_in c.args.layers.now in
     let place = c.in_ok-place.place in
     let base = place.entry.now.base.value in
@@ -26,19 +26,6 @@ returns-clause-value c = λ name.
     let same : resource_ref c.new.result ≡ tagged_value p.draft p.value = c.new.ensures.value ∙ ap (λ d. tagged_value d (view place.value.now)) is.draft ∙ ap (λ v. tagged_value p.draft v) is.value in
     let id : option_map (λ text. text.now) c.id.result ≡ identifier_of p = c.id.ensures.value ∙ ap id_of same in
     let some : is_some (identifier_of p) ≡ true = ap is_some (sym id) ∙ some_text c.id.result ∙ c.is_none.ensures ∙ ap not c.if-is_none.false in
-    let own : own_uri p ≡ Some base = own_base (identifier_of p) p.base base is.base some in
-    let at : named_by_identifier w c.args.uri.now name ≡ named_entry w base name =
-    ap (λ m. option_and_then (λ o. named_entry w o name) (option_and_then own_uri m)) found ∙ ap (option_and_then (λ o. named_entry w o name)) own in
     let text : c.as_str.result.now ≡ base = search rules in
-    at ∙ ap (λ u. named_entry w u name) (sym text)
-
-pub returns-clause-base : goal.returns-clause-base
-returns-clause-base c =
-    let place = c.in_ok-place.place in
-    let base = place.entry.now.base.value in
-    let (p, found, is) = c.in_ok-place.ensures.value in
-    let same : resource_ref c.new.result ≡ tagged_value p.draft p.value = c.new.ensures.value ∙ ap (λ d. tagged_value d (view place.value.now)) is.draft ∙ ap (λ v. tagged_value p.draft v) is.value in
-    let id : option_map (λ text. text.now) c.id.result ≡ identifier_of p = c.id.ensures.value ∙ ap id_of same in
-    let some : is_some (identifier_of p) ≡ true = ap is_some (sym id) ∙ some_text c.id.result ∙ c.is_none.ensures ∙ ap not c.if-is_none.false in
-    let text : c.as_str.result.now ≡ base = search rules in
-    ap (option_and_then own_uri) found ∙ own_base (identifier_of p) p.base base is.base some ∙ ap Some (sym text)
+    let own : option_and_then own_uri (meant_place w c.args.uri.now) ≡ Some c.as_str.result.now = ap (option_and_then own_uri) found ∙ own_base (identifier_of p) p.base base is.base some ∙ ap Some (sym text) in
+    record { value = λ name. ap (option_and_then (λ o. named_entry w o name)) own; base = own }

@@ -1,11 +1,11 @@
 use Rattle.std.proofs.Common.{◌≡◌, ℕ, List, [], flat_map, Ok, ap, subst, ◌∙◌, rules}
-use Rattle.ref_definitions.specs.Anchors.{Named, anchor}
+use Rattle.ref_definitions.specs.Anchors.{Named}
 use Rattle.ref_definitions.specs.Lookup.{by_scope, in_scope, entry_of, outermost}
 use Rattle.ref_error.specs.Errors.{IsFaultOf}
 use Rattle.ref_error.proofs.Saying.{fault_as}
 use Rattle.ref_resolver.specs.Resolving.{resolver_of, world_of}
 use Rattle.ref_resolver.specs.inner.Scoped.{dynamic_under}
-use Rattle.ref_resolver.proofs.Scoping.{from_here, turn_ended, turn_passed, turn_taken, last_turn_passed, last_turn_taken, dynamic_means}
+use Rattle.ref_resolver.proofs.Scoping.{from_here, turn_ended, place_stays, place_taken}
 use Rattle.ref_resolver.proofs.fragment.outermost.Goals as goal
 
 pub returns-in_err-found-clause-fault : goal.returns-in_err-found-clause-fault
@@ -22,15 +22,11 @@ returns-in_err-found-clause-fault c = λ n is.
 pub loop-outer-preserved-in-Some-2 : goal.loop-outer-preserved-in-Some-2
 loop-outer-preserved-in-Some-2 c = (
   λ n is.
-      let r = resolver_of c.args.resolver.now in
-      let w = world_of c.args.resolver.now in
-      let name = c.args.name.now in
       let outer = c.in-Some.outer.now in
-      let (m, same, at, means, last) = c.loop-outer.invariant.0 n is in
-      let e : List ℕ × Named = (c.loop-outer.uri.now, m) in
       let uri : c.as_str.result.now ≡ outer = search rules in
-      let (d, dynamic, there) = rw (c.in-Some-2.is, uri) at c.in_ok-found.ensures.ok in
-      (d, same ∙ turn_taken w r name e outer c.loop-outer.outer-iterator c.next.new.self c.in-Some.ensures.steps d dynamic, there, λ first. dynamic_means outer (anchor w outer name) d dynamic, last ∙ last_turn_taken w r name e outer c.loop-outer.outer-iterator c.next.new.self c.in-Some.ensures.steps d dynamic),
+      let found = rw (c.in-Some-2.is, uri) at c.in_ok-found.ensures.ok in
+      place_taken (world_of c.args.resolver.now) (resolver_of c.args.resolver.now) c.args.name.now n c.loop-outer.uri.now outer c.loop-outer.outer-iterator c.next.new.self c.loop-outer.place c.in-Some-2.found c.in-Some.ensures.steps found
+      (c.loop-outer.invariant.0 n is),
   tt,
   tt,
 )
@@ -38,14 +34,11 @@ loop-outer-preserved-in-Some-2 c = (
 pub loop-outer-preserved : goal.loop-outer-preserved
 loop-outer-preserved c = (
   λ n is.
-      let r = resolver_of c.args.resolver.now in
       let w = world_of c.args.resolver.now in
-      let name = c.args.name.now in
       let outer = c.in-Some.outer.now in
-      let (m, same, at, means, last) = c.loop-outer.invariant.0 n is in
-      let e : List ℕ × Named = (c.loop-outer.uri.now, m) in
-      let none : dynamic_under w outer name ≡ Ok [] = search rules in
-      (m, same ∙ turn_passed w r name e outer c.loop-outer.outer-iterator c.next.new.self c.in-Some.ensures.steps none, at, means, last ∙ last_turn_passed w r name e outer c.loop-outer.outer-iterator c.next.new.self c.in-Some.ensures.steps none),
+      let uri : c.as_str.result.now ≡ outer = search rules in
+      let none : dynamic_under w outer c.args.name.now ≡ Ok [] = search rules in
+      place_stays w (resolver_of c.args.resolver.now) c.args.name.now n c.loop-outer.uri.now outer c.loop-outer.outer-iterator c.next.new.self c.loop-outer.place c.in-Some.ensures.steps none (c.loop-outer.invariant.0 n is),
   tt,
   tt,
 )

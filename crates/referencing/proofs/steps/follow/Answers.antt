@@ -6,7 +6,7 @@ use Rattle.referencing.proofs.Stepping.{followed_start, followed_next, followed_
 use Rattle.referencing.proofs.steps.follow.Goals as goal
 
 pub loop-number-init : goal.loop-number-init
-loop-number-init c = (followed_start c.args.registry.now c.args.base (resolver_of c.in-Ok.resolver) c.args.steps.now c.in-Ok.ensures.resolver, c.in-Ok.ensures.world, started c.args.registry.now c.args.base (resolver_of c.in-Ok.resolver) (map step_of c.args.steps.now) c.in-Ok.ensures.resolver)
+loop-number-init c = (followed_start c.args.registry.now c.args.base (resolver_of c.in-Ok.resolver) c.args.steps.now c.in-Ok.ensures.resolver, c.in-Ok.ensures.world ∙ c.layers.ensures.value, started c.args.registry.now c.args.base (resolver_of c.in-Ok.resolver) (map step_of c.args.steps.now) c.in-Ok.ensures.resolver)
 
 pub returns-in-Err-stepped-clause-fault : goal.returns-in-Err-stepped-clause-fault
 returns-in-Err-stepped-clause-fault c =

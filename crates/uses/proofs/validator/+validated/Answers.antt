@@ -8,21 +8,21 @@ use Rattle.referencing.specs.Errors.{IsFaultOf}
 use Rattle.referencing.specs.Resolving.{resolver_of, world_of, found_of, world_found}
 use Rattle.uses.specs.declared.validator.Verdict.TheVariants.{Valid}
 use Rattle.uses.specs.Validating.{referred_from, is_valid, is_of_type, part_for, after_reference, at_child, at_children, validated_within}
-use Rattle.uses.proofs.Validating.{goes_on, stops, ends, too_deep, of_other_type, of_its_type, no_reference, nowhere, there, not_asked, asked, not_entered, one_more, none_left, past_reference}
+use Rattle.uses.proofs.Validating.{meant, goes_on, stops, ends, too_deep, of_other_type, of_its_type, no_reference, nowhere, there, not_asked, asked, not_entered, one_more, none_left, past_reference}
 use Rattle.uses.proofs.validator.+validated.Goals as goal
 use Rattle.uses.proofs.validator.+validated.Goals.{in-Some+in_ok-behind+else-not-is_valid, in_default}
 
-pub returns-then-depth-eq0-clause-value : goal.returns-then-depth-eq0-clause-value
-returns-then-depth-eq0-clause-value t c =
-    too_deep (world_of c.args.resolver.now) c.args.depth (resolver_of c.args.resolver.now) c.args.draft (view c.args.schema.now) (view c.args.instance.now) (omega (arith, c.if-depth-eq0.true))
+pub returns-then-depth-eq0 : goal.returns-then-depth-eq0
+returns-then-depth-eq0 t c =
+    record { gives = too_deep (world_of c.args.resolver.now) c.args.depth (resolver_of c.args.resolver.now) c.args.draft (view c.args.schema.now) (view c.args.instance.now) (omega (arith, c.if-depth-eq0.true)) }
 
-pub returns-then-not-is_of_type-clause-value : goal.returns-then-not-is_of_type-clause-value
-returns-then-not-is_of_type-clause-value t c =
+pub returns-then-not-is_of_type : goal.returns-then-not-is_of_type
+returns-then-not-is_of_type t c =
     let other : is_of_type (view c.args.schema.now) (view c.args.instance.now) ≡ false = search rules in
-    of_other_type (world_of c.args.resolver.now) c.args.depth (resolver_of c.args.resolver.now) c.args.draft (view c.args.schema.now) (view c.args.instance.now) (omega (arith, c.if-depth-eq0.false)) other
+    record { gives = of_other_type (world_of c.args.resolver.now) c.args.depth (resolver_of c.args.resolver.now) c.args.draft (view c.args.schema.now) (view c.args.instance.now) (omega (arith, c.if-depth-eq0.false)) other }
 
-pub returns-in_err-found-clause-fault : goal.returns-in_err-found-clause-fault
-returns-in_err-found-clause-fault t c =
+pub returns-in_err-found : goal.returns-in_err-found
+returns-in_err-found t c =
     let w = world_of c.args.resolver.now in
     let n = c.args.depth in
     let r = resolver_of c.args.resolver.now in
@@ -37,8 +37,8 @@ returns-in_err-found-clause-fault t c =
     let fault : IsFaultOf (validated_within w n r d s i) e = subst (λ a. IsFaultOf a e) (sym (of_its_type w n r d s i (omega (arith, c.if-depth-eq0.false)) its)) ended in
     search rules
 
-pub returns-in_err-behind-clause-fault : goal.returns-in_err-behind-clause-fault
-returns-in_err-behind-clause-fault t c =
+pub returns-in_err-behind : goal.returns-in_err-behind
+returns-in_err-behind t c =
     let w = world_of c.args.resolver.now in
     let n = c.args.depth in
     let r = resolver_of c.args.resolver.now in
@@ -52,13 +52,13 @@ returns-in_err-behind-clause-fault t c =
     let led : referred_from w r s ≡ Some (Ok (found_of found)) = sym c.in_ok-found.ensures.ok ∙ ap (option_map (λ f. Ok (found_of f))) c.in-Some.is in
     let world : world_found found ≡ w = rw c.in-Some.is at c.in_ok-found.ensures.world in
     let at = there w (world_of to.1) (n - 1) i (referred_from w r s) (found_of found) (resolver_of to.1) to.2 (view to.0.now) led (c.into_inner-there.ensures.world ∙ world) c.into_inner-there.ensures.resolver c.into_inner-there.ensures.draft c.into_inner-there.ensures.value in
-    let refused : IsFaultOf (after_reference (validated_within w (n - 1)) i (referred_from w r s)) e = subst (λ a. IsFaultOf a e) (sym at) c.in_err-behind.ensures.fault in
+    let refused : IsFaultOf (after_reference (validated_within w (n - 1)) i (referred_from w r s)) e = subst (λ a. IsFaultOf a e) (sym at) c.in_err-behind.ensures.gives in
     let ended = ends (after_reference (validated_within w (n - 1)) i (referred_from w r s)) (at_children (validated_within w (n - 1)) r i (walked_children d s)) e refused in
     let fault : IsFaultOf (validated_within w n r d s i) e = subst (λ a. IsFaultOf a e) (sym (of_its_type w n r d s i (omega (arith, c.if-depth-eq0.false)) its)) ended in
     search rules
 
-pub returns-then-not-is_valid-clause-value : goal.returns-then-not-is_valid-clause-value
-returns-then-not-is_valid-clause-value t c =
+pub returns-then-not-is_valid : goal.returns-then-not-is_valid
+returns-then-not-is_valid t c =
     let w = world_of c.args.resolver.now in
     let n = c.args.depth in
     let r = resolver_of c.args.resolver.now in
@@ -72,8 +72,10 @@ returns-then-not-is_valid-clause-value t c =
     let led : referred_from w r s ≡ Some (Ok (found_of found)) = sym c.in_ok-found.ensures.ok ∙ ap (option_map (λ f. Ok (found_of f))) c.in-Some.is in
     let world : world_found found ≡ w = rw c.in-Some.is at c.in_ok-found.ensures.world in
     let at = there w (world_of to.1) (n - 1) i (referred_from w r s) (found_of found) (resolver_of to.1) to.2 (view to.0.now) led (c.into_inner-there.ensures.world ∙ world) c.into_inner-there.ensures.resolver c.into_inner-there.ensures.draft c.into_inner-there.ensures.value in
-    of_its_type w n r d s i (omega (arith, c.if-depth-eq0.false)) its
-    ∙ stops (after_reference (validated_within w (n - 1)) i (referred_from w r s)) (at_children (validated_within w (n - 1)) r i (walked_children d s)) c.in_ok-behind.behind (at ∙ c.in_ok-behind.ensures.value) other
+    record {
+      gives = of_its_type w n r d s i (omega (arith, c.if-depth-eq0.false)) its
+          ∙ stops (after_reference (validated_within w (n - 1)) i (referred_from w r s)) (at_children (validated_within w (n - 1)) r i (walked_children d s)) c.in_ok-behind.behind (at ∙ c.in_ok-behind.ensures.gives) other;
+    }
 
 pub loop-child-init : goal.loop-child-init
 loop-child-init t c =
@@ -94,7 +96,7 @@ loop-child-init t c =
           let led : referred_from w r s ≡ Some (Ok (found_of found)) = sym c.in_ok-found.ensures.ok ∙ ap (option_map (λ f. Ok (found_of f))) b.in-Some.is in
           let world : world_found found ≡ w = rw b.in-Some.is at c.in_ok-found.ensures.world in
           let at = there w (world_of to.1) (n - 1) i (referred_from w r s) (found_of found) (resolver_of to.1) to.2 (view to.0.now) led (b.into_inner-there.ensures.world ∙ world) b.into_inner-there.ensures.resolver b.into_inner-there.ensures.draft b.into_inner-there.ensures.value in
-          past_reference w n r d s i b.in_ok-behind.behind items (omega (arith, c.if-depth-eq0.false)) its (at ∙ b.in_ok-behind.ensures.value) valid are
+          past_reference w n r d s i b.in_ok-behind.behind items (omega (arith, c.if-depth-eq0.false)) its (at ∙ b.in_ok-behind.ensures.gives) valid are
       | in_default b ↦
           let none : referred_from w r s ≡ None = search rules in
           past_reference w n r d s i Valid items (omega (arith, c.if-depth-eq0.false)) its (no_reference (validated_within w (n - 1)) i (referred_from w r s) none) refl are
@@ -113,8 +115,8 @@ loop-child-preserved-in_default-part_for t c =
     ∙ one_more next r i items k child c.loop-child-test.true c.child-item.is
     ∙ goes_on (at_child next r i (walked_child child)) (at_children next r i (map walked_child (drop (k + 1) items))) Valid (not_asked next r i (walked_child child) none) refl
 
-pub returns-in_err-inner-clause-fault : goal.returns-in_err-inner-clause-fault
-returns-in_err-inner-clause-fault t c =
+pub returns-in_err-inner : goal.returns-in_err-inner
+returns-in_err-inner t c =
     let next = validated_within (world_of c.args.resolver.now) (c.args.depth - 1) in
     let r = resolver_of c.args.resolver.now in
     let i = view c.args.instance.now in
@@ -129,70 +131,45 @@ returns-in_err-inner-clause-fault t c =
     let fault = subst (λ a. IsFaultOf a e) (sym (c.loop-child.invariant ∙ one_more next r i items k child c.loop-child-test.true c.child-item.is)) ended in
     search rules
 
-pub returns-in_err-below-clause-fault : goal.returns-in_err-below-clause-fault
-returns-in_err-below-clause-fault t c =
-    let w = world_of c.args.resolver.now in
-    let m = c.args.depth - 1 in
-    let next = validated_within w m in
+pub returns-in_err-below : goal.returns-in_err-below
+returns-in_err-below t c =
+    let next = validated_within (world_of c.args.resolver.now) (c.args.depth - 1) in
     let r = resolver_of c.args.resolver.now in
     let i = view c.args.instance.now in
-    let items = c.deref-child-items.result.now in
-    let k = c.loop-child.child-index in
-    let child = c.child-item.result in
-    let part = view c.in-Some-part_for.part.now in
-    let inner = c.in_ok-inner.inner in
+    let child = walked_child c.child-item.result in
     let e = c.in_err-below.field-0.0 in
-    let is : part_for (walked_child child).path i ≡ Some part = search rules in
-    let entered : in_subresource r (walked_child child).draft (walked_child child).value ≡ Ok (resolver_of inner) = search rules in
-    let at = asked w (world_of inner) m r (resolver_of inner) i part (walked_child child) is entered c.in_ok-inner.ensures.world in
-    let refused : IsFaultOf (at_child next r i (walked_child child)) e = subst (λ a. IsFaultOf a e) (sym at) c.in_err-below.ensures.fault in
-    let ended = ends (at_child next r i (walked_child child)) (at_children next r i (map walked_child (drop (k + 1) items))) e refused in
-    let fault = subst (λ a. IsFaultOf a e) (sym (c.loop-child.invariant ∙ one_more next r i items k child c.loop-child-test.true c.child-item.is)) ended in
+    let is : part_for child.path i ≡ Some (view c.in-Some-part_for.part.now) = search rules in
+    let given : as_invalid_uri (in_subresource r child.draft child.value) ≡ Ok (resolver_of c.in_ok-inner.inner) = search rules in
+    let at = asked _ _ (c.args.depth - 1) _ _ _ _ child is (meant _ _ given) c.in_ok-inner.ensures.world in
+    let refused : IsFaultOf (at_child next r i child) e = subst (λ a. IsFaultOf a e) (sym at) c.in_err-below.ensures.gives in
+    let fault = subst (λ a. IsFaultOf a e) (sym (c.loop-child.invariant ∙ one_more _ _ _ _ c.loop-child.child-index c.child-item.result c.loop-child-test.true c.child-item.is)) (ends _ (at_children next r i (map walked_child (drop (c.loop-child.child-index + 1) c.deref-child-items.result.now))) e refused) in
     search rules
 
-pub returns-then-not-is_valid-2-clause-value : goal.returns-then-not-is_valid-2-clause-value
-returns-then-not-is_valid-2-clause-value t c =
-    let w = world_of c.args.resolver.now in
-    let m = c.args.depth - 1 in
-    let next = validated_within w m in
-    let r = resolver_of c.args.resolver.now in
-    let i = view c.args.instance.now in
-    let items = c.deref-child-items.result.now in
-    let k = c.loop-child.child-index in
-    let child = c.child-item.result in
-    let part = view c.in-Some-part_for.part.now in
-    let inner = c.in_ok-inner.inner in
-    let below = c.in_ok-below.below in
-    let is : part_for (walked_child child).path i ≡ Some part = search rules in
-    let entered : in_subresource r (walked_child child).draft (walked_child child).value ≡ Ok (resolver_of inner) = search rules in
-    let other : is_valid below ≡ false = search rules in
-    let at = asked w (world_of inner) m r (resolver_of inner) i part (walked_child child) is entered c.in_ok-inner.ensures.world in
-    c.loop-child.invariant
-    ∙ one_more next r i items k child c.loop-child-test.true c.child-item.is
-    ∙ stops (at_child next r i (walked_child child)) (at_children next r i (map walked_child (drop (k + 1) items))) below (at ∙ c.in_ok-below.ensures.value) other
+pub returns-then-not-is_valid-2 : goal.returns-then-not-is_valid-2
+returns-then-not-is_valid-2 t c =
+    let child = walked_child c.child-item.result in
+    let is : part_for child.path (view c.args.instance.now) ≡ Some (view c.in-Some-part_for.part.now) = search rules in
+    let given : as_invalid_uri (in_subresource (resolver_of c.args.resolver.now) child.draft child.value) ≡ Ok (resolver_of c.in_ok-inner.inner) = search rules in
+    let other : is_valid c.in_ok-below.below ≡ false = search rules in
+    let at = asked _ _ (c.args.depth - 1) _ _ _ _ child is (meant _ _ given) c.in_ok-inner.ensures.world in
+    record {
+      gives = c.loop-child.invariant
+          ∙ one_more _ _ _ _ c.loop-child.child-index c.child-item.result c.loop-child-test.true c.child-item.is
+          ∙ stops _ _ c.in_ok-below.below (at ∙ c.in_ok-below.ensures.gives) other;
+    }
 
 pub loop-child-preserved : goal.loop-child-preserved
 loop-child-preserved t c =
-    let w = world_of c.args.resolver.now in
-    let m = c.args.depth - 1 in
-    let next = validated_within w m in
-    let r = resolver_of c.args.resolver.now in
-    let i = view c.args.instance.now in
-    let items = c.deref-child-items.result.now in
-    let k = c.loop-child.child-index in
-    let child = c.child-item.result in
-    let part = view c.in-Some-part_for.part.now in
-    let inner = c.in_ok-inner.inner in
-    let below = c.in_ok-below.below in
-    let is : part_for (walked_child child).path i ≡ Some part = search rules in
-    let entered : in_subresource r (walked_child child).draft (walked_child child).value ≡ Ok (resolver_of inner) = search rules in
-    let valid : is_valid below ≡ true = search rules in
-    let at = asked w (world_of inner) m r (resolver_of inner) i part (walked_child child) is entered c.in_ok-inner.ensures.world in
+    let child = walked_child c.child-item.result in
+    let valid : is_valid c.in_ok-below.below ≡ true = search rules in
+    let is : part_for child.path (view c.args.instance.now) ≡ Some (view c.in-Some-part_for.part.now) = search rules in
+    let given : as_invalid_uri (in_subresource (resolver_of c.args.resolver.now) child.draft child.value) ≡ Ok (resolver_of c.in_ok-inner.inner) = search rules in
+    let at = asked _ _ (c.args.depth - 1) _ _ _ _ child is (meant _ _ given) c.in_ok-inner.ensures.world in
     c.loop-child.invariant
-    ∙ one_more next r i items k child c.loop-child-test.true c.child-item.is
-    ∙ goes_on (at_child next r i (walked_child child)) (at_children next r i (map walked_child (drop (k + 1) items))) below (at ∙ c.in_ok-below.ensures.value) valid
+    ∙ one_more _ _ _ _ c.loop-child.child-index c.child-item.result c.loop-child-test.true c.child-item.is
+    ∙ goes_on _ _ c.in_ok-below.below (at ∙ c.in_ok-below.ensures.gives) valid
 
-pub returns-clause-value : goal.returns-clause-value
-returns-clause-value t c =
+pub returns : goal.returns
+returns t c =
     let next = validated_within (world_of c.args.resolver.now) (c.args.depth - 1) in
-    c.loop-child.invariant ∙ none_left next (resolver_of c.args.resolver.now) (view c.args.instance.now) c.deref-child-items.result.now c.loop-child.child-index (omega arith)
+    record { gives = c.loop-child.invariant ∙ none_left next (resolver_of c.args.resolver.now) (view c.args.instance.now) c.deref-child-items.result.now c.loop-child.child-index (omega arith) }

@@ -1,17 +1,12 @@
-use Rattle.ref_index.proofs.Holding.{pair_more}
+use Rattle.std.proofs.Common.{◌++◌, ◌∷◌, []}
+use Rattle.ref_index.proofs.Holding.{pair_more, pairs_held}
 use Rattle.ref_index.proofs.Listing.{on_ok}
 use Rattle.ref_index.proofs.found.Found.add_reference.Goals as goal
 
 pub returns : goal.returns
 returns c = record {
   added = λ layer held holds means. on_ok c.push_resolved.result
-      (λ more. record {
-        by_uri = holds.by_uri;
-        by_name = holds.by_name;
-        wanted = holds.wanted;
-        of_identifiers = holds.of_identifiers;
-        of_references = pair_more c.args.self.now.references _ held.references (c.args.base.now, c.args.text.now) holds.of_references more;
-        known = holds.known;
-      })
+      (λ more. pairs_held layer c.args.self.now held c.args.self.now.identifiers c.push_resolved.new.resolved held.identifiers (held.references ++ (c.args.base.now, c.args.text.now) ∷ []) holds holds.of_identifiers
+      (pair_more c.args.self.now.references c.push_resolved.new.resolved held.references (c.args.base.now, c.args.text.now) holds.of_references more))
       (c.push_resolved.ensures means);
 }

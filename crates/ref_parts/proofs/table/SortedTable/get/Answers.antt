@@ -1,6 +1,6 @@
-use Rattle.std.proofs.Common.{◌≡◌, ◌+◌, ◌-◌, ◌*◌, ◌/◌, ◌^◌, ◌<◌, ◌≤◌, length, sym, ap, ◌∙◌, subst, arith}
+use Rattle.std.proofs.Common.{◌≡◌, ◌+◌, ◌-◌, ◌/◌, ◌^◌, ◌<◌, length, refl, sym, ap, ◌∙◌, subst, arith}
 use Rattle.ref_parts.specs.Table.{last_value, pair_count}
-use Rattle.ref_parts.proofs.ProbeLaws.{below_digits, halved, enough, below_middle, above_middle, found_at, found_nowhere, number_at, positive}
+use Rattle.ref_parts.proofs.ProbeLaws.{halved, within_digits, below_middle, above_middle, found_at, found_nowhere, number_at, positive}
 use Rattle.ref_parts.proofs.TableLaws.{key_total}
 use Rattle.ref_parts.specs.inner.SortedEntries.{IsWithin, word_at, key_of}
 use Rattle.ref_parts.proofs.table.SortedTable.get.Goals as goal
@@ -19,8 +19,7 @@ pub probe-requires-clause-counts : goal.probe-requires-clause-counts
 probe-requires-clause-counts g c =
     let kept = c.self.inside.kept.items in
     let small : length kept < 2 ^ 64 = omega (arith, c.self.inside.kept.small, c.self.inside.kept.ok) in
-    let some : 0 < c.loop-low.high - c.loop-low.low = omega arith in
-    let few = below_digits c.loop-low.probes (length kept) 64 (enough _ c.loop-low.probes (length kept) c.loop-low.invariant.left some) small in
+    let few = within_digits _ c.loop-low.probes (c.loop-low.probes + 1) (length kept) 64 c.loop-low.invariant.left (omega arith) refl small in
     omega (arith, few)
 
 pub returns-clause-value : goal.returns-clause-value
@@ -40,10 +39,7 @@ returns-clause-probes g c = λ digits above. c.loop-low.invariant.spent digits (
 
 pub returns-in-Equal-clause-probes : goal.returns-in-Equal-clause-probes
 returns-in-Equal-clause-probes g c = λ digits above.
-    let kept = c.self.inside.kept.items in
-    let some : 0 < c.loop-low.high - c.loop-low.low = omega arith in
-    let few = below_digits c.loop-low.probes (length kept) digits (enough _ c.loop-low.probes (length kept) c.loop-low.invariant.left some) (subst (λ n. n < 2 ^ digits) (ap pair_count (sym c.self.view_is) ∙ sym c.self.invariant.0.count) above) in
-    omega (arith, few, c.in-Equal.ensures.counted)
+    within_digits _ _ _ _ digits c.loop-low.invariant.left (omega arith) c.in-Equal.ensures.counted (subst (λ n. n < 2 ^ digits) (ap pair_count (sym c.self.view_is) ∙ sym c.self.invariant.0.count) above)
 
 pub returns-in-Equal-clause-value : goal.returns-in-Equal-clause-value
 returns-in-Equal-clause-value g c =
@@ -55,32 +51,28 @@ returns-in-Equal-clause-value g c =
 
 pub loop-low-preserved-in-Less : goal.loop-low-preserved-in-Less
 loop-low-preserved-in-Less g c =
-    let kept = c.self.inside.kept.items in
     let middle = (c.loop-low.low + c.loop-low.high) / 2 in
     let some : 0 < c.loop-low.high - c.loop-low.low = omega arith in
-    let probes = c.loop-low.probes in
     record {
       ordered = omega (arith, some);
       within = omega (arith, c.loop-low.invariant.within);
-      below = λ k d under. below_middle key_total (key_of c.self.inside.texts.items) (c.word_at-word.result, (c.args.first.now, c.args.second.now)) kept c.self.invariant.0.sorted middle c.index-slot.result.now (omega arith) c.index-slot.ensures (sym c.in-Less.ensures.order) k d (omega (arith, under));
+      below = λ k d under. below_middle key_total (key_of c.self.inside.texts.items) (c.word_at-word.result, (c.args.first.now, c.args.second.now)) c.self.inside.kept.items c.self.invariant.0.sorted middle c.index-slot.result.now (omega arith) c.index-slot.ensures (sym c.in-Less.ensures.order) k d (omega (arith, under));
       above = λ k d over inside. c.loop-low.invariant.above k d (omega (arith, over, some)) inside;
-      spent = λ digits above. let few = below_digits probes (length kept) digits (enough _ probes (length kept) c.loop-low.invariant.left some) above in omega (arith, few, c.in-Less.ensures.counted);
+      spent = λ digits above. within_digits _ _ _ _ digits c.loop-low.invariant.left some c.in-Less.ensures.counted above;
       idle = λ none. absurd (omega (arith, none, c.in-Less.ensures.counted));
-      left = subst (λ p. (c.loop-low.high - (middle + 1)) * 2 ^ p ≤ length kept) (sym c.in-Less.ensures.counted) (halved (c.loop-low.high - c.loop-low.low) _ probes (length kept) c.loop-low.invariant.left (omega arith));
+      left = halved (c.loop-low.high - c.loop-low.low) (c.loop-low.high - (middle + 1)) _ _ _ c.loop-low.invariant.left c.in-Less.ensures.counted (omega arith);
     }
 
 pub loop-low-preserved : goal.loop-low-preserved
 loop-low-preserved g c =
-    let kept = c.self.inside.kept.items in
     let middle = (c.loop-low.low + c.loop-low.high) / 2 in
     let some : 0 < c.loop-low.high - c.loop-low.low = omega arith in
-    let probes = c.loop-low.probes in
     record {
       ordered = omega (arith, some);
       within = omega (arith, c.loop-low.invariant.within);
       below = c.loop-low.invariant.below;
-      above = above_middle key_total (key_of c.self.inside.texts.items) (c.word_at-word.result, (c.args.first.now, c.args.second.now)) kept c.self.invariant.0.sorted middle c.index-slot.result.now (omega arith) c.index-slot.ensures (sym c.in-Greater.ensures.order);
-      spent = λ digits above. let few = below_digits probes (length kept) digits (enough _ probes (length kept) c.loop-low.invariant.left some) above in omega (arith, few, c.in-Greater.ensures.counted);
+      above = above_middle key_total (key_of c.self.inside.texts.items) (c.word_at-word.result, (c.args.first.now, c.args.second.now)) c.self.inside.kept.items c.self.invariant.0.sorted middle c.index-slot.result.now (omega arith) c.index-slot.ensures (sym c.in-Greater.ensures.order);
+      spent = λ digits above. within_digits _ _ _ _ digits c.loop-low.invariant.left some c.in-Greater.ensures.counted above;
       idle = λ none. absurd (omega (arith, none, c.in-Greater.ensures.counted));
-      left = subst (λ p. (middle - c.loop-low.low) * 2 ^ p ≤ length kept) (sym c.in-Greater.ensures.counted) (halved (c.loop-low.high - c.loop-low.low) _ probes (length kept) c.loop-low.invariant.left (omega arith));
+      left = halved (c.loop-low.high - c.loop-low.low) (middle - c.loop-low.low) _ _ _ c.loop-low.invariant.left c.in-Greater.ensures.counted (omega arith);
     }

@@ -1,9 +1,22 @@
-use Rattle.std.proofs.Common.{rules, ◌≡◌, ◌∙◌, ◌++◌, length, map, sym, ap, subst}
+use Rattle.std.proofs.Common.{rules, ◌≡◌, ◌∙◌, ℕ, List, ◌++◌, length, map, take, drop, sym, ap, subst}
 use Rattle.std.specs.List.{All}
 use Rattle.ref_parts.specs.inner.SortedEntries.{IsWithin, entries_in, moved}
+use Rattle.ref_parts.specs.declared.table.Slot.{Slot}
 use Rattle.ref_parts.proofs.BufferLaws.{within_grown, entries_grown, entries_joined, within_joined}
 use Rattle.ref_parts.proofs.TableLaws.{refilled}
 use Rattle.ref_parts.proofs.table.TableEntries.append.Goals as goal
+
+-- where texts and moved slots are put after others, each slot is within the texts, and the entries are those of both
+joined : {V : Type 0} (texts other texts' read : List ℕ) (slots others old new given slots' : List (Slot V)) (n before : ℕ)
+    → texts' ≡ texts ++ read → read ≡ other → slots' ≡ slots ++ take n (new ++ drop (length new) old) → length new ≡ n → new ≡ map (moved before) given → given ≡ others → before ≡ length texts
+    → All (IsWithin texts) slots → All (IsWithin other) others → All (IsWithin texts') slots' × (entries_in texts' slots' ≡ entries_in texts slots ++ entries_in other others)
+joined texts other texts' read slots others old new given slots' n before grown is more same changed are at within also =
+    let now : texts' ≡ texts ++ other = grown ∙ ap (λ t. texts ++ t) is in
+    let all : slots' ≡ slots ++ map (moved (length texts)) others =
+    more ∙ ap (λ l. slots ++ l) (refilled n old new same ∙ changed ∙ ap (map (moved before)) are) ∙ ap (λ k. slots ++ map (moved k) others) at in (
+      subst (λ t. All (IsWithin t) slots') (sym now) (subst (All (IsWithin (texts ++ other))) (sym all) (within_joined texts other slots others within also)),
+      ap (entries_in texts') all ∙ ap (λ t. entries_in t (slots ++ map (moved (length texts)) others)) now ∙ entries_joined texts other slots others within,
+    )
 
 pub returns-in_err-append-clause-err : goal.returns-in_err-append-clause-err
 returns-in_err-append-clause-err g c =
@@ -17,31 +30,14 @@ returns-in_err-append-clause-err g c =
 
 pub invariant_of-self-2 : goal.invariant_of-self-2
 invariant_of-self-2 g c =
-    let texts = c.self.inside.texts.items in
-    let slots = c.self.inside.slots.items in
-    let other = c.other.inside.texts.items in
-    let others = c.other.inside.slots.items in
-    let grown : c.extend_from_slice.new.self.items ≡ texts ++ other = c.in_ok-extend_from_slice.ensures.items ∙ ap (λ t. texts ++ t) c.as_slice.ensures.value in
-    let more : c.append.new.self.items ≡ slots ++ map (moved (length texts)) others =
-    c.in_ok-append.ensures.items
-    ∙ ap (λ l. slots ++ l) (refilled _ _ c.move_behind.new.slots (c.move_behind.ensures.len ∙ c.as_mut_slice.ensures.len) ∙ c.move_behind.ensures.value ∙ ap (map (moved c.len-before.result)) c.as_mut_slice.ensures.value)
-    ∙ ap (λ n. slots ++ map (moved n) others) (search rules) in
-    subst (λ t. All (IsWithin t) c.append.new.self.items) (sym grown) (subst (All (IsWithin (texts ++ other))) (sym more) (within_joined texts other slots others c.self.invariant c.other.invariant))
+    (joined c.self.inside.texts.items c.other.inside.texts.items _ _ c.self.inside.slots.items c.other.inside.slots.items _ c.move_behind.new.slots _ _ _ c.len-before.result
+    c.in_ok-extend_from_slice.ensures.items c.as_slice.ensures.value c.in_ok-append.ensures.items (c.move_behind.ensures.len ∙ c.as_mut_slice.ensures.len) c.move_behind.ensures.value c.as_mut_slice.ensures.value (search rules) c.self.invariant c.other.invariant).0
 
 pub returns-clause-value : goal.returns-clause-value
 returns-clause-value g c =
-    let texts = c.self.inside.texts.items in
-    let slots = c.self.inside.slots.items in
-    let other = c.other.inside.texts.items in
-    let others = c.other.inside.slots.items in
-    let grown : c.extend_from_slice.new.self.items ≡ texts ++ other = c.in_ok-extend_from_slice.ensures.items ∙ ap (λ t. texts ++ t) c.as_slice.ensures.value in
-    let more : c.append.new.self.items ≡ slots ++ map (moved (length texts)) others =
-    c.in_ok-append.ensures.items
-    ∙ ap (λ l. slots ++ l) (refilled _ _ c.move_behind.new.slots (c.move_behind.ensures.len ∙ c.as_mut_slice.ensures.len) ∙ c.move_behind.ensures.value ∙ ap (map (moved c.len-before.result)) c.as_mut_slice.ensures.value)
-    ∙ ap (λ n. slots ++ map (moved n) others) (search rules) in
-    ap (entries_in c.extend_from_slice.new.self.items) more ∙ ap (λ t. entries_in t (slots ++ map (moved (length texts)) others)) grown
-    ∙ entries_joined texts other slots others c.self.invariant
-    ∙ ap (λ l. l ++ entries_in other others) c.self.view_is ∙ ap (λ l. c.args.self.now ++ l) c.other.view_is
+    (joined c.self.inside.texts.items c.other.inside.texts.items _ _ c.self.inside.slots.items c.other.inside.slots.items _ c.move_behind.new.slots _ _ _ c.len-before.result
+    c.in_ok-extend_from_slice.ensures.items c.as_slice.ensures.value c.in_ok-append.ensures.items (c.move_behind.ensures.len ∙ c.as_mut_slice.ensures.len) c.move_behind.ensures.value c.as_mut_slice.ensures.value (search rules) c.self.invariant c.other.invariant).1
+    ∙ ap (λ l. l ++ entries_in c.other.inside.texts.items c.other.inside.slots.items) c.self.view_is ∙ ap (λ l. c.args.self.now ++ l) c.other.view_is
 
 pub invariant_of-self : goal.invariant_of-self
 invariant_of-self g c =

@@ -1,9 +1,18 @@
-use Rattle.std.proofs.Common.{rules, ◌≡◌, ◌∙◌, ◌+◌, ◌++◌, ◌∷◌, [], length, ap, sym, subst}
+use Rattle.std.proofs.Common.{rules, ◌≡◌, ◌∙◌, ℕ, ◌+◌, List, ◌++◌, ◌∷◌, [], length, ap, sym, subst}
 use Rattle.std.specs.List.{All}
 use Rattle.ref_parts.specs.inner.SortedEntries.{IsWithin, entries_in}
 use Rattle.ref_parts.specs.declared.table.Slot.{Slot}
 use Rattle.ref_parts.proofs.BufferLaws.{within_grown, entries_grown, within_added, entries_added}
 use Rattle.ref_parts.proofs.table.TableEntries.push.Goals as goal
+
+-- where two texts more stand in the buffer and the slots stay, these are within the buffer, and the entries stay
+unchanged : {V : Type 0} (texts first second texts' : List ℕ) (slots slots' : List (Slot V)) → texts' ≡ (texts ++ first) ++ second → slots' ≡ slots → All (IsWithin texts) slots
+    → All (IsWithin texts') slots' × (entries_in texts' slots' ≡ entries_in texts slots)
+unchanged texts first second texts' slots slots' grown kept within =
+    let once = within_grown texts first slots within in (
+      subst (λ t. All (IsWithin t) slots') (sym grown) (subst (All (IsWithin ((texts ++ first) ++ second))) (sym kept) (within_grown (texts ++ first) second slots once)),
+      ap (entries_in texts') kept ∙ ap (λ t. entries_in t slots) grown ∙ entries_grown (texts ++ first) second slots once ∙ entries_grown texts first slots within,
+    )
 
 pub returns-in_err-extend_from_slice-2-clause-err :
     goal.returns-in_err-extend_from_slice-2-clause-err
@@ -16,15 +25,7 @@ returns-in_err-extend_from_slice-2-clause-err g c =
 
 pub returns-in_err-push-clause-err : goal.returns-in_err-push-clause-err
 returns-in_err-push-clause-err g c =
-    let texts = c.self.inside.texts.items in
-    let slots = c.self.inside.slots.items in
-    let first = c.as_bytes.result.now in
-    let second = c.as_bytes-2.result.now in
-    let grown : c.extend_from_slice-2.new.self.items ≡ (texts ++ first) ++ second = search rules in
-    let kept : c.push.new.self.items ≡ slots = search rules in
-    let same : entries_in c.extend_from_slice-2.new.self.items c.push.new.self.items ≡ c.args.self.now =
-    ap (entries_in c.extend_from_slice-2.new.self.items) kept ∙ ap (λ t. entries_in t slots) grown
-    ∙ entries_grown (texts ++ first) second slots (within_grown texts first slots c.self.invariant) ∙ entries_grown texts first slots c.self.invariant ∙ c.self.view_is in
+    let same = (unchanged c.self.inside.texts.items c.as_bytes.result.now c.as_bytes-2.result.now c.extend_from_slice-2.new.self.items c.self.inside.slots.items c.push.new.self.items (search rules) (search rules) c.self.invariant).1 ∙ c.self.view_is in
     search (same, rules)
 
 pub invariant_of-self-2 : goal.invariant_of-self-2
@@ -73,11 +74,4 @@ invariant_of-self-in_err-extend_from_slice-2 g c =
 
 pub invariant_of-self-in_err-push : goal.invariant_of-self-in_err-push
 invariant_of-self-in_err-push g c =
-    let texts = c.self.inside.texts.items in
-    let slots = c.self.inside.slots.items in
-    let first = c.as_bytes.result.now in
-    let second = c.as_bytes-2.result.now in
-    let grown : c.extend_from_slice-2.new.self.items ≡ (texts ++ first) ++ second = search rules in
-    let kept : c.push.new.self.items ≡ slots = search rules in
-    let within = within_grown (texts ++ first) second slots (within_grown texts first slots c.self.invariant) in
-    subst (λ t. All (IsWithin t) c.push.new.self.items) (sym grown) (subst (All (IsWithin ((texts ++ first) ++ second))) (sym kept) within)
+    (unchanged c.self.inside.texts.items c.as_bytes.result.now c.as_bytes-2.result.now c.extend_from_slice-2.new.self.items c.self.inside.slots.items c.push.new.self.items (search rules) (search rules) c.self.invariant).0

@@ -1,17 +1,16 @@
-use Rattle.std.proofs.Common.{◌≡◌, Err, sym, subst, ◌∙◌, rules}
+use Rattle.std.proofs.Common.{◌≡◌, Ok, sym, ap, subst, ◌∙◌, rules}
+use Rattle.serde_json.specs.View.{view}
 use Rattle.ref_draft.specs.Anchors.{Plain, Dynamic}
-use Rattle.ref_definitions.specs.Anchors.{anchor, not_named}
+use Rattle.ref_definitions.specs.Lookup.{moved_resolver}
 use Rattle.ref_error.specs.Errors.{Gives}
 use Rattle.ref_resolver.specs.inner.Located.{IsNameOf}
 use Rattle.ref_resolver.specs.Resolving.{resolver_of, world_of, found_of}
+use Rattle.ref_resolver.proofs.Fragments.{plain_located}
 use Rattle.ref_resolver.proofs.Names.{named_lookup}
 use Rattle.ref_resolver.proofs.resolver.Resolver.at_name.Goals as goal
 
 pub returns-in_default-clause-gives : goal.returns-in_default-clause-gives
-returns-in_default-clause-gives c = λ reference is fragment name.
-    let none : anchor (world_of c.args.self.now) c.args.uri.value c.args.name.now ≡ Err (not_named c.args.name.now) = search rules in
-    let says = c.no_name.ensures reference in
-    search rules
+returns-in_default-clause-gives c = λ reference is fragment name. rw c.deref-in_default.ensures at c.no_name.ensures reference is fragment name (search rules)
 
 pub returns-then-found-clause-gives : goal.returns-then-found-clause-gives
 returns-then-found-clause-gives c = λ reference is fragment name.
@@ -26,4 +25,6 @@ returns-clause-gives c = λ reference is fragment name.
     let text : c.as_str.result.now ≡ c.args.uri.value = search rules in
     let (n, same, called, means, (kind, at)) = named_lookup (IsNameOf c.in-Some.found) w (resolver_of c.args.self.now) reference c.args.uri.value c.args.name.now c.as_str.result.now text is fragment name c.in-Some.ensures in
     let plain : n.kind ≡ Plain = sym kind ∙ search rules in
-    same ∙ rw c.in_ok-resolver.ensures.resolver at c.plain_found.ensures.found w n plain at
+    let text_there : c.as_str-2.result.now ≡ c.args.uri.value = search rules in
+    same ∙ plain_located w (moved_resolver (resolver_of c.args.self.now) c.args.uri.value) n c.in-Some.found.place plain at
+    ∙ ap (λ s. Ok (record { value = view c.in-Some.found.place.value.now; draft = c.in-Some.found.place.entry.now.draft; resolver = record { base = c.args.uri.value; scope = s } })) (sym (rw text_there at c.in_ok-scope.ensures))

@@ -1,4 +1,4 @@
-use Rattle.std.proofs.Common.{◌≡◌, ℕ, List, None, Some, true, false, lit<, refl, sym, ap, subst, ◌∙◌, rules}
+use Rattle.std.proofs.Common.{◌≡◌, ℕ, List, Some, true, false, lit<, refl, sym, ap, subst, ◌∙◌, rules}
 use Rattle.std.proofs.lemmas.Str.Pattern.{strip_prefix_char}
 use Rattle.percent_encoding.specs.Percent.{percent_decode}
 use Rattle.serde_json.specs.View.{view}
@@ -11,24 +11,18 @@ use Rattle.ref_index.specs.Spots.{Spot, spot_of}
 use Rattle.ref_resolver.specs.Locations.{StandsAt, GivesWhere, uri_spot, located, location_view, with_parts, parts_along}
 use Rattle.ref_resolver.specs.Resolving.{resolver_of, world_of, at_pointer}
 use Rattle.ref_resolver.specs.inner.Names.{is_name}
-use Rattle.ref_resolver.proofs.Lookups.{lookup_refused}
-use Rattle.ref_resolver.proofs.Referring.{pointer_leads, whole_leads, absent_says}
+use Rattle.ref_resolver.proofs.Referring.{refused_where, pointer_leads, whole_leads, absent_says}
 use Rattle.ref_resolver.proofs.Spotting.{located_at, whole_spot, pointed_spot}
 use Rattle.ref_resolver.proofs.Standing.{if_ok, gives_where}
 use Rattle.ref_resolver.proofs.resolver.Resolver.location.Goals as goal
 
 pub returns-in_err-uri-clause-gives : goal.returns-in_err-uri-clause-gives
 returns-in_err-uri-clause-gives c =
-    let fault = lookup_refused (world_of c.args.self.now) (resolver_of c.args.self.now) c.args.reference.now c.in_err-uri.field-0.0 c.in_err-uri.ensures.gives in
-    search rules
+    refused_where (world_of c.args.self.now) (resolver_of c.args.self.now) c.args.reference.now c.in_err-uri.field-0.0 c.from_residual.result c.in_err-uri.ensures.gives (search rules)
 
 pub returns-in_default-clause-gives : goal.returns-in_default-clause-gives
 returns-in_default-clause-gives c =
-    let w = world_of c.args.self.now in
-    let uri : List ℕ = c.in_ok-uri.field-0.uri.value in
-    let none : meant_place w uri ≡ None = search rules in
-    let says = rw c.deref-in_default.ensures at c.not_retrieved.ensures.fault in
-    absent_says w (resolver_of c.args.self.now) c.args.reference.now uri c.not_retrieved.result c.in_ok-uri.ensures.gives none says
+    absent_says (world_of c.args.self.now) (resolver_of c.args.self.now) c.args.reference.now c.in_ok-uri.field-0.uri.value c.not_retrieved.result c.in_ok-uri.ensures.gives (search rules) (rw c.deref-in_default.ensures at c.not_retrieved.ensures.fault)
 
 pub returns-in-Some-strip_prefix-clause-gives : goal.returns-in-Some-strip_prefix-clause-gives
 returns-in-Some-strip_prefix-clause-gives c =

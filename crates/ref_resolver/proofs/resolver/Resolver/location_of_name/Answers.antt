@@ -1,6 +1,5 @@
-use Rattle.std.proofs.Common.{◌≡◌, Some, Err, sym, ap, subst, ◌∙◌, rules}
+use Rattle.std.proofs.Common.{◌≡◌, Some, sym, ap, subst, ◌∙◌, rules}
 use Rattle.ref_draft.specs.Anchors.{Plain, Dynamic}
-use Rattle.ref_definitions.specs.Anchors.{anchor, not_named}
 use Rattle.ref_definitions.specs.Lookup.{moved_resolver}
 use Rattle.ref_resolver.specs.inner.Located.{IsNameAt}
 use Rattle.ref_resolver.specs.Locations.{GivesWhere, anchor_spot, naming_uri, located, location_view}
@@ -12,10 +11,7 @@ use Rattle.ref_resolver.proofs.Standing.{if_ok}
 use Rattle.ref_resolver.proofs.resolver.Resolver.location_of_name.Goals as goal
 
 pub returns-in_default-clause-gives : goal.returns-in_default-clause-gives
-returns-in_default-clause-gives c = λ reference is fragment name.
-    let none : anchor (world_of c.args.self.now) c.args.uri.value c.args.name.now ≡ Err (not_named c.args.name.now) = search rules in
-    let says = c.no_name.ensures reference in
-    search rules
+returns-in_default-clause-gives c = λ reference is fragment name. rw c.deref-in_default.ensures at c.no_name.ensures reference is fragment name (search rules)
 
 pub returns-then-found-clause-gives : goal.returns-then-found-clause-gives
 returns-then-found-clause-gives c = λ reference is fragment name.
