@@ -120,7 +120,7 @@ impl<'s, 'a, 'd, 'w, 'o> Sources<'s, 'a, 'd, 'w, 'o> {
         Ok(self.has_faults(needed.as_slice())? || self.is_incomplete(bundle, needed.as_slice())?)
     }
 
-    // Prints what is wrong with the documents that are needed, and answers whether that keeps them from being bundled:
+    // Prints what is wrong with the documents that are needed, and returns whether that keeps them from being bundled:
     // an unresolvable pointer or anchor doesn't.
     fn has_faults(&self, needed: &[bool]) -> Result<bool, AllocError> {
         let mut describer = Describer::new(self.rt.alloc(), self.read, self.list, false)?;
@@ -164,7 +164,7 @@ impl<'s, 'a, 'd, 'w, 'o> Sources<'s, 'a, 'd, 'w, 'o> {
         Ok(is_incomplete)
     }
 
-    // Says which needed documents aren't there, and answers whether there are some.
+    // Says which needed documents aren't there, and returns whether there are some.
     fn say_missing(&self, bundle: &Bundle) -> bool {
         let mut is_missing = false;
         for embedded in &bundle.embedded {

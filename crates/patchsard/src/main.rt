@@ -60,7 +60,7 @@ fn run(rt: &HostRuntime) -> Result<u8, Stop> {
     }
 }
 
-// Goes to the folder that is asked for, answers the subcommand, and prints what is not printed yet.
+// Goes to the folder that is asked for, returns the subcommand, and prints what is not printed yet.
 fn asked(rt: &HostRuntime, matches: &ArgMatches<'_>) -> Result<u8, Stop> {
     if let Some(folder) = matches.get_str("directory") {
         console::go_to(rt, folder)?;

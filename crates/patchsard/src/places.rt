@@ -33,7 +33,7 @@ fn listed(rt: &HostRuntime, console: &mut Console<'_>, given: &Given) -> Result<
     Ok(report_left_out(rt, documents, faulty.as_slice()))
 }
 
-// Prints which files were left out, and answers the status.
+// Prints which files were left out, and returns the status.
 fn report_left_out(rt: &HostRuntime, documents: &[Document], faulty: &[bool]) -> u8 {
     let mut status = 0;
     for (document, is_faulty) in documents.iter().zip(faulty.iter()) {

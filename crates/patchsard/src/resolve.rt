@@ -73,7 +73,7 @@ fn resolve_in(
     }
 }
 
-// Says why a reference is unresolvable, and answers the status.
+// Says why a reference is unresolvable, and returns the status.
 fn unresolvable(rt: &HostRuntime, document: &Document, error: &Error) -> Result<u8, Stop> {
     if error.is_memory() {
         return Err(Stop::Memory);

@@ -5,7 +5,7 @@ use std::fs::{File, Permissions};
 use std::io::Write;
 use std::{fs, io};
 
-/// Writes a file, and answers the status: 0, or 2 where it can't be written, which standard error says. The text goes
+/// Writes a file, and returns the status: 0, or 2 where it can't be written, which standard error says. The text goes
 /// to a file beside it, which is then renamed, so that a file that was there stays as it was until then. A link leads
 /// to the file that is written.
 pub fn write_file(rt: &HostRuntime, path: &str, text: &str) -> Result<u8, Stop> {

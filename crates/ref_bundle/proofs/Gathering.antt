@@ -11,12 +11,13 @@ use Rattle.ref_parts.specs.Path.{value_at}
 use Rattle.ref_definitions.specs.World.{Document, Layer}
 use Rattle.ref_definitions.specs.Places.{Place, places, root, levels_below}
 use Rattle.serde_json.specs.Data.{depth}
-use Rattle.ref_definitions.specs.Listing.{listed_place, listed_from, own_places}
+use Rattle.ref_definitions.specs.Listing.{listed_place, listed_from, local_places}
 use Rattle.ref_bundle.specs.Needed.{counted_documents}
 use Rattle.ref_bundle.specs.inner.Seen.{Seen, see, seen_spot, seen_in, see_listed, all_seen, put_last, put_place, gathered_places, numbered_document, HasPlaces}
 use Rattle.ref_bundle.proofs.Numbers.{one_test}
 use Rattle.ref_bundle.specs.declared.own.Own.{Own}
 use Rattle.ref_bundle.specs.declared.own.Spot.{Spot}
+use Rattle.ref_definitions.proofs.Lists.{at_first, later_in}
 
 -- ---- groups
 
@@ -70,12 +71,6 @@ all_groups gs k (d ∷ ds) long =
 abbrev pub Stand : Layer → Layer → Type 0
 Stand layer ds = (d : Document) (p : Place) → Contains ds d → Contains (places d) p → value_at d.tree p.path ≡ Some p.value
 
-later : {X : Type 0} (x : X) (xs : List X) (y : X) → Contains xs y → Contains (x ∷ xs) y
-later x xs y (k, small, there) = (suc k, omega arith, there)
-
-first : {X : Type 0} (x : X) (xs : List X) → Contains (x ∷ xs) x
-first x xs = (0, omega arith, refl)
-
 see_place : (layer : Layer) (k : ℕ) (d : Document) (p : Place) → slice_get layer k ≡ Some d → value_at d.tree p.path ≡ Some p.value → option_to_list (see_listed layer (listed_place k p)) ≡ see k p ∷ []
 see_place layer k d p here stands =
     ap (λ o. option_to_list (option_map (λ v. record { document = k; path = p.path; value = v; draft = p.draft; base = p.base }) o))
@@ -85,8 +80,8 @@ see_places : (layer : Layer) (k : ℕ) (d : Document) (ps : List Place) → slic
     → all_seen layer (map (listed_place k) ps) ≡ map (see k) ps
 see_places layer k d [] here stand = refl
 see_places layer k d (p ∷ ps) here stand =
-    ap (λ l. l ++ all_seen layer (map (listed_place k) ps)) (see_place layer k d p here (stand p (first p ps)))
-    ∙ ap (λ l. see k p ∷ l) (see_places layer k d ps here (λ q there. stand q (later p ps q there)))
+    ap (λ l. l ++ all_seen layer (map (listed_place k) ps)) (see_place layer k d p here (stand p (at_first p ps)))
+    ∙ ap (λ l. see k p ∷ l) (see_places layer k d ps here (λ q there. stand q (later_in p ps q there)))
 
 see_documents : (layer : Layer) (k : ℕ) (ds : Layer) → ((i : ℕ) → slice_get layer (k + i) ≡ slice_get ds i) → Stand layer ds → all_seen layer (listed_from k ds) ≡ flat_map seen_in (counted_documents k ds)
 see_documents layer k [] from stand = refl
@@ -95,11 +90,11 @@ see_documents layer k (d ∷ ds) from stand =
     let here : slice_get layer k ≡ Some d = ap (slice_get layer) begin ∙ from 0 in
     let next = λ (i : ℕ). (let e : suc k + i ≡ k + suc i = omega arith in ap (slice_get layer) e ∙ from (suc i)) in
     flat_map-append (λ l. option_to_list (see_listed layer l)) (map (listed_place k) (places d)) (listed_from (suc k) ds)
-    ∙ ap (λ l. l ++ all_seen layer (listed_from (suc k) ds)) (see_places layer k d (places d) here (λ p there. stand d p (first d ds) there))
-    ∙ ap (λ l. seen_in (k, d) ++ l) (see_documents layer (suc k) ds next (λ e p among there. stand e p (later d ds e among) there))
+    ∙ ap (λ l. l ++ all_seen layer (listed_from (suc k) ds)) (see_places layer k d (places d) here (λ p there. stand d p (at_first d ds) there))
+    ∙ ap (λ l. seen_in (k, d) ++ l) (see_documents layer (suc k) ds next (λ e p among there. stand e p (later_in d ds e among) there))
 
 -- the places of a registry, gathered, are those of its documents
-pub all_gathered : (layer : Layer) → Stand layer layer → gathered_places [] (all_seen layer (own_places layer)) ≡ map seen_in (counted_documents 0 layer)
+pub all_gathered : (layer : Layer) → Stand layer layer → gathered_places [] (all_seen layer (local_places layer)) ≡ map seen_in (counted_documents 0 layer)
 all_gathered layer stand =
     ap (gathered_places []) (see_documents layer 0 layer (λ i. let e : 0 + i ≡ i = omega arith in ap (slice_get layer) e) stand)
     ∙ all_groups [] 0 layer refl

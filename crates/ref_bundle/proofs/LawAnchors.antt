@@ -19,7 +19,6 @@ use Rattle.ref_definitions.specs.World.{Document, Layer, World}
 use Rattle.ref_definitions.specs.Places.{Place, root, identifier_of, places}
 use Rattle.ref_definitions.specs.Resources.{own_uri, resource_of, resources_in, resources, last_under, meant_place}
 use Rattle.ref_definitions.specs.Anchors.{Named, named_under, named_at, names_in, names, last_named, named_entry, named_by_identifier, not_named, anchor}
-use Rattle.ref_definitions.proofs.Alone.{first_or_later}
 use Rattle.ref_bundle.specs.Needed.{counted_documents}
 use Rattle.ref_bundle.specs.Embedding.{base_uri}
 use Rattle.ref_bundle.specs.Bundle.{uris_of, to_embed}
@@ -30,11 +29,12 @@ use Rattle.ref_bundle.proofs.LawBorne.{IsPut}
 use Rattle.ref_bundle.proofs.LawEmbedded.{base_is}
 use Rattle.ref_bundle.proofs.LawTop.{identifier_top}
 use Rattle.ref_bundle.proofs.LawPlaces.{put_in, AllPut, joined, same_base}
-use Rattle.ref_bundle.proofs.LawNeeded.{each_in, in_one_of, in_mapped, last_kept, IsKeptThere, last_none}
+use Rattle.ref_bundle.proofs.LawNeeded.{last_kept, IsKeptThere, last_none}
 use Rattle.ref_bundle.proofs.LawClosed.{root_needed}
-use Rattle.ref_bundle.proofs.LawFacts.{IsMade, in_layer, root_base, root_counted, embedded_needed, needed_counted, others_free, all_put, all_of, made_places, base_borne, other_base_of}
+use Rattle.ref_bundle.proofs.LawFacts.{IsMade, in_layer, root_base, root_counted, embedded_needed, needed_counted, others_free, all_put, made_places, base_borne, other_base_of}
 use Rattle.ref_bundle.proofs.LawMeaning.{weaker, IsNow, same, embedded_root, bundle_root, EntryNow, NameNow, IsClear, entries_now, names_now, no_names_were}
 use Rattle.ref_bundle.proofs.LawClear.{clear_borne, clear_free}
+use Rattle.ref_definitions.proofs.Lists.{first_or_later, each_in, in_one_of, in_mapped, all_of}
 
 -- ---- places, with the URI that they were found under
 

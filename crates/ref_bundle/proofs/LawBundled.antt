@@ -16,8 +16,8 @@ use Rattle.ref_bundle.specs.Embedding.{obstacle, Obstacle}
 use Rattle.ref_bundle.specs.Bundle.{Bundle, BundleRefusal, NotEmbedded, NoDocument, shared_uri, uris_of, reference_problems, place_problems, place_refusals, at_path, root_refusals, refusals_in, refusals, to_embed, unless_refused, bundle_of, bundle_among}
 use Rattle.ref_bundle.proofs.LawMerges.{nothing_below}
 use Rattle.ref_bundle.proofs.LawEntries.{each_none, none_of, front_empty, back_empty}
-use Rattle.ref_bundle.proofs.LawNeeded.{each_in}
 use Rattle.ref_bundle.proofs.LawClosed.{is_there, there_is, kept_in, passes_kept, stays_reached}
+use Rattle.ref_definitions.proofs.Lists.{each_in}
 
 -- ---- no refusal
 

@@ -14,11 +14,12 @@ use Rattle.ref_bundle.proofs.LawBorne.{IsPut}
 use Rattle.ref_bundle.proofs.LawEmbedded.{base_is}
 use Rattle.ref_bundle.proofs.LawMeans.{IsNoAlias}
 use Rattle.ref_bundle.proofs.LawPlaces.{put_in}
-use Rattle.ref_bundle.proofs.LawNeeded.{each_in, in_mapped, counted_one, counted_kept, IsAlone, alone_among, site_bears, none_bears}
-use Rattle.ref_bundle.proofs.LawClosed.{got_at, in_map, passes_kept, kept_in, target_needed}
+use Rattle.ref_bundle.proofs.LawNeeded.{counted_one, counted_kept, IsAlone, alone_among, site_bears, none_bears}
+use Rattle.ref_bundle.proofs.LawClosed.{got_at, passes_kept, kept_in, target_needed}
 use Rattle.ref_bundle.proofs.LawBundled.{none_in, no_problem, no_reference_problem}
-use Rattle.ref_bundle.proofs.LawFacts.{IsMade, root_counted, needed_counted, embedded_needed, others_free, put_of, all_of}
+use Rattle.ref_bundle.proofs.LawFacts.{IsMade, root_counted, needed_counted, embedded_needed, others_free, put_of}
 use Rattle.ref_bundle.proofs.LawMeaning.{IsClear, borne_by_none, borne_by_root, borne_by_embedded}
+use Rattle.ref_definitions.proofs.Lists.{each_in, in_mapped, all_of, in_map}
 
 -- ---- a URI that a needed place has
 

@@ -5,8 +5,8 @@ use Rattle.std.specs.Option.{option_map_or, option_to_list}
 use Rattle.std.proofs.lemmas.List.Elements.{Contains-append_right}
 use Rattle.ref_definitions.specs.World.{Document, Layer}
 use Rattle.ref_definitions.specs.Places.{Place, places}
-use Rattle.ref_definitions.proofs.Alone.{first_or_later, in_joined}
 use Rattle.ref_bundle.specs.Needed.{counted_documents, document_under, targets, referred_in, referred_from, is_among, numbers, with_referred, reached_documents, numbers_of_needed, needed_documents}
+use Rattle.ref_definitions.proofs.Lists.{first_or_later, in_joined, in_map}
 
 -- ---- numbers of a list
 
@@ -41,11 +41,6 @@ pub kept_in : {X : Type 0} (test : X → Bool) (xs : List X) (x : X) → Contain
 kept_in test [] x there passes = absurd (omega (arith, there.1))
 kept_in test (y ∷ ys) x there passes =
     kept_at test y ys x (test y) refl passes (⊎_elim (λ same. inl same) (λ later. inr (kept_in test ys x later passes)) (first_or_later y ys x there))
-
-pub in_map : {X Y : Type 0} (f : X → Y) (xs : List X) (x : X) → Contains xs x → Contains (map f xs) (f x)
-in_map f [] x there = absurd (omega (arith, there.1))
-in_map f (y ∷ ys) x there =
-    ⊎_elim (λ same. (0, omega arith, ap f same)) (λ later. Contains-append_right (f y ∷ []) (map f ys) (f x) (in_map f ys x later)) (first_or_later y ys x there)
 
 -- ---- documents at their numbers
 

@@ -7,14 +7,14 @@ use Rattle.std.proofs.lemmas.Bool.{or_cases}
 use Rattle.std.proofs.lemmas.List.Kept.{IsStrictlyIncreasing-filter}
 use Rattle.ref_definitions.specs.World.{Document, Layer, World}
 use Rattle.ref_definitions.specs.Places.{places}
-use Rattle.ref_definitions.proofs.Alone.{in_joined}
 use Rattle.ref_bundle.specs.Needed.{counted_documents, document_under, targets, referred_in, referred_from, is_among, numbers, with_referred, reached_documents, numbers_of_needed, needed_documents}
 use Rattle.ref_bundle.specs.Bundle.{Bundle, Embedded, to_embed, embedded_document, bundle_of}
 use Rattle.ref_bundle.specs.Kept.{IsBundle, IsNeeded, root_is, referred_by, EmbedsNeeded}
-use Rattle.ref_bundle.proofs.LawNeeded.{in_one_of, document_bears}
+use Rattle.ref_bundle.proofs.LawNeeded.{document_bears}
 use Rattle.ref_bundle.proofs.LawClosed.{is_there, there_is, or_second, kept_in, passes_kept, IsPicked, picked_after, picked_begun, next_test, stays_needed, in_numbers, root_begun, settled}
 use Rattle.ref_bundle.proofs.LawBundled.{none_mapped, agree}
 use Rattle.ref_bundle.proofs.LawFacts.{made, root_counted}
+use Rattle.ref_definitions.proofs.Lists.{in_joined, in_one_of}
 
 -- ---- the order
 

@@ -15,6 +15,7 @@ use Rattle.ref_definitions.specs.World.{Document}
 use Rattle.ref_definitions.specs.Places.{Place, root, base_within, identifier_of, child_place, children_with, children_of, levels_below, places}
 use Rattle.ref_definitions.specs.Resources.{resource_of, resources_in}
 use Rattle.ref_definitions.specs.Anchors.{Named, named_under, named_at}
+use Rattle.ref_definitions.proofs.Lists.{all_left, all_right}
 
 -- ---- lists
 
@@ -37,14 +38,6 @@ back_empty (x ∷ xs) ys is = absurd (let e : x ∷ (xs ++ ys) ≡ [] = is in cc
 pub each_none : {X A : Type 0} (f : X → List A) (xs : List X) → flat_map f xs ≡ [] → AllByRecursion (λ x. f x ≡ []) xs
 each_none f [] is = tt
 each_none f (x ∷ xs) is = (front_empty (f x) (flat_map f xs) is, each_none f xs (back_empty (f x) (flat_map f xs) is))
-
-pub all_left : {X : Type 0} (P : X → Type 0) (xs ys : List X) → AllByRecursion P (xs ++ ys) → AllByRecursion P xs
-all_left P [] ys each = tt
-all_left P (x ∷ xs) ys each = (each.0, all_left P xs ys each.1)
-
-pub all_right : {X : Type 0} (P : X → Type 0) (xs ys : List X) → AllByRecursion P (xs ++ ys) → AllByRecursion P ys
-all_right P [] ys each = each
-all_right P (x ∷ xs) ys each = all_right P xs ys each.1
 
 -- ---- entries under a URI
 

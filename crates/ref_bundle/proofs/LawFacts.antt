@@ -17,7 +17,6 @@ use Rattle.ref_uri.specs.Targets.{Refusal}
 use Rattle.ref_definitions.specs.World.{Document, Layer, World}
 use Rattle.ref_definitions.specs.Places.{Place, root, base_within, places}
 use Rattle.ref_definitions.specs.Wants.{faults}
-use Rattle.ref_definitions.proofs.Alone.{first_or_later}
 use Rattle.ref_definitions.proofs.AtOrBelow.{place_has_base}
 use Rattle.ref_bundle.specs.Merges.{IsMergeOf}
 use Rattle.ref_bundle.specs.Needed.{counted_documents, is_among, numbers_of_needed, needed_documents}
@@ -30,9 +29,10 @@ use Rattle.ref_bundle.proofs.LawPut.{embeddable}
 use Rattle.ref_bundle.proofs.LawEmbedded.{base_is, put_there}
 use Rattle.ref_bundle.proofs.LawTree.{KeysApart, NoneTaken}
 use Rattle.ref_bundle.proofs.LawPlaces.{HasRoomFor, put_in, AllPut, places_merge}
-use Rattle.ref_bundle.proofs.LawNeeded.{each_in, above, not_equal, free_but}
+use Rattle.ref_bundle.proofs.LawNeeded.{above, not_equal, free_but}
 use Rattle.ref_bundle.proofs.LawClosed.{counted_at, passes_kept, root_needed}
 use Rattle.ref_bundle.proofs.LawBundled.{not_refused, none_in, no_obstacle, no_root_refusal, no_problem, not_shared, root_object}
+use Rattle.ref_definitions.proofs.Lists.{first_or_later, each_in, all_of}
 
 -- ---- bases
 
@@ -188,10 +188,6 @@ put_of layer n top is x there =
     (embeddable top x.1 (no_obstacle layer is.world n top x (none_in layer is.world n top x is.unrefused need.0) need.1))
     (root_base layer (n, top) is.no_fault (root_counted layer n top is.at))
     (root_base layer x is.no_fault (needed_counted layer n x need.0))
-
-pub all_of : {X : Type 0} (P : X → Type 0) (xs : List X) → ((x : X) → Contains xs x → P x) → AllByRecursion P xs
-all_of P [] each = tt
-all_of P (x ∷ xs) each = (each x (0, omega arith, refl), all_of P xs (λ y there. each y (Contains-append_right (x ∷ []) xs y there)))
 
 pub all_put : (layer : Layer) (n : ℕ) (top : Document) → IsMade layer n top → AllPut top (to_embed layer n)
 all_put layer n top is = all_of (λ e. IsPut (put_in top e)) (to_embed layer n) (put_of layer n top is)

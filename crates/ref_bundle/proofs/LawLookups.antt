@@ -1,4 +1,4 @@
--- Look-ups in a bundle answer what they answered.
+-- Look-ups in a bundle return what they returned.
 --
 -- 1. Values and drafts: an embedded document has its draft still, and its places have their values, but for what was added.
 -- 2. A dynamic anchor: its identifier against the URI that it was found under gives the same base, and the entries of the scope are
@@ -21,7 +21,6 @@ use Rattle.ref_definitions.specs.Anchors.{Named, anchor}
 use Rattle.ref_definitions.specs.Fault.{Fault, as_invalid_uri, not_retrieved}
 use Rattle.ref_definitions.specs.Pointers.{pointed_value}
 use Rattle.ref_definitions.specs.Lookup.{Resolver, Found, moved_resolver, in_scope, fault_of, entry_of, is_dynamic, unless_fault, entry_found, outermost, by_scope, named_found, pointer_found, at_fragment, lookup}
-use Rattle.ref_definitions.proofs.Alone.{first_or_later}
 use Rattle.ref_bundle.specs.Embedding.{base_uri, embedded_tree, is_uri_of, has_dynamic_anchor}
 use Rattle.ref_bundle.specs.Bundle.{Bundle, is_name, uris_of, to_embed, bundle_of}
 use Rattle.ref_bundle.specs.Kept.{world_of_bundle, place_in, IsValueNow, the_same, an_embedded, the_root, IsAnswerNow, PointsToDefinitions, IsBorneByNeeded, KeepsReferences}
@@ -32,10 +31,11 @@ use Rattle.ref_bundle.proofs.LawTop.{identifier_top}
 use Rattle.ref_bundle.proofs.LawPlaces.{joined}
 use Rattle.ref_bundle.proofs.LawClosed.{or_first, or_second}
 use Rattle.ref_bundle.proofs.LawBundled.{none_in, no_obstacle}
-use Rattle.ref_bundle.proofs.LawFacts.{IsMade, made, embedded_needed, put_of, all_of, room}
+use Rattle.ref_bundle.proofs.LawFacts.{IsMade, made, embedded_needed, put_of, room}
 use Rattle.ref_bundle.proofs.LawAnchors.{IsNowUnder, same_under, embedded_under, root_under, IsFoundNow, found_same, found_embedded, found_root, NameFound, ResultAlike, IsSafe, Meaning, nothing, of_own, of_parent, meaning, anchor_now}
 use Rattle.ref_bundle.proofs.LawPointers.{AnswerOf, IsApart, LeadsToDefinitions, equal_answer, embedded_pointed, root_pointed}
 use Rattle.ref_bundle.proofs.LawSafe.{IsUnadded, IsSafeTarget, safe_scope, safe_base, safe_target}
+use Rattle.ref_definitions.proofs.Lists.{first_or_later, all_of}
 
 -- what is known of an embedded document
 able_of : (layer : Layer) (n : ℕ) (top : Document) → IsMade layer n top → (e : ℕ × Document) → Contains (to_embed layer n) e → IsEmbeddable top e.1

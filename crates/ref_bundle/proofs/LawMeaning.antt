@@ -15,12 +15,13 @@ use Rattle.ref_bundle.specs.Needed.{counted_documents}
 use Rattle.ref_bundle.specs.Bundle.{bundle_of}
 use Rattle.ref_bundle.specs.Kept.{place_in, places_of_embedded, places_of_root}
 use Rattle.ref_bundle.proofs.LawAlike.{AreAlike, BothAlike, alike_append, last_alike, or_alike, map_alike, filter_alike}
-use Rattle.ref_bundle.proofs.LawEntries.{Under, NamedAs, borne_by, named_by, IsOther, AllOther, none_under, none_at, none_of, IsFree, all_left, all_right}
+use Rattle.ref_bundle.proofs.LawEntries.{Under, NamedAs, borne_by, named_by, IsOther, AllOther, none_under, none_at, none_of, IsFree}
 use Rattle.ref_bundle.proofs.LawBorne.{below_root, IsPut, Became, EntryAlike, NameAlike, one_kept, bears_none, part_other}
 use Rattle.ref_bundle.proofs.LawMeans.{no_entries_of, no_names_of, pick, first_entry, entries_in_pieces, names_in_pieces, entries_of_one, names_of_one, IsNoAlias, part_entries, part_names}
 use Rattle.ref_bundle.proofs.LawTop.{identifier_top, anchors_top}
 use Rattle.ref_bundle.proofs.LawPlaces.{put_in, AllPut, joined, same_base}
-use Rattle.ref_bundle.proofs.LawNeeded.{IsAlone, each_in}
+use Rattle.ref_bundle.proofs.LawNeeded.{IsAlone}
+use Rattle.ref_definitions.proofs.Lists.{each_in, all_left, all_right}
 
 -- ---- a place of the bundle, and what it was
 

@@ -3,16 +3,16 @@ use Rattle.std.proofs.Common.{◌≡◌, ℕ, suc, ◌≤◌, ◌<◌, Bool, tru
 use Rattle.std.specs.List.{AllByRecursion, Contains, last_or}
 use Rattle.std.specs.Option.{option_map_or, option_to_list}
 use Rattle.std.proofs.lemmas.Slice.Eq.{bytes_eq-Decides}
-use Rattle.std.proofs.lemmas.List.Elements.{filter-append, All-contains, All-from_recursion, Contains-append_right, Contains-append_cases}
+use Rattle.std.proofs.lemmas.List.Elements.{filter-append, All-contains, All-from_recursion, Contains-append_right}
 use Rattle.ref_parts.specs.Path.{path_eq}
 use Rattle.ref_draft.proofs.Lists.{all_filter}
 use Rattle.ref_definitions.specs.World.{Document, Layer}
 use Rattle.ref_definitions.specs.Places.{Place, root, places}
 use Rattle.ref_definitions.specs.Resources.{own_uri, resource_of, resources_in, last_under}
-use Rattle.ref_definitions.proofs.Alone.{first_or_later}
 use Rattle.ref_bundle.specs.Needed.{counted_documents, Site, borne_in, sites_of_uris, site_under, document_under}
 use Rattle.ref_bundle.specs.Bundle.{SharedUri, is_site, shared_uri, uris_of}
-use Rattle.ref_bundle.proofs.LawEntries.{IsFree, free, each_none, filter_flat, all_left, all_right, not_first, not_later}
+use Rattle.ref_bundle.proofs.LawEntries.{IsFree, free, each_none, filter_flat, not_first, not_later}
+use Rattle.ref_definitions.proofs.Lists.{first_or_later, in_one_of, in_mapped, all_left, all_right}
 
 -- ---- documents with their numbers
 
@@ -75,25 +75,6 @@ counted_kept test es x is one = record {
 }
 
 -- ---- elements of lists
-
-pub in_one_of : {X A : Type 0} (f : X → List A) (xs : List X) (y : A) → Contains (flat_map f xs) y → (x : X) × Contains xs x × Contains (f x) y
-in_one_of f [] y there = absurd (omega (arith, there.1))
-in_one_of f (x ∷ xs) y there =
-    ⊎_elim
-    (λ here. (x, (0, omega arith, refl), here))
-    (λ later. let found = in_one_of f xs y later in (found.0, Contains-append_right (x ∷ []) xs found.0 found.1, found.2))
-    (Contains-append_cases (f x) (flat_map f xs) y there)
-
-pub in_mapped : {X Y : Type 0} (f : X → Y) (xs : List X) (y : Y) → Contains (map f xs) y → (x : X) × Contains xs x × (f x ≡ y)
-in_mapped f [] y there = absurd (omega (arith, there.1))
-in_mapped f (x ∷ xs) y there =
-    ⊎_elim
-    (λ here. (x, (0, omega arith, refl), here))
-    (λ later. let found = in_mapped f xs y later in (found.0, Contains-append_right (x ∷ []) xs found.0 found.1, found.2))
-    (first_or_later (f x) (map f xs) y there)
-
-pub each_in : {X : Type 0} (P : X → Type 0) (xs : List X) (x : X) → AllByRecursion P xs → Contains xs x → P x
-each_in P xs x each there = All-contains P xs x (All-from_recursion P xs each) there
 
 -- the last of what a test keeps was there, and passes
 pub record IsKeptThere {X : Type 0} (test : X → Bool) (xs : List X) (x : X) : Type 0 where

@@ -14,7 +14,6 @@ use Rattle.ref_definitions.specs.World.{Document, Layer, World}
 use Rattle.ref_definitions.specs.Places.{Place, root, places}
 use Rattle.ref_definitions.specs.Resources.{meant_place}
 use Rattle.ref_definitions.specs.Wants.{Cause, Reference, MetaSchema, Want, reference_at, schema_uri, schema_at, wants_of_text, refusals_of, wants_at, faults_at, wants, faults, is_open, open_wants}
-use Rattle.ref_definitions.proofs.Alone.{first_or_later, in_joined}
 use Rattle.ref_definitions.proofs.AtOrBelow.{place_has_base}
 use Rattle.ref_bundle.specs.Merges.{IsMerge, ended, from_first, from_second, IsMergeOf}
 use Rattle.ref_definitions.specs.Moving.{below_path}
@@ -27,12 +26,12 @@ use Rattle.ref_bundle.proofs.LawEntries.{each_none, none_of, not_first, not_late
 use Rattle.ref_bundle.proofs.LawPut.{text_embedded, meta_embedded, embeddable}
 use Rattle.ref_bundle.proofs.LawTop.{text_top}
 use Rattle.ref_bundle.proofs.LawPlaces.{put_in, joined, same_base}
-use Rattle.ref_bundle.proofs.LawNeeded.{each_in}
 use Rattle.ref_bundle.proofs.LawClosed.{root_needed}
 use Rattle.ref_bundle.proofs.LawBundled.{none_pass, none_in, no_obstacle}
-use Rattle.ref_bundle.proofs.LawFacts.{in_layer, IsMade, made, root_counted, needed_counted, embedded_needed, put_of, all_put, all_of, made_places}
+use Rattle.ref_bundle.proofs.LawFacts.{in_layer, IsMade, made, root_counted, needed_counted, embedded_needed, put_of, all_put, made_places}
 use Rattle.ref_bundle.proofs.LawMeaning.{IsNow, means_now}
 use Rattle.ref_bundle.proofs.LawClear.{clear_target}
+use Rattle.ref_definitions.proofs.Lists.{first_or_later, in_joined, each_in, all_of}
 
 -- ---- what holds of each part holds of all
 

@@ -20,7 +20,6 @@ use Rattle.ref_draft.proofs.Lists.{all_append}
 use Rattle.ref_definitions.specs.World.{Document, Layer, World}
 use Rattle.ref_definitions.specs.Places.{Place, root, identifier_of, base_within, children_of, levels_below, places}
 use Rattle.ref_definitions.specs.Resources.{own_uri, resource_of, resources_in, resources, last_under, meant_place}
-use Rattle.ref_definitions.proofs.Alone.{first_or_later, in_joined}
 use Rattle.ref_definitions.proofs.Differ.{GoesOn, on_with}
 use Rattle.ref_bundle.specs.Needed.{counted_documents, Site, borne_in, sites_of_uris, site_under, document_under, is_among, numbers_of_needed, Reference, reference_of, reference_under, meta_schema_of, references_from, references, needed_documents}
 use Rattle.ref_bundle.specs.Embedding.{base_uri, is_added_under}
@@ -29,7 +28,7 @@ use Rattle.ref_bundle.specs.Kept.{IsBorneByNeeded, RefersBy}
 use Rattle.ref_bundle.proofs.LawEntries.{borne_by, IsFree, IsOther, AllOther, back_empty, each_none, filter_flat, other_levels, not_first, not_later}
 use Rattle.ref_bundle.proofs.LawEmbedded.{base_is}
 use Rattle.ref_bundle.proofs.Numbers.{and_left, and_right}
-use Rattle.ref_bundle.proofs.LawNeeded.{is_of_another, other_number, each_in, in_one_of, last_none, none_of_shared, site_entry, site_bears, none_bears}
+use Rattle.ref_bundle.proofs.LawNeeded.{is_of_another, other_number, last_none, none_of_shared, site_entry, site_bears, none_bears}
 use Rattle.ref_bundle.proofs.LawClosed.{root_needed, got_at, passes_kept}
 use Rattle.ref_bundle.proofs.LawBundled.{none_in, no_problem, not_shared, no_reference_problem}
 use Rattle.ref_bundle.proofs.LawFacts.{IsMade, root_base, root_counted, needed_counted, embedded_needed, base_borne}
@@ -37,6 +36,7 @@ use Rattle.ref_bundle.proofs.LawClear.{Stays, clear_borne, clear_reference}
 use Rattle.ref_bundle.proofs.LawMeaning.{IsClear, no_entries_were}
 use Rattle.ref_bundle.proofs.LawAnchors.{own_base, IsSafe, none_bear, last_is}
 use Rattle.ref_bundle.proofs.LawPointers.{IsApart}
+use Rattle.ref_definitions.proofs.Lists.{first_or_later, in_joined, each_in, in_one_of}
 
 -- ---- paths of places below a root
 

@@ -12,7 +12,7 @@ use Rattle.ref_parts.specs.Pointer.{slash, unescape, tokens}
 use Rattle.ref_draft.specs.declared.draft.Draft.{Draft}
 use Rattle.ref_draft.specs.Keywords.{id_keyword, is_before_2019}
 use Rattle.ref_uri.specs.Targets.{uri_against}
-use Rattle.ref_definitions.specs.World.{Document, Layer, World, own_layer}
+use Rattle.ref_definitions.specs.World.{Document, Layer, World, local_documents}
 use Rattle.ref_definitions.specs.Places.{Place, identifier_of, places}
 use Rattle.ref_definitions.specs.Resources.{own_uri, meant_place}
 use Rattle.ref_bundle.specs.Needed.{Site, sites_of_uris, site_under, document_under, Reference, references, is_among, numbers_of_needed, needed_documents}
@@ -284,4 +284,4 @@ bundle_among layer world number =
 
 -- the same of a world
 abbrev pub bundle_at : World → ℕ → Result Bundle BundleRefusal
-bundle_at world number = bundle_among (own_layer world) world number
+bundle_at world number = bundle_among (local_documents world) world number

@@ -94,7 +94,7 @@ pub data IsValueNow (layer : Layer) (number : ℕ) (top : Document) (bundle : Bu
       → now ≡ bundle.value → before ≡ top.tree
       → IsValueNow layer number top bundle base now before
 
--- What a look-up returns in the bundle, and what it answered: such a value, with the same draft, base and scope, or the same
+-- What a look-up returns in the bundle, and what it returned: such a value, with the same draft, base and scope, or the same
 -- fault.
 abbrev pub IsAnswerNow : Layer → ℕ → Document → Bundle → Result Found Fault → Result Found Fault
     → Type 0
@@ -116,7 +116,7 @@ abbrev pub definitions_now : Layer → ℕ → Document → Data
 definitions_now layer number top =
     object (with_all (map (member_of top.draft) (to_embed layer number)) (definitions_of top))
 
--- What a look-up by a pointer to the root's definitions returns in the bundle, and what it answered: all of them in place of the
+-- What a look-up by a pointer to the root's definitions returns in the bundle, and what it returned: all of them in place of the
 -- root's own, with the same draft, base and scope; or, where the root had none, all of them, and the fault that it led nowhere.
 pub data AreDefinitionsNow (layer : Layer) (number : ℕ) (top : Document) (r : Resolver)
     (pointer : List ℕ) (now before : Result Found Fault) : Type 0 where
@@ -154,7 +154,7 @@ pub record PointsToDefinitions (layer : Layer) (parents : World) (number : ℕ) 
       now before
 
 -- A reference of a place of a needed document, from its base and a scope of URIs that needed places have and no root's
--- identifier replaces: the look-up in the bundle answers what it answered, or it is one of the root's definitions.
+-- identifier replaces: the look-up in the bundle returns what it returned, or it is one of the root's definitions.
 abbrev pub KeepsReferences : Type 0
 KeepsReferences =
     (layer : Layer) (parents : World) (number : ℕ) (top : Document) (bundle : Bundle)

@@ -60,9 +60,9 @@ pub fn needed_documents()
     ensures custom_meta_schema { numbers_of_needed
         (new "http://a/r" (one "$schema" (text "http://v/d#"))
         ∷ new "http://v/d" empty ∷ []) 0 ≡ 0 ∷ 1 ∷ [] }
-    ensures known_meta_schema { numbers_of_needed (new "http://a/r" (one "$schema"
-        (text "http://json-schema.org/draft-07/schema#")) ∷ new "http://json-schema.org/draft-07/schema" empty ∷ []) 0 ≡ 0
-        ∷ [] }
+    ensures known_meta_schema { numbers_of_needed
+        (new "http://a/r" (one "$schema" (text "http://json-schema.org/draft-07/schema#"))
+        ∷ new "http://json-schema.org/draft-07/schema" empty ∷ []) 0 ≡ 0 ∷ [] }
     ensures of_no_document { numbers_of_needed (refers_to_s ∷ []) 1 ≡ [] }
 {}
 
@@ -133,7 +133,8 @@ pub fn added_members()
         ≡ refused_bundle 0 [] (AddedMember (codes "http://a/s") (codes "$id")) }
     ensures percent_encoded { bundle_of_first (refers_to "s#/%24id" ∷ new "http://a/s" empty ∷ [])
         ≡ refused_bundle 0 [] (AddedMember (codes "http://a/s") (codes "$id")) }
-    ensures below_the_identifier { bundle_of_first (refers_to "s#/$id/x" ∷ new "http://a/s" empty ∷ [])
+    ensures below_the_identifier { bundle_of_first
+        (refers_to "s#/$id/x" ∷ new "http://a/s" empty ∷ [])
         ≡ refused_bundle 0 [] (AddedMember (codes "http://a/s") (codes "$id")) }
     ensures relative_identifier { bundle_of_first
         (refers_to "k/s#/$id" ∷ new "http://a/q" (one "$id" (text "k/s")) ∷ [])
@@ -259,12 +260,14 @@ pub fn refusals()
     ensures shadowed_by_none { bundle_above (new "http://a/s" (one "$id" (text "http://b/t")))
         (refers_to "s#n" ∷ new "http://a/u" empty ∷ [])
         ≡ bundle (one "$ref" (text "s#n")) [] }
-    ensures meant_by_its_identifier { bundle_above (new "http://b/t" (one "$id" (text "http://a/s")))
+    ensures meant_by_its_identifier { bundle_above
+        (new "http://b/t" (one "$id" (text "http://a/s")))
         (refers_to "s#n" ∷ new "http://b/t" empty ∷ [])
         ≡ bundle (one "$ref" (text "s#n")) [] }
     ensures of_the_root { bundle_of_first
         (new "http://a/r" (three "$id" (text "http://b/t") "$ref" (text "http://a/s") "not"
-        (one "$ref" (text "http://a/r"))) ∷ new "http://a/s" empty ∷ []) ≡ bundle renamed_root (1 ∷ []) }
+        (one "$ref" (text "http://a/r"))) ∷ new "http://a/s" empty ∷ [])
+        ≡ bundle renamed_root (1 ∷ []) }
     ensures in_order { bundle_of_first
         (refers_to_s ∷ new "http://a/s" (two "$id" (whole_number 1) "$ref" (text "t"))
         ∷ new "http://a/t" yes ∷ []) ≡ refused_bundle 1 [] (NotEmbedded NotAnIdentifier) }

@@ -2,7 +2,7 @@
 ghost use Rattle.std.specs.Prelude.{◌≡◌, drop, slice_get, Some, Ok};
 ghost use Rattle.serde_json.specs.View.{view};
 ghost use Rattle.ref_draft.specs.Children.{InKeyOrder};
-ghost use Rattle.ref_definitions.specs.World.{Document, own_layer};
+ghost use Rattle.ref_definitions.specs.World.{Document, local_documents};
 ghost use Rattle.ref_bundle.specs.Bundle.{Bundle, bundle_at};
 ghost use Rattle.ref_bundle.specs.Kept.{IsBundle};
 
@@ -24,9 +24,9 @@ fn members_are_ordered(value: &Value)
 /// which takes no memory.
 pub fn bundle_is_lawful(registry: &Registry<'_>, root: usize)
     ensures law { (top : Document) (bundle : Bundle)
-        → slice_get (own_layer registry.now) root ≡ Some top
+        → slice_get (local_documents registry.now) root ≡ Some top
         → bundle_at registry.now root ≡ Ok bundle
-        → IsBundle (own_layer registry.now) (drop 1 registry.now) root top bundle }
+        → IsBundle (local_documents registry.now) (drop 1 registry.now) root top bundle }
 {
     registry.references_are_retrieved();
     if let Some(value) = registry.value_at(root, &[]) {

@@ -22,7 +22,7 @@ pub fn bundles_are_prepared()
 
 /// A bundle keeps every reference. For each place of a document that it needs, each text under its `$ref` or `$dynamicRef`,
 /// and each scope of URIs that needed places have and no root's identifier replaces: the look-up in the bundle from the
-/// place's base answers what it answered among the documents, with the same draft, base and scope, or the same fault. The
+/// place's base returns what it returned among the documents, with the same draft, base and scope, or the same fault. The
 /// value is the same, but that an embedded document as a whole, by its base URI, has its identifier and its `$schema`, and
 /// the root as a whole, by its URIs, the embedded documents. A pointer from the root to exactly its definitions returns all
 /// of them, those that were added too; where there were none, it was a fault.
@@ -55,7 +55,8 @@ pub fn look_ups_in_bundles()
           value (one "type" (text "x")) (codes "http://a/s"),
         ) }
     ensures relative_identifier { both (new "http://a/r" (one "$ref" (text "k/s")))
-        (new "http://a/q" (two "$id" (text "k/s") "not" (one "$anchor" (text "n"))) ∷ []) "http://a/r" "k/s#n"
+        (new "http://a/q" (two "$id" (text "k/s") "not" (one "$anchor" (text "n"))) ∷ [])
+        "http://a/r" "k/s#n"
         ≡ alike "http://a/k/s" (one "$anchor" (text "n")) }
     ensures dynamic_anchor { both refers_to_s
         (new "http://a/s" (one "not" (one "$dynamicAnchor" (text "n"))) ∷ [])
@@ -73,7 +74,8 @@ pub fn look_ups_in_bundles()
           value (one "http://a/s" (one "$id" (text "http://a/s"))) (codes "http://a/r"),
           fault (PointerToNowhere (codes "/$defs")),
         ) }
-    ensures escaped_definitions { both refers_to_s (new "http://a/s" empty ∷ []) "http://a/r" "#/%24defs"
+    ensures escaped_definitions { both refers_to_s (new "http://a/s" empty ∷ [])
+        "http://a/r" "#/%24defs"
         ≡ (
           value (one "http://a/s" (one "$id" (text "http://a/s"))) (codes "http://a/r"),
           fault (PointerToNowhere (codes "/%24defs")),

@@ -2,10 +2,10 @@
 ghost use Rattle.std.specs.Prelude.{◌≡◌, [], ◌∷◌, ◌++◌, map, option_map, slice_get, IfOk, OnOk, MatchOption, Some};
 ghost use Rattle.std.specs.List.{AllByRecursion, Contains};
 ghost use Rattle.std.specs.Option.{option_to_list};
-ghost use Rattle.ref_definitions.specs.World.{Document as WorldDocument, own_layer};
+ghost use Rattle.ref_definitions.specs.World.{Document as WorldDocument, local_documents};
 ghost use Rattle.referencing.specs.Document.{document_of};
 ghost use Rattle.ref_definitions.specs.Places.{Place as WorldPlace, places};
-ghost use Rattle.ref_definitions.specs.Listing.{own_places};
+ghost use Rattle.ref_definitions.specs.Listing.{local_places};
 ghost use Rattle.ref_parts.specs.Path.{value_at};
 ghost use Rattle.referencing.specs.ListedPlaces.{listed_of};
 ghost use Rattle.ref_bundle.specs.Needed.{counted_documents};
@@ -41,7 +41,7 @@ pub(crate) struct Own<'r> {
 // A place with its value, where that is in its document.
 fn spot_of<'r>(registry: &'r Registry<'_>, place: Place<'r>) -> Option<Spot<'r>>
     ensures { option_map seen_spot result
-        ≡ see_listed (own_layer registry.now) (listed_of place.entry) }
+        ≡ see_listed (local_documents registry.now) (listed_of place.entry) }
 {
     let value = registry.value_at(place.document, place.path.as_slice())?;
     Some(Spot {
@@ -98,8 +98,8 @@ fn put_some<'r>(
 // The places of a registry.
 fn listed<'r>(alloc: Global, registry: &'r Registry<'_>) -> Result<Vec<Place<'r>>, AllocError>
     ensures value { IfOk result
-        (λ places. map listed_of places.items ≡ own_places (own_layer registry.now)) }
-    ensures there { (d : WorldDocument) (p : WorldPlace) → Contains (own_layer registry.now) d
+        (λ places. map listed_of places.items ≡ local_places (local_documents registry.now)) }
+    ensures there { (d : WorldDocument) (p : WorldPlace) → Contains (local_documents registry.now) d
         → Contains (places d) p
         → value_at d.tree p.path ≡ Some p.value }
 {
@@ -116,7 +116,7 @@ fn groups_of<'r>(
     registry: &'r Registry<'_>,
 ) -> Result<Vec<Vec<Spot<'r>>>, AllocError>
     ensures { IfOk result (λ groups. map (λ g. map seen_spot g.items) groups.items
-        ≡ map seen_in (counted_documents 0 (own_layer registry.now))) }
+        ≡ map seen_in (counted_documents 0 (local_documents registry.now))) }
 {
     let places = listed(alloc, registry)?;
     let mut groups = Vec::new(alloc);
@@ -148,7 +148,7 @@ fn push<'r>(
     places: Vec<Spot<'r>>,
 ) -> Result<(), AllocError>
     ensures { OnOk result
-        (MatchOption (slice_get (own_layer registry.now) number) (owns.new.items ≡ owns.old.items)
+        (MatchOption (slice_get (local_documents registry.now) number) (owns.new.items ≡ owns.old.items)
         (λ d. (o : Own) × (owns.new.items ≡ owns.old.items ++ o ∷ [])
         × (numbered_document o ≡ (number, d)) × (o.places
         ≡ places.entry))) }
@@ -165,7 +165,7 @@ pub(crate) fn owns_of<'r>(
     registry: &'r Registry<'_>,
 ) -> Result<Vec<Own<'r>>, AllocError>
     ensures order { IfOk result
-        (λ owns. map numbered_document owns.items ≡ counted_documents 0 (own_layer registry.now)) }
+        (λ owns. map numbered_document owns.items ≡ counted_documents 0 (local_documents registry.now)) }
     ensures places { IfOk result (λ owns. AllByRecursion HasPlaces owns.items) }
 {
     let groups = groups_of(alloc, registry)?;

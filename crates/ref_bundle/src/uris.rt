@@ -61,9 +61,7 @@ fn without_fragment(alloc: Global, uri: Uri) -> Result<Rc<Uri>, AllocError>
     ensures { IfOk result (λ u. u.value ≡ with_fragment uri None) }
 {
     let mut uri = uri;
-    if let Err(error) = uri.set_fragment(None) {
-        unreachable!("{error}");
-    }
+    uri.drop_fragment();
     Ok(Rc::new(alloc, uri)?)
 }
 

@@ -14,7 +14,7 @@ use Rattle.serde_json.proofs.Views.{Entry, member_later}
 use Rattle.ref_calls.specs.Calls.{pair_of, document_in, each_item}
 use Rattle.ref_calls.proofs.Further.{in_front, in_front_push, first_read}
 use Rattle.ref_definitions.specs.Results.{◌>>=◌}
-use Rattle.ref_calls.specs.inner.Given.{given_of}
+use Rattle.ref_calls.specs.Given.{given_of}
 
 pub not_pair : (vs : List Value) → length vs ≢ 2 → None ≡ pair_of (items_view vs)
 not_pair [] other = refl

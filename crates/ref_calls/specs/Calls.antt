@@ -83,8 +83,8 @@ call_of d = do
 -- ---- members
 
 -- a member that is needed
-abbrev pub required : List ℕ → Data → Result Data Data
-required field d = ok_or (get field d) (field_error MissingField field)
+abbrev pub required_member : List ℕ → Data → Result Data Data
+required_member field d = ok_or (get field d) (field_error MissingField field)
 
 -- the text, the whole number of 64 bits and the items that a member is
 abbrev pub text_in : List ℕ → Data → Result (List ℕ) Data
@@ -136,11 +136,11 @@ schema_in d =
     else Err (field_error InvalidField (codes "schema"))
 
 unfoldable pub schema_of : Data → Result Data Data
-schema_of d = required (codes "schema") d >>= schema_in
+schema_of d = required_member (codes "schema") d >>= schema_in
 
 -- the URI under `base`
 unfoldable pub base_of : Data → Result (List ℕ) Data
-base_of d = required (codes "base") d >>= uri_at (codes "base")
+base_of d = required_member (codes "base") d >>= uri_at (codes "base")
 
 -- the URI that an item of a scope means
 abbrev pub scope_uri : ℕ → Data → Result (List ℕ) Data

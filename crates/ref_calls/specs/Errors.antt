@@ -93,10 +93,10 @@ fault_name (CircularMetaschema uri) = codes "CircularMetaschema"
 fault_name (RetrievalLimit uri limit) = codes "RetrievalLimit"
 
 -- the document that is wanted and isn't there: its URI, and by what it is wanted
-abbrev pub wanted : Fault → Option (List ℕ × List ℕ)
-wanted (Unretrievable uri source) = Some (uri, codes "reference")
-wanted (UnknownSpecification uri) = Some (uri, codes "meta-schema")
-wanted other = None
+abbrev pub wanted_document : Fault → Option (List ℕ × List ℕ)
+wanted_document (Unretrievable uri source) = Some (uri, codes "reference")
+wanted_document (UnknownSpecification uri) = Some (uri, codes "meta-schema")
+wanted_document other = None
 
 abbrev pub wanted_members : Option (List ℕ × List ℕ) → List (List ℕ × Data)
 wanted_members None = []
@@ -105,7 +105,7 @@ wanted_members (Some w) = (codes "uri", string w.0) ∷ (codes "kind", string w.
 -- the members of a fault's error
 abbrev pub fault_members : Fault → List (List ℕ × Data)
 fault_members fault =
-    error_members (fault_name fault) (fault_text fault) ++ wanted_members (wanted fault)
+    error_members (fault_name fault) (fault_text fault) ++ wanted_members (wanted_document fault)
 
 -- a fault's error
 unfoldable pub fault_error : Fault → Data

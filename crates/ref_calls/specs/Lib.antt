@@ -2,4 +2,4 @@ pub mod Outcome
 pub mod Objects
 pub mod Errors
 pub mod Calls
-pub mod inner
+pub mod Given

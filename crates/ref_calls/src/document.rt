@@ -5,7 +5,7 @@ ghost use Rattle.serde_json.specs.View.{view, members_view};
 ghost use Rattle.ref_error.specs.Retrieving.{trees_of};
 ghost use Rattle.ref_calls.specs.Calls as spec;
 ghost use Rattle.ref_calls.specs.Outcome.{Answers};
-ghost use Rattle.ref_calls.specs.inner.Given.{given_of};
+ghost use Rattle.ref_calls.specs.Given.{given_of};
 
 use crate::fault::{Wrong, at_index, field_error};
 use crate::field::uri_in;

@@ -181,7 +181,7 @@ fn name_of(error: &Error) -> &'static str
 // The document that is wanted and isn't there: its URI, and by what it is wanted.
 fn wanted_of(error: &Error) -> Option<(&str, &'static str)>
     ensures { (fault : Fault) → SaysFault error.now fault
-        → option_map (λ w. (w.0.now, w.1.now)) result ≡ spec.wanted fault }
+        → option_map (λ w. (w.0.now, w.1.now)) result ≡ spec.wanted_document fault }
 {
     match error {
         Error::Unretrievable { uri, .. } => Some((uri.as_str(), "reference")),
@@ -196,7 +196,7 @@ fn wanted_of(error: &Error) -> Option<(&str, &'static str)>
 fn put_wanted(alloc: Global, members: &mut Members, error: &Error) -> Result<(), AllocError>
     ensures { (fault : Fault) → SaysFault error.now fault
         → OnOk result (members_view members.new.entries
-        ≡ with_all (spec.wanted_members (spec.wanted fault)) (members_view members.old.entries)) }
+        ≡ with_all (spec.wanted_members (spec.wanted_document fault)) (members_view members.old.entries)) }
 {
     match wanted_of(error) {
         Some((uri, kind)) => {

@@ -20,7 +20,7 @@ use std::rc::Rc;
 
 /// A member that is needed.
 pub fn required<'t>(alloc: Global, tree: &'t Value, field: &str) -> Result<&'t Value, Stop<Value>>
-    ensures { Answers (λ v. view v.now) result (spec.required field.now (view tree.now)) }
+    ensures { Answers (λ v. view v.now) result (spec.required_member field.now (view tree.now)) }
 {
     match tree.get(field) {
         Some(value) => Ok(value),

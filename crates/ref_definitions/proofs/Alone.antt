@@ -1,29 +1,16 @@
 -- A URI that one place has, and no other, means that place.
-use Rattle.std.proofs.Common.{◌≡◌, ℕ, zero, suc, Bool, true, false, cond, List, [], ◌∷◌, filter, flat_map, Option, Some, None, is_some, option_map, option_and_then, Ok, ◌⊎◌, inl, inr, ⊎_elim, refl, sym, ap, subst, ◌∙◌, true≢false, bytes_eq, arith}
+use Rattle.std.proofs.Common.{◌≡◌, ℕ, Bool, true, false, cond, List, [], ◌∷◌, filter, flat_map, Option, Some, None, is_some, option_map, option_and_then, Ok, ◌⊎◌, inl, inr, ⊎_elim, refl, sym, ap, subst, ◌∙◌, true≢false, bytes_eq, arith}
 use Rattle.std.specs.List.{Contains, AllByRecursion, last_or}
 use Rattle.std.specs.Option.{option_map_or, option_to_list}
 use Rattle.std.specs.Result.{result_ok}
-use Rattle.std.proofs.lemmas.List.Elements.{Contains-append_left, Contains-append_right}
+use Rattle.std.proofs.lemmas.List.Elements.{Contains-append_right}
 use Rattle.std.proofs.lemmas.Slice.Eq.{bytes_eq-Decides}
 use Rattle.ref_draft.specs.Schema.{identifier}
 use Rattle.ref_definitions.specs.World.{Document, Layer, World}
 use Rattle.ref_definitions.specs.Places.{Place, root, places, identifier_of, base_within}
 use Rattle.ref_definitions.specs.Resources.{resource_of, resources_in, resources, last_under, meant_place}
 use Rattle.ref_definitions.proofs.Last.{last_there}
-
--- ---- elements
-
-pub first_or_later : {X : Type 0} (x : X) (xs : List X) (y : X) → Contains (x ∷ xs) y → (x ≡ y) ⊎ Contains xs y
-first_or_later x xs y (zero, less, is) = inl is
-first_or_later x xs y (suc k, less, is) = inr (k, omega (arith, less), is)
-
-pub in_joined : {X A : Type 0} (f : X → List A) (xs : List X) (x : X) (y : A) → Contains xs x → Contains (f x) y → Contains (flat_map f xs) y
-in_joined f [] x y there at = absurd (omega (arith, there.1))
-in_joined f (z ∷ xs) x y there at =
-    ⊎_elim
-    (λ same. Contains-append_left (f z) (flat_map f xs) y (subst (λ w. Contains (f w) y) (sym same) at))
-    (λ later. Contains-append_right (f z) (flat_map f xs) y (in_joined f xs x y later at))
-    (first_or_later z xs x there)
+use Rattle.ref_definitions.proofs.Lists.{first_or_later, in_joined}
 
 -- ---- entries under a URI
 

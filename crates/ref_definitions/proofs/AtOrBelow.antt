@@ -11,18 +11,12 @@ use Rattle.ref_definitions.specs.World.{Document, Layer}
 use Rattle.ref_definitions.specs.Places.{Place, root, children_of, levels_below, places}
 use Rattle.ref_definitions.specs.Wants.{faults_at, faults}
 use Rattle.ref_definitions.specs.Agreement.{IsAtOrBelow, itself, below}
-use Rattle.ref_definitions.proofs.Alone.{first_or_later, in_joined}
 use Rattle.ref_definitions.proofs.Below.{path_on}
 use Rattle.ref_definitions.proofs.Differ.{Stands, all_stand, stand_with, Parted, parted_with, GoesOn, on_with, longer}
 use Rattle.ref_definitions.proofs.Levels.{places_end}
+use Rattle.ref_definitions.proofs.Lists.{first_or_later, in_joined, none_in_nothing, in_one_of, at_first}
 
-none_in_nothing : {X : Type 0} (x : X) → ¬ (Contains [] x)
-none_in_nothing x there = omega (arith, there.1)
-
-at_first : {X : Type 0} (x : X) (xs : List X) → Contains (x ∷ xs) x
-at_first x xs = (0, omega arith, refl)
-
--- ---- what stands below a place of a document is one of its places
+-- ---- what is below a place of a document is one of its places
 
 level_closed : (n : ℕ) (ps : List Place) (p c : Place) → Contains (ps ++ levels_below n ps) p → Contains (children_of p) c → Contains (ps ++ levels_below (suc n) ps) c
 level_closed zero ps p c there child =
@@ -47,14 +41,6 @@ below_is_place d q p there itself = there
 below_is_place d q p there (below above child at under) = below_is_place d q child (child_is_place d p child there at) under
 
 -- ---- each place of a document is at or below its root
-
-in_one_of : {X A : Type 0} (f : X → List A) (xs : List X) (y : A) → Contains (flat_map f xs) y → (x : X) × Contains xs x × Contains (f x) y
-in_one_of f [] y there = absurd (none_in_nothing y there)
-in_one_of f (x ∷ xs) y there =
-    ⊎_elim
-    (λ here. (x, at_first x xs, here))
-    (λ later. let found = in_one_of f xs y later in (found.0, Contains-append_right (x ∷ []) xs found.0 found.1, found.2))
-    (Contains-append_cases (f x) (flat_map f xs) y there)
 
 levels_lead : (n : ℕ) (ps : List Place) (q : Place) → Contains (levels_below n ps) q → (p : Place) × Contains ps p × IsAtOrBelow q p
 levels_lead zero ps q there = absurd (none_in_nothing q there)

@@ -79,7 +79,7 @@ Behind draft start value path part next = IsBaseAlong draft start value (path ++
 
 stays_there : (draft : Draft) (start : List ℕ) (value there : Data) (path : List Part) (part : Part) (along next : Along) → IsBaseAlong draft start value path along → value_at value (path ++ part ∷ []) ≡ Some there
     → Stays draft along.base (along.since ++ part ∷ []) there → record { base = along.base; since = along.since ++ part ∷ [] } ≡ next → Behind draft start value path part next
-stays_there draft start value there path part along next before at stays is = subst (Behind draft start value path part) is (stayed path part along there before at stays)
+stays_there draft start value there path part along next before at stays is = subst (Behind draft start value path part) is (stayed path part along before (record { there = there; is_there = at; stays = stays }))
 
 pub same_base : (along : Along) → moved along along.base ≡ along
 same_base along = ap (λ b. cond b along (record { base = along.base; since = [] })) ((bytes_eq-Decides along.base along.base).1 refl)
@@ -92,8 +92,12 @@ by_uri draft start value there path part along next id uri true before at ok has
     (λ other yes other_is. let same : other ≡ id = cc in ap (uri_against along.base) same ∙ means ∙ ap (λ u. Ok u) ((bytes_eq-Decides uri along.base).0 b)) is
 by_uri draft start value there path part along next id uri false before at ok has means b is =
     subst (Behind draft start value path part) is
-    (changed path part along there uri before at
-    (record { accepted = ok; id = id; is = has; means = means; another = λ same. true≢false (sym ((bytes_eq-Decides uri along.base).1 same) ∙ b) }))
+    (changed path part along uri before
+    (record {
+      there = there;
+      is_there = at;
+      change = record { accepted = ok; id = id; is = has; means = means; another = λ same. true≢false (sym ((bytes_eq-Decides uri along.base).1 same) ∙ b) };
+    }))
 
 by_identifier : (draft : Draft) (start : List ℕ) (value there : Data) (path : List Part) (part : Part) (along next : Along) (id : Option (List ℕ)) (b : Bool) → IsBaseAlong draft start value path along → value_at value (path ++ part ∷ []) ≡ Some there
     → scan draft (is_object there) (along.since ++ part ∷ []) ≡ b → identifier draft there ≡ id

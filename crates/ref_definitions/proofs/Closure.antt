@@ -63,51 +63,51 @@ more_retrieved given n layer want more tree unmet answered closure =
 pub closure : (given : Given) (n : ℕ) (layer : Layer) → IsRun given n layer → IsClosure given n layer
 closure given n layer begun =
     record { retrieved = []; is = sym (append-nil given.documents); count = refl; each = tt; apart = λ i j d less within. absurd (omega arith) }
-closure given n layer (retrieved m before want more tree run none unmet answered) =
-    more_retrieved given m before want more tree unmet answered (closure given m before run)
+closure given n layer (retrieved m before want tree run step) =
+    more_retrieved given m before want step.next.more tree step.next.first_open step.answered (closure given m before run)
 
 -- ---- outcomes
 
 stays_ready : (given : Given) → open_wants (given.documents ∷ given.parents) given.documents ≡ [] → (n : ℕ) (layer : Layer) → IsRun given n layer → layer ≡ given.documents
 stays_ready given closed n layer begun = refl
-stays_ready given closed n layer (retrieved m before want more tree run none unmet answered) =
-    absurd (let e : [] ≡ want ∷ more = sym closed ∙ subst (λ l. open_wants (l ∷ given.parents) l ≡ want ∷ more) (stays_ready given closed m before run) unmet in cc)
+stays_ready given closed n layer (retrieved m before want tree run step) =
+    absurd (let e : [] ≡ want ∷ step.next.more = sym closed ∙ subst (λ l. open_wants (l ∷ given.parents) l ≡ want ∷ step.next.more) (stays_ready given closed m before run) step.next.first_open in cc)
 
 stays_faulty : (given : Given) (refusal : Refusal) (rest : List Refusal) → faults given.documents ≡ refusal ∷ rest → (n : ℕ) (layer : Layer) → IsRun given n layer → layer ≡ given.documents
 stays_faulty given refusal rest first n layer begun = refl
-stays_faulty given refusal rest first n layer (retrieved m before want more tree run none unmet answered) =
-    absurd (let e : [] ≡ refusal ∷ rest = sym none ∙ ap faults (stays_faulty given refusal rest first m before run) ∙ first in cc)
+stays_faulty given refusal rest first n layer (retrieved m before want tree run step) =
+    absurd (let e : [] ≡ refusal ∷ rest = sym step.next.no_fault ∙ ap faults (stays_faulty given refusal rest first m before run) ∙ first in cc)
 
 no_open : (given : Given) → open_wants (given.documents ∷ given.parents) given.documents ≡ [] → (n : ℕ) (layer : Layer) → IsRun given n layer → (want : Want) (more : List Want) → open_wants (layer ∷ given.parents) layer ≡ want ∷ more → ⊥
 no_open given closed n layer run want more unmet =
     let e : [] ≡ want ∷ more = sym closed ∙ subst (λ l. open_wants (l ∷ given.parents) l ≡ want ∷ more) (stays_ready given closed n layer run) unmet in cc
 
 pub documents_alone : (given : Given) (answer : Result Layer Fault) → DocumentsAlone given answer
-documents_alone given answer none closed (faulty n layer refusal more run within is) =
-    absurd (let e : [] ≡ refusal ∷ more = sym none ∙ ap faults (sym (stays_ready given closed n layer run)) ∙ is in cc)
-documents_alone given answer none closed (limited layer want more run clean unmet) = absurd (no_open given closed given.limit layer run want more unmet)
-documents_alone given answer none closed (refused n layer want more text run within clean unmet may) = absurd (no_open given closed n layer run want more unmet)
-documents_alone given answer none closed (ready n layer run within clean shut) = ap Ok (stays_ready given closed n layer run)
+documents_alone given answer none closed (faulty refusal end) =
+    absurd (let e : [] ≡ refusal ∷ end.more = sym none ∙ ap faults (sym (stays_ready given closed end.count end.layer end.run)) ∙ end.first_fault in cc)
+documents_alone given answer none closed (limited want end) = absurd (no_open given closed given.limit end.layer end.run want end.next.more end.next.first_open)
+documents_alone given answer none closed (refused want text end) = absurd (no_open given closed end.count end.layer end.run want end.next.more end.next.first_open)
+documents_alone given answer none closed (ready layer end) = ap Ok (stays_ready given closed end.count layer end.run)
 
 no_clean : (given : Given) (refusal : Refusal) (rest : List Refusal) → faults given.documents ≡ refusal ∷ rest → (n : ℕ) (layer : Layer) → IsRun given n layer → faults layer ≡ [] → ⊥
 no_clean given refusal rest first n layer run clean =
     let e : [] ≡ refusal ∷ rest = sym clean ∙ ap faults (stays_faulty given refusal rest first n layer run) ∙ first in cc
 
 pub first_fault_alone : (given : Given) (answer : Result Layer Fault) → FirstFaultAlone given answer
-first_fault_alone given answer refusal rest first (faulty n layer other more run within is) =
-    let same : other ∷ more ≡ refusal ∷ rest = sym is ∙ ap faults (stays_faulty given refusal rest first n layer run) ∙ first in
+first_fault_alone given answer refusal rest first (faulty other end) =
+    let same : other ∷ end.more ≡ refusal ∷ rest = sym end.first_fault ∙ ap faults (stays_faulty given refusal rest first end.count end.layer end.run) ∙ first in
     let e : other ≡ refusal = cc in ap (λ r. Err (InvalidUri r)) e
-first_fault_alone given answer refusal rest first (limited layer want more run clean unmet) = absurd (no_clean given refusal rest first given.limit layer run clean)
-first_fault_alone given answer refusal rest first (refused n layer want more text run within clean unmet may) = absurd (no_clean given refusal rest first n layer run clean)
-first_fault_alone given answer refusal rest first (ready n layer run within clean shut) = absurd (no_clean given refusal rest first n layer run clean)
+first_fault_alone given answer refusal rest first (limited want end) = absurd (no_clean given refusal rest first given.limit end.layer end.run end.next.no_fault)
+first_fault_alone given answer refusal rest first (refused want text end) = absurd (no_clean given refusal rest first end.count end.layer end.run end.next.no_fault)
+first_fault_alone given answer refusal rest first (ready layer end) = absurd (no_clean given refusal rest first end.count layer end.run end.no_fault)
 
 is_ready : (given : Given) (layer : Layer) (answer : Result Layer Fault) → answer ≡ Ok layer → IsOutcome given answer → IsReady given layer
-is_ready given layer answer is (faulty n before refusal more run within first) = absurd (cc)
-is_ready given layer answer is (limited before want more run clean unmet) = absurd (cc)
-is_ready given layer answer is (refused n before want more text run within clean unmet may) = absurd (cc)
-is_ready given layer answer is (ready n before run within clean shut) =
+is_ready given layer answer is (faulty refusal end) = absurd (cc)
+is_ready given layer answer is (limited want end) = absurd (cc)
+is_ready given layer answer is (refused want text end) = absurd (cc)
+is_ready given layer answer is (ready before end) =
     let same : before ≡ layer = cc in
-    subst (λ l. IsReady given l) same (record { count = n; within = within; closure = closure given n before run; no_fault = clean; no_want = shut })
+    subst (λ l. IsReady given l) same (record { count = end.count; within = end.within; closure = closure given end.count before end.run; no_fault = end.no_fault; no_want = end.no_want })
 
 -- a refusal of the retriever is another fault than the limit
 no_limit : (cause : Cause) (wanted text uri : List ℕ) (limit : ℕ) → refusal_fault cause wanted text ≡ RetrievalLimit uri limit → ⊥
@@ -115,14 +115,21 @@ no_limit Reference wanted text uri limit is = cc
 no_limit MetaSchema wanted text uri limit is = cc
 
 is_used_up : (given : Given) (uri : List ℕ) (limit : ℕ) (answer : Result Layer Fault) → answer ≡ Err (RetrievalLimit uri limit) → IsOutcome given answer → IsUsedUp given uri limit
-is_used_up given uri limit answer is (faulty n before refusal more run within first) = absurd (cc)
-is_used_up given uri limit answer is (limited before want more run clean unmet) =
+is_used_up given uri limit answer is (faulty refusal end) = absurd (cc)
+is_used_up given uri limit answer is (limited want end) =
     let same : want.uri ≡ uri = cc in
     let count : limit ≡ given.limit = cc in
-    record { is = count; layer = before; closure = closure given given.limit before run; cause = want.cause; more = more; open_want = subst (λ u. open_wants (before ∷ given.parents) before ≡ record { cause = want.cause; uri = u } ∷ more) same unmet }
-is_used_up given uri limit answer is (refused n before want more text run within clean unmet may) =
+    record {
+      is = count;
+      layer = end.layer;
+      closure = closure given given.limit end.layer end.run;
+      cause = want.cause;
+      more = end.next.more;
+      open_want = subst (λ u. open_wants (end.layer ∷ given.parents) end.layer ≡ record { cause = want.cause; uri = u } ∷ end.next.more) same end.next.first_open;
+    }
+is_used_up given uri limit answer is (refused want text end) =
     let same : refusal_fault want.cause want.uri text ≡ RetrievalLimit uri limit = cc in absurd (no_limit want.cause want.uri text uri limit same)
-is_used_up given uri limit answer is (ready n before run within clean shut) = absurd (cc)
+is_used_up given uri limit answer is (ready layer end) = absurd (cc)
 
 pub outcome_laws : (given : Given) → OutcomeLaws given
 outcome_laws given = record {

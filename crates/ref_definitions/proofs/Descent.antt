@@ -7,11 +7,7 @@ use Rattle.ref_draft.proofs.Lists.{all_append}
 use Rattle.ref_definitions.specs.World.{Document}
 use Rattle.ref_definitions.specs.Places.{Place, root, children_of, levels_below}
 use Rattle.ref_definitions.specs.Descent.{IsChildOfOne, AreChildren}
-
--- of lists of which the second has all that the first has
-all_contained : {X : Type 0} (xs all : List X) → ((x : X) → Contains xs x → Contains all x) → AllByRecursion (Contains all) xs
-all_contained [] all within = tt
-all_contained (x ∷ xs) all within = (within x (0, omega arith, refl), all_contained xs all (λ y there. within y (Contains-append_right (x ∷ []) xs y there)))
+use Rattle.ref_definitions.proofs.Lists.{all_of}
 
 by_parent : (before : List Place) (p : Place) (cs : List Place) → Contains before p → AllByRecursion (Contains (children_of p)) cs → AllByRecursion (IsChildOfOne before) cs
 by_parent before p [] there each = tt
@@ -21,7 +17,7 @@ by_level : (before ps : List Place) → AllByRecursion (Contains before) ps → 
 by_level before [] there = tt
 by_level before (p ∷ ps) there =
     all_append (IsChildOfOne before) (children_of p) (flat_map children_of ps)
-    (by_parent before p (children_of p) there.0 (all_contained (children_of p) (children_of p) (λ x t. t))) (by_level before ps there.1)
+    (by_parent before p (children_of p) there.0 (all_of (Contains (children_of p)) (children_of p) (λ x t. t))) (by_level before ps there.1)
 
 later : (before more ps : List Place) → AllByRecursion (IsChildOfOne before) ps → AllByRecursion (IsChildOfOne (before ++ more)) ps
 later before more [] each = tt
@@ -42,7 +38,7 @@ descend zero before ps there = tt
 descend (suc n) before ps there =
     let cs = flat_map children_of ps in
     joined before cs (levels_below n cs) (are_children before cs (by_level before ps there))
-    (descend n (before ++ cs) cs (all_contained cs (before ++ cs) (λ x t. Contains-append_right before cs x t)))
+    (descend n (before ++ cs) cs (all_of (Contains (before ++ cs)) cs (λ x t. Contains-append_right before cs x t)))
 
 pub places_descend : (d : Document) (n : ℕ) → AreChildren (root d ∷ []) (levels_below n (root d ∷ []))
 places_descend d n = descend n (root d ∷ []) (root d ∷ []) ((0, omega arith, refl), tt)

@@ -2,7 +2,6 @@
 use Rattle.std.proofs.Common.{◌≡◌, ℕ, zero, suc, ◌<◌, List, [], ◌∷◌, ◌++◌, length, get_or, flat_map, map, Some, Result, Ok, Err, ◌⊎◌, inl, inr, option_and_then, refl, sym, ap, subst, ◌∙◌, append_assoc, arith}
 use Rattle.std.specs.List.{AllByRecursion, AllPairs}
 use Rattle.std.proofs.lemmas.List.{append-nil}
-use Rattle.std.proofs.lemmas.List.Elements.{All-contains, All-from_recursion}
 use Rattle.serde_json.specs.Data.{Data, depth}
 use Rattle.ref_parts.specs.Path.{Part, value_at}
 use Rattle.ref_draft.specs.declared.draft.Draft.{Draft}
@@ -16,6 +15,8 @@ use Rattle.ref_definitions.specs.World.{Document}
 use Rattle.ref_definitions.specs.Places.{Place, root, child_place, children_with, children_of, levels_below, places}
 use Rattle.ref_definitions.specs.Agreement.{ChildrenStand}
 use Rattle.ref_definitions.proofs.Changes.{value_at-append}
+use Rattle.ref_definitions.proofs.Lists.{each_in}
+use Rattle.ref_definitions.proofs.Induction.{level_induct, places_induct}
 
 -- ---- values at paths
 
@@ -38,25 +39,17 @@ stand_with tree p (Ok base) stands =
 stand_with tree p (Err refusal) stands = tt
 
 stand_level : (tree : Data) (ps : List Place) → AllByRecursion (Stands tree) ps → AllByRecursion (Stands tree) (flat_map children_of ps)
-stand_level tree [] stand = tt
-stand_level tree (p ∷ ps) stand = all_append (Stands tree) (children_of p) (flat_map children_of ps) (stand_with tree p p.base stand.0) (stand_level tree ps stand.1)
-
-stand_below : (tree : Data) (n : ℕ) (ps : List Place) → AllByRecursion (Stands tree) ps → AllByRecursion (Stands tree) (levels_below n ps)
-stand_below tree zero ps stand = tt
-stand_below tree (suc n) ps stand =
-    let level = stand_level tree ps stand in
-    all_append (Stands tree) (flat_map children_of ps) (levels_below n (flat_map children_of ps)) level (stand_below tree n (flat_map children_of ps) level)
+stand_level tree ps stand = level_induct (Stands tree) (λ p stands. stand_with tree p p.base stands) ps stand
 
 pub all_stand : (d : Document) → HasUniqueKeys d.tree → AllByRecursion (Stands d.tree) (places d)
-all_stand d unique =
-    let first : Stands d.tree (root d) = record { there = refl; unique = unique } in (first, stand_below d.tree (depth d.tree) (root d ∷ []) (first, tt))
+all_stand d unique = places_induct (Stands d.tree) (λ p stands. stand_with d.tree p p.base stands) d (record { there = refl; unique = unique })
 
 pub places_stand : (d : Document) → HasUniqueKeys d.tree → AllByRecursion (λ p. value_at d.tree p.path ≡ Some p.value) (places d)
 places_stand d unique = all_map (Stands d.tree) (λ p. value_at d.tree p.path ≡ Some p.value) (places d) (λ p stands. stands.there) (all_stand d unique)
 
 pub places_children_stand : (d : Document) → HasUniqueKeys d.tree → ChildrenStand d
 places_children_stand d unique p there =
-    let stands = All-contains (Stands d.tree) (places d) p (All-from_recursion (Stands d.tree) (places d) (all_stand d unique)) there in
+    let stands = each_in (Stands d.tree) (places d) p (all_stand d unique) there in
     children_stand p.draft p.value stands.unique
 
 -- ---- paths of one level
@@ -179,7 +172,7 @@ none_of_level (p ∷ ps) q part (inl on) = (
 none_of_level (p ∷ ps) q part (inr on) =
     (ways_differ p.path q.path (parts_from_below p.path ps q part.0 on), none_of_level ps q part.1 on)
 
--- no path stands twice
+-- no path is there twice
 abbrev AllDiffer : List Place → Type 0
 AllDiffer [] = Unit {0}
 AllDiffer (p ∷ ps) = AllByRecursion (λ q. ¬ (p.path ≡ q.path)) ps × AllDiffer ps

@@ -1,10 +1,14 @@
 pub mod OnLiterals
+pub mod Lists
+pub mod Options
 pub mod Retrieval
+pub mod Runs
 pub mod Last
 pub mod Appending
 pub mod Closure
 pub mod References
 pub mod Levels
+pub mod Induction
 pub mod Queues
 pub mod Descent
 pub mod Moving
@@ -19,6 +23,7 @@ pub mod Located
 pub mod AtOrBelow
 pub mod Pending
 pub mod Standing
+pub mod LookedUp
 pub mod Outcomes
 pub mod Reading
 pub mod ReadAlike

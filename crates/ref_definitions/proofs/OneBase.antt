@@ -55,26 +55,26 @@ change_moved draft a b x y v w uri same part value change =
 
 one_base_at : (draft : Draft) (start : List ℕ) (value : Data) (p q : List Part) (a b : Along) → p ≡ q → IsBaseAlong draft start value p a → IsBaseAlong draft start value q b → a ≡ b
 one_base_at draft start value p q a b same begun begun = refl
-one_base_at draft start value p q a b same begun (stayed path part along there before at stays) = absurd (no_last path part same)
-one_base_at draft start value p q a b same begun (changed path part along there uri before at change) = absurd (no_last path part same)
-one_base_at draft start value p q a b same (stayed path part along there before at stays) begun = absurd (no_last path part (sym same))
-one_base_at draft start value p q a b same (changed path part along there uri before at change) begun = absurd (no_last path part (sym same))
-one_base_at draft start value p q a b same (stayed path part along there before at stays) (stayed path' part' along' there' before' at' stays') =
+one_base_at draft start value p q a b same begun (stayed path part along before step) = absurd (no_last path part same)
+one_base_at draft start value p q a b same begun (changed path part along uri before step) = absurd (no_last path part same)
+one_base_at draft start value p q a b same (stayed path part along before step) begun = absurd (no_last path part (sym same))
+one_base_at draft start value p q a b same (changed path part along uri before step) begun = absurd (no_last path part (sym same))
+one_base_at draft start value p q a b same (stayed path part along before step) (stayed path' part' along' before' step') =
     let alike = one_base_at draft start value path path' along along' (same_front path path' part part' same) before before' in
     ap (λ (c : Along). record { base = c.base; since = c.since ++ part ∷ [] }) alike ∙ ap (λ z. record { base = along'.base; since = along'.since ++ z ∷ [] }) (same_last path path' part part' same)
-one_base_at draft start value p q a b same (stayed path part along there before at stays) (changed path' part' along' there' uri' before' at' change') =
+one_base_at draft start value p q a b same (stayed path part along before step) (changed path' part' along' uri' before' step') =
     let alike = one_base_at draft start value path path' along along' (same_front path path' part part' same) before before' in
-    absurd (no_both draft along'.base uri' (along'.since ++ part' ∷ []) there'
-    (stays_moved draft along along' part part' there there' alike (same_last path path' part part' same) (same_value value there there' (path ++ part ∷ []) (path' ++ part' ∷ []) same at at') stays) change')
-one_base_at draft start value p q a b same (changed path part along there uri before at change) (stayed path' part' along' there' before' at' stays') =
+    absurd (no_both draft along'.base uri' (along'.since ++ part' ∷ []) step'.there
+    (stays_moved draft along along' part part' step.there step'.there alike (same_last path path' part part' same) (same_value value step.there step'.there (path ++ part ∷ []) (path' ++ part' ∷ []) same step.is_there step'.is_there) step.stays) step'.change)
+one_base_at draft start value p q a b same (changed path part along uri before step) (stayed path' part' along' before' step') =
     let alike = one_base_at draft start value path path' along along' (same_front path path' part part' same) before before' in
-    absurd (no_both draft along'.base uri (along'.since ++ part' ∷ []) there' stays'
-    (change_moved draft along along' part part' there there' uri alike (same_last path path' part part' same) (same_value value there there' (path ++ part ∷ []) (path' ++ part' ∷ []) same at at') change))
-one_base_at draft start value p q a b same (changed path part along there uri before at change) (changed path' part' along' there' uri' before' at' change') =
+    absurd (no_both draft along'.base uri (along'.since ++ part' ∷ []) step'.there step'.stays
+    (change_moved draft along along' part part' step.there step'.there uri alike (same_last path path' part part' same) (same_value value step.there step'.there (path ++ part ∷ []) (path' ++ part' ∷ []) same step.is_there step'.is_there) step.change))
+one_base_at draft start value p q a b same (changed path part along uri before step) (changed path' part' along' uri' before' step') =
     let alike = one_base_at draft start value path path' along along' (same_front path path' part part' same) before before' in
     ap (λ u. record { base = u; since = [] })
-    (one_uri draft along'.base uri uri' (along'.since ++ part' ∷ []) there'
-    (change_moved draft along along' part part' there there' uri alike (same_last path path' part part' same) (same_value value there there' (path ++ part ∷ []) (path' ++ part' ∷ []) same at at') change) change')
+    (one_uri draft along'.base uri uri' (along'.since ++ part' ∷ []) step'.there
+    (change_moved draft along along' part part' step.there step'.there uri alike (same_last path path' part part' same) (same_value value step.there step'.there (path ++ part ∷ []) (path' ++ part' ∷ []) same step.is_there step'.is_there) step.change) step'.change)
 
 pub one_base : (draft : Draft) (start : List ℕ) (value : Data) (path : List Part) (a b : Along) → IsBaseAlong draft start value path a → IsBaseAlong draft start value path b → a ≡ b
 one_base draft start value path a b first second = one_base_at draft start value path path a b refl first second

@@ -6,7 +6,7 @@ use Rattle.ref_uri.specs.Targets.{Refusal}
 use Rattle.ref_definitions.specs.World.{Layer, document}
 use Rattle.ref_definitions.specs.Fault.{Fault, InvalidUri, RetrievalLimit}
 use Rattle.ref_definitions.specs.Wants.{Want, faults, open_wants}
-use Rattle.ref_definitions.specs.Preparing.{Retriever, Given, IsRun, begun, retrieved, IsOutcome, faulty, limited, refused, ready, refusal_fault}
+use Rattle.ref_definitions.specs.Preparing.{Retriever, Given, IsRetrieval, IsRun, begun, retrieved, IsOutcome, faulty, limited, refused, ready, refusal_fault}
 use Rattle.ref_definitions.specs.Retrievers.{default_retriever, map_retriever, function_retriever}
 
 -- one answer or one refusal for a URI, and not both
@@ -52,30 +52,27 @@ module _ (given : Given) (d : IsDetermined given.retriever) where
 
   same_layer : (n k : ℕ) (l m : Layer) → n ≡ k → IsRun given n l → IsRun given k m → l ≡ m
   same_layer n k l m same begun begun = refl
-  same_layer n k l m same begun (retrieved j before want more tree run clean unmet answered) = absurd (omega (arith, same))
-  same_layer n k l m same (retrieved i before want more tree run clean unmet answered) begun = absurd (omega (arith, same))
-  same_layer n k l m same (retrieved i before want more tree run clean unmet answered) (retrieved j before' want' more' tree' run' clean' unmet' answered') =
-      same_next before before' want want' more more' tree tree' (same_layer i j before before' (omega (arith, same)) run run') unmet unmet' answered answered'
+  same_layer n k l m same begun (retrieved j before want tree run step) = absurd (omega (arith, same))
+  same_layer n k l m same (retrieved i before want tree run step) begun = absurd (omega (arith, same))
+  same_layer n k l m same (retrieved i before want tree run step) (retrieved j before' want' tree' run' step') =
+      same_next before before' want want' step.next.more step'.next.more tree tree' (same_layer i j before before' (omega (arith, same)) run run') step.next.first_open step'.next.first_open step.answered step'.answered
 
   -- ---- a run passes each shorter one
 
   record Passes (k : ℕ) : Type 0 where
     layer : Layer
     want : Want
-    more : List Want
     tree : Data
     run : IsRun given k layer
-    clean : faults layer ≡ []
-    unmet : Open layer want more
-    answered : given.retriever.may_answer want.uri tree
+    step : IsRetrieval given layer want tree
 
   passes : (k n : ℕ) (l : Layer) → k < n → IsRun given n l → Passes k
   passes k n l less begun = absurd (omega (arith, less))
-  passes k n l less (retrieved m before want more tree run clean unmet answered) =
+  passes k n l less (retrieved m before want tree run step) =
       ⊎_elim
       (λ earlier. passes k m before earlier run)
       (λ late. let same : m ≡ k = omega (arith, less, late) in
-      record { layer = before; want = want; more = more; tree = tree; run = subst (λ x. IsRun given x before) same run; clean = clean; unmet = unmet; answered = answered })
+      record { layer = before; want = want; tree = tree; run = subst (λ x. IsRun given x before) same run; step = step })
       (cases_lt k m)
 
   -- ---- where a run ends
@@ -94,10 +91,10 @@ module _ (given : Given) (d : IsDetermined given.retriever) where
     end : Ends count layer answer
 
   ends_at : (answer : Result Layer Fault) → IsOutcome given answer → EndsAt answer
-  ends_at answer (faulty n layer refusal more run within first) = record { count = n; layer = layer; run = run; within = within; end = at_fault refusal more first }
-  ends_at answer (limited layer want more run clean unmet) = record { count = given.limit; layer = layer; run = run; within = omega arith; end = at_limit want more refl clean unmet }
-  ends_at answer (refused n layer want more text run less clean unmet may) = record { count = n; layer = layer; run = run; within = omega (arith, less); end = at_refusal want more text less clean unmet may }
-  ends_at answer (ready n layer run within clean shut) = record { count = n; layer = layer; run = run; within = within; end = at_end clean shut }
+  ends_at answer (faulty refusal e) = record { count = e.count; layer = e.layer; run = e.run; within = e.within; end = at_fault refusal e.more e.first_fault }
+  ends_at answer (limited want e) = record { count = given.limit; layer = e.layer; run = e.run; within = omega arith; end = at_limit want e.next.more refl e.next.no_fault e.next.first_open }
+  ends_at answer (refused want text e) = record { count = e.count; layer = e.layer; run = e.run; within = omega (arith, e.below); end = at_refusal want e.next.more text e.below e.next.no_fault e.next.first_open e.refuses }
+  ends_at answer (ready layer e) = record { count = e.count; layer = layer; run = e.run; within = e.within; end = at_end e.no_fault e.no_want }
 
   no_fault : {R : Type 0} (refusal : Refusal) (more : List Refusal) (layer : Layer) → faults layer ≡ refusal ∷ more → faults layer ≡ [] → R
   no_fault refusal more layer first clean = absurd (let e : [] ≡ refusal ∷ more = sym clean ∙ first in cc)
@@ -140,7 +137,7 @@ module _ (given : Given) (d : IsDetermined given.retriever) where
   not_longer a b one other less =
       let there = passes one.count other.count other.layer less other.run in
       let same : there.layer ≡ one.layer = same_layer one.count one.count there.layer one.layer refl there.run one.run in
-      goes_on one.count there.layer a there.want there.more there.tree (omega (arith, less, other.within)) (ends_there same) there.clean there.unmet there.answered
+      goes_on one.count there.layer a there.want there.step.next.more there.tree (omega (arith, less, other.within)) (ends_there same) there.step.next.no_fault there.step.next.first_open there.step.answered
     where
       ends_there : {l : Layer} → l ≡ one.layer → Ends one.count l a
       ends_there same = subst (λ x. Ends one.count x a) (sym same) one.end

@@ -15,8 +15,8 @@ use Rattle.ref_definitions.specs.World.{Document}
 use Rattle.ref_definitions.specs.Places.{Place, root, places, identifier_of}
 use Rattle.ref_definitions.specs.Resources.{resources}
 use Rattle.ref_definitions.specs.Agreement.{HasPlainMaps, IsReadAlike}
-use Rattle.ref_definitions.proofs.Alone.{first_or_later}
 use Rattle.ref_definitions.proofs.AtOrBelow.{below_is_place}
+use Rattle.ref_definitions.proofs.Lists.{first_or_later}
 
 -- ---- the members of a value hold no text under a key
 

@@ -350,12 +350,12 @@ walks_to : (draft : Draft) (pointer start : List ℕ) (value : Data) (path : Lis
     → walked_along draft pointer (record { base = start; since = [] }) value (ts ++ more) ≡ walked_along draft pointer along here more
 walks_to draft pointer start value path along begun [] more here reads stands = let same : value ≡ here = cc in ap (λ v. walked_along draft pointer (record { base = start; since = [] }) v more) same
 walks_to draft pointer start value path along begun (t ∷ ts) more here reads stands = absurd reads
-walks_to draft pointer start value p a (stayed path part along there before at stays) ts more here reads stands =
-    one_more draft pointer start value there path part along (record { base = along.base; since = along.since ++ part ∷ [] }) (walks_to draft pointer start value path along before) at
-    (stays_part draft along part there (scan draft (is_object there) (along.since ++ part ∷ [])) (identifier draft there) refl refl stays) ts more here reads stands
-walks_to draft pointer start value p a (changed path part along there uri before at change) ts more here reads stands =
-    one_more draft pointer start value there path part along (record { base = uri; since = [] }) (walks_to draft pointer start value path along before) at
-    (changes_part draft along part there uri change) ts more here reads stands
+walks_to draft pointer start value p a (stayed path part along before step) ts more here reads stands =
+    one_more draft pointer start value step.there path part along (record { base = along.base; since = along.since ++ part ∷ [] }) (walks_to draft pointer start value path along before) step.is_there
+    (stays_part draft along part step.there (scan draft (is_object step.there) (along.since ++ part ∷ [])) (identifier draft step.there) refl refl step.stays) ts more here reads stands
+walks_to draft pointer start value p a (changed path part along uri before step) ts more here reads stands =
+    one_more draft pointer start value step.there path part along (record { base = uri; since = [] }) (walks_to draft pointer start value path along before) step.is_there
+    (changes_part draft along part step.there uri step.change) ts more here reads stands
 
 faults_at : (draft : Draft) (pointer : List ℕ) (along : Along) (value : Data) (token : List ℕ) (ts : List (List ℕ)) (fault : Fault) → IsFaultAt draft pointer along value token fault → walked_along draft pointer along value (token ∷ ts) ≡ Err fault
 faults_at draft pointer along value token ts fault (no_index is none) =

@@ -1,10 +1,10 @@
 -- A lookup from a place of a layer without an open want finds the place that its URI means.
-use Rattle.std.proofs.Common.{◌≡◌, ℕ, zero, suc, ◌==◌, Bool, true, false, not, cond, List, [], ◌∷◌, ◌++◌, filter, flat_map, Option, Some, None, is_some, option_map, Result, Ok, Err, codes, refl, sym, ap, subst, ◌∙◌, true≢false, arith}
+use Rattle.std.proofs.Common.{◌≡◌, ℕ, ◌==◌, Bool, true, false, not, cond, List, [], ◌∷◌, ◌++◌, filter, flat_map, Option, Some, None, is_some, option_map, Result, Ok, Err, codes, refl, sym, ap, subst, ◌∙◌, true≢false, arith}
 use Rattle.std.specs.List.{Contains, list_any, All}
 use Rattle.std.specs.Prelude.{⊤}
 use Rattle.std.specs.Str.{is_utf8}
 use Rattle.std.specs.Option.{ok_or, option_or}
-use Rattle.std.proofs.lemmas.List.Elements.{Contains-append_left, Contains-append_right, All-nil, All-cons}
+use Rattle.std.proofs.lemmas.List.Elements.{All-nil, All-cons}
 use Rattle.percent_encoding.specs.Percent.{percent_decode}
 use Rattle.serde_json.specs.Data.{Data, null, boolean, number, string, array, object}
 use Rattle.serde_json.specs.Find.{get_item, get_member}
@@ -24,6 +24,7 @@ use Rattle.ref_definitions.specs.Bases.{Along, along_part}
 use Rattle.ref_definitions.specs.Pointers.{index_of, step_into, walked_along, pointed_value}
 use Rattle.ref_definitions.specs.Lookup.{Resolver, moved_resolver, in_scope, fault_of, entry_of, unless_fault, entry_found, outermost, dynamically, named_found, in_subresource, pointer_found, at_fragment, lookup}
 use Rattle.ref_definitions.specs.Wants.{Want, Reference, MetaSchema, reference_at, schema_at, wants_of_text, wants_at, wants, is_open, open_wants}
+use Rattle.ref_definitions.proofs.Lists.{in_joined}
 
 -- ---- answers that are no unretrievable URI
 
@@ -153,11 +154,6 @@ fragment_clear world r p (c ∷ text) =
 
 -- ---- wants
 
-in_flat : {X Y : Type 0} (f : X → List Y) (xs : List X) (x : X) (y : Y) → Contains xs x → Contains (f x) y → Contains (flat_map f xs) y
-in_flat f [] x y there within = absurd (omega (arith, there.1))
-in_flat f (e ∷ xs) x y (zero, small, there) within = Contains-append_left (f e) (flat_map f xs) y (subst (λ v. Contains (f v) y) (sym there) within)
-in_flat f (e ∷ xs) x y (suc k, small, there) within = Contains-append_right (f e) (flat_map f xs) y (in_flat f xs x y (k, omega arith, there) within)
-
 fail_step : (p : Want → Bool) (w : Want) (ws : List Want) (b : Bool) → p w ≡ b → cond b (w ∷ filter p ws) (filter p ws) ≡ [] → (filter p ws ≡ [] → All (λ v. p v ≡ false) ws) → All (λ v. p v ≡ false) (w ∷ ws)
 fail_step p w ws true is none later = absurd (let e : w ∷ filter p ws ≡ [] = none in cc)
 fail_step p w ws false is none later = All-cons (λ v. p v ≡ false) w ws is (later none)
@@ -197,6 +193,6 @@ references_are_retrieved layer parents d place resolver reference none own stand
     subst Clear is
     (lookup_clear (layer ∷ parents) resolver reference (target resolver.base reference) refl
     (λ to leads. meant layer parents (record { cause = Reference; uri = to }) none
-    (in_flat (λ e. flat_map (λ p. wants_at p.base p.value) (places e)) layer d (record { cause = Reference; uri = to }) own
-    (in_flat (λ p. wants_at p.base p.value) (places d) place (record { cause = Reference; uri = to }) standing
+    (in_joined (λ e. flat_map (λ p. wants_at p.base p.value) (places e)) layer d (record { cause = Reference; uri = to }) own
+    (in_joined (λ p. wants_at p.base p.value) (places d) place (record { cause = Reference; uri = to }) standing
     (wanted_there place resolver.base reference to based says leads)))))

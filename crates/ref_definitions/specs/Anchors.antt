@@ -3,6 +3,7 @@ use Rattle.std.specs.Prelude.{ℕ, ◌&&◌, ◌==◌, List, [], ◌∷◌, ◌+
 use Rattle.std.specs.List.{list_any, last_or}
 use Rattle.std.specs.Option.{ok_or, option_map_or, option_or}
 use Rattle.std.specs.Result.{result_ok}
+use Rattle.ref_parts.specs.Pointer.{slash}
 use Rattle.ref_draft.specs.Anchors.{Kind, anchors}
 use Rattle.ref_definitions.specs.World.{Document, Layer, World}
 use Rattle.ref_definitions.specs.Places.{Place, places, root}
@@ -52,7 +53,7 @@ named_by_identifier world uri name =
 
 -- the fault of a name that nothing has: a name with `/` in it is none
 abbrev pub not_named : List ℕ → Fault
-not_named name = if list_any (λ c. c == 47) name then InvalidAnchor name else NoSuchAnchor name
+not_named name = if list_any (λ c. c == slash) name then InvalidAnchor name else NoSuchAnchor name
 
 -- The entry that a name under a URI means: the one there, or else the one under the base of the place there
 unfoldable pub anchor : World → List ℕ → List ℕ → Result Named Fault

@@ -4,6 +4,7 @@ use Rattle.std.specs.Option.{option_map_or}
 use Rattle.std.specs.Result.{result_ok}
 use Rattle.serde_json.specs.Data.{Data}
 use Rattle.ref_draft.specs.Schema.{text_under}
+use Rattle.ref_uri.specs.Bytes.{hash}
 use Rattle.ref_uri.specs.Targets.{uri_part}
 use Rattle.ref_definitions.specs.World.{Layer}
 use Rattle.ref_definitions.specs.Places.{Place, identifier_of, places}
@@ -19,7 +20,7 @@ pairs_of_identifier outer id = option_map_or (λ text. (outer, text) ∷ []) id 
 -- the URI part of a reference, with a base: one that begins with `#` has none to resolve
 abbrev pub pairs_of_reference : List ℕ → List ℕ → List Pair
 pairs_of_reference base reference =
-    if slice_index reference 0 == 35 then [] else (base, uri_part reference) ∷ []
+    if slice_index reference 0 == hash then [] else (base, uri_part reference) ∷ []
 
 -- that of the text under `$ref`, with the base of its place
 abbrev pub pairs_of_value : List ℕ → Data → List Pair

@@ -23,19 +23,31 @@ Stays draft base since value =
     (id : List ℕ) → IsAccepted draft since value → identifier draft value ≡ Some id
     → uri_against base id ≡ Ok base
 
+-- one part after a path leads to a value where the base stays
+pub record StaysAfter (draft : Draft) (value : Data) (path : List Part) (part : Part)
+    (along : Along) : Type 0 where
+  pub there : Data
+  pub is_there : value_at value (path ++ part ∷ []) ≡ Some there
+  pub stays : Stays draft along.base (along.since ++ part ∷ []) there
+
+-- one part after a path leads to a value whose identifier changes the base to a URI
+pub record ChangesAfter (draft : Draft) (value : Data) (path : List Part) (part : Part)
+    (along : Along) (uri : List ℕ) : Type 0 where
+  pub there : Data
+  pub is_there : value_at value (path ++ part ∷ []) ≡ Some there
+  pub change : IsChange draft along.base (along.since ++ part ∷ []) there uri
+
 -- The base at a path of a value is that of the last change along it, or the base at its start; and what is after that
 -- change are the parts since.
 pub data IsBaseAlong (draft : Draft) (start : List ℕ) (value : Data) : List Part → Along
     → Type 0 where
   begun : IsBaseAlong draft start value [] (record { base = start; since = [] })
-  stayed : (path : List Part) (part : Part) (along : Along) (there : Data)
-      → IsBaseAlong draft start value path along → value_at value (path ++ part ∷ []) ≡ Some there
-      → Stays draft along.base (along.since ++ part ∷ []) there
+  stayed : (path : List Part) (part : Part) (along : Along)
+      → IsBaseAlong draft start value path along → StaysAfter draft value path part along
       → IsBaseAlong draft start value (path ++ part ∷ [])
       (record { base = along.base; since = along.since ++ part ∷ [] })
-  changed : (path : List Part) (part : Part) (along : Along) (there : Data) (uri : List ℕ)
-      → IsBaseAlong draft start value path along → value_at value (path ++ part ∷ []) ≡ Some there
-      → IsChange draft along.base (along.since ++ part ∷ []) there uri
+  changed : (path : List Part) (part : Part) (along : Along) (uri : List ℕ)
+      → IsBaseAlong draft start value path along → ChangesAfter draft value path part along uri
       → IsBaseAlong draft start value (path ++ part ∷ []) (record { base = uri; since = [] })
 
 -- a path of a value leads to what was found, with the base along it

@@ -47,7 +47,7 @@ fault_text (RetrievalLimit uri limit) =
     codes "Retrieval limit of " ++ decimal limit ++ codes " documents reached before '" ++ uri
     ++ codes "'"
 
--- nothing is retrieved once a registry stands
+-- nothing is retrieved once a registry is prepared
 abbrev pub not_retrieved : List ℕ → Fault
 not_retrieved uri =
     Unretrievable uri

@@ -23,6 +23,7 @@ pub mod Lookup
 pub mod Recursive
 pub mod Follow
 pub mod Agreement
+pub mod Parts
 pub mod Listing
 pub mod MetaSchemas
 pub mod Rows

@@ -32,5 +32,5 @@ listed_from number [] = []
 listed_from number (d ∷ ds) = map (listed_place number) (places d) ++ listed_from (suc number) ds
 
 -- the places of a registry's own documents, which are counted from 0
-abbrev pub own_places : Layer → List Listed
-own_places layer = listed_from 0 layer
+abbrev pub local_places : Layer → List Listed
+local_places layer = listed_from 0 layer

@@ -4,11 +4,12 @@ use Rattle.std.specs.List.{join_by, last_or}
 use Rattle.std.specs.Option.{ok_or, unwrap_or}
 use Rattle.serde_json.specs.Data.{Data}
 use Rattle.ref_parts.specs.Path.{Part}
-use Rattle.ref_parts.specs.Pointer.{pointer_text}
+use Rattle.ref_parts.specs.Pointer.{slash, pointer_text}
 use Rattle.ref_parts.specs.Encoded.{encoded_text}
 use Rattle.ref_draft.specs.declared.draft.Draft.{Draft}
 use Rattle.ref_draft.specs.Schema.{identifier}
 use Rattle.ref_draft.specs.Anchors.{Kind, Plain, Dynamic}
+use Rattle.ref_uri.specs.Bytes.{hash}
 use Rattle.ref_uri.specs.Targets.{Refusal, target, fragment_part}
 use Rattle.ref_definitions.specs.Results.{◌>>=◌}
 use Rattle.ref_definitions.specs.World.{World}
@@ -104,7 +105,7 @@ pointer_found r draft (value, along) =
 abbrev pub at_fragment : World → Resolver → Place → List ℕ → Result Found Fault
 at_fragment world r p [] = Ok (record { value = p.value; draft = p.draft; resolver = r })
 at_fragment world r p (c ∷ text) =
-    if c == 47 then
+    if c == slash then
     (pointed_value p.draft (c ∷ text) r.base p.value text
     >>= λ to. Ok (pointer_found r p.draft to))
     else (anchor world r.base (c ∷ text) >>= λ n. named_found world r n n.kind)
@@ -119,7 +120,7 @@ lookup world r reference =
 -- where a path leads from a base: the lookup, with an empty scope, of `#` and the path's pointer text as a fragment holds it
 abbrev pub located_value : World → List ℕ → List Part → Result Found Fault
 located_value world base path =
-    lookup world (record { base = base; scope = [] }) (35 ∷ encoded_text (pointer_text path))
+    lookup world (record { base = base; scope = [] }) (hash ∷ encoded_text (pointer_text path))
 
 -- a resolver as it is displayed: its base, and its scope from inner to outer
 abbrev pub resolver_text : Resolver → List ℕ

@@ -1,4 +1,4 @@
--- The places of a document where schemas stand, given by levels (the subschema keywords of the drafts).
+-- The places of a document where schemas are, given by levels (the subschema keywords of the drafts).
 use Rattle.std.specs.Prelude.{ℕ, zero, suc, List, [], ◌∷◌, ◌++◌, flat_map, map, Option, Some, None, Result, Ok, Err}
 use Rattle.serde_json.specs.Data.{Data, depth}
 use Rattle.ref_parts.specs.Path.{Part}
@@ -72,6 +72,6 @@ levels_below n places = levels children_of n places
 abbrev pub places_by : (Place → List Place) → Document → List Place
 places_by children d = root d ∷ levels children (depth d.tree) (root d ∷ [])
 
--- The places of a document: its levels joined. No level stands below the depth of the tree.
+-- The places of a document: its levels joined. No level is below the depth of the tree.
 abbrev pub places : Document → List Place
 places d = places_by children_of d

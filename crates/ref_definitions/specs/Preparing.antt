@@ -20,14 +20,22 @@ pub record Given : Type 1 where
   pub parents : World
   pub documents : Layer
 
--- A run after n retrieved documents: each was the first open want of a layer without faults, and is a tree that the
--- retriever may return for it.
+-- of a layer without faults, a want is the first that is open
+pub record IsNextWant (given : Given) (layer : Layer) (want : Want) : Type 0 where
+  pub no_fault : faults layer ≡ []
+  pub more : List Want
+  pub first_open : open_wants (layer ∷ given.parents) layer ≡ want ∷ more
+
+-- for the next want of a layer, the retriever may return a tree
+pub record IsRetrieval (given : Given) (layer : Layer) (want : Want) (tree : Data) : Type 0 where
+  pub next : IsNextWant given layer want
+  pub answered : given.retriever.may_answer want.uri tree
+
+-- A run after n retrieved documents: each was retrieved for the next want of the layer so far, and is put at its end.
 pub data IsRun (given : Given) : ℕ → Layer → Type 0 where
   begun : IsRun given 0 given.documents
-  retrieved : (n : ℕ) (layer : Layer) (want : Want) (more : List Want) (tree : Data)
-      → IsRun given n layer → faults layer ≡ []
-      → open_wants (layer ∷ given.parents) layer ≡ want ∷ more
-      → given.retriever.may_answer want.uri tree
+  retrieved : (n : ℕ) (layer : Layer) (want : Want) (tree : Data) → IsRun given n layer
+      → IsRetrieval given layer want tree
       → IsRun given (suc n) (layer ++ document given.draft want.uri tree ∷ [])
 
 -- the fault of a want that the retriever refuses with a text
@@ -35,18 +43,45 @@ abbrev pub refusal_fault : Cause → List ℕ → List ℕ → Fault
 refusal_fault Reference uri text = Unretrievable uri text
 refusal_fault MetaSchema uri text = UnknownSpecification uri
 
--- An outcome of a run of at most the limit: its first fault; the limit, or a refusal that the retriever may give, where a
--- want is open; or the layer, where none is. Nothing else is one.
+-- a run of at most the limit, whose layer has this first fault
+pub record EndsAtFault (given : Given) (refusal : Refusal) : Type 0 where
+  pub count : ℕ
+  pub layer : Layer
+  pub run : IsRun given count layer
+  pub within : count ≤ given.limit
+  pub more : List Refusal
+  pub first_fault : faults layer ≡ refusal ∷ more
+
+-- a run that used up the limit, and its next want
+pub record EndsAtLimit (given : Given) (want : Want) : Type 0 where
+  pub layer : Layer
+  pub run : IsRun given given.limit layer
+  pub next : IsNextWant given layer want
+
+-- a run of less than the limit, whose next want the retriever may refuse with a text
+pub record EndsAtRefusal (given : Given) (want : Want) (text : List ℕ) : Type 0 where
+  pub count : ℕ
+  pub layer : Layer
+  pub run : IsRun given count layer
+  pub below : count < given.limit
+  pub next : IsNextWant given layer want
+  pub refuses : given.retriever.may_refuse want.uri text
+
+-- a run of at most the limit to a layer without faults and open wants
+pub record EndsReady (given : Given) (layer : Layer) : Type 0 where
+  pub count : ℕ
+  pub run : IsRun given count layer
+  pub within : count ≤ given.limit
+  pub no_fault : faults layer ≡ []
+  pub no_want : open_wants (layer ∷ given.parents) layer ≡ []
+
+-- An outcome: the first fault; the limit, or a refusal that the retriever may give, where a want is open; or the layer, where
+-- none is. Nothing else is one.
 pub data IsOutcome (given : Given) : Result Layer Fault → Type 0 where
-  faulty : (n : ℕ) (layer : Layer) (refusal : Refusal) (more : List Refusal) → IsRun given n layer
-      → n ≤ given.limit → faults layer ≡ refusal ∷ more → IsOutcome given (Err (InvalidUri refusal))
-  limited : (layer : Layer) (want : Want) (more : List Want) → IsRun given given.limit layer
-      → faults layer ≡ [] → open_wants (layer ∷ given.parents) layer ≡ want ∷ more
+  faulty : (refusal : Refusal) → EndsAtFault given refusal
+      → IsOutcome given (Err (InvalidUri refusal))
+  limited : (want : Want) → EndsAtLimit given want
       → IsOutcome given (Err (RetrievalLimit want.uri given.limit))
-  refused : (n : ℕ) (layer : Layer) (want : Want) (more : List Want) (text : List ℕ)
-      → IsRun given n layer → n < given.limit → faults layer ≡ []
-      → open_wants (layer ∷ given.parents) layer ≡ want ∷ more
-      → given.retriever.may_refuse want.uri text
+  refused : (want : Want) (text : List ℕ) → EndsAtRefusal given want text
       → IsOutcome given (Err (refusal_fault want.cause want.uri text))
-  ready : (n : ℕ) (layer : Layer) → IsRun given n layer → n ≤ given.limit → faults layer ≡ []
-      → open_wants (layer ∷ given.parents) layer ≡ [] → IsOutcome given (Ok layer)
+  ready : (layer : Layer) → EndsReady given layer → IsOutcome given (Ok layer)

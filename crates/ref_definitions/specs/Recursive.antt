@@ -14,7 +14,7 @@ use Rattle.ref_definitions.specs.Lookup.{Resolver, Found, lookup}
 abbrev pub is_marked : Data → Bool
 is_marked value = option_map_or is_true (get (codes "$recursiveAnchor") value) false
 
--- a lookup that answers a marked value
+-- a lookup that returns a marked value
 abbrev pub answers_marked : Result Found Fault → Bool
 answers_marked (Ok found) = is_marked found.value
 answers_marked (Err fault) = false
@@ -23,7 +23,7 @@ answers_marked (Err fault) = false
 abbrev pub looked_up : World → Resolver → List (Result Found Fault)
 looked_up world r = map (λ uri. lookup world r uri) r.scope
 
--- the longest beginning of lookups that answer marked values
+-- the longest beginning of lookups that return marked values
 abbrev pub marked_beginning : List (Result Found Fault) → List (Result Found Fault)
 marked_beginning answers = take_while answers_marked answers
 
@@ -31,7 +31,7 @@ marked_beginning answers = take_while answers_marked answers
 abbrev pub behind_beginning : List (Result Found Fault) → List (Result Found Fault)
 behind_beginning answers = drop (prefix_len answers_marked answers) answers
 
--- a fault that stands right after, or else this answer
+-- a fault that is right after, or else this answer
 abbrev pub unless_fault_behind : List (Result Found Fault) → Result Found Fault → Result Found Fault
 unless_fault_behind [] answer = answer
 unless_fault_behind (Ok found ∷ rest) answer = answer

@@ -1,5 +1,5 @@
 -- The retrievers that come with the library, by what they may return and refuse, and those whose answers are known.
-use Rattle.std.specs.Prelude.{◌≡◌, ℕ, List, codes, Some, None, Result, Ok, Err, option_map}
+use Rattle.std.specs.Prelude.{◌≡◌, ℕ, ⊤, List, codes, Some, None, Result, Ok, Err, option_map}
 use Rattle.serde_json.specs.Data.{Data}
 use Rattle.ref_draft.specs.declared.draft.Draft.{Draft}
 use Rattle.ref_definitions.specs.World.{Layer, World}
@@ -21,6 +21,10 @@ map_retriever pairs = record {
   may_refuse =
       λ uri text. (last_under uri pairs ≡ None) × (text ≡ codes "no document under this URI");
 }
+
+-- it may return any tree for a URI, and may refuse it with any text
+abbrev pub any_retriever : Retriever
+any_retriever = record { may_answer = λ uri tree. ⊤; may_refuse = λ uri text. ⊤ }
 
 -- it returns a URI with a tree or refuses it with a text, as a function says
 abbrev pub function_retriever : (List ℕ → Result Data (List ℕ)) → Retriever

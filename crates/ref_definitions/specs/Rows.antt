@@ -187,7 +187,7 @@ child_and_parent =
     (at Draft202012 "http://a/m" (one "title" (text "child")) ∷ [])
     ∷ alone Draft202012 "http://a/m" (two "$anchor" (text "p") "title" (text "parent"))
 
--- what steps answer: the value, the base and the scope, or the step that faults
+-- what steps return: the value, the base and the scope, or the step that faults
 pub data Answer : Type 0 where
   answer : Option Data → List ℕ → List (List ℕ) → Answer
   refusal : ℕ → Fault → Answer
@@ -210,7 +210,7 @@ steps w base list = answer_of (followed_steps w (codes base) list)
 abbrev pub look : Literal → Step
 look reference = Lookup (codes reference)
 
--- what one lookup answers from the root of a document that stands alone
+-- what one lookup returns from the root of a document that is alone
 abbrev pub look_in : Draft → Literal → Data → Literal → Answer
 look_in draft uri tree reference = steps (alone draft uri tree) uri (look reference ∷ [])
 
@@ -230,7 +230,7 @@ through_foo_and_bar draft tree foo bar last =
     steps (foo_and_bar draft tree foo bar) "http://example.com"
     (look "" ∷ look "foo/" ∷ look "bar" ∷ last ∷ [])
 
--- what they answer where the last one leads back to the first document
+-- what they return where the last one leads back to the first document
 abbrev pub back_at_the_first : Data → Answer
 back_at_the_first value =
     answer (Some value) (codes "http://example.com")

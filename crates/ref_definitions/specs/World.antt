@@ -23,6 +23,6 @@ abbrev pub document : Draft → List ℕ → Data → Document
 document draft uri tree = record { uri = uri; tree = tree; draft = detect draft tree }
 
 -- the local documents: those of the first layer
-abbrev pub own_layer : World → Layer
-own_layer [] = []
-own_layer (layer ∷ parents) = layer
+abbrev pub local_documents : World → Layer
+local_documents [] = []
+local_documents (layer ∷ parents) = layer

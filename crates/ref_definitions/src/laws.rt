@@ -26,6 +26,9 @@ ghost use Rattle.ref_definitions.specs.References.{ReferencesAreRetrieved};
 ghost use Rattle.ref_definitions.specs.Retrievers.{GivesOneOutcome, default_retriever, function_retriever, map_retriever};
 ghost use Rattle.ref_definitions.specs.Wants.{faults};
 ghost use Rattle.ref_definitions.specs.Agreement.{ChildrenStand, IsAtOrBelow, WalksAgree};
+ghost use Rattle.ref_definitions.specs.Lookup.{Resolver, Found, lookup};
+ghost use Rattle.ref_definitions.specs.Recursive.{lookup_recursive};
+ghost use Rattle.ref_definitions.specs.Parts.{IsPartOf, AllChildrenStand, AllHaveUniqueKeys};
 ghost use Rattle.ref_definitions.specs.Appending.{MeaningsStay, MeaningsStayBelow, MetWantsStay, OpenWantsAfter};
 
 /// Pending documents are under URIs that differ, whatever was added.
@@ -78,7 +81,7 @@ pub fn later_entries_count()
 {}
 
 /// What follows a pointer's first `/` is percent-decoded, and is a fault where it's no UTF-8. The pointer succeeds just
-/// where its tokens are read as a path at which a value stands, and along which there is a base: the answer is this
+/// where its tokens are read as a path at which a value is, and along which there is a base: the answer is this
 /// value with this base, that of the last change along the path. There is one such path, and one base along it.
 /// Otherwise the fault is that of the first faulty token, or of the first identifier that counts along the path and
 /// doesn't resolve.
@@ -118,7 +121,7 @@ pub fn pointers_lead_along_paths()
 {}
 
 /// The nearest layer decides what a URI means, and what a name under it does: an entry there is the answer, and without one
-/// the parents' layers answer.
+/// the parents' layers decide.
 pub fn nearest_layer_decides()
     ensures near { (layer : Layer) (parents : World) (uri found : List ℕ) (place : Place)
         → last_under uri (resources layer) ≡ Some (found, place)
@@ -154,7 +157,7 @@ pub fn outcomes_of_retrieval()
 
 /// Where it is known for each URI what the retriever returns, or with which text it refuses, preparing has one outcome
 /// at most. An outcome speaks of URIs, trees and drafts, and not of who owns a document: so documents that are alike,
-/// borrowed, shared or owned, give registries that answer alike.
+/// borrowed, shared or owned, give registries whose calls return the same.
 pub fn known_answers_have_one_outcome()
     ensures of_a_function { (answers : List ℕ → Result Data (List ℕ))
         → GivesOneOutcome (function_retriever answers) }
@@ -173,6 +176,18 @@ pub fn references_are_retrieved()
 /// as `places_stand_at_their_paths` says.
 pub fn walks_agree()
     ensures law { WalksAgree }
+{}
+
+/// What a look-up finds is a part of a document: it is at a path of the tree of one of the world's. The children of places are
+/// to be at their paths, as they are where each object of each document has each key once.
+pub fn lookups_find_parts_of_documents()
+    ensures law { (world : World) (resolver : Resolver) (reference : List ℕ) (found : Found)
+        → AllChildrenStand world → lookup world resolver reference ≡ Ok found
+        → IsPartOf world found.value }
+    ensures recursive { (world : World) (resolver : Resolver) (found : Found)
+        → AllChildrenStand world → lookup_recursive world resolver ≡ Ok found
+        → IsPartOf world found.value }
+    ensures children { (world : World) → AllHaveUniqueKeys world → AllChildrenStand world }
 {}
 
 /// The places at or below a place of a document are those places of it whose paths go on from its path; this needs each object

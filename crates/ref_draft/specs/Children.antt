@@ -1,4 +1,4 @@
--- The subschemas of a schema: what stands right below it under its draft's keywords (2020-12 Core, section 10;
+-- The subschemas of a schema: what is right below it under its draft's keywords (2020-12 Core, section 10;
 -- earlier drafts as `Keywords` lists).
 use Rattle.std.specs.Prelude.{◌≡◌, Some, ℕ, suc, List, [], ◌∷◌, ◌++◌, map, filter, Bool, not, is_some}
 use Rattle.std.specs.Option.{option_map_or}

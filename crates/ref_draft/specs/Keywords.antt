@@ -1,4 +1,4 @@
--- The tables of the drafts: under which keywords a schema stands, which keywords a draft knows, and the name of its
+-- The tables of the drafts: under which keywords a schema is, which keywords a draft knows, and the name of its
 -- identifier. Every other definition reads these. Draft 4: Validation, section 5; Drafts 6 and 7: Validation,
 -- section 6; 2019-09: Core, section 9; 2020-12: Core, section 10.
 use Rattle.std.specs.Prelude.{ℕ, List, [], ◌∷◌, map, Bool, true, false, ◌&&◌, ◌||◌, codes, if◌then◌else◌}

@@ -17,9 +17,13 @@ text_under key d = option_and_then as_str (get key d)
 abbrev pub is_true : Data → Bool
 is_true value = option_map_or (λ b. b) (as_bool value) false
 
+-- `#`, before a fragment
+abbrev pub hash : ℕ
+hash = 35
+
 -- a text without the run of `#` characters at its end
 abbrev pub trimmed_text : List ℕ → List ℕ
-trimmed_text text = take (length text - suffix_len (λ c. c == 35) text) text
+trimmed_text text = take (length text - suffix_len (λ c. c == hash) text) text
 
 -- what follows `http` or `https` in the URI of each meta-schema; the one without a version is that of 2020-12
 abbrev pub meta_schemas : List (List ℕ × Draft)
@@ -51,7 +55,7 @@ detect d value = option_map_or from_schema_uri (text_under (codes "$schema") val
 -- whether a text begins with `#`
 abbrev pub begins_with_hash : List ℕ → Bool
 begins_with_hash [] = false
-begins_with_hash (c ∷ text) = c == 35
+begins_with_hash (c ∷ text) = c == hash
 
 -- whether a value's identifier doesn't count: before 2019-09 beside a `$ref` of any kind, or where it begins with `#`
 abbrev pub is_hidden : Draft → Data → List ℕ → Bool

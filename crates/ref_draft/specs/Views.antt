@@ -1,14 +1,13 @@
 -- What contracts see of the crate's types.
 use Rattle.std.specs.Prelude.{◌≡◌, All, ℕ, List, [], ◌∷◌, ◌++◌, map, filter, Option, Some, None}
 use Rattle.std.specs.Option.{option_map_or}
-use Rattle.std.specs.Cow.{cow_str_bytes}
 use Rattle.std.specs.Slice.Iter.{iter_rest}
 use Rattle.serde_json.specs.Data.{Data, object}
 use Rattle.serde_json.specs.View.{view, members_view}
 use Rattle.serde_json.specs.declared.value.Value.{Value}
 use Rattle.ref_parts.specs.Path as path
 use Rattle.ref_parts.specs.Path.{Part}
-use Rattle.ref_parts.specs.Segment as pointer
+use Rattle.ref_parts.specs.Segment.{part_of}
 use Rattle.ref_parts.specs.declared.path.JsonPointerSegment.{JsonPointerSegment}
 use Rattle.ref_draft.specs.declared.draft.Draft.{Draft}
 use Rattle.ref_draft.specs.declared.resource.Resource.{Resource}
@@ -17,8 +16,6 @@ use Rattle.ref_draft.specs.declared.anchor.Anchor.{Anchor}
 use Rattle.ref_draft.specs.declared.anchor.Anchor.TheVariants as anchor
 use Rattle.ref_draft.specs.declared.anchor.AnchorIter.{AnchorIter}
 use Rattle.ref_draft.specs.declared.anchor.AnchorIter.TheVariants as names
-use Rattle.ref_draft.specs.declared.segments.Segment.{Segment}
-use Rattle.ref_draft.specs.declared.segments.Segment.TheVariants as segment
 use Rattle.ref_draft.specs.declared.spec.children.ChildIter.{ChildIter}
 use Rattle.ref_draft.specs.declared.spec.children.ChildIterInner.{ChildIterInner}
 use Rattle.ref_draft.specs.declared.spec.children.ChildIterInner.TheVariants as inner
@@ -68,15 +65,10 @@ anchors_left names.Empty = []
 anchors_left (names.One a) = a ∷ []
 anchors_left (names.Two a b) = a ∷ b ∷ []
 
--- a segment as a part of a path
-abbrev pub part_of : Segment → Part
-part_of (segment.Key key) = path.Key (cow_str_bytes key)
-part_of (segment.Index i) = path.Index i
-
 -- the part of a child's segment, where it has one
 abbrev pub segment_parts : Option JsonPointerSegment → List Part
 segment_parts None = []
-segment_parts (Some s) = pointer.part_of s ∷ []
+segment_parts (Some s) = part_of s ∷ []
 
 -- a child of the walk: its path, value and draft
 abbrev pub walked_child : Child → Walked

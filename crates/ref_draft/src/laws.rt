@@ -4,7 +4,6 @@ ghost use Rattle.std.specs.List.{AllByRecursion};
 ghost use Rattle.std.specs.Ordering.{nat_cmp};
 ghost use Rattle.serde_json.specs.Data.{Data, depth};
 ghost use Rattle.ref_draft.specs.declared.draft.Draft.{Draft as Version};
-ghost use Rattle.ref_draft.specs.declared.segments.Segment.{Segment as PointerSegment};
 ghost use Rattle.ref_draft.specs.Children.{AllStand, children, is_object, walked_children};
 ghost use Rattle.ref_draft.specs.Names.{draft_name, draft_named};
 ghost use Rattle.ref_draft.specs.Order.{rank};
@@ -15,11 +14,9 @@ ghost use Rattle.ref_draft.specs.declared.reached.Reached.TheVariants.{Schema};
 ghost use Rattle.ref_draft.specs.Reached.{HasReached, accepts_at, reached_after};
 ghost use Rattle.ref_draft.specs.Beginnings.{AllEndWithin};
 ghost use Rattle.ref_draft.specs.UniqueKeys.{HasUniqueKeys};
-ghost use Rattle.ref_draft.specs.Views.{part_of};
-ghost use Rattle.ref_parts.specs.Path.{Key, Part, part_eq};
+ghost use Rattle.ref_parts.specs.Path.{Key, Part};
 
 use crate::draft::Draft;
-use crate::segments::Segment;
 
 /// The drafts are ordered by age, with the custom meta-schema last.
 pub fn drafts_are_ordered()
@@ -40,15 +37,6 @@ pub fn names_are_read_back()
         × (draft_named (draft_name Draft.Draft202012) ≡ Some Draft.Draft202012)
         × (draft_named (draft_name Draft.Unknown) ≡ None)
         × (draft_named (codes "5") ≡ None) × (draft_named [] ≡ None) }
-{}
-
-/// Segments are equal where their parts are: keys where their texts are, borrowed or owned, and indexes where they are one
-/// number. A copy has the part of what it copies.
-pub fn segments_are_parts()
-    ensures equality { (a b : PointerSegment)
-        → ⟦<Segment<'static> as PartialEq>⟧.eq a b ≡ part_eq (part_of a) (part_of b) }
-    ensures copy { (segment copy : PointerSegment)
-        → ⟦<Segment<'static> as Clone>⟧.is_clone segment copy → part_of copy ≡ part_of segment }
 {}
 
 /// A child nests less deeply than the value that it is a child of, so that the levels of children end.

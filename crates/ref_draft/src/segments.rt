@@ -1,46 +1,12 @@
 //! The segments that a pointer has passed.
 ghost use Rattle.std.specs.Prelude.{◌≡◌, ◌∷◌, ◌++◌, [], map, OnOk, OnErr};
 ghost use Rattle.std.specs.Slice.Iter.{iter_rest};
-ghost use Rattle.ref_draft.specs.Views.{part_of};
+ghost use Rattle.ref_parts.specs.Segment.{part_of};
 
+pub use ref_parts::path::JsonPointerSegment as Segment;
 use std::alloc::{AllocError, Global};
-use std::borrow::CowStr;
 use std::marker::Model;
 use std::slice;
-
-/// One segment of a pointer, read as a key or as an index.
-#[derive(Debug, PartialEq, Eq, Clone, Drop)]
-pub enum Segment<'a> {
-    /// The key of an object's member.
-    Key(CowStr<'a>),
-    /// The index of an array's element, from 0.
-    Index(usize),
-}
-
-impl<'a> From<CowStr<'a>> for Segment<'a> {
-    ghost use Rattle.std.specs.Prelude.{◌≡◌};
-    ghost use Rattle.std.specs.Cow.{cow_str_bytes};
-    ghost use Rattle.ref_parts.specs.Path.{Key};
-    ghost use Rattle.ref_draft.specs.Views.{part_of};
-
-    ghost from_gives = { λ key segment. part_of segment ≡ Key (cow_str_bytes key) };
-
-    fn from(key: CowStr<'a>) -> Self {
-        Segment::Key(key)
-    }
-}
-
-impl From<usize> for Segment<'_> {
-    ghost use Rattle.std.specs.Prelude.{◌≡◌};
-    ghost use Rattle.ref_parts.specs.Path.{Index};
-    ghost use Rattle.ref_draft.specs.Views.{part_of};
-
-    ghost from_gives = { λ index segment. part_of segment ≡ Index index };
-
-    fn from(index: usize) -> Self {
-        Segment::Index(index)
-    }
-}
 
 /// The segments of a pointer, in order. Contracts see the list of them as parts of a path.
 #[derive(Drop)]
@@ -54,7 +20,7 @@ impl<'a> Model for Segments<'a> {
 
     ghost Value = { List Part };
 
-    ghost use Rattle.ref_draft.specs.Views.{part_of};
+    ghost use Rattle.ref_parts.specs.Segment.{part_of};
 
     ghost view = { λ s. map part_of s.items.items };
 }
@@ -69,7 +35,7 @@ impl<'a> Segments<'a> {
         }
     }
 
-    /// Adds a segment at the end. fails only where memory is refused, and then leaves the segments as they were.
+    /// Adds a segment at the end. Fails only where memory is refused, and then leaves the segments as they were.
     pub fn push<T: Into<Segment<'a>>>(&mut self, segment: T) -> Result<(), AllocError>
         ensures added { OnOk result
             ((s : _) × T.converts segment s × (self.new ≡ self.old ++ part_of s ∷ [])) }

@@ -5,14 +5,9 @@ use Rattle.std.specs.Map.{update_all}
 use Rattle.serde_json.specs.Data.{Data}
 use Rattle.serde_json.specs.View.{view}
 use Rattle.serde_json.specs.declared.value.Value.{Value}
-use Rattle.ref_definitions.specs.Preparing.{Retriever}
 use Rattle.ref_error.specs.declared.error.RetrieveError.{RetrieveError}
 use Rattle.ref_error.specs.declared.error.RetrieveError.TheVariants.{Refused, Memory}
 use Rattle.ref_error.specs.Errors.{reason_text}
-
--- the retriever that may return and refuse so
-abbrev pub retriever_of : (List ℕ → Data → Type 0) → (List ℕ → List ℕ → Type 0) → Retriever
-retriever_of may_answer may_refuse = record { may_answer = may_answer; may_refuse = may_refuse }
 
 -- where the error is a refusal, its text is such a one
 abbrev pub IfRefused : RetrieveError → (List ℕ → Type 0) → Type 0

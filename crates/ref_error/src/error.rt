@@ -14,7 +14,7 @@ pub enum Reason {
     NotFetched,
     /// There is no document under the URI.
     NoDocument,
-    /// A registry that stands retrieves nothing.
+    /// A prepared registry retrieves nothing.
     NotSupported,
     /// What the retriever says.
     Text(String),

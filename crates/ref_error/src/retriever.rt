@@ -4,6 +4,7 @@ ghost use Rattle.std.specs.HashMap.{get};
 ghost use Rattle.std.specs.Map.{update};
 ghost use Rattle.serde_json.specs.Data.{Data};
 ghost use Rattle.serde_json.specs.View.{view};
+ghost use Rattle.ref_definitions.specs.Preparing.{Retriever};
 ghost use Rattle.ref_error.specs.Retrieving.{IfRefused, AreLast};
 
 use crate::error::{Reason, RetrieveError};
@@ -15,26 +16,23 @@ use std::marker::Model;
 use std::snapshot::Snapshot;
 
 /// What documents are retrieved from that are wanted and were not added. An `impl` tells, for a URI, the trees that it may
-/// answer and the texts that it may refuse with; it may choose among them anew in each call.
+/// return and the texts that it may refuse with; it may choose among them anew in each call.
 pub trait Retrieve {
-    // The trees that may be answered for a URI.
-    ghost may_answer: { Self → List ℕ → Data → Type 0 };
-
-    // The texts that a URI may be refused with.
-    ghost may_refuse: { Self → List ℕ → List ℕ → Type 0 };
+    // The trees that may be returned for a URI, and the texts that it may be refused with.
+    ghost meaning: { Self → Retriever };
 
     /// The document under a URI: one that it may return, which the caller owns. `Refused` for a reason that it may
     /// give, `Memory` where memory is refused. It costs what the implementation takes: `prepare` calls it once for each
     /// document that is wanted and not there.
     fn retrieve(&self, alloc: Global, uri: &Uri) -> Result<Value, RetrieveError>
-        ensures answer { IfOk result (λ value. may_answer self.now uri.now (view value)) }
-        ensures refusal { IfErr result (λ error. IfRefused error (may_refuse self.now uri.now)) };
+        ensures answer { IfOk result
+            (λ value. (meaning self.now).may_answer uri.now (view value)) }
+        ensures refusal { IfErr result
+            (λ error. IfRefused error ((meaning self.now).may_refuse uri.now)) };
 }
 
 impl<R: Retrieve> Retrieve for &R {
-    ghost may_answer = { λ r. R.may_answer r.now };
-
-    ghost may_refuse = { λ r. R.may_refuse r.now };
+    ghost meaning = { λ r. R.meaning r.now };
 
     fn retrieve(&self, alloc: Global, uri: &Uri) -> Result<Value, RetrieveError> {
         (**self).retrieve(alloc, uri)
@@ -51,9 +49,7 @@ impl Retrieve for DefaultRetriever {
     ghost use Rattle.ref_definitions.specs.Retrievers.{default_retriever};
     ghost use Rattle.ref_error.specs.Retrieving.{IfRefused};
 
-    ghost may_answer = { λ _. default_retriever.may_answer };
-
-    ghost may_refuse = { λ _. default_retriever.may_refuse };
+    ghost meaning = { λ _. default_retriever };
 
     fn retrieve(&self, _alloc: Global, uri: &Uri) -> Result<Value, RetrieveError>
         ensures answer { IfOk result (λ value. default_retriever.may_answer uri.now (view value)) }
@@ -133,9 +129,7 @@ impl Retrieve for MapRetriever {
     ghost use Rattle.ref_definitions.specs.Retrievers.{map_retriever};
     ghost use Rattle.ref_error.specs.Retrieving.{IfRefused, trees_of};
 
-    ghost may_answer = { λ m. (map_retriever (trees_of m)).may_answer };
-
-    ghost may_refuse = { λ m. (map_retriever (trees_of m)).may_refuse };
+    ghost meaning = { λ m. map_retriever (trees_of m) };
 
     // A copy of the document, which takes memory; a refusal takes none.
     fn retrieve(&self, _alloc: Global, uri: &Uri) -> Result<Value, RetrieveError>

@@ -1,6 +1,10 @@
 -- Names that lead into the folder that they are looked up in, and nowhere else.
 use Rattle.std.specs.Prelude.{◌≢◌, ℕ, ◌-◌, ◌==◌, Bool, if◌then◌else◌, List, [], ◌∷◌, ◌++◌, length, codes, EachIndex, slice_index}
 
+-- `/`, between the names of a path
+abbrev pub slash : ℕ
+slash = 47
+
 -- a text without a byte
 abbrev pub Lacks : ℕ → List ℕ → Type 0
 Lacks b text = EachIndex text (λ k. slice_index text k ≢ b)
@@ -10,16 +14,16 @@ pub record IsPlain (name : List ℕ) : Type 0 where
   pub some : name ≢ []
   pub not_itself : name ≢ codes "."
   pub not_above : name ≢ codes ".."
-  pub no_slash : Lacks 47 name
+  pub no_slash : Lacks slash name
   pub no_nul : Lacks 0 name
 
 -- whether a path ends in a slash; the empty path doesn't
 abbrev pub ends_in_slash : List ℕ → Bool
-ends_in_slash path = slice_index path (length path - 1) == 47
+ends_in_slash path = slice_index path (length path - 1) == slash
 
 -- the path of what a name means in a folder
 abbrev pub path_in : List ℕ → List ℕ → List ℕ
-path_in folder name = (if ends_in_slash folder then folder else folder ++ 47 ∷ []) ++ name
+path_in folder name = (if ends_in_slash folder then folder else folder ++ slash ∷ []) ++ name
 
 -- the path of what names mean, each in the folder that those before it mean
 abbrev pub path_of : List ℕ → List (List ℕ) → List ℕ

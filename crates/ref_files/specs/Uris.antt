@@ -10,9 +10,13 @@ abbrev pub is_kept : ℕ → Bool
 is_kept b =
     is_ascii b && (is_ascii_alphanumeric b || list_any (λ c. c == b) (codes "-._~!$&'()*+,;=:@/"))
 
+-- `:`
+abbrev pub colon : ℕ
+colon = 58
+
 -- in the first segment of a relative path there is no colon (4.2)
 abbrev pub is_kept_first : ℕ → Bool
-is_kept_first b = is_kept b && not (b == 58)
+is_kept_first b = is_kept b && not (b == colon)
 
 -- a path as a URI has it: each other byte as a triple (2.1)
 abbrev pub path_text : List ℕ → List ℕ

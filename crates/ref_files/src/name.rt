@@ -6,7 +6,7 @@ use percent_encoding::percent_decode_str;
 use std::alloc::{AllocError, Global};
 
 /// The name of a file or a folder: not empty, neither `.` nor `..`, and without a slash and a NUL. So it means
-/// something that stands right in the folder that it is looked up in.
+/// something that is right in the folder that it is looked up in.
 #[derive(Debug, Drop)]
 pub struct Name {
     text: String,

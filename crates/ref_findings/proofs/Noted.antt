@@ -19,11 +19,10 @@ use Rattle.ref_definitions.specs.Places.{Place, base_within, root, levels_below,
 use Rattle.ref_definitions.specs.Anchors.{Named, named_under}
 use Rattle.ref_definitions.specs.Cached.{Pair, pairs_of_identifier, pairs_of_reference}
 use Rattle.ref_definitions.specs.Wants.{Want, Reference, MetaSchema, reference_at, schema_at, schema_uri, wants_of_text, wants_at}
-use Rattle.ref_index.specs.Listed.{IsLeftOut, AreNoted, none, noted, left_out, IsListingOf}
-use Rattle.ref_index.specs.Visits.{ChildrenStandAt}
+use Rattle.ref_index.specs.Listed.{IsLeftOut, AreNoted, none, noted, left_out, IsListingOf, ChildrenStandAt}
 use Rattle.ref_findings.specs.declared.place.Place as rust
 use Rattle.ref_findings.specs.inner.Plain.{IsPlain}
-use Rattle.ref_index.specs.inner.Queue.{place_with}
+use Rattle.ref_index.specs.Visit.{place_with}
 use Rattle.ref_findings.specs.inner.Seen.{place_of}
 use Rattle.ref_findings.specs.Places.{places_near}
 use Rattle.ref_findings.specs.Sources.{Source, places_in, is_sound}

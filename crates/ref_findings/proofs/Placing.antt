@@ -16,7 +16,7 @@ use Rattle.ref_findings.specs.Bearers.{Site, is_root}
 use Rattle.ref_findings.specs.Findings.{Known, Finding, uri_problem, by_base, reference_problem, schema_problem, finding_at, source_findings, identifier_findings, reference_findings, schema_findings, anchor_finding, anchor_findings, findings_at}
 use Rattle.ref_findings.specs.declared.place.Place as rust
 use Rattle.ref_findings.specs.inner.Plain.{IsPlain}
-use Rattle.ref_index.specs.inner.Queue.{place_with}
+use Rattle.ref_index.specs.Visit.{place_with}
 use Rattle.ref_findings.specs.inner.Seen.{place_of}
 
 pub place_is : (p : rust.Place) (at : List Part) (value : Data) (draft : Draft) (outer : List ℕ) (path : List Part) (base : List ℕ) (child : Walked) → place_of p ≡ place_with at value draft outer

@@ -1,4 +1,4 @@
--- Values without a key that begins with `$`, which stands before letters: the first key in byte order tells.
+-- Values without a key that begins with `$`, which is less than each letter: the first key in byte order tells.
 use Rattle.std.proofs.Common.{◌≡◌, ◌∙◌, ℕ, suc, ◌<◌, ◌≤◌, List, [], ◌∷◌, Option, Some, None, String, Global, Ordering, Less, Equal, Greater, string_bytes, nat_cmp, true≢false, false, sym, ap, refl, arith}
 use Rattle.std.specs.Prelude.{option_and_then, slice_index, All}
 use Rattle.std.specs.Map.{keys_of}
@@ -16,7 +16,7 @@ at_least c d Less more less le = omega (arith, less)
 at_least c d Equal more same le = omega (arith, same)
 at_least c d Greater more greater le = absurd (true≢false le)
 
--- what is not less than a text that begins behind `$` is greater than each that begins with it
+-- what is not less than a text that begins after `$` is greater than each that begins with it
 less_than : (first text key : List ℕ) → 36 < slice_index first 0 → is_gt (slice_cmp nat_cmp first text) ≡ false → slice_cmp nat_cmp (36 ∷ key) text ≡ Less
 less_than [] text key behind le = absurd (omega (arith, behind))
 less_than (c ∷ rest) [] key behind le = absurd (true≢false le)

@@ -1,4 +1,4 @@
--- The places of a document where schemas stand, also below identifiers that mean no URI, and which of them have a text
+-- The places of a document where schemas are, also below identifiers that mean no URI, and which of them have a text
 -- that means none.
 use Rattle.std.specs.Prelude.{ℕ, Bool, true, false, ◌||◌, List, map, Option, Some, None, Result, Ok, Err}
 use Rattle.ref_draft.specs.Children.{walked_children}

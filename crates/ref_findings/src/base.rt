@@ -6,7 +6,7 @@ ghost use Rattle.ref_definitions.specs.Places.{base_within};
 ghost use Rattle.ref_findings.specs.Places.{nearest_of};
 ghost use Rattle.ref_findings.specs.inner.Meanings.{meta_schema_uri, IsMeaning};
 
-use ref_index::reference::shared;
+use ref_index::shared;
 use ref_uri::parts::uri_part;
 use ref_uri::uri::{from_str, resolve_against};
 use ref_uri::{Uri, UriError, UriFault};
@@ -81,9 +81,7 @@ fn without_fragment(alloc: Global, uri: Uri) -> Result<Rc<Uri>, AllocError>
     ensures { IfOk result (λ u. u.value ≡ with_fragment uri None) }
 {
     let mut uri = uri;
-    if let Err(error) = uri.set_fragment(None) {
-        unreachable!("{error}");
-    }
+    uri.drop_fragment();
     shared(alloc, uri)
 }
 

@@ -41,7 +41,7 @@ pub fn references()
         ∷ [] }
 {}
 
-/// What counts as a reference: a text under `$ref` where a schema stands.
+/// What counts as a reference: a text under `$ref` where a schema is.
 pub fn counts()
     ensures of_schemas { references Draft202012
         (source "http://a/r" (two "$ref" (text "#") "not" (one "$ref" (text "#")))

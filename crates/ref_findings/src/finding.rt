@@ -15,7 +15,7 @@ use std::rc::Rc;
 pub struct Report<'v> {
     /// What is wrong, and what is noted.
     pub findings: Vec<Finding<'v>>,
-    /// How many references the sources have: texts under `$ref` where schemas stand.
+    /// How many references the sources have: texts under `$ref` where schemas are.
     pub references: usize,
 }
 

@@ -4,7 +4,6 @@ ghost use Rattle.std.specs.Option.{option_to_list};
 ghost use Rattle.std.specs.List.{AllByRecursion};
 ghost use Rattle.serde_json.specs.View.{view};
 ghost use Rattle.ref_definitions.specs.Resources.{own_uri};
-ghost use Rattle.ref_error.specs.Retrieving.{retriever_of};
 ghost use Rattle.ref_findings.specs.Sources.{uris_in};
 ghost use Rattle.ref_findings.specs.Gathered.{referred_uri, dialect_uri, wanted_at, wanted_by, MayReturn, IsGathered};
 ghost use Rattle.ref_findings.specs.Entries.{source_of};
@@ -157,9 +156,7 @@ fn retrieved<R: Retrieve>(
     uri: &Uri,
 ) -> Result<Option<Value>, AllocError>
     ensures { IfOk result
-        (λ value. MayReturn
-        (retriever_of (R.may_answer retriever.now) (R.may_refuse retriever.now)) uri.now
-        (option_map view value)) }
+        (λ value. MayReturn (R.meaning retriever.now) uri.now (option_map view value)) }
 {
     match retriever.retrieve(alloc, uri) {
         Ok(value) => Ok(Some(value)),
@@ -190,9 +187,7 @@ fn ask<R: Retrieve>(
     uri: &Uri,
 ) -> Result<Option<Held>, AllocError>
     ensures answer { IfOk result
-        (λ held. MayReturn
-        (retriever_of (R.may_answer retriever.now) (R.may_refuse retriever.now)) uri.now
-        (source_asked uri.now held).tree) }
+        (λ held. MayReturn (R.meaning retriever.now) uri.now (source_asked uri.now held).tree) }
     ensures uri { IfOk result (λ o. IfSome o (λ held. held.uri ≡ uri.now)) }
     ensures grows { IfOk result
         (λ held. Grows wants.old wants.new (uris_in draft (source_asked uri.now held))
@@ -218,11 +213,9 @@ fn retrieve<R: Retrieve>(
     wants: &mut Wants,
 ) -> Result<Option<Held>, AllocError>
     requires { wants.old.next < length wants.old.wanted.items }
-    ensures going { GoesOn
-        (retriever_of (R.may_answer retriever.now) (R.may_refuse retriever.now)) draft wants.old
-        wants.new result }
+    ensures going { GoesOn (R.meaning retriever.now) draft wants.old wants.new result }
     ensures answer { IfOk result
-        (λ o. IfSome o (λ held. R.may_answer retriever.now held.uri (view held.value))) }
+        (λ o. IfSome o (λ held. (R.meaning retriever.now).may_answer held.uri (view held.value))) }
     ensures passed { IfOk result (λ held. wants.new.next ≡ wants.old.next + 1) }
     ensures refused { IfOk result
         (λ held. IfNone held (wants.new.wanted.items ≡ wants.old.wanted.items)) }
@@ -242,11 +235,9 @@ fn retrieve_next<R: Retrieve>(
     retriever: &R,
     wants: &mut Wants,
 ) -> Result<Option<Held>, AllocError>
-    ensures going { GoesOn
-        (retriever_of (R.may_answer retriever.now) (R.may_refuse retriever.now)) draft wants.old
-        wants.new result }
+    ensures going { GoesOn (R.meaning retriever.now) draft wants.old wants.new result }
     ensures answer { IfOk result
-        (λ o. IfSome o (λ held. R.may_answer retriever.now held.uri (view held.value))) }
+        (λ o. IfSome o (λ held. (R.meaning retriever.now).may_answer held.uri (view held.value))) }
     ensures ended { IfOk result
         (λ held. IfNone held (length wants.new.wanted.items ≤ wants.new.next)) }
 {
@@ -307,12 +298,11 @@ pub fn gather<R: Retrieve>(
     limit: usize,
 ) -> Result<Vec<Held>, AllocError>
     ensures gathered { IfOk result
-        (λ list. IsGathered
-        (retriever_of (R.may_answer retriever.now) (R.may_refuse retriever.now)) draft
+        (λ list. IsGathered (R.meaning retriever.now) draft
         (map source_of sources.now) limit (map held_source list.items)) }
     ensures answers { IfOk result
         (λ list. AllByRecursion
-        (λ held. R.may_answer retriever.now held.uri (view held.value)) list.items) }
+        (λ held. (R.meaning retriever.now).may_answer held.uri (view held.value)) list.items) }
     ensures limit { IfOk result (λ list. length list.items ≤ limit) }
 {
     let mut wants = wants_of(alloc, draft, sources)?;

@@ -21,8 +21,7 @@ use crate::site::Site;
 use crate::source::Source;
 use crate::survey::{Survey, index_of, sites_of, surveys_of};
 use ref_draft::{Anchor, AnchorIter, Draft};
-use ref_index::Index;
-use ref_index::path::segments_of;
+use ref_index::{Index, segments_of};
 use ref_parts::SortedTable;
 use ref_resolver::Layers;
 use ref_uri::Uri;
@@ -52,19 +51,19 @@ fn finding<'v>(
     })
 }
 
-// Adds what is wrong with a text of a place, where something is.
+// Adds what is wrong with a text of a place, where something is. It fails where finding that out did.
 fn add<'v>(
     alloc: Global,
     list: &mut Vec<Finding<'v>>,
     site: &Site<'_, 'v>,
     keyword: Option<Keyword>,
-    problem: Option<Problem<'v>>,
+    problem: Result<Option<Problem<'v>>, AllocError>,
 ) -> Result<(), AllocError>
-    ensures { (p : Option spec.Problem) → IsMaybe p problem.entry
+    ensures { (p : Option spec.Problem) → IfOk problem.entry (IsMaybe p)
         → Adds list.old.items list.new.items result
         (finding_at (site_of site.now) (option_map keyword_text keyword) p) }
 {
-    let Some(problem) = problem else {
+    let Some(problem) = problem? else {
         return Ok(());
     };
     let finding = finding(alloc, site, keyword, problem)?;
@@ -90,7 +89,7 @@ fn add_source_uri<'v>(
     let Some(uri) = source_uri(site.place, own.as_ref()) else {
         return Ok(());
     };
-    let problem = known.of_uri(alloc, number, uri)?;
+    let problem = known.of_uri(alloc, number, uri);
     add(alloc, list, site, None, problem)
 }
 
@@ -108,7 +107,7 @@ fn add_identifier<'v>(
     let Some(id) = site.place.id() else {
         return Ok(());
     };
-    let problem = known.of_identifier(alloc, number, &site.place.outer, id)?;
+    let problem = known.of_identifier(alloc, number, &site.place.outer, id);
     let keyword = Keyword::of_identifier(site.place.draft);
     add(alloc, list, site, Some(keyword), problem)
 }
@@ -127,7 +126,7 @@ fn add_reference<'v>(
         return Ok(());
     };
     let base = nearest_base(alloc, &site.place.outer, site.place.id())?;
-    let problem = known.of_reference(alloc, &base, reference)?;
+    let problem = known.of_reference(alloc, &base, reference);
     add(alloc, list, site, Some(Keyword::Ref), problem)
 }
 
@@ -144,7 +143,7 @@ fn add_schema<'v>(
     let Some(text) = site.place.schema() else {
         return Ok(());
     };
-    let problem = known.of_schema(alloc, text)?;
+    let problem = known.of_schema(alloc, text);
     add(alloc, list, site, Some(Keyword::Schema), problem)
 }
 
@@ -162,7 +161,7 @@ fn add_anchor<'v>(
         → Adds list.old.items list.new.items result
         (anchor_finding (known_in known.now) number (site_of site.now) (anchor_name anchor.entry)) }
 {
-    let problem = known.of_name(alloc, number, base, anchor.name())?;
+    let problem = known.of_name(alloc, number, base, anchor.name());
     let keyword = Keyword::of_anchor(site.place.draft, &anchor);
     add(alloc, list, site, Some(keyword), problem)
 }

@@ -1,6 +1,6 @@
 //! A place where a schema is.
 ghost use Rattle.std.specs.Prelude.{◌≡◌, true, map, option_map, IfOk};
-ghost use Rattle.ref_index.specs.Listed.{place_of as visited_place};
+ghost use Rattle.ref_index.specs.Visit.{place_of as visited_place};
 ghost use Rattle.serde_json.specs.View.{view};
 ghost use Rattle.ref_draft.specs.Schema.{text_under as text_in};
 ghost use Rattle.ref_draft.specs.Anchors.{anchors as anchors_of};
@@ -9,8 +9,7 @@ ghost use Rattle.ref_findings.specs.inner.Plain.{IsPlain, AreAmong};
 use crate::finding::text_under;
 use crate::texts::{Texts, texts_of};
 use ref_draft::{AnchorIter, Draft, ResourceRef};
-use ref_index::path::Below;
-use ref_index::queue::{ValueRef, Visit};
+use ref_index::{Below, ValueRef, Visit};
 use ref_parts::path::JsonPointerNode;
 use ref_uri::Uri;
 use serde_json::Value;
@@ -33,7 +32,7 @@ impl<'v> Place<'v> {
     ghost use Rattle.ref_draft.specs.Views.{anchor_name, anchors_left};
     ghost use Rattle.ref_definitions.specs.Places.{identifier_of};
     ghost use Rattle.ref_findings.specs.Bearers.{is_root};
-    ghost use Rattle.ref_index.specs.inner.Queue.{place_with};
+    ghost use Rattle.ref_index.specs.Visit.{place_with};
     ghost use Rattle.ref_findings.specs.inner.Seen.{place_of};
 
     /// The place of a value.

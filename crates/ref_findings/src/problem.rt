@@ -20,7 +20,7 @@ use crate::finding::{Bearer, Problem};
 use crate::site::Site;
 use ref_draft::{Draft, trim_hashes};
 use ref_error::Error;
-use ref_index::path::segments_of;
+use ref_index::segments_of;
 use ref_parts::{List, SortedTable};
 use ref_resolver::{Layers, Resolver};
 use ref_uri::Uri;

@@ -83,7 +83,7 @@ fn is_behind_dollar(text: &str) -> bool
 }
 
 // Whether no key of a value begins with `$`, as the first one of an object tells: keys are in byte order. Of an empty
-// object it isn't told.
+// object it isn't known.
 fn lacks_dollar(value: &Value) -> bool
     ensures { result ≡ true → (key : List ℕ) → text_in (36 ∷ key) (view value.now) ≡ None }
 {

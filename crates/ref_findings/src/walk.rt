@@ -1,4 +1,4 @@
-//! The places of a source where schemas stand.
+//! The places of a source where schemas are.
 ghost use Rattle.std.specs.Prelude.{◌≡◌, ◌<◌, List, [], ◌∷◌, ◌++◌, map, length, slice_get, Some, IfOk, IfSome, OnOk};
 ghost use Rattle.serde_json.specs.View.{view};
 ghost use Rattle.ref_draft.specs.Children.{AllStand, walked_children};
@@ -6,7 +6,7 @@ ghost use Rattle.ref_parts.specs.Path.{Key};
 ghost use Rattle.ref_draft.specs.Views.{segment_parts, walked_child};
 ghost use Rattle.std.specs.List.{AllByRecursion};
 ghost use Rattle.ref_definitions.specs.Places.{child_place, root};
-ghost use Rattle.ref_index.specs.Visits.{ChildrenStandAt};
+ghost use Rattle.ref_index.specs.Listed.{ChildrenStandAt};
 ghost use Rattle.ref_findings.specs.Places.{children_near, places_near};
 ghost use Rattle.ref_findings.specs.declared.place.Place.{Place};
 ghost use Rattle.ref_findings.specs.inner.Seen.{place_of, IsKeywordBelow};
@@ -14,7 +14,7 @@ ghost use Rattle.ref_findings.specs.inner.Seen.{place_of, IsKeywordBelow};
 use crate::base::nearest_base;
 use crate::place::Place;
 use ref_draft::{Child, Draft};
-use ref_index::reference::shared;
+use ref_index::shared;
 use ref_parts::path::{JsonPointerNode, JsonPointerSegment};
 use ref_uri::Uri;
 use serde_json::Value;
@@ -29,7 +29,7 @@ fn push<'v>(places: &mut Vec<Place<'v>>, place: Place<'v>) -> Result<(), AllocEr
     Ok(())
 }
 
-// A keyword of a schema, with its path: children under one keyword, which stand one after another, share it.
+// A keyword of a schema, with its path: children under one keyword, which are one after another, share it.
 #[derive(Drop)]
 struct Keyword<'v> {
     text: &'v str,

@@ -9,11 +9,11 @@ use Rattle.ref_definitions.specs.Places.{Place}
 use Rattle.ref_definitions.specs.Anchors.{Named, named_under}
 use Rattle.ref_definitions.specs.World.{Layer}
 use Rattle.ref_index.specs.declared.entry.Entry.{Entry}
-use Rattle.ref_index.specs.Spots.{numbered}
+use Rattle.ref_index.specs.Spots.{with_number}
 use Rattle.ref_definitions.specs.Cached.{Pair}
 use Rattle.ref_index.specs.declared.found.Found.{Found}
 use Rattle.ref_index.specs.declared.found.ResolvedUri.{ResolvedUri}
-use Rattle.ref_index.specs.Found.{FoundLists, Holds, IsNumberOf, IsPairOf, name_entry}
+use Rattle.ref_index.specs.inner.Found.{FoundLists, Holds, IsNumberOf, IsPairOf, name_entry}
 
 -- a URI more among those that identify places
 known_more : (before : Bool) (here : Bool) → (before || (here || false)) ≡ cond here true before
@@ -61,7 +61,7 @@ number_kept layer before after number n p same is = subst (λ es. IsNumberOf lay
 
 -- two anchors of a place
 pub two_names : (number : ℕ) (uri : List ℕ) (p : Place) (ns : List (ℕ × Named)) (resource : Tagged) (a b : List ℕ × Kind) → a ∷ b ∷ [] ≡ anchors resource.draft resource.contents → resource ≡ tagged_value p.draft p.value
-    → (ns ++ (number, name_entry uri p a) ∷ []) ++ (number, name_entry uri p b) ∷ [] ≡ ns ++ numbered number (named_under uri p)
+    → (ns ++ (number, name_entry uri p a) ∷ []) ++ (number, name_entry uri p b) ∷ [] ≡ ns ++ with_number number (named_under uri p)
 two_names number uri p ns resource a b are is =
     append_assoc ns ((number, name_entry uri p a) ∷ []) ((number, name_entry uri p b) ∷ [])
-    ∙ ap (λ l. ns ++ numbered number (map (name_entry uri p) l)) (are ∙ ap (λ (t : Tagged). anchors t.draft t.contents) is)
+    ∙ ap (λ l. ns ++ with_number number (map (name_entry uri p) l)) (are ∙ ap (λ (t : Tagged). anchors t.draft t.contents) is)

@@ -16,8 +16,11 @@ use Rattle.ref_index.specs.declared.entry.Entry.{Entry}
 use Rattle.ref_index.specs.declared.found.Found.{Found}
 use Rattle.ref_parts.specs.declared.path.JsonPointerSegment.{JsonPointerSegment}
 use Rattle.ref_index.specs.declared.entry.NamedEntry.{NamedEntry}
-use Rattle.ref_index.specs.Found.{IsPathOf, IsEntryOf, IsNumberOf, IsResourceOf, IsNameOf, FoundLists, Holds}
-use Rattle.ref_index.specs.Visits.{IsFirstFault, IsWalked, WalksOver, IsFound, held_of, ChildrenStandAt, faults_of, wants_of}
+use Rattle.ref_index.specs.Entries.{IsPathOf, IsEntryOf}
+use Rattle.ref_index.specs.inner.Found.{IsNumberOf, IsResourceOf, IsNameOf, FoundLists, Holds}
+use Rattle.ref_index.specs.Faults.{IsFirstFault, faults_of}
+use Rattle.ref_index.specs.inner.Visits.{IsWalked, WalksOver, IsFound, held_of}
+use Rattle.ref_index.specs.Listed.{ChildrenStandAt, wants_of}
 use Rattle.ref_index.proofs.Spots.{numbered_more}
 use Rattle.ref_index.proofs.Visiting.{holds_same}
 
@@ -39,7 +42,7 @@ path_stays layer more number parts p is =
     record { document = is.document; numbered = there_still layer more number is.document is.numbered; path = is.path; value = is.value }
 
 entry_stays : (layer more : Layer) (e : Entry) (p : Place) → IsEntryOf layer e p → IsEntryOf (layer ++ more) e p
-entry_stays layer more e p is = record { path = path_stays layer more e.document e.path.items p is.path; lent = is.lent; draft = is.draft; base = is.base }
+entry_stays layer more e p is = record { path = path_stays layer more e.document e.path.items p is.path; borrowed = is.borrowed; draft = is.draft; base = is.base }
 
 zip_weaker : {A B : Type 0} (R S : A → B → Type 0) → ((a : A) (b : B) → R a b → S a b) → (xs : List A) (ys : List B) → AllZip R xs ys → AllZip S xs ys
 zip_weaker R S each [] [] all = tt

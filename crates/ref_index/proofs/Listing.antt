@@ -1,5 +1,5 @@
 -- The places of documents, listed one by one.
-use Rattle.std.proofs.Common.{◌≡◌, ℕ, zero, suc, ◌+◌, ◌<◌, ◌≤◌, List, [], ◌∷◌, ◌++◌, map, take, drop, length, Some, Result, Ok, Err, OnOk, refl, sym, ap, ◌∙◌, subst, append_assoc, append-nil, arith, length-append}
+use Rattle.std.proofs.Common.{◌≡◌, ℕ, ◌+◌, ◌<◌, ◌≤◌, List, [], ◌∷◌, ◌++◌, map, take, drop, length, Some, Result, Ok, Err, OnOk, refl, sym, ap, ◌∙◌, subst, append_assoc, append-nil, arith, length-append}
 use Rattle.std.specs.Prelude.{slice_get}
 use Rattle.std.specs.List.{Contains}
 use Rattle.std.proofs.lemmas.List.{drop_all, map-append}
@@ -11,19 +11,13 @@ use Rattle.ref_definitions.specs.Listing.{Listed, listed_place}
 use Rattle.ref_definitions.proofs.Levels.{children_shallower}
 use Rattle.ref_definitions.proofs.Queues.{at_root, step, at_end, beginning}
 use Rattle.ref_index.specs.declared.queue.Visit.{Visit}
-use Rattle.ref_index.specs.inner.Queue.{place_of, IsListedTo}
+use Rattle.ref_index.specs.Visit.{place_of}
+use Rattle.ref_index.specs.inner.Queue.{IsListedTo}
 use Rattle.ref_index.proofs.Walking.{head_is, visited_is, waiting_is}
 
 pub on_ok : {A E P Q : Type 0} (r : Result A E) → (P → Q) → OnOk r P → OnOk r Q
 on_ok (Ok x) then is = then is
 on_ok (Err e) then is = tt
-
-pub in_mapped : {X Y : Type 0} (f : X → Y) (xs : List X) (x : X) → Contains xs x → Contains (map f xs) (f x)
-in_mapped f [] x there = absurd (omega (arith, there.1))
-in_mapped f (y ∷ xs) x (zero, less, is) = (0, omega arith, ap f is)
-in_mapped f (y ∷ xs) x (suc k, less, is) =
-    let later = in_mapped f xs x (k, omega (arith, less), is) in
-    (suc later.0, omega (arith, later.1), later.2)
 
 -- ---- the place at the head is one of the document's
 

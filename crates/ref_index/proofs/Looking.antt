@@ -19,9 +19,10 @@ use Rattle.ref_index.specs.declared.entry.Entry.{Entry}
 use Rattle.ref_index.specs.declared.entry.NamedEntry.{NamedEntry}
 use Rattle.ref_index.specs.declared.found.ResolvedUri.{ResolvedUri}
 use Rattle.ref_index.specs.Spots.{Spot, numbered_resources, numbered_names, last_resource, last_name, spot_under, spot_of}
-use Rattle.ref_index.specs.Found.{IsEntryOf, IsNumberOf, IsResourceOf, IsNameOf, kind_of}
+use Rattle.ref_index.specs.Entries.{IsEntryOf, kind_of, IsFoundWhere}
+use Rattle.ref_index.specs.inner.Found.{IsNumberOf, IsResourceOf, IsNameOf}
 use Rattle.ref_index.proofs.Spots.{last_resource_is, last_name_is}
-use Rattle.ref_index.specs.Index.{IsPairIn, IsFoundWhere}
+use Rattle.ref_index.specs.inner.Index.{IsPairIn}
 
 -- ---- lists of the same places
 
@@ -168,7 +169,7 @@ tells layer entries number n p e is at =
     let same : is.0 ≡ e = some_is is.0 e (sym is.1 ∙ at) in
     subst (λ x. IsEntryOf layer x p × (x.document ≡ number)) same (is.2, is.3)
 
--- and so it says where the place stands
+-- and so it says where the place is
 abbrev spot : ℕ → List Part → Option Spot
 spot number path = Some (record { document = number; path = path })
 
@@ -186,7 +187,7 @@ entry_there : (layer : Layer) (entries : List Entry) (number n : ℕ) (p : Place
 entry_there layer entries number n p None is same = absurd (none_is_some is.0 (same ∙ is.1))
 entry_there layer entries number n p (Some b) is same = let at = tells layer entries number n p b.now is (sym same) in (b, refl, at.0, at.1)
 
--- an entry is that of the last resource under a URI, and says where this stands, or there is neither
+-- an entry is that of the last resource under a URI, and says where this is, or there is neither
 abbrev pub IsResourceFound : Layer → List ℕ → Option (Bor Entry) → Type 0
 IsResourceFound layer uri result =
     IsFoundWhere layer result (last_under uri (resources layer)) × IfSome result (λ e. spot_under uri layer ≡ Some (spot_of e.now))

@@ -1,6 +1,6 @@
 -- A URI in normal form means itself against any base, what a text means against such a base is in normal form, and so are the bases of
 -- the places of a document whose URI is.
-use Rattle.std.proofs.Common.{◌≡◌, ℕ, Bool, true, false, ◌&&◌, List, [], ◌∷◌, get_or, eqb, cond, refl, sym, ap, ◌∙◌, inl, inr, Option, Some, None, is_some, is_none, option_map, subst, Result, Ok, Err, map, flat_map, filter, zero, suc, bytes_eq}
+use Rattle.std.proofs.Common.{◌≡◌, ℕ, Bool, true, false, ◌&&◌, List, [], ◌∷◌, get_or, eqb, cond, refl, sym, ap, ◌∙◌, inl, inr, Option, Some, None, is_some, is_none, option_map, subst, Result, Ok, Err, map, filter, bytes_eq}
 use Rattle.std.specs.List.{ends_with, AllByRecursion, last_or}
 use Rattle.std.specs.Char.{to_ascii_lowercase}
 use Rattle.std.specs.Option.{option_or, option_to_list}
@@ -11,12 +11,10 @@ use Rattle.ref_uri.specs.Normal.{normal_text, guarded_path, normal_components, n
 use Rattle.ref_uri.specs.Reference.{is_uri_reference, with_fragment}
 use Rattle.ref_uri.specs.Resolution.{resolved_components, target_text}
 use Rattle.ref_uri.specs.Targets.{Refusal, parse_refusal, uri_of, uri_against}
-use Rattle.serde_json.specs.Data.{depth}
 use Rattle.ref_parts.specs.Path.{Part}
 use Rattle.ref_draft.specs.Children.{Walked, walked_children}
-use Rattle.ref_draft.proofs.Lists.{all_append}
 use Rattle.ref_definitions.specs.World.{Document, Layer}
-use Rattle.ref_definitions.specs.Places.{Place, base_within, root, child_place, children_with, children_of, levels_below, places}
+use Rattle.ref_definitions.specs.Places.{Place, base_within, root, child_place, children_with, places}
 use Rattle.ref_definitions.specs.Resources.{own_uri, resource_of, resources_in, resources, last_under}
 use Rattle.ref_draft.specs.Schema.{identifier}
 use Rattle.ref_uri.proofs.OnLiterals.{ref_uri_on_literals}
@@ -30,6 +28,8 @@ use Rattle.ref_uri.proofs.WrittenUri.{components_hold, normal_text_of, resolved_
 use Rattle.ref_uri.proofs.FragmentLemmas.{reference-with_fragment, scheme-with_fragment}
 use Rattle.ref_uri.proofs.LawLemmas.{from_components}
 use Rattle.ref_index.specs.inner.NormalUris.{IsNormalUri, HasNormalUri, HaveNormalUris}
+use Rattle.ref_definitions.proofs.Lists.{all_joined}
+use Rattle.ref_definitions.proofs.Induction.{places_induct}
 
 -- the guard goes with the dot segments
 guard_removed : (a : Option (List ℕ)) (path : List ℕ) → remove_dot_segments (guarded_path a path) ≡ remove_dot_segments path
@@ -153,10 +153,6 @@ within : (outer : List ℕ) (id : Option (List ℕ)) → IsNormalUri outer → (
 within outer None is b base = subst IsNormalUri (the_answer outer b base) is
 within outer (Some id) is b base = result_normal outer id b is base
 
-all_in : {A B : Type 0} (P : A → Type 0) (Q : B → Type 0) (f : A → List B) → ((a : A) → P a → AllByRecursion Q (f a)) → (xs : List A) → AllByRecursion P xs → AllByRecursion Q (flat_map f xs)
-all_in P Q f each [] all = tt
-all_in P Q f each (x ∷ xs) all = all_append Q (f x) (flat_map f xs) (each x all.0) (all_in P Q f each xs all.1)
-
 normal_children : (path : List Part) (base : List ℕ) → IsNormalUri base → (cs : List Walked) → AllByRecursion HasNormalBase (map (child_place path base) cs)
 normal_children path base is [] = tt
 normal_children path base is (c ∷ cs) = (within base (identifier c.draft c.value) is, normal_children path base is cs)
@@ -165,20 +161,11 @@ normal_with : (p : Place) (base : Result (List ℕ) Refusal) → ((b : List ℕ)
 normal_with p (Ok base) is = normal_children p.path base (is base refl) (walked_children p.draft p.value)
 normal_with p (Err refusal) is = tt
 
-normal_level : (ps : List Place) → AllByRecursion HasNormalBase ps → AllByRecursion HasNormalBase (flat_map children_of ps)
-normal_level ps all = all_in HasNormalBase HasNormalBase children_of (λ p is. normal_with p p.base is) ps all
-
-normal_below : (n : ℕ) (ps : List Place) → AllByRecursion HasNormalBase ps → AllByRecursion HasNormalBase (levels_below n ps)
-normal_below zero ps all = tt
-normal_below (suc n) ps all =
-    let level = normal_level ps all in
-    all_append HasNormalBase (flat_map children_of ps) (levels_below n (flat_map children_of ps)) level (normal_below n (flat_map children_of ps) level)
-
 normal_root : (d : Document) → HasNormalUri d → HasNormalBase (root d)
 normal_root d is = within d.uri (identifier d.draft d.tree) is
 
 normal_places : (d : Document) → HasNormalUri d → AllByRecursion HasNormalBase (places d)
-normal_places d is = (normal_root d is, normal_below (depth d.tree) (root d ∷ []) (normal_root d is, tt))
+normal_places d is = places_induct HasNormalBase (λ p normal. normal_with p p.base normal) d (normal_root d is)
 
 -- ---- what URIs mean
 
@@ -193,7 +180,7 @@ normal_resource p is = by_uri (own_uri p)
     by_uri (Some uri) = (is, tt)
 
 normal_in : (d : Document) → HasNormalUri d → AllByRecursion MeansNormal (resources_in d)
-normal_in d is = (normal_root d is, all_in HasNormalBase MeansNormal resource_of normal_resource (places d) (normal_places d is))
+normal_in d is = (normal_root d is, all_joined HasNormalBase MeansNormal resource_of (places d) normal_resource (normal_places d is))
 
 some_of : {X : Type 0} (P : X → Type 0) (test : X → Bool) (xs : List X) (o : Option X) → ((x : X) → o ≡ Some x → P x) → AllByRecursion P xs → (x : X) → last_or o (filter test xs) ≡ Some x → P x
 some_of P test [] o first all x is = first x is
@@ -207,4 +194,4 @@ some_of P test (y ∷ xs) o first all x is =
 -- the place that a URI means has a base in normal form
 pub normal_meaning : (layer : Layer) (uri : List ℕ) (r : List ℕ × Place) → HaveNormalUris layer → last_under uri (resources layer) ≡ Some r → HasNormalBase r.1
 normal_meaning layer uri r all is =
-    some_of MeansNormal (λ e. bytes_eq e.0 uri) (resources layer) None (λ x none. cc) (all_in HasNormalUri MeansNormal resources_in normal_in layer all) r is
+    some_of MeansNormal (λ e. bytes_eq e.0 uri) (resources layer) None (λ x none. cc) (all_joined HasNormalUri MeansNormal resources_in layer normal_in all) r is

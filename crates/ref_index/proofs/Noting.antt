@@ -14,10 +14,11 @@ use Rattle.ref_definitions.specs.Cached.{identifier_pairs_at, reference_pairs_at
 use Rattle.ref_definitions.proofs.Standing.{all_stand_where}
 use Rattle.ref_index.specs.declared.found.Found.{Found}
 use Rattle.ref_index.specs.declared.queue.Visit.{Visit}
-use Rattle.ref_index.specs.inner.Queue.{place_of}
-use Rattle.ref_index.specs.Listed.{IsLeftOut, AreNoted, none, noted, left_out, IsListingOf}
-use Rattle.ref_index.specs.Visits.{AddsPlaces, AllStandIn, ChildrenStandAt, IsFirstFault, IsWalked, faults_of, names_of, wants_of}
-use Rattle.ref_index.specs.Spots.{numbered}
+use Rattle.ref_index.specs.Visit.{place_of}
+use Rattle.ref_index.specs.Listed.{IsLeftOut, AreNoted, none, noted, left_out, IsListingOf, ChildrenStandAt, wants_of}
+use Rattle.ref_index.specs.inner.Visits.{AddsPlaces, AllStandIn, IsWalked, names_of}
+use Rattle.ref_index.specs.Faults.{IsFirstFault, faults_of}
+use Rattle.ref_index.specs.Spots.{with_number}
 use Rattle.ref_index.proofs.Visiting.{holds_same}
 
 same_lists : {A : Type 0} (f : Place → List A) → ((p : Place) → IsLeftOut p → f p ≡ []) → (ps qs : List Place) → AreNoted ps qs → flat_map f qs ≡ flat_map f ps
@@ -59,8 +60,8 @@ memory_alone fs gs (Memory error) empty is = tt
 pub all_walked : (d : Document) (number : ℕ) (old new : Found) (below : List Place) → IsListingOf d below → AddsPlaces d number (root d ∷ below) old new → IsWalked d number old new (places d)
 all_walked d number old new below is adds = record {
   added = λ layer held there holds.
-      holds_same layer new _ _ (ap (λ l. held.resources ++ numbered number ((d.uri, root d) ∷ l)) (same_lists resource_of (λ p left. left.resource) (places d) (root d ∷ below) is.noted))
-      (ap (λ l. held.names ++ numbered number (named_under d.uri (root d) ++ l)) (same_lists names_of (λ p left. left.name) (places d) (root d ∷ below) is.noted))
+      holds_same layer new _ _ (ap (λ l. held.resources ++ with_number number ((d.uri, root d) ∷ l)) (same_lists resource_of (λ p left. left.resource) (places d) (root d ∷ below) is.noted))
+      (ap (λ l. held.names ++ with_number number (named_under d.uri (root d) ++ l)) (same_lists names_of (λ p left. left.name) (places d) (root d ∷ below) is.noted))
       (ap (λ l. held.wants ++ l) (same_lists wants_of (λ p left. left.want) (places d) (root d ∷ below) is.noted))
       (ap (λ l. held.identifiers ++ l) (same_lists identifier_pairs_at (λ p left. (both_empty (identifier_pairs_at p) (reference_pairs_at p) left.pair).0) (places d) (root d ∷ below) is.noted))
       (ap (λ l. held.references ++ l) (same_lists reference_pairs_at (λ p left. (both_empty (identifier_pairs_at p) (reference_pairs_at p) left.pair).1) (places d) (root d ∷ below) is.noted))

@@ -13,7 +13,7 @@ use Rattle.ref_definitions.specs.Resources.{last_under, resources, meant_place}
 use Rattle.ref_definitions.proofs.Last.{last_there}
 use Rattle.ref_index.specs.declared.found.Found.{Found}
 use Rattle.ref_index.specs.Spots.{numbered_resources}
-use Rattle.ref_index.specs.Found.{FoundLists, Holds, is_same}
+use Rattle.ref_index.specs.inner.Found.{FoundLists, Holds, is_same}
 use Rattle.ref_index.proofs.Spots.{known_alike}
 
 any_step : (r : List ℕ × Place) (rs : List (List ℕ × Place)) (test : List ℕ × Place → Bool) (here : Bool) → list_any test rs ≡ is_some (last_or None (filter test rs))
@@ -67,7 +67,7 @@ mapped_at f [] i v x within at there = absurd (omega arith)
 mapped_at f (y ∷ ys) zero v x within at there = (let same : f y ≡ x = cc in ap f at ∙ same)
 mapped_at f (y ∷ ys) (suc i) v x within at there = mapped_at f ys i v x (omega arith) at there
 
--- nothing stands past the end
+-- nothing is past the end
 pub none_past : {X : Type 0} (xs : List X) (i : ℕ) (x : X) (Q : Type 0) → length xs ≤ i → slice_get xs i ≡ Some x → Q
 none_past [] i x Q le is = cc
 none_past (y ∷ xs) zero x Q le is = absurd (omega arith)

@@ -14,10 +14,12 @@ use Rattle.ref_definitions.specs.World.{Document, Layer, World}
 use Rattle.ref_definitions.specs.Places.{places}
 use Rattle.ref_definitions.specs.Fault.{InvalidUri, RetrievalLimit}
 use Rattle.ref_definitions.specs.Wants.{Want, wants_at, wants, faults_at, faults, is_open, open_wants}
-use Rattle.ref_definitions.specs.Preparing.{Given, IsRun, begun, retrieved, IsOutcome, faulty, limited, refused, ready, refusal_fault}
+use Rattle.ref_definitions.specs.Preparing.{Given, IsRun, begun, IsOutcome, refusal_fault}
+use Rattle.ref_definitions.proofs.Runs.{retrieved_run, faulty_run, limited_run, refused_run, ready_run}
 use Rattle.ref_definitions.proofs.Appending.{met_wants_stay}
-use Rattle.ref_index.specs.Retrieval.{IsFaultyOutcome, IsAnswerFor}
-use Rattle.ref_index.specs.Visits.{IsFirstFault}
+use Rattle.ref_index.specs.Retrieval.{IsFaultyOutcome}
+use Rattle.ref_index.specs.inner.Retrieved.{IsAnswerFor}
+use Rattle.ref_index.specs.Faults.{IsFirstFault}
 use Rattle.ref_index.proofs.Walking.{first_in_front}
 use Rattle.ref_index.proofs.Opening.{first_passes, none_passes}
 
@@ -43,23 +45,23 @@ first_want : (g : Given) (n : ℕ) (layer : Layer) (next : ℕ) (w : Want) → I
 first_want g n layer next w is there = first_passes (is_open (layer ∷ g.parents)) next (wants layer) w is.met there (is.open_there w there)
 
 pub at_limit : (g : Given) (n : ℕ) (layer : Layer) (next : ℕ) (w : Want) → IsAfter g n layer next → slice_get (wants layer) next ≡ Some w → n ≡ g.limit → IsOutcome g (Err (RetrievalLimit w.uri g.limit))
-at_limit g n layer next w is there all = limited layer w _ (subst (λ m. IsRun g m layer) all is.run) is.faultless (first_want g n layer next w is there)
+at_limit g n layer next w is there all = limited_run layer w _ (subst (λ m. IsRun g m layer) all is.run) is.faultless (first_want g n layer next w is there)
 
 pub at_refusal : (g : Given) (n : ℕ) (layer : Layer) (next : ℕ) (w : Want) (text : List ℕ) → IsAfter g n layer next → slice_get (wants layer) next ≡ Some w → n < g.limit → g.retriever.may_refuse w.uri text
     → IsOutcome g (Err (refusal_fault w.cause w.uri text))
-at_refusal g n layer next w text is there more says = refused n layer w _ text is.run more is.faultless (first_want g n layer next w is there) says
+at_refusal g n layer next w text is there more says = refused_run n layer w _ text is.run more is.faultless (first_want g n layer next w is there) says
 
 -- ---- a document more
 
-one_more : (g : Given) (n : ℕ) (layer : Layer) (next : ℕ) (w : Want) (d : Document) → IsAfter g n layer next → slice_get (wants layer) next ≡ Some w → IsAnswerFor g.retriever.may_answer g.draft w.uri d
+one_more : (g : Given) (n : ℕ) (layer : Layer) (next : ℕ) (w : Want) (d : Document) → IsAfter g n layer next → slice_get (wants layer) next ≡ Some w → IsAnswerFor g.retriever g.draft w.uri d
     → IsRun g (suc n) (layer ++ d ∷ [])
 one_more g n layer next w d is there (tree, may, same) =
-    subst (λ e. IsRun g (suc n) (layer ++ e ∷ [])) (sym same) (retrieved n layer w _ tree is.run is.faultless (first_want g n layer next w is there) may)
+    subst (λ e. IsRun g (suc n) (layer ++ e ∷ [])) (sym same) (retrieved_run n layer w _ tree is.run is.faultless (first_want g n layer next w is there) may)
 
 pub at_fault : (g : Given) (n : ℕ) (layer : Layer) (next : ℕ) (w : Want) (d : Document) (refusal : Refusal) (more : List Refusal) → IsAfter g n layer next → slice_get (wants layer) next ≡ Some w → n < g.limit
-    → IsAnswerFor g.retriever.may_answer g.draft w.uri d → faults (layer ++ d ∷ []) ≡ refusal ∷ more → IsOutcome g (Err (InvalidUri refusal))
+    → IsAnswerFor g.retriever g.draft w.uri d → faults (layer ++ d ∷ []) ≡ refusal ∷ more → IsOutcome g (Err (InvalidUri refusal))
 at_fault g n layer next w d refusal more is there less answer first =
-    faulty (suc n) (layer ++ d ∷ []) refusal more (one_more g n layer next w d is there answer) (omega (arith, less)) first
+    faulty_run (suc n) (layer ++ d ∷ []) refusal more (one_more g n layer next w d is there answer) (omega (arith, less)) first
 
 all_closed : (layer : Layer) (d : Document) (parents : World) (ws : List Want) → AllByRecursion (λ w. is_open (layer ∷ parents) w ≡ false) ws → AllByRecursion (λ w. is_open ((layer ++ d ∷ []) ∷ parents) w ≡ false) ws
 all_closed layer d parents [] met = tt
@@ -83,7 +85,7 @@ pub record IsNext (layer : Layer) (parents : World) (from next : ℕ) : Type 0 w
   pub open_there : (w : Want) → slice_get (wants layer) next ≡ Some w → is_open (layer ∷ parents) w ≡ true
 
 pub onward : (g : Given) (n : ℕ) (layer newer : Layer) (from next : ℕ) (w : Want) (d : Document) → IsAfter g n layer from → slice_get (wants layer) from ≡ Some w → n < g.limit
-    → IsAnswerFor g.retriever.may_answer g.draft w.uri d → newer ≡ layer ++ d ∷ [] → IsNext newer g.parents from next → IsAfter g (n + 1) newer next
+    → IsAnswerFor g.retriever g.draft w.uri d → newer ≡ layer ++ d ∷ [] → IsNext newer g.parents from next → IsAfter g (n + 1) newer next
 onward g n layer newer from next w d is there less answer same to = subst (λ k. IsAfter g k newer next) (let e : suc n ≡ n + 1 = omega arith in e) (record {
   run = subst (IsRun g (suc n)) (sym same) (one_more g n layer from w d is there answer);
   most = omega (arith, less);
@@ -106,10 +108,10 @@ at_first g layer next same to = record {
 }
 
 pub at_first_fault : (g : Given) (refusal : Refusal) (more : List Refusal) → faults g.documents ≡ refusal ∷ more → IsOutcome g (Err (InvalidUri refusal))
-at_first_fault g refusal more is = faulty 0 g.documents refusal more begun (omega arith) is
+at_first_fault g refusal more is = faulty_run 0 g.documents refusal more begun (omega arith) is
 
 pub at_last : (g : Given) (n : ℕ) (layer : Layer) (next : ℕ) → IsAfter g n layer next → slice_get (wants layer) next ≡ None → IsOutcome g (Ok layer)
-at_last g n layer next is none = ready n layer is.run is.most is.faultless (none_passes (is_open (layer ∷ g.parents)) next (wants layer) is.met none)
+at_last g n layer next is none = ready_run n layer is.run is.most is.faultless (none_passes (is_open (layer ∷ g.parents)) next (wants layer) is.met none)
 
 -- ---- errors
 

@@ -6,42 +6,42 @@ use Rattle.ref_definitions.specs.World.{Document, Layer}
 use Rattle.ref_definitions.specs.Places.{Place}
 use Rattle.ref_definitions.specs.Resources.{resources_in, resources, last_under}
 use Rattle.ref_definitions.specs.Anchors.{Named, names_in, names, last_named}
-use Rattle.ref_index.specs.Spots.{numbered, numbered_from, numbered_resources, numbered_names, last_resource, last_name}
+use Rattle.ref_index.specs.Spots.{with_number, numbered_from, numbered_resources, numbered_names, last_resource, last_name}
 
 -- ---- one more
 
-pub numbered_append : {X : Type 0} (number : ℕ) (xs ys : List X) → numbered number (xs ++ ys) ≡ numbered number xs ++ numbered number ys
+pub numbered_append : {X : Type 0} (number : ℕ) (xs ys : List X) → with_number number (xs ++ ys) ≡ with_number number xs ++ with_number number ys
 numbered_append number xs ys = map-append (λ x. (number, x)) xs ys
 
 -- numbered lists after others, one of them in two parts
-pub numbered_behind : {X : Type 0} (number : ℕ) (front : List (ℕ × X)) (xs ys : List X) → (front ++ numbered number xs) ++ numbered number ys ≡ front ++ numbered number (xs ++ ys)
-numbered_behind number front xs ys = append_assoc front (numbered number xs) (numbered number ys) ∙ ap (λ l. front ++ l) (sym (numbered_append number xs ys))
+pub numbered_behind : {X : Type 0} (number : ℕ) (front : List (ℕ × X)) (xs ys : List X) → (front ++ with_number number xs) ++ with_number number ys ≡ front ++ with_number number (xs ++ ys)
+numbered_behind number front xs ys = append_assoc front (with_number number xs) (with_number number ys) ∙ ap (λ l. front ++ l) (sym (numbered_append number xs ys))
 
 -- a document after those of a layer
 numbered_after : {X : Type 0} (has : Document → List X) (from number : ℕ) (layer : Layer) (d : Document) → number ≡ from + length layer
-    → numbered_from has from layer ++ numbered number (has d) ≡ numbered_from has from (layer ++ d ∷ [])
+    → numbered_from has from layer ++ with_number number (has d) ≡ numbered_from has from (layer ++ d ∷ [])
 numbered_after has from number [] d is =
     let same : number ≡ from = omega (arith, is) in
-    ap (λ n. numbered n (has d)) same ∙ sym (append-nil (numbered from (has d)))
+    ap (λ n. with_number n (has d)) same ∙ sym (append-nil (with_number from (has d)))
 numbered_after has from number (e ∷ layer) d is =
     let next : number ≡ suc from + length layer = omega (arith, is) in
-    append_assoc (numbered from (has e)) (numbered_from has (suc from) layer) (numbered number (has d))
-    ∙ ap (λ l. numbered from (has e) ++ l) (numbered_after has (suc from) number layer d next)
+    append_assoc (with_number from (has e)) (numbered_from has (suc from) layer) (with_number number (has d))
+    ∙ ap (λ l. with_number from (has e) ++ l) (numbered_after has (suc from) number layer d next)
 
 pub numbered_more : {X : Type 0} (has : Document → List X) (layer : Layer) (d : Document)
-    → numbered_from has 0 layer ++ numbered (length layer) (has d) ≡ numbered_from has 0 (layer ++ d ∷ [])
+    → numbered_from has 0 layer ++ with_number (length layer) (has d) ≡ numbered_from has 0 (layer ++ d ∷ [])
 numbered_more has layer d = numbered_after has 0 (length layer) layer d (omega arith)
 
 -- ---- without the numbers
 
-dropped : {X : Type 0} (number : ℕ) (xs : List X) → map (λ (x : ℕ × X). x.1) (numbered number xs) ≡ xs
+dropped : {X : Type 0} (number : ℕ) (xs : List X) → map (λ (x : ℕ × X). x.1) (with_number number xs) ≡ xs
 dropped number [] = refl
 dropped number (x ∷ xs) = ap (λ l. x ∷ l) (dropped number xs)
 
 pub unnumbered : {X : Type 0} (has : Document → List X) (number : ℕ) (layer : Layer) → map (λ (x : ℕ × X). x.1) (numbered_from has number layer) ≡ flat_map has layer
 unnumbered has number [] = refl
 unnumbered {X = X} has number (d ∷ ds) =
-    map-append (λ (x : ℕ × X). x.1) (numbered number (has d)) (numbered_from has (suc number) ds)
+    map-append (λ (x : ℕ × X). x.1) (with_number number (has d)) (numbered_from has (suc number) ds)
     ∙ ap (λ l. l ++ map (λ (x : ℕ × X). x.1) (numbered_from has (suc number) ds)) (dropped number (has d)) ∙ ap (λ l. has d ++ l) (unnumbered has (suc number) ds)
 
 any_mapped : {A B : Type 0} (f : A → B) (test : B → Bool) (xs : List A) → list_any test (map f xs) ≡ list_any (λ x. test (f x)) xs

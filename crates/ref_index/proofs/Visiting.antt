@@ -13,8 +13,8 @@ use Rattle.ref_definitions.specs.Places.{Place}
 use Rattle.ref_definitions.specs.Cached.{Pair, pairs_of_value}
 use Rattle.ref_definitions.specs.Wants.{Want, Reference, MetaSchema, wants_of_text, refusals_of, reference_at, schema_at, wants_at, faults_at}
 use Rattle.ref_index.specs.declared.found.Found.{Found}
-use Rattle.ref_index.specs.Found.{FoundLists, Holds, IsResourceOf, IsNameOf, IsPairOf}
-use Rattle.ref_index.specs.Visits.{IsFirstFault}
+use Rattle.ref_index.specs.inner.Found.{FoundLists, Holds, IsResourceOf, IsNameOf, IsPairOf}
+use Rattle.ref_index.specs.Faults.{IsFirstFault}
 
 -- ---- the same lists under other names
 

@@ -1,6 +1,6 @@
 -- The walk, place by place, over plain values.
-use Rattle.std.proofs.Common.{◌≡◌, ℕ, zero, suc, ◌+◌, ◌<◌, ◌≤◌, List, [], ◌∷◌, ◌++◌, map, flat_map, take, drop, length, get_or, Option, Some, None, Result, Ok, Err, refl, sym, ap, ◌∙◌, subst, append_assoc, append-nil, arith, length-append}
-use Rattle.std.specs.Prelude.{slice_get, option_and_then}
+use Rattle.std.proofs.Common.{◌≡◌, ℕ, zero, suc, ◌+◌, ◌<◌, ◌≤◌, List, [], ◌∷◌, ◌++◌, map, flat_map, take, drop, length, get_or, Some, None, refl, sym, ap, ◌∙◌, subst, append_assoc, append-nil, arith, length-append}
+use Rattle.std.specs.Prelude.{slice_get}
 use Rattle.std.proofs.lemmas.Option.{get_or_from_slice_get}
 use Rattle.std.proofs.lemmas.List.{take_more, drop_more, drop_all, take-append-le, drop-append-le, map-append, flat_map_more, length-take-le, length-map}
 use Rattle.std.proofs.lemmas.Grind.{flat_map-append}
@@ -15,39 +15,25 @@ use Rattle.ref_uri.specs.Targets.{Refusal}
 use Rattle.ref_uri.specs.declared.error.UriFault.{UriFault}
 use Rattle.ref_uri.specs.declared.error.UriFault.TheVariants.{Invalid, Memory}
 use Rattle.ref_definitions.specs.World.{Document}
-use Rattle.ref_definitions.specs.Places.{Place, root, child_place, children_with, children_of, places}
+use Rattle.ref_definitions.specs.Places.{Place, root, child_place, children_of, places}
 use Rattle.ref_definitions.specs.Queue.{IsQueueBy}
 use Rattle.ref_definitions.specs.Resources.{resource_of}
-use Rattle.ref_definitions.proofs.Changes.{value_at-append}
 use Rattle.ref_definitions.proofs.Levels.{children_shallower}
 use Rattle.ref_definitions.proofs.Queues.{at_root, step, at_end, beginning}
 use Rattle.ref_definitions.specs.Anchors.{named_under}
 use Rattle.ref_definitions.specs.Cached.{identifier_pairs_at, reference_pairs_at}
 use Rattle.ref_index.specs.declared.found.Found.{Found}
 use Rattle.ref_index.specs.declared.queue.Visit.{Visit}
-use Rattle.ref_index.specs.inner.Queue.{path_of, place_of, place_with, value_of}
-use Rattle.ref_index.specs.Visits.{AddsPlace, AddsPlaces, Came, ChildrenCame, IsFirstFault, IsVisited, IsWalked, AllStandIn, ChildrenStandAt, IsAt, faults_of, names_of, wants_of}
-use Rattle.ref_index.specs.Spots.{numbered}
+use Rattle.ref_index.specs.Visit.{path_of, place_of, place_with, value_of}
+use Rattle.ref_index.specs.inner.Visits.{AddsPlace, AddsPlaces, Came, ChildrenCame, IsVisited, IsWalked, AllStandIn, IsAt, names_of}
+use Rattle.ref_index.specs.Faults.{IsFirstFault, faults_of}
+use Rattle.ref_index.specs.Listed.{ChildrenStandAt, wants_of}
+use Rattle.ref_index.specs.Spots.{with_number}
 use Rattle.ref_index.proofs.Spots.{numbered_behind}
 use Rattle.ref_index.proofs.Visiting.{holds_same}
+use Rattle.ref_definitions.proofs.Standing.{StandsAt, below_one}
 
 -- ---- values at paths
-
-along : (p q : List Part) (next : Option Data) (d : Data) → next ≡ Some d → option_and_then (λ e. value_at e q) next ≡ value_at d q
-along p q next d is = ap (option_and_then (λ e. value_at e q)) is
-
-children_stand : (d : Document) (path : List Part) (base : List ℕ) (value : Data) (cs : List Walked) → value_at d.tree path ≡ Some value → AllStand value cs → AllStandIn d (map (child_place path base) cs)
-children_stand d path base value [] at all = tt
-children_stand d path base value (child ∷ cs) at all =
-    (value_at-append d.tree path child.path ∙ along path child.path (value_at d.tree path) value at ∙ all.0, children_stand d path base value cs at all.1)
-
-place_children_stand : (d : Document) (p : Place) (base : Result (List ℕ) Refusal) → value_at d.tree p.path ≡ Some p.value → AllStand p.value (walked_children p.draft p.value) → AllStandIn d (children_with base p)
-place_children_stand d p (Ok base) at all = children_stand d p.path base p.value (walked_children p.draft p.value) at all
-place_children_stand d p (Err refusal) at all = tt
-
-all_behind : (d : Document) (ps qs : List Place) → AllStandIn d ps → AllStandIn d qs → AllStandIn d (ps ++ qs)
-all_behind d [] qs front back = back
-all_behind d (p ∷ ps) qs front back = (front.0, all_behind d ps qs front.1 back)
 
 stands_at : (d : Document) (vs : List Visit) (i : ℕ) (v : Visit) → slice_get vs i ≡ Some v → AllStandIn d (map place_of vs) → value_at d.tree (place_of v).path ≡ Some (place_of v).value
 stands_at d [] i v at all = cc
@@ -90,9 +76,9 @@ added_more f front x visited p =
     append_assoc front (x ++ flat_map f visited) (f p) ∙ ap (λ l. front ++ l) (flat_map_more f x visited p)
 
 numbered_added : {A : Type 0} (f : Place → List A) (number : ℕ) (front : List (ℕ × A)) (x : List A) (visited : List Place) (p : Place)
-    → (front ++ numbered number (x ++ flat_map f visited)) ++ numbered number (f p) ≡ front ++ numbered number (x ++ flat_map f (visited ++ p ∷ []))
+    → (front ++ with_number number (x ++ flat_map f visited)) ++ with_number number (f p) ≡ front ++ with_number number (x ++ flat_map f (visited ++ p ∷ []))
 numbered_added f number front x visited p =
-    numbered_behind number front (x ++ flat_map f visited) (f p) ∙ ap (λ l. front ++ numbered number l) (flat_map_more f x visited p)
+    numbered_behind number front (x ++ flat_map f visited) (f p) ∙ ap (λ l. front ++ with_number number l) (flat_map_more f x visited p)
 
 pub adds_more : (d : Document) (number : ℕ) (old new newer : Found) (visited : List Place) (p : Place) → value_at d.tree p.path ≡ Some p.value
     → AddsPlaces d number visited old new → AddsPlace number None p new newer → AddsPlaces d number (visited ++ p ∷ []) old newer
@@ -105,8 +91,8 @@ adds_more d number old new newer visited p at walk visit = λ layer held there h
 pub adds_root : (d : Document) (number : ℕ) (old new : Found) (p : Place) → p ≡ root d → AddsPlace number (Some d.uri) p old new → AddsPlaces d number (p ∷ []) old new
 adds_root d number old new p is visit = λ layer held there holds.
     holds_same layer new _ _
-    (ap (λ q. held.resources ++ numbered number ((d.uri, q) ∷ resource_of p)) is ∙ ap (λ l. held.resources ++ numbered number ((d.uri, root d) ∷ l)) (sym (append-nil (resource_of p))))
-    (ap (λ q. held.names ++ numbered number (named_under d.uri q ++ names_of p)) is ∙ ap (λ l. held.names ++ numbered number (named_under d.uri (root d) ++ l)) (sym (append-nil (names_of p))))
+    (ap (λ q. held.resources ++ with_number number ((d.uri, q) ∷ resource_of p)) is ∙ ap (λ l. held.resources ++ with_number number ((d.uri, root d) ∷ l)) (sym (append-nil (resource_of p))))
+    (ap (λ q. held.names ++ with_number number (named_under d.uri q ++ names_of p)) is ∙ ap (λ l. held.names ++ with_number number (named_under d.uri (root d) ++ l)) (sym (append-nil (names_of p))))
     (ap (λ l. held.wants ++ l) (sym (append-nil (wants_of p)))) (ap (λ l. held.identifiers ++ l) (sym (append-nil (identifier_pairs_at p)))) (ap (λ l. held.references ++ l) (sym (append-nil (reference_pairs_at p))))
     (visit layer held holds (record { document = d; numbered = there; value = subst (λ q. value_at d.tree q.path ≡ Some q.value) (sym is) refl }))
 
@@ -122,7 +108,7 @@ grown_stand : (d : Document) (vs more : List Visit) (v : Visit) → value_at d.t
     → map place_of more ≡ children_of (place_of v) → AllStand (value_of v.value) (walked_children v.draft (value_of v.value)) → AllStandIn d (map place_of (vs ++ more))
 grown_stand d vs more v at all children stand =
     subst (AllStandIn d) (sym (map-append place_of vs more))
-    (all_behind d (map place_of vs) (map place_of more) all (subst (AllStandIn d) (sym children) (place_children_stand d (place_of v) (place_of v).base at stand)))
+    (all_append (StandsAt d.tree) (map place_of vs) (map place_of more) all (subst (AllStandIn d) (sym children) (below_one d.tree (place_of v) (place_of v).base at stand)))
 
 pub advance : (d : Document) (number : ℕ) (old new newer : Found) (queue after : List Visit) (head : ℕ) (v : Visit) → head < length queue → slice_get queue head ≡ Some v
     → IsAt d number old new queue head → IsVisited number None v new newer queue after → IsAt d number old newer after (head + 1)

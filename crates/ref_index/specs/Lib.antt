@@ -1,10 +1,12 @@
 pub mod Contents
 pub mod Document
 pub mod Spots
-pub mod Found
-pub mod Visits
-pub mod Index
+pub mod Entries
+pub mod Faults
+pub mod Below
+pub mod Visit
 pub mod Listed
 pub mod Listing
 pub mod Retrieval
+pub mod Codes
 pub mod inner

@@ -4,10 +4,19 @@ use Rattle.ref_definitions.specs.World.{Document}
 use Rattle.ref_definitions.specs.Places.{Place, root, places}
 use Rattle.ref_definitions.specs.Resources.{resource_of}
 use Rattle.ref_definitions.specs.Anchors.{named_at}
-use Rattle.ref_definitions.specs.Cached.{pairs_at}
+use Rattle.ref_definitions.specs.Wants.{Want, wants_at}
 use Rattle.ref_definitions.specs.Agreement.{ChildrenStand}
-use Rattle.ref_index.specs.Visits.{faults_of, wants_of}
-pub use Rattle.ref_index.specs.inner.Queue.{place_of}
+use Rattle.ref_draft.specs.Children.{AllStand, walked_children}
+use Rattle.ref_definitions.specs.Cached.{pairs_at}
+use Rattle.ref_index.specs.Faults.{faults_of}
+
+-- what a place wants
+abbrev pub wants_of : Place → List Want
+wants_of p = wants_at p.base p.value
+
+-- each child of a place is at its path there
+abbrev pub ChildrenStandAt : Place → Type 0
+ChildrenStandAt p = AllStand p.value (walked_children p.draft p.value)
 
 -- no identifier and no anchor of a place counts, it wants nothing, and nothing is resolved there
 pub record IsLeftOut (p : Place) : Type 0 where

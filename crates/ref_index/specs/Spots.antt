@@ -1,4 +1,4 @@
--- Where the places of a layer stand: in the document with which number, and at which path there.
+-- Where the places of a layer are: in the document with which number, and at which path there.
 use Rattle.std.specs.Prelude.{ℕ, suc, ◌&&◌, List, [], ◌∷◌, ◌++◌, map, filter, bytes_eq, Option, None, option_map}
 use Rattle.std.specs.List.{last_or}
 use Rattle.ref_parts.specs.Path.{Part}
@@ -15,13 +15,13 @@ pub record Spot : Type 0 where
   pub path : List Part
 
 -- what a document has, each with the document's number
-abbrev pub numbered : {X : Type 0} → ℕ → List X → List (ℕ × X)
-numbered number xs = map (λ x. (number, x)) xs
+abbrev pub with_number : {X : Type 0} → ℕ → List X → List (ℕ × X)
+with_number number xs = map (λ x. (number, x)) xs
 
 -- what documents have, one document after another, each with its document's number, counted from this one on
 abbrev pub numbered_from : {X : Type 0} → (Document → List X) → ℕ → Layer → List (ℕ × X)
 numbered_from has number [] = []
-numbered_from has number (d ∷ ds) = numbered number (has d) ++ numbered_from has (suc number) ds
+numbered_from has number (d ∷ ds) = with_number number (has d) ++ numbered_from has (suc number) ds
 
 -- the resources of a layer, and its names, with the numbers of their documents
 abbrev pub numbered_resources : Layer → List (ℕ × (List ℕ × Place))
@@ -40,16 +40,16 @@ last_name uri name layer =
     last_or None
     (filter (λ n. bytes_eq n.1.uri uri && bytes_eq n.1.name name) (numbered_names layer))
 
--- where the place stands that a URI means in a layer
+-- where the place is that a URI means in a layer
 abbrev pub spot_under : List ℕ → Layer → Option Spot
 spot_under uri layer =
     option_map (λ r. record { document = r.0; path = r.1.1.path }) (last_resource uri layer)
 
--- where the place stands that a name means under a URI in a layer
+-- where the place is that a name means under a URI in a layer
 abbrev pub spot_named : List ℕ → List ℕ → Layer → Option Spot
 spot_named uri name layer =
     option_map (λ n. record { document = n.0; path = n.1.place.path }) (last_name uri name layer)
 
--- where an entry of the program says that its place stands
+-- where an entry of the program says that its place is
 abbrev pub spot_of : Entry → Spot
 spot_of e = record { document = e.document; path = map part_of e.path.items }

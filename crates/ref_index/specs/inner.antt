@@ -1,6 +1,8 @@
 -- What no public clause cites: definitions that private functions and the invariants of types speak of. A reader who wants
 -- to know what this crate promises need not read them.
-pub mod Codes
-pub mod Below
+pub mod Found
+pub mod Visits
 pub mod Queue
+pub mod Index
 pub mod NormalUris
+pub mod Retrieved

@@ -5,11 +5,11 @@ use ref_uri::Uri;
 use serde_json::Value;
 use std::rc::Rc;
 
-/// A place: where it is, its value where that is lent, its draft and its base URI.
+/// A place: where it is, its value where its document is borrowed, its draft and its base URI.
 #[derive(Drop)]
 pub struct Entry<'a> {
     /// The value itself, where its document is borrowed.
-    pub lent: Option<&'a Value>,
+    pub borrowed: Option<&'a Value>,
     /// The number of its document.
     pub document: usize,
     /// Its path there.

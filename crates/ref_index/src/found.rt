@@ -10,9 +10,10 @@ ghost use Rattle.ref_definitions.specs.World.{Layer};
 ghost use Rattle.ref_definitions.specs.Places.{Place};
 ghost use Rattle.ref_definitions.specs.Anchors.{named_under};
 ghost use Rattle.ref_uri.specs.Targets.{uri_against};
-ghost use Rattle.ref_index.specs.Spots.{numbered};
+ghost use Rattle.ref_index.specs.Spots.{with_number};
 ghost use Rattle.ref_index.specs.declared.found.ResolvedUri.{ResolvedUri as Resolved};
-ghost use Rattle.ref_index.specs.Found.{FoundLists, Holds, IsNumberOf, IsPairOf, cause_of, is_same, kind_of, name_entry, nothing_held, with_resources, with_names, with_wants, with_identifiers, with_references};
+ghost use Rattle.ref_index.specs.inner.Found.{FoundLists, Holds, IsNumberOf, IsPairOf, cause_of, is_same, name_entry, nothing_held, with_resources, with_names, with_wants, with_identifiers, with_references};
+ghost use Rattle.ref_index.specs.Entries.{kind_of};
 
 use crate::entry::{Entry, NamedEntry};
 use ref_draft::{Anchor, AnchorIter, ResourceRef};
@@ -133,7 +134,7 @@ impl<'a> Found<'a> {
             → Holds layer self.old held → IsNumberOf layer self.old.entries.items number entry p
             → resource_ref resource.entry ≡ tagged_value p.draft p.value
             → OnOk result
-            (Holds layer self.new (with_names held (numbered number (named_under uri.now p)))) }
+            (Holds layer self.new (with_names held (with_number number (named_under uri.now p)))) }
         ensures entries { OnOk result (self.new.entries.items ≡ self.old.entries.items) }
     {
         match resource.draft().anchors(resource.contents()) {

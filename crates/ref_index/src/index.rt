@@ -14,10 +14,11 @@ ghost use Rattle.ref_definitions.specs.Cached.{pairs};
 ghost use Rattle.ref_definitions.specs.Wants.{Want};
 ghost use Rattle.ref_index.specs.Document.{document_of};
 ghost use Rattle.ref_index.specs.Spots.{spot_under, spot_named, spot_of};
-ghost use Rattle.ref_index.specs.Found.{Holds, IsEntryOf};
+ghost use Rattle.ref_index.specs.inner.Found.{Holds};
+ghost use Rattle.ref_index.specs.Entries.{IsEntryOf, IsFoundAt, IsFoundWhere, IsNamedAt};
 ghost use Rattle.ref_index.specs.inner.NormalUris.{IsNormalUri, HaveNormalUris};
-ghost use Rattle.ref_index.specs.Visits.{held_of};
-ghost use Rattle.ref_index.specs.Index.{IsFoundAt, IsFoundWhere, IsNamedAt, numbered_uri};
+ghost use Rattle.ref_index.specs.inner.Visits.{held_of};
+ghost use Rattle.ref_index.specs.inner.Index.{numbered_uri};
 
 use crate::document::Document;
 use crate::entry::{Entry, FoundName, FoundUri, NamedEntry};
@@ -45,26 +46,27 @@ pub struct Index<'a> {
 
 impl<'a> Model for Index<'a> {
     ghost use Rattle.ref_definitions.specs.World.{Layer};
-    ghost use Rattle.ref_index.specs.inner.Codes.{layer_code};
+    ghost use Rattle.ref_index.specs.Codes.{layer_code};
 
     ghost Value = { Layer };
 
     ghost coded = { layer_code };
 
     ghost use Rattle.ref_index.specs.Document.{layer_of};
-    ghost use Rattle.ref_index.specs.Index.{IsIndexOf};
+    ghost use Rattle.ref_index.specs.inner.Index.{IsIndexOf};
 
     ghost view = { λ i. layer_of i.documents.items };
 
-    ghost invariant = { λ i. IsIndexOf (layer_of i.documents.items) i.entries.items i.by_uri i.by_name i.by_pair i.is_normal };
+    ghost invariant = { λ i. IsIndexOf (layer_of i.documents.items) i.entries.items i.by_uri
+        i.by_name i.by_pair i.is_normal };
 }
 
 impl<'a> Index<'a> {
     /// The index of documents that were walked. The entries, and the texts and values of the three tables, which are sorted
-    /// once, are moved in; the texts of references are copied behind those of identifiers; wants and the set of URIs are let
+    /// once, are moved in; the texts of references are copied after those of identifiers; wants and the set of URIs are let
     /// go. Takes memory for the tables, and a look-up for each URI that was resolved; and puts each document's URI in normal
     /// form, to compare the two.
-    pub fn new(
+    pub(crate) fn new(
         alloc: Global,
         documents: Vec<Document<'a>>,
         found: Found<'a>,
@@ -196,7 +198,7 @@ impl<'a> Index<'a> {
         ensures value { (p : Place) → IsEntryOf self.now entry.now p
             → option_map (λ v. view v.now) result ≡ Some p.value }
     {
-        match entry.lent {
+        match entry.borrowed {
             Some(value) => Some(value),
             None => {
                 let document = self.documents.get(entry.document)?;

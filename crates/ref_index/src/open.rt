@@ -5,7 +5,7 @@ ghost use Rattle.ref_definitions.specs.World.{Layer};
 ghost use Rattle.ref_definitions.specs.Resources.{meant_place};
 ghost use Rattle.ref_definitions.specs.Wants.{Want as Wanted, is_open};
 ghost use Rattle.ref_index.specs.Spots.{numbered_resources};
-ghost use Rattle.ref_index.specs.Found.{FoundLists, Holds};
+ghost use Rattle.ref_index.specs.inner.Found.{FoundLists, Holds};
 
 use crate::found::Found;
 use crate::index::Index;

@@ -1,11 +1,11 @@
-//! Paths as lists of segments, whose keys are lent or owned: an index of places stands beside the documents, and owns the
+//! Paths as lists of segments, whose keys are borrowed or owned: an index of places is beside the documents, and owns the
 //! keys of its paths.
 ghost use Rattle.std.specs.Prelude.{◌≡◌, [], ◌∷◌, ◌++◌, map, IfOk, OnOk, MatchOption};
 ghost use Rattle.ref_parts.specs.Path.{Key};
 ghost use Rattle.ref_parts.specs.Segment.{part_of};
 ghost use Rattle.ref_draft.specs.Views.{segment_parts};
 ghost use Rattle.ref_parts.specs.declared.path.JsonPointerSegment.{JsonPointerSegment as Segment};
-ghost use Rattle.ref_index.specs.inner.Below.{parts_of, tail_parts};
+ghost use Rattle.ref_index.specs.Below.{parts_of, tail_parts};
 
 use ref_parts::path::{JsonPointerNode, JsonPointerSegment};
 use std::alloc::{AllocError, Global};
@@ -30,7 +30,7 @@ fn push_last<'n, 'w>(
     Ok(Some(before))
 }
 
-/// The segments of a path, from the root on: each is copied, and a key that is lent stays lent. Linear in their number;
+/// The segments of a path, from the root on: each is copied, and a borrowed key stays borrowed. Linear in their number;
 /// takes memory for the list.
 pub fn segments_of<'w>(
     alloc: Global,
@@ -142,7 +142,7 @@ pub struct Below<'w> {
     pub tail: Option<Tail<'w>>,
 }
 
-// The segment, copied, where there is one: a key that is lent stays lent.
+// The segment, copied, where there is one: a borrowed key stays borrowed.
 fn segment_copied<'w>(
     segment: &Option<JsonPointerSegment<'w>>,
 ) -> Result<Option<JsonPointerSegment<'w>>, AllocError>
@@ -154,7 +154,7 @@ fn segment_copied<'w>(
     }
 }
 
-// Adds the parts of a tail: a key that is lent stays lent.
+// Adds the parts of a tail: a borrowed key stays borrowed.
 fn push_tail<'w>(parts: &mut Vec<JsonPointerSegment<'w>>, tail: &Tail<'w>) -> Result<(), AllocError>
     ensures { OnOk result
         (map part_of parts.new.items ≡ map part_of parts.old.items ++ tail_parts tail.now) }
@@ -220,7 +220,7 @@ impl<'w> Below<'w> {
         path_below(alloc, &self.above, *keyword, segment)
     }
 
-    /// The segments of the path, from the root on: each is copied, and a key that is lent stays lent. Linear in their
+    /// The segments of the path, from the root on: each is copied, and a borrowed key stays borrowed. Linear in their
     /// number; takes memory for the list.
     pub fn segments(&self, alloc: Global) -> Result<Vec<JsonPointerSegment<'w>>, AllocError>
         ensures value { IfOk result (λ parts. map part_of parts.items ≡ parts_of self.now) }

@@ -1,12 +1,12 @@
 //! The places of the documents of an index, as a list.
 ghost use Rattle.std.specs.Prelude.{◌≡◌, ℕ, List, [], ◌∷◌, ◌++◌, map, option_map, slice_get, Some, Ok, IfOk, OnOk};
 ghost use Rattle.std.specs.List.{Contains};
-ghost use Rattle.ref_definitions.specs.Listing.{listed_place, own_places};
+ghost use Rattle.ref_definitions.specs.Listing.{listed_place, local_places};
 ghost use Rattle.ref_definitions.specs.Places.{Place as WorldPlace, base_within, children_of, places, root};
 ghost use Rattle.ref_definitions.specs.Wants.{faults};
 ghost use Rattle.ref_index.specs.Document.{document_of};
 ghost use Rattle.ref_index.specs.Listing.{listed_of};
-ghost use Rattle.ref_index.specs.inner.Queue.{place_of};
+ghost use Rattle.ref_index.specs.Visit.{place_of};
 ghost use Rattle.ref_index.specs.declared.queue.Visit.{Visit};
 
 use crate::document::Document;
@@ -23,7 +23,7 @@ use serde_json::Value;
 use std::alloc::{AllocError, Global};
 use std::rc::Rc;
 
-/// A place where a schema stands, in one of a registry's own documents.
+/// A place where a schema is, in one of a registry's own documents.
 #[derive(Debug, Drop)]
 pub struct Place<'a> {
     /// The number of its document, counted from 0 in the order in which their URIs were first added, and after them those
@@ -75,7 +75,7 @@ fn place_at<'w, 'a: 'w>(
     ensures { (place_of visit.now).base ≡ Ok base.now.value
         → IfOk result (λ place. listed_of place ≡ listed_place number (place_of visit.now)) }
 {
-    let path = visit.value.kept_segments(alloc)?;
+    let path = visit.value.owned_segments(alloc)?;
     let base = base.clone()?;
     Ok(Place {
         document: number,
@@ -112,18 +112,19 @@ fn list_next<'w, 'a: 'w>(
     push_children(alloc, queue, head, &base)
 }
 
-// The root of a document, as one that the document keeps: so keys are lent for as long as the list.
-fn kept_root_of<'w, 'a>(
+// The root of a document, as a value that the document owns: so keys are borrowed for as long as the list.
+fn owned_root_of<'w, 'a>(
     alloc: Global,
     document: &'w Document<'a>,
 ) -> Result<Visit<'w, 'a>, AllocError>
     ensures { IfOk result (λ v. place_of v ≡ root (document_of document.now)) }
 {
     let uri = document.uri.clone()?;
+    let outer = shared(alloc, uri)?;
     Ok(Visit {
         value: ValueRef::Owned(document.contents.value(), Below::root()),
         draft: document.draft,
-        outer: shared(alloc, uri)?,
+        outer,
     })
 }
 
@@ -142,7 +143,7 @@ fn list_document<'w>(
         ≡ map listed_of list.old.items
         ++ map (listed_place number) (places (document_of document.now))) }
 {
-    let root = kept_root_of(alloc, document)?;
+    let root = owned_root_of(alloc, document)?;
     let mut queue = Vec::new(alloc);
     push_visit(&mut queue, root)?;
     let mut head = 0;
@@ -155,11 +156,11 @@ fn list_document<'w>(
 
 impl<'a> Index<'a> {
     /// The places of these documents, document by document, and in each level by level, as they were walked. Each place
-    /// is visited once, and its path copied; keys are lent, and URIs shared but that of each document. Refused where
+    /// is visited once, and its path copied; keys are borrowed, and URIs shared but that of each document. Refused where
     /// memory is refused.
     pub fn places(&self, alloc: Global) -> Result<Vec<Place<'_>>, AllocError>
         requires { faults self.now ≡ [] }
-        ensures value { IfOk result (λ list. map listed_of list.items ≡ own_places self.now) }
+        ensures value { IfOk result (λ list. map listed_of list.items ≡ local_places self.now) }
     {
         let documents = self.documents();
         let mut list = Vec::new(alloc);

@@ -5,9 +5,10 @@ ghost use Rattle.ref_definitions.specs.Wants.{faults};
 ghost use Rattle.ref_definitions.specs.Preparing.{IsOutcome, refusal_fault};
 ghost use Rattle.ref_error.specs.Errors.{reason_text, IsForReason, SaysOrMemory};
 ghost use Rattle.ref_index.specs.Document.{document_of};
-ghost use Rattle.ref_index.specs.Found.{cause_of, want_of};
-ghost use Rattle.ref_index.specs.Visits.{IsFirstFault};
-ghost use Rattle.ref_index.specs.Retrieval.{given_with, IsFaultyOutcome, IsAnswerFor, IsRefusalOf};
+ghost use Rattle.ref_index.specs.inner.Found.{cause_of, want_of};
+ghost use Rattle.ref_index.specs.Faults.{IsFirstFault};
+ghost use Rattle.ref_index.specs.Retrieval.{given_with, IsFaultyOutcome};
+ghost use Rattle.ref_index.specs.inner.Retrieved.{IsAnswerFor, IsRefusalOf};
 
 use crate::document::{Contents, Document};
 use crate::found::{Cause, Want};
@@ -64,8 +65,8 @@ fn retrieved<'a, R: Retrieve>(
     want: &Want,
 ) -> Result<Document<'a>, Error>
     ensures ok { IfOk result
-        (λ d. IsAnswerFor (R.may_answer retriever.now) draft want.now.uri.value (document_of d)) }
-    ensures fault { IfErr result (IsRefusalOf (R.may_refuse retriever.now) (want_of want.now)) }
+        (λ d. IsAnswerFor (R.meaning retriever.now) draft want.now.uri.value (document_of d)) }
+    ensures fault { IfErr result (IsRefusalOf (R.meaning retriever.now) (want_of want.now)) }
 {
     let value = match retriever.retrieve(alloc, &want.uri) {
         Ok(value) => value,
@@ -100,12 +101,12 @@ pub fn prepare<'a, R: Retrieve>(
 ) -> Result<Index<'a>, Error>
     ensures outcome { IfOk result
         (λ index. IsOutcome
-        (given_with (R.may_answer retriever.now) (R.may_refuse retriever.now) limit draft
+        (given_with (R.meaning retriever.now) limit draft
         (map (λ p. p.now) parents.now) (map document_of documents.entry.items))
         (Ok index)) }
     ensures fault { IfErr result
         (IsFaultyOutcome
-        (given_with (R.may_answer retriever.now) (R.may_refuse retriever.now) limit draft
+        (given_with (R.meaning retriever.now) limit draft
         (map (λ p. p.now) parents.now) (map document_of documents.entry.items))) }
 {
     let mut walked = walk_all(alloc, documents)?;

@@ -3,7 +3,7 @@ ghost use Rattle.std.specs.Prelude.{◌≡◌, [], map, IfOk, IfSome};
 ghost use Rattle.serde_json.specs.View.{view};
 ghost use Rattle.ref_parts.specs.Segment.{part_of};
 ghost use Rattle.ref_index.specs.Contents.{tree_of};
-ghost use Rattle.ref_index.specs.inner.Queue.{path_of, value_of};
+ghost use Rattle.ref_index.specs.Visit.{path_of, value_of};
 
 use crate::document::Contents;
 use crate::path::Below;
@@ -17,9 +17,9 @@ use std::rc::Rc;
 /// A value in a document that is walked, and its path there.
 #[derive(Drop)]
 pub enum ValueRef<'w, 'a> {
-    /// Both are lent for as long as the registry lives, since the document's contents are borrowed.
+    /// Both are borrowed for as long as the registry lives, since the document's contents are.
     Borrowed(&'a Value, Below<'a>),
-    /// Both are lent for as long as the walk, since the document owns its contents, or a share of them.
+    /// Both are borrowed for as long as the walk, since the document owns its contents, or a share of them.
     Owned(&'w Value, Below<'w>),
 }
 
@@ -46,8 +46,8 @@ impl<'w, 'a: 'w> ValueRef<'w, 'a> {
         }
     }
 
-    /// The value, where it is lent for as long as the registry lives.
-    pub fn lent(&self) -> Option<&'a Value>
+    /// The value, where it is borrowed for as long as the registry lives.
+    pub fn borrowed(&self) -> Option<&'a Value>
         ensures value { IfSome result (λ value. view value.now ≡ value_of self.now) }
     {
         match self {
@@ -56,7 +56,7 @@ impl<'w, 'a: 'w> ValueRef<'w, 'a> {
         }
     }
 
-    /// The segments of the path, for as long as the registry lives: a key that isn't lent so long is copied. Linear in the
+    /// The segments of the path, for as long as the registry lives: a key that isn't borrowed so long is copied. Linear in the
     /// keys; takes memory for the list and for each key that is copied.
     pub fn segments(&self, alloc: Global) -> Result<Vec<JsonPointerSegment<'a>>, AllocError>
         ensures value { IfOk result (λ parts. map part_of parts.items ≡ path_of self.now) }
@@ -67,9 +67,9 @@ impl<'w, 'a: 'w> ValueRef<'w, 'a> {
         }
     }
 
-    /// The segments of the path, for as long as the walk: a key that the document keeps is lent. Linear in the keys; takes
+    /// The segments of the path, for as long as the walk: a key that the document owns is borrowed. Linear in the keys; takes
     /// memory for the list.
-    pub fn kept_segments(&self, alloc: Global) -> Result<Vec<JsonPointerSegment<'w>>, AllocError>
+    pub fn owned_segments(&self, alloc: Global) -> Result<Vec<JsonPointerSegment<'w>>, AllocError>
         ensures value { IfOk result (λ parts. map part_of parts.items ≡ path_of self.now) }
     {
         match self {

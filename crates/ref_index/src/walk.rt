@@ -11,12 +11,14 @@ ghost use Rattle.ref_definitions.specs.Resources.{resource_of};
 ghost use Rattle.ref_definitions.specs.Anchors.{named_at};
 ghost use Rattle.ref_definitions.specs.Cached.{pairs_of_identifier, pairs_of_reference, pairs_of_value};
 ghost use Rattle.ref_definitions.specs.Wants.{Reference, MetaSchema, reference_at, schema_at, wants_of_text, refusals_of};
-ghost use Rattle.ref_index.specs.Spots.{numbered};
-ghost use Rattle.ref_index.specs.Found.{FoundLists, Holds, IsEntryOf, IsNumberOf, with_resources, with_names, with_wants, with_identifiers, with_references};
-ghost use Rattle.ref_index.specs.inner.Queue.{path_of, place_of, place_with, value_of};
+ghost use Rattle.ref_index.specs.Spots.{with_number};
+ghost use Rattle.ref_index.specs.inner.Found.{FoundLists, Holds, IsNumberOf, with_resources, with_names, with_wants, with_identifiers, with_references};
+ghost use Rattle.ref_index.specs.Entries.{IsEntryOf};
+ghost use Rattle.ref_index.specs.Visit.{path_of, place_of, place_with, value_of};
 ghost use Rattle.ref_index.specs.declared.queue.Visit.{Visit};
 ghost use Rattle.ref_index.specs.Document.{document_of};
-ghost use Rattle.ref_index.specs.Visits.{meta_schema_uri, AddsPlace, GivesUri, IsFirstFault, RefusesFor, StandsIn, Came, ChildrenCame, IsVisited, WalksOver, faults_of, under_document, names_under, with_meanings};
+ghost use Rattle.ref_index.specs.inner.Visits.{meta_schema_uri, AddsPlace, GivesUri, RefusesFor, StandsIn, Came, ChildrenCame, IsVisited, WalksOver, under_document, names_under, with_meanings};
+ghost use Rattle.ref_index.specs.Faults.{IsFirstFault, faults_of};
 
 use crate::document::Document;
 use crate::entry::Entry;
@@ -62,7 +64,7 @@ fn entry_of<'w, 'a: 'w>(
     let path = place.value.segments(alloc)?;
     let base = base.clone()?;
     Ok(Entry {
-        lent: place.value.lent(),
+        borrowed: place.value.borrowed(),
         document: number,
         path,
         draft: place.draft,
@@ -95,8 +97,8 @@ fn add_under(
         (Holds layer found.new
         (with_names
         (with_resources held
-        (numbered number (under_document (option_map (λ u. u.now.value) under.entry) p)))
-        (numbered number (names_under (option_map (λ u. u.now.value) under.entry) p)))) }
+        (with_number number (under_document (option_map (λ u. u.now.value) under.entry) p)))
+        (with_number number (names_under (option_map (λ u. u.now.value) under.entry) p)))) }
     ensures entries { OnOk result (found.new.entries.items ≡ found.old.entries.items) }
 {
     let Some(uri) = under else {
@@ -118,7 +120,7 @@ fn add_identified(
         → option_map (λ text. text.now) id.entry ≡ identifier p.draft p.value
         → p.base ≡ Ok base.now.value
         → OnOk result
-        (Holds layer found.new (with_resources held (numbered number (resource_of p)))) }
+        (Holds layer found.new (with_resources held (with_number number (resource_of p)))) }
     ensures entries { OnOk result (found.new.entries.items ≡ found.old.entries.items) }
 {
     if id.is_some() {
@@ -142,8 +144,8 @@ fn add_by_base(
         → p.base ≡ Ok base.now.value
         → OnOk result
         (Holds layer found.new
-        (with_names (with_resources held (numbered number (resource_of p)))
-        (numbered number (named_at p)))) }
+        (with_names (with_resources held (with_number number (resource_of p)))
+        (with_number number (named_at p)))) }
 {
     add_identified(found, id, base, entry)?;
     found.add_names(base.as_str(), entry, resource)
@@ -255,9 +257,7 @@ fn schema_uri(alloc: Global, text: &str) -> Result<Rc<Uri>, UriFault>
     ensures { GivesUri (meta_schema_uri text.now) result }
 {
     let mut uri = from_str(alloc, text)?;
-    if let Err(error) = uri.set_fragment(None) {
-        unreachable!("{error}");
-    }
+    uri.drop_fragment();
     Ok(shared(alloc, uri)?)
 }
 
@@ -450,11 +450,11 @@ pub(crate) fn root_of<'w, 'a>(
     ensures { IfOk result (λ v. place_of v ≡ root (document_of document.now)) }
 {
     let uri = document.uri.clone()?;
-    let value = ValueRef::root(&document.contents);
+    let outer = shared(alloc, uri)?;
     Ok(Visit {
-        value,
+        value: ValueRef::root(&document.contents),
         draft: document.draft,
-        outer: shared(alloc, uri)?,
+        outer,
     })
 }
 
@@ -470,11 +470,10 @@ pub fn walk<'a>(
 ) -> Result<(), UriFault>
     ensures walked { WalksOver (document_of document.now) number found.old found.new result }
 {
-    let root = root_of(alloc, document)?;
-    let uri = root.outer.clone()?;
     // Room for the places of a small document, so that its queue needn't grow.
     let mut queue = Vec::with_capacity(alloc, 32)?;
-    push_visit(&mut queue, root)?;
+    push_visit(&mut queue, root_of(alloc, document)?)?;
+    let uri = queue[0].outer.clone()?;
     visit(alloc, found, number, &mut queue, 0, Some(&uri))?;
     let mut head = 1;
     while head < queue.len() {

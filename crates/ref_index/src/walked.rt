@@ -3,9 +3,11 @@ ghost use Rattle.std.specs.Prelude.{◌≡◌, ◌∷◌, ◌++◌, ◌≤◌, [
 ghost use Rattle.std.specs.List.{AllByRecursion};
 ghost use Rattle.ref_definitions.specs.Wants.{Want as Wanted, faults, wants, is_open};
 ghost use Rattle.ref_index.specs.Document.{document_of};
-ghost use Rattle.ref_index.specs.Found.{want_of};
-ghost use Rattle.ref_index.specs.Listed.{IsListingOf, place_of};
-ghost use Rattle.ref_index.specs.Visits.{IsFirstFault, IsFound, WalksOver};
+ghost use Rattle.ref_index.specs.inner.Found.{want_of};
+ghost use Rattle.ref_index.specs.Listed.{IsListingOf};
+ghost use Rattle.ref_index.specs.Visit.{place_of};
+ghost use Rattle.ref_index.specs.Faults.{IsFirstFault};
+ghost use Rattle.ref_index.specs.inner.Visits.{IsFound, WalksOver};
 
 use crate::document::Document;
 use crate::found::{Found, Want};
@@ -78,14 +80,14 @@ pub struct Walked<'a> {
 
 impl<'a> Model for Walked<'a> {
     ghost use Rattle.ref_definitions.specs.World.{Layer};
-    ghost use Rattle.ref_index.specs.inner.Codes.{layer_code};
+    ghost use Rattle.ref_index.specs.Codes.{layer_code};
 
     ghost Value = { Layer };
 
     ghost coded = { layer_code };
 
     ghost use Rattle.ref_index.specs.Document.{layer_of};
-    ghost use Rattle.ref_index.specs.Visits.{IsFound};
+    ghost use Rattle.ref_index.specs.inner.Visits.{IsFound};
 
     ghost view = { λ w. layer_of w.documents.items };
 
@@ -174,7 +176,7 @@ impl<'a> Walked<'a> {
     }
 
     /// The want with a number. A look-up; takes no memory.
-    pub fn want(&self, number: usize) -> Option<&Want>
+    pub(crate) fn want(&self, number: usize) -> Option<&Want>
         ensures value { MatchOption result (slice_get (wants self.now) number ≡ None)
             (λ w. slice_get (wants self.now) number ≡ Some (want_of w.now)) }
     {

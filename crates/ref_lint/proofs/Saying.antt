@@ -1,5 +1,6 @@
 -- What errors say of references that are looked up.
-use Rattle.std.proofs.Common.{◌≡◌, ℕ, List, [], ◌∷◌, Option, Some, Ok, Err, refl, ap, ◌∙◌}
+use Rattle.std.proofs.Common.{◌≡◌, ℕ, true, false, List, [], ◌∷◌, Option, Some, None, Result, Ok, Err, refl, ap, subst, ◌∙◌}
+use Rattle.std.specs.Result.{result_err}
 use Rattle.ref_parts.specs.Path.{Part}
 use Rattle.ref_definitions.specs.World.{World}
 use Rattle.ref_definitions.specs.Fault as fault
@@ -7,7 +8,7 @@ use Rattle.ref_definitions.specs.Fault.{Fault}
 use Rattle.ref_definitions.specs.Lookup.{lookup}
 use Rattle.ref_error.specs.declared.error.Error.{Error}
 use Rattle.ref_error.specs.declared.error.Error.TheVariants as error
-use Rattle.ref_error.specs.Errors.{SaysFault}
+use Rattle.ref_error.specs.Errors.{SaysFault, IsFaultOf, Gives, IsMemory, is_memory}
 use Rattle.ref_lint.specs.Dangling.{where_fault, dangling_from}
 use Rattle.ref_lint.specs.Entries.{IsUnretrievable}
 
@@ -45,3 +46,43 @@ pub leads_nowhere : (world : World) (number : ℕ) (path : List Part) (base refe
     → dangling_from world number path (Ok base) text ≡ record { document = number; path = path; reference = reference; fault = f } ∷ []
 leads_nowhere world number path base reference text f is leads =
     ap (dangling_from world number path (Ok base)) is ∙ ap (where_fault number path reference) leads
+
+-- ---- what a call gives
+
+-- there is no error
+pub given_answer : {A X : Type 0} (view : X → A) (meaning : Result A Fault) (r : Result X Error) → result_err r ≡ None → Gives view meaning r → (a : A) × (meaning ≡ Ok a)
+given_answer view meaning (Ok x) none gives = (view x, gives)
+given_answer view meaning (Err e) none gives = cc
+
+-- there is one
+pub given_fault : {A X : Type 0} (view : X → A) (meaning : Result A Fault) (r : Result X Error) (e : Error) → result_err r ≡ Some e → Gives view meaning r → IsFaultOf meaning e
+given_fault view meaning (Ok x) e some gives = cc
+given_fault view meaning (Err y) e some gives = (let same : y ≡ e = cc in subst (IsFaultOf meaning) same gives)
+
+-- it is not that memory ran out
+pub says_fault : {A : Type 0} (meaning : Result A Fault) (e : Error) → is_memory e ≡ false → IsFaultOf meaning e → (f : Fault) × (meaning ≡ Err f) × SaysFault e f
+says_fault meaning (error.Unretrievable uri source) none is = is
+says_fault meaning (error.PointerToNowhere pointer) none is = is
+says_fault meaning (error.InvalidPercentEncoding pointer) none is = is
+says_fault meaning (error.InvalidArrayIndex pointer index) none is = is
+says_fault meaning (error.NoSuchAnchor anchor) none is = is
+says_fault meaning (error.InvalidAnchor anchor) none is = is
+says_fault meaning (error.InvalidUri uri) none is = is
+says_fault meaning (error.UnknownSpecification specification) none is = is
+says_fault meaning (error.CircularMetaschema uri) none is = is
+says_fault meaning (error.RetrievalLimit uri limit) none is = is
+says_fault meaning (error.Memory memory) none is = cc
+
+-- it is
+pub says_memory : (e : Error) → is_memory e ≡ true → IsMemory e
+says_memory (error.Unretrievable uri source) is = cc
+says_memory (error.PointerToNowhere pointer) is = cc
+says_memory (error.InvalidPercentEncoding pointer) is = cc
+says_memory (error.InvalidArrayIndex pointer index) is = cc
+says_memory (error.NoSuchAnchor anchor) is = cc
+says_memory (error.InvalidAnchor anchor) is = cc
+says_memory (error.InvalidUri uri) is = cc
+says_memory (error.UnknownSpecification specification) is = cc
+says_memory (error.CircularMetaschema uri) is = cc
+says_memory (error.RetrievalLimit uri limit) is = cc
+says_memory (error.Memory memory) is = tt

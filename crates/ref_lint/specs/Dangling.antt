@@ -3,8 +3,8 @@ use Rattle.std.specs.Prelude.{ℕ, List, [], ◌∷◌, flat_map, codes, Option,
 use Rattle.ref_parts.specs.Path.{Part}
 use Rattle.ref_draft.specs.Schema.{text_under}
 use Rattle.ref_uri.specs.Targets.{Refusal}
-use Rattle.ref_definitions.specs.World.{World, own_layer}
-use Rattle.ref_definitions.specs.Listing.{Listed, own_places}
+use Rattle.ref_definitions.specs.World.{World, local_documents}
+use Rattle.ref_definitions.specs.Listing.{Listed, local_places}
 use Rattle.ref_definitions.specs.Fault.{Fault}
 use Rattle.ref_definitions.specs.Lookup.{Found, lookup}
 
@@ -37,4 +37,4 @@ dangling_at world p =
 
 -- those of a registry's own places, in the order of the places
 abbrev pub dangling : World → List DanglingReference
-dangling world = flat_map (dangling_at world) (own_places (own_layer world))
+dangling world = flat_map (dangling_at world) (local_places (local_documents world))

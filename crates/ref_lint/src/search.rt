@@ -35,11 +35,13 @@ fn fault_at(
         (IsWhy (lookup registry.now (record { base = base.now; scope = [] }) reference.now)) }
     ensures memory { IfErr result IsMemory }
 {
-    match registry.lookup(alloc, base.clone()?, reference) {
-        Ok(_) => Ok(None),
-        Err(Error::Memory(error)) => Err(Error::Memory(error)),
-        Err(error) => Ok(Some(error)),
+    let Some(error) = registry.lookup(alloc, base.clone()?, reference).err() else {
+        return Ok(None);
+    };
+    if error.is_memory() {
+        return Err(error);
     }
+    Ok(Some(error))
 }
 
 // The entry of a place's reference, where that is unresolvable.
@@ -77,7 +79,7 @@ fn add<'r>(list: &mut Vec<Dangling<'r>>, entry: Option<Dangling<'r>>) -> Result<
 }
 
 /// The references of a registry's own documents that are unresolvable: the texts under `$ref` of the places where
-/// schemas stand, which [`Registry::places`] lists, whose look-up from the place's base with an empty dynamic scope is
+/// schemas are, which [`Registry::places`] lists, whose look-up from the place's base with an empty dynamic scope is
 /// a fault (2020-12 Core, 8.2.3.1). They come in the order of those places, each once, with that fault; what is under
 /// `$dynamicRef` or `$recursiveRef` is none of them, and those of parents aren't listed.
 ///

@@ -1,4 +1,4 @@
--- Entries whose texts stand in a buffer: what stays where the buffer grows, and what an entry more is.
+-- Entries whose texts are in a buffer: what stays where the buffer grows, and what an entry more is.
 use Rattle.std.proofs.Common.{◌≡◌, ◌∙◌, ℕ, ◌+◌, ◌-◌, ◌≤◌, List, [], ◌∷◌, ◌++◌, map, take, drop, length, refl, sym, ap, subst, arith, IsUtf8}
 use Rattle.std.specs.List.{All}
 use Rattle.std.proofs.Math.Seq.{drop-append-add, drop-append_seam}
@@ -6,7 +6,7 @@ use Rattle.std.proofs.lemmas.List.{map-append, take-append-le, take_all, drop-ap
 use Rattle.std.proofs.lemmas.List.Elements.{All-head, All-tail, All-nil, All-cons, All-append}
 use Rattle.ref_parts.specs.Table.{texts_of, with_value}
 use Rattle.ref_parts.specs.declared.table.Slot.{Slot}
-use Rattle.ref_parts.specs.inner.SortedEntries.{text_between, entry_in, entries_in, moved, place_of, revalued, IsWithin}
+use Rattle.ref_parts.specs.inner.SortedEntries.{text_between, entry_in, entries_in, slot_after, place_of, slot_with_value, IsWithin}
 
 -- what follows a part changes nothing of it
 text_grown : (from to : ℕ) (texts more : List ℕ) → from ≤ to → to ≤ length texts → text_between from to (texts ++ more) ≡ text_between from to texts
@@ -55,7 +55,7 @@ module _ {V : Type 0} where
       λ i. (first i, second i, s.value) ∷ rest i
 
   -- entries whose texts are put after a buffer
-  entries_behind : (before texts : List ℕ) (ss : List (Slot V)) → entries_in (before ++ texts) (map (moved (length before)) ss) ≡ entries_in texts ss
+  entries_behind : (before texts : List ℕ) (ss : List (Slot V)) → entries_in (before ++ texts) (map (slot_after (length before)) ss) ≡ entries_in texts ss
   entries_behind before texts [] = refl
   entries_behind before texts (s ∷ ss) =
       let first = text_moved s.first s.second before texts in
@@ -63,21 +63,21 @@ module _ {V : Type 0} where
       let rest = entries_behind before texts ss in
       λ i. (first i, second i, s.value) ∷ rest i
 
-  within_behind : (before texts : List ℕ) (ss : List (Slot V)) → All (IsWithin texts) ss → All (IsWithin (before ++ texts)) (map (moved (length before)) ss)
+  within_behind : (before texts : List ℕ) (ss : List (Slot V)) → All (IsWithin texts) ss → All (IsWithin (before ++ texts)) (map (slot_after (length before)) ss)
   within_behind before texts [] within = All-nil (IsWithin (before ++ texts))
   within_behind before texts (s ∷ ss) within =
       let here : IsWithin texts s = All-head (IsWithin texts) s ss within in
-      All-cons (IsWithin (before ++ texts)) (moved (length before) s) (map (moved (length before)) ss) (omega (arith, here.0), omega (arith, here.1), omega (arith, here.2, length-append before texts), subst IsUtf8 (sym (text_moved s.first s.second before texts)) here.3, subst IsUtf8 (sym (text_moved s.second s.end before texts)) here.4) (within_behind before texts ss (All-tail (IsWithin texts) s ss within))
+      All-cons (IsWithin (before ++ texts)) (slot_after (length before) s) (map (slot_after (length before)) ss) (omega (arith, here.0), omega (arith, here.1), omega (arith, here.2, length-append before texts), subst IsUtf8 (sym (text_moved s.first s.second before texts)) here.3, subst IsUtf8 (sym (text_moved s.second s.end before texts)) here.4) (within_behind before texts ss (All-tail (IsWithin texts) s ss within))
 
-  pub entries_joined : (old texts : List ℕ) (ss more : List (Slot V)) → All (IsWithin old) ss → entries_in (old ++ texts) (ss ++ map (moved (length old)) more) ≡ entries_in old ss ++ entries_in texts more
+  pub entries_joined : (old texts : List ℕ) (ss more : List (Slot V)) → All (IsWithin old) ss → entries_in (old ++ texts) (ss ++ map (slot_after (length old)) more) ≡ entries_in old ss ++ entries_in texts more
   entries_joined old texts ss more within =
-      map-append (entry_in (old ++ texts)) ss (map (moved (length old)) more)
-      ∙ ap (λ l. l ++ entries_in (old ++ texts) (map (moved (length old)) more)) (entries_grown old texts ss within)
+      map-append (entry_in (old ++ texts)) ss (map (slot_after (length old)) more)
+      ∙ ap (λ l. l ++ entries_in (old ++ texts) (map (slot_after (length old)) more)) (entries_grown old texts ss within)
       ∙ ap (λ l. entries_in old ss ++ l) (entries_behind old texts more)
 
-  pub within_joined : (old texts : List ℕ) (ss more : List (Slot V)) → All (IsWithin old) ss → All (IsWithin texts) more → All (IsWithin (old ++ texts)) (ss ++ map (moved (length old)) more)
+  pub within_joined : (old texts : List ℕ) (ss more : List (Slot V)) → All (IsWithin old) ss → All (IsWithin texts) more → All (IsWithin (old ++ texts)) (ss ++ map (slot_after (length old)) more)
   within_joined old texts ss more within also =
-      All-append (IsWithin (old ++ texts)) ss (map (moved (length old)) more) (within_grown old texts ss within) (within_behind old texts more also)
+      All-append (IsWithin (old ++ texts)) ss (map (slot_after (length old)) more) (within_grown old texts ss within) (within_behind old texts more also)
 
   -- an entry more, whose texts are put after the others
   pub entry_added : (s : Slot V) (texts first second : List ℕ) → s.first ≡ length texts → s.second ≡ length texts + length first → s.end ≡ length texts + length first + length second
@@ -112,7 +112,7 @@ module _ {V : Type 0} where
   pub texts_kept : (texts : List ℕ) (new old : List (Slot V)) → map place_of new ≡ map place_of old → map texts_of (entries_in texts new) ≡ map texts_of (entries_in texts old)
   texts_kept texts new old same = texts_at_places texts new ∙ ap (map (at texts)) same ∙ sym (texts_at_places texts old)
 
-  pub entries_revalued : (texts : List ℕ) (h : V → V) (ss : List (Slot V)) → entries_in texts (map (revalued h) ss) ≡ map (with_value h) (entries_in texts ss)
+  pub entries_revalued : (texts : List ℕ) (h : V → V) (ss : List (Slot V)) → entries_in texts (map (slot_with_value h) ss) ≡ map (with_value h) (entries_in texts ss)
   entries_revalued texts h [] = refl
   entries_revalued texts h (s ∷ ss) = ap (λ l. with_value h (entry_in texts s) ∷ l) (entries_revalued texts h ss)
 

@@ -1,4 +1,4 @@
--- Where a key's pair stands, and what a write of its value leaves.
+-- Where a key's pair is, and what a write of its value leaves.
 use Rattle.std.proofs.Common.{◌≡◌, ℕ, zero, suc, ◌+◌, ◌<◌, Bool, true, false, cond, not, ltb, List, [], ◌∷◌, ◌++◌, length, take, drop, set, Option, Some, None, is_some, slice_get, slice_index_or, position, IsSome, ⊎_elim, sym, refl, ap, ◌∙◌, subst, arith, length-append, length-set}
 use Rattle.std.specs.Map.{lookup, keys_of}
 use Rattle.std.specs.List.{position_or_len}

@@ -51,7 +51,7 @@ lookup-append_none test (e ∷ xs) ys =
       | false ↦ λ none. lookup-append_none test xs ys none
     ]
 
--- tests that answer alike find alike
+-- tests with the same results find the same
 pub lookup_alike : {K V : Type 0} (test other : K → Bool) (xs : List (K × V)) → ((x : K) → test x ≡ other x) → lookup test xs ≡ lookup other xs
 lookup_alike test other [] same = refl
 lookup_alike test other (e ∷ xs) same = ap (λ b. cond b (Some e.1) (lookup test xs)) (same e.0) ∙ ap (λ o. cond (other e.0) (Some e.1) o) (lookup_alike test other xs same)

@@ -15,7 +15,7 @@ use Rattle.std.specs.FinSet as set
 use Rattle.std.specs.FinSet.{IsAntisymmetric, nat_cmp-IsAntisymmetric, slice_cmp-IsAntisymmetric, contains-from_list, len-insert, len-empty, same_set}
 use Rattle.std.specs.Ordering.{is_lt, is_eq, eq_by_cmp, ordering_reverse, ordering_then, nat_cmp}
 use Rattle.ref_parts.specs.Table.{Entry, is_under, last_value, pair_count}
-use Rattle.ref_parts.specs.inner.SortedEntries.{pair_cmp, pair_of, entry_in, entries_in, Key, key_cmp, key_of, word_at, numbered, same_slots, HasWord, IsWithin, KeepsLast}
+use Rattle.ref_parts.specs.inner.SortedEntries.{pair_cmp, pair_of, entry_in, entries_in, Key, key_cmp, key_of, word_at, slot_with_word, same_slots, HasWord, IsWithin, KeepsLast}
 use Rattle.ref_parts.specs.declared.table.Slot.{Slot}
 use Rattle.std.specs.List.{All}
 use Rattle.std.specs.List.Sorted.{IsPermutation}
@@ -286,14 +286,14 @@ module _ {V : Type 0} (texts : List ℕ) where
       last_value_by_order first second ss
       ∙ ap (λ l. option_map (λ s. s.value) (last_or None l)) (filter_alike by_pair by_key ss (All-weaker (HasWord texts shared) (λ s. by_pair s ≡ by_key s) (λ s is. equal_keys shared s.word (pair_of texts s) (first, second) is) ss words))
 
-  numbered_have_words : (shared : ℕ) (ss : List (Slot V)) → All (HasWord texts shared) (map (numbered texts shared) ss)
+  numbered_have_words : (shared : ℕ) (ss : List (Slot V)) → All (HasWord texts shared) (map (slot_with_word texts shared) ss)
   numbered_have_words shared [] = All-nil (HasWord texts shared)
-  numbered_have_words shared (s ∷ ss) = All-cons (HasWord texts shared) (numbered texts shared s) (map (numbered texts shared) ss) refl (numbered_have_words shared ss)
+  numbered_have_words shared (s ∷ ss) = All-cons (HasWord texts shared) (slot_with_word texts shared s) (map (slot_with_word texts shared) ss) refl (numbered_have_words shared ss)
 
-  numbered_within : (shared : ℕ) (ss : List (Slot V)) → All (IsWithin texts) ss → All (IsWithin texts) (map (numbered texts shared) ss)
+  numbered_within : (shared : ℕ) (ss : List (Slot V)) → All (IsWithin texts) ss → All (IsWithin texts) (map (slot_with_word texts shared) ss)
   numbered_within shared [] within = All-nil (IsWithin texts)
   numbered_within shared (s ∷ ss) within =
-      All-cons (IsWithin texts) (numbered texts shared s) (map (numbered texts shared) ss) (All-head (IsWithin texts) s ss within) (numbered_within shared ss (All-tail (IsWithin texts) s ss within))
+      All-cons (IsWithin texts) (slot_with_word texts shared s) (map (slot_with_word texts shared) ss) (All-head (IsWithin texts) s ss within) (numbered_within shared ss (All-tail (IsWithin texts) s ss within))
 
   reversed_within : (ss : List (Slot V)) → All (IsWithin texts) ss → All (IsWithin texts) (reverse ss)
   reversed_within [] within = All-nil (IsWithin texts)
@@ -301,7 +301,7 @@ module _ {V : Type 0} (texts : List ℕ) where
       subst (All (IsWithin texts)) (sym (reverse-append (s ∷ []) ss)) (All-append (IsWithin texts) (reverse ss) (s ∷ []) (reversed_within ss (All-tail (IsWithin texts) s ss within)) (All-cons (IsWithin texts) s [] (All-head (IsWithin texts) s ss within) (All-nil (IsWithin texts))))
 
   -- a number changes no entry
-  entries_of_numbered : (shared : ℕ) (ss : List (Slot V)) → entries_in texts (map (numbered texts shared) ss) ≡ entries_in texts ss
+  entries_of_numbered : (shared : ℕ) (ss : List (Slot V)) → entries_in texts (map (slot_with_word texts shared) ss) ≡ entries_in texts ss
   entries_of_numbered shared [] = refl
   entries_of_numbered shared (s ∷ ss) = ap (λ l. entry_in texts s ∷ l) (entries_of_numbered shared ss)
 
@@ -331,7 +331,7 @@ module _ {V : Type 0} (texts : List ℕ) where
   count_same es ds same =
       count_is es ∙ ap set.len (same_set pair_total pair_cmp-IsAntisymmetric _ _ (λ q. sym (found_is es q.0 q.1) ∙ ap is_some (same q.0 q.1) ∙ found_is ds q.0 q.1)) ∙ sym (count_is ds)
 
-  -- each pair that stands once counts
+  -- each pair counts once
   count_sorted : (shared : ℕ) (ss : List (Slot V)) → IsStrictlySortedBy (λ x y. key_cmp (key_of texts x) (key_of texts y)) ss → All (HasWord texts shared) ss → pair_count (entries_in texts ss) ≡ length ss
   unfolding IsStrictlySortedBy
   count_sorted shared [] sorted words = refl
@@ -358,15 +358,15 @@ module _ {V : Type 0} (texts : List ℕ) where
       both_tied (eqb x.word y.word) _ (nat_cmp y.word x.word) (pair_cmp (pair_of texts y) (pair_of texts x)) (unsigned_ties x.word y.word ∙ (eq_by_cmp_equiv nat_cmp_total).symm x.word y.word)
       (equal_pairs (pair_of texts x).0 (pair_of texts x).1 (pair_of texts y).0 (pair_of texts y).1 ∙ (eq_by_cmp_equiv pair_total).symm (pair_of texts x) (pair_of texts y))
 
-  pub keeps_last : (shared : ℕ) (entered back sorted kept : List (Slot V)) → All (IsWithin texts) entered → back ≡ map (numbered texts shared) (reverse entered) → IsPermutation back sorted → IsSortedBy slot_lt sorted → IsStableBy slot_lt back sorted → kept ≡ dedup (same_slots texts) sorted → KeepsLast texts shared kept entered
+  pub keeps_last : (shared : ℕ) (entered back sorted kept : List (Slot V)) → All (IsWithin texts) entered → back ≡ map (slot_with_word texts shared) (reverse entered) → IsPermutation back sorted → IsSortedBy slot_lt sorted → IsStableBy slot_lt back sorted → kept ≡ dedup (same_slots texts) sorted → KeepsLast texts shared kept entered
   keeps_last shared entered back sorted kept within turned moved ascends stable once =
-      let slots = map (numbered texts shared) entered in
+      let slots = map (slot_with_word texts shared) entered in
       let strictly : IsStrictlySortedBy (λ x y. key_cmp (key_of texts x) (key_of texts y)) kept = subst (IsStrictlySortedBy (λ x y. key_cmp (key_of texts x) (key_of texts y))) (sym once) (IsStrictlySortedBy-dedup (on_total (key_of texts) key_total) same_is sorted ascends) in
       let words_back : All (HasWord texts shared) back = subst (All (HasWord texts shared)) (sym turned) (numbered_have_words shared (reverse entered)) in
       let words : All (HasWord texts shared) kept = subst (All (HasWord texts shared)) (sym once) (All-dedup (same_slots texts) (HasWord texts shared) sorted (All-permutation (HasWord texts shared) back sorted moved words_back)) in
       let values : (first second : List ℕ) → last_value first second (entries_in texts kept) ≡ last_value first second (entries_in texts entered) = λ first second.
       last_value_by_key shared first second kept words
-      ∙ ap (option_map (λ s. s.value)) (last_kept key_total key_cmp-IsAntisymmetric (key_of texts) (word_at shared first, (first, second)) (same_slots texts) same_is slots back sorted kept (turned ∙ reverse_map (numbered texts shared) entered) ascends stable once strictly)
+      ∙ ap (option_map (λ s. s.value)) (last_kept key_total key_cmp-IsAntisymmetric (key_of texts) (word_at shared first, (first, second)) (same_slots texts) same_is slots back sorted kept (turned ∙ reverse_map (slot_with_word texts shared) entered) ascends stable once strictly)
       ∙ sym (last_value_by_key shared first second slots (numbered_have_words shared entered))
       ∙ ap (last_value first second) (entries_of_numbered shared entered) in
       record {

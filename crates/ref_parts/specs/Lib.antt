@@ -1,3 +1,4 @@
+pub mod Alike
 pub mod Encoded
 pub mod FiniteMap
 pub mod inner

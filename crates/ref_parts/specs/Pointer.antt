@@ -14,6 +14,13 @@ tilde = 126
 abbrev pub slash : ℕ
 slash = 47
 
+-- the digits of the escapes `~0` and `~1` (section 3)
+abbrev pub digit_zero : ℕ
+digit_zero = 48
+
+abbrev pub digit_one : ℕ
+digit_one = 49
+
 -- ---- writing
 
 -- the byte is one that a reference token writes escaped (section 3)
@@ -37,7 +44,7 @@ part_text (Index i) = decimal i
 abbrev pub pointer_text : List Part → List ℕ
 pointer_text path = flat_map (λ part. slash ∷ part_text part) path
 
--- where the first byte stands that a reference token writes escaped
+-- where the first byte is that a reference token writes escaped
 abbrev pub first_escape : List ℕ → Option ℕ
 first_escape bytes = position is_escaped bytes
 
@@ -54,13 +61,13 @@ replace_escape digit byte (b ∷ c ∷ rest) =
 
 -- a reference token as a key: first each `~1` becomes `/`, then each `~0` becomes `~` (section 4)
 abbrev pub unescape : List ℕ → List ℕ
-unescape token = replace_escape 48 tilde (replace_escape 49 slash token)
+unescape token = replace_escape digit_zero tilde (replace_escape digit_one slash token)
 
 -- digits, and no 0 before another digit (section 4, `array-index`)
 abbrev pub is_index_text : List ℕ → Bool
 is_index_text [] = false
 is_index_text (d ∷ []) = all_ascii_digits (d ∷ [])
-is_index_text (d ∷ e ∷ ds) = not (d == 48) && all_ascii_digits (d ∷ e ∷ ds)
+is_index_text (d ∷ e ∷ ds) = not (d == digit_zero) && all_ascii_digits (d ∷ e ∷ ds)
 
 -- the number that an index's text stands for, if it is one and fits 64 bits
 abbrev pub parse_index : List ℕ → Option ℕ

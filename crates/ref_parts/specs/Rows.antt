@@ -1,4 +1,4 @@
--- Worked rows of pointer text: what the definitions answer at literals. Each row is proved by computation.
+-- Worked rows of pointer text: what the definitions return at literals. Each row is proved by computation.
 pub mod Entries
 pub mod Escapes
 pub mod Maps
@@ -7,7 +7,7 @@ pub mod Tables
 use Rattle.std.specs.Prelude.{◌≡◌, true, false, [], ◌∷◌, codes, Some, None}
 use Rattle.serde_json.specs.Data.{Data, null, boolean, number, unsigned, string, array, object, no_items, item, no_members, member}
 use Rattle.ref_parts.specs.Path.{Key, Index, value_at}
-use Rattle.ref_parts.specs.Pointer.{tilde, slash, is_escaped, escaped_byte, escape, part_text, pointer_text, first_escape, replace_escape, unescape, is_index_text, parse_index, tokens, step, value_along, evaluate}
+use Rattle.ref_parts.specs.Pointer.{tilde, slash, digit_zero, digit_one, is_escaped, escaped_byte, escape, part_text, pointer_text, first_escape, replace_escape, unescape, is_index_text, parse_index, tokens, step, value_along, evaluate}
 use Rattle.ref_parts.specs.Encoded.{is_unreserved, is_sub_delim, is_fragment_byte, encoded_byte, encoded_text, IsEncoded}
 
 -- `{"":{"a/b":[5]}}`
@@ -56,8 +56,8 @@ pub record TokenRows : Type 0 where
   pub text_of_key : part_text (Key (codes "m~n")) ≡ codes "m~0n"
   pub text_of_index : part_text (Index 10) ≡ codes "10"
   pub text_of_root : pointer_text [] ≡ []
-  pub slashes_first : replace_escape 49 slash (codes "~01~1") ≡ codes "~01/"
-  pub tildes_next : replace_escape 48 tilde (codes "~01/") ≡ codes "~1/"
+  pub slashes_first : replace_escape digit_one slash (codes "~01~1") ≡ codes "~01/"
+  pub tildes_next : replace_escape digit_zero tilde (codes "~01/") ≡ codes "~1/"
   pub digits : is_index_text (codes "10") ≡ true
   pub zero_before_digit : is_index_text (codes "00") ≡ false
   pub exponent : is_index_text (codes "1e0") ≡ false
@@ -93,8 +93,8 @@ pub record ExampleRows : Type 0 where
   pub percent : evaluate example (codes "/c%d") ≡ Some (number (unsigned 2))
   pub caret : evaluate example (codes "/e^f") ≡ Some (number (unsigned 3))
   pub bar : evaluate example (codes "/g|h") ≡ Some (number (unsigned 4))
-  pub backslash : evaluate example (47 ∷ 105 ∷ 92 ∷ 106 ∷ []) ≡ Some (number (unsigned 5))
-  pub quote : evaluate example (47 ∷ 107 ∷ 34 ∷ 108 ∷ []) ≡ Some (number (unsigned 6))
+  pub backslash : evaluate example (slash ∷ 105 ∷ 92 ∷ 106 ∷ []) ≡ Some (number (unsigned 5))
+  pub quote : evaluate example (slash ∷ 107 ∷ 34 ∷ 108 ∷ []) ≡ Some (number (unsigned 6))
   pub space : evaluate example (codes "/ ") ≡ Some (number (unsigned 7))
   pub tilde_in_key : evaluate example (codes "/m~0n") ≡ Some (number (unsigned 8))
   pub past_the_end : evaluate example (codes "/foo/2") ≡ None
@@ -127,8 +127,8 @@ pub record FragmentRows : Type 0 where
   pub fragment_percent : encoded_text (codes "/c%d") ≡ codes "/c%25d"
   pub fragment_caret : encoded_text (codes "/e^f") ≡ codes "/e%5Ef"
   pub fragment_bar : encoded_text (codes "/g|h") ≡ codes "/g%7Ch"
-  pub fragment_backslash : encoded_text (47 ∷ 105 ∷ 92 ∷ 106 ∷ []) ≡ codes "/i%5Cj"
-  pub fragment_quote : encoded_text (47 ∷ 107 ∷ 34 ∷ 108 ∷ []) ≡ codes "/k%22l"
+  pub fragment_backslash : encoded_text (slash ∷ 105 ∷ 92 ∷ 106 ∷ []) ≡ codes "/i%5Cj"
+  pub fragment_quote : encoded_text (slash ∷ 107 ∷ 34 ∷ 108 ∷ []) ≡ codes "/k%22l"
   pub fragment_space : encoded_text (codes "/ ") ≡ codes "/%20"
   pub fragment_tilde : encoded_text (codes "/m~0n") ≡ codes "/m~0n"
   pub fragment_slash : encoded_text (codes "/a~1b") ≡ codes "/a~1b"

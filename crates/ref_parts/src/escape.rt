@@ -8,7 +8,7 @@ use crate::scan::{first_in_rest, first_in_words};
 use std::alloc::{AllocError, Global};
 use std::borrow::CowStr;
 
-/// Where the first `~` or `/` stands, the bytes that a reference token writes escaped (RFC 6901, section 3).
+/// Where the first `~` or `/` is, the bytes that a reference token writes escaped (RFC 6901, section 3).
 ///
 /// Takes no memory, and is one pass up to that byte.
 pub fn first_escape(bytes: &[u8]) -> Option<usize>

@@ -197,7 +197,7 @@ impl<T: Eq + Drop> Eq for List<T> {
 /// Feeds each item in order, so equal lists hash alike.
 impl<T: Hash + Drop> Hash for List<T> {
     ghost use Rattle.std.specs.Prelude.{flat_map};
-    ghost use Rattle.ref_parts.specs.inner.Alike.{feeds_alike};
+    ghost use Rattle.ref_parts.specs.Alike.{feeds_alike};
 
     ghost hash_input = { flat_map T.hash_input };
 

@@ -24,7 +24,7 @@ pub enum JsonPointerSegment<'a> {
 impl PartialEq for JsonPointerSegment<'_> {
     ghost use Rattle.std.specs.Cmp.{on_per, partial_equiv_from_equiv};
     ghost use Rattle.ref_parts.specs.Path.{part_eq};
-    ghost use Rattle.ref_parts.specs.inner.Alike.{part_equivalence};
+    ghost use Rattle.ref_parts.specs.Alike.{part_equivalence};
     ghost use Rattle.ref_parts.specs.Segment.{part_of};
 
     ghost eq = { λ a b. part_eq (part_of a) (part_of b) };
@@ -42,7 +42,7 @@ impl PartialEq for JsonPointerSegment<'_> {
 
 impl Eq for JsonPointerSegment<'_> {
     ghost use Rattle.std.specs.Cmp.{on_equiv};
-    ghost use Rattle.ref_parts.specs.inner.Alike.{part_equivalence};
+    ghost use Rattle.ref_parts.specs.Alike.{part_equivalence};
     ghost use Rattle.ref_parts.specs.Segment.{part_of};
 
     ghost laws = { on_equiv part_of part_equivalence };
@@ -277,7 +277,7 @@ impl PartialEq for JsonPointerNode<'_> {
     ghost use Rattle.std.specs.Cmp.{partial_equiv_from_equiv};
     ghost use Rattle.std.specs.Cmp.Lexicographic.{lists_equiv};
     ghost use Rattle.ref_parts.specs.Path.{path_eq};
-    ghost use Rattle.ref_parts.specs.inner.Alike.{part_equivalence};
+    ghost use Rattle.ref_parts.specs.Alike.{part_equivalence};
 
     ghost eq = { path_eq };
 
@@ -299,7 +299,7 @@ impl PartialEq for JsonPointerNode<'_> {
 
 impl Eq for JsonPointerNode<'_> {
     ghost use Rattle.std.specs.Cmp.Lexicographic.{lists_equiv};
-    ghost use Rattle.ref_parts.specs.inner.Alike.{part_equivalence};
+    ghost use Rattle.ref_parts.specs.Alike.{part_equivalence};
 
     ghost laws = { lists_equiv part_equivalence };
 }

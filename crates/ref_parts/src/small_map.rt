@@ -19,7 +19,7 @@ use std::marker::Model;
 
 /// What a map is looked up by: a reference to a key, or text where the keys are texts.
 ///
-/// It stands where the Rust crate has `K: Borrow<Q>`: it is equal to the keys that it stands for, and hashes as they do.
+/// It is in the place of the Rust crate's `K: Borrow<Q>`: it is equal to the keys that it stands for, and hashes as they do.
 pub trait BorrowedKey<K: Eq + Hash>: Copy {
     /// Whether it stands for a key.
     ghost is_for: { Self → K → Bool };
@@ -56,7 +56,8 @@ impl BorrowedKey<String> for &str {
 
     ghost is_for = { λ q key. bytes_eq q.now (string_bytes key) };
 
-    ghost respects_eq = { λ q x y. nat_list_eq_equiv.congr q.now (string_bytes x) (string_bytes y) };
+    ghost respects_eq = { λ q x y. nat_list_eq_equiv.congr q.now (string_bytes x)
+        (string_bytes y) };
 
     fn is_for(&self, key: &String) -> bool {
         *self == key.as_str()
@@ -416,7 +417,8 @@ fn hashed_value<K: Eq + Hash, V, S: BuildHasher, A: Allocator>(
 ) -> &mut V
     requires { place < length map.old.entries }
     ensures* writes_back { sem 𝓛
-        (lends_index K.row V.row S.row A.row S.Hasher.row K.Hash S.BuildHasher S.Hasher.Hasher A.Allocator map.entry place result) }
+        (lends_index K.row V.row S.row A.row S.Hasher.row K.Hash S.BuildHasher S.Hasher.Hasher
+        A.Allocator map.entry place result) }
     ensures value { option_map (λ e. e.1) (slice_get map.old.entries place) ≡ Some result.now }
 {
     match map.get_index_mut(place) {

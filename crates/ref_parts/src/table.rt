@@ -3,7 +3,7 @@ ghost use Rattle.std.specs.Prelude.{◌≡◌, ℕ, ◌+◌, ◌-◌, ◌^◌, �
 ghost use Rattle.ref_parts.specs.Table.{entries_of, texts_of, with_value, ChangesBy, last_value, pair_count};
 ghost use Rattle.std.specs.Cmp.Lexicographic.{slice_cmp};
 ghost use Rattle.std.specs.Ordering.{nat_cmp};
-ghost use Rattle.ref_parts.specs.inner.SortedEntries.{big_endian, pair_cmp, pair_of, key_cmp, key_of, word_at, text_between, moved, place_of, revalued, numbered, IsWithin, same_slots, zeros, words_of};
+ghost use Rattle.ref_parts.specs.inner.SortedEntries.{big_endian, pair_cmp, pair_of, key_cmp, key_of, word_at, text_between, slot_after, place_of, slot_with_value, slot_with_word, IsWithin, same_slots, zeros, words_of};
 
 use std::alloc::{AllocError, Global};
 use std::cmp::Ordering;
@@ -12,7 +12,7 @@ use std::snapshot::Snapshot;
 
 /// Values under pairs of texts, which are found by halving: they are in byte order, the greatest first, by the first text and
 /// by the second where the first are equal, each pair once. Of each first text eight bytes, after the beginning that all first
-/// texts have in common, stand as a number in a list beside them: most comparisons are of two such numbers. The texts stand
+/// texts have in common, are a number in a list beside them: most comparisons are of two such numbers. The texts are
 /// one after another in one buffer.
 ///
 /// Contracts see the list of the entries that it was made from.
@@ -36,7 +36,7 @@ pub struct TableEntries<V> {
     slots: Vec<Slot<V>>,
 }
 
-// An entry: where its two texts stand in the buffer, one right after the other, its value, and the eight bytes of its first text
+// An entry: where its two texts are in the buffer, one right after the other, its value, and the eight bytes of its first text
 // after what all of them share, as a number that decides most comparisons. The number is 0 until the table is made.
 #[derive(Drop)]
 struct Slot<V> {
@@ -57,7 +57,8 @@ impl<V> Model for SortedTable<V> {
 
     ghost view = { λ t. entries_in t.texts.items t.entered.value.items };
 
-    ghost invariant = { λ t. KeepsLast t.texts.items t.shared t.kept.items t.entered.value.items × t.words.items ≡ words_of t.kept.items };
+    ghost invariant = { λ t. KeepsLast t.texts.items t.shared t.kept.items t.entered.value.items
+        × t.words.items ≡ words_of t.kept.items };
 }
 
 impl<V> Model for TableEntries<V> {
@@ -219,7 +220,7 @@ impl<V> SortedTable<V> {
 // Moves the offsets of slots, whose texts are after so many more bytes.
 fn move_behind<V>(before: usize, slots: &mut [Slot<V>])
     requires { (texts : List ℕ) × All (IsWithin texts) slots.old × before + length texts < 2 ^ 64 }
-    ensures value { slots.new ≡ map (moved before) slots.old }
+    ensures value { slots.new ≡ map (slot_after before) slots.old }
     ensures len { length slots.new ≡ length slots.old }
 {
     for slot in slots.iter_mut() {
@@ -234,7 +235,8 @@ fn change_each<V, F: FnMut(&mut V)>(slots: &mut [Slot<V>], mut change: F)
     requires { F.IsAlwaysCallable change }
     ensures places { map place_of slots.new ≡ map place_of slots.old }
     ensures len { length slots.new ≡ length slots.old }
-    ensures value { (h : V → V) → ChangesBy F.FnMut change h → slots.new ≡ map (revalued h) slots.old }
+    ensures value { (h : V → V) → ChangesBy F.FnMut change h
+        → slots.new ≡ map (slot_with_value h) slots.old }
 {
     for slot in slots.iter_mut() {
         change(&mut slot.value);
@@ -243,7 +245,7 @@ fn change_each<V, F: FnMut(&mut V)>(slots: &mut [Slot<V>], mut change: F)
 
 // Turns slots round, and gives each the word of its first text.
 fn number_backwards<V>(texts: &[u8], slots: &mut [Slot<V>], shared: usize)
-    ensures value { slots.new ≡ map (numbered texts.now shared) (reverse slots.old) }
+    ensures value { slots.new ≡ map (slot_with_word texts.now shared) (reverse slots.old) }
     ensures len { length slots.new ≡ length slots.old }
 {
     slots.reverse();
@@ -358,7 +360,8 @@ fn probe<V>(
     requires number { number ≡ slot.now.word }
     requires within { IsWithin texts.now.items slot.now }
     requires counts { probes.old + 1 < 2 ^ 64 }
-    ensures order { result ≡ key_cmp (key_of texts.now.items slot.now) (word, (first.now, second.now)) }
+    ensures order { result
+        ≡ key_cmp (key_of texts.now.items slot.now) (word, (first.now, second.now)) }
     ensures counted { probes.new ≡ probes.old + 1 }
 {
     *probes += 1;
@@ -394,7 +397,8 @@ fn order<V>(
 // The same for two entries, whose texts stay out of what sorts. Any two are compared, wherever their offsets are.
 #[inline(always)]
 fn slot_order<V>(texts: &Vec<u8>, slot: &Slot<V>, other: &Slot<V>) -> Ordering
-    ensures { result ≡ key_cmp (key_of texts.now.items slot.now) (key_of texts.now.items other.now) }
+    ensures { result
+        ≡ key_cmp (key_of texts.now.items slot.now) (key_of texts.now.items other.now) }
 {
     if other.word < slot.word {
         return Ordering::Less;
@@ -408,7 +412,8 @@ fn slot_order<V>(texts: &Vec<u8>, slot: &Slot<V>, other: &Slot<V>) -> Ordering
 // The order of the texts of the second entry and those of the first.
 #[inline(never)]
 fn texts_of_slots<V>(texts: &Vec<u8>, slot: &Slot<V>, other: &Slot<V>) -> Ordering
-    ensures { result ≡ pair_cmp (pair_of texts.now.items other.now) (pair_of texts.now.items slot.now) }
+    ensures { result
+        ≡ pair_cmp (pair_of texts.now.items other.now) (pair_of texts.now.items slot.now) }
 {
     let buffer = texts.as_slice();
     let first = text_between(buffer, slot.first, slot.second);

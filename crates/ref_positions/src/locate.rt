@@ -5,7 +5,7 @@ use crate::walk::{Found, Walk};
 use json::{Reader, Scratch};
 use std::alloc::{AllocError, Global};
 
-/// Where the places stand that were asked for.
+/// Where the places are that were asked for.
 #[derive(Drop)]
 pub struct Located<'a> {
     found: Vec<Found<'a>>,

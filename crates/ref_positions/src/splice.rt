@@ -30,7 +30,7 @@ struct Scan<'k> {
 }
 
 impl Scan<'_> {
-    // Passes a token of the text, and answers whether the object ends with it.
+    // Passes a token of the text, and returns whether the object ends with it.
     fn pass(&mut self, text: &str, token: &Token<'_>, offset: usize) -> bool {
         match token {
             Token::BeginObject | Token::BeginArray => self.enter(offset),
@@ -309,7 +309,7 @@ pub fn with_parts(
     }
 }
 
-// With documents behind the members of the object that begins at an offset.
+// With documents after the members of the object that begins at an offset.
 fn with_more(
     alloc: Global,
     root: &str,
@@ -340,7 +340,7 @@ fn with_more(
     Ok(Some(out))
 }
 
-// With documents in an object of their own, behind the members of the root.
+// With documents in an object of their own, after the members of the root.
 fn with_map(
     alloc: Global,
     root: &str,

@@ -1,4 +1,4 @@
-//! The walk over the tokens of a text, which notes where the places stand that are asked for.
+//! The walk over the tokens of a text, which notes where the places are that are asked for.
 ghost use Rattle.std.specs.Prelude.{◌≡◌, vec_len};
 
 use crate::places::Places;
@@ -6,7 +6,7 @@ use crate::position::Position;
 use json::Token;
 use std::alloc::{AllocError, Global};
 
-// Where a place was last found, and where the value stood that it was found in.
+// Where a place was last found, and where the value was that it was found in.
 #[derive(Clone, Copy, Drop)]
 pub(crate) struct Found<'a> {
     pub(crate) key: Option<Position<'a>>,
@@ -125,7 +125,7 @@ impl<'p, 't> Walk<'p, 't> {
         Some(number)
     }
 
-    // Where the value stands that a place is below.
+    // Where the value is that a place is below.
     fn start_above(&self, number: usize) -> Option<usize> {
         let above = self.places.above.get(number)?;
         self.found.get(*above)?.start()

@@ -128,7 +128,7 @@ impl Given {
         faulty_of(alloc, self.len(), list.as_slice())
     }
 
-    /// Keeps the files to the end of the program, which is faster than to free their values one by one, and answers how
+    /// Keeps the files to the end of the program, which is faster than to free their values one by one, and returns how
     /// many there are.
     pub fn keep(self) -> usize {
         let kept = self.documents.leak();

@@ -8,7 +8,7 @@ use ref_reading::Document;
 use serde_json::Value;
 use std::alloc::{AllocError, Global};
 
-/// Adds a line for each of these places of a document: where it stands, its draft, its base URI, its identifier and its
+/// Adds a line for each of these places of a document: where it is, its draft, its base URI, its identifier and its
 /// anchors. Of a document without a value nothing is added.
 pub fn push_document(
     alloc: Global,

@@ -2,7 +2,7 @@
 use crate::given::Given;
 use crate::world::without_fragment;
 use ref_draft::{Child, Draft, ResourceRef};
-use ref_index::reference::shared;
+use ref_index::shared;
 use ref_uri::uri::resolve_against;
 use ref_uri::{Uri, UriFault};
 use serde_json::Value;

@@ -12,7 +12,7 @@ use referencing::Resolver;
 use serde_json::Value;
 use std::alloc::{AllocError, Global};
 
-/// Adds the value that was found, and where it stands: its file, line, column and pointer, its draft, its base URI and
+/// Adds the value that was found, and where it is: its file, line, column and pointer, its draft, its base URI and
 /// the dynamic scope.
 pub fn push_found(
     alloc: Global,
@@ -43,7 +43,7 @@ fn push_scope(out: &mut String, draft: Draft, resolver: &Resolver<'_>) -> Result
     out.push('\n')
 }
 
-// Adds where the place stands that a URI means.
+// Adds where the place is that a URI means.
 fn push_place(
     alloc: Global,
     out: &mut String,
@@ -66,7 +66,7 @@ fn push_place(
     push_in_document(alloc, out, given, uri, fragment.as_str())
 }
 
-// Adds where the place stands that a pointer means in the document under a URI, whose identifier gives it another base.
+// Adds where the place is that a pointer means in the document under a URI, whose identifier gives it another base.
 fn push_in_document(
     alloc: Global,
     out: &mut String,

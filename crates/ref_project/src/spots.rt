@@ -1,4 +1,4 @@
-//! Where findings stand in the files: one pass over each file that has some.
+//! Where findings are in the files: one pass over each file that has some.
 use crate::pointer::place_of;
 use ref_findings::{Bearer, Finding, Problem};
 use ref_parts::path::JsonPointerSegment;
@@ -7,7 +7,7 @@ use ref_positions::{Located, Places, Position};
 use ref_reading::Document;
 use std::alloc::{AllocError, Global};
 
-/// Where findings stand, and the first places that they clash with.
+/// Where findings are, and the first places that they clash with.
 #[derive(Drop)]
 pub struct Spots<'t> {
     // By the numbers of the files, where something in one is asked for.
@@ -18,12 +18,12 @@ pub struct Spots<'t> {
 }
 
 impl<'t> Spots<'t> {
-    /// Where a finding stands, by its number.
+    /// Where a finding is, by its number.
     pub fn own(&self, number: usize, finding: &Finding<'_>) -> Option<Position<'t>> {
         self.position(finding.source, *self.own.get(number)?)
     }
 
-    /// Where the first bearer stands that a finding clashes with.
+    /// Where the first bearer is that a finding clashes with.
     pub fn first(&self, number: usize, bearer: &Bearer<'_>) -> Option<Position<'t>> {
         self.position(bearer.source, *self.first.get(number)?)
     }
@@ -47,7 +47,7 @@ struct Asked {
     first: Vec<usize>,
 }
 
-/// Where findings stand.
+/// Where findings are.
 pub fn spots_of<'t>(
     alloc: Global,
     documents: &'t [Document],

@@ -27,7 +27,7 @@ pub fn suggestion(
     }
 }
 
-// The pointer that lacks its first slash, where a value stands at it.
+// The pointer that lacks its first slash, where a value is at it.
 fn with_slash(alloc: Global, root: &Value, text: &str) -> Result<Option<String>, AllocError> {
     let meant = format!(in alloc; "/{text}")?;
     if root.pointer(meant.as_str()).is_some() {
@@ -37,7 +37,7 @@ fn with_slash(alloc: Global, root: &Value, text: &str) -> Result<Option<String>,
     }
 }
 
-// A pointer with another key in the place of the first that isn't there, where a value stands at it.
+// A pointer with another key in the place of the first that isn't there, where a value is at it.
 fn close_pointer(
     alloc: Global,
     suggester: &mut Suggester,

@@ -18,11 +18,9 @@ use std::rc::Rc;
 struct StandIns;
 
 impl Retrieve for StandIns {
-    ghost use Rattle.std.specs.Prelude.{⊤};
+    ghost use Rattle.ref_definitions.specs.Retrievers.{any_retriever};
 
-    ghost may_answer = { λ _ _ _. ⊤ };
-
-    ghost may_refuse = { λ _ _ _. ⊤ };
+    ghost meaning = { λ _. any_retriever };
 
     fn retrieve(&self, alloc: Global, _uri: &Uri) -> Result<Value, RetrieveError> {
         Ok(Value::Object(Map::new(alloc)))

@@ -22,7 +22,7 @@ const SUBCOMMANDS: [Subcommand; 6] = [
     Subcommand::Serve,
 ];
 
-// What may stand on a command line.
+// What may be on a command line.
 #[derive(Clone, Copy)]
 enum Word {
     Directory,

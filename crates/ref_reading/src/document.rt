@@ -25,7 +25,7 @@ pub struct Fault {
 pub struct Document {
     /// Its path as it is shown.
     pub shown: String,
-    /// The URI that it stands under.
+    /// The URI that it is under.
     pub uri: Uri,
     /// Its text, or what of it is UTF-8.
     pub text: String,
@@ -86,7 +86,7 @@ fn read(
     }
 }
 
-// The URI that a file stands under. Of one whose path gives none standard error says so.
+// The URI that a file is under. Of one whose path gives none standard error says so.
 fn uri_of(rt: &HostRuntime, reading: &Reading<'_>, file: &File) -> Result<Option<Uri>, AllocError> {
     let alloc = rt.alloc();
     let text = match reading.base {
@@ -195,7 +195,7 @@ fn is_deep(alloc: Global, text: &str) -> Result<bool, AllocError> {
     Ok(false)
 }
 
-// How many bytes stand before a line, whose number is from 1.
+// How many bytes are before a line, whose number is from 1.
 fn line_start(text: &str, line: usize) -> usize {
     let mut left = line;
     let mut start = 0;

@@ -177,7 +177,7 @@ impl<'r> Listing<'r> {
         Ok(())
     }
 
-    // Takes what stands in a folder.
+    // Takes what is in a folder.
     fn take(
         &mut self,
         folder: &Folder,
@@ -302,7 +302,7 @@ fn place_in(alloc: Global, folder: &Folder, name: &str) -> Result<(String, Strin
     Ok((path, below))
 }
 
-// The path of a name in a folder; what stands in `.` is shown by its name.
+// The path of a name in a folder; what is in `.` is shown by its name.
 fn joined(alloc: Global, folder: &str, name: &str) -> Result<String, AllocError> {
     if folder.is_empty() || folder == "." {
         return String::from_str(alloc, name);

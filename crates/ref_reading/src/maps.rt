@@ -155,13 +155,11 @@ fn is_longer(map: &Map, best: &Option<(&Map, &str)>) -> bool {
     }
 }
 
-/// It answers what stands in the files, and refuses what no file has.
+/// It returns what is in the files, and refuses what no file has.
 impl Retrieve for Maps<'_> {
-    ghost use Rattle.std.specs.Prelude.{⊤};
+    ghost use Rattle.ref_definitions.specs.Retrievers.{any_retriever};
 
-    ghost may_answer = { λ _ _ _. ⊤ };
-
-    ghost may_refuse = { λ _ _ _. ⊤ };
+    ghost meaning = { λ _. any_retriever };
 
     fn retrieve(&self, alloc: Global, uri: &Uri) -> Result<Value, RetrieveError> {
         match self.document(alloc, uri.as_str())? {

@@ -9,7 +9,7 @@ use std::fs;
 /// How files are read.
 #[derive(Drop)]
 pub struct Reading<'a> {
-    /// The URI that files stand under.
+    /// The URI that files are under.
     pub base: Option<&'a str>,
     /// The draft of files that name none.
     pub draft: Draft,
@@ -33,7 +33,7 @@ pub fn reading_of<'a>(rt: &HostRuntime, given: &ArgMatches<'a>) -> Result<Readin
     Ok(Reading { base, draft })
 }
 
-// Whether documents can stand under a URI: an absolute one without a query and a fragment.
+// Whether documents can be under a URI: an absolute one without a query and a fragment.
 fn is_base(base: &str) -> bool {
     match UriRef::parse(base) {
         Ok(uri) => uri.has_scheme() && !uri.has_fragment() && uri.query().is_none(),

@@ -17,7 +17,7 @@ pub enum Stop {
 }
 
 impl Stop {
-    /// Prints the reason on standard error where it wasn't, and answers the exit status.
+    /// Prints the reason on standard error where it wasn't, and returns the exit status.
     pub fn report(&self, rt: &HostRuntime) -> u8 {
         match self {
             Stop::Memory => {

@@ -96,7 +96,7 @@ module _ {R : Type 0} (given : List Pending → Given) (parents : World) (docume
 -- ---- what is given
 
 abbrev pub given_of_map : Builder (List (List ℕ × Value)) → Given
-given_of_map b = given_of ((map_retriever (trees_of b.retriever)).may_answer) ((map_retriever (trees_of b.retriever)).may_refuse) b
+given_of_map b = given_of (map_retriever (trees_of b.retriever)) b
 
 pub given_as : {R : Type 0} (m : List (List ℕ × Value)) (limit : ℕ) (draft : Draft) (parents : World) (pending : List Pending) (old : Builder R) (b : Builder (List (List ℕ × Value)))
     → old ≡ new_builder old.retriever parents pending → b ≡ setting_draft draft (limited_to limit (retrieving_from m old))
@@ -105,7 +105,7 @@ given_as m limit draft parents pending old b new is =
     ap given_of_map (is ∙ ap (λ x. setting_draft draft (limited_to limit (retrieving_from m x))) new)
 
 abbrev pub given_by_default : {R : Type 0} → Builder R → Given
-given_by_default b = given_of default_retriever.may_answer default_retriever.may_refuse b
+given_by_default b = given_of default_retriever b
 
 pub given_meta_schemas : {R : Type 0} (pending : List Pending) (b : Builder R) → b ≡ new_builder b.retriever [] pending → given_by_default b ≡ given_of_meta_schemas pending
 given_meta_schemas pending b new = ap given_by_default new

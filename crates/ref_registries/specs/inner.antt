@@ -1,2 +1,2 @@
--- What stands here need not be believed: it says what a builder holds.
+-- What is here need not be believed: it says what a builder holds.
 pub mod Holding

@@ -75,7 +75,8 @@ pub fn registry_from_meta_schemas<'b, U: AsStr + Drop, T: IntoRegistryResource<'
         (pending_of_documents U.text T.tree T.given_draft documents.items) (Ok world)) }
     ensures fault { IfErr result
         (IsErrorOf
-        (IsWorld given_of_meta_schemas (pending_of_documents U.text T.tree T.given_draft documents.items))) }
+        (IsWorld given_of_meta_schemas
+        (pending_of_documents U.text T.tree T.given_draft documents.items))) }
 {
     let builder = builder_of(alloc, None, documents)?;
     builder.prepare()

@@ -12,7 +12,7 @@ use Rattle.ref_report.specs.declared.request.BadRequest.{BadRequest}
 use Rattle.ref_report.specs.declared.request.BadRequest.TheVariants as bad
 use Rattle.ref_report.specs.Request.{Request, document_of, documents_of, retrievable_of, remote_of, every, list_of, optional, request_of}
 use Rattle.ref_report.specs.inner.Floats.{HoldsNoFloat, HoldNoFloats, RequestHoldsNoFloat}
-use Rattle.ref_report.proofs.Options.{some_mapped, some_bound, some_any, unwrapped}
+use Rattle.ref_definitions.proofs.Options.{some_mapped, some_bound, some_any, unwrapped}
 use Rattle.ref_report.proofs.Requests.{request-read}
 
 pub or_is_false : (a b : Bool) → (a || b) ≡ false → (a ≡ false) × (b ≡ false)
@@ -37,7 +37,7 @@ item_without_floats i no_items h = tt
 item_without_floats zero (item e ds) h = (or_is_false (has_float e) (items_have_float ds) h).0
 item_without_floats (suc i) (item e ds) h = item_without_floats i ds (or_is_false (has_float e) (items_have_float ds) h).1
 
-at_without_floats : (i : ℕ) (d : Data) → HoldsNoFloat d → IfSome (at i d) HoldsNoFloat
+pub at_without_floats : (i : ℕ) (d : Data) → HoldsNoFloat d → IfSome (at i d) HoldsNoFloat
 at_without_floats i null h = tt
 at_without_floats i (boolean b) h = tt
 at_without_floats i (number n) h = tt
@@ -45,7 +45,7 @@ at_without_floats i (string s) h = tt
 at_without_floats i (array ds) h = item_without_floats i ds h
 at_without_floats i (object ms) h = tt
 
-under_without_floats : (k : List ℕ) (d : Data) → HoldsNoFloat d → IfSome (get k d) HoldsNoFloat
+pub under_without_floats : (k : List ℕ) (d : Data) → HoldsNoFloat d → IfSome (get k d) HoldsNoFloat
 under_without_floats k null h = tt
 under_without_floats k (boolean b) h = tt
 under_without_floats k (number n) h = tt

@@ -1,4 +1,3 @@
-mod Options
 mod Trees
 mod Scopes
 mod Requests

@@ -1,4 +1,4 @@
--- Worlds of requests: there is one, and what calls of `referencing` answer is it.
+-- Worlds of requests: there is one, and what calls of `referencing` return is it.
 use Rattle.std.proofs.Common.{◌≡◌, ℕ, List, [], Option, Some, None, unwrap_or, Result, Ok, Err, refl, sym, ap, subst, ◌∙◌}
 use Rattle.std.specs.declared.alloc.AllocError.{AllocError}
 use Rattle.ref_uri.specs.Targets.{Refusal}

@@ -5,7 +5,7 @@ use Rattle.serde_json.specs.Find.{get, as_object}
 use Rattle.serde_json.specs.Written.{has_float}
 use Rattle.ref_definitions.specs.Results.{◌>>=◌}
 use Rattle.ref_report.specs.declared.request.BadRequest.TheVariants as bad
-use Rattle.ref_report.specs.Request.{Request, documents_of, base_of, steps_of, remote_of, draft_of, limit_of, lint_of, required, optional, are_fields, fields_of, request_of}
+use Rattle.ref_report.specs.Request.{Request, documents_of, base_of, steps_of, remote_of, draft_of, limit_of, lint_of, required_field, optional, are_fields, fields_of, request_of}
 
 bind_is_ok : {A B E : Type 0} (r : Result A E) (f : A → Result B E) (y : B) → (r >>= f) ≡ Ok y → (x : A) × (r ≡ Ok x) × (f x ≡ Ok y)
 bind_is_ok (Ok x) f y h = (x, refl, h)
@@ -16,16 +16,16 @@ ok_is x y h = cc
 
 -- the fields that hold documents are in the tree
 pub record AreRead (d : Data) (r : Request) : Type 0 where
-  pub documents : required bad.Documents documents_of (get (codes "documents") d) ≡ Ok r.documents
+  pub documents : required_field bad.Documents documents_of (get (codes "documents") d) ≡ Ok r.documents
   pub remote : optional bad.Remote remote_of (get (codes "remote") d) ≡ Ok r.remote
   pub meta : optional bad.Meta documents_of (get (codes "meta") d) ≡ Ok r.meta
 
 fields-read : (d : Data) (r : Request) → fields_of d ≡ Ok r → AreRead d r
 unfolding fields_of
 fields-read d r is =
-    let documents = bind_is_ok (required bad.Documents documents_of (get (codes "documents") d)) _ r is in
-    let base = bind_is_ok (required bad.Base base_of (get (codes "base") d)) _ r documents.2 in
-    let steps = bind_is_ok (required bad.Steps steps_of (get (codes "steps") d)) _ r base.2 in
+    let documents = bind_is_ok (required_field bad.Documents documents_of (get (codes "documents") d)) _ r is in
+    let base = bind_is_ok (required_field bad.Base base_of (get (codes "base") d)) _ r documents.2 in
+    let steps = bind_is_ok (required_field bad.Steps steps_of (get (codes "steps") d)) _ r base.2 in
     let remote = bind_is_ok (optional bad.Remote remote_of (get (codes "remote") d)) _ r steps.2 in
     let meta = bind_is_ok (optional bad.Meta documents_of (get (codes "meta") d)) _ r remote.2 in
     let draft = bind_is_ok (optional bad.Draft draft_of (get (codes "draft") d)) _ r meta.2 in

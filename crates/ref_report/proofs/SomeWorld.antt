@@ -7,7 +7,8 @@ use Rattle.ref_definitions.specs.Fault.{Fault, InvalidUri, RetrievalLimit}
 use Rattle.ref_definitions.specs.Pending.{Pending}
 use Rattle.ref_definitions.specs.Resources.{last_under}
 use Rattle.ref_definitions.specs.Wants.{Want, faults, open_wants}
-use Rattle.ref_definitions.specs.Preparing.{Retriever, Given, IsRun, begun, retrieved, IsOutcome, faulty, limited, refused, ready, refusal_fault}
+use Rattle.ref_definitions.specs.Preparing.{Retriever, Given, IsRun, begun, IsOutcome, refusal_fault}
+use Rattle.ref_definitions.proofs.Runs.{retrieved_run, faulty_run, limited_run, refused_run, ready_run}
 use Rattle.ref_definitions.specs.Retrievers.{default_retriever, map_retriever}
 use Rattle.referencing.specs.MetaSchemas.{given_of_meta_schemas}
 use Rattle.ref_report.specs.declared.request.BadRequest.{BadRequest}
@@ -42,19 +43,19 @@ module _ (given : Given) (each : AnswersOrRefuses given.retriever) where
   -- by the faults and open wants of the run's layer
   by_faults : (n : ℕ) (layer : Layer) → IsRun given n layer → n ≤ given.limit → (faults layer ≡ [] → Outcome) → (rs : List Refusal) → faults layer ≡ rs → Outcome
   by_faults n layer run within next [] clean = next clean
-  by_faults n layer run within next (refusal ∷ more) first = (Err (InvalidUri refusal), faulty n layer refusal more run within first)
+  by_faults n layer run within next (refusal ∷ more) first = (Err (InvalidUri refusal), faulty_run n layer refusal more run within first)
 
   by_wants : (n : ℕ) (layer : Layer) → IsRun given n layer → n ≤ given.limit → faults layer ≡ [] → ((want : Want) (more : List Want) → open_wants (layer ∷ given.parents) layer ≡ want ∷ more → Outcome)
       → (ws : List Want) → open_wants (layer ∷ given.parents) layer ≡ ws → Outcome
-  by_wants n layer run within clean next [] shut = (Ok layer, ready n layer run within clean shut)
+  by_wants n layer run within clean next [] shut = (Ok layer, ready_run n layer run within clean shut)
   by_wants n layer run within clean next (want ∷ more) unmet = next want more unmet
 
   by_answer : (left : ℕ) → Ends left → (n : ℕ) (layer : Layer) (want : Want) (more : List Want) → n + suc left ≡ given.limit → IsRun given n layer → faults layer ≡ [] → open_wants (layer ∷ given.parents) layer ≡ want ∷ more
       → ((tree : Data) × given.retriever.may_answer want.uri tree) ⊎ ((text : List ℕ) × given.retriever.may_refuse want.uri text) → Outcome
   by_answer left next n layer want more sum run clean unmet (inl (tree, answered)) =
-      next (suc n) (layer ++ document given.draft want.uri tree ∷ []) (omega (arith, sum)) (retrieved n layer want more tree run clean unmet answered)
+      next (suc n) (layer ++ document given.draft want.uri tree ∷ []) (omega (arith, sum)) (retrieved_run n layer want more tree run clean unmet answered)
   by_answer left next n layer want more sum run clean unmet (inr (text, may)) =
-      (Err (refusal_fault want.cause want.uri text), refused n layer want more text run (omega (arith, sum)) clean unmet may)
+      (Err (refusal_fault want.cause want.uri text), refused_run n layer want more text run (omega (arith, sum)) clean unmet may)
 
   ends : (left : ℕ) → Ends left
   ends zero n layer sum run =
@@ -62,7 +63,7 @@ module _ (given : Given) (each : AnswersOrRefuses given.retriever) where
       let whole : n ≡ given.limit = omega (arith, sum) in
       by_faults n layer run within
       (λ clean. by_wants n layer run within clean
-      (λ want more unmet. (Err (RetrievalLimit want.uri given.limit), limited layer want more (subst (λ k. IsRun given k layer) whole run) clean unmet))
+      (λ want more unmet. (Err (RetrievalLimit want.uri given.limit), limited_run layer want more (subst (λ k. IsRun given k layer) whole run) clean unmet))
       (open_wants (layer ∷ given.parents) layer) refl)
       (faults layer) refl
   ends (suc left) n layer sum run =

@@ -16,7 +16,8 @@ use Rattle.ref_report.specs.Request.{Document, Request}
 use Rattle.ref_registries.specs.Worlds as worlds
 use Rattle.ref_report.specs.Worlds.{AreParents, IsWorldAbove}
 use Rattle.ref_report.specs.inner.Floats.{HoldsNoFloat, HoldNoFloats, RequestHoldsNoFloat, LayerHoldsNoFloat, WorldHoldsNoFloat}
-use Rattle.ref_report.proofs.Options.{if_bound, if_any, last_of_all}
+use Rattle.ref_definitions.proofs.Options.{if_bound, if_any}
+use Rattle.ref_definitions.proofs.Lists.{last_of_all}
 
 -- ---- documents that are added
 
@@ -61,15 +62,15 @@ AnswerHoldsNoFloat r = (uri : List ℕ) (tree : Data) → r.may_answer uri tree 
 
 run_without_floats : (given : Given) (n : ℕ) (layer : Layer) → AnswerHoldsNoFloat given.retriever → LayerHoldsNoFloat given.documents → IsRun given n layer → LayerHoldsNoFloat layer
 run_without_floats given n layer answers h begun = h
-run_without_floats given n layer answers h (retrieved m before want more tree run clean unmet answered) =
-    all_append (λ d. HoldsNoFloat d.tree) before (document given.draft want.uri tree ∷ []) (run_without_floats given m before answers h run) (answers want.uri tree answered, tt)
+run_without_floats given n layer answers h (retrieved m before want tree run step) =
+    all_append (λ d. HoldsNoFloat d.tree) before (document given.draft want.uri tree ∷ []) (run_without_floats given m before answers h run) (answers want.uri tree step.answered, tt)
 
 outcome_without_floats : (given : Given) (layer : Layer) (answer : Result Layer Fault) → answer ≡ Ok layer → AnswerHoldsNoFloat given.retriever → LayerHoldsNoFloat given.documents → IsOutcome given answer → LayerHoldsNoFloat layer
-outcome_without_floats given layer answer is answers h (faulty n before refusal more run within first) = absurd (cc)
-outcome_without_floats given layer answer is answers h (limited before want more run clean unmet) = absurd (cc)
-outcome_without_floats given layer answer is answers h (refused n before want more text run within clean unmet may) = absurd (cc)
-outcome_without_floats given layer answer is answers h (ready n before run within clean shut) =
-    let same : before ≡ layer = cc in subst LayerHoldsNoFloat same (run_without_floats given n before answers h run)
+outcome_without_floats given layer answer is answers h (faulty refusal end) = absurd (cc)
+outcome_without_floats given layer answer is answers h (limited want end) = absurd (cc)
+outcome_without_floats given layer answer is answers h (refused want text end) = absurd (cc)
+outcome_without_floats given layer answer is answers h (ready before end) =
+    let same : before ≡ layer = cc in subst LayerHoldsNoFloat same (run_without_floats given end.count before answers h end.run)
 
 map_answers : (pairs : List (List ℕ × Data)) → AllByRecursion (λ e. HoldsNoFloat e.1) pairs → AnswerHoldsNoFloat (map_retriever pairs)
 map_answers pairs each uri tree is =

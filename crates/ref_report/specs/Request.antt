@@ -98,9 +98,9 @@ abbrev pub lint_of : Data → Option Bool
 lint_of d = as_bool d
 
 -- a field that must be there
-abbrev pub required : {A : Type 0} → BadRequest → (Data → Option A) → Option Data
+abbrev pub required_field : {A : Type 0} → BadRequest → (Data → Option A) → Option Data
     → Result A BadRequest
-required bad f found = ok_or (option_and_then f found) bad
+required_field bad f found = ok_or (option_and_then f found) bad
 
 -- a field that may be absent
 abbrev pub optional : {A : Type 0} → BadRequest → (Data → Option A) → Option Data
@@ -126,9 +126,9 @@ are_fields (member k d ms) = is_field k && are_fields ms
 -- the fields of an object, or the first that is bad
 unfoldable pub fields_of : Data → Result Request BadRequest
 fields_of d = do
-  documents ← required bad.Documents documents_of (get (codes "documents") d)
-  base ← required bad.Base base_of (get (codes "base") d)
-  steps ← required bad.Steps steps_of (get (codes "steps") d)
+  documents ← required_field bad.Documents documents_of (get (codes "documents") d)
+  base ← required_field bad.Base base_of (get (codes "base") d)
+  steps ← required_field bad.Steps steps_of (get (codes "steps") d)
   remote ← optional bad.Remote remote_of (get (codes "remote") d)
   meta ← optional bad.Meta documents_of (get (codes "meta") d)
   draft ← optional bad.Draft draft_of (get (codes "draft") d)

@@ -1,4 +1,4 @@
--- What stands here need not be believed: no clause of a call reaches it. These definitions say what private functions answer.
+-- What is here need not be believed: no clause of a call reaches it. These definitions say what private functions return.
 pub mod View
 pub mod Faults
 pub mod Floats

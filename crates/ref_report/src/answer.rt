@@ -79,7 +79,9 @@ fn world_report(
     requires { WorldHoldsNoFloat registry.now }
     ensures { IfOk result
         (λ r. report_view r ≡ with_lines (lint_lines (unwrap_or lint false) registry.now)
-        (followed_report (followed_steps registry.now base (map (step_in (builder_draft draft)) (map step_view steps.now))))) }
+        (followed_report
+        (followed_steps registry.now base
+        (map (step_in (builder_draft draft)) (map step_view steps.now))))) }
 {
     let draft = draft.unwrap_or(Draft::Draft202012);
     let steps = entered(alloc, draft, steps)?;

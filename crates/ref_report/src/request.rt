@@ -143,7 +143,7 @@ fn required_documents(
     found: Option<&Value>,
 ) -> Result<Vec<Document<'_>>, Stop<BadRequest>>
     ensures { Answers (λ v. documents_view v.items) (λ e. e) result
-        (spec.required bad.Documents spec.documents_of (option_map (λ v. view v.now) found.entry)) }
+        (spec.required_field bad.Documents spec.documents_of (option_map (λ v. view v.now) found.entry)) }
 {
     let value = found.ok_or(Stop::Because(BadRequest::Documents))?;
     documents_of(alloc, value)?.ok_or(Stop::Because(BadRequest::Documents))
@@ -151,7 +151,7 @@ fn required_documents(
 
 fn required_base(alloc: Global, found: Option<&Value>) -> Result<Uri, Stop<BadRequest>>
     ensures { Answers (λ u. u) (λ e. e) result
-        (spec.required bad.Base spec.base_of (option_map (λ v. view v.now) found.entry)) }
+        (spec.required_field bad.Base spec.base_of (option_map (λ v. view v.now) found.entry)) }
 {
     let value = found.ok_or(Stop::Because(BadRequest::Base))?;
     base_of(alloc, value)?.ok_or(Stop::Because(BadRequest::Base))
@@ -159,7 +159,7 @@ fn required_base(alloc: Global, found: Option<&Value>) -> Result<Uri, Stop<BadRe
 
 fn required_steps(alloc: Global, found: Option<&Value>) -> Result<Vec<Step<'_>>, Stop<BadRequest>>
     ensures { Answers (λ v. map step_view v.items) (λ e. e) result
-        (spec.required bad.Steps spec.steps_of (option_map (λ v. view v.now) found.entry)) }
+        (spec.required_field bad.Steps spec.steps_of (option_map (λ v. view v.now) found.entry)) }
 {
     let value = found.ok_or(Stop::Because(BadRequest::Steps))?;
     steps_of(alloc, value)?.ok_or(Stop::Because(BadRequest::Steps))

@@ -1,4 +1,4 @@
-//! What stands anywhere in a tree.
+//! What is anywhere in a tree.
 ghost use Rattle.std.specs.Prelude.{◌≡◌};
 ghost use Rattle.serde_json.specs.View.{view, items_view, members_view};
 ghost use Rattle.serde_json.specs.Written as spec;

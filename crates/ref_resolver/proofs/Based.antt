@@ -1,5 +1,5 @@
 -- A URI that something has a name under means a place.
-use Rattle.std.proofs.Common.{◌≡◌, ℕ, Bool, true, false, ◌&&◌, cond, List, [], ◌∷◌, ◌++◌, map, filter, flat_map, Option, Some, None, is_some, option_and_then, Result, Ok, Err, ◌⊎◌, inl, inr, ⊎_elim, refl, sym, ap, subst, ◌∙◌, append_assoc, bytes_eq, arith}
+use Rattle.std.proofs.Common.{◌≡◌, ℕ, Bool, true, false, ◌&&◌, cond, List, [], ◌∷◌, ◌++◌, filter, flat_map, Option, Some, None, is_some, option_and_then, Result, Ok, Err, ◌⊎◌, inl, inr, ⊎_elim, refl, sym, ap, subst, ◌∙◌, append_assoc, bytes_eq, arith}
 use Rattle.std.specs.List.{Contains, last_or}
 use Rattle.std.specs.Option.{option_map_or, option_or, ok_or}
 use Rattle.std.specs.Result.{result_ok}
@@ -14,25 +14,11 @@ use Rattle.ref_definitions.specs.Places.{Place, root, child_place, children_with
 use Rattle.ref_definitions.specs.Descent.{AreChildren}
 use Rattle.ref_definitions.specs.Resources.{resources_in, resources, last_under, own_uri, meant_place}
 use Rattle.ref_definitions.specs.Anchors.{Named, named_under, named_at, names_in, names, last_named, named_entry, named_by_identifier, not_named, anchor}
-use Rattle.ref_definitions.proofs.Alone.{in_joined, bears, first_or_later}
+use Rattle.ref_definitions.proofs.Alone.{bears}
 use Rattle.ref_definitions.proofs.Appending.{meanings_stay_below}
 use Rattle.ref_definitions.proofs.Descent.{places_descend}
 use Rattle.ref_index.proofs.Looking.{last_passes, not_there}
-
-none_in_nothing : {X : Type 0} (x : X) → ¬ (Contains [] x)
-none_in_nothing x there = omega (arith, there.1)
-
-in_mapped : {X A : Type 0} (f : X → A) (xs : List X) (y : A) → Contains (map f xs) y → (x : X) × (f x ≡ y)
-in_mapped f [] y there = absurd (none_in_nothing y there)
-in_mapped f (x ∷ xs) y there = ⊎_elim (λ same. (x, same)) (λ later. in_mapped f xs y later) (first_or_later (f x) (map f xs) y there)
-
-in_one_of : {X A : Type 0} (f : X → List A) (xs : List X) (y : A) → Contains (flat_map f xs) y → (x : X) × Contains xs x × Contains (f x) y
-in_one_of f [] y there = absurd (none_in_nothing y there)
-in_one_of f (x ∷ xs) y there =
-    ⊎_elim
-    (λ here. (x, (0, omega arith, refl), here))
-    (λ later. let found = in_one_of f xs y later in (found.0, Contains-append_right (x ∷ []) xs found.0 found.1, found.2))
-    (Contains-append_cases (f x) (flat_map f xs) y there)
+use Rattle.ref_definitions.proofs.Lists.{in_joined, first_or_later, none_in_nothing, in_mapped, in_one_of}
 
 -- ---- the base of each place identifies one
 
@@ -46,7 +32,7 @@ HasKnownBase layer p = (uri : List ℕ) → p.base ≡ Ok uri → Bears layer ur
 
 child_base : (p x : Place) (base : List ℕ) → Contains (children_with (Ok base) p) x → x.base ≡ base_within base (identifier_of x)
 child_base p x base there =
-    let (c, same) = in_mapped (child_place p.path base) (walked_children p.draft p.value) x there in
+    let (c, own_child, same) = in_mapped (child_place p.path base) (walked_children p.draft p.value) x there in
     subst (λ (y : Place). y.base ≡ base_within base (identifier_of y)) same refl
 
 with_identifier : (layer : Layer) (d : Document) (x : Place) (base : List ℕ) (id : Option (List ℕ)) → identifier_of x ≡ id → Contains layer d → Contains (places d) x
@@ -84,7 +70,7 @@ base_known layer d p own there =
 -- ---- names
 
 under_that : (uri : List ℕ) (p : Place) (n : Named) → Contains (named_under uri p) n → uri ≡ n.uri
-under_that uri p n there = (let (a, same) = in_mapped _ _ n there in ap (λ (m : Named). m.uri) same)
+under_that uri p n there = (let (a, own_anchor, same) = in_mapped _ _ n there in ap (λ (m : Named). m.uri) same)
 
 named_known : (layer : Layer) (p : Place) (n : Named) (base : Result (List ℕ) Refusal) → p.base ≡ base → HasKnownBase layer p → Contains (option_map_or (λ b. named_under b p) (result_ok base) []) n → Bears layer n.uri
 named_known layer p n (Ok base) is known there = subst (Bears layer) (under_that base p n there) (known base is)

@@ -8,7 +8,7 @@ use Rattle.std.proofs.lemmas.List.Sums.{fails_before_first}
 use Rattle.std.proofs.lemmas.List.Quantifiers.{position-Some}
 use Rattle.std.proofs.lemmas.List.{length-take, get_or-take}
 
--- where the first byte stands that passes a test, and that none before it does
+-- where the first byte is that passes a test, and that none before it does
 pub first_at : (test : ℕ → Bool) (text : List ℕ) (place : ℕ) → position test text ≡ Some place
     → (place < length text) × (test (get_or text place 0) ≡ true) × All (λ b. test b ≡ false) (take place text)
 first_at test text place found =
@@ -26,7 +26,7 @@ cut_at_one text place less slash =
     let next : suc place ≡ place + 1 = omega (arith) in
     split_at text place 0 less ∙ ap (λ n. take place text ++ (get_or text place 0 ∷ drop n text)) next ∙ ap (λ b. take place text ++ (b ∷ drop (place + 1) text)) slash
 
--- where the first `/` stands, and that none is before it
+-- where the first `/` is, and that none is before it
 pub first_slash : (text : List ℕ) (place : ℕ) → position (λ b. eqb b 47) text ≡ Some place → (place < length text) × (get_or text place 0 ≡ 47) × All (λ b. b ≢ 47) (take place text)
 first_slash text place found =
     let at = first_at (λ b. eqb b 47) text place found in
@@ -44,7 +44,7 @@ none_at test text =
 pub uncut : (byte : ℕ) (text : List ℕ) → position (λ b. eqb b byte) text ≡ None → All (λ b. b ≢ byte) text
 uncut byte text none = λ k d less. eqb-false (get_or text k d) byte (none_at (λ b. eqb b byte) text none k d less)
 
--- a byte of a pointer's text that isn't part of a key as it stands
+-- a byte of a pointer's text that isn't part of a key as it is
 abbrev pub is_mark : ℕ → Bool
 is_mark b = eqb b 47 || eqb b 37 || eqb b 126
 

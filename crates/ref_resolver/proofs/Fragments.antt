@@ -11,7 +11,7 @@ use Rattle.ref_definitions.specs.Lookup.{Resolver, at_fragment, named_found, dyn
 use Rattle.ref_resolver.specs.declared.located.Located.{Located}
 use Rattle.ref_resolver.specs.inner.Located.{IsLocated}
 use Rattle.ref_resolver.specs.inner.Names.{is_name}
-use Rattle.ref_resolver.specs.Resolving.{at_pointer}
+use Rattle.ref_resolver.specs.inner.Leading.{at_pointer}
 
 -- one that begins with `/` is a pointer
 pub pointer_there : (w : World) (r : Resolver) (p : Place) (l : Located) (fragment text : List ℕ) → IsLocated l p → fragment ≡ 47 ∷ text
@@ -36,10 +36,9 @@ whole_there w r p l (c ∷ text) at name none = absurd (no_name c text (eqb c 47
 pub dynamic_there : (w : World) (r : Resolver) (n : Named) → Dynamic ≡ n.kind → named_found w r n n.kind ≡ dynamically w r n
 dynamic_there w r n is = ap (named_found w r n) (sym is)
 
--- the same by what a resolver that moved there asks
-pub dynamic_moved : (w : World) (r : Resolver) (v : World) (s : Resolver) (n : Named) (name : List ℕ) → v ≡ w → s ≡ r → n.name ≡ name → n.kind ≡ Dynamic → named_found w r n n.kind ≡ by_scope s n (in_scope v name s.scope)
-dynamic_moved w r v s n name world at called is =
-    dynamic_there w r n (sym is) ∙ ap (λ text. by_scope r n (in_scope w text r.scope)) called ∙ ap (λ x. by_scope x n (in_scope w name x.scope)) (sym at) ∙ ap (λ u. by_scope s n (in_scope u name s.scope)) (sym world)
+-- the same by the scope
+pub dynamic_scope : (w : World) (r : Resolver) (n : Named) (name : List ℕ) → n.name ≡ name → n.kind ≡ Dynamic → named_found w r n n.kind ≡ by_scope r n (in_scope w name r.scope)
+dynamic_scope w r n name called is = dynamic_there w r n (sym is) ∙ ap (λ text. by_scope r n (in_scope w text r.scope)) called
 
 pub plain_there : (w : World) (r : Resolver) (n : Named) → n.kind ≡ Plain → named_found w r n n.kind ≡ Ok (record { value = n.place.value; draft = n.place.draft; resolver = r })
 plain_there w r n is = ap (named_found w r n) is

@@ -77,7 +77,7 @@ module _ {A : Type 0} (v : A → Layer) (xs : List A) (i : ℕ) (x : A) (within 
       subst (λ o. IsMeantAt (own ∷ map v xs) o (record { layer = i + 1; place = l })) (sym (same ∙ parents_step (λ w. meant_place w uri) v xs i x within is))
       (near (IsLocatedAt (own ∷ map v xs) (record { layer = i + 1; place = l })) (v x) (map v (drop (i + 1) xs)) uri (p, found, record { layer = v x; numbered = parent_layer own v xs i x within is; there = at }))
 
-  -- one that it hasn't means what it means behind
+  -- one that it hasn't means what it means in the layers after it
   pub meant_beyond : (uri : List ℕ) → meant_place (map v xs) uri ≡ meant_place (map v (drop i xs)) uri → last_under uri (resources (v x)) ≡ None → meant_place (map v xs) uri ≡ meant_place (map v (drop (i + 1) xs)) uri
   meant_beyond uri same none = same ∙ parents_step (λ w. meant_place w uri) v xs i x within is ∙ far (v x) (map v (drop (i + 1) xs)) uri none
 
@@ -90,7 +90,7 @@ module _ {A : Type 0} (v : A → Layer) (xs : List A) (i : ℕ) (x : A) (within 
       (subst (λ o. IsNamedAt (own ∷ map v xs) o there) (sym (same ∙ parents_step (λ w. named_entry w uri name) v xs i x within is))
       (near_name (IsNameAt (own ∷ map v xs) there) (v x) (map v (drop (i + 1) xs)) uri name (n, found, (kind, record { layer = v x; numbered = parent_layer own v xs i x within is; there = at }))))
 
-  -- one that it hasn't means what it means behind
+  -- one that it hasn't means what it means in the layers after it
   pub named_beyond : (uri name : List ℕ) → named_entry (map v xs) uri name ≡ named_entry (map v (drop i xs)) uri name → last_named uri name (names (v x)) ≡ None
       → named_entry (map v xs) uri name ≡ named_entry (map v (drop (i + 1) xs)) uri name
   named_beyond uri name same none = same ∙ parents_step (λ w. named_entry w uri name) v xs i x within is ∙ far_name (v x) (map v (drop (i + 1) xs)) uri name none

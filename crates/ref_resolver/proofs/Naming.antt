@@ -45,7 +45,7 @@ pub answered : {A : Type 0} (answer : Result A Fault) (a : A) → result_ok answ
 answered (Ok b) a is = (let same : b ≡ a = cc in ap (λ x. Ok x) same)
 answered (Err fault) a is = cc
 
--- what the first name means stands under the base of a resolver that moved there
+-- what the first name means is under the base of a resolver that moved there
 pub moved_anchor : (v w : World) (s r : Resolver) (name : List ℕ) (n : Named) → v ≡ w → s ≡ r → anchor w r.base name ≡ Ok n → anchor v s.base name ≡ Ok n
 moved_anchor v w s r name n world at is = ap (λ x. anchor x s.base name) world ∙ ap (λ (x : Resolver). anchor w x.base name) at ∙ is
 

@@ -25,7 +25,7 @@ use Rattle.ref_definitions.specs.Bases as bases
 use Rattle.ref_definitions.specs.Pointers.{step_into, walked_along, pointed_value}
 use Rattle.ref_error.specs.declared.error.Error.{Error}
 use Rattle.ref_error.specs.Errors.{IsFaultOf, Gives}
-use Rattle.ref_resolver.specs.inner.Walking.{Passed, accepted_id, stepped_into, changed_base, based, stepped_along, passed_along, leads_to, pointed_to}
+use Rattle.ref_resolver.specs.inner.Walking.{Passed, accepted_id, stepped_into, changed_base, base_after, stepped_along, passed_along, leads_to, pointed_to}
 use Rattle.ref_error.proofs.Saying.{fault_as}
 use Rattle.ref_resolver.proofs.Faults.{fault_ends, goes_on, refused_after}
 
@@ -37,7 +37,7 @@ pub step_refused : (draft : Draft) (pointer : List ℕ) (passed : Passed) (value
 step_refused draft pointer passed value token s e is says =
     fault_as (as_invalid_uri (base_within passed.base (accepted_id draft s.0 s.1))) (stepped_along draft pointer passed value token) e
     (λ fault refused.
-    ap (λ a. a >>= λ t. as_invalid_uri (based draft passed.base t) >>= λ next. Ok (t.1, next)) is
+    ap (λ a. a >>= λ t. as_invalid_uri (base_after draft passed.base t) >>= λ next. Ok (t.1, next)) is
     ∙ ap (λ a. a >>= λ next. Ok (s.1, next)) (refused_after (base_within passed.base (accepted_id draft s.0 s.1)) (changed_base passed.base s.0) fault refused))
     says
 
@@ -51,7 +51,7 @@ pub walk_turn : (draft : Draft) (pointer : List ℕ) (passed : Passed) (value : 
 walk_turn draft pointer passed value text token more cut none =
     ap (λ x. passed_along draft pointer passed value (tokens x)) cut ∙ ap (passed_along draft pointer passed value) (slice_split_at (λ b. eqb b 47) token 47 more (plain token none) refl)
 
--- a step that answers goes on from there
+-- a step that returns goes on from there
 pub walk_goes : (draft : Draft) (pointer : List ℕ) (passed : Passed) (value : Data) (text token more : List ℕ) (at : Data × Passed) → (text ≡ token ++ (47 ∷ more)) × All (λ b. b ≢ 47) token
     → stepped_along draft pointer passed value token ≡ Ok at → passed_along draft pointer passed value (tokens text) ≡ passed_along draft pointer at.1 at.0 (tokens more)
 walk_goes draft pointer passed value text token more at (cut, none) is =
@@ -121,7 +121,7 @@ by_base draft pointer ts same base since reached value has (Err refusal) = refl
 by_step : (draft : Draft) (pointer : List ℕ) (ts : List (List ℕ)) → Same draft pointer ts → (base : List ℕ) (since : List Part) (reached : Reached) → HasReached draft since reached
     → (answer : Result (Part × Data) Fault)
     → with_parts (answer >>= λ s. as_invalid_uri (along_part draft (record { base = base; since = since }) s.0 s.1) >>= λ next. walked_along draft pointer next s.1 ts)
-    ≡ without_parts (((answer >>= moved draft reached) >>= λ s. as_invalid_uri (based draft base s) >>= with_value s.1) >>= λ s. passed_along draft pointer s.1 s.0 ts)
+    ≡ without_parts (((answer >>= moved draft reached) >>= λ s. as_invalid_uri (base_after draft base s) >>= with_value s.1) >>= λ s. passed_along draft pointer s.1 s.0 ts)
 by_step draft pointer ts same base since reached has (Ok s) =
     let longer = since ++ s.0 ∷ [] in
     let there = reached_after draft reached s.0 in

@@ -19,7 +19,7 @@ use Rattle.ref_resolver.specs.declared.location.Location.{Location}
 use Rattle.ref_resolver.specs.inner.Located.{IsLocated}
 use Rattle.ref_resolver.specs.inner.Names.{is_name}
 use Rattle.ref_resolver.specs.Locations.{GivesWhere}
-use Rattle.ref_resolver.specs.Resolving.{at_pointer}
+use Rattle.ref_resolver.specs.inner.Leading.{at_pointer}
 use Rattle.ref_resolver.specs.inner.Walking.{pointed_to}
 use Rattle.ref_resolver.proofs.Pointing.{no_answer}
 use Rattle.ref_resolver.proofs.Fragments.{pointer_there, whole_there}

@@ -10,7 +10,7 @@ use Rattle.ref_definitions.specs.Lookup.{Resolver, Found, fault_of, entry_of, is
 use Rattle.serde_json.specs.View.{view}
 use Rattle.ref_resolver.specs.declared.located.Located.{Located}
 use Rattle.ref_resolver.specs.inner.Located.{IsLocated}
-use Rattle.ref_resolver.specs.Resolving.{under_uri}
+use Rattle.ref_resolver.specs.inner.Leading.{under_uri}
 use Rattle.ref_resolver.specs.inner.Scoped.{dynamic_of, dynamic_under}
 
 abbrev Meaning : Type 0

@@ -1,4 +1,4 @@
--- Where places stand, layer by layer, and what a reference points at there.
+-- Where places are, layer by layer, and what a reference points at there.
 use Rattle.std.proofs.Common.{◌≡◌, ℕ, suc, ◌+◌, ◌<◌, arith, Bool, true, false, eqb, List, [], ◌∷◌, ◌++◌, length, get_or, drop, map, flat_map, Option, Some, None, option_map, IfSome, Bor, Ok, refl, sym, ap, ◌∙◌, append_assoc}
 use Rattle.std.specs.Prelude.{not, option_and_then}
 use Rattle.std.specs.Option.{option_or, option_map_or}
@@ -25,9 +25,9 @@ use Rattle.ref_index.specs.declared.entry.Entry.{Entry}
 use Rattle.ref_index.specs.Spots.{Spot, last_resource, last_name, spot_under, spot_named, spot_of}
 use Rattle.ref_index.proofs.Spots.{last_resource_is, last_name_is}
 use Rattle.ref_resolver.specs.declared.located.Located.{Located}
-use Rattle.ref_resolver.specs.Locations.{uri_spot_from, uri_spot, name_spot_from, name_spot, anchor_spot, naming_uri, parts_along, with_parts, pointer_spot, fragment_spot, located}
+use Rattle.ref_resolver.specs.Locations.{uri_spot_from, uri_spot, name_spot_from, name_spot, anchor_spot, naming_uri, parts_along, with_parts, pointer_spot, fragment_spot, lookup_location}
 use Rattle.ref_resolver.specs.inner.Names.{is_name}
-use Rattle.ref_resolver.specs.inner.Walking.{Passed, stepped_into, based, stepped_along}
+use Rattle.ref_resolver.specs.inner.Walking.{Passed, stepped_into, base_after, stepped_along}
 use Rattle.ref_resolver.proofs.Fragments.{no_name}
 use Rattle.ref_resolver.proofs.Locating.{parents_step}
 
@@ -37,12 +37,12 @@ pub if_some : {A : Type 0} (P Q : A → Type 0) (o : Option A) → ((a : A) → 
 if_some P Q None then is = tt
 if_some P Q (Some a) then is = then a is
 
--- the entry of what was looked up says where it stands
-pub told : (at : Option Spot) (entry : Option (Bor Entry)) (found : Option Located) → IfSome entry (λ e. at ≡ Some (spot_of e.now))
+-- the entry of what was looked up says where it is
+pub entry_says_spot : (at : Option Spot) (entry : Option (Bor Entry)) (found : Option Located) → IfSome entry (λ e. at ≡ Some (spot_of e.now))
     → IfSome found (λ l. option_map (λ (e : Bor Entry). e.now) entry ≡ Some l.entry.now) → IfSome found (λ l. at ≡ Some (spot_of l.entry.now))
-told at entry None here is = tt
-told at None (Some l) here is = cc
-told at (Some e) (Some l) here is = (let same : e.now ≡ l.entry.now = cc in here ∙ ap (λ x. Some (spot_of x)) same)
+entry_says_spot at entry None here is = tt
+entry_says_spot at None (Some l) here is = cc
+entry_says_spot at (Some e) (Some l) here is = (let same : e.now ≡ l.entry.now = cc in here ∙ ap (λ x. Some (spot_of x)) same)
 
 -- that of an entry is the entry
 pub entry_told : (entry : Option (Bor Entry)) (e : Bor Entry) (found : Option Located) → entry ≡ Some e → IfSome found (λ l. l.entry.now ≡ e.now) → IfSome found (λ l. option_map (λ (b : Bor Entry). b.now) entry ≡ Some l.entry.now)
@@ -78,23 +78,23 @@ far_name_spot number layer world uri name none = ap (λ o. option_or (option_map
 -- ---- the next of the parents
 
 module _ {A : Type 0} (v : A → Layer) (xs : List A) (i : ℕ) (x : A) (within : i < length xs) (is : x ≡ get_or xs i x) where
-  -- a URI that it has stands there
+  -- a URI that it has is there
   pub spot_next : (uri : List ℕ) (s : Spot) → uri_spot_from 1 (map v xs) uri ≡ uri_spot_from (i + 1) (map v (drop i xs)) uri → spot_under uri (v x) ≡ Some s → uri_spot_from 1 (map v xs) uri ≡ Some (i + 1, s)
   spot_next uri s same at = same ∙ parents_step (λ w. uri_spot_from (i + 1) w uri) v xs i x within is ∙ near_spot (i + 1) (v x) (map v (drop (i + 1) xs)) uri s at
 
-  -- one that it hasn't stands where it stands behind
+  -- one that it hasn't is where it is in the layers after it
   pub spot_beyond : (uri : List ℕ) → uri_spot_from 1 (map v xs) uri ≡ uri_spot_from (i + 1) (map v (drop i xs)) uri → last_under uri (resources (v x)) ≡ None
       → uri_spot_from 1 (map v xs) uri ≡ uri_spot_from ((i + 1) + 1) (map v (drop (i + 1) xs)) uri
   spot_beyond uri same none =
       let next : suc (i + 1) ≡ (i + 1) + 1 = omega arith in
       same ∙ parents_step (λ w. uri_spot_from (i + 1) w uri) v xs i x within is ∙ far_spot (i + 1) (v x) (map v (drop (i + 1) xs)) uri none ∙ ap (λ n. uri_spot_from n (map v (drop (i + 1) xs)) uri) next
 
-  -- a name that it has stands there
+  -- a name that it has is there
   pub name_spot_next : (uri name : List ℕ) (s : Spot) → name_spot_from 1 (map v xs) uri name ≡ name_spot_from (i + 1) (map v (drop i xs)) uri name → spot_named uri name (v x) ≡ Some s
       → name_spot_from 1 (map v xs) uri name ≡ Some (i + 1, s)
   name_spot_next uri name s same at = same ∙ parents_step (λ w. name_spot_from (i + 1) w uri name) v xs i x within is ∙ near_name_spot (i + 1) (v x) (map v (drop (i + 1) xs)) uri name s at
 
-  -- one that it hasn't stands where it stands behind
+  -- one that it hasn't is where it is in the layers after it
   pub name_spot_beyond : (uri name : List ℕ) → name_spot_from 1 (map v xs) uri name ≡ name_spot_from (i + 1) (map v (drop i xs)) uri name → last_named uri name (names (v x)) ≡ None
       → name_spot_from 1 (map v xs) uri name ≡ name_spot_from ((i + 1) + 1) (map v (drop (i + 1) xs)) uri name
   name_spot_beyond uri name same none =
@@ -125,8 +125,8 @@ anchor_spot_behind world uri name base at none own is =
 
 -- ---- what a fragment means
 
-pub located_at : (w : World) (r : Resolver) (reference uri fragment : List ℕ) → target r.base reference ≡ Ok uri → fragment_part reference ≡ fragment → located w r reference ≡ fragment_spot w (moved_resolver r uri) fragment
-unfolding located
+pub located_at : (w : World) (r : Resolver) (reference uri fragment : List ℕ) → target r.base reference ≡ Ok uri → fragment_part reference ≡ fragment → lookup_location w r reference ≡ fragment_spot w (moved_resolver r uri) fragment
+unfolding lookup_location
 located_at w r reference uri fragment is part =
     ap (λ t. option_and_then (λ u. fragment_spot w (moved_resolver r u) (fragment_part reference)) (result_ok t)) is ∙ ap (fragment_spot w (moved_resolver r uri)) part
 
@@ -159,12 +159,9 @@ named_spot w m name n is means =
 pub plainly : (w : World) (m : Resolver) (n : Named) → n.kind ≡ Plain → naming_uri w m n n.kind ≡ m.base
 plainly w m n is = ap (naming_uri w m n) is
 
--- by what a resolver that moved there asks
-pub naming_moved : (w : World) (m : Resolver) (v : World) (s : Resolver) (n : Named) (name : List ℕ) → v ≡ w → s ≡ m → n.name ≡ name → n.kind ≡ Dynamic
-    → naming_uri w m n n.kind ≡ (outermost (s.base, n) (flat_map entry_of (in_scope v name s.scope))).0
-naming_moved w m v s n name world at called is =
-    ap (naming_uri w m n) is ∙ ap (λ text. (outermost (m.base, n) (flat_map entry_of (in_scope w text m.scope))).0) called
-    ∙ ap (λ (x : Resolver). (outermost (x.base, n) (flat_map entry_of (in_scope w name x.scope))).0) (sym at) ∙ ap (λ u. (outermost (s.base, n) (flat_map entry_of (in_scope u name s.scope))).0) (sym world)
+-- by the scope
+pub naming_scope : (w : World) (r : Resolver) (n : Named) (name : List ℕ) → n.name ≡ name → n.kind ≡ Dynamic → naming_uri w r n n.kind ≡ (outermost (r.base, n) (flat_map entry_of (in_scope w name r.scope))).0
+naming_scope w r n name called is = ap (naming_uri w r n) is ∙ ap (λ text. (outermost (r.base, n) (flat_map entry_of (in_scope w text r.scope))).0) called
 
 -- ---- the parts of a pointer
 
@@ -176,8 +173,8 @@ pub one_part_on : (draft : Draft) (pointer : List ℕ) (passed : Passed) (value 
     → ((s : Part × Data) → step_into pointer value token ≡ Ok s → after ≡ before ++ s.0 ∷ []) → stepped_along draft pointer passed value token ≡ Ok at
     → after ++ parts_along pointer at.0 more ≡ before ++ parts_along pointer value (token ∷ more)
 one_part_on draft pointer passed value token more before after at pushed is =
-    let to = first_answers (stepped_into draft pointer passed.reached value token) (λ s. as_invalid_uri (based draft passed.base s) >>= λ next. Ok (s.1, next)) at is in
-    let base = first_answers (as_invalid_uri (based draft passed.base to.0)) (λ next. Ok (to.0.1, next)) at to.2 in
+    let to = first_answers (stepped_into draft pointer passed.reached value token) (λ s. as_invalid_uri (base_after draft passed.base s) >>= λ next. Ok (s.1, next)) at is in
+    let base = first_answers (as_invalid_uri (base_after draft passed.base to.0)) (λ next. Ok (to.0.1, next)) at to.2 in
     let same : (to.0.1, base.0) ≡ at = cc in
     let step = first_answers (step_into pointer value token) (λ s. Ok (reached_after draft passed.reached s.0, s.1)) to.0 to.1 in
     let there : (reached_after draft passed.reached step.0.0, step.0.1) ≡ to.0 = cc in

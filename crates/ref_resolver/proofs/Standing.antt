@@ -11,7 +11,7 @@ use Rattle.ref_definitions.specs.World.{Layer, World}
 use Rattle.ref_definitions.specs.Places.{Place}
 use Rattle.ref_definitions.specs.Fault.{Fault, PointerToNowhere, InvalidArrayIndex, as_invalid_uri}
 use Rattle.ref_definitions.specs.Pointers.{index_of, step_into, walked_along}
-use Rattle.ref_definitions.specs.Lookup.{Resolver, Found, in_subresource}
+use Rattle.ref_definitions.specs.Lookup.{Found}
 use Rattle.ref_definitions.proofs.Changes.{first_answers, there_or, step_leads, part_more}
 use Rattle.ref_parts.specs.Segment.{part_of}
 use Rattle.ref_error.specs.declared.error.Error.{Error}
@@ -19,14 +19,14 @@ use Rattle.ref_error.specs.Errors.{IsFaultOf, Gives}
 use Rattle.ref_resolver.specs.declared.located.Located.{Located}
 use Rattle.ref_resolver.specs.declared.location.Location.{Location}
 use Rattle.ref_resolver.specs.inner.Located.{IsLocatedIn}
-use Rattle.ref_resolver.specs.Resolving.{under_uri}
+use Rattle.ref_resolver.specs.inner.Leading.{EndsAt}
 use Rattle.ref_draft.specs.declared.reached.Reached.{Reached}
 use Rattle.ref_draft.specs.declared.reached.Reached.TheVariants.{Schema}
 use Rattle.ref_draft.specs.Reached.{reached_after}
 use Rattle.ref_parts.specs.declared.path.JsonPointerSegment.{JsonPointerSegment}
-use Rattle.ref_resolver.specs.Locations.{IsWhere, GivesWhere, EndsAt}
+use Rattle.ref_resolver.specs.Locations.{IsWhere, GivesWhere}
 use Rattle.ref_resolver.proofs.Pointing.{answer_same}
-use Rattle.ref_resolver.specs.inner.Walking.{Passed, stepped_into, based, stepped_along, passed_along}
+use Rattle.ref_resolver.specs.inner.Walking.{Passed, stepped_into, base_after, stepped_along, passed_along}
 
 pub if_ok : {A E : Type 0} (P Q : A → Type 0) (r : Result A E) → ((a : A) → P a → Q a) → IfOk r P → IfOk r Q
 if_ok P Q (Ok a) then is = then a is
@@ -103,8 +103,8 @@ key_part pointer (object ms) token s is steps =
 pub one_step_on : (draft : Draft) (pointer : List ℕ) (passed : Passed) (value start : Data) (token : List ℕ) (before after : List Part) (at : Data × Passed)
     → ((s : Part × Data) → step_into pointer value token ≡ Ok s → after ≡ before ++ s.0 ∷ []) → value_at start before ≡ Some value → stepped_along draft pointer passed value token ≡ Ok at → value_at start after ≡ Some at.0
 one_step_on draft pointer passed value start token before after at pushed here is =
-    let to = first_answers (stepped_into draft pointer passed.reached value token) (λ s. as_invalid_uri (based draft passed.base s) >>= λ next. Ok (s.1, next)) at is in
-    let base = first_answers (as_invalid_uri (based draft passed.base to.0)) (λ next. Ok (to.0.1, next)) at to.2 in
+    let to = first_answers (stepped_into draft pointer passed.reached value token) (λ s. as_invalid_uri (base_after draft passed.base s) >>= λ next. Ok (s.1, next)) at is in
+    let base = first_answers (as_invalid_uri (base_after draft passed.base to.0)) (λ next. Ok (to.0.1, next)) at to.2 in
     let same : (to.0.1, base.0) ≡ at = cc in
     let step = first_answers (step_into pointer value token) (λ s. Ok (reached_after draft passed.reached s.0, s.1)) to.0 to.1 in
     let there : (reached_after draft passed.reached step.0.0, step.0.1) ≡ to.0 = cc in
@@ -124,11 +124,3 @@ ends_same draft pointer base value start tokens path (at, is, there) =
 -- the document of a place leads along the entry's path to its value
 pub place_there : (layer : Layer) (l : Located) (p : Place) (path : List Part) (at : IsLocatedIn layer l p) → path ≡ map part_of l.entry.now.path.items → value_at at.path.document.tree path ≡ Some p.value
 place_there layer l p path at is = ap (value_at at.path.document.tree) (is ∙ at.path.path) ∙ at.path.value
-
--- what is found under a URI is the value that is given
-pub under_value : (r : Resolver) (uri : List ℕ) (draft : Draft) (value : Data) (f : Found) → under_uri r uri draft value ≡ Ok f → value ≡ f.value
-under_value r uri draft value f is =
-    let moved = first_answers (as_invalid_uri (in_subresource (record r { base = uri }) draft value)) (λ m. Ok (record { value = value; draft = draft; resolver = m })) f is in
-    let found : Found = record { value = value; draft = draft; resolver = moved.0 } in
-    let same : found ≡ f = cc in
-    ap (λ (x : Found). x.value) same

@@ -1,15 +1,14 @@
 -- Where the value is that a look-up returns: in the document with which number, of the layer with which number, and at which
 -- path there.
-use Rattle.std.specs.Prelude.{◌≡◌, ℕ, suc, ◌==◌, List, [], ◌∷◌, ◌++◌, map, flat_map, codes, slice_get, Option, Some, None, option_map, option_and_then, Result, Ok, Err, OnOk, if◌then◌else◌}
+use Rattle.std.specs.Prelude.{◌≡◌, ℕ, suc, ◌==◌, List, [], ◌∷◌, ◌++◌, map, flat_map, codes, slice_get, Option, Some, None, option_map, option_and_then, Result, Ok, Err, if◌then◌else◌}
 use Rattle.std.specs.List.{take_while, last_or}
 use Rattle.std.specs.Option.{option_or, option_map_or, unwrap_or}
 use Rattle.std.specs.Result.{result_ok}
 use Rattle.percent_encoding.specs.Percent.{percent_decode}
 use Rattle.serde_json.specs.Data.{Data}
 use Rattle.ref_parts.specs.Path.{Part, value_at}
-use Rattle.ref_parts.specs.Pointer.{tokens}
+use Rattle.ref_parts.specs.Pointer.{slash, tokens}
 use Rattle.ref_parts.specs.Segment.{part_of}
-use Rattle.ref_parts.specs.declared.path.JsonPointerSegment.{JsonPointerSegment}
 use Rattle.ref_draft.specs.Anchors.{Kind, Plain, Dynamic}
 use Rattle.ref_uri.specs.Targets.{target, fragment_part}
 use Rattle.ref_definitions.specs.World.{Document, Layer, World}
@@ -24,7 +23,7 @@ use Rattle.ref_error.specs.Errors.{IsFaultOf}
 use Rattle.ref_index.specs.Spots.{Spot, spot_under, spot_named}
 use Rattle.ref_resolver.specs.declared.location.Location.{Location}
 
--- where the place stands that a URI means, with the number of the nearest layer that has one, of layers counted from this
+-- where the place is that a URI means, with the number of the nearest layer that has one, of layers counted from this
 -- number on
 abbrev pub uri_spot_from : ℕ → World → List ℕ → Option (ℕ × Spot)
 uri_spot_from number [] uri = None
@@ -83,14 +82,14 @@ pointer_spot world uri pointer text =
 abbrev pub fragment_spot : World → Resolver → List ℕ → Option (ℕ × Spot)
 fragment_spot world r [] = uri_spot world r.base
 fragment_spot world r (c ∷ text) =
-    if c == 47 then pointer_spot world r.base (c ∷ text) text
+    if c == slash then pointer_spot world r.base (c ∷ text) text
     else option_and_then (λ n. anchor_spot world (naming_uri world r n n.kind) (c ∷ text))
     (result_ok (anchor world r.base (c ∷ text)))
 
--- Where the value stands that a reference leads to: the number of its layer, that of its document there, and its path. Where a
--- pointer leads nowhere, it is where its last part ends that leads somewhere, and means nothing.
-unfoldable pub located : World → Resolver → List ℕ → Option (ℕ × Spot)
-located world r reference =
+-- Where the value is that a reference leads to: the number of its layer, that of its document there, and its path. Where a
+-- pointer is unresolvable, it is where its last part ends that leads somewhere, and means nothing.
+unfoldable pub lookup_location : World → Resolver → List ℕ → Option (ℕ × Spot)
+lookup_location world r reference =
     option_and_then (λ uri. fragment_spot world (moved_resolver r uri) (fragment_part reference))
     (result_ok (target r.base reference))
 
@@ -123,15 +122,3 @@ IsWhere w answer l = (found : Found) × (answer ≡ Ok found) × StandsAt w l fo
 abbrev pub GivesWhere : World → Result Found Fault → Result Location Error → Type 0
 GivesWhere w answer (Ok l) = IsWhere w answer l
 GivesWhere w answer (Err error) = IsFaultOf answer error
-
--- a walk along a pointer ends at a value, which a path from a start leads to; for private clauses
-abbrev pub EndsAt : {A : Type 0} → Data → List JsonPointerSegment → Result (Data × A) Fault → Type 0
-EndsAt {A = A} start path answer =
-    (at : Data × A) × (answer ≡ Ok at) × (value_at start (map part_of path) ≡ Some at.0)
-
--- a path from a start to a value is made longer, up to the value that a walk ends at; for private clauses
-abbrev pub LeadsOn : {A B E : Type 0} → List JsonPointerSegment → List JsonPointerSegment → Data
-    → Result (Data × A) Fault → Result B E → Type 0
-LeadsOn before after value answer result =
-    (start : Data) → value_at start (map part_of before) ≡ Some value
-    → OnOk result (EndsAt start after answer)

@@ -1,12 +1,6 @@
 -- A resolver of the program as the definitions have it.
-use Rattle.std.specs.Prelude.{ℕ, List, Result, Ok}
-use Rattle.serde_json.specs.Data.{Data}
 use Rattle.serde_json.specs.View.{view}
-use Rattle.ref_draft.specs.declared.draft.Draft.{Draft}
-use Rattle.ref_definitions.specs.Results.{◌>>=◌}
 use Rattle.ref_definitions.specs.World.{World}
-use Rattle.ref_definitions.specs.Fault.{Fault, as_invalid_uri}
-use Rattle.ref_definitions.specs.Pointers.{pointed_value}
 use Rattle.ref_definitions.specs.Lookup as world
 use Rattle.ref_resolver.specs.Layered.{world_in}
 use Rattle.ref_resolver.specs.declared.resolver.Resolver.{Resolver}
@@ -28,14 +22,3 @@ found_of r =
 -- the world of its registry
 abbrev pub world_found : Resolved → World
 world_found r = world_of r.resolver
-
--- where a pointer leads in a resource of a draft that a resolver is at
-abbrev pub at_pointer : world.Resolver → Draft → List ℕ → Data → List ℕ → Result world.Found Fault
-at_pointer r draft pointer value text =
-    pointed_value draft pointer r.base value text >>= λ to. Ok (world.pointer_found r draft to)
-
--- a value of a draft that an anchor names under a URI: its identifier is resolved against that URI
-abbrev pub under_uri : world.Resolver → List ℕ → Draft → Data → Result world.Found Fault
-under_uri r uri draft value =
-    as_invalid_uri (world.in_subresource (record r { base = uri }) draft value)
-    >>= λ moved. Ok (record { value = value; draft = draft; resolver = moved })

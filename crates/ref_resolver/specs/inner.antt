@@ -2,6 +2,7 @@
 -- of. A reader who wants to know what a call promises need not read them.
 pub mod Located
 pub mod Walking
+pub mod Leading
 pub mod Scoped
 pub mod Comparing
 pub mod Names

@@ -8,12 +8,13 @@ ghost use Rattle.ref_definitions.specs.World.{World};
 ghost use Rattle.ref_definitions.specs.Resources.{own_uri, meant_place};
 ghost use Rattle.ref_definitions.specs.Anchors.{Named, anchor, named_by_identifier, named_entry, not_named};
 ghost use Rattle.ref_definitions.specs.Fault.{not_retrieved};
-ghost use Rattle.ref_definitions.specs.Lookup.{by_scope, in_scope, named_found};
+ghost use Rattle.ref_definitions.specs.Lookup.{Resolver as Start, by_scope, in_scope, named_found};
 ghost use Rattle.ref_error.specs.Errors.{IsFaultOf, Gives, IsForReason, SaysOrMemory};
 ghost use Rattle.ref_error.specs.declared.error.Reason.TheVariants.{NotSupported};
 ghost use Rattle.ref_resolver.specs.Layered.{world_in};
 ghost use Rattle.ref_resolver.specs.inner.Located.{IsLocated, IsNamed};
-ghost use Rattle.ref_resolver.specs.Resolving.{resolver_of, world_of, found_of, world_found, at_pointer, under_uri};
+ghost use Rattle.ref_resolver.specs.Resolving.{resolver_of, world_of, found_of, world_found};
+ghost use Rattle.ref_resolver.specs.inner.Leading.{at_pointer, under_uri};
 ghost use Rattle.ref_resolver.specs.inner.Names.{is_name};
 ghost use Rattle.ref_resolver.specs.inner.Scoped.{dynamic_under, IsDynamicUnder, IsOutermost};
 
@@ -22,7 +23,7 @@ use crate::located::{Located, LocatedName};
 use crate::resolver::{Resolved, Resolver};
 use ref_draft::{Draft, ResourceRef};
 use ref_error::{Error, Reason, RetrieveError};
-use ref_index::reference::shared;
+use ref_index::shared;
 use ref_uri::Uri;
 use serde_json::Value;
 use std::alloc::{AllocError, Global};
@@ -116,7 +117,30 @@ fn handle(alloc: Global, uri: &Uri, other: &Rc<Uri>) -> Result<Rc<Uri>, AllocErr
     shared(alloc, uri.clone()?)
 }
 
-// A place that an anchor names under a URI: the place's identifier is resolved against that URI.
+// The base of a place that an anchor names under a URI: the place's identifier is resolved against that URI.
+pub(crate) fn base_under<'r>(
+    alloc: Global,
+    layers: &Layers<'r>,
+    uri: &Uri,
+    place: Located<'r>,
+) -> Result<Rc<Uri>, Error>
+    ensures { (r : Start)
+        → Gives
+        (λ base. record {
+          value = view place.entry.value.now;
+          draft = place.entry.entry.now.draft;
+          resolver = record r { base = base.value };
+        })
+        (under_uri r uri.now place.entry.entry.now.draft (view place.entry.value.now)) result }
+{
+    let base = match ResourceRef::new(place.value, place.entry.draft).id() {
+        Some(id) => layers.resolve_uri(alloc, uri.borrow(), id)?,
+        None => handle(alloc, uri, &place.entry.base)?,
+    };
+    Ok(base)
+}
+
+// A place that an anchor names under a URI, with the base there.
 pub(crate) fn under_uri<'r>(
     alloc: Global,
     resolver: &Resolver<'r>,

@@ -15,8 +15,7 @@ use crate::located::{
     place_of, resolved_above, resource_above, resource_in, with_layer,
 };
 use ref_error::Error;
-use ref_index::Index;
-use ref_index::reference::shared;
+use ref_index::{Index, shared};
 use ref_uri::uri::resolve_against;
 use ref_uri::{Uri, UriRef};
 use std::alloc::{AllocError, Global};
@@ -30,7 +29,7 @@ pub struct Layers<'r> {
 }
 
 impl<'r> Layers<'r> {
-    /// An index before those of parents, of which the nearest stands first. Takes no memory.
+    /// An index before those of parents, of which the nearest is first. Takes no memory.
     pub fn new(own: &'r Index<'r>, parents: &'r [&'r Index<'r>]) -> Layers<'r>
         ensures value { world_in result ≡ own.now ∷ map (λ p. p.now) parents.now }
     {

@@ -5,8 +5,7 @@ ghost use Rattle.ref_definitions.specs.World.{Layer};
 ghost use Rattle.ref_definitions.specs.Places.{Place};
 ghost use Rattle.ref_definitions.specs.Resources.{last_under, resources, meant_place};
 ghost use Rattle.ref_definitions.specs.Anchors.{last_named, names, named_entry};
-ghost use Rattle.ref_index.specs.Found.{IsEntryOf};
-ghost use Rattle.ref_index.specs.Index.{IsFoundWhere};
+ghost use Rattle.ref_index.specs.Entries.{IsEntryOf, IsFoundWhere};
 ghost use Rattle.ref_index.specs.Spots.{spot_under, spot_named, spot_of};
 ghost use Rattle.ref_resolver.specs.Layered.{IsHeld};
 ghost use Rattle.ref_resolver.specs.Locations.{uri_spot_from, name_spot_from};
@@ -86,7 +85,8 @@ pub(crate) fn resource_in<'r>(index: &'r Index<'r>, uri: &str) -> Option<Located
 pub(crate) fn resource_above<'r>(parents: &'r [&'r Index<'r>], uri: &str) -> Option<Numbered<'r>>
     ensures value { (own : Layer)
         → MatchOption result (meant_place (map (λ p. p.now) parents.now) uri.now ≡ None)
-        (IsMeantAt (own ∷ map (λ p. p.now) parents.now) (meant_place (map (λ p. p.now) parents.now) uri.now)) }
+        (IsMeantAt (own ∷ map (λ p. p.now) parents.now)
+        (meant_place (map (λ p. p.now) parents.now) uri.now)) }
     ensures spot { IfSome result
         (λ l. uri_spot_from 1 (map (λ p. p.now) parents.now) uri.now
         ≡ Some (l.layer, spot_of l.place.entry.now)) }
@@ -141,7 +141,8 @@ pub(crate) fn named_above<'r>(
 ) -> Option<NumberedName<'r>>
     ensures value { (own : Layer)
         → MatchOption result (named_entry (map (λ p. p.now) parents.now) uri.now name.now ≡ None)
-        (IsNamedAt (own ∷ map (λ p. p.now) parents.now) (named_entry (map (λ p. p.now) parents.now) uri.now name.now)) }
+        (IsNamedAt (own ∷ map (λ p. p.now) parents.now)
+        (named_entry (map (λ p. p.now) parents.now) uri.now name.now)) }
     ensures spot { IfSome result
         (λ l. name_spot_from 1 (map (λ p. p.now) parents.now) uri.now name.now
         ≡ Some (l.place.layer, spot_of l.place.place.entry.now)) }

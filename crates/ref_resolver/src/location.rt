@@ -20,12 +20,13 @@ ghost use Rattle.ref_error.specs.Errors.{IsFaultOf, Gives};
 ghost use Rattle.ref_index.specs.Spots.{spot_of};
 ghost use Rattle.ref_resolver.specs.Layered.{world_in};
 ghost use Rattle.ref_resolver.specs.inner.Located.{IsLocated, IsLocatedAt, IsNamedAt};
-ghost use Rattle.ref_resolver.specs.Locations.{StandsAt, IsWhere, GivesWhere, LeadsOn, anchor_spot, naming_uri, parts_along, with_parts, located, recursive_reference, location_view};
+ghost use Rattle.ref_resolver.specs.Locations.{StandsAt, IsWhere, GivesWhere, anchor_spot, naming_uri, parts_along, with_parts, lookup_location, recursive_reference, location_view};
+ghost use Rattle.ref_resolver.specs.inner.Leading.{LeadsOn, at_pointer};
 ghost use Rattle.ref_resolver.specs.inner.Names.{is_name};
-ghost use Rattle.ref_resolver.specs.Resolving.{resolver_of, world_of, at_pointer};
+ghost use Rattle.ref_resolver.specs.Resolving.{resolver_of, world_of};
 ghost use Rattle.ref_resolver.specs.inner.Walking.{passed_along, Steps};
 
-use crate::fragment::{identified_base, is_name, not_named, not_retrieved, outermost, under_uri};
+use crate::fragment::{base_under, identified_base, is_name, not_named, not_retrieved, outermost};
 use crate::layers::Layers;
 use crate::located::{Located, Numbered, NumberedName};
 use crate::pointed::{Along, Walk, cut_at_slash, index_of, no_utf8, step};
@@ -54,8 +55,8 @@ pub struct Location<'r> {
     pub path: Vec<JsonPointerSegment<'r>>,
 }
 
-// A part of a path, whose key is lent.
-fn lent_part<'p>(part: &'p JsonPointerSegment<'_>) -> JsonPointerSegment<'p>
+// A part of a path, whose key is borrowed.
+fn borrowed_part<'p>(part: &'p JsonPointerSegment<'_>) -> JsonPointerSegment<'p>
     ensures { part_of result ≡ part_of part.now }
 {
     match part {
@@ -64,8 +65,8 @@ fn lent_part<'p>(part: &'p JsonPointerSegment<'_>) -> JsonPointerSegment<'p>
     }
 }
 
-// A path, whose keys are lent. Takes memory for the list.
-fn lent<'p>(
+// A path, whose keys are borrowed. Takes memory for the list.
+fn borrowed<'p>(
     alloc: Global,
     path: &'p [JsonPointerSegment<'_>],
 ) -> Result<Vec<JsonPointerSegment<'p>>, AllocError>
@@ -73,7 +74,7 @@ fn lent<'p>(
 {
     let mut parts = Vec::with_capacity(alloc, path.len())?;
     for part in path {
-        parts.push(lent_part(part))?;
+        parts.push(borrowed_part(part))?;
     }
     Ok(parts)
 }
@@ -86,7 +87,7 @@ fn location_of<'r>(alloc: Global, found: Numbered<'r>) -> Result<Location<'r>, A
         (λ l. location_view l ≡ (found.entry.layer, spot_of found.entry.place.entry.now)) }
 {
     let entry = found.place.entry;
-    let path = lent(alloc, entry.path.as_slice())?;
+    let path = borrowed(alloc, entry.path.as_slice())?;
     Ok(Location {
         layer: found.layer,
         document: entry.document,
@@ -164,7 +165,8 @@ fn step_on<'v>(
     ensures gives { Steps walk.now along.old token.now along.new result }
     ensures path { (start : Data)
         → value_at start (map part_of path.old.items) ≡ Some (view along.old.value.now)
-        → OnOk result (value_at start (map part_of path.new.items) ≡ Some (view along.new.value.now)) }
+        → OnOk result
+        (value_at start (map part_of path.new.items) ≡ Some (view along.new.value.now)) }
     ensures parts { (more : List (List ℕ))
         → OnOk result
         (map part_of path.new.items
@@ -269,7 +271,7 @@ fn location_along<'r>(
         (view found.entry.place.value.now) text.now)) }
 {
     let Located { value, entry } = found.place;
-    let mut path = lent(alloc, entry.path.as_slice())?;
+    let mut path = borrowed(alloc, entry.path.as_slice())?;
     let walk = Walk {
         layers,
         draft: entry.draft,
@@ -295,16 +297,16 @@ impl<'r> Location<'r> {
 }
 
 impl<'r> Resolver<'r> {
-    /// Where the value is that [`Resolver::lookup`] of a reference answers: the layer, counted from 0 for the registry's own
+    /// Where the value is that [`Resolver::lookup`] of a reference returns: the layer, counted from 0 for the registry's own
     /// documents, the number of the document in it, and the path there.
     ///
     /// Refuses as [`Resolver::lookup`] does, whose cost it has, and a look-up more. Takes memory for the path's parts
-    /// and, of a pointer, for its keys; the other keys are lent.
+    /// and, of a pointer, for its keys; the other keys are borrowed.
     pub fn location(&self, alloc: Global, reference: &str) -> Result<Location<'r>, Error>
         ensures gives { GivesWhere (world_of self.now)
             (lookup (world_of self.now) (resolver_of self.now) reference.now) result }
         ensures spot { IfOk result
-            (λ l. located (world_of self.now) (resolver_of self.now) reference.now
+            (λ l. lookup_location (world_of self.now) (resolver_of self.now) reference.now
             ≡ Some (location_view l)) }
     {
         let Target { uri, fragment, .. } = self.target(alloc, reference)?;
@@ -320,13 +322,13 @@ impl<'r> Resolver<'r> {
         }
     }
 
-    /// Where the value is that [`Resolver::lookup_recursive_ref`] answers, as [`Resolver::location`] says it. Refuses
+    /// Where the value is that [`Resolver::lookup_recursive_ref`] returns, as [`Resolver::location`] says it. Refuses
     /// as that call does, whose cost it has, and takes memory for the path's parts.
     pub fn location_recursive(&self, alloc: Global) -> Result<Location<'r>, Error>
         ensures gives { GivesWhere (world_of self.now)
             (lookup_recursive (world_of self.now) (resolver_of self.now)) result }
         ensures spot { IfOk result
-            (λ l. located (world_of self.now) (resolver_of self.now)
+            (λ l. lookup_location (world_of self.now) (resolver_of self.now)
             (recursive_reference (world_of self.now) (resolver_of self.now))
             ≡ Some (location_view l)) }
     {
@@ -350,7 +352,7 @@ impl<'r> Resolver<'r> {
             → target (resolver_of self.now).base reference ≡ Ok uri.value
             → fragment_part reference ≡ name.now → is_name name.now ≡ true
             → IfOk result
-            (λ l. located (world_of self.now) (resolver_of self.now) reference
+            (λ l. lookup_location (world_of self.now) (resolver_of self.now) reference
             ≡ Some (location_view l)) }
     {
         let Some(found) = numbered_meaning(&self.layers, uri.as_str(), name) else {
@@ -385,8 +387,34 @@ impl<'r> Resolver<'r> {
             ≡ Some (location_view l)) }
     {
         let resolver = self.moved(alloc, uri)?;
-        let (uri, place) = outermost(alloc, &resolver, name, found)?;
-        let _ = under_uri(alloc, &resolver, uri, place)?;
+        let location = resolver.location_by_scope(alloc, name, found);
+        drop(resolver);
+        location
+    }
+
+    // Where the value is that a name means by the dynamic scope where a dynamic anchor has it, at the place that was found
+    // under the base.
+    fn location_by_scope(
+        &self,
+        alloc: Global,
+        name: &str,
+        found: Located<'r>,
+    ) -> Result<Location<'r>, Error>
+        ensures gives { (n : Named) → n.name ≡ name.now → n.kind ≡ Dynamic
+            → IsLocated found.entry n.place
+            → anchor (world_of self.now) (resolver_of self.now).base name.now ≡ Ok n
+            → GivesWhere (world_of self.now)
+            (named_found (world_of self.now) (resolver_of self.now) n n.kind) result }
+        ensures spot { (n : Named) → n.name ≡ name.now → n.kind ≡ Dynamic
+            → IsLocated found.entry n.place
+            → anchor (world_of self.now) (resolver_of self.now).base name.now ≡ Ok n
+            → IfOk result
+            (λ l. anchor_spot (world_of self.now)
+            (naming_uri (world_of self.now) (resolver_of self.now) n n.kind) name.now
+            ≡ Some (location_view l)) }
+    {
+        let (uri, place) = outermost(alloc, self, name, found)?;
+        let _ = base_under(alloc, &self.layers, uri, place)?;
         match numbered_meaning(&self.layers, uri.as_str(), name) {
             Some(found) => Ok(location_of(alloc, found.place)?),
             None => Err(not_named(alloc, name)),

@@ -2,6 +2,7 @@
 ghost use Rattle.std.specs.Prelude.{◌≡◌, ◌≢◌, ◌==◌, ◌||◌, ◌∷◌, ◌++◌, ◌<◌, true, length, take, slice_index, All, position, OnOk, MatchOption, option_map, ok_or, Some, None, Ok, if◌then◌else◌};
 ghost use Rattle.serde_json.specs.View.{view};
 ghost use Rattle.ref_parts.specs.Pointer.{slash, tilde, tokens, unescape};
+ghost use Rattle.ref_uri.specs.Bytes.{percent};
 ghost use Rattle.ref_draft.specs.Schema.{identifier};
 ghost use Rattle.ref_definitions.specs.Pointers as world;
 ghost use Rattle.ref_definitions.specs.Fault.{PointerToNowhere, InvalidArrayIndex, InvalidPercentEncoding};
@@ -27,7 +28,7 @@ pub struct Along<'r> {
 }
 
 /// How a pointer is walked: the documents whose resolved URIs serve, the draft of the resource, and the pointer's text, which
-/// faults tell.
+/// faults say.
 #[derive(Clone, Copy, Drop)]
 pub struct Walk<'r, 'w> {
     pub layers: Layers<'r>,
@@ -163,7 +164,7 @@ pub(crate) fn step<'r>(
     Ok(())
 }
 
-// Where the first `/` of a text stands. A search by bytes, which decodes no character; most tokens are short.
+// Where the first `/` of a text is. A search by bytes, which decodes no character; most tokens are short.
 #[inline(always)]
 fn slash_in(text: &str) -> Option<usize>
     ensures { result ≡ position (λ b. b == slash) text.now }
@@ -243,7 +244,7 @@ fn follow_decoded<'r>(
     }
 }
 
-// Goes to the value under a token that is a key as it stands, with the part that it is. The base stays. False where there
+// Goes to the value under a token that is a key as it is, with the part that it is. The base stays. False where there
 // is none.
 #[inline(always)]
 fn step_under<'r>(walk: &Walk<'_, '_>, along: &mut Along<'r>, token: &str) -> bool
@@ -273,7 +274,7 @@ fn step_under<'r>(walk: &Walk<'_, '_>, along: &mut Along<'r>, token: &str) -> bo
     true
 }
 
-// One token further, as `step` goes, where the token is a key as it stands, and an identifier there was resolved before. False
+// One token further, as `step` goes, where the token is a key as it is, and an identifier there was resolved before. False
 // where it isn't known where that leads.
 #[inline(always)]
 fn step_plainly<'r>(walk: &Walk<'_, '_>, along: &mut Along<'r>, token: &str) -> bool
@@ -299,10 +300,10 @@ fn step_plainly<'r>(walk: &Walk<'_, '_>, along: &mut Along<'r>, token: &str) -> 
     true
 }
 
-// Where the first `/`, `%` or `~` of a text stands. A search by bytes, which decodes no character; most tokens are short.
+// Where the first `/`, `%` or `~` of a text is. A search by bytes, which decodes no character; most tokens are short.
 #[inline(always)]
 fn mark_in(text: &str) -> Option<usize>
-    ensures { result ≡ position (λ b. b == slash || b == 37 || b == tilde) text.now }
+    ensures { result ≡ position (λ b. b == slash || b == percent || b == tilde) text.now }
 {
     text.as_bytes()
         .iter()
@@ -312,7 +313,7 @@ fn mark_in(text: &str) -> Option<usize>
 // Token by token, as `walk_along` goes, where the text has no `%` and no `~`. False where it isn't known where that leads.
 #[inline(always)]
 fn walk_plainly<'r>(walk: &Walk<'_, '_>, along: &mut Along<'r>, text: &str) -> bool
-    ensures decoded { result ≡ true → All (λ b. b ≢ 37) text.now }
+    ensures decoded { result ≡ true → All (λ b. b ≢ percent) text.now }
     ensures passed { result ≡ true
         → passed_along walk.now.draft walk.now.pointer.now (along_of along.old)
         (view along.old.value.now) (tokens text.now)
@@ -338,7 +339,7 @@ fn walk_plainly<'r>(walk: &Walk<'_, '_>, along: &mut Along<'r>, text: &str) -> b
 /// Refuses as `InvalidPercentEncoding` where the decoded bytes are no UTF-8, as `InvalidArrayIndex` and
 /// `PointerToNowhere` for the first part that is unresolvable, as `InvalidUri` for an identifier on the way that means
 /// no URI, and as `Memory`. Where the text has no `%` and no `~`, and the identifiers on the way were resolved before, none
-/// is decoded, unescaped or resolved. Where that leads nowhere, the walk is made once more.
+/// is decoded, unescaped or resolved. Where that is unresolvable, the walk is made once more.
 #[inline(always)]
 pub(crate) fn follow_pointer<'r>(
     alloc: Global,

@@ -66,7 +66,8 @@ impl<'r> Resolver<'r> {
     ghost use Rattle.ref_definitions.specs.Lookup.{moved_resolver, in_subresource, lookup, named_found};
     ghost use Rattle.ref_definitions.specs.Places.{Place};
     ghost use Rattle.ref_error.specs.Errors.{IsFaultOf, Gives};
-    ghost use Rattle.ref_resolver.specs.Resolving.{resolver_of, world_of, found_of, world_found, at_pointer};
+    ghost use Rattle.ref_resolver.specs.Resolving.{resolver_of, world_of, found_of, world_found};
+    ghost use Rattle.ref_resolver.specs.inner.Leading.{at_pointer};
     ghost use Rattle.ref_resolver.specs.inner.Located.{IsLocated};
     ghost use Rattle.ref_resolver.specs.inner.Names.{is_name};
 
@@ -454,7 +455,8 @@ impl<'r> Resolved<'r> {
 impl<'r> Clone for Resolver<'r> {
     ghost use Rattle.ref_resolver.specs.Resolving.{resolver_of, world_of};
 
-    ghost is_clone = { λ resolver copy. (resolver_of copy ≡ resolver_of resolver) × (world_of copy ≡ world_of resolver) };
+    ghost is_clone = { λ resolver copy. (resolver_of copy ≡ resolver_of resolver)
+        × (world_of copy ≡ world_of resolver) };
 
     fn clone(&self) -> Result<Resolver<'r>, AllocError> {
         Ok(self.with_base(self.base.clone()?, self.place)?)

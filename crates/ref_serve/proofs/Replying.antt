@@ -15,7 +15,7 @@ use Rattle.ref_calls.specs.Calls.{call_of}
 use Rattle.ref_calls.specs.Objects.{answer_of, IsLineOf}
 use Rattle.ref_serve.specs.Results.{Gives}
 use Rattle.ref_serve.specs.Answering.{IsResult, IsReply, IsReplyTo, IsAnswerTo, IsAnswer}
-use Rattle.ref_serve.specs.inner.Replies.{Replies, IsUnchanged, changed}
+use Rattle.ref_serve.specs.inner.Replies.{Replies, IsUnchanged, registries_after}
 
 as_reply : (call : Call) (state next : Registries) (d : Data) (outcome : Result Data Data) → (call ≡ Open → ⊥) → (call ≡ Close → ⊥) → IsUnchanged call state d next outcome → IsReply call state d next outcome
 as_reply Open state next d outcome other another given = absurd (other refl)
@@ -32,7 +32,7 @@ as_reply Close state next d outcome other another given = absurd (another refl)
 pub replies : (call : Call) (state : Registries) (d : Data) (read : Result Call Data) (result : Result Reply (Stop Value)) → read ≡ Ok call → (call ≡ Open → ⊥) → (call ≡ Close → ⊥)
     → Replies (IsUnchanged call state d) state result → Replies (IsReplyTo read state d) state result
 replies call state d read (Ok reply) is other another given =
-    let next = changed state reply.opened.items reply.closed in
+    let next = registries_after state reply.opened.items reply.closed in
     subst (λ r. IsReplyTo r state d next (Ok (view reply.result))) (sym is) (as_reply call state next d (Ok (view reply.result)) other another given)
 replies call state d read (Err Memory) is other another given = tt
 replies call state d read (Err (Because value)) is other another given =

@@ -2,7 +2,7 @@
 use Rattle.std.specs.Prelude.{ℕ, List, Option}
 use Rattle.std.specs.Coded.{Coded, coded×, coded_ℕ, coded_list, coded_option}
 use Rattle.ref_definitions.specs.World.{World}
-use Rattle.ref_index.specs.inner.Codes.{world_code}
+use Rattle.ref_index.specs.Codes.{world_code}
 
 abbrev pub open_code : Coded (World × List ℕ)
 open_code = coded× world_code (coded_list coded_ℕ)

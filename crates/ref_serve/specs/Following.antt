@@ -10,11 +10,11 @@ use Rattle.ref_definitions.specs.Fault.{Fault}
 use Rattle.ref_definitions.specs.Lookup.{Resolver}
 use Rattle.ref_definitions.specs.Follow.{Step, Lookup, Recursive, Enter, Followed, after_step, followed_from}
 use Rattle.ref_index.specs.Spots.{Spot}
-use Rattle.ref_resolver.specs.Locations.{located, recursive_reference}
+use Rattle.ref_resolver.specs.Locations.{lookup_location, recursive_reference}
 use Rattle.ref_calls.specs.declared.fault.Wrong.TheVariants.{InvalidField}
 use Rattle.ref_calls.specs.Objects.{object_of, whole}
 use Rattle.ref_calls.specs.Errors.{field_error, fault_members, at_index}
-use Rattle.ref_calls.specs.Calls.{required, items_in, each_item, draft_of}
+use Rattle.ref_calls.specs.Calls.{required_member, items_in, each_item, draft_of}
 use Rattle.ref_serve.specs.State.{Registries}
 use Rattle.ref_serve.specs.Results.{Then, Asked, asked_of, resolver_of, resolver_members, IsFoundAt}
 
@@ -36,7 +36,7 @@ step_in draft n d = at_index n (step_at draft d)
 -- the steps of a call
 unfoldable pub steps_of : Draft → Data → Result (List Step) Data
 steps_of draft d = do
-  value ← required (codes "steps") d
+  value ← required_member (codes "steps") d
   items ← items_in (codes "steps") value
   each_item (step_in draft) 0 items
 
@@ -48,8 +48,8 @@ start_at r = record { last = None; resolver = r }
 
 -- the place of the value that was found last, after one more step: a look-up finds another, and entering none
 abbrev pub step_place : World → Resolver → Option (ℕ × Spot) → Step → Option (ℕ × Spot)
-step_place world r at (Lookup reference) = located world r reference
-step_place world r at Recursive = located world r (recursive_reference world r)
+step_place world r at (Lookup reference) = lookup_location world r reference
+step_place world r at Recursive = lookup_location world r (recursive_reference world r)
 step_place world r at (Enter draft value) = at
 
 -- after steps, as far as they lead somewhere

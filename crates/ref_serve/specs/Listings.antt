@@ -4,9 +4,9 @@ use Rattle.serde_json.specs.Data.{Data, string}
 use Rattle.ref_parts.specs.Path.{Part}
 use Rattle.ref_parts.specs.Pointer.{pointer_text}
 use Rattle.ref_uri.specs.Targets.{Refusal}
-use Rattle.ref_definitions.specs.World.{World, own_layer}
+use Rattle.ref_definitions.specs.World.{World, local_documents}
 use Rattle.ref_definitions.specs.Results.{◌>>=◌}
-use Rattle.ref_definitions.specs.Listing.{Listed, own_places}
+use Rattle.ref_definitions.specs.Listing.{Listed, local_places}
 use Rattle.ref_vocabularies.specs.Vocabularies.{Known, Core, Applicator, Unevaluated, Validation, Metadata, Format, FormatAnnotation, Content, FormatAssertion, Standard, VocabularySet, all_known, contains, find_vocabularies}
 use Rattle.ref_lint.specs.Dangling.{DanglingReference, dangling}
 use Rattle.ref_bundle.specs.Embedding.{Obstacle, NotAnObject, IdentifierBesideRef, NotAnIdentifier, NotKept, UntoldDraft, ResolvedAgain}
@@ -15,7 +15,7 @@ use Rattle.ref_bundle.specs.Saying.{refusal_text}
 use Rattle.ref_draft.specs.Names.{draft_name}
 use Rattle.ref_calls.specs.Objects.{object_of, list_of, texts, whole}
 use Rattle.ref_calls.specs.Errors.{error_members, fault_members}
-use Rattle.ref_calls.specs.Calls.{required, number_in, draft_of, schema_of}
+use Rattle.ref_calls.specs.Calls.{required_member, number_in, draft_of, schema_of}
 use Rattle.ref_serve.specs.State.{Registries, registry_under}
 
 -- the members of a place in one of a registry's own documents
@@ -44,7 +44,7 @@ place_object p =
 
 -- those of a registry's own documents, in order
 unfoldable pub places_list : World → Data
-places_list world = list_of (map place_object (own_places (own_layer world)))
+places_list world = list_of (map place_object (local_places (local_documents world)))
 
 -- `places`
 unfoldable pub places_result : Registries → Data → Result Data Data
@@ -133,7 +133,7 @@ bundled_result (Err refusal) = Err (object_of (refusal_members refusal))
 -- the number under `document`
 unfoldable pub document_number : Data → Result ℕ Data
 document_number d = do
-  value ← required (codes "document") d
+  value ← required_member (codes "document") d
   number_in (codes "document") value
 
 -- `bundle`

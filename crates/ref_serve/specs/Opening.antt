@@ -3,7 +3,7 @@ use Rattle.std.specs.Prelude.{◌≡◌, ℕ, List, [], ◌∷◌, ◌++◌, map
 use Rattle.serde_json.specs.Data.{Data}
 use Rattle.serde_json.specs.Find.{get, as_array}
 use Rattle.ref_draft.specs.declared.draft.Draft.{Draft}
-use Rattle.ref_definitions.specs.World.{World, own_layer}
+use Rattle.ref_definitions.specs.World.{World, local_documents}
 use Rattle.ref_definitions.specs.Results.{◌>>=◌}
 use Rattle.ref_definitions.specs.Fault.{Fault}
 use Rattle.ref_definitions.specs.Preparing.{Given}
@@ -93,7 +93,7 @@ IsMetaWorld documents world = IsWorld given_of_meta_schemas (pending_of document
 abbrev pub opened_members : ℕ → World → List (List ℕ × Data)
 opened_members number world =
     (codes "registry", whole number)
-    ∷ (codes "documents", texts (map (λ d. d.uri) (own_layer world))) ∷ []
+    ∷ (codes "documents", texts (map (λ d. d.uri) (local_documents world))) ∷ []
 
 -- What a registry is opened above: layers with the numbers of their registries; the registries that are open before it gets the
 -- next number; and the members of the result that tell of one that is opened with it.

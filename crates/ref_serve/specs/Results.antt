@@ -15,14 +15,14 @@ use Rattle.ref_definitions.specs.Lookup.{Resolver, Found, lookup, in_subresource
 use Rattle.ref_definitions.specs.Recursive.{lookup_recursive}
 use Rattle.ref_resolver.specs.declared.location.Location.{Location}
 use Rattle.ref_index.specs.Spots.{Spot}
-use Rattle.ref_resolver.specs.Locations.{StandsAt, located, recursive_reference, location_view}
+use Rattle.ref_resolver.specs.Locations.{StandsAt, lookup_location, recursive_reference, location_view}
 use Rattle.ref_draft.specs.Names.{draft_name}
 use Rattle.ref_calls.specs.declared.fault.Wrong.TheVariants.{InvalidField}
 use Rattle.ref_json.specs.declared.stop.Stop.{Stop}
 use Rattle.ref_json.specs.declared.stop.Stop.TheVariants.{Memory, Because}
 use Rattle.ref_calls.specs.Objects.{object_of, list_of, texts, whole}
 use Rattle.ref_calls.specs.Errors.{field_error, fault_error, as_error, at_index}
-use Rattle.ref_calls.specs.Calls.{required, text_in, each_item, is_set, base_of, scope_of, draft_of, schema_of}
+use Rattle.ref_calls.specs.Calls.{required_member, text_in, each_item, is_set, base_of, scope_of, draft_of, schema_of}
 use Rattle.ref_serve.specs.State.{OpenRegistry, Registries, registry_under, layer_number}
 
 -- a call gives what it may, unless memory ran out: its result or its error object
@@ -82,7 +82,7 @@ found_members asked l value draft =
 
 -- ---- lookup and recursive
 
--- the object of what is found: this is its place, and the value stands there
+-- the object of what is found: this is its place, and the value is there
 abbrev pub IsFoundAt : Asked → Option (ℕ × Spot) → Found → Data → Type 0
 IsFoundAt asked at found d =
     (l : Location) × (at ≡ Some (location_view l)) × StandsAt asked.world l found.value
@@ -99,11 +99,11 @@ IsFound asked at (Err fault) (Err e) = e ≡ fault_error fault
 
 unfoldable pub IsLookedUp : Asked → Resolver → List ℕ → Result Data Data → Type 0
 IsLookedUp asked r reference outcome =
-    IsFound asked (located asked.world r reference) (lookup asked.world r reference) outcome
+    IsFound asked (lookup_location asked.world r reference) (lookup asked.world r reference) outcome
 
 unfoldable pub IsRecursive : Asked → Resolver → Result Data Data → Type 0
 IsRecursive asked r outcome =
-    IsFound asked (located asked.world r (recursive_reference asked.world r))
+    IsFound asked (lookup_location asked.world r (recursive_reference asked.world r))
     (lookup_recursive asked.world r) outcome
 
 -- an object, or one with an error
@@ -154,7 +154,7 @@ unfoldable pub IsLookup : Registries → Data → Result Data Data → Type 0
 IsLookup state d outcome =
     Then (asked_of state d)
     (λ asked. Then (resolver_of d)
-    (λ r. Then (required (codes "reference") d) (IsReference asked r))) outcome
+    (λ r. Then (required_member (codes "reference") d) (IsReference asked r))) outcome
 
 -- `recursive`
 unfoldable pub IsRecursiveCall : Registries → Data → Result Data Data → Type 0

@@ -5,7 +5,7 @@ use Rattle.ref_definitions.specs.World.{World}
 use Rattle.ref_definitions.specs.Results.{◌>>=◌}
 use Rattle.ref_calls.specs.declared.fault.Wrong.TheVariants.{UnknownRegistry}
 use Rattle.ref_calls.specs.Errors.{field_error}
-use Rattle.ref_calls.specs.Calls.{required, number_in}
+use Rattle.ref_calls.specs.Calls.{required_member, number_in}
 
 -- an open registry: its world, and the numbers of its parents, nearest first
 abbrev pub OpenRegistry : Type 0
@@ -35,7 +35,7 @@ abbrev pub registry_in : Registries → List ℕ → Data → Result (ℕ × Ope
 registry_in state field value = number_in field value >>= numbered_registry state field
 
 unfoldable pub registry_under : Registries → Data → List ℕ → Result (ℕ × OpenRegistry) Data
-registry_under state d field = required field d >>= registry_in state field
+registry_under state d field = required_member field d >>= registry_in state field
 
 -- the number of the registry of a layer: 0 is the registry itself, and its parents follow, nearest first
 abbrev pub layer_number : ℕ → List ℕ → ℕ → ℕ

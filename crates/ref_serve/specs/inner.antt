@@ -1,4 +1,4 @@
--- What stands here need not be believed: it says what structs stand for.
+-- What is here need not be believed: it says what structs stand for.
 pub mod Seen
 pub mod Replies
 pub mod Openings

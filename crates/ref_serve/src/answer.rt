@@ -6,7 +6,7 @@ ghost use Rattle.ref_calls.specs.Errors.{not_json as error_of};
 ghost use Rattle.ref_calls.specs.Calls.{call_of};
 ghost use Rattle.ref_serve.specs.Answering as spec;
 ghost use Rattle.ref_serve.specs.Results.{Gives};
-ghost use Rattle.ref_serve.specs.inner.Replies.{changed, Replies, IsUnchanged};
+ghost use Rattle.ref_serve.specs.inner.Replies.{registries_after, Replies, IsUnchanged};
 
 use crate::bundling::bundle_document;
 use crate::entering::enter;
@@ -21,7 +21,7 @@ use ref_calls::answer::{error_text, id_of, text_of};
 use ref_calls::call::{Call, call_of};
 use ref_calls::fault::{not_json, plain_error};
 use ref_json::{Stop, tree_of};
-use ref_lines::Service;
+use ref_streams::Service;
 use serde_json::{Map, Value};
 use std::alloc::{AllocError, Global};
 
@@ -97,7 +97,7 @@ fn change(
     opened: Vec<Option<Open>>,
     closed: Option<usize>,
 ) -> Result<(), AllocError>
-    ensures changed { OnOk result (state.new ≡ changed state.old opened.items closed) }
+    ensures changed { OnOk result (state.new ≡ registries_after state.old opened.items closed) }
     ensures refused { OnErr result (state.new ≡ state.old) }
 {
     state.add(opened)?;

@@ -126,8 +126,9 @@ fn stepped<'s>(
         (step_of step.now)) result }
     ensures placed { IfOk result (λ f. IsPlaced (world_of followed.entry.resolver) f) }
     ensures place { IfOk result
-        (λ f. spec.step_place (world_of followed.entry.resolver) (resolver_view followed.entry.resolver)
-        (placed_at followed.entry) (step_of step.now) ≡ placed_at f) }
+        (λ f. spec.step_place (world_of followed.entry.resolver)
+        (resolver_view followed.entry.resolver) (placed_at followed.entry) (step_of step.now)
+        ≡ placed_at f) }
     ensures world { IfOk result (λ f. world_of f.resolver ≡ world_of followed.entry.resolver) }
 {
     match step {
@@ -165,8 +166,8 @@ fn all_followed<'s>(
         (map step_of steps.now) ≡ Ok (followed_view f)) }
     ensures placed { IfOk result (λ f. IsPlaced (world_of start.entry) f) }
     ensures place { IfOk result
-        (λ f. spec.place_after (world_of start.entry) None (spec.start_at (resolver_view start.entry))
-        (map step_of steps.now) ≡ placed_at f) }
+        (λ f. spec.place_after (world_of start.entry) None
+        (spec.start_at (resolver_view start.entry)) (map step_of steps.now) ≡ placed_at f) }
     ensures error { IfErr result (IsStepError (followed_from (world_of start.entry) 0 (spec.start_at
         (resolver_view start.entry)) (map step_of steps.now))) }
 {
@@ -209,8 +210,8 @@ fn followed_object(
 ) -> Result<Value, AllocError>
     requires { IsPlaced asked.now.registry.now.0 followed.now }
     ensures { IfOk result
-        (λ d. spec.IsFollowedTo (asked_view asked.now) (placed_at followed.now) (followed_view followed.now).last
-        (resolver_view followed.now.resolver) (view d)) }
+        (λ d. spec.IsFollowedTo (asked_view asked.now) (placed_at followed.now)
+        (followed_view followed.now).last (resolver_view followed.now.resolver) (view d)) }
 {
     match &followed.last {
         Some(found) => located_object(alloc, asked, found, &followed.resolver),

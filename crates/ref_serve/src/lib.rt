@@ -1,7 +1,7 @@
 //! A server of reference resolution: a call a line in, an answer a line out, from a source to a sink of `ref_streams`.
 //!
 //! `docs/PROTOCOL.md` describes the calls. The registries that are open are a [`State`], which is the service that
-//! `ref_lines` asks for the answer to each line.
+//! `ref_streams` asks for the answer to each line.
 #![tactic(auto)]
 
 mod answer;
@@ -17,6 +17,8 @@ mod registry;
 mod state;
 mod vocabularies;
 
-pub use ref_lines::{OUT_OF_MEMORY, Service, serve};
-pub use ref_streams::{Failed, Input, MemorySink, MemorySource, Output, RunError, Sink, Source};
+pub use ref_streams::{
+    Failed, Input, MemorySink, MemorySource, OUT_OF_MEMORY, Output, RunError, Service, Sink,
+    Source, serve,
+};
 pub use state::{Open, State};

@@ -29,9 +29,11 @@ fn found_object(
 ) -> Result<Value, Error>
     requires { world_of resolver.now ≡ asked.now.registry.now.0 }
     ensures ok { IfOk result
-        (λ d. results.IsFound (asked_view asked.now) (place_at asked.now.registry.now.0
-        (resolver_view resolver.now) (option_map (λ r. r.now) reference.entry)) (answer_at asked.now.registry.now.0
-        (resolver_view resolver.now) (option_map (λ r. r.now) reference.entry)) (Ok (view d))) }
+        (λ d. results.IsFound (asked_view asked.now)
+        (place_at asked.now.registry.now.0 (resolver_view resolver.now)
+        (option_map (λ r. r.now) reference.entry))
+        (answer_at asked.now.registry.now.0 (resolver_view resolver.now)
+        (option_map (λ r. r.now) reference.entry)) (Ok (view d))) }
     ensures fault { IfErr result
         (IsFaultOf (answer_at asked.now.registry.now.0 (resolver_view resolver.now) (option_map
         (λ r. r.now) reference.entry))) }

@@ -2,11 +2,11 @@
 ghost use Rattle.std.specs.Prelude.{◌≡◌, ◌≢◌, ◌<◌, ◌+◌, ◌^◌, ◌∷◌, ◌++◌, ℕ, List, [], codes, map, length, Some, IfOk, OnOk, option_map, unwrap_or};
 ghost use Rattle.serde_json.specs.Find.{get, get_member};
 ghost use Rattle.serde_json.specs.View.{view, members_view};
-ghost use Rattle.ref_definitions.specs.World.{own_layer};
+ghost use Rattle.ref_definitions.specs.World.{local_documents};
 ghost use Rattle.ref_error.specs.Retrieving.{trees_of};
 ghost use Rattle.ref_calls.specs.Objects.{object_of, with_all, texts, whole};
 ghost use Rattle.ref_calls.specs.Outcome.{Answers};
-ghost use Rattle.ref_calls.specs.inner.Given.{given_of};
+ghost use Rattle.ref_calls.specs.Given.{given_of};
 ghost use Rattle.ref_serve.specs.Answering.{IsOpened};
 ghost use Rattle.ref_serve.specs.Opening as spec;
 ghost use Rattle.ref_serve.specs.inner.Openings.{layers_at, parent_view, opening_view, asked_view, IsWorldOr, IsMetaWorldOr, GivesOpened};
@@ -190,7 +190,7 @@ fn open_meta_schemas(alloc: Global, documents: Vec<Document>) -> Result<Open, St
 
 // The URIs of a registry's own documents.
 fn uris_of(alloc: Global, registry: &Registry<'_>) -> Result<Value, AllocError>
-    ensures { IfOk result (λ list. view list ≡ texts (map (λ d. d.uri) (own_layer registry.now))) }
+    ensures { IfOk result (λ list. view list ≡ texts (map (λ d. d.uri) (local_documents registry.now))) }
 {
     let mut list = Vec::new(alloc);
     for document in registry.documents() {

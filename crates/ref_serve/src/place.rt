@@ -84,9 +84,11 @@ pub fn found_at<'s>(
     reference: Option<&str>,
 ) -> Result<(Found<'s>, Resolver<'s>), Error>
     ensures ok { IfOk result
-        (λ f. IsFoundBy (world_of resolver.now) (place_at (world_of resolver.now)
-        (resolver_of resolver.now) (option_map (λ r. r.now) reference.entry)) (answer_at (world_of resolver.now)
-        (resolver_of resolver.now) (option_map (λ r. r.now) reference.entry)) f.0 (resolver_of f.1)) }
+        (λ f. IsFoundBy (world_of resolver.now)
+        (place_at (world_of resolver.now) (resolver_of resolver.now)
+        (option_map (λ r. r.now) reference.entry))
+        (answer_at (world_of resolver.now) (resolver_of resolver.now)
+        (option_map (λ r. r.now) reference.entry)) f.0 (resolver_of f.1)) }
     ensures world { IfOk result (λ f. world_of f.1 ≡ world_of resolver.now) }
     ensures fault { IfErr result
         (IsFaultOf (answer_at (world_of resolver.now) (resolver_of resolver.now) (option_map

@@ -1,2 +1,5 @@
 pub mod ReadsAgain
 mod Writing
+pub mod Cutting
+pub mod Getting
+pub mod Serving

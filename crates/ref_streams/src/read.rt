@@ -9,7 +9,7 @@ use std::alloc::Global;
 
 const CHUNK: usize = 4096;
 
-/// Reads to the end, and answers all the bytes that were read.
+/// Reads to the end, and returns all the bytes that were read.
 ///
 /// `Read` exactly where a read failed, after which none is made; `Memory` where a growth of the vector is refused. It ends over every
 /// source: each read before the end lengthens the vector. Costs what the reads cost, each into a buffer of 4,096 bytes,

@@ -9,7 +9,7 @@ use std::io::{ErrorKind, Write};
 
 /// What bytes are written to.
 pub trait Sink {
-    // The bytes taken so far, where they are told.
+    // The bytes taken so far, where they are known.
     ghost taken: { Self → Option (List ℕ) };
 
     // How many writes failed. It stays at the greatest `u64`.
@@ -68,7 +68,7 @@ impl Sink for MemorySink {
     }
 }
 
-/// A writer of the library's: which bytes it took is told where the writer tells it, as one over memory does and standard
+/// A writer of the library's: which bytes it took is known where the writer says it, as one over memory does and standard
 /// output doesn't.
 #[derive(Drop)]
 pub struct Output<W: Drop> {

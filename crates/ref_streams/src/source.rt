@@ -12,7 +12,7 @@ pub struct Failed;
 
 /// What bytes are read from.
 pub trait Source {
-    // The bytes that reads will give from here on, where they are told.
+    // The bytes that reads will give from here on, where they are known.
     ghost remaining: { Self → Option (List ℕ) };
 
     // Whether the end was reached.
@@ -21,7 +21,7 @@ pub trait Source {
     // How many reads failed. It stays at the greatest `u64`.
     ghost failures: { Self → ℕ };
 
-    /// Puts the next bytes at the front of the buffer, and answers how many. Into a buffer with room it answers 0 at
+    /// Puts the next bytes at the front of the buffer, and returns how many. Into a buffer with room it returns 0 at
     /// the end alone. A read that fails gives no bytes.
     fn read(&mut self, buffer: &mut [u8]) -> Result<usize, Failed>
         ensures within { IfOk result (λ n. n ≤ length buffer.new) }
@@ -77,7 +77,7 @@ impl Source for MemorySource<'_> {
     }
 }
 
-/// A reader of the library's: which bytes are left is told where the reader tells it, as one over memory does and standard
+/// A reader of the library's: which bytes are left is known where the reader says it, as one over memory does and standard
 /// input doesn't.
 #[derive(Drop)]
 pub struct Input<R: Drop> {

@@ -19,7 +19,7 @@ use Rattle.ref_uri.proofs.PathLemmas.{scheme_test, no_scheme, no_path}
 use Rattle.ref_uri.proofs.ScanLemmas.{run_passes, plain_encoded, encoded_wider}
 use Rattle.ref_uri.proofs.BracketLemmas.{run_is, at_front}
 
--- the scheme, by where the first of `:/?#` stands
+-- the scheme, by where the first of `:/?#` is
 scheme_there : (t : List ℕ) (n : ℕ) → position_or_len ends_scheme t ≡ n → 0 < n → get_or t n 0 ≡ 58 → scheme t ≡ Some (take n t)
 unfolding scheme
 scheme_there t n place some colon =

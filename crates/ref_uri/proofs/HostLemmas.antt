@@ -136,7 +136,7 @@ in_brackets b =
 host_ends_nothing : (c : ℕ) → is_host_character c ≡ true → ends_authority c ≡ false
 host_ends_nothing c h = grind (arith, nat_tests)
 
--- an address and its `]` lie inside the authority, and are what stands through the first `]`
+-- an address and its `]` lie inside the authority, and are what is there through the first `]`
 bracket_len_is : (s : List ℕ) (m : ℕ) → m ≤ length s → is_address_and_bracket (take m s) ≡ true → (m ≤ position_or_len ends_authority s) × (bracket_len (before_first ends_authority s) ≡ m)
 bracket_len_is s m le h =
     let end = position_or_len ends_authority s in

@@ -1,9 +1,9 @@
 -- What a text means, case by case.
 use Rattle.std.proofs.Common.{◌≡◌, ℕ, true, false, ◌&&◌, List, Some, None, Result, Ok, Err, is_some, get_or, eqb, refl, ◌∙◌}
 use Rattle.std.specs.List.{ends_with}
-use Rattle.std.specs.Result.{IfErr, IsErrAnd}
+use Rattle.std.specs.Result.{IsErrAnd}
 use Rattle.ref_uri.specs.Components.{scheme}
-use Rattle.ref_uri.specs.Errors.{IsFaultOf}
+use Rattle.ref_uri.specs.Errors.{Gives, IsFaultOf}
 use Rattle.ref_uri.specs.inner.Faults.{IfInvalid}
 use Rattle.ref_uri.specs.inner.Lengths.{the_lengths, IsParsed}
 use Rattle.ref_uri.specs.Normal.{normal_form}
@@ -48,9 +48,9 @@ pub fault_moved : (meaning : Result (List ℕ) Refusal) (refusal : Refusal) (fau
 fault_moved meaning refusal (uri_fault.Invalid error) P is p moved = (is.0, moved p ∙ is.1, is.2)
 fault_moved meaning refusal (uri_fault.Memory error) P is p moved = tt
 
--- a call that passes a fault on returns it
-pub fault_passed : {X : Type 0} (r : Result X UriFault) (fault : UriFault) (meaning : Result (List ℕ) Refusal) → IsErrAnd r (λ e. e ≡ fault) → IsFaultOf meaning fault → IfErr r (IsFaultOf meaning)
-fault_passed (Ok x) fault meaning passed is = tt
+-- a call that passes a fault on gives it
+pub fault_passed : (r : Result (List ℕ) UriFault) (fault : UriFault) (meaning : Result (List ℕ) Refusal) → IsErrAnd r (λ e. e ≡ fault) → IsFaultOf meaning fault → Gives meaning r
+fault_passed (Ok uri) fault meaning passed is = absurd passed
 fault_passed (Err e) fault meaning passed is = rw passed is
 
 pub default_is_reference : is_uri_reference default_base ≡ true

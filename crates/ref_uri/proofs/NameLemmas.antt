@@ -27,7 +27,7 @@ is_name s other =
     (false_from_ne_true (is_dot s) (λ is. other (ap (λ t. get_or t 0 0) ((bytes_eq-Decides s (codes ".")).0 is))))
     (false_from_ne_true (is_dot_dot s) (λ is. other (ap (λ t. get_or t 0 0) ((bytes_eq-Decides s (codes "..")).0 is))))
 
--- The segments of a path after whose slashes no dot stands: the first, which begins as the path does, and names.
+-- The segments of a path after whose slashes no dot is: the first, which begins as the path does, and names.
 record FirstAndNames (path : List ℕ) : Type 0 where
   first : List ℕ
   rest : List (List ℕ)

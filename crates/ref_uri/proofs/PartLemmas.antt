@@ -50,7 +50,7 @@ first_segment path len within slash none =
     (All-from_get_or (λ c. eqb c 47 ≡ false) (take len path) 0 (λ i lt. let below : i < len = omega (arith, length-take-le len path) in ap (λ c. eqb c 47) (get_or-take len path i 0 below) ∙ ne_eqb (get_or path i 0) 47 (none i below)))
     refl
 
--- Where the first `%` of what is left of a text stands, and what follows it.
+-- Where the first `%` of what is left of a text is, and what follows it.
 pub record AtPercent (text : List ℕ) (at len : ℕ) : Type 0 where
   pub cut : drop at text ≡ take len (drop at text) ++ 37 ∷ drop (at + len + 1) text
   pub none : (i : ℕ) → i < length (take len (drop at text)) → get_or (take len (drop at text)) i 0 ≢ 37

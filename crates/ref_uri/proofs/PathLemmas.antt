@@ -151,7 +151,7 @@ last_goes_second true a p q f false = and_right (((a && p) && q) && f) false ref
 abbrev pub scheme_test : List ℕ → Bool
 scheme_test text = if_there is_scheme (scheme text) && (is_some (scheme text) || not (eqb (get_or text (position_or_len ends_scheme text) 0) 58))
 
--- a text is a reference exactly where its components hold what they may, and no `:` stands where a scheme's would
+-- a text is a reference exactly where its components hold what they may, and no `:` is where a scheme's would
 pub reference_is : (text : List ℕ) → is_uri_reference text ≡ (scheme_test text && if_there is_authority (authority text) && is_path (path text) && if_there is_query (query text) && if_there is_query (fragment text))
 unfolding is_uri_reference are_components
 reference_is text =

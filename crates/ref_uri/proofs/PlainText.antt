@@ -1,4 +1,4 @@
--- Texts in which no `%` stands, and targets of them.
+-- Texts in which no `%` is, and targets of them.
 use Rattle.std.proofs.Common.{◌≡◌, ◌≢◌, ℕ, suc, ◌<◌, true, not, List, [], ◌∷◌, ◌++◌, length, take, drop, get_or, eqb, codes, Option, Some, None, option_map, option_copied, refl, sym, ap, ◌∙◌, arith}
 use Rattle.std.proofs.lemmas.Bool.{and_parts, and_from, ne_eqb, eq-eqb, false≢true}
 use Rattle.std.proofs.lemmas.List.{take-append-drop}
@@ -19,7 +19,7 @@ use Rattle.ref_uri.proofs.StructureLemmas.{text_of-components}
 use Rattle.ref_uri.proofs.TargetLemmas.{each_same, map_given}
 use Rattle.ref_uri.proofs.WrittenAtOnce.{written_at_once}
 
--- a text at none of whose places `%` stands
+-- a text at none of whose places `%` is
 pub plain_text : (text : List ℕ) → ((k : ℕ) → k < length text → get_or text k 0 ≢ 37) → is_plain text ≡ true
 plain_text [] none = refl
 plain_text (c ∷ text) none =

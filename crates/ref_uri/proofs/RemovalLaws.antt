@@ -90,7 +90,7 @@ each_kept P root first kept s all h = (
 still_plain : (first : List ℕ) (kept : List (List ℕ)) (s : List ℕ) → AllByRecursion HasNoSlash (first ∷ kept) → HasNoSlash s → AllByRecursion HasNoSlash (first_after first kept s ∷ kept_after kept s)
 still_plain first kept s plain h = each_kept HasNoSlash refl first kept s plain h
 
--- where the path stands once a segment that is no dot segment came
+-- where the path is once a segment that is no dot segment came
 abbrev behind : Bool → Progress
 behind ends = cond ends Dots Within
 

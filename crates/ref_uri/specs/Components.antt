@@ -57,7 +57,7 @@ text_after component marks text = option_map_or (λ len. drop (len + marks) text
 unfoldable pub after_scheme : List ℕ → List ℕ
 after_scheme text = text_after (option_map length (scheme text)) 1 text
 
--- two slashes, after which an authority stands
+-- two slashes, after which an authority is
 abbrev pub begins_with_slashes : List ℕ → Bool
 begins_with_slashes text = (slice_index text 0 == slash) && (slice_index text 1 == slash)
 

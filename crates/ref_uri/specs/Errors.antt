@@ -1,5 +1,5 @@
 -- The texts of what is refused.
-use Rattle.std.specs.Prelude.{◌≡◌, ℕ, List, ◌++◌, true, ⊤, codes, string_bytes, Result, Err, if◌then◌else◌}
+use Rattle.std.specs.Prelude.{◌≡◌, ℕ, List, ◌++◌, true, ⊤, codes, string_bytes, Result, Ok, Err, if◌then◌else◌}
 use Rattle.ref_uri.specs.Targets.{Refusal, parse_refusal, resolve_refusal}
 use Rattle.ref_uri.specs.declared.error.UriError.{UriError}
 use Rattle.ref_uri.specs.declared.error.UriError.TheVariants.{Parse, Resolve}
@@ -61,3 +61,8 @@ abbrev pub IsFaultOf : Result (List ℕ) Refusal → UriFault → Type 0
 IsFaultOf meaning (uri_fault.Invalid error) =
     (refusal : Refusal) × (meaning ≡ Err refusal) × SaysRefusal error refusal
 IsFaultOf meaning (uri_fault.Memory error) = ⊤
+
+-- what a call returns is what the definition gives, or that memory ran out
+abbrev pub Gives : Result (List ℕ) Refusal → Result (List ℕ) UriFault → Type 0
+Gives meaning (Ok uri) = meaning ≡ Ok uri
+Gives meaning (Err fault) = IsFaultOf meaning fault

@@ -1,4 +1,4 @@
--- Worked rows of URIs: what the definitions answer at literals, whole texts of the standard and the steps that lead to them.
+-- Worked rows of URIs: what the definitions return at literals, whole texts of the standard and the steps that lead to them.
 -- Each row is proved by computation. Sections are of RFC 3986.
 pub mod Errors
 use Rattle.std.specs.Prelude.{◌≡◌, true, false, [], ◌∷◌, codes, Some, None, Ok, Err}
@@ -11,25 +11,26 @@ use Rattle.ref_uri.specs.DotSegments.{segments, behind_slashes, joined_segments,
 use Rattle.ref_uri.specs.Normal.{hex_value, normal_triple, normal_encoded, normal_text, normal_host, normal_port_part, normal_authority, normal_path, normal_components}
 use Rattle.ref_uri.specs.Resolution.{target_path, target_components, with_guard, resolved_components}
 use Rattle.ref_uri.specs.Targets.{parse_refusal, uri_of, uri_against, uri_part, fragment_part}
+use Rattle.ref_uri.specs.Bytes.{slash, colon, at_sign, question_mark, hash, dot}
 
 -- characters of the parts of a reference (2.2, 2.3, 3.1 to 3.5)
 pub record CharacterRows : Type 0 where
   pub tilde_unreserved : is_unreserved 126 ≡ true
-  pub slash_reserved : is_unreserved 47 ≡ false
+  pub slash_reserved : is_unreserved slash ≡ false
   pub bang : is_sub_delim 33 ≡ true
-  pub colon_is_gen_delim : is_sub_delim 58 ≡ false
+  pub colon_is_gen_delim : is_sub_delim colon ≡ false
   pub plus_in_scheme : is_scheme_character 43 ≡ true
   pub tilde_not_in_scheme : is_scheme_character 126 ≡ false
   pub equals_in_name : is_name_character 61 ≡ true
-  pub colon_not_in_name : is_name_character 58 ≡ false
-  pub colon_in_userinfo : is_userinfo_character 58 ≡ true
-  pub at_not_in_userinfo : is_userinfo_character 64 ≡ false
-  pub at_in_segment : is_segment_character 64 ≡ true
-  pub slash_not_in_segment : is_segment_character 47 ≡ false
-  pub slash_in_path : is_path_character 47 ≡ true
-  pub question_not_in_path : is_path_character 63 ≡ false
-  pub question_in_query : is_query_character 63 ≡ true
-  pub hash_not_in_query : is_query_character 35 ≡ false
+  pub colon_not_in_name : is_name_character colon ≡ false
+  pub colon_in_userinfo : is_userinfo_character colon ≡ true
+  pub at_not_in_userinfo : is_userinfo_character at_sign ≡ false
+  pub at_in_segment : is_segment_character at_sign ≡ true
+  pub slash_not_in_segment : is_segment_character slash ≡ false
+  pub slash_in_path : is_path_character slash ≡ true
+  pub question_not_in_path : is_path_character question_mark ≡ false
+  pub question_in_query : is_query_character question_mark ≡ true
+  pub hash_not_in_query : is_query_character hash ≡ false
   pub two_digits : begins_with_hex_digits (codes "aF/") ≡ true
   pub one_digit : begins_with_hex_digits (codes "a") ≡ false
   pub no_digit : begins_with_hex_digits (codes "4g") ≡ false
@@ -41,10 +42,10 @@ pub record CharacterRows : Type 0 where
 
 -- authorities and their parts (3.2)
 pub record AuthorityRows : Type 0 where
-  pub before_at : part_before 64 (codes "u:p@h") ≡ Some (codes "u:p")
-  pub nothing_before : part_before 64 (codes "h") ≡ None
-  pub after_at : part_after 64 (codes "u:p@h") ≡ codes "h"
-  pub all_after : part_after 64 (codes "h") ≡ codes "h"
+  pub before_at : part_before at_sign (codes "u:p@h") ≡ Some (codes "u:p")
+  pub nothing_before : part_before at_sign (codes "h") ≡ None
+  pub after_at : part_after at_sign (codes "u:p@h") ≡ codes "h"
+  pub all_after : part_after at_sign (codes "h") ≡ codes "h"
   pub user : userinfo (codes "u:p@[::1]:80") ≡ Some (codes "u:p")
   pub empty_user : userinfo (codes "@h") ≡ Some []
   pub no_user : userinfo (codes "h:80") ≡ None
@@ -57,7 +58,7 @@ pub record AuthorityRows : Type 0 where
   pub port : port_part (codes "u@[::1]:80") ≡ codes ":80"
   pub empty_port : port_part (codes "h:") ≡ codes ":"
   pub no_port : port_part (codes "h") ≡ []
-  pub colon_in_address : is_address_character 58 ≡ true
+  pub colon_in_address : is_address_character colon ≡ true
   pub letter_g_in_address : is_address_character 103 ≡ false
   pub address : is_address (codes "2001:db8::7") ≡ true
   pub empty_address : is_address [] ≡ false
@@ -107,14 +108,14 @@ pub record ComponentRows : Type 0 where
         fragment = None;
       })
       ≡ codes "b"
-  pub colon_ends_scheme : ends_scheme 58 ≡ true
-  pub dot_in_scheme : ends_scheme 46 ≡ false
-  pub slash_ends_authority : ends_authority 47 ≡ true
-  pub colon_in_authority : ends_authority 58 ≡ false
-  pub question_ends_path : ends_path 63 ≡ true
-  pub slash_in_path : ends_path 47 ≡ false
-  pub hash_ends_query : ends_query 35 ≡ true
-  pub question_in_query : ends_query 63 ≡ false
+  pub colon_ends_scheme : ends_scheme colon ≡ true
+  pub dot_in_scheme : ends_scheme dot ≡ false
+  pub slash_ends_authority : ends_authority slash ≡ true
+  pub colon_in_authority : ends_authority colon ≡ false
+  pub question_ends_path : ends_path question_mark ≡ true
+  pub slash_in_path : ends_path slash ≡ false
+  pub hash_ends_query : ends_query hash ≡ true
+  pub question_in_query : ends_query question_mark ≡ false
   pub behind_three : text_after (Some 3) 1 (codes "foo:a") ≡ codes "a"
   pub behind_none : text_after None 1 (codes "foo") ≡ codes "foo"
   pub behind_scheme : after_scheme (codes "foo://a/b?c#d") ≡ codes "//a/b?c#d"

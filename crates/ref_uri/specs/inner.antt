@@ -1,5 +1,5 @@
--- What stands here need not be believed: no clause of a call reaches it; its rows alone are in laws and examples. These
--- definitions say what private functions answer.
+-- What is here need not be believed: no clause of a call reaches it; its rows alone are in laws and examples. These
+-- definitions say what private functions return.
 pub mod Class
 pub mod Scans
 pub mod Lengths

@@ -7,6 +7,7 @@ ghost use Rattle.ref_uri.specs.Characters.{is_encoded, is_userinfo_character};
 ghost use Rattle.ref_uri.specs.Authority.{is_address_character, is_version_and_address, is_address, is_future_address, is_address_and_bracket, is_port_part, is_host_and_port, is_authority};
 ghost use Rattle.ref_uri.specs.Components.{ends_authority};
 ghost use Rattle.ref_uri.specs.inner.Scans.{ends_authority_at};
+ghost use Rattle.ref_uri.specs.Bytes.{closing_bracket, opening_bracket};
 
 use crate::characters::{Class, encoded_len};
 use crate::error::ParseError;
@@ -58,7 +59,7 @@ fn version_and_address_len(text: &[u8]) -> Option<usize>
     ensures within { IfSome result (λ n. n ≤ length text.now) }
     ensures sound { IfSome result (λ n. is_version_and_address (take n text.now) ≡ true) }
     ensures found { (n : ℕ) → n < length text.now → is_version_and_address (take n text.now) ≡ true
-        → slice_index text.now n ≡ 93 → result ≡ Some n }
+        → slice_index text.now n ≡ closing_bracket → result ≡ Some n }
 {
     let version = hex_digits_len(text);
     if version == 0 || version == text.len() || text[version] != b'.' {
@@ -78,7 +79,7 @@ fn either_address_len(text: &[u8]) -> usize
         → (is_address (take result text.now) || is_future_address (take result text.now)) ≡ true }
     ensures found { (n : ℕ) → n < length text.now
         → (is_address (take n text.now) || is_future_address (take n text.now)) ≡ true
-        → slice_index text.now n ≡ 93 → (0 < n) × (result ≡ n) }
+        → slice_index text.now n ≡ closing_bracket → (0 < n) × (result ≡ n) }
 {
     match text {
         [b'v' | b'V', rest @ ..] => match version_and_address_len(rest) {
@@ -117,14 +118,14 @@ fn port_len(text: &[u8]) -> usize
 }
 
 fn begins_with_bracket(text: &[u8]) -> bool
-    ensures { result ≡ (slice_index text.now 0 == 91) }
+    ensures { result ≡ (slice_index text.now 0 == opening_bracket) }
 {
     matches!(text, [b'[', ..])
 }
 
 /// How long the name at the front is, with the port after it.
 fn name_and_port_len(text: &[u8]) -> usize
-    requires { slice_index text.now 0 ≢ 91 }
+    requires { slice_index text.now 0 ≢ opening_bracket }
     ensures within { result ≤ length text.now }
     ensures encoded { is_encoded is_userinfo_character (take result text.now) ≡ true }
     ensures inside { result ≤ position_or_len ends_authority text.now }
@@ -137,7 +138,7 @@ fn name_and_port_len(text: &[u8]) -> usize
 
 /// How long the address in brackets at the front is, with the port after it.
 fn brackets_and_port_len(text: &[u8]) -> Option<usize>
-    requires { slice_index text.now 0 ≡ 91 }
+    requires { slice_index text.now 0 ≡ opening_bracket }
     ensures within { IfSome result (λ n. n ≤ length text.now) }
     ensures inside { IfSome result (λ n. n ≤ position_or_len ends_authority text.now) }
     ensures accepted { IfSome result
@@ -149,7 +150,7 @@ fn brackets_and_port_len(text: &[u8]) -> Option<usize>
     Some(brackets + port_len(&text[brackets..]))
 }
 
-/// How long the host at the front is, with the port after it: up to the next of `/?#`. `Syntax` exactly where what stands
+/// How long the host at the front is, with the port after it: up to the next of `/?#`. `Syntax` exactly where what is
 /// there is none.
 fn host_and_port_len(text: &[u8]) -> Result<usize, ParseError>
     ensures accepted { is_ok result ≡ is_host_and_port (before_first ends_authority text.now) }

@@ -36,7 +36,7 @@ pub fn holds(bytes: &[u8], byte: u8) -> bool
     false
 }
 
-/// Where the byte first stands from a place on, or the length.
+/// Where the byte first is from a place on, or the length.
 #[inline]
 pub fn first_from(bytes: &[u8], from: usize, byte: u8) -> usize
     requires { from ≤ length bytes.now }

@@ -211,7 +211,7 @@ fn run_len(bytes: &[u8], class: Class, by_blocks: bool) -> usize
     }
 }
 
-/// What [`encoded_len`] answers.
+/// What [`encoded_len`] returns.
 #[inline(always)]
 fn runs_and_triples_len(bytes: &[u8], read: usize, class: Class, by_blocks: bool) -> usize
     requires read_within { read ≤ length bytes.now }
@@ -227,7 +227,7 @@ fn runs_and_triples_len(bytes: &[u8], read: usize, class: Class, by_blocks: bool
     at
 }
 
-/// What [`encoded_len`] answers for a long text.
+/// What [`encoded_len`] returns for a long text.
 #[inline(never)]
 fn long_encoded_len(bytes: &[u8], read: usize, class: Class) -> usize
     requires read_within { read ≤ length bytes.now }

@@ -6,6 +6,7 @@ ghost use Rattle.ref_uri.specs.DotSegments.{segments, remove_dot_segments};
 ghost use Rattle.ref_uri.specs.inner.Target.{LacksEncodedDot};
 ghost use Rattle.ref_uri.specs.inner.Written.{written_text};
 ghost use Rattle.ref_uri.specs.inner.Removal.{segment_of, first_written, first_progress, next_written, next_progress, slash_of, path_then, progress_then, path_after, progress_after, end_of, ended_path, dots_after, last_taken, AreNames, IsInside, IsNoEncodedDot};
+ghost use Rattle.ref_uri.specs.Bytes.{slash};
 
 use crate::blocks::{BLOCK, block_holds};
 use crate::lengths::{head, tail};
@@ -109,7 +110,7 @@ fn segment_of(text: &str) -> Segment
 fn end_of_rest(bytes: &[u8], start: usize) -> usize
     requires { start ≤ length bytes.now }
     ensures value { take result bytes.now
-        ≡ take start bytes.now ++ before_last (λ c. c == 47) (drop start bytes.now) }
+        ≡ take start bytes.now ++ before_last (λ c. c == slash) (drop start bytes.now) }
     ensures from { start ≤ result }
     ensures within { result ≤ length bytes.now }
 {
@@ -129,7 +130,7 @@ fn take_last(buffer: &mut String, start: usize)
     requires within { start ≤ length (string_bytes buffer.old) }
     ensures text { (before path : List ℕ) → string_bytes buffer.old ≡ before ++ path
         → length before ≡ start
-        → string_bytes buffer.new ≡ before ++ before_last (λ c. c == 47) path }
+        → string_bytes buffer.new ≡ before ++ before_last (λ c. c == slash) path }
     ensures ascii { IsAscii (string_bytes buffer.new) }
     ensures start { start ≤ length (string_bytes buffer.new) }
 {
@@ -137,7 +138,7 @@ fn take_last(buffer: &mut String, start: usize)
     buffer.truncate(end);
 }
 
-/// Lets the segment that was appended at `end` stand as a path's first one, or takes a dot segment away.
+/// Lets the segment that was appended at `end` be a path's first one, or takes a dot segment away.
 fn settle_first(buffer: &mut String, end: usize) -> Progress
     requires buffer_ascii { IsAscii (string_bytes buffer.old) }
     requires within { end ≤ length (string_bytes buffer.old) }
@@ -165,10 +166,10 @@ fn settle_next(buffer: &mut String, start: usize, end: usize) -> Progress
     requires start_within { start ≤ end }
     requires within { end < length (string_bytes buffer.old) }
     ensures text { (before path segment : List ℕ)
-        → string_bytes buffer.old ≡ (before ++ path) ++ 47 ∷ segment → length before ≡ start
+        → string_bytes buffer.old ≡ (before ++ path) ++ slash ∷ segment → length before ≡ start
         → length (before ++ path) ≡ end
         → string_bytes buffer.new ≡ before ++ next_written (segment_of segment) path segment }
-    ensures progress { (path segment : List ℕ) → string_bytes buffer.old ≡ path ++ 47 ∷ segment
+    ensures progress { (path segment : List ℕ) → string_bytes buffer.old ≡ path ++ slash ∷ segment
         → length path ≡ end → result ≡ next_progress (segment_of segment) }
     ensures ascii { IsAscii (string_bytes buffer.new) }
     ensures start { start ≤ length (string_bytes buffer.new) }
@@ -543,7 +544,7 @@ pub fn push_merged_without_dots(
     ensures text { OnOk result
         (string_bytes buffer.new
         ≡ string_bytes buffer.old
-        ++ remove_dot_segments (written_text form (directory.now ++ 47 ∷ path.now))) }
+        ++ remove_dot_segments (written_text form (directory.now ++ slash ∷ path.now))) }
     ensures ascii { OnOk result (IsAscii (string_bytes buffer.new)) }
 {
     let start = buffer.len();

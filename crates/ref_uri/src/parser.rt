@@ -8,6 +8,7 @@ ghost use Rattle.ref_uri.specs.Authority.{is_authority};
 ghost use Rattle.ref_uri.specs.Reference.{is_uri_reference};
 ghost use Rattle.ref_uri.specs.inner.Lengths.{lengths_of};
 ghost use Rattle.ref_uri.specs.Characters.{is_scheme_character, is_path_character, is_encoded};
+ghost use Rattle.ref_uri.specs.Bytes.{colon};
 
 use crate::authority;
 use crate::characters::{Class, encoded_len, is_encoded, is_scheme_character, part_len};
@@ -25,10 +26,10 @@ fn scheme_characters_len(text: &[u8]) -> usize
 /// looked at again. `Syntax` only where the text is no reference.
 fn first_segment_len(text: &[u8], read: usize) -> Result<usize, ParseError>
     requires read_is { read ≡ prefix_len is_scheme_character text.now }
-    requires no_colon { slice_index text.now read ≢ 58 }
+    requires no_colon { slice_index text.now read ≢ colon }
     ensures no_scheme { OnOk result (scheme text.now ≡ None) }
     ensures tested { OnOk result
-        ((slice_index text.now (position_or_len ends_scheme text.now) == 58) ≡ false) }
+        ((slice_index text.now (position_or_len ends_scheme text.now) == colon) ≡ false) }
     ensures within { IfOk result (λ n. n ≤ length (after_authority text.now)) }
     ensures encoded { IfOk result
         (λ n. is_encoded is_path_character (take n (after_authority text.now)) ≡ true) }
@@ -55,8 +56,10 @@ struct Front {
 fn read_front(text: &[u8]) -> Result<Front, ParseError>
     ensures scheme { IfOk result (λ f. f.scheme ≡ option_map length (scheme text.now)) }
     ensures scheme_within { IfOk result (λ f. IfSome f.scheme (λ len. len < length text.now)) }
-    ensures tested { OnOk result ((if_there is_scheme (scheme text.now)
-        && (is_some (scheme text.now) || not (slice_index text.now (position_or_len ends_scheme text.now) == 58))) ≡ true) }
+    ensures tested { OnOk result
+        ((if_there is_scheme (scheme text.now)
+        && (is_some (scheme text.now)
+        || not (slice_index text.now (position_or_len ends_scheme text.now) == colon))) ≡ true) }
     ensures within { IfOk result (λ f. f.segment ≤ length (after_authority text.now)) }
     ensures encoded { IfOk result
         (λ f. is_encoded is_path_character (take f.segment (after_authority text.now)) ≡ true) }
@@ -140,7 +143,7 @@ pub fn parse(text: &[u8]) -> Result<Lengths, ParseError>
     })
 }
 
-/// What follows a component that may be absent, and the marks that stand with it.
+/// What follows a component that may be absent, and the marks that are with it.
 fn behind(text: &[u8], component: Option<usize>, marks: usize) -> &[u8]
     requires { ForSome component (λ len. len + marks ≤ length text.now) }
     ensures { result.now ≡ text_after component marks text.now }

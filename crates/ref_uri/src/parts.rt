@@ -16,7 +16,7 @@ pub fn parts(reference: &str) -> (&str, &str)
     }
 }
 
-// The same for any reference, by a search from its end; `parts` answers most references, which have no `#`, without it.
+// The same for any reference, by a search from its end; `parts` is for most references, which have no `#`, without it.
 #[inline(never)]
 fn parts_around_hash(reference: &str) -> (&str, &str)
     ensures uri { result.0.now ≡ uri.uri_part reference.now }

@@ -8,6 +8,7 @@ ghost use Rattle.ref_uri.specs.Normal.{guarded_path, normal_components, normal_t
 ghost use Rattle.ref_uri.specs.Resolution.{through_last_slash, merged_path, target_path, resolved_components};
 ghost use Rattle.ref_uri.specs.inner.Written.{is_plain, the_front, the_rest, written_text, written_scheme, written_authority};
 ghost use Rattle.ref_uri.specs.inner.Target.{given_path, normal_path_of, written_path, written_by, written_components, lengths_of_components, AreParts, ArePlain, LosesSameDots, IsTarget, AreFramed, IsPlainTarget, LacksTriples, IsSettled, components_of, behind_directory, path_behind, target_with_dots};
+ghost use Rattle.ref_uri.specs.Bytes.{slash};
 
 use crate::dots::{
     may_hold_dots, may_hold_encoded_dot, push_merged_without_dots, push_without_dots, remove_dots,
@@ -43,12 +44,12 @@ pub struct Target<'a> {
     pub rest: Option<&'a str>,
 }
 
-/// Where the last slash of a path stands.
+/// Where the last slash of a path is.
 fn last_slash(path: &[u8]) -> Option<usize>
     ensures found { IfSome result
-        (λ k. (k < length path.now) × (slice_index path.now k ≡ 47)
-        × ((i : ℕ) → k < i → i < length path.now → slice_index path.now i ≢ 47)) }
-    ensures none { IfNone result ((i : ℕ) → i < length path.now → slice_index path.now i ≢ 47) }
+        (λ k. (k < length path.now) × (slice_index path.now k ≡ slash)
+        × ((i : ℕ) → k < i → i < length path.now → slice_index path.now i ≢ slash)) }
+    ensures none { IfNone result ((i : ℕ) → i < length path.now → slice_index path.now i ≢ slash) }
 {
     let mut end = path.len();
     while end > 0 {

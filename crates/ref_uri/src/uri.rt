@@ -2,13 +2,14 @@
 ghost use Rattle.std.specs.Prelude.{◌≡◌, ◌↔◌, ◌==◌, ◌&&◌, nat_eq, slice_index, Some, None, Ok, Err, List, ℕ, false, true, string_bytes, is_ok, is_some, IsOk, IfOk, IfErr, OnOk, OnErr, IsErrOf, option_copied};
 ghost use Rattle.std.specs.List.{ends_with};
 ghost use Rattle.ref_uri.specs.Components.{scheme, authority, path, query, fragment, if_there, is_query};
-ghost use Rattle.ref_uri.specs.Errors.{IsFaultOf};
+ghost use Rattle.ref_uri.specs.Errors.{Gives, IsFaultOf};
 ghost use Rattle.ref_uri.specs.inner.Faults.{IfInvalid};
 ghost use Rattle.ref_uri.specs.inner.Lengths.{IsParsedUri};
 ghost use Rattle.ref_uri.specs.Resolution.{target_text};
 ghost use Rattle.ref_uri.specs.Targets.{default_base, uri_of, uri_against, parse_refusal};
 ghost use Rattle.ref_uri.specs.Normal.{normal_form};
 ghost use Rattle.ref_uri.specs.Reference.{is_uri_reference, is_uri, with_fragment};
+ghost use Rattle.ref_uri.specs.Bytes.{hash};
 
 use crate::characters::{self, Class};
 use crate::error::{ParseError, ResolveError, UriError, UriFault, UriParseFault};
@@ -174,11 +175,18 @@ impl Uri {
         match fragment {
             Some(fragment) => self.put_fragment(fragment),
             None => {
-                let len = self.strip_fragment().as_str().len();
-                self.text.truncate(len);
+                self.drop_fragment();
                 Ok(())
             }
         }
+    }
+
+    /// Drops the fragment, where there is one (RFC 3986, 3.5); no other component changes. Takes no memory. Linear in the URI.
+    pub fn drop_fragment(&mut self)
+        ensures value { self.new ≡ with_fragment self.old None }
+    {
+        let len = self.strip_fragment().as_str().len();
+        self.text.truncate(len);
     }
 
     fn put_fragment(&mut self, fragment: &str) -> Result<(), UriParseFault>
@@ -238,8 +246,7 @@ fn default_base() -> UriRef<'static>
 /// `Invalid` with [`UriError::Parse`] exactly where the text is no URI reference (RFC 3986, 4.1), `Memory` where there is
 /// none. Linear in the text. An answer takes memory once.
 pub fn from_str(alloc: Global, uri: &str) -> Result<Uri, UriFault>
-    ensures ok { IfOk result (λ answer. uri_of uri.now ≡ Ok answer) }
-    ensures fault { IfErr result (IsFaultOf (uri_of uri.now)) }
+    ensures gives { Gives (uri_of uri.now) result }
 {
     let reference = parse_reference(alloc, uri)?;
     if reference.has_scheme() {
@@ -251,14 +258,14 @@ pub fn from_str(alloc: Global, uri: &str) -> Result<Uri, UriFault>
 }
 
 fn begins_with_hash(text: &str) -> bool
-    ensures { result ≡ (slice_index text.now 0 == 35) }
+    ensures { result ≡ (slice_index text.now 0 == hash) }
 {
     matches!(text.as_bytes(), [b'#', ..])
 }
 
 /// Whether a text begins with `#`, and another ends in it.
 fn is_fragment_at_end(base: &str, text: &str) -> bool
-    ensures { result ≡ ((slice_index text.now 0 == 35) && ends_with nat_eq base.now text.now) }
+    ensures { result ≡ ((slice_index text.now 0 == hash) && ends_with nat_eq base.now text.now) }
 {
     if !begins_with_hash(text) {
         return false;
@@ -273,8 +280,7 @@ fn is_fragment_at_end(base: &str, text: &str) -> bool
 /// it has one and the text is no URI reference and not that fragment; `Memory` where there is none. Linear in the two texts.
 /// An answer takes memory once; where a path holds `%2e`, with room for the path twice, which the answer keeps.
 pub fn resolve_against(alloc: Global, base: UriRef<'_>, uri: &str) -> Result<Uri, UriFault>
-    ensures ok { IfOk result (λ answer. uri_against base.entry uri.now ≡ Ok answer) }
-    ensures fault { IfErr result (IsFaultOf (uri_against base.entry uri.now)) }
+    ensures gives { Gives (uri_against base.entry uri.now) result }
 {
     if !base.has_scheme() {
         let uri = String::from_str(alloc, uri)?;

@@ -232,7 +232,7 @@ pub fn normalize_end(buffer: &mut String, start: usize) -> Result<(), AllocError
     buffer.replace_range(start..end, "")
 }
 
-/// Where the character first stands, or the length.
+/// Where the character first is, or the length.
 #[inline]
 pub fn index_of(text: &[u8], c: u8) -> usize
     ensures value { result ≡ position_or_len (λ x. x == c) text.now }

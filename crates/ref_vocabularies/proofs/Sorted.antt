@@ -36,7 +36,7 @@ put-equal u x xs e = ap (λ o. match_ordering o (u ∷ x ∷ xs) (x ∷ xs) (x �
 pub put-greater : (u x : List ℕ) (xs : List (List ℕ)) → order u x ≡ Greater → with_uri u (x ∷ xs) ≡ x ∷ with_uri u xs
 put-greater u x xs e = ap (λ o. match_ordering o (u ∷ x ∷ xs) (x ∷ xs) (x ∷ with_uri u xs)) e
 
--- what a search finds no place for stands where the search ends
+-- what a search finds no place for is where the search ends
 pub put-searched : (u : List ℕ) (xs : List (List ℕ)) (i : ℕ) → i ≤ length xs
     → IsPartitionPoint (λ y. order y u ≡ Less) (λ y. order y u ≡ Greater) xs i → with_uri u xs ≡ list.insert xs i u
 put-searched u [] zero small at = refl

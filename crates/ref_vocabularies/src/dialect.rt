@@ -70,9 +70,7 @@ fn named(alloc: Global, text: &str) -> Result<Dialect, AllocError>
 {
     match uri::from_str(alloc, text) {
         Ok(mut uri) => {
-            if let Err(error) = uri.set_fragment(None) {
-                unreachable!("{error}");
-            }
+            uri.drop_fragment();
             Ok(Dialect::MetaSchema(uri))
         }
         Err(UriFault::Invalid(_)) => Ok(Dialect::Known(default_vocabularies(Draft::Unknown))),

@@ -39,9 +39,13 @@ impl Model for VocabularySet {
     ghost use Rattle.ref_vocabularies.specs.Views.{AreInByteOrder};
     ghost use Rattle.ref_vocabularies.specs.inner.Kept.{known_of};
 
-    ghost view = { λ s. record { standard = known_of s.known; customs = option_map_or (λ uris. uris.items) s.custom [] } };
+    ghost view = { λ s. record {
+      standard = known_of s.known;
+      customs = option_map_or (λ uris. uris.items) s.custom [];
+    } };
 
-    ghost invariant = { λ s. (s.known < 2 ^ 9) × AreInByteOrder (option_map_or (λ uris. uris.items) s.custom []) };
+    ghost invariant = { λ s. (s.known < 2 ^ 9)
+        × AreInByteOrder (option_map_or (λ uris. uris.items) s.custom []) };
 }
 
 impl VocabularySet {

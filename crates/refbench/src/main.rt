@@ -6,13 +6,13 @@
 //! for memory, with that request refused. Where the call wants memory, it is made again, and after it other calls on
 //! the same values.
 //!
-//! A line `CALL TEXT SIZE TIMES`, as `parse names 100 1`, is a workload, whose answer is how much the calls answered
+//! A line `CALL TEXT SIZE TIMES`, as `parse names 100 1`, is a workload, whose answer is how much the calls returned
 //! together; `nothing` as the call measures the workload itself. It prints the same on every run;
 //! `docs/MEASUREMENTS.md` says how it is run under `valgrind
 //! --tool=callgrind`, and what it showed.
 //!
 //! The exit status is 0 where every call has its answer, 3 where one wanted memory and these are the answers
-//! afterwards, 4 where memory was refused before a call, 5 where it was refused once the call had answered, and 1 where
+//! afterwards, 4 where memory was refused before a call, 5 where it was refused once the call had returned, and 1 where
 //! there is no call of a line, or something is not as it was.
 #![tactic(auto)]
 

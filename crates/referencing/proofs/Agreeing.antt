@@ -1,9 +1,9 @@
 -- Paths from resources that the pointer and the keywords read alike.
-use Rattle.std.proofs.Common.{◌≡◌, ◌∙◌, ℕ, List, [], ◌∷◌, ◌++◌, Some, Result, Ok, Err, IfOk, IfErr, sym, arith}
+use Rattle.std.proofs.Common.{◌≡◌, ◌∙◌, ℕ, List, [], ◌∷◌, ◌++◌, Some, Result, Ok, Err, sym, arith}
 use Rattle.std.specs.List.{Contains}
 use Rattle.std.proofs.lemmas.List.Elements.{All-contains, All-from_recursion}
 use Rattle.ref_parts.specs.Path.{Part, value_at}
-use Rattle.ref_definitions.specs.World.{Document, World, own_layer}
+use Rattle.ref_definitions.specs.World.{Document, World, local_documents}
 use Rattle.ref_definitions.specs.Places.{Place, places}
 use Rattle.ref_definitions.specs.Wants.{faults}
 use Rattle.ref_definitions.specs.Fault.{Fault}
@@ -15,7 +15,7 @@ use Rattle.ref_definitions.proofs.Located.{leads_to}
 use Rattle.ref_definitions.proofs.Standing.{StandsAt, all_stand_where}
 use Rattle.ref_error.specs.declared.error.Error.{Error}
 use Rattle.ref_error.specs.declared.error.Error.TheVariants as error
-use Rattle.ref_error.specs.Errors.{IsFaultOf, IsMemory}
+use Rattle.ref_error.specs.Errors.{IsFaultOf, IsMemory, Gives}
 use Rattle.ref_resolver.specs.declared.resolver.Resolved.{Resolved}
 use Rattle.ref_resolver.specs.Resolving.{found_of}
 use Rattle.referencing.specs.Listed.{AnswersPlace}
@@ -34,8 +34,8 @@ pub record LeadsHere (answer : Result world.Found Fault) (q : Place) (uri : List
   pub is : q.base ≡ Ok base
   pub found : answer ≡ Ok (found_at q uri base)
 
-pub leads_here : (world : World) (d : Document) (r q : Place) (uri : List ℕ) (path : List Part) → ((e : Document) → Contains (own_layer world) e → ChildrenStand e) → faults (own_layer world) ≡ []
-    → IsReadAlike (own_layer world) d r uri → IsAtOrBelow q r → q.path ≡ r.path ++ path → IsPathOfTexts path → LeadsHere (located_value world uri path) q uri
+pub leads_here : (world : World) (d : Document) (r q : Place) (uri : List ℕ) (path : List Part) → ((e : Document) → Contains (local_documents world) e → ChildrenStand e) → faults (local_documents world) ≡ []
+    → IsReadAlike (local_documents world) d r uri → IsAtOrBelow q r → q.path ≡ r.path ++ path → IsPathOfTexts path → LeadsHere (located_value world uri path) q uri
 leads_here [] d r q uri path children none alike under is texts = absurd (omega (arith, alike.document.1))
 leads_here (layer ∷ parents) d r q uri path children none alike under is texts =
     let base = place_has_base layer d q none alike.document (below_is_place d q r alike.place under) in
@@ -59,6 +59,6 @@ same_found : (answer : Result world.Found Fault) (a b : world.Found) → answer 
 same_found answer a b first second = let e : Ok a ≡ Ok b = sym first ∙ second in cc
 
 pub answers_place : (answer : Result world.Found Fault) (q : Place) (uri : List ℕ) (result : Result Resolved Error) → LeadsHere answer q uri
-    → IfOk result (λ found. answer ≡ Ok (found_of found)) → IfErr result (IsFaultOf answer) → AnswersPlace q uri result
-answers_place answer q uri (Ok found) leads ok fault = (leads.base, leads.is, same_found answer (found_of found) (found_at q uri leads.base) ok leads.found)
-answers_place answer q uri (Err error) leads ok fault = memory_alone answer (found_at q uri leads.base) error leads.found fault
+    → Gives found_of answer result → AnswersPlace q uri result
+answers_place answer q uri (Ok found) leads gives = (leads.base, leads.is, same_found answer (found_of found) (found_at q uri leads.base) gives leads.found)
+answers_place answer q uri (Err error) leads gives = memory_alone answer (found_at q uri leads.base) error leads.found gives

@@ -55,7 +55,7 @@ put_all : (es : Entries) (k : List ℕ) (v : PendingResource) → IsDistinct byt
 put_all [] k v apart = refl
 put_all (e ∷ es) k v apart = put_step e es k v (bytes_eq k e.0) refl (put_all es k v) apart
 
--- an entry that is put stands where the definition has it
+-- an entry that is put is where the definition has it
 pub entries_put : (es : Entries) (k : List ℕ) (v : PendingResource) → IsDistinct bytes_eq (keys_of (insert_entry bytes_eq es k v)) → map pending_under (insert_entry bytes_eq es k v) ≡ with_pending (map pending_under es) (pending_under (k, v))
 unfolding with_pending
 entries_put es k v apart = put_all es k v apart

@@ -6,3 +6,4 @@ pub mod Cloning
 pub mod Stepping
 pub mod Agreeing
 pub mod Shown
+pub mod Failing

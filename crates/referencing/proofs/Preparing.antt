@@ -1,11 +1,10 @@
 -- What outcomes say of a registry and of the limit.
 use Rattle.std.proofs.Common.{◌≡◌, ◌∙◌, ℕ, List, map, Ok, Err, ap, sym, subst}
-use Rattle.serde_json.specs.Data.{Data}
 use Rattle.ref_draft.specs.declared.draft.Draft.{Draft}
 use Rattle.ref_definitions.specs.World.{Layer, World}
 use Rattle.ref_definitions.specs.Fault as fault
 use Rattle.ref_definitions.specs.Fault.{Fault}
-use Rattle.ref_definitions.specs.Preparing.{Given, IsOutcome}
+use Rattle.ref_definitions.specs.Preparing.{Retriever, Given, IsOutcome}
 use Rattle.ref_definitions.specs.Closure.{IsReady, IsUsedUp}
 use Rattle.ref_definitions.specs.Pending.{builder_draft, document_of}
 use Rattle.ref_definitions.proofs.Closure.{outcome_laws}
@@ -16,12 +15,12 @@ use Rattle.referencing.specs.Builder.{Builder}
 use Rattle.referencing.specs.Prepared.{given_of, LimitIsUsedUp, AreComplete}
 use Rattle.ref_error.specs.Errors.{IsMemory}
 
--- what a builder gives, told by its draft, the indexes of its parents and its documents
-pub given_by : {R : Type 0} (P : Given → Type 0) (may_answer : List ℕ → Data → Type 0) (may_refuse : List ℕ → List ℕ → Type 0) (b : Builder R) (draft : Draft) (parents : World) (documents : Layer) → draft ≡ builder_draft b.draft → parents ≡ b.parents
-    → documents ≡ map (document_of draft) b.pending → P (given_with may_answer may_refuse b.limit draft parents documents) → P (given_of may_answer may_refuse b)
-given_by P may_answer may_refuse b draft parents documents set above added is =
-    subst (λ x. P (given_with may_answer may_refuse b.limit (builder_draft b.draft) b.parents x)) (added ∙ ap (λ d. map (document_of d) b.pending) set)
-    (subst (λ x. P (given_with may_answer may_refuse b.limit (builder_draft b.draft) x documents)) above (subst (λ d. P (given_with may_answer may_refuse b.limit d parents documents)) set is))
+-- what a builder gives, given by its draft, the indexes of its parents and its documents
+pub given_by : {R : Type 0} (P : Given → Type 0) (retriever : Retriever) (b : Builder R) (draft : Draft) (parents : World) (documents : Layer) → draft ≡ builder_draft b.draft → parents ≡ b.parents
+    → documents ≡ map (document_of draft) b.pending → P (given_with retriever b.limit draft parents documents) → P (given_of retriever b)
+given_by P retriever b draft parents documents set above added is =
+    subst (λ x. P (given_with retriever b.limit (builder_draft b.draft) b.parents x)) (added ∙ ap (λ d. map (document_of d) b.pending) set)
+    (subst (λ x. P (given_with retriever b.limit (builder_draft b.draft) x documents)) above (subst (λ d. P (given_with retriever b.limit d parents documents)) set is))
 
 pub ready_of : (g : Given) (layer : Layer) → IsOutcome g (Ok layer) → IsReady g layer
 ready_of g layer outcome = (outcome_laws g).ready layer outcome

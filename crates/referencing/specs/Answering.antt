@@ -31,16 +31,20 @@ Answers given base steps answer =
     (world : World) × IsPreparedOf given world × ReferencesAreRetrieved world
     × (followed_steps world base steps ≡ Ok answer)
 
--- an error is one of preparing; or, over a world that preparing may return, it says the fault of the first step that leads
--- nowhere, and the steps before it lead somewhere; or all steps do, and there is no memory for a copy of what they lead to
+-- over a world, an error says the fault of the first step that finds nothing, and the steps before it lead somewhere; or all
+-- steps do, and there is no memory for a copy of what they lead to
+abbrev pub FailsOver : World → List ℕ → List Step → AnswerError → Type 0
+FailsOver world base steps (error.Prepare e) = ⊥
+FailsOver world base steps (error.Follow e) =
+    IsStepFaultOf (followed_steps world base steps) e × ReachesStep world base steps e.step
+FailsOver world base steps (error.Memory memory) =
+    (f : Followed) × (followed_steps world base steps ≡ Ok f)
+
+-- an error is one of preparing, or one over a world that preparing may return
 abbrev pub IsFailureOf : Given → List ℕ → List Step → AnswerError → Type 0
 IsFailureOf given base steps (error.Prepare e) = IsFaultyOutcome given e
-IsFailureOf given base steps (error.Follow e) =
-    (world : World) × IsPreparedOf given world × IsStepFaultOf (followed_steps world base steps) e
-    × ReachesStep world base steps e.step
-IsFailureOf given base steps (error.Memory memory) =
-    (world : World) × IsPreparedOf given world
-    × ((f : Followed) × (followed_steps world base steps ≡ Ok f))
+IsFailureOf given base steps other =
+    (world : World) × IsPreparedOf given world × FailsOver world base steps other
 
 -- what is displayed of it: the fault of the documents, or of a step with its number; or that memory ran out
 abbrev pub answer_error_text : AnswerError → List ℕ

@@ -1,4 +1,4 @@
--- What the calls on places answer.
+-- What the calls on places return.
 use Rattle.std.specs.Prelude.{◌≡◌, ℕ, List, [], ◌∷◌, ◌++◌, Result, Ok, Err}
 use Rattle.ref_parts.specs.Path.{Part}
 use Rattle.ref_definitions.specs.World.{Document, Layer}
@@ -22,7 +22,7 @@ AnswersPlace q uri (Ok found) =
     })
 AnswersPlace q uri (Err error) = IsMemory error
 
--- from a resource that the pointer and the keywords read alike, a path answers the place that is there, at or below it
+-- from a resource that the pointer and the keywords read alike, a path gives the place that is there, at or below it
 abbrev pub Agrees : Layer → List ℕ → List Part → Result Resolved Error → Type 0
 Agrees layer uri path result =
     (d : Document) (r q : Place) → IsReadAlike layer d r uri → IsAtOrBelow q r

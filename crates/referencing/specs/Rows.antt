@@ -1,4 +1,4 @@
--- Worked rows of what the calls of a registry answer, for texts that stand for any.
+-- Worked rows of what the calls of a registry return, for texts that stand for any.
 use Rattle.std.specs.Prelude.{◌≡◌, ℕ, true, codes, List, [], ◌∷◌, Option, Some, None, Ok, Err, String, string_bytes}
 use Rattle.std.specs.declared.alloc.AllocError.{AllocError}
 use Rattle.std.specs.declared.alloc.Global.{Global}
@@ -17,7 +17,7 @@ use Rattle.ref_index.specs.Retrieval.{IsFaultyOutcome}
 use Rattle.ref_index.specs.Spots.{Spot}
 use Rattle.ref_resolver.specs.declared.resolver.Resolved.{Resolved}
 use Rattle.ref_resolver.specs.Layered.{IsHeld}
-use Rattle.ref_resolver.specs.Locations.{located, recursive_reference}
+use Rattle.ref_resolver.specs.Locations.{lookup_location, recursive_reference}
 use Rattle.ref_resolver.specs.Resolving.{found_of}
 use Rattle.referencing.specs.declared.answer.AnswerError.TheVariants as answer_error
 use Rattle.referencing.specs.Prepared.{IsPrepared, ReferencesAreRetrieved, IsPreparedOf, AreComplete, LimitIsUsedUp}
@@ -109,7 +109,7 @@ pub record PlaceRows : Type 0 where
       → found_of r ≡ found_value empty Draft7 (resolver "http://a/r" (codes "http://a/r" ∷ []))
       → ¬ (Agrees (at Draft7 "http://a/r" yes ∷ []) (codes "http://a/r") [] (Ok r))
 
--- where the values stand that references lead to: two documents with equal values; two equal places of one document, one of
+-- where the values are that references lead to: two documents with equal values; two equal places of one document, one of
 -- which is named; two documents with the same identifier and anchor; and a parent
 abbrev pub equal_documents : World
 equal_documents = world (at Draft202012 "http://a/r" yes ∷ at Draft202012 "http://a/s" yes ∷ [])
@@ -148,30 +148,30 @@ abbrev pub spot : ℕ → ℕ → List Part → Option (ℕ × Spot)
 spot layer document path = Some (layer, record { document = document; path = path })
 
 pub record LocationRows : Type 0 where
-  pub first_of_two : located equal_documents (resolver "http://a/r" []) (codes "#") ≡ spot 0 0 []
-  pub second_of_two : located equal_documents (resolver "http://a/r" []) (codes "s") ≡ spot 0 1 []
-  pub not_the_other : ¬ (located equal_documents (resolver "http://a/r" []) (codes "s")
+  pub first_of_two : lookup_location equal_documents (resolver "http://a/r" []) (codes "#") ≡ spot 0 0 []
+  pub second_of_two : lookup_location equal_documents (resolver "http://a/r" []) (codes "s") ≡ spot 0 1 []
+  pub not_the_other : ¬ (lookup_location equal_documents (resolver "http://a/r" []) (codes "s")
       ≡ spot 0 0 [])
-  pub by_pointer : located equal_places (resolver "http://a/r" []) (codes "#/$defs/b")
+  pub by_pointer : lookup_location equal_places (resolver "http://a/r" []) (codes "#/$defs/b")
       ≡ spot 0 0 (Key (codes "$defs") ∷ Key (codes "b") ∷ [])
-  pub last_identifier : located one_identifier (resolver "http://a/k" []) (codes "#") ≡ spot 0 1 []
-  pub last_anchor : located one_identifier (resolver "http://a/k" []) (codes "#x") ≡ spot 0 1 []
-  pub own_anchor : located one_identifier (resolver "http://a/r" []) (codes "#x") ≡ spot 0 0 []
-  pub of_a_parent : located ((c_is_true ∷ []) ∷ equal_documents) (resolver "http://a/c" [])
+  pub last_identifier : lookup_location one_identifier (resolver "http://a/k" []) (codes "#") ≡ spot 0 1 []
+  pub last_anchor : lookup_location one_identifier (resolver "http://a/k" []) (codes "#x") ≡ spot 0 1 []
+  pub own_anchor : lookup_location one_identifier (resolver "http://a/r" []) (codes "#x") ≡ spot 0 0 []
+  pub of_a_parent : lookup_location ((c_is_true ∷ []) ∷ equal_documents) (resolver "http://a/c" [])
       (codes "s") ≡ spot 1 1 []
-  pub in_a_list : located listed_places (resolver "http://a/r" []) (codes "#/allOf/1")
+  pub in_a_list : lookup_location listed_places (resolver "http://a/r" []) (codes "#/allOf/1")
       ≡ spot 0 0 (Key (codes "allOf") ∷ Index 1 ∷ [])
-  pub identified_in_a_list : located listed_places (resolver "http://a/r" []) (codes "k")
+  pub identified_in_a_list : lookup_location listed_places (resolver "http://a/r" []) (codes "k")
       ≡ spot 0 0 (Key (codes "allOf") ∷ Index 1 ∷ [])
-  pub outermost_of_the_scope : located dynamic_anchors
+  pub outermost_of_the_scope : lookup_location dynamic_anchors
       (resolver "http://a/r" (codes "http://a/r" ∷ codes "http://a/s" ∷ [])) (codes "#x")
       ≡ spot 0 1 []
-  pub not_the_base : ¬ (located dynamic_anchors
+  pub not_the_base : ¬ (lookup_location dynamic_anchors
       (resolver "http://a/r" (codes "http://a/s" ∷ [])) (codes "#x")
       ≡ spot 0 0 [])
-  pub without_a_scope : located dynamic_anchors (resolver "http://a/r" []) (codes "#x")
+  pub without_a_scope : lookup_location dynamic_anchors (resolver "http://a/r" []) (codes "#x")
       ≡ spot 0 0 []
-  pub nowhere : located equal_documents (resolver "http://a/r" []) (codes "t") ≡ None
+  pub nowhere : lookup_location equal_documents (resolver "http://a/r" []) (codes "t") ≡ None
   pub not_marked : recursive_reference equal_documents
       (resolver "http://a/r" (codes "http://a/s" ∷ [])) ≡ codes "#"
   pub last_marked : recursive_reference recursive_anchors
@@ -180,6 +180,6 @@ pub record LocationRows : Type 0 where
       (resolver "http://a/r" (codes "http://a/t" ∷ codes "http://a/s" ∷ [])) ≡ codes "#"
   pub base_not_marked : recursive_reference recursive_anchors
       (resolver "http://a/t" (codes "http://a/s" ∷ [])) ≡ codes "#"
-  pub where_the_last_marked_is : located recursive_anchors
+  pub where_the_last_marked_is : lookup_location recursive_anchors
       (resolver "http://a/r" (codes "http://a/s" ∷ [])) (codes "http://a/s")
       ≡ spot 0 1 []

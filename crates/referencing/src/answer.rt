@@ -1,18 +1,20 @@
 //! From documents to what steps lead to, in one call.
-ghost use Rattle.std.specs.Prelude.{◌≡◌, map, IfOk, IfErr};
+ghost use Rattle.std.specs.Prelude.{◌≡◌, map, IfOk, IfErr, Ok};
+ghost use Rattle.ref_definitions.specs.Follow.{followed_steps};
 ghost use Rattle.referencing.specs.Builder.{builder_of};
 ghost use Rattle.referencing.specs.Prepared.{given_of};
 ghost use Rattle.referencing.specs.Following.{step_of, lent_last, followed_of};
-ghost use Rattle.referencing.specs.Answering.{copied_last, answer_of, Answers, IsFailureOf};
+ghost use Rattle.referencing.specs.Answering.{copied_last, answer_of, Answers, FailsOver, IsFailureOf};
 
 use crate::builder::RegistryBuilder;
+use crate::registry::Registry;
 use crate::steps::{FollowError, Followed, Step, follow};
 use ref_draft::Draft;
 use ref_error::{Error, Retrieve};
 use ref_parts::list::List;
 use ref_uri::Uri;
 use serde_json::Value;
-use std::alloc::AllocError;
+use std::alloc::{AllocError, Global};
 use std::fmt;
 use std::rc::Rc;
 
@@ -77,6 +79,27 @@ fn answered(followed: Followed<'_>) -> Result<Answer, AllocError>
     })
 }
 
+// Where steps lead over a registry, copied.
+fn answer_over(
+    alloc: Global,
+    registry: &Registry<'_>,
+    base: Uri,
+    steps: &[Step<'_>],
+) -> Result<Answer, AnswerError>
+    ensures answer { IfOk result
+        (λ answer. followed_steps registry.now base (map step_of steps.now)
+        ≡ Ok (answer_of answer)) }
+    ensures fault { IfErr result (FailsOver registry.now base (map step_of steps.now)) }
+{
+    match follow(alloc, registry, base, steps) {
+        Ok(followed) => match answered(followed) {
+            Ok(answer) => Ok(answer),
+            Err(error) => Err(AnswerError::Memory(error)),
+        },
+        Err(error) => Err(AnswerError::Follow(error)),
+    }
+}
+
 impl<'a, R: Retrieve + Drop> RegistryBuilder<'a, R> {
     /// Prepares the documents, follows steps from a base URI, and copies what they lead to out of the registry: one question
     /// to documents that nothing else is asked of.
@@ -88,27 +111,17 @@ impl<'a, R: Retrieve + Drop> RegistryBuilder<'a, R> {
     pub fn prepare_and_follow(self, base: Uri, steps: &[Step<'_>]) -> Result<Answer, AnswerError>
         ensures answer { IfOk result
             (λ answer. Answers
-            (given_of (R.may_answer (builder_of self.entry).retriever)
-            (R.may_refuse (builder_of self.entry).retriever) (builder_of self.entry)) base
+            (given_of (R.meaning (builder_of self.entry).retriever) (builder_of self.entry)) base
             (map step_of steps.now) (answer_of answer)) }
         ensures fault { IfErr result
             (IsFailureOf
-            (given_of (R.may_answer (builder_of self.entry).retriever)
-            (R.may_refuse (builder_of self.entry).retriever) (builder_of self.entry)) base
+            (given_of (R.meaning (builder_of self.entry).retriever) (builder_of self.entry)) base
             (map step_of steps.now)) }
     {
         let alloc = self.alloc;
-        let registry = match self.prepare() {
-            Ok(registry) => registry,
-            Err(error) => return Err(AnswerError::Prepare(error)),
-        };
-        let followed = match follow(alloc, &registry, base, steps) {
-            Ok(followed) => followed,
-            Err(error) => return Err(AnswerError::Follow(error)),
-        };
-        match answered(followed) {
-            Ok(answer) => Ok(answer),
-            Err(error) => Err(AnswerError::Memory(error)),
+        match self.prepare() {
+            Ok(registry) => answer_over(alloc, &registry, base, steps),
+            Err(error) => Err(AnswerError::Prepare(error)),
         }
     }
 }

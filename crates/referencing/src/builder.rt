@@ -35,7 +35,7 @@ pub struct RegistryBuilder<'a, R = DefaultRetriever> {
 pub const DEFAULT_RETRIEVAL_LIMIT: usize = 10_000;
 
 impl<'a> RegistryBuilder<'a> {
-    // Without documents, above these parents, of which the nearest stands first.
+    // Without documents, above these parents, of which the nearest is first.
     pub(crate) fn new(alloc: Global, parents: Vec<&'a Index<'a>>) -> RegistryBuilder<'a>
         ensures parents { (builder_of result).parents ≡ map (λ p. p.now) parents.entry.items }
         ensures pending { (builder_of result).pending ≡ [] }
@@ -183,7 +183,7 @@ impl<'a, R: Clone> RegistryBuilder<'a, R> {
     /// retriever. Takes memory for the list of parents, for the documents' URIs and for what the retriever's clone takes; no
     /// value is copied.
     ///
-    /// Asks that the retriever's clone equals it. A retriever without a clone can be lent, as `&MapRetriever`.
+    /// Asks that the retriever's clone equals it. A retriever without a clone can be borrowed, as `&MapRetriever`.
     pub fn clone(&self) -> Result<Self, AllocError>
         requires same { (x y : R) → R.is_clone x y → y ≡ x }
         ensures value { IfOk result (λ copy. builder_of copy ≡ builder_of self.now) }
@@ -214,7 +214,7 @@ impl<'a, R> fmt::Debug for RegistryBuilder<'a, R> {
     }
 }
 
-/// The builder above these parents, of which the nearest stands first; all else stays.
+/// The builder above these parents, of which the nearest is first; all else stays.
 pub(crate) fn above<'a>(
     builder: RegistryBuilder<'a>,
     parents: Vec<&'a Index<'a>>,

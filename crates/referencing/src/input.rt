@@ -22,7 +22,8 @@ pub struct PendingResource<'a> {
 impl<'a> Clone for PendingResource<'a> {
     ghost use Rattle.ref_index.specs.Contents.{tree_of};
 
-    ghost is_clone = { λ p copy. (tree_of copy.contents ≡ tree_of p.contents) × (copy.draft ≡ p.draft) };
+    ghost is_clone = { λ p copy. (tree_of copy.contents ≡ tree_of p.contents)
+        × (copy.draft ≡ p.draft) };
 
     /// A handle of a value that is borrowed or shared. One that is owned is copied, which takes memory for its tree and
     /// is linear in it; a builder holds none. Fails as out of memory.

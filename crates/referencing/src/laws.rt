@@ -62,7 +62,7 @@ pub fn place_rows()
     ensures rows { PlaceRows }
 {}
 
-/// Rows of where the values stand that references lead to.
+/// Rows of where the values are that references lead to.
 pub fn location_rows()
     ensures rows { LocationRows }
 {}

@@ -13,7 +13,7 @@ pub mod meta;
 mod places;
 mod prepare;
 mod registry;
-pub mod steps;
+mod steps;
 mod written;
 
 pub use answer::{Answer, AnswerError};

@@ -1,14 +1,14 @@
 //! The places of a registry's own documents, and the values there, by paths.
-ghost use Rattle.std.specs.Prelude.{◌≡◌, map, option_map, option_and_then, slice_get, IfOk, IfErr, Ok};
+ghost use Rattle.std.specs.Prelude.{◌≡◌, map, option_map, option_and_then, slice_get, IfOk, IfErr};
 ghost use Rattle.std.specs.List.{Contains};
 ghost use Rattle.serde_json.specs.View.{view};
 ghost use Rattle.ref_parts.specs.Path.{value_at};
 ghost use Rattle.ref_parts.specs.Segment.{part_of};
-ghost use Rattle.ref_definitions.specs.World.{Document as WorldDocument, own_layer};
+ghost use Rattle.ref_definitions.specs.World.{Document as WorldDocument, local_documents};
 ghost use Rattle.ref_definitions.specs.Places.{Place as WorldPlace, places};
-ghost use Rattle.ref_definitions.specs.Listing.{own_places};
+ghost use Rattle.ref_definitions.specs.Listing.{local_places};
 ghost use Rattle.ref_definitions.specs.Lookup.{located_value};
-ghost use Rattle.ref_error.specs.Errors.{IsFaultOf, IsMemory};
+ghost use Rattle.ref_error.specs.Errors.{Gives, IsMemory};
 ghost use Rattle.ref_index.specs.Document.{document_of};
 ghost use Rattle.ref_index.specs.Listing.{listed_of};
 ghost use Rattle.ref_resolver.specs.Resolving.{found_of, world_found};
@@ -30,9 +30,9 @@ impl<'a> Registry<'a> {
     /// the URI that it was added or retrieved under, which an identifier of its root may replace as the base, its
     /// value, and the draft of its root. Those of parents are left out. Takes no memory.
     pub fn documents(&self) -> &[Document<'a>]
-        ensures value { map document_of result.now ≡ own_layer self.now }
+        ensures value { map document_of result.now ≡ local_documents self.now }
     {
-        self.own_index().documents()
+        self.local_index().documents()
     }
 
     /// The value at a path of an own document, which is counted from 0 in the order in which their URIs were first
@@ -42,7 +42,7 @@ impl<'a> Registry<'a> {
     pub fn value_at(&self, document: usize, path: &[JsonPointerSegment<'_>]) -> Option<&Value>
         ensures value { option_map (λ v. view v.now) result
             ≡ option_and_then (λ d. value_at d.tree (map part_of path.now))
-            (slice_get (own_layer self.now) document) }
+            (slice_get (local_documents self.now) document) }
     {
         let tree = self.tree(document)?;
         value_at(tree, path)
@@ -53,15 +53,15 @@ impl<'a> Registry<'a> {
     /// subschemas, and so on level by level, each with its value. Refuses as `Memory` alone.
     ///
     /// Each place is visited once, with a look-up where it has an identifier; its path is copied, and the URI of each document;
-    /// keys are lent, and the other URIs shared.
+    /// keys are borrowed, and the other URIs shared.
     pub fn places(&self, alloc: Global) -> Result<Vec<Place<'_>>, Error>
         ensures value { IfOk result
-            (λ places. map listed_of places.items ≡ own_places (own_layer self.now)) }
-        ensures stand { (d : WorldDocument) (p : WorldPlace) → Contains (own_layer self.now) d
+            (λ places. map listed_of places.items ≡ local_places (local_documents self.now)) }
+        ensures stand { (d : WorldDocument) (p : WorldPlace) → Contains (local_documents self.now) d
             → Contains (places d) p → value_at d.tree p.path ≡ Some p.value }
         ensures memory { IfErr result IsMemory }
     {
-        Ok(self.own_index().places(alloc)?)
+        Ok(self.local_index().places(alloc)?)
     }
 
     /// Where a path leads from a base: the look-up, from a new resolver at the base, of `#` and the path's pointer text, as a
@@ -81,18 +81,15 @@ impl<'a> Registry<'a> {
         base: &Uri,
         path: &[JsonPointerSegment<'_>],
     ) -> Result<Resolved<'_>, Error>
-        ensures value { IfOk result
-            (λ found. located_value self.now base.now (map part_of path.now)
-            ≡ Ok (found_of found)) }
+        ensures gives { Gives found_of (located_value self.now base.now (map part_of path.now))
+            result }
         ensures world { IfOk result (λ found. world_found found ≡ self.now) }
-        ensures fault { IfErr result
-            (IsFaultOf (located_value self.now base.now (map part_of path.now))) }
-        ensures agrees { Agrees (own_layer self.now) base.now (map part_of path.now) result }
+        ensures agrees { Agrees (local_documents self.now) base.now (map part_of path.now) result }
     {
         // that children of places are at their paths
-        let _ = self.own_index();
+        let _ = self.local_index();
         let reference = reference_of(alloc, path)?;
-        let resolver = self.resolver(alloc, base.clone()?)?;
-        resolver.lookup(alloc, reference.as_str())
+        let base = base.clone()?;
+        self.lookup(alloc, base, reference.as_str())
     }
 }

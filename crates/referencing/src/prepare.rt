@@ -65,8 +65,8 @@ fn documents<'a>(
 impl<'a, R: Retrieve + Drop> RegistryBuilder<'a, R> {
     /// The registry of the documents that were added and of those that they want: for the first URI that a `$ref` or an
     /// unknown `$schema` names and that means no place, the retriever is asked, and its document is walked before the next;
-    /// at most as many as the limit. It stands above the builder's parents, whose places meet wants too. Nothing is
-    /// retrieved once it stands.
+    /// at most as many as the limit. It is above the builder's parents, whose places meet wants too. Nothing is
+    /// retrieved once it is prepared.
     ///
     /// Refuses as `InvalidUri` for the first identifier, `$ref` or `$schema` of the documents that means no URI; as
     /// `RetrievalLimit` where a URI is wanted and as many documents were retrieved as may be; as `Unretrievable` for a `$ref`
@@ -76,26 +76,21 @@ impl<'a, R: Retrieve + Drop> RegistryBuilder<'a, R> {
     pub fn prepare(self) -> Result<Registry<'a>, Error>
         ensures outcome { IfOk result
             (IsPreparedOf
-            (given_of (R.may_answer (builder_of self.entry).retriever)
-            (R.may_refuse (builder_of self.entry).retriever) (builder_of self.entry))) }
+            (given_of (R.meaning (builder_of self.entry).retriever) (builder_of self.entry))) }
         ensures fault { IfErr result
             (IsFaultyOutcome
-            (given_of (R.may_answer (builder_of self.entry).retriever)
-            (R.may_refuse (builder_of self.entry).retriever) (builder_of self.entry))) }
+            (given_of (R.meaning (builder_of self.entry).retriever) (builder_of self.entry))) }
         ensures alone { AreComplete
-            (given_of (R.may_answer (builder_of self.entry).retriever)
-            (R.may_refuse (builder_of self.entry).retriever) (builder_of self.entry))
+            (given_of (R.meaning (builder_of self.entry).retriever) (builder_of self.entry))
             → IfOk result
             (λ registry. registry
-            ≡ (given_of (R.may_answer (builder_of self.entry).retriever)
-            (R.may_refuse (builder_of self.entry).retriever)
+            ≡ (given_of (R.meaning (builder_of self.entry).retriever)
             (builder_of self.entry)).documents
             ∷ (builder_of self.entry).parents)
             × IfErr result IsMemory }
         ensures limit { IfErr result
             (LimitIsUsedUp
-            (given_of (R.may_answer (builder_of self.entry).retriever)
-            (R.may_refuse (builder_of self.entry).retriever) (builder_of self.entry))) }
+            (given_of (R.meaning (builder_of self.entry).retriever) (builder_of self.entry))) }
     {
         let draft = self.draft.unwrap_or(Draft::Draft202012);
         let documents = documents(self.alloc, draft, self.pending)?;

@@ -4,7 +4,7 @@ ghost use Rattle.std.specs.Iterator.{Yields, IsFiniteIterable};
 ghost use Rattle.std.specs.List.{Contains};
 ghost use Rattle.serde_json.specs.View.{view};
 ghost use Rattle.ref_uri.specs.Targets.{uri_against};
-ghost use Rattle.ref_definitions.specs.World.{Document as WorldDocument, own_layer};
+ghost use Rattle.ref_definitions.specs.World.{Document as WorldDocument, local_documents};
 ghost use Rattle.ref_definitions.specs.Agreement.{ChildrenStand};
 ghost use Rattle.ref_definitions.specs.Places.{Place, places};
 ghost use Rattle.ref_definitions.specs.Fault.{as_invalid_uri};
@@ -30,7 +30,7 @@ use std::marker::Model;
 use std::rc::Rc;
 
 /// Documents whose references are resolved among them, and the registries that they were added to, nearest first. Nothing is
-/// retrieved once it stands. Contracts see the documents, layer by layer: its own first, then its parent's.
+/// retrieved once it is prepared. Contracts see the documents, layer by layer: its own first, then its parent's.
 #[derive(Drop)]
 pub struct Registry<'a> {
     own: Rc<Index<'a>>,
@@ -40,7 +40,7 @@ pub struct Registry<'a> {
 impl<'a> Model for Registry<'a> {
     ghost use Rattle.std.specs.Prelude.{List, ◌∷◌, map};
     ghost use Rattle.ref_definitions.specs.World.{Document as WorldDocument};
-    ghost use Rattle.ref_index.specs.inner.Codes.{world_code};
+    ghost use Rattle.ref_index.specs.Codes.{world_code};
 
     ghost Value = { List (List WorldDocument) };
 
@@ -147,16 +147,16 @@ impl<'a> Registry<'a> {
     /// The value of the own document with a number. A look-up; takes no memory.
     pub(crate) fn tree(&self, document: usize) -> Option<&Value>
         ensures value { option_map (λ v. view v.now) result
-            ≡ option_map (λ d. d.tree) (slice_get (own_layer self.now) document) }
+            ≡ option_map (λ d. d.tree) (slice_get (local_documents self.now) document) }
     {
         self.own.tree(document)
     }
 
     /// The index of the own documents. Takes no memory.
-    pub(crate) fn own_index(&self) -> &Index<'a>
-        ensures value { result.now ≡ own_layer self.now }
-        ensures no_fault { faults (own_layer self.now) ≡ [] }
-        ensures children { (d : WorldDocument) → Contains (own_layer self.now) d → ChildrenStand d }
+    pub(crate) fn local_index(&self) -> &Index<'a>
+        ensures value { result.now ≡ local_documents self.now }
+        ensures no_fault { faults (local_documents self.now) ≡ [] }
+        ensures children { (d : WorldDocument) → Contains (local_documents self.now) d → ChildrenStand d }
     {
         self.own.children_stand();
         &self.own
@@ -208,10 +208,10 @@ impl<'a> Registry<'a> {
     /// scope, the text under its
     /// `$ref` is never unretrievable. A law; the call does nothing.
     pub fn references_are_retrieved(&self)
-        ensures no_fault { faults (own_layer self.now) ≡ [] }
-        ensures no_want { open_wants self.now (own_layer self.now) ≡ [] }
+        ensures no_fault { faults (local_documents self.now) ≡ [] }
+        ensures no_want { open_wants self.now (local_documents self.now) ≡ [] }
         ensures law { ReferencesAreRetrieved self.now }
-        ensures bases { (d : WorldDocument) (place : Place) → Contains (own_layer self.now) d
+        ensures bases { (d : WorldDocument) (place : Place) → Contains (local_documents self.now) d
             → Contains (places d) place → (base : List ℕ) × (place.base ≡ Ok base) }
     {
         let _ = &self.own;

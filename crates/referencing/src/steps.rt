@@ -1,10 +1,14 @@
 //! Steps that are followed one after another from a base URI.
-ghost use Rattle.std.specs.Prelude.{◌≡◌, ◌≤◌, [], map, length, IfOk, IfErr, Ok};
+ghost use Rattle.std.specs.Prelude.{◌≡◌, ◌≤◌, [], map, length, IfOk, IfErr, Result};
+ghost use Rattle.ref_definitions.specs.Fault.{Fault};
 ghost use Rattle.ref_definitions.specs.Follow as world;
+ghost use Rattle.ref_definitions.specs.Lookup as world_lookup;
+ghost use Rattle.ref_definitions.specs.World.{World};
+ghost use Rattle.referencing.specs.declared.steps.Step.TheVariants.{Enter};
 ghost use Rattle.ref_definitions.specs.Lookup.{lookup};
 ghost use Rattle.ref_error.specs.Errors.{Gives};
 ghost use Rattle.ref_resolver.specs.Resolving.{resolver_of, world_of, found_of, world_found};
-ghost use Rattle.referencing.specs.Following.{step_of, followed_of, IsStepFaultOf, ReachesStep};
+ghost use Rattle.referencing.specs.Following.{step_of, followed_of, after_found, GivesSteps, ReachesStep};
 
 use crate::registry::Registry;
 use ref_draft::{Draft, ResourceRef};
@@ -70,6 +74,39 @@ fn after_lookup<'r>(found: Resolved<'r>) -> Followed<'r>
     }
 }
 
+// What a look-up led to, or its error.
+fn after_found<'r>(found: Result<Resolved<'r>, Error>) -> Result<Followed<'r>, Error>
+    ensures gives { (meant : Result world_lookup.Found Fault) → Gives found_of meant found.entry
+        → Gives followed_of (after_found meant) result }
+    ensures world { (documents : World) → IfOk found.entry (λ f. world_found f ≡ documents)
+        → IfOk result (λ f. world_of f.resolver ≡ documents) }
+{
+    match found {
+        Ok(found) => Ok(after_lookup(found)),
+        Err(error) => Err(error),
+    }
+}
+
+// Where entering a resource leads.
+fn after_entering<'r>(
+    alloc: Global,
+    followed: &Followed<'r>,
+    resource: ResourceRef<'_>,
+) -> Result<Followed<'r>, Error>
+    ensures gives { Gives followed_of
+        (world.after_step (world_of followed.now.resolver) (followed_of followed.now)
+        (step_of (Enter resource.entry))) result }
+    ensures world { IfOk result (λ f. world_of f.resolver ≡ world_of followed.now.resolver) }
+{
+    match followed.resolver.in_subresource(alloc, resource) {
+        Ok(resolver) => Ok(Followed {
+            last: followed.last,
+            resolver,
+        }),
+        Err(error) => Err(error),
+    }
+}
+
 // One step further.
 fn stepped<'r>(
     alloc: Global,
@@ -83,15 +120,9 @@ fn stepped<'r>(
 {
     let resolver = &followed.resolver;
     match step {
-        Step::Lookup(reference) => Ok(after_lookup(resolver.lookup(alloc, reference)?)),
-        Step::Recursive => Ok(after_lookup(resolver.lookup_recursive_ref(alloc)?)),
-        Step::Enter(resource) => {
-            let resolver = resolver.in_subresource(alloc, *resource)?;
-            Ok(Followed {
-                last: followed.last,
-                resolver,
-            })
-        }
+        Step::Lookup(reference) => after_found(resolver.lookup(alloc, reference)),
+        Step::Recursive => after_found(resolver.lookup_recursive_ref(alloc)),
+        Step::Enter(resource) => after_entering(alloc, followed, *resource),
     }
 }
 
@@ -131,7 +162,7 @@ impl<'a> Registry<'a> {
 }
 
 /// Where steps lead, one after another, from a base URI with an empty dynamic scope: each lookup starts from what the last one
-/// answered.
+/// returned.
 ///
 /// The first step that finds no value ends it, with its number and the fault of [`Resolver::lookup`],
 /// [`Resolver::lookup_recursive_ref`] or [`Resolver::in_subresource`]; so does out of memory, with the number of the step that
@@ -142,11 +173,9 @@ pub fn follow<'r, 'a>(
     base: Uri,
     steps: &[Step<'_>],
 ) -> Result<Followed<'r>, FollowError>
-    ensures ok { IfOk result
-        (λ f. world.followed_steps registry.now base (map step_of steps.now) ≡ Ok (followed_of f)) }
+    ensures gives { GivesSteps (world.followed_steps registry.now base (map step_of steps.now))
+        result }
     ensures world { IfOk result (λ f. world_of f.resolver ≡ registry.now) }
-    ensures fault { IfErr result
-        (IsStepFaultOf (world.followed_steps registry.now base (map step_of steps.now))) }
     ensures step { IfErr result (λ e. e.step ≤ length steps.now) }
     ensures reached { IfErr result
         (λ e. ReachesStep registry.now base (map step_of steps.now) e.step) }

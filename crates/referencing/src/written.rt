@@ -3,6 +3,7 @@ ghost use Rattle.std.specs.Prelude.{◌≡◌, ◌<◌, ◌∷◌, map, string_b
 ghost use Rattle.ref_parts.specs.Encoded.{encoded_text};
 ghost use Rattle.ref_parts.specs.Pointer.{pointer_text};
 ghost use Rattle.ref_parts.specs.Segment.{part_of};
+ghost use Rattle.ref_uri.specs.Bytes.{hash};
 ghost use Rattle.ref_definitions.specs.Agreement.{IsPathOfTexts};
 
 use ref_parts::path::JsonPointerSegment;
@@ -11,7 +12,7 @@ use std::alloc::{AllocError, Global};
 
 // `#` and a pointer, as a fragment holds it (RFC 6901, section 6).
 fn fragment_of(alloc: Global, pointer: &str) -> Result<String, AllocError>
-    ensures text { IfOk result (λ text. string_bytes text ≡ 35 ∷ encoded_text pointer.now) }
+    ensures text { IfOk result (λ text. string_bytes text ≡ hash ∷ encoded_text pointer.now) }
     ensures utf8 { IsUtf8 pointer.now }
     ensures bytes { All (λ b. b < 256) pointer.now }
 {
@@ -29,7 +30,7 @@ pub(crate) fn reference_of(
     path: &[JsonPointerSegment<'_>],
 ) -> Result<String, AllocError>
     ensures text { IfOk result
-        (λ text. string_bytes text ≡ 35 ∷ encoded_text (pointer_text (map part_of path.now))) }
+        (λ text. string_bytes text ≡ hash ∷ encoded_text (pointer_text (map part_of path.now))) }
     ensures texts { OnOk result (IsPathOfTexts (map part_of path.now)) }
 {
     let pointer = pointer_of(alloc, path)?;

@@ -83,7 +83,7 @@ fn stepped<'r>(alloc: Global, from: &Followed<'r>, step: &Step<'_>) -> Result<Fo
     }
 }
 
-/// The same by calls on resolvers, each on the one that the last call answered.
+/// The same by calls on resolvers, each on the one that the last call returned.
 fn led_by_calls(
     alloc: Global,
     registry: &Registry<'_>,
@@ -137,7 +137,7 @@ fn answers(alloc: Global, registry: &Registry<'_>, row: &Value) -> Result<String
     answered(alloc, registry, base, [first, second])
 }
 
-/// Where the value stands that a reference leads to from a resolver, or a recursive one, which is `*`: the layer, the
+/// Where the value is that a reference leads to from a resolver, or a recursive one, which is `*`: the layer, the
 /// number of the document, and the pointer there.
 fn standing(alloc: Global, resolver: &Resolver<'_>, reference: &str) -> Result<String, Fault> {
     let answer = match reference {

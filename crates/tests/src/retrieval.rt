@@ -1,7 +1,5 @@
 //! Retrievers of the tests' own: one that counts, one that has no memory, one that refuses, one whose documents never
 //! end, and one that has every document.
-ghost use Rattle.std.specs.Prelude.{⊤};
-
 use crate::fault::{Fault, done, made};
 use crate::faults::reason_of;
 use crate::registries::{known, prepared, resolver};
@@ -21,11 +19,9 @@ struct Counting {
 }
 
 impl Retrieve for Counting {
-    ghost use Rattle.std.specs.Prelude.{⊤};
+    ghost use Rattle.ref_definitions.specs.Retrievers.{any_retriever};
 
-    ghost may_answer = { λ _ _ _. ⊤ };
-
-    ghost may_refuse = { λ _ _ _. ⊤ };
+    ghost meaning = { λ _. any_retriever };
 
     fn retrieve(&self, alloc: Global, uri: &Uri) -> Result<Value, RetrieveError> {
         self.calls.set(self.calls.get().saturating_add(1));
@@ -69,11 +65,9 @@ enum Always<'r> {
 }
 
 impl Retrieve for Always<'_> {
-    ghost use Rattle.std.specs.Prelude.{⊤};
+    ghost use Rattle.ref_definitions.specs.Retrievers.{any_retriever};
 
-    ghost may_answer = { λ _ _ _. ⊤ };
-
-    ghost may_refuse = { λ _ _ _. ⊤ };
+    ghost meaning = { λ _. any_retriever };
 
     fn retrieve(&self, alloc: Global, uri: &Uri) -> Result<Value, RetrieveError> {
         match self {

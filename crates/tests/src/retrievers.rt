@@ -1,4 +1,4 @@
-//! What retrievers answer.
+//! What retrievers return.
 use crate::fault::{Fault, done, made};
 use crate::row;
 use ref_error::{DefaultRetriever, MapRetriever, Retrieve};
@@ -38,8 +38,8 @@ fn each_retrieved(
     Ok(answers)
 }
 
-/// Of a row of documents, URIs and one more: what a retriever of the documents answers for each, for the last of them
-/// itself and else behind a reference.
+/// Of a row of documents, URIs and one more: what a retriever of the documents returns for each, for the last of them
+/// itself and else after a reference.
 fn of_documents(alloc: Global, row: &Value) -> Result<String, Fault> {
     let retriever = row::retriever(alloc, row, 1)?;
     let answers = each_retrieved(alloc, &retriever, row::list(row, 2)?)?;

@@ -1,7 +1,7 @@
 //! How many rows of each table hold.
 use std::alloc::{AllocError, Global};
 
-/// The table that is read, whose rows stand one after the other.
+/// The table that is read, whose rows are one after the other.
 #[derive(Drop)]
 pub struct Tally {
     line: u64,

@@ -1,4 +1,4 @@
-//! What uses of the library answer, as callers write them.
+//! What uses of the library return, as callers write them.
 use crate::fault::{Fault, done, made};
 use crate::registries::resolver;
 use crate::row;
@@ -32,7 +32,7 @@ fn registry_of_both<'v>(
     done(alloc, builder.prepare())
 }
 
-/// What a validator answers of an instance, by the resolver at the root of a schema.
+/// What a validator returns of an instance, by the resolver at the root of a schema.
 fn verdict_by(
     alloc: Global,
     resolver: &Resolver<'_>,
@@ -47,7 +47,7 @@ fn verdict_by(
     made(format!(in alloc; "{verdict:?}"))
 }
 
-/// What a validator answers of an instance, from the root of a schema.
+/// What a validator returns of an instance, from the root of a schema.
 fn verdict(alloc: Global, schema: &Value, instance: &Value) -> Result<String, Fault> {
     let registry = registry_of(alloc, "http://a/r", schema)?;
     let resolver = resolver(alloc, &registry, "http://a/r")?;
@@ -192,7 +192,7 @@ fn asked(alloc: Global, document: &Value, reference: &str) -> Result<String, Fau
     made(shown(alloc, builder, base, &steps))
 }
 
-/// Of a row of a document and of what is asked of it: what the use answers.
+/// Of a row of a document and of what is asked of it: what the use returns.
 pub fn found(alloc: Global, table: &str, row: &Value) -> Result<String, Fault> {
     let (document, asked) = (row::column(row, 1)?, row::column(row, 2)?);
     let text = asked.as_str().unwrap_or("no text");

@@ -29,7 +29,7 @@ pub const ROWS: &str = r##"
 ["//","[]v1.:@",6,137257,7619]
 
 # repeated references: 1
-// A piece, how often it is in a path, and the path that this leads to: another piece, how often it stands, and the rest.
+// A piece, how often it is in a path, and the path that this leads to: another piece, how often it is, and the rest.
 // A path of `..` and `a` in turn leads to `a` at the root.
 ["/../a",1500,"/a",1,""]
 

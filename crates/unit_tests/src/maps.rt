@@ -118,7 +118,7 @@ fn text_and_keys_stand_for_equal_keys(rt: HostRuntime) -> Result<(), Fail> {
 
 // ---- maps from texts to numbers
 
-/// Ends the test where a map answers otherwise than its row, by text or by key.
+/// Ends the test where a map returns something else than its row says, by text or by key.
 fn assert_counts(
     rt: &impl Abort,
     alloc: Global,

@@ -378,8 +378,8 @@ fn assert_put(rt: &impl Abort, uri: &mut Uri, row: &Row<'_>) -> Result<(), Alloc
     Ok(())
 }
 
-/// Puts the fragments of a row into a URI. Ends the test where it then isn't equal to the one without fragment just where it
-/// has none, or follows that else.
+/// Puts the fragments of a row into a URI, and drops them. Ends the test where it isn't equal to the one without fragment just
+/// where it has none, or follows that else, or has another text once they are dropped.
 pub fn fragments(rt: &impl Abort, alloc: Global, row: &Row<'_>) -> Result<(), Fail> {
     let mut uri = Uri::parse(alloc, row.text(0))?;
     let plain = uri.clone()?;
@@ -388,6 +388,8 @@ pub fn fragments(rt: &impl Abort, alloc: Global, row: &Row<'_>) -> Result<(), Fa
     row.same(rt, plain == uri, !uri.has_fragment());
     let is_alike = plain != uri || hash_of(&plain) == hash_of(&uri);
     row.same(rt, is_alike, true);
+    uri.drop_fragment();
+    row.same(rt, uri.as_str(), row.text(0));
     Ok(())
 }
 

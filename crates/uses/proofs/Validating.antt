@@ -1,4 +1,4 @@
--- What a validator answers, schema by schema.
+-- What a validator returns, schema by schema.
 use Rattle.std.proofs.Common.{◌≡◌, ℕ, zero, suc, arith, ◌+◌, ◌-◌, ◌<◌, ◌≤◌, true, false, List, ◌∷◌, length, map, drop, get_or, Option, None, Some, Result, Ok, Err, sym, ap, ◌∙◌, if◌then◌else◌}
 use Rattle.std.proofs.lemmas.List.{drop_more, drop_all}
 use Rattle.serde_json.specs.Data.{Data}
@@ -69,7 +69,7 @@ pub of_its_type : (w : World) (n : ℕ) (r : Resolver) (d : Draft) (s i : Data) 
     → validated_within w n r d s i ≡ unless_valid (after_reference (validated_within w (n - 1)) i (referred_from w r s)) (at_children (validated_within w (n - 1)) r i (walked_children d s))
 of_its_type w n r d s i h is = below w n r d s i h ∙ ap (λ b. if b then unless_valid (after_reference (validated_within w (n - 1)) i (referred_from w r s)) (at_children (validated_within w (n - 1)) r i (walked_children d s)) else Ok Invalid) is
 
--- ---- behind a reference
+-- ---- after a reference
 
 pub no_reference : (next : Validator) (i : Data) (o : Option (Result Found Fault)) → o ≡ None → after_reference next i o ≡ Ok Valid
 no_reference next i o is = ap (after_reference next i) is

@@ -7,7 +7,7 @@ use Rattle.referencing.specs.Reference.{with_fragment}
 use Rattle.referencing.specs.Targets.{Refusal, uri_against}
 use Rattle.referencing.specs.Results.{◌>>=◌}
 use Rattle.referencing.specs.World.{Layer}
-use Rattle.referencing.specs.Listing.{Listed, own_places}
+use Rattle.referencing.specs.Listing.{Listed, local_places}
 
 -- the URI that a reference at a base means, without its fragment
 abbrev pub uri_of : Result (List ℕ) Refusal → List ℕ → Option (List ℕ)
@@ -29,4 +29,4 @@ refers_from document p = if is_of document p then refers_to p else None
 -- those that the places of the document with this number refer to, in the order of the places
 abbrev pub referred_by : Layer → ℕ → List (List ℕ)
 referred_by layer document =
-    filter_map refers_to (filter (is_of document) (own_places layer))
+    filter_map refers_to (filter (is_of document) (local_places layer))

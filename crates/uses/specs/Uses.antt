@@ -1,4 +1,4 @@
--- What the uses answer.
+-- What the uses return.
 use Rattle.std.specs.Prelude.{◌≡◌, ℕ, ◌++◌, ◌⊎◌, Bool, false, List, [], bytes_eq, codes, decimal, None, Ok}
 use Rattle.std.specs.List.{Contains, list_any}
 use Rattle.serde_json.specs.Data.{Data}
@@ -7,11 +7,11 @@ use Rattle.referencing.specs.World.{World}
 use Rattle.referencing.specs.Fault.{as_invalid_uri}
 use Rattle.referencing.specs.Follow.{Step, Followed}
 use Rattle.referencing.specs.Pending.{Pending, with_addition, given_of_builder}
-use Rattle.referencing.specs.Preparing.{Given}
+use Rattle.referencing.specs.Preparing.{Retriever, Given}
 use Rattle.referencing.specs.Retrievers.{default_retriever}
 use Rattle.referencing.specs.Error.{Error}
 use Rattle.referencing.specs.Errors.{IsFaultOf, error_text}
-use Rattle.referencing.specs.Retrieving.{retriever_of, trees_of}
+use Rattle.referencing.specs.Retrieving.{trees_of}
 use Rattle.referencing.specs.Retrieval.{IsFaultyOutcome}
 use Rattle.referencing.specs.declared.answer.AnswerError.{AnswerError}
 use Rattle.referencing.specs.declared.answer.AnswerError.TheVariants as failure
@@ -33,11 +33,14 @@ abbrev pub SaysNoFile : List (List ℕ × Value) → List ℕ → List ℕ → T
 SaysNoFile files uri text =
     (has_file files uri ≡ false) × (text ≡ codes "no document under this URI")
 
+-- the retriever that has these files: it may return a tree that is under the URI, and refuses a URI that no file is under
+abbrev pub files_retriever : List (List ℕ × Value) → Retriever
+files_retriever files = record { may_answer = HasFile files; may_refuse = SaysNoFile files }
+
 -- a registry of one document above others, whose retriever fetches nothing
 abbrev pub given_above : World → List Pending → Given
 given_above parents pending =
-    given_of_builder
-    (retriever_of default_retriever.may_answer default_retriever.may_refuse) 10000 None parents pending
+    given_of_builder default_retriever 10000 None parents pending
 
 -- a world that may be prepared of one document above others
 abbrev pub IsPreparedAbove : World → List ℕ → Data → World → Type 0

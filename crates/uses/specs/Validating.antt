@@ -55,7 +55,7 @@ unless_valid (Err fault) more = Err fault
 abbrev pub Validator : Type 0
 Validator = Resolver → Draft → Data → Data → Result Verdict Fault
 
--- behind a reference, where there is one
+-- after a reference, where there is one
 abbrev pub after_reference : Validator → Data → Option (Result Found Fault) → Result Verdict Fault
 after_reference next instance None = Ok Valid
 after_reference next instance (Some meaning) =

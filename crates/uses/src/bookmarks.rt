@@ -2,7 +2,7 @@
 ghost use Rattle.std.specs.Prelude.{◌≡◌, ◌++◌, map, Ok, IfOk, IfErr, IfSome};
 ghost use Rattle.serde_json.specs.View.{view};
 ghost use Rattle.referencing.specs.Segment.{part_of};
-ghost use Rattle.referencing.specs.World.{Document, own_layer};
+ghost use Rattle.referencing.specs.World.{Document, local_documents};
 ghost use Rattle.referencing.specs.Places.{Place as WorldPlace};
 ghost use Rattle.referencing.specs.Agreement.{IsAtOrBelow, IsReadAlike};
 ghost use Rattle.referencing.specs.Errors.{IsMemory};
@@ -54,13 +54,13 @@ pub fn opened<'r>(
     kept: Bookmark<'_, '_>,
 ) -> Result<(&'r Value, Draft, Rc<Uri>), Error>
     ensures place { (d : Document) (r q : WorldPlace)
-        → IsReadAlike (own_layer registry.now) d r kept.entry.resource.now → IsAtOrBelow q r
+        → IsReadAlike (local_documents registry.now) d r kept.entry.resource.now → IsAtOrBelow q r
         → q.path ≡ r.path ++ map part_of kept.entry.path.now
         → IfOk result
         (λ found. (view found.0.now ≡ q.value) × (found.1 ≡ q.draft)
         × (q.base ≡ Ok found.2.value)) }
     ensures memory { (d : Document) (r q : WorldPlace)
-        → IsReadAlike (own_layer registry.now) d r kept.entry.resource.now → IsAtOrBelow q r
+        → IsReadAlike (local_documents registry.now) d r kept.entry.resource.now → IsAtOrBelow q r
         → q.path ≡ r.path ++ map part_of kept.entry.path.now
         → IfErr result IsMemory }
 {

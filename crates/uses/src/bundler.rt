@@ -3,7 +3,7 @@ ghost use Rattle.std.specs.Prelude.{◌≡◌, ◌++◌, ◌∷◌, [], None, If
 ghost use Rattle.referencing.specs.Reference.{with_fragment};
 ghost use Rattle.referencing.specs.ListedPlaces.{listed_of};
 ghost use Rattle.referencing.specs.Errors.{IsMemory};
-ghost use Rattle.referencing.specs.World.{own_layer};
+ghost use Rattle.referencing.specs.World.{local_documents};
 ghost use Rattle.uses.specs.Bundling.{refers_to, refers_from, referred_by};
 
 use referencing::{Error, Place, Registry, Uri};
@@ -15,7 +15,7 @@ fn without_fragment(uri: &Uri) -> Result<Uri, AllocError>
     ensures { IfOk result (λ u. u ≡ with_fragment uri.now None) }
 {
     let mut uri = uri.clone()?;
-    let _ = uri.set_fragment(None);
+    uri.drop_fragment();
     Ok(uri)
 }
 
@@ -75,7 +75,7 @@ pub fn referred_documents(
     document: usize,
 ) -> Result<Vec<Uri>, Error>
     ensures value { IfOk result
-        (λ uris. uris.items ≡ referred_by (own_layer registry.now) document) }
+        (λ uris. uris.items ≡ referred_by (local_documents registry.now) document) }
     ensures memory { IfErr result IsMemory }
 {
     let mut uris = Vec::new(alloc);

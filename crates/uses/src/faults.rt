@@ -26,8 +26,7 @@ pub fn shown<R: Retrieve + Drop>(
 ) -> Result<String, AllocError>
     ensures text { IfOk result
         (λ text. IsShown
-        (given_of (R.may_answer (builder_of builder.entry).retriever)
-        (R.may_refuse (builder_of builder.entry).retriever) (builder_of builder.entry)) base
+        (given_of (R.meaning (builder_of builder.entry).retriever) (builder_of builder.entry)) base
         (map step_of steps.now) (string_bytes text)) }
 {
     match builder.prepare_and_follow(base, steps) {

@@ -1,4 +1,4 @@
-//! Uses of `referencing`, as callers write them. Each is proved by the clauses of public calls alone. What they answer
+//! Uses of `referencing`, as callers write them. Each is proved by the clauses of public calls alone. What they return
 //! is shown by rows of the program `tests`.
 #![tactic(auto)]
 

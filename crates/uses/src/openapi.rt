@@ -3,7 +3,7 @@ ghost use Rattle.std.specs.Prelude.{IfOk, IfErr};
 ghost use Rattle.referencing.specs.Retrieval.{IsFaultyOutcome};
 ghost use Rattle.referencing.specs.Builder.{builder_of};
 ghost use Rattle.referencing.specs.Prepared.{given_of, IsPreparedOf};
-ghost use Rattle.uses.specs.Uses.{HasFile, SaysNoFile};
+ghost use Rattle.uses.specs.Uses.{files_retriever};
 
 use referencing::{Error, Reason, Registry, RegistryBuilder, Retrieve, RetrieveError, Uri};
 use serde_json::Value;
@@ -15,16 +15,14 @@ pub struct Files {
     pub files: Vec<(Uri, Value)>,
 }
 
-/// It answers the first file under the URI, and refuses where there is none.
+/// It returns the first file under the URI, and refuses where there is none.
 impl Retrieve for Files {
     ghost use Rattle.std.specs.Prelude.{IfOk, IfErr};
     ghost use Rattle.serde_json.specs.View.{view};
     ghost use Rattle.referencing.specs.Retrieving.{IfRefused};
-    ghost use Rattle.uses.specs.Uses.{HasFile, SaysNoFile};
+    ghost use Rattle.uses.specs.Uses.{HasFile, SaysNoFile, files_retriever};
 
-    ghost may_answer = { λ f. HasFile f.files.items };
-
-    ghost may_refuse = { λ f. SaysNoFile f.files.items };
+    ghost meaning = { λ f. files_retriever f.files.items };
 
     fn retrieve(&self, _alloc: Global, uri: &Uri) -> Result<Value, RetrieveError>
         ensures answer { IfOk result (λ value. HasFile self.now.files.items uri.now (view value)) }
@@ -44,12 +42,10 @@ impl Retrieve for Files {
 pub fn prepared<'a>(builder: RegistryBuilder<'a>, files: Files) -> Result<Registry<'a>, Error>
     ensures outcome { IfOk result
         (IsPreparedOf
-        (given_of (HasFile files.files.items) (SaysNoFile files.files.items)
-        (builder_of builder.entry))) }
+        (given_of (files_retriever files.files.items) (builder_of builder.entry))) }
     ensures fault { IfErr result
         (IsFaultyOutcome
-        (given_of (HasFile files.files.items) (SaysNoFile files.files.items)
-        (builder_of builder.entry))) }
+        (given_of (files_retriever files.files.items) (builder_of builder.entry))) }
 {
     builder.retriever(files).prepare()
 }

@@ -12,7 +12,7 @@ use referencing::{Child, Draft, Error, JsonPointerSegment, Resolved, Resolver, R
 use serde_json::Value;
 use std::alloc::Global;
 
-/// What a validator answers.
+/// What a validator returns.
 #[derive(Clone, Copy, Debug, Drop)]
 pub enum Verdict {
     /// The instance meets the schema.

@@ -7,7 +7,7 @@ ghost use Rattle.ref_draft.specs.declared.draft.Draft.TheVariants.{Draft4, Draft
 ghost use Rattle.ref_draft.specs.Children.{walked_children};
 ghost use Rattle.ref_uri.specs.Targets.{parse_refusal};
 ghost use Rattle.ref_definitions.specs.Places.{identifier_of, base_within, root, child_place, children_with, children_of, levels_below, places};
-ghost use Rattle.ref_definitions.specs.Listing.{own_places};
+ghost use Rattle.ref_definitions.specs.Listing.{local_places};
 ghost use Rattle.ref_definitions.specs.Descent.{IsChildOfOne, AreChildren};
 ghost use Rattle.ref_definitions.specs.Rows.{at, yes, text, one, two, three, paths_and_bases, place_below, identified_within};
 
@@ -127,7 +127,7 @@ pub fn levels_of_places()
 
 /// Places as a registry lists them.
 pub fn listed_places()
-    ensures of_two_documents { own_places
+    ensures of_two_documents { local_places
         (at Draft202012 "http://a/r" (one "not" (one "$id" (text "s")))
         ∷ at Draft7 "http://a/t" yes ∷ [])
         ≡ record {
@@ -152,5 +152,5 @@ pub fn listed_places()
           base = Ok (codes "http://a/t");
         }
         ∷ [] }
-    ensures of_none { own_places [] ≡ [] }
+    ensures of_none { local_places [] ≡ [] }
 {}

@@ -19,7 +19,7 @@ pub fn anchors_of_drafts()
     ensures no_text { anchors Draft202012 (two "$anchor" yes "$id" (text "#f")) ≡ [] }
 {}
 
-/// Where anchors stand.
+/// Where anchors are.
 pub fn anchors_of_keywords()
     ensures behind_a_hash { after_hash (codes "#f#") ≡ Some (codes "f#") }
     ensures behind_a_hash_alone { after_hash (codes "#") ≡ Some [] }

@@ -5,7 +5,7 @@ ghost use Rattle.ref_draft.specs.declared.spec.Holding.TheVariants.{Whole, Whole
 ghost use Rattle.ref_draft.specs.Keywords.{is_one_of, row_4, row_6, row_7, row_2019, row_2020, row, is_before_2019, is_before_2020, is_unknown, is_items_or_dependencies, boolean_or_schema, holding_of, is_map_keyword, is_left_out, id_keyword, known_in_all, known_in_4, known_since_6, known_since_7, known_since_2019, known_since_2020, is_known_in_2019, is_known};
 ghost use Rattle.ref_draft.specs.Order.{rank};
 
-/// The keywords under which schemas stand, draft by draft.
+/// The keywords under which schemas are, draft by draft.
 pub fn rows_of_drafts()
     ensures one_of { is_one_of (codes "not") (codes "if" ∷ codes "not" ∷ []) ≡ true }
     ensures none_of { is_one_of (codes "Not") (codes "if" ∷ codes "not" ∷ []) ≡ false }

@@ -10,17 +10,17 @@ ghost use Rattle.serde_json.specs.View.{view};
 ghost use Rattle.serde_json.specs.declared.value.Value.{Value as Tree};
 ghost use Rattle.serde_json.specs.declared.value.Value.TheVariants.{Null, Bool};
 ghost use Rattle.ref_parts.specs.Path.{Part, Key, Index};
+ghost use Rattle.ref_parts.specs.Segment.{part_of};
 ghost use Rattle.ref_parts.specs.declared.path.JsonPointerSegment.TheVariants as pointer;
 ghost use Rattle.ref_draft.specs.declared.draft.Draft.TheVariants.{Draft4, Draft7, Draft201909, Draft202012};
 ghost use Rattle.ref_draft.specs.declared.resource.ResourceRef.{ResourceRef as Borrowed};
 ghost use Rattle.ref_draft.specs.declared.anchor.Anchor.{Anchor as AnyAnchor};
 ghost use Rattle.ref_draft.specs.declared.anchor.Anchor.TheVariants as anchor;
 ghost use Rattle.ref_draft.specs.declared.anchor.AnchorIter.TheVariants as left;
-ghost use Rattle.ref_draft.specs.declared.segments.Segment.TheVariants as segment;
 ghost use Rattle.ref_draft.specs.declared.spec.children.ChildIterInner.TheVariants as inner;
 ghost use Rattle.ref_draft.specs.declared.spec.Holding.TheVariants.{Whole, Members, ObjectMembers};
 ghost use Rattle.ref_draft.specs.Anchors.{Plain, Dynamic};
-ghost use Rattle.ref_draft.specs.Views.{tagged_value, resource, resource_ref, id_of, anchor_name, anchor_resource, AllName, anchors_left, part_of, segment_parts, walked_child, objects_of, inner_left, values_left};
+ghost use Rattle.ref_draft.specs.Views.{tagged_value, resource, resource_ref, id_of, anchor_name, anchor_resource, AllName, anchors_left, segment_parts, walked_child, objects_of, inner_left, values_left};
 ghost use Rattle.ref_draft.specs.inner.Added.{Adds};
 ghost use Rattle.ref_draft.specs.inner.WalkSteps.{AreFoundIn, FindsMembers, FindsMembersWhere, members_in};
 ghost use Rattle.ref_draft.specs.Rows.{empty, yes, text, one, two, list, key};
@@ -64,8 +64,8 @@ pub fn views_of_anchors()
 
 /// Segments, and the children that the walk gives.
 pub fn views_of_segments()
-    ensures index { part_of (segment.Index 3) ≡ Index 3 }
-    ensures key { (text : CowStr Global) → part_of (segment.Key text) ≡ Key (cow_str_bytes text) }
+    ensures index { part_of (pointer.Index 3) ≡ Index 3 }
+    ensures key { (text : CowStr Global) → part_of (pointer.Key text) ≡ Key (cow_str_bytes text) }
     ensures no_part { segment_parts None ≡ [] }
     ensures index_part { segment_parts (Some (pointer.Index 3)) ≡ Index 3 ∷ [] }
     ensures child { (keyword : Bor (List ℕ)) (value : Bor Tree) → keyword.now ≡ codes "allOf"

@@ -77,7 +77,8 @@ impl<'a> ChildIterInner<'a> {
     // The values under a keyword of the draft: in 2019-09 none under `dependencies`.
     fn under(draft: Draft, keyword: &str, value: &'a Value) -> Self
         ensures { inner_left result ≡ map (λ child. child.1)
-            (filter (is_given draft) (held_children (holding_of draft keyword.now) keyword.now (view value.now))) }
+            (filter (is_given draft)
+            (held_children (holding_of draft keyword.now) keyword.now (view value.now))) }
     {
         if is_left_out(draft, keyword) {
             ChildIterInner::Empty

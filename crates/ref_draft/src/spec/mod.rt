@@ -37,7 +37,8 @@ pub(crate) enum Holding {
 // How a keyword of a draft before 2020-12 holds its subschemas, beside those that hold them in one way alone.
 fn items_or_dependencies(keyword: &str) -> Holding
     ensures { result ≡ (if bytes_eq keyword.now (codes "items") then how.ElementsOrWhole
-        else (if bytes_eq keyword.now (codes "dependencies") then how.ObjectMembers else how.Nothing)) }
+        else (if bytes_eq keyword.now (codes "dependencies") then how.ObjectMembers
+        else how.Nothing)) }
 {
     match keyword {
         "items" => Holding::ElementsOrWhole,

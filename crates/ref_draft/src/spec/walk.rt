@@ -151,7 +151,9 @@ fn push_object<'a>(
     value: &'a Value,
 ) -> Result<(), AllocError>
     ensures { OnOk result
-        (Adds draft (filter has_object ((Key keyword.now ∷ segment_parts segment.entry, view value.now) ∷ []))
+        (Adds draft
+        (filter has_object
+        ((Key keyword.now ∷ segment_parts segment.entry, view value.now) ∷ []))
         children.old.items children.new.items) }
 {
     if value.is_object() {

@@ -9,8 +9,8 @@ use Rattle.ref_definitions.specs.Resources.{own_uri}
 use Rattle.serde_json.specs.View.{view}
 use Rattle.ref_draft.specs.declared.draft.Draft.{Draft}
 use Rattle.ref_definitions.specs.Places.{Place}
-use Rattle.ref_index.specs.Visits.{ChildrenStandAt}
-use Rattle.ref_index.specs.inner.Queue.{place_with}
+use Rattle.ref_index.specs.Listed.{ChildrenStandAt}
+use Rattle.ref_index.specs.Visit.{place_with}
 use Rattle.ref_resolver.specs.Layered.{world_in}
 use Rattle.ref_findings.specs.declared.place.Place as rust
 use Rattle.ref_findings.specs.declared.walk.Keyword as rust_keyword

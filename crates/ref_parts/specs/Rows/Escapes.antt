@@ -1,7 +1,7 @@
 -- Worked rows of escapes in keys, and of a whole pointer (RFC 6901, sections 3, 4 and 6).
 use Rattle.std.specs.Prelude.{◌≡◌, [], ◌∷◌, codes, Some, None}
 use Rattle.ref_parts.specs.Path.{Key}
-use Rattle.ref_parts.specs.Pointer.{escape, unescape, first_escape, pointer_text}
+use Rattle.ref_parts.specs.Pointer.{tilde, escape, unescape, first_escape, pointer_text}
 use Rattle.ref_parts.specs.Encoded.{encoded_text}
 
 pub record EscapeRows : Type 0 where
@@ -17,7 +17,7 @@ pub record EscapeRows : Type 0 where
   pub path_template : escape (codes "/v1/accounts/{account-key}")
       ≡ codes "~1v1~1accounts~1{account-key}"
   pub first_of_one : first_escape (codes "/.abcdef") ≡ Some 0
-  pub first_of_two_bytes : first_escape (126 ∷ 127 ∷ []) ≡ Some 0
+  pub first_of_two_bytes : first_escape (tilde ∷ 127 ∷ []) ≡ Some 0
   pub first_behind_fifteen : first_escape (codes "aaaaaaaaaaaaaaa~") ≡ Some 15
   pub first_of_other_bytes : first_escape (255 ∷ 255 ∷ 255 ∷ 255 ∷ 255 ∷ 255 ∷ 255 ∷ 255 ∷ [])
       ≡ None

@@ -1,4 +1,4 @@
--- Worked rows of small maps: what the definitions answer at literals.
+-- Worked rows of small maps: what the definitions return at literals.
 use Rattle.std.specs.Prelude.{◌≡◌, ℕ, nat_eq, List, [], ◌∷◌, Option, Some, None}
 use Rattle.ref_parts.specs.FiniteMap.{Puts, IsClone}
 use Rattle.ref_parts.specs.inner.Slots.{pairs, AllHold, entries_of, EachOnce, IsFormOf, IsPlaceOf}

@@ -1,4 +1,4 @@
--- Worked rows of paths: what the definitions answer at literals.
+-- Worked rows of paths: what the definitions return at literals.
 use Rattle.std.specs.Prelude.{◌≡◌, ℕ, true, false, List, [], ◌∷◌, ◌++◌, codes, Some, None, String}
 use Rattle.std.specs.Borrow.{Bor}
 use Rattle.std.specs.declared.alloc.Global.{Global}

@@ -19,7 +19,7 @@ text_between from to texts = take (to - from) (drop from texts)
 abbrev pub pair_of : {V : Type 0} → List ℕ → Slot V → List ℕ × List ℕ
 pair_of texts s = (text_between s.first s.second texts, text_between s.second s.end texts)
 
--- the entry whose texts stand in a buffer
+-- the entry whose texts are in a buffer
 abbrev pub entry_in : {V : Type 0} → List ℕ → Slot V → Entry V
 entry_in texts s = ((pair_of texts s).0, (pair_of texts s).1, s.value)
 
@@ -36,8 +36,8 @@ IsWithin texts s =
     × IsUtf8 (pair_of texts s).1
 
 -- the entry, where its texts are after so many more bytes
-abbrev pub moved : {V : Type 0} → ℕ → Slot V → Slot V
-moved before s = record {
+abbrev pub slot_after : {V : Type 0} → ℕ → Slot V → Slot V
+slot_after before s = record {
   word = s.word;
   first = s.first + before;
   second = s.second + before;
@@ -45,13 +45,13 @@ moved before s = record {
   value = s.value;
 }
 
--- where the texts of an entry stand
+-- where the texts of an entry are
 abbrev pub place_of : {V : Type 0} → Slot V → ℕ × ℕ × ℕ
 place_of s = (s.first, s.second, s.end)
 
 -- the entry with what a function gives of its value
-abbrev pub revalued : {V : Type 0} → (V → V) → Slot V → Slot V
-revalued h s = record {
+abbrev pub slot_with_value : {V : Type 0} → (V → V) → Slot V → Slot V
+slot_with_value h s = record {
   word = s.word;
   first = s.first;
   second = s.second;
@@ -91,8 +91,8 @@ same_slots texts x y =
     && (bytes_eq (pair_of texts x).0 (pair_of texts y).0 && bytes_eq (pair_of texts x).1 (pair_of texts y).1)
 
 -- the entry with the number of its first text
-abbrev pub numbered : {V : Type 0} → List ℕ → ℕ → Slot V → Slot V
-numbered texts shared s = record {
+abbrev pub slot_with_word : {V : Type 0} → List ℕ → ℕ → Slot V → Slot V
+slot_with_word texts shared s = record {
   word = word_at shared (pair_of texts s).0;
   first = s.first;
   second = s.second;

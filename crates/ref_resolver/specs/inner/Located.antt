@@ -9,8 +9,8 @@ use Rattle.ref_draft.specs.declared.draft.Draft.{Draft}
 use Rattle.ref_definitions.specs.World.{Layer, World}
 use Rattle.ref_definitions.specs.Places.{Place}
 use Rattle.ref_definitions.specs.Anchors.{Named}
-use Rattle.ref_index.specs.Found.{IsPathOf, kind_of}
-use Rattle.ref_index.specs.inner.Codes.{tree_code, draft_code}
+use Rattle.ref_index.specs.Entries.{IsPathOf, kind_of}
+use Rattle.ref_index.specs.Codes.{tree_code, draft_code}
 use Rattle.ref_resolver.specs.declared.located.Located.{Located}
 use Rattle.ref_resolver.specs.declared.located.LocatedName.{LocatedName}
 use Rattle.ref_resolver.specs.declared.located.Numbered.{Numbered}
@@ -37,17 +37,17 @@ pub record IsLocatedAt (w : World) (l : Numbered) (p : Place) : Type 0 where
 abbrev pub IsMeant : Option Place → Located → Type 0
 IsMeant found l = (p : Place) × (found ≡ Some p) × IsLocated l p
 
--- what is told of a place
+-- what is said of a place
 abbrev Told : Type 0
 Told = Data × (Draft × Option (List ℕ))
 
-abbrev told : Place → Told
-told p = (p.value, (p.draft, result_ok p.base))
+abbrev place_parts : Place → Told
+place_parts p = (p.value, (p.draft, result_ok p.base))
 
 -- of the place that a URI means, as an equation
 abbrev pub IsKnown : Option Place → Located → Type 0
 IsKnown found l =
-    option_map told found
+    option_map place_parts found
     ≡ Some (view l.value.now, (l.entry.now.draft, Some l.entry.now.base.value))
 
 told_code : Coded (Option Told)

@@ -44,15 +44,15 @@ changed_base base reached uri =
     else record { base = uri; reached = Schema }
 
 -- the base at a value that was stepped into
-abbrev pub based : Draft → List ℕ → Reached × Data → Result Passed Refusal
-based draft base s =
+abbrev pub base_after : Draft → List ℕ → Reached × Data → Result Passed Refusal
+base_after draft base s =
     base_within base (accepted_id draft s.0 s.1) >>= λ uri. Ok (changed_base base s.0 uri)
 
 -- one token further: the value there, with the base and what the parts lead to
 abbrev pub stepped_along : Draft → List ℕ → Passed → Data → List ℕ → Result (Data × Passed) Fault
 stepped_along draft pointer passed value token =
     stepped_into draft pointer passed.reached value token
-    >>= λ s. as_invalid_uri (based draft passed.base s) >>= λ next. Ok (s.1, next)
+    >>= λ s. as_invalid_uri (base_after draft passed.base s) >>= λ next. Ok (s.1, next)
 
 -- the value along tokens, with the base and what the parts lead to
 abbrev pub passed_along : Draft → List ℕ → Passed → Data → List (List ℕ)

@@ -9,7 +9,7 @@ use Rattle.ref_error.specs.Retrieving.{trees_of}
 use Rattle.ref_json.specs.declared.stop.Stop.{Stop}
 use Rattle.ref_json.specs.declared.stop.Stop.TheVariants.{Memory, Because}
 use Rattle.ref_calls.specs.Errors.{fault_error, with_field}
-use Rattle.ref_calls.specs.inner.Given.{given_of}
+use Rattle.ref_calls.specs.Given.{given_of}
 use Rattle.ref_serve.specs.declared.opening.Parent.{Parent}
 use Rattle.ref_serve.specs.declared.opening.Parent.TheVariants.{Layers, MetaSchemas}
 use Rattle.ref_serve.specs.declared.opening.Wanted.{Wanted}

@@ -11,18 +11,18 @@ use Rattle.ref_serve.specs.Answering.{IsResult}
 use Rattle.ref_serve.specs.State.{OpenRegistry, Registries, without_registry}
 
 -- the registries with others after them, and without one that is closed
-abbrev pub without : Registries → Option ℕ → Registries
-without state None = state
-without state (Some number) = without_registry state number
+abbrev pub registries_left : Registries → Option ℕ → Registries
+registries_left state None = state
+registries_left state (Some number) = without_registry state number
 
-abbrev pub changed : Registries → List (Option OpenRegistry) → Option ℕ → Registries
-changed state opened number = without (state ++ opened) number
+abbrev pub registries_after : Registries → List (Option OpenRegistry) → Option ℕ → Registries
+registries_after state opened number = registries_left (state ++ opened) number
 
 -- a reply that may be given, with what becomes of the registries
 abbrev pub Replies : (Registries → Result Data Data → Type 0) → Registries
     → Result Reply (Stop Value) → Type 0
 Replies may state (Ok reply) =
-    may (changed state reply.opened.items reply.closed) (Ok (view reply.result))
+    may (registries_after state reply.opened.items reply.closed) (Ok (view reply.result))
 Replies may state (Err Memory) = Unit {0}
 Replies may state (Err (Because value)) = may state (Err (view value))
 

@@ -6,7 +6,7 @@ use Rattle.ref_definitions.specs.Fault.{Fault}
 use Rattle.ref_definitions.specs.Lookup.{Resolver, Found as WorldFound, lookup}
 use Rattle.ref_definitions.specs.Recursive.{lookup_recursive}
 use Rattle.ref_index.specs.Spots.{Spot}
-use Rattle.ref_resolver.specs.Locations.{StandsAt, located, recursive_reference, location_view}
+use Rattle.ref_resolver.specs.Locations.{StandsAt, lookup_location, recursive_reference, location_view}
 use Rattle.ref_serve.specs.declared.asked.Asked.{Asked}
 use Rattle.ref_serve.specs.declared.place.Found.{Found}
 use Rattle.ref_serve.specs.Results as results
@@ -25,10 +25,10 @@ abbrev pub answer_at : World → Resolver → Option (List ℕ) → Result World
 answer_at world r None = lookup_recursive world r
 answer_at world r (Some reference) = lookup world r reference
 
--- where it stands
+-- where it is
 abbrev pub place_at : World → Resolver → Option (List ℕ) → Option (ℕ × Spot)
-place_at world r None = located world r (recursive_reference world r)
-place_at world r (Some reference) = located world r reference
+place_at world r None = lookup_location world r (recursive_reference world r)
+place_at world r (Some reference) = lookup_location world r reference
 
 -- it was found at this place, and the resolver there
 abbrev pub IsFoundBy : World → Option (ℕ × Spot) → Result WorldFound Fault → Found → Resolver

@@ -6,6 +6,7 @@ use Rattle.ref_uri.specs.declared.dots.Progress.{Progress}
 use Rattle.ref_uri.specs.declared.dots.Progress.TheVariants.{Front, Within, Dots}
 use Rattle.ref_uri.specs.declared.dots.Segment.{Segment}
 use Rattle.ref_uri.specs.declared.dots.Segment.TheVariants.{Name, Dot, DotDot}
+use Rattle.ref_uri.specs.Bytes.{slash, dot, percent}
 
 -- what a segment asks of a path
 abbrev pub segment_of : List ℕ → Segment
@@ -19,9 +20,9 @@ first_written DotDot path segment = path
 
 -- a path after one more segment
 abbrev pub next_written : Segment → List ℕ → List ℕ → List ℕ
-next_written Name path segment = path ++ 47 ∷ segment
+next_written Name path segment = path ++ slash ∷ segment
 next_written Dot path segment = path
-next_written DotDot path segment = before_last (λ c. c == 47) path
+next_written DotDot path segment = before_last (λ c. c == slash) path
 
 -- how far a path is after its first segment
 abbrev pub first_progress : Segment → Progress
@@ -84,8 +85,8 @@ dots_after Dots = Dots
 -- a path after `..`
 abbrev pub last_taken : Progress → List ℕ → List ℕ
 last_taken Front path = path
-last_taken Within path = before_last (λ c. c == 47) path
-last_taken Dots path = before_last (λ c. c == 47) path
+last_taken Within path = before_last (λ c. c == slash) path
+last_taken Dots path = before_last (λ c. c == slash) path
 
 -- none of the segments is a dot segment
 abbrev pub AreNames : List (List ℕ) → Type 0
@@ -93,10 +94,10 @@ AreNames segments = AllByRecursion (λ segment. is_dot_segment segment ≡ false
 
 -- if a dot is at this place, no segment begins there
 abbrev pub IsInside : List ℕ → ℕ → Type 0
-IsInside path at = slice_index path at ≡ 46 → (0 < at) × (slice_index path (at - 1) ≢ 47)
+IsInside path at = slice_index path at ≡ dot → (0 < at) × (slice_index path (at - 1) ≢ slash)
 
 -- no triple of `.` begins at this place
 abbrev pub IsNoEncodedDot : List ℕ → ℕ → Type 0
 IsNoEncodedDot text at =
-    slice_index text at ≡ 37 → slice_index text (at + 1) ≡ 50
+    slice_index text at ≡ percent → slice_index text (at + 1) ≡ 50
     → (slice_index text (at + 2) ≢ 101) × (slice_index text (at + 2) ≢ 69)

@@ -23,10 +23,11 @@ use Rattle.ref_uri.specs.inner.Lengths.{the_lengths, lengths_of, IsParsed, IsPar
 use Rattle.ref_uri.specs.inner.Removal.{segment_of, first_written, next_written, first_progress, next_progress, path_then, progress_then, path_after, progress_after, slash_of, end_of, ended_path}
 use Rattle.ref_uri.specs.inner.Target.{given_path, normal_path_of, written_path, written_components, lengths_of_components, AreParts, LacksEncodedDot, LosesSameDots, IsTarget, components_of, behind_directory, path_behind, path_with_dots, target_with_dots}
 use Rattle.ref_uri.specs.inner.Written.{the_front, the_rest, is_plain, in_case, written_text, written_scheme, written_authority}
+use Rattle.ref_uri.specs.Bytes.{at_sign, colon, question_mark, slash}
 
 pub record BodyRows : Type 0 where
-  pub at_in_first_segment : is_first_segment_character 64 ≡ true
-  pub colon_not_in_first_segment : is_first_segment_character 58 ≡ false
+  pub at_in_first_segment : is_first_segment_character at_sign ≡ true
+  pub colon_not_in_first_segment : is_first_segment_character colon ≡ false
   pub triple_in_front : begins_with_triple (codes "%7Ea") ≡ true
   pub triple_behind : begins_with_triple (codes "a%7E") ≡ false
   pub begins_with_letter : begins_encoded is_name_character (codes "a%") ≡ true
@@ -34,10 +35,10 @@ pub record BodyRows : Type 0 where
   pub authority_ends_here : ends_authority_at (codes "a/b") 1 ≡ true
   pub authority_goes_on : ends_authority_at (codes "a/b") 0 ≡ false
   pub authority_ends_the_text : ends_authority_at (codes "a") 1 ≡ true
-  pub class_of_first_segment : allows part.FirstSegment 58 ≡ false
-  pub class_of_query : allows part.Query 63 ≡ true
-  pub end_of_userinfo : ends part.Userinfo 64 ≡ true
-  pub end_of_path : ends part.Path 47 ≡ false
+  pub class_of_first_segment : allows part.FirstSegment colon ≡ false
+  pub class_of_query : allows part.Query question_mark ≡ true
+  pub end_of_userinfo : ends part.Userinfo at_sign ≡ true
+  pub end_of_path : ends part.Path slash ≡ false
   pub some_lengths : the_lengths (Some 1) None 2 None
       ≡ record { scheme = Some 1; authority = None; path = 2; query = None }
   pub no_lengths : the_lengths None None 0 None

@@ -2,11 +2,12 @@
 use Rattle.std.specs.Prelude.{ℕ, Bool, false, ◌||◌, ◌&&◌, List, [], ◌∷◌, length, ◌==◌, slice_index}
 use Rattle.ref_uri.specs.Characters.{begins_with_hex_digits}
 use Rattle.ref_uri.specs.Components.{ends_authority}
+use Rattle.ref_uri.specs.Bytes.{percent}
 
 -- the text begins with a triple (2.1)
 abbrev pub begins_with_triple : List ℕ → Bool
 begins_with_triple [] = false
-begins_with_triple (c ∷ rest) = (c == 37) && begins_with_hex_digits rest
+begins_with_triple (c ∷ rest) = (c == percent) && begins_with_hex_digits rest
 
 -- the text begins with a character that is allowed, or with a triple
 abbrev pub begins_encoded : (ℕ → Bool) → List ℕ → Bool

@@ -16,13 +16,14 @@ use Rattle.std.specs.Str.{IsAscii}
 use Rattle.ref_uri.specs.Normal.{guarded_path, normal_text, normal_authority}
 use Rattle.ref_uri.specs.Resolution.{merged_path, target_components}
 use Rattle.ref_uri.specs.inner.Written.{is_plain, the_front, the_rest, written_text, written_scheme, written_authority}
+use Rattle.ref_uri.specs.Bytes.{slash}
 
 -- a path as it is given
 abbrev pub given_path : PathOf → List ℕ
 given_path (Kept path) = path.now
 given_path (OfBase path) = path.now
 given_path (Removed path) = remove_dot_segments path.now
-given_path (Merged directory path) = remove_dot_segments (directory.now ++ 47 ∷ path.now)
+given_path (Merged directory path) = remove_dot_segments (directory.now ++ slash ∷ path.now)
 
 -- a path in normal form
 abbrev pub normal_path_of : PathOf → List ℕ
@@ -30,7 +31,7 @@ normal_path_of (Kept path) = normal_text path.now
 normal_path_of (OfBase path) = remove_dot_segments (normal_text path.now)
 normal_path_of (Removed path) = remove_dot_segments (normal_text path.now)
 normal_path_of (Merged directory path) =
-    remove_dot_segments (normal_text (directory.now ++ 47 ∷ path.now))
+    remove_dot_segments (normal_text (directory.now ++ slash ∷ path.now))
 
 -- A path as it is written: a target's loses its dot segments as it is given, and then those that it has in normal form.
 abbrev pub written_path : Form → PathOf → List ℕ
@@ -132,11 +133,11 @@ components_of parts =
 -- a path, or a directory, a slash and the path
 abbrev pub behind_directory : Option (List ℕ) → List ℕ → List ℕ
 behind_directory None path = path
-behind_directory (Some directory) path = directory ++ 47 ∷ path
+behind_directory (Some directory) path = directory ++ slash ∷ path
 
 -- a path after the base's, unless it begins with `/` (5.2.2)
 abbrev pub path_behind : Components → List ℕ → List ℕ
-path_behind base path = if slice_index path 0 == 47 then path else merged_path base path
+path_behind base path = if slice_index path 0 == slash then path else merged_path base path
 
 -- a target's path with its dot segments: the reference's, the base's where there is none, or one after the other (5.2.2)
 abbrev pub path_with_dots : Components → Components → List ℕ

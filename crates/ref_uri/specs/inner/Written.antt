@@ -10,6 +10,7 @@ use Rattle.ref_uri.specs.declared.written.Case.{Case}
 use Rattle.ref_uri.specs.declared.written.Case.TheVariants.{AsItIs, Lower}
 use Rattle.ref_uri.specs.declared.written.Form.{Form}
 use Rattle.ref_uri.specs.declared.written.Form.TheVariants.{Given, Normal, NormalTarget}
+use Rattle.ref_uri.specs.Bytes.{percent, colon, at_sign, opening_bracket}
 
 -- what a character becomes
 abbrev pub in_case : Case → ℕ → ℕ
@@ -36,7 +37,9 @@ written_authority NormalTarget = normal_authority
 
 -- no letter in upper case, `%`, `:`, `@` or `[`
 abbrev pub is_plain_in_host : ℕ → Bool
-is_plain_in_host c = not (is_ascii_uppercase c || (c == 37) || (c == 58) || (c == 64) || (c == 91))
+is_plain_in_host c =
+    not (is_ascii_uppercase c || (c == percent) || (c == colon) || (c == at_sign)
+    || (c == opening_bracket))
 
 -- what is before the path
 abbrev pub the_front : Option (List ℕ) → Option (List ℕ) → List ℕ
@@ -50,7 +53,7 @@ the_rest query fragment =
 
 -- no `%` is in the text
 abbrev pub is_plain : List ℕ → Bool
-is_plain text = list_all (λ c. not (c == 37)) text
+is_plain text = list_all (λ c. not (c == percent)) text
 
 -- The text is in normal form up to this place, where it ends or where a triple begins.
 pub record IsNormalUpTo (text : List ℕ) (at : ℕ) : Type 0 where

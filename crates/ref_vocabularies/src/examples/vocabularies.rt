@@ -166,16 +166,19 @@ pub fn declared_members()
 pub fn declared_vocabularies()
     ensures declared { find_in
         (one "$vocabulary"
-        (two "https://json-schema.org/draft/2020-12/vocab/core" yes "https://json-schema.org/draft/2020-12/vocab/format-assertion"
+        (two "https://json-schema.org/draft/2020-12/vocab/core" yes
+        "https://json-schema.org/draft/2020-12/vocab/format-assertion"
         (boolean false)))
         ≡ Ok (Some (of_known (Core ∷ FormatAssertion ∷ []))) }
     ensures declared_twice { find_in
         (one "$vocabulary"
-        (two "https://json-schema.org/draft/2020-12/vocab/core" yes "https://json-schema.org/draft/2020-12/vocab/format-assertion" yes))
+        (two "https://json-schema.org/draft/2020-12/vocab/core" yes
+        "https://json-schema.org/draft/2020-12/vocab/format-assertion" yes))
         ≡ Ok (Some (of_known (Core ∷ FormatAssertion ∷ []))) }
     ensures declared_beside_an_identifier { find_in
         (two "$id" (text "https://example.com/meta") "$vocabulary"
-        (two "https://json-schema.org/draft/2020-12/vocab/core" yes "https://json-schema.org/draft/2020-12/vocab/format-assertion" yes))
+        (two "https://json-schema.org/draft/2020-12/vocab/core" yes
+        "https://json-schema.org/draft/2020-12/vocab/format-assertion" yes))
         ≡ Ok (Some (of_known (Core ∷ FormatAssertion ∷ []))) }
     ensures known_2019 { find_in (one "$id" (text "https://json-schema.org/draft/2019-09/schema"))
         ≡ Ok (Some (default_set Draft201909)) }

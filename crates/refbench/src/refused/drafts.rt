@@ -10,7 +10,7 @@ use std::borrow::CowStr;
 
 const PARENT: &str = r#"{"dependencies":{"a":{},"b":["c"]},"items":[true,{}]}"#;
 
-/// A value with children, the segments 3 to 6, as many as stand without memory, and a resource with a title.
+/// A value with children, the segments 3 to 6, as many as are without memory, and a resource with a title.
 #[derive(Drop)]
 struct Drafts {
     parent: Value,

@@ -1,5 +1,5 @@
 //! Calls whose requests for memory are refused: what a call returns, and where it wants memory, what it and its
-//! neighbours answer when they are asked again of the same values. They are made once for each request for memory by
+//! neighbours return when they are asked again of the same values. They are made once for each request for memory by
 //! `scripts/refusals`.
 
 mod builders;

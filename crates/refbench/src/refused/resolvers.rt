@@ -7,7 +7,7 @@ use referencing::{
 };
 use std::alloc::{AllocError, Global};
 
-/// What a call of a resolver answers.
+/// What a call of a resolver returns.
 pub fn resolver(alloc: Global, resolver: &Resolver<'_>, call: &str) -> Result<String, Stop> {
     if let Some(reference) = call.strip_prefix("lookup ") {
         return outcome(alloc, resolver.lookup(alloc, reference));
@@ -92,7 +92,7 @@ fn entered(alloc: Global, resolver: &Resolver<'_>) -> Result<String, Stop> {
     outcome(alloc, resolver.in_subresource(alloc, resource))
 }
 
-/// What steps answer, and a new resolver.
+/// What steps return, and a new resolver.
 pub fn steps(alloc: Global, registry: &Registry<'_>, call: &str) -> Result<String, Stop> {
     let base = uri(alloc, "http://a/r")?;
     match call {

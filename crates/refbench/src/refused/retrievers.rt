@@ -63,7 +63,7 @@ impl Told for Value {
     }
 }
 
-/// What is retrieved once a call has answered.
+/// What is retrieved once a call has returned.
 fn after_retrieval(retrieved: Result<String, Stop>) -> Result<String, Stop> {
     match retrieved {
         Err(Stop::Refused) => Err(Stop::After),

@@ -15,7 +15,7 @@ pub enum Stop {
     Before,
     /// The call wanted memory, and what it would have changed is as it was.
     Refused,
-    /// Memory was refused once the call had answered.
+    /// Memory was refused once the call had returned.
     After,
     /// There is no such row, or what the call was made on is not as it was.
     Wrong,
@@ -142,7 +142,7 @@ pub fn fault<E: Refusal + fmt::Display>(alloc: Global, error: &E) -> Result<Stri
     after(format!(in alloc; "{error}"))
 }
 
-/// A text that is made once the call has answered.
+/// A text that is made once the call has returned.
 pub fn after(made: Result<String, AllocError>) -> Result<String, Stop> {
     match made {
         Ok(text) => Ok(text),
@@ -161,7 +161,7 @@ pub fn outcome<T: Told + Drop, E: Refusal + fmt::Display + Drop>(
     }
 }
 
-/// The same once the call has answered, where only out of memory may be in the way.
+/// The same once the call has returned, where only out of memory may be in the way.
 pub fn outcome_after<T: Told + Drop, E: Refusal + Drop>(
     alloc: Global,
     answer: Result<T, E>,

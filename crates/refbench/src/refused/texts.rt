@@ -85,7 +85,7 @@ fn pushed(alloc: Global, buffer: &mut EncodedBuffer) -> Result<String, Stop> {
     }
 }
 
-/// Whether a buffer answers as one of `a`.
+/// Whether a buffer's calls return what they do of one of `a`.
 fn has_rows(buffer: &EncodedBuffer) -> bool {
     buffer.as_str() == "a" && buffer.as_encoded().as_str() == "a"
 }
@@ -107,7 +107,7 @@ fn pointed(alloc: Global, document: &Value) -> Result<String, Stop> {
     }
 }
 
-/// An index, and where the first byte stands that is written escaped.
+/// An index, and where the first byte is that is written escaped.
 fn read(alloc: Global) -> Result<String, Stop> {
     let (index, escape) = (parse_index("10"), first_escape(b"a/b~"));
     after(format!(in alloc; "{index:?} {escape:?}"))

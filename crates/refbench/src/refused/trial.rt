@@ -4,7 +4,7 @@ use std::alloc::{AllocError, Global};
 
 /// Calls on values that were made before them, by their names.
 pub trait Calls {
-    /// What the call of a name answers.
+    /// What the call of a name returns.
     fn answer(&mut self, alloc: Global, call: &str) -> Result<String, Stop>;
 }
 

@@ -92,7 +92,7 @@ fn parts(uri: &Uri) -> [&str; 5] {
     ]
 }
 
-/// Whether a URI answers as `http://a/r#x`.
+/// Whether a URI's calls return what they do of `http://a/r#x`.
 fn has_rows(uri: &Uri) -> bool {
     uri.as_str() == "http://a/r#x"
         && parts(uri) == ["http", "a", "/r", "", "x"]

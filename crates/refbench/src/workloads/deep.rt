@@ -67,7 +67,7 @@ fn of_value(alloc: Global, document: &Value, line: Line<'_>, pointer: &str) -> O
     }
 }
 
-/// What a line's workload answers of a document of its size; nothing where a call is refused.
+/// What a line's workload returns of a document of its size; nothing where a call is refused.
 pub fn answer(alloc: Global, line: Line<'_>) -> Option<u64> {
     let pointer = pointer_of(alloc, line.size).ok()?;
     let document = document_of(alloc, line.size).ok()?;

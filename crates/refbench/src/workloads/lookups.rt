@@ -1,10 +1,10 @@
 //! Workloads of resolvers: look-ups in a registry of the documents of `registries`, and of a dynamic anchor in a long scope.
 //!
-//! `chain`, `chain-anchor` and `chain-ref` go on from what the last look-up answered: with the identifiers as absolute URIs, with
+//! `chain`, `chain-anchor` and `chain-ref` go on from what the last look-up returned: with the identifiers as absolute URIs, with
 //! an anchor after each, and with the `$ref` of the last value. `flat` looks the identifiers up from one resolver, and
 //! `flat-ref` the `$ref` of each definition from a resolver at it. `pointer`,
 //! `pointer-type`, `pointer-plain` and `anchor` look a fragment up from resolvers at documents or identifiers. `here` looks `#` up
-//! where the scope isn't empty, and `resolved` resolves a `$ref` against the base at which it stands. The documents are
+//! where the scope isn't empty, and `resolved` resolves a `$ref` against the base at which it is. The documents are
 //! borrowed, and owned where the call ends with `-owned`.
 
 use crate::workloads::line::Line;
@@ -138,7 +138,7 @@ fn starts_of<'s, 'r>(
     Ok(starts)
 }
 
-/// How many look-ups are answered that start from resolvers in turn.
+/// How many look-ups are made that start from resolvers in turn.
 fn from_each(alloc: Global, starts: &[(&Resolver<'_>, &str)], times: u32) -> Result<u64, Error> {
     let mut sum: u64 = 0;
     let mut place = 0;
@@ -156,7 +156,7 @@ fn from_each(alloc: Global, starts: &[(&Resolver<'_>, &str)], times: u32) -> Res
     Ok(sum)
 }
 
-/// How many look-ups are answered, each from the answer of the last.
+/// How many look-ups are made, each from the answer of the last.
 fn in_turn(
     alloc: Global,
     start: Resolver<'_>,
@@ -189,7 +189,7 @@ fn along_references(alloc: Global, start: Resolver<'_>, times: u32) -> Result<u6
     Ok(sum)
 }
 
-/// How many times a resolver with a scope answers `#`, or resolves a `$ref` of its documents.
+/// How many times a resolver with a scope returns `#`, or resolves a `$ref` of its documents.
 fn here(alloc: Global, start: Resolver<'_>, is_lookup: bool, times: u32) -> Result<u64, Error> {
     let resolver = start.lookup(alloc, "../d0/k0")?.into_inner().1;
     let mut sum: u64 = 0;
@@ -204,13 +204,13 @@ fn here(alloc: Global, start: Resolver<'_>, is_lookup: bool, times: u32) -> Resu
     Ok(sum)
 }
 
-/// How many look-ups of a kind are answered, each from the answer of the last.
+/// How many look-ups of a kind are made, each from the answer of the last.
 fn chained(alloc: Global, start: Resolver<'_>, kind: &str, size: usize, times: u32) -> Option<u64> {
     let references = references_of(alloc, kind, size).ok()?;
     in_turn(alloc, start, references.as_slice(), times).ok()
 }
 
-/// How many look-ups are answered that start from resolvers in turn, each with its reference.
+/// How many look-ups are made that start from resolvers in turn, each with its reference.
 fn spread(
     alloc: Global,
     resolvers: &[Resolver<'_>],
@@ -221,7 +221,7 @@ fn spread(
     from_each(alloc, starts.as_slice(), times).ok()
 }
 
-/// How many look-ups of a kind are answered that start from resolvers in turn.
+/// How many look-ups of a kind are made that start from resolvers in turn.
 fn from_resolvers(
     alloc: Global,
     registry: &Registry<'_>,
@@ -234,7 +234,7 @@ fn from_resolvers(
     spread(alloc, resolvers.as_slice(), references.as_slice(), times)
 }
 
-/// How many look-ups of a kind are answered in a registry.
+/// How many look-ups of a kind are made in a registry.
 fn looked_up(
     alloc: Global,
     registry: &Registry<'_>,
@@ -302,7 +302,7 @@ fn dynamically(alloc: Global, resolver: &Resolver<'_>, times: u32) -> Result<u64
     Ok(sum)
 }
 
-/// How many look-ups of a line are answered in the registry that a builder prepares.
+/// How many look-ups of a line are made in the registry that a builder prepares.
 fn prepared(alloc: Global, builder: RegistryBuilder<'_>, line: Line<'_>) -> Option<u64> {
     let registry = builder.prepare().ok()?;
     if is_dynamic(line.call) {
@@ -326,7 +326,7 @@ fn documents_for(alloc: Global, line: Line<'_>) -> Option<Vec<(String, Value)>> 
     }
 }
 
-/// How many look-ups of a line are answered in documents that are owned.
+/// How many look-ups of a line are made in documents that are owned.
 fn owned(alloc: Global, documents: Vec<(String, Value)>, line: Line<'_>) -> Option<u64> {
     let builder = Registry::new(alloc).draft(Draft::Draft202012);
     prepared(alloc, builder.extend(documents).ok()?, line)
@@ -339,7 +339,7 @@ fn borrowed(alloc: Global, documents: &[(String, Value)], line: Line<'_>) -> Opt
     prepared(alloc, builder.extend(documents).ok()?, line)
 }
 
-/// How many look-ups of a line are answered; nothing where one is refused.
+/// How many look-ups of a line are made; nothing where one is refused.
 pub fn answer(alloc: Global, line: Line<'_>) -> Option<u64> {
     let documents = documents_for(alloc, line)?;
     if line.call.ends_with("-owned") {

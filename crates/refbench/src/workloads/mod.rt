@@ -1,5 +1,5 @@
 //! Workloads by which the cost of this project's calls is measured: of lines `CALL TEXT SIZE TIMES`, how long the texts
-//! are that the calls answered, together.
+//! are that the calls returned, together.
 
 mod deep;
 mod line;
@@ -62,7 +62,7 @@ fn call_of(name: &str) -> Option<Call> {
 }
 
 /// How long the text is that a call returns; nothing where it returns none. A base is parsed where the call has one.
-/// What a call answers is matched where it stands, so that moving it costs nothing beside the call.
+/// What a call returns is matched where it is, so that moving it costs nothing beside the call.
 fn length_of(alloc: Global, call: Call, base: &str, text: &str) -> Option<usize> {
     match call {
         Call::Nothing => Some(text.len()),
@@ -118,7 +118,7 @@ fn measured(alloc: Global, line: Line<'_>) -> Option<u64> {
     Some(sum)
 }
 
-/// What a line's workload answers; nothing where there is no such call, or one is refused.
+/// What a line's workload returns; nothing where there is no such call, or one is refused.
 fn answer(alloc: Global, line: Line<'_>) -> Option<u64> {
     match line.call {
         "get" | "scan" | "plain_scan" => parts::answer(alloc, line),

@@ -45,7 +45,7 @@ fn probes(alloc: Global, size: usize, times: u32) -> Result<u64, AllocError> {
     Ok(sum)
 }
 
-/// Where the first escape stands, byte by byte.
+/// Where the first escape is, byte by byte.
 fn plain_scan(bytes: &[u8]) -> Option<usize> {
     bytes.iter().position(|byte| *byte == b'~' || *byte == b'/')
 }
@@ -65,7 +65,7 @@ fn scanned(alloc: Global, by_words: bool, size: usize, times: u32) -> Result<u64
     Ok(sum)
 }
 
-/// What a line's workload answers; nothing where memory is refused.
+/// What a line's workload returns; nothing where memory is refused.
 pub fn answer(alloc: Global, line: Line<'_>) -> Option<u64> {
     let sum = match line.call {
         "get" => probes(alloc, line.size, line.times),

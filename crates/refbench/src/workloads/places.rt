@@ -49,7 +49,7 @@ fn linted(alloc: Global, registry: &Registry<'_>, times: u32) -> Result<u64, Err
     Ok(sum)
 }
 
-/// What so many calls answer together over so many documents; nothing where one is refused.
+/// What so many calls return together over so many documents; nothing where one is refused.
 pub fn answer(alloc: Global, line: Line<'_>) -> Option<u64> {
     let registry = registry_of(alloc, documents_of(alloc, line.size)?)?;
     let sum = match line.call {

@@ -1,6 +1,6 @@
 use Rattle.std.proofs.Common.{◌≡◌, ℕ, List, None, Some, Ok, IfOk, IfErr, map, slice_get, ap, sym, subst, ◌∙◌, rules}
 use Rattle.std.specs.List.{AllByRecursion}
-use Rattle.ref_definitions.specs.World.{Layer, own_layer}
+use Rattle.ref_definitions.specs.World.{Layer, local_documents}
 use Rattle.ref_bundle.proofs.Lists.{got}
 use Rattle.ref_bundle.specs.Needed.{counted_documents}
 use Rattle.ref_bundle.specs.Bundle.{bundle_among}
@@ -22,7 +22,7 @@ root_is owns items lent layer n top same alike order at =
 
 pub bundle_among-requires-clause-own : goal.bundle_among-requires-clause-own
 bundle_among-requires-clause-own c =
-    let layer = own_layer c.args.registry.now in
+    let layer = local_documents c.args.registry.now in
     let owns = c.as_slice.result.now in
     let lent : owns ≡ c.in_ok-owns.owns.items = c.as_slice.ensures.value in
     let order : map numbered_document owns ≡ counted_documents 0 layer = ap (map numbered_document) lent ∙ c.in_ok-owns.ensures.order in
@@ -33,27 +33,27 @@ bundle_among-requires-clause-own c =
 
 pub bundle_among-requires-clause-top : goal.bundle_among-requires-clause-top
 bundle_among-requires-clause-top c =
-    let (there, number, layer) = root_is c.as_slice.result.now c.in_ok-owns.owns.items c.deref.result.now (own_layer c.args.registry.now) c.args.root c.in-Some.top.now c.as_slice.ensures.value c.deref.ensures.value c.in_ok-owns.ensures.order
+    let (there, number, layer) = root_is c.as_slice.result.now c.in_ok-owns.owns.items c.deref.result.now (local_documents c.args.registry.now) c.args.root c.in-Some.top.now c.as_slice.ensures.value c.deref.ensures.value c.in_ok-owns.ensures.order
     (sym (got c.deref.result.now c.args.root c.get.result c.get.ensures.lookup) ∙ search rules) in
     there
 
 pub returns-in-Some-clause-value : goal.returns-in-Some-clause-value
 returns-in-Some-clause-value c =
-    let (there, number, layer) = root_is c.as_slice.result.now c.in_ok-owns.owns.items c.deref.result.now (own_layer c.args.registry.now) c.args.root c.in-Some.top.now c.as_slice.ensures.value c.deref.ensures.value c.in_ok-owns.ensures.order
+    let (there, number, layer) = root_is c.as_slice.result.now c.in_ok-owns.owns.items c.deref.result.now (local_documents c.args.registry.now) c.args.root c.in-Some.top.now c.as_slice.ensures.value c.deref.ensures.value c.in_ok-owns.ensures.order
     (sym (got c.deref.result.now c.args.root c.get.result c.get.ensures.lookup) ∙ search rules) in
-    subst (λ k. IfOk c.bundle_among.result (λ b. bundle_among (own_layer c.args.registry.now) c.args.registry.now k ≡ Ok (bundle_said b))) number
+    subst (λ k. IfOk c.bundle_among.result (λ b. bundle_among (local_documents c.args.registry.now) c.args.registry.now k ≡ Ok (bundle_said b))) number
     (subst (λ l. IfOk c.bundle_among.result (λ b. bundle_among l c.args.registry.now c.in-Some.top.now.number ≡ Ok (bundle_said b))) layer c.bundle_among.ensures.value)
 
 pub returns-in-Some-clause-fault : goal.returns-in-Some-clause-fault
 returns-in-Some-clause-fault c =
-    let (there, number, layer) = root_is c.as_slice.result.now c.in_ok-owns.owns.items c.deref.result.now (own_layer c.args.registry.now) c.args.root c.in-Some.top.now c.as_slice.ensures.value c.deref.ensures.value c.in_ok-owns.ensures.order
+    let (there, number, layer) = root_is c.as_slice.result.now c.in_ok-owns.owns.items c.deref.result.now (local_documents c.args.registry.now) c.args.root c.in-Some.top.now c.as_slice.ensures.value c.deref.ensures.value c.in_ok-owns.ensures.order
     (sym (got c.deref.result.now c.args.root c.get.result c.get.ensures.lookup) ∙ search rules) in
-    subst (λ k. IfErr c.bundle_among.result (IsRefusalOf (bundle_among (own_layer c.args.registry.now) c.args.registry.now k))) number
+    subst (λ k. IfErr c.bundle_among.result (IsRefusalOf (bundle_among (local_documents c.args.registry.now) c.args.registry.now k))) number
     (subst (λ l. IfErr c.bundle_among.result (IsRefusalOf (bundle_among l c.args.registry.now c.in-Some.top.now.number))) layer c.bundle_among.ensures.fault)
 
 pub returns-clause-fault : goal.returns-clause-fault
 returns-clause-fault c =
-    let layer = own_layer c.args.registry.now in
+    let layer = local_documents c.args.registry.now in
     let owns = c.deref.result.now in
     let order : map numbered_document owns ≡ counted_documents 0 layer = ap (map numbered_document) c.deref.ensures.value ∙ c.in_ok-owns.ensures.order in
     let missing : slice_get owns c.args.root ≡ None = sym (got owns c.args.root c.get.result c.get.ensures.lookup) ∙ search rules in

@@ -2,7 +2,7 @@ use Rattle.std.specs.Prelude.{slice_get, MatchOption}
 use Rattle.std.proofs.Common.{◌≡◌, ◌∷◌, ◌++◌, [], map, length, refl, sym, subst, ◌∙◌, rules}
 use Rattle.std.specs.Vec.Iter.{into_iter_items}
 use Rattle.std.proofs.lemmas.List.{nil_from_length}
-use Rattle.ref_definitions.specs.World.{own_layer}
+use Rattle.ref_definitions.specs.World.{local_documents}
 use Rattle.ref_bundle.specs.declared.own.Own.{Own}
 use Rattle.ref_bundle.specs.inner.Seen.{numbered_document}
 use Rattle.ref_bundle.proofs.Gathering.{IsPartly, Adds, items, partly_more, partly_all}
@@ -10,7 +10,7 @@ use Rattle.ref_bundle.proofs.own.owns_of.Goals as goal
 
 pub loop-places-preserved : goal.loop-places-preserved
 loop-places-preserved c =
-    let layer = own_layer c.args.registry.now in
+    let layer = local_documents c.args.registry.now in
     let l = c.loop-places in
     let ps = c.in-Some.places in
     let rest = into_iter_items c.next.new.self in
@@ -23,7 +23,7 @@ loop-places-preserved c =
 
 pub returns-clause-order : goal.returns-clause-order
 returns-clause-order c =
-    let layer = own_layer c.args.registry.now in
+    let layer = local_documents c.args.registry.now in
     let l = c.loop-places in
     let none : into_iter_items l.places-iterator ≡ [] = nil_from_length (into_iter_items l.places-iterator) (sym l.invariant.1 ∙ c.in-None.ensures.steps.0) in
     partly_all layer l.owns.items (subst (λ gs. IsPartly layer (map items gs) l.owns.items) none l.invariant.0)

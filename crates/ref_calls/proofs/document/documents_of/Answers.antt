@@ -4,7 +4,7 @@ use Rattle.std.proofs.lemmas.List.{nil_from_length}
 use Rattle.serde_json.specs.View.{view, items_view}
 use Rattle.serde_json.proofs.Views.{view-Array}
 use Rattle.ref_calls.specs.Calls.{each_item, document_in, documents_of}
-use Rattle.ref_calls.specs.inner.Given.{given_of}
+use Rattle.ref_calls.specs.Given.{given_of}
 use Rattle.ref_calls.proofs.Further.{in_front}
 use Rattle.ref_calls.proofs.Documents.{documents_next}
 use Rattle.ref_calls.proofs.document.documents_of.Goals as goal

@@ -2,7 +2,7 @@ use Rattle.std.proofs.Common.{◌≡◌, map, length, vec_len}
 use Rattle.std.specs.Vec.Iter.{into_iter_items, into_iter_len}
 use Rattle.serde_json.specs.View.{items_view}
 use Rattle.ref_calls.specs.Calls.{each_item, document_in}
-use Rattle.ref_calls.specs.inner.Given.{given_of}
+use Rattle.ref_calls.specs.Given.{given_of}
 use Rattle.ref_calls.proofs.Further.{in_front}
 use Rattle.ref_calls.proofs.document.documents_of.Given as goal
 

@@ -2,7 +2,7 @@ use Rattle.std.proofs.Common.{◌≡◌, map, length}
 use Rattle.std.specs.Vec.Iter.{into_iter_items, into_iter_len}
 use Rattle.ref_error.specs.Retrieving.{trees_of}
 use Rattle.ref_calls.specs.Calls.{under_uris}
-use Rattle.ref_calls.specs.inner.Given.{given_of}
+use Rattle.ref_calls.specs.Given.{given_of}
 use Rattle.ref_calls.proofs.Further.{in_front}
 use Rattle.ref_calls.proofs.document.under_uris.Given as goal
 

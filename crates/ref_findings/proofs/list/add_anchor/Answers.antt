@@ -5,6 +5,7 @@ use Rattle.std.specs.List.{AllZip}
 use Rattle.ref_findings.specs.Places.{nearest_base}
 use Rattle.ref_findings.specs.Entries.{IsFindingOf}
 use Rattle.ref_findings.specs.inner.Meanings.{IsMaybe}
+use Rattle.std.specs.Prelude.{IfOk}
 use Rattle.ref_findings.specs.inner.Seen.{site_of, known_in}
 use Rattle.ref_findings.proofs.list.add_anchor.Goals as goal
 
@@ -14,8 +15,8 @@ returns c = λ near fs zip.
     let n = c.args.number in
     let s = site_of c.args.site.now in
     let a = anchor_name c.args.anchor in
-    let said : IsMaybe (name_problem k n (nearest_base s.1) a.0) c.in_ok-problem.problem =
-    subst (λ x. IsMaybe (name_problem k n (nearest_base s.1) x) c.in_ok-problem.problem) c.name.ensures.value
-    (subst (λ b. IsMaybe (name_problem k n b c.name.result.now) c.in_ok-problem.problem) near c.in_ok-problem.ensures.value) in
+    let said : IfOk c.of_name-problem.result (IsMaybe (name_problem k n (nearest_base s.1) a.0)) =
+    subst (λ x. IfOk c.of_name-problem.result (IsMaybe (name_problem k n (nearest_base s.1) x))) c.name.ensures.value
+    (subst (λ b. IfOk c.of_name-problem.result (IsMaybe (name_problem k n b c.name.result.now))) near c.of_name-problem.ensures.value) in
     subst (λ w. OnOk c.add.result (AllZip IsFindingOf c.add.new.list.items (fs ++ finding_at s (Some w) (name_problem k n (nearest_base s.1) a.0)))) c.of_anchor-keyword.ensures.value
     (c.add.ensures (name_problem k n (nearest_base s.1) a.0) said fs zip)

@@ -1,5 +1,5 @@
 use Rattle.std.proofs.Common.{◌≡◌, Some, codes, sym, subst, rules}
-use Rattle.std.specs.Prelude.{option_and_then}
+use Rattle.std.specs.Prelude.{IfOk, option_and_then}
 use Rattle.ref_draft.specs.Schema.{text_under}
 use Rattle.ref_findings.specs.Findings.{reference_problem}
 use Rattle.ref_findings.specs.Places.{nearest_base}
@@ -14,7 +14,7 @@ returns c = λ fs zip.
     let text = text_under (codes "$ref") s.1.value in
     let there : text ≡ Some c.in-Some.reference.now = search rules in
     let near : c.in_ok-base.base.value ≡ nearest_base s.1 = search rules in
-    let said : IsMaybe (reference_problem k (nearest_base s.1) c.in-Some.reference.now) c.in_ok-problem.problem =
-    subst (λ b. IsMaybe (reference_problem k b c.in-Some.reference.now) c.in_ok-problem.problem) near c.in_ok-problem.ensures.value in
+    let said : IfOk c.of_reference-problem.result (IsMaybe (reference_problem k (nearest_base s.1) c.in-Some.reference.now)) =
+    subst (λ b. IfOk c.of_reference-problem.result (IsMaybe (reference_problem k b c.in-Some.reference.now))) near c.of_reference-problem.ensures.value in
     c.add.ensures (option_and_then (reference_problem k (nearest_base s.1)) text)
-    (subst (λ o. IsMaybe (option_and_then (reference_problem k (nearest_base s.1)) o) c.in_ok-problem.problem) (sym there) said) fs zip
+    (subst (λ o. IfOk c.of_reference-problem.result (IsMaybe (option_and_then (reference_problem k (nearest_base s.1)) o))) (sym there) said) fs zip

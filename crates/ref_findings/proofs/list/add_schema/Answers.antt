@@ -1,5 +1,5 @@
 use Rattle.std.proofs.Common.{◌≡◌, Some, codes, sym, subst, rules}
-use Rattle.std.specs.Prelude.{option_and_then}
+use Rattle.std.specs.Prelude.{IfOk, option_and_then}
 use Rattle.ref_draft.specs.Schema.{text_under}
 use Rattle.ref_findings.specs.Findings.{schema_problem}
 use Rattle.ref_findings.specs.inner.Meanings.{IsMaybe}
@@ -13,4 +13,4 @@ returns c = λ fs zip.
     let text = text_under (codes "$schema") s.1.value in
     let there : text ≡ Some c.in-Some.text.now = search rules in
     c.add.ensures (option_and_then (schema_problem k) text)
-    (subst (λ o. IsMaybe (option_and_then (schema_problem k) o) c.in_ok-problem.problem) (sym there) c.in_ok-problem.ensures.value) fs zip
+    (subst (λ o. IfOk c.of_schema-problem.result (IsMaybe (option_and_then (schema_problem k) o))) (sym there) c.of_schema-problem.ensures.value) fs zip

@@ -1,5 +1,5 @@
 use Rattle.std.proofs.Common.{◌≡◌, Some, sym, subst, rules}
-use Rattle.std.specs.Prelude.{option_and_then}
+use Rattle.std.specs.Prelude.{IfOk, option_and_then}
 use Rattle.ref_findings.specs.Bearers.{source_uri}
 use Rattle.ref_findings.specs.Findings.{uri_problem}
 use Rattle.ref_findings.specs.inner.Meanings.{IsMaybe}
@@ -13,4 +13,4 @@ returns c = λ fs zip.
     let s = site_of c.args.site.now in
     let there : source_uri s.1 ≡ Some c.in-Some.uri.now.value = search rules in
     c.add.ensures (option_and_then (uri_problem k n) (source_uri s.1))
-    (subst (λ o. IsMaybe (option_and_then (uri_problem k n) o) c.in_ok-problem.problem) (sym there) c.in_ok-problem.ensures.value) fs zip
+    (subst (λ o. IfOk c.of_uri-problem.result (IsMaybe (option_and_then (uri_problem k n) o))) (sym there) c.of_uri-problem.ensures.value) fs zip

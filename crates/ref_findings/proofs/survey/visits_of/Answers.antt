@@ -1,7 +1,7 @@
 use Rattle.std.proofs.Common.{◌≡◌, ◌∙◌, [], ◌∷◌, ◌++◌, ◌+◌, true, map, take, ap, sym, subst, rules}
 use Rattle.std.proofs.lemmas.List.{map-append}
 use Rattle.ref_index.specs.Listed.{AreNoted, none}
-use Rattle.ref_index.specs.inner.Queue.{place_of as visited_place}
+use Rattle.ref_index.specs.Visit.{place_of as visited_place}
 use Rattle.ref_findings.specs.inner.Seen.{place_of}
 use Rattle.ref_findings.proofs.Lists.{taken_more}
 use Rattle.ref_findings.proofs.Noted.{noted_more, left_more, plain_left_out}

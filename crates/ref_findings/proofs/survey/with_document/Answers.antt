@@ -2,7 +2,7 @@ use Rattle.std.proofs.Common.{◌≡◌, List, ◌∷◌, true, Some, map, ap, s
 use Rattle.serde_json.specs.View.{view}
 use Rattle.ref_definitions.specs.Places.{Place}
 use Rattle.ref_index.specs.Listed.{AreNoted}
-use Rattle.ref_index.specs.inner.Queue.{place_of as visited_place}
+use Rattle.ref_index.specs.Visit.{place_of as visited_place}
 use Rattle.ref_findings.specs.Entries.{source_of}
 use Rattle.ref_findings.specs.inner.Seen.{Survey, place_of}
 use Rattle.ref_findings.proofs.Noted.{listing}

@@ -4,7 +4,7 @@ use Rattle.std.proofs.lemmas.Option.{slice_get-get_or, slice_get-map}
 use Rattle.std.proofs.lemmas.List.{length-map, map-append, take_all}
 use Rattle.serde_json.specs.View.{view}
 use Rattle.ref_definitions.specs.World.{Document}
-use Rattle.ref_index.specs.Visits.{ChildrenStandAt}
+use Rattle.ref_index.specs.Listed.{ChildrenStandAt}
 use Rattle.ref_findings.specs.Places.{places_near}
 use Rattle.ref_findings.specs.inner.Queue.{IsAt}
 use Rattle.ref_findings.specs.inner.Seen.{place_of}

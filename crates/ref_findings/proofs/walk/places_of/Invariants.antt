@@ -1,7 +1,7 @@
 use Rattle.std.proofs.Common.{◌-◌, map, take, length}
 use Rattle.std.specs.List.{AllByRecursion}
 use Rattle.serde_json.specs.View.{view}
-use Rattle.ref_index.specs.Visits.{ChildrenStandAt}
+use Rattle.ref_index.specs.Listed.{ChildrenStandAt}
 use Rattle.ref_findings.specs.Places.{places_near}
 use Rattle.ref_findings.specs.inner.Queue.{IsAt}
 use Rattle.ref_findings.specs.inner.Seen.{place_of}

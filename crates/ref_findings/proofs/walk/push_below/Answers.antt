@@ -3,7 +3,7 @@ use Rattle.std.proofs.lemmas.Option.{get_or_from_slice_get}
 use Rattle.serde_json.specs.View.{view}
 use Rattle.ref_draft.specs.Children.{walked_children}
 use Rattle.ref_definitions.specs.Places.{base_within, child_place}
-use Rattle.ref_index.specs.Visits.{ChildrenStandAt}
+use Rattle.ref_index.specs.Listed.{ChildrenStandAt}
 use Rattle.ref_index.proofs.Listing.{on_ok}
 use Rattle.ref_findings.specs.Places.{nearest_of, nearest_base, children_near}
 use Rattle.ref_findings.specs.declared.place.Place.{Place}

@@ -1,6 +1,6 @@
 use Rattle.std.proofs.Common.{◌∙◌, ap, cond, true, bytes_eq}
 use Rattle.std.specs.HashSet.{contains}
-use Rattle.ref_index.specs.Found.{is_same}
+use Rattle.ref_index.specs.inner.Found.{is_same}
 use Rattle.ref_index.proofs.found.identify.Goals as goal
 
 pub returns : goal.returns

@@ -1,7 +1,7 @@
 use Rattle.std.proofs.Common.{◌≡◌, subst, sym, rules, Ok, None, refl}
 use Rattle.ref_uri.specs.Targets.{uri_against}
 use Rattle.ref_parts.specs.Table as table
-use Rattle.ref_index.specs.Found.{IsPairOf}
+use Rattle.ref_index.specs.inner.Found.{IsPairOf}
 use Rattle.ref_index.specs.declared.found.ResolvedUri.{ResolvedUri}
 use Rattle.ref_index.proofs.Listing.{on_ok}
 use Rattle.ref_index.proofs.found.push_resolved.Goals as goal

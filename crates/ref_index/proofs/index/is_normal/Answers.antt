@@ -10,4 +10,4 @@ returns-in-Ok c = λ holds.
     let text : c.as_str.result.now ≡ uri = search rules in
     let same : c.in-Ok.normal ≡ uri = search rules in
     let there : is_some (scheme uri) ≡ true = search rules in
-    means_itself uri c.in-Ok.normal (subst (λ t. uri_of t ≡ Ok c.in-Ok.normal) text c.in-Ok.ensures.ok) same there
+    means_itself uri c.in-Ok.normal (subst (λ t. uri_of t ≡ Ok c.in-Ok.normal) text c.in-Ok.ensures.gives) same there

@@ -1,5 +1,5 @@
 use Rattle.std.proofs.Common.{rules}
-use Rattle.ref_index.specs.Index.{numbered_uri}
+use Rattle.ref_index.specs.inner.Index.{numbered_uri}
 use Rattle.ref_index.proofs.index.set_entries.Goals as goal
 
 pub returns : goal.returns

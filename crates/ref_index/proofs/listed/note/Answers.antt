@@ -1,36 +1,33 @@
-use Rattle.std.proofs.Common.{◌≡◌, ◌∙◌, ◌∷◌, [], Some, ap, subst, sym, map, flat_map, take, rules, arith}
+use Rattle.std.proofs.Common.{◌≡◌, ◌∷◌, [], Some, refl, subst, sym, map, flat_map, take, rules, arith}
 use Rattle.std.proofs.lemmas.List.{take_all}
 use Rattle.ref_parts.specs.Path.{value_at}
 use Rattle.ref_definitions.specs.Places.{Place, places, root}
 use Rattle.ref_index.specs.Document.{document_of}
-use Rattle.ref_index.specs.Visits.{AddsPlace, AddsPlaces, faults_of}
-use Rattle.ref_index.specs.inner.Queue.{place_of}
+use Rattle.ref_index.specs.inner.Visits.{AddsPlaces}
+use Rattle.ref_index.specs.Faults.{faults_of}
+use Rattle.ref_index.specs.Visit.{place_of}
 use Rattle.ref_index.proofs.Noting.{memory_alone, noted_faultless, noted_stand, all_at, taken_more, all_walked}
 use Rattle.ref_index.proofs.Walking.{adds_root, adds_more}
 use Rattle.ref_index.proofs.listed.note.Goals as goal
 
-pub returns-in_err-settle : goal.returns-in_err-settle
-returns-in_err-settle c =
+pub returns-in_err-note_root : goal.returns-in_err-note_root
+returns-in_err-note_root c =
     let d = document_of c.args.document.now in
-    let none : faults_of (place_of c.in_ok-root.root) ≡ [] = ap faults_of c.in_ok-root.ensures ∙ (noted_faultless d (map place_of c.args.below.now) c.requires).0 in
-    let fault = memory_alone _ (flat_map faults_of (places d)) c.in_err-settle.field-0.0 none c.in_err-settle.ensures.faults in
+    let none : faults_of (root d) ≡ [] = (noted_faultless d (map place_of c.args.below.now) c.requires).0 in
+    let fault = memory_alone _ (flat_map faults_of (places d)) c.in_err-note_root.field-0.0 none c.in_err-note_root.ensures.faults in
     search rules
 
 pub loop-place-init : goal.loop-place-init
 loop-place-init c =
     let d = document_of c.args.document.now in
-    let v = c.in_ok-root.root in
-    let under : v.outer.value ≡ d.uri = ap (λ p. p.outer) c.in_ok-root.ensures in
-    let added : AddsPlace c.args.number (Some d.uri) (place_of v) c.args.found.now c.settle.new.found =
-    subst (λ u. AddsPlace c.args.number (Some u) (place_of v) c.args.found.now c.settle.new.found) under c.in_ok-settle.ensures.added in
-    subst (λ p. AddsPlaces d c.args.number (p ∷ []) c.args.found.now c.settle.new.found) c.in_ok-root.ensures (adds_root d c.args.number c.args.found.now c.settle.new.found (place_of v) c.in_ok-root.ensures added)
+    adds_root d c.args.number c.args.found.now c.note_root.new.found (root d) refl c.in_ok-note_root.ensures.added
 
-pub returns-in_err-settle-2 : goal.returns-in_err-settle-2
-returns-in_err-settle-2 c =
+pub returns-in_err-settle : goal.returns-in_err-settle
+returns-in_err-settle c =
     let d = document_of c.args.document.now in
     let below = map place_of c.args.below.now in
     let none = all_at (λ p. faults_of p ≡ []) place_of c.args.below.now c.loop-place.place-index c.place-item.result (noted_faultless d below c.requires).1 c.loop-place-test.true c.place-item.is in
-    let fault = memory_alone _ (flat_map faults_of (places d)) c.in_err-settle-2.field-0.0 none c.in_err-settle-2.ensures.faults in
+    let fault = memory_alone _ (flat_map faults_of (places d)) c.in_err-settle.field-0.0 none c.in_err-settle.ensures.faults in
     search rules
 
 pub loop-place-preserved : goal.loop-place-preserved
@@ -40,8 +37,8 @@ loop-place-preserved c =
     let i = c.loop-place.place-index in
     let v = c.place-item.result in
     let at = all_at (λ (p : Place). value_at d.tree p.path ≡ Some p.value) place_of vs i v (noted_stand d (map place_of vs) c.requires).1 c.loop-place-test.true c.place-item.is in
-    subst (λ l. AddsPlaces d c.args.number (root d ∷ l) c.args.found.now c.settle-in-loop-place.new.found) (sym (taken_more vs i v c.loop-place-test.true c.place-item.is))
-    (adds_more d c.args.number c.args.found.now c.loop-place.found c.settle-in-loop-place.new.found (root d ∷ map place_of (take i vs)) (place_of v) at c.loop-place.invariant c.in_ok-settle-2.ensures.added)
+    subst (λ l. AddsPlaces d c.args.number (root d ∷ l) c.args.found.now c.settle.new.found) (sym (taken_more vs i v c.loop-place-test.true c.place-item.is))
+    (adds_more d c.args.number c.args.found.now c.loop-place.found c.settle.new.found (root d ∷ map place_of (take i vs)) (place_of v) at c.loop-place.invariant c.in_ok-settle.ensures.added)
 
 pub returns : goal.returns
 returns c =

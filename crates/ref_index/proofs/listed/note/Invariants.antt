@@ -1,8 +1,8 @@
 use Rattle.std.proofs.Common.{◌∷◌, map, take}
 use Rattle.ref_definitions.specs.Places.{root}
 use Rattle.ref_index.specs.Document.{document_of}
-use Rattle.ref_index.specs.Visits.{AddsPlaces}
-use Rattle.ref_index.specs.inner.Queue.{place_of}
+use Rattle.ref_index.specs.inner.Visits.{AddsPlaces}
+use Rattle.ref_index.specs.Visit.{place_of}
 use Rattle.ref_index.proofs.listed.note.Given as goal
 
 abbrev pub invariant-loop-place : goal.invariant-loop-place

@@ -1,7 +1,7 @@
 use Rattle.std.proofs.Common.{◌≡◌, ◌<◌, ◌∙◌, sym, ap, subst, map, length, ◌∷◌, true, false, not, arith, rules}
 use Rattle.std.proofs.lemmas.List.{length-map}
 use Rattle.ref_definitions.specs.Wants.{is_open}
-use Rattle.ref_index.specs.Found.{want_of}
+use Rattle.ref_index.specs.inner.Found.{want_of}
 use Rattle.std.specs.Prelude.{slice_get}
 use Rattle.ref_index.proofs.Opening.{mapped_at, one_more_met, none_past}
 use Rattle.ref_index.proofs.open.first_open.Goals as goal

@@ -3,7 +3,7 @@ use Rattle.std.specs.List.{AllByRecursion}
 use Rattle.ref_definitions.specs.World.{Layer}
 use Rattle.ref_definitions.specs.Wants.{is_open}
 use Rattle.ref_index.specs.Spots.{numbered_resources}
-use Rattle.ref_index.specs.Found.{FoundLists, Holds}
+use Rattle.ref_index.specs.inner.Found.{FoundLists, Holds}
 use Rattle.ref_index.proofs.open.first_open.Given as goal
 
 abbrev pub invariant-loop-number : goal.invariant-loop-number

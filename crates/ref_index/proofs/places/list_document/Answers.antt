@@ -1,7 +1,7 @@
 use Rattle.std.proofs.Common.{◌∙◌, ◌∷◌, ◌++◌, [], ◌<◌, ap, map, length, arith}
 use Rattle.ref_index.specs.Document.{document_of}
 use Rattle.ref_index.specs.Listing.{listed_of}
-use Rattle.ref_index.specs.inner.Queue.{place_of}
+use Rattle.ref_index.specs.Visit.{place_of}
 use Rattle.ref_index.proofs.Walking.{element_there, left_in}
 use Rattle.ref_index.proofs.Listing.{at_head, listing_begins, listing_goes_on, listing_ends}
 use Rattle.ref_index.proofs.places.list_document.Goals as goal

@@ -6,7 +6,7 @@ use Rattle.ref_definitions.specs.Listing.{listed_place}
 use Rattle.ref_definitions.specs.Places.{children_with, children_of}
 use Rattle.ref_index.specs.declared.queue.Visit.{Visit}
 use Rattle.ref_index.specs.Listing.{listed_of}
-use Rattle.ref_index.specs.inner.Queue.{place_of}
+use Rattle.ref_index.specs.Visit.{place_of}
 use Rattle.ref_index.proofs.Listing.{on_ok}
 use Rattle.ref_index.proofs.places.list_next.Goals as goal
 

@@ -6,7 +6,7 @@ use Rattle.ref_index.proofs.prepare.prepare.Given as goal
 
 abbrev pub invariant-loop-want : goal.invariant-loop-want
 invariant-loop-want g l =
-    IsAfter (given_with (g.R.Retrieve.may_answer l.retriever) (g.R.Retrieve.may_refuse l.retriever) l.limit l.draft (map (λ p. p.now) l.parents) (map document_of l.fn.documents.items)) l.count l.walked l.next
+    IsAfter (given_with (g.R.Retrieve.meaning l.retriever) l.limit l.draft (map (λ p. p.now) l.parents) (map document_of l.fn.documents.items)) l.count l.walked l.next
 
 abbrev pub decreases-loop-want : goal.decreases-loop-want
 decreases-loop-want g l = l.limit - l.count

@@ -3,7 +3,7 @@ use Rattle.std.specs.Vec.Iter.{into_iter_items}
 use Rattle.std.proofs.lemmas.List.{map-append}
 use Rattle.ref_definitions.specs.Wants.{faults}
 use Rattle.ref_index.specs.Document.{document_of}
-use Rattle.ref_index.specs.Visits.{IsFirstFault}
+use Rattle.ref_index.specs.Faults.{IsFirstFault}
 use Rattle.ref_index.proofs.Retrieving.{first_of_more}
 use Rattle.ref_index.proofs.prepare.walk_all.Goals as goal
 

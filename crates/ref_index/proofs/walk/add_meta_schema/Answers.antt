@@ -2,7 +2,7 @@ use Rattle.std.proofs.Common.{◌≡◌, ◌∷◌, [], subst, sym, rules}
 use Rattle.serde_json.specs.View.{view}
 use Rattle.ref_definitions.specs.Wants as wants
 use Rattle.ref_definitions.specs.Wants.{Want, wants_of_text, schema_at}
-use Rattle.ref_index.specs.Found.{Holds, with_wants}
+use Rattle.ref_index.specs.inner.Found.{Holds, with_wants}
 use Rattle.ref_index.proofs.walk.add_meta_schema.Goals as goal
 
 pub returns-clause-added : goal.returns-clause-added

@@ -2,10 +2,10 @@ use Rattle.std.proofs.Common.{refl, sym, ap, subst, ◌∙◌, option_map}
 use Rattle.ref_draft.specs.Views.{tagged_value}
 use Rattle.ref_definitions.specs.Resources.{resource_of}
 use Rattle.ref_definitions.specs.Anchors.{named_at}
-use Rattle.ref_index.specs.Spots.{numbered}
-use Rattle.ref_index.specs.Found.{IsNumberOf, with_resources, with_names}
-use Rattle.ref_index.specs.inner.Queue.{place_of}
-use Rattle.ref_index.specs.Visits.{under_document, names_under}
+use Rattle.ref_index.specs.Spots.{with_number}
+use Rattle.ref_index.specs.inner.Found.{IsNumberOf, with_resources, with_names}
+use Rattle.ref_index.specs.Visit.{place_of}
+use Rattle.ref_index.specs.inner.Visits.{under_document, names_under}
 use Rattle.ref_index.proofs.Spots.{numbered_behind}
 use Rattle.ref_index.proofs.Listing.{on_ok}
 use Rattle.ref_index.proofs.Visiting.{holds_same}
@@ -23,4 +23,4 @@ returns c = λ layer held holds stands named based.
     let first = c.in_ok-add_under.ensures.added layer held p number kept entry tag in
     on_ok c.add_by_base.result
     (holds_same layer c.add_by_base.new.found _ _ (numbered_behind number held.resources (under_document under p) (resource_of p)) (numbered_behind number held.names (names_under under p) (named_at p)) refl refl refl)
-    (c.add_by_base.ensures layer (with_names (with_resources held (numbered number (under_document under p))) (numbered number (names_under under p))) p number first there tag named based)
+    (c.add_by_base.ensures layer (with_names (with_resources held (with_number number (under_document under p))) (with_number number (names_under under p))) p number first there tag named based)

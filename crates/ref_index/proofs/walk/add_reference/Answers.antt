@@ -3,7 +3,7 @@ use Rattle.serde_json.specs.View.{view}
 use Rattle.ref_definitions.specs.Cached.{pairs_of_reference, pairs_of_value}
 use Rattle.ref_definitions.specs.Wants as wants
 use Rattle.ref_definitions.specs.Wants.{Want, wants_of_text, reference_at}
-use Rattle.ref_index.specs.Found.{Holds, with_wants, with_references}
+use Rattle.ref_index.specs.inner.Found.{Holds, with_wants, with_references}
 use Rattle.ref_index.proofs.walk.add_reference.Goals as goal
 
 pub returns-clause-added : goal.returns-clause-added

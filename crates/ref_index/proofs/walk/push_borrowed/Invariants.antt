@@ -1,6 +1,6 @@
 use Rattle.std.proofs.Common.{map}
 use Rattle.ref_draft.specs.Views.{walked_child}
-use Rattle.ref_index.specs.Visits.{Came}
+use Rattle.ref_index.specs.inner.Visits.{Came}
 use Rattle.ref_index.proofs.walk.push_borrowed.Given as goal
 
 abbrev pub invariant-loop-child : goal.invariant-loop-child

@@ -4,7 +4,7 @@ use Rattle.std.proofs.lemmas.Bool.{eqb-true}
 use Rattle.serde_json.specs.View.{view}
 use Rattle.ref_draft.specs.declared.spec.walk.Child.{Child}
 use Rattle.ref_draft.specs.Views.{walked_child}
-use Rattle.ref_index.specs.inner.Queue.{path_of, value_of}
+use Rattle.ref_index.specs.Visit.{path_of, value_of}
 use Rattle.ref_index.proofs.Listing.{on_ok}
 use Rattle.ref_index.proofs.Walking.{came, none_came, nothing}
 use Rattle.ref_index.proofs.walk.push_children.Goals as goal

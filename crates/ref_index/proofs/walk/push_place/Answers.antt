@@ -1,5 +1,5 @@
 use Rattle.std.proofs.Common.{ap}
-use Rattle.ref_index.specs.inner.Queue.{path_of, place_with, value_of}
+use Rattle.ref_index.specs.Visit.{path_of, place_with, value_of}
 use Rattle.ref_index.specs.declared.queue.Visit.{Visit}
 use Rattle.ref_index.proofs.Listing.{on_ok}
 use Rattle.ref_index.proofs.walk.push_place.Goals as goal

@@ -1,7 +1,7 @@
 use Rattle.std.proofs.Common.{◌≡◌, ◌∷◌, [], subst, Ok, rules}
 use Rattle.ref_uri.specs.Targets.{uri_against}
 use Rattle.ref_definitions.specs.Cached.{pairs_of_reference}
-use Rattle.ref_index.specs.Found.{Holds, with_references}
+use Rattle.ref_index.specs.inner.Found.{Holds, with_references}
 use Rattle.ref_index.proofs.walk.referred.Goals as goal
 
 pub returns-clause-added : goal.returns-clause-added

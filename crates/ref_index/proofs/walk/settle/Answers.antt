@@ -7,9 +7,10 @@ use Rattle.ref_uri.specs.Errors.{IsFaultOf}
 use Rattle.ref_definitions.specs.Places.{base_within}
 use Rattle.ref_definitions.specs.Cached.{pairs_of_identifier, identifier_pairs_at, pairs_of_value}
 use Rattle.ref_definitions.specs.Wants.{Reference, MetaSchema, wants_of_text, reference_at, refusals_of, schema_at}
-use Rattle.ref_index.specs.Found.{Holds, with_wants, with_identifiers, with_references}
-use Rattle.ref_index.specs.inner.Queue.{place_of}
-use Rattle.ref_index.specs.Visits.{IsFirstFault, with_meanings}
+use Rattle.ref_index.specs.inner.Found.{Holds, with_wants, with_identifiers, with_references}
+use Rattle.ref_index.specs.Visit.{place_of}
+use Rattle.ref_index.specs.Faults.{IsFirstFault}
+use Rattle.ref_index.specs.inner.Visits.{with_meanings}
 use Rattle.ref_index.proofs.Visiting.{first_of_base, first_of_reference, wants_where, references_where, holds_same}
 use Rattle.ref_index.proofs.walk.settle.Goals as goal
 

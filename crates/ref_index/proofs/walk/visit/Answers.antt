@@ -2,8 +2,8 @@ use Rattle.std.proofs.Common.{◌≡◌, ◌∙◌, Ok, Some, sym, ap, subst, op
 use Rattle.std.specs.Prelude.{slice_get}
 use Rattle.std.proofs.lemmas.Option.{get_or_from_slice_get}
 use Rattle.ref_definitions.specs.Places.{children_with}
-use Rattle.ref_index.specs.inner.Queue.{place_of}
-use Rattle.ref_index.specs.Visits.{IsVisited}
+use Rattle.ref_index.specs.Visit.{place_of}
+use Rattle.ref_index.specs.inner.Visits.{IsVisited}
 use Rattle.ref_index.proofs.walk.visit.Goals as goal
 
 pub returns-clause-ok : goal.returns-clause-ok

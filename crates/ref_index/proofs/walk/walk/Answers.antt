@@ -1,28 +1,33 @@
 use Rattle.std.proofs.Common.{◌≡◌, ◌∙◌, ◌∷◌, [], ◌<◌, ap, subst, length, Some, flat_map, arith, rules}
+use Rattle.std.proofs.lemmas.Option.{get_or_from_slice_get}
 use Rattle.ref_definitions.specs.Places.{root, children_of, levels_below}
 use Rattle.ref_definitions.specs.Queue.{IsQueueBy}
 use Rattle.serde_json.specs.Data.{depth}
 use Rattle.ref_index.specs.Document.{document_of}
-use Rattle.ref_index.specs.inner.Queue.{place_of}
-use Rattle.ref_index.specs.Visits.{IsFirstFault, IsVisited, faults_of}
+use Rattle.ref_index.specs.Visit.{place_of}
+use Rattle.ref_index.specs.Faults.{IsFirstFault, faults_of}
+use Rattle.ref_index.specs.inner.Visits.{IsVisited}
 use Rattle.ref_index.proofs.Walking.{begin, advance, finish, element_there, first_there, left_in, first_in_front, first_of_visit, head_is}
 use Rattle.ref_index.proofs.walk.walk.Goals as goal
 
 pub returns-in_err-visit : goal.returns-in_err-visit
 returns-in_err-visit c =
     let d = document_of c.args.document.now in
-    let here = first_there c.push_visit.new.queue.items c.in_ok-queue.queue.items c.in_ok-root.root c.in_ok-push_visit.ensures c.in_ok-queue.ensures.items in
-    let first : IsFirstFault (faults_of (root d)) c.in_err-visit.field-0.0 = subst (λ p. IsFirstFault (faults_of p) c.in_err-visit.field-0.0) c.in_ok-root.ensures (c.in_err-visit.ensures.fault c.in_ok-root.root here.1) in
+    let v = c.in_ok-root_of.field-0 in
+    let is = c.in_ok-root_of.ensures in
+    let here = first_there c.push_visit.new.queue.items c.in_ok-queue.queue.items v c.in_ok-push_visit.ensures c.in_ok-queue.ensures.items in
+    let first : IsFirstFault (faults_of (root d)) c.in_err-visit.field-0.0 = subst (λ p. IsFirstFault (faults_of p) c.in_err-visit.field-0.0) is (c.in_err-visit.ensures.fault v here.1) in
     let fault = first_in_front (faults_of (root d)) (flat_map faults_of (levels_below (depth d.tree) (root d ∷ []))) c.in_err-visit.field-0.0 first in
     search rules
 
 pub loop-head-init : goal.loop-head-init
 loop-head-init c =
     let d = document_of c.args.document.now in
-    let v = c.in_ok-root.root in
+    let v = c.in_ok-root_of.field-0 in
+    let is = c.in_ok-root_of.ensures in
     let here = first_there c.push_visit.new.queue.items c.in_ok-queue.queue.items v c.in_ok-push_visit.ensures c.in_ok-queue.ensures.items in
-    let under : c.in_ok-uri.uri.value ≡ d.uri = c.in_ok-uri.ensures.cases ∙ ap (λ p. p.outer) c.in_ok-root.ensures in
-    begin d c.args.number c.args.found.now c.visit.new.found c.push_visit.new.queue.items c.visit.new.queue.items v here.0 c.in_ok-root.ensures
+    let under : c.in_ok-uri.uri.value ≡ d.uri = c.in_ok-uri.ensures.cases ∙ ap (λ w. w.outer.value) (c.index.ensures ∙ get_or_from_slice_get c.push_visit.new.queue.items 0 v c.index.result.now here.1) ∙ ap (λ p. p.outer) is in
+    begin d c.args.number c.args.found.now c.visit.new.found c.push_visit.new.queue.items c.visit.new.queue.items v here.0 is
     (subst (λ u. IsVisited c.args.number (Some u) v c.args.found.now c.visit.new.found c.push_visit.new.queue.items c.visit.new.queue.items) under (c.in_ok-visit.ensures.ok v here.1))
 
 pub returns-in_err-visit-2 : goal.returns-in_err-visit-2

@@ -1,7 +1,7 @@
 use Rattle.std.proofs.Common.{◌-◌, length}
 use Rattle.ref_definitions.specs.Places.{places}
 use Rattle.ref_index.specs.Document.{document_of}
-use Rattle.ref_index.specs.Visits.{IsAt}
+use Rattle.ref_index.specs.inner.Visits.{IsAt}
 use Rattle.ref_index.proofs.walk.walk.Given as goal
 
 abbrev pub invariant-loop-head : goal.invariant-loop-head

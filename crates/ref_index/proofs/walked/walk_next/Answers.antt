@@ -3,7 +3,8 @@ use Rattle.std.specs.Prelude.{slice_get}
 use Rattle.std.proofs.lemmas.List.{map-append, length-map}
 use Rattle.std.proofs.lemmas.Option.{get_or_from_slice_get}
 use Rattle.ref_index.specs.Document.{document_of}
-use Rattle.ref_index.specs.Visits.{IsFirstFault, IsFound, WalksOver}
+use Rattle.ref_index.specs.Faults.{IsFirstFault}
+use Rattle.ref_index.specs.inner.Visits.{IsFound, WalksOver}
 use Rattle.ref_index.proofs.Layers.{at_length, faults_more, found_more, walk_ended, walk_refused}
 use Rattle.ref_index.proofs.Listing.{on_ok}
 use Rattle.ref_index.proofs.walked.walk_next.Goals as goal

@@ -3,9 +3,9 @@ use Rattle.std.specs.List.{AllZip}
 use Rattle.std.specs.Option.{option_to_list}
 use Rattle.std.specs.Vec.Iter.{into_iter_items}
 use Rattle.std.proofs.lemmas.List.{nil_from_length}
-use Rattle.ref_definitions.specs.Listing.{own_places}
+use Rattle.ref_definitions.specs.Listing.{local_places}
 use Rattle.ref_index.specs.Listing.{listed_of}
-use Rattle.ref_definitions.specs.World.{own_layer}
+use Rattle.ref_definitions.specs.World.{local_documents}
 use Rattle.ref_lint.specs.Entries.{IsEntryOf}
 use Rattle.ref_lint.specs.Dangling.{dangling_at}
 use Rattle.ref_lint.proofs.Numbering.{entry_of_one_more}
@@ -35,7 +35,7 @@ value_of_all c =
     let none : into_iter_items c.loop-place.place-iterator ≡ [] = nil_from_length (into_iter_items c.loop-place.place-iterator) (sym c.loop-place.invariant.2 ∙ c.in-None.ensures.steps.0) in
     let all : gone ≡ c.in_ok-places.places.items =
     sym (append-nil gone) ∙ ap (λ l. gone ++ l) (sym none) ∙ c.loop-place.invariant.1 ∙ c.into_iter-place-iterator.ensures.into_iter_gives.0 in
-    let listed : map listed_of gone ≡ own_places (own_layer world) = ap (map listed_of) all ∙ c.in_ok-places.ensures.value in
+    let listed : map listed_of gone ≡ local_places (local_documents world) = ap (map listed_of) all ∙ c.in_ok-places.ensures.value in
     subst (λ places. AllZip IsEntryOf c.loop-place.list.items (flat_map (dangling_at world) places)) listed c.loop-place.invariant.0
 
 pub returns-clause-value : goal.returns-clause-value

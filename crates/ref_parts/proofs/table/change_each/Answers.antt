@@ -2,7 +2,7 @@ use Rattle.std.proofs.Common.{rules, of_calls, ◌≡◌, ◌∙◌, ◌++◌, �
 use Rattle.std.specs.Fn.{CalledAtMut}
 use Rattle.std.proofs.lemmas.List.{take_all, drop_all}
 use Rattle.ref_parts.specs.declared.table.Slot.{Slot}
-use Rattle.ref_parts.specs.inner.SortedEntries.{place_of, revalued}
+use Rattle.ref_parts.specs.inner.SortedEntries.{place_of, slot_with_value}
 use Rattle.ref_parts.proofs.Changing.{changed_next, length_kept, unchanged_map}
 use Rattle.ref_parts.proofs.table.change_each.Goals as goal
 
@@ -20,7 +20,7 @@ loop-slot-preserved g c =
       λ h by.
           let known = c.loop-slot.invariant.2 h by in
           let called = by s.value c.change.new.arg2 c.change.new.self (subst (λ f. CalledAtMut g.F.FnMut f s.value tt c.change.new.self c.change.new.arg2) known.0 k) in
-          let f : Slot g.row.V.Denot → Slot g.row.V.Denot = revalued h in
+          let f : Slot g.row.V.Denot → Slot g.row.V.Denot = slot_with_value h in
           let within : i < length ys = omega (arith, length_kept f ys i, ap length known.1) in (
             called.1,
             ap (λ v. slice_set xs i record { word = s.word; first = s.first; second = s.second; end = s.end; value = v }) called.0 ∙ changed_next f xs ys i d within known.1,
@@ -30,7 +30,7 @@ loop-slot-preserved g c =
 pub returns-clause-value : goal.returns-clause-value
 returns-clause-value g c = λ h by.
     let ys = c.args.slots.now in
-    let f : Slot g.row.V.Denot → Slot g.row.V.Denot = revalued h in
+    let f : Slot g.row.V.Denot → Slot g.row.V.Denot = slot_with_value h in
     let all : length ys ≡ c.loop-slot.slot-index = search rules in
     (c.loop-slot.invariant.2 h by).1
     ∙ ap (λ n. map f (take n ys) ++ drop n ys) (sym all)

@@ -1,12 +1,12 @@
 use Rattle.std.proofs.Common.{◌≡◌, ◌<◌, ◌∙◌, length, reverse, ap, arith, slice_set, slice_index_or}
 use Rattle.ref_parts.specs.declared.table.Slot.{Slot}
-use Rattle.ref_parts.specs.inner.SortedEntries.{word_at, pair_of, numbered}
+use Rattle.ref_parts.specs.inner.SortedEntries.{word_at, pair_of, slot_with_word}
 use Rattle.ref_parts.proofs.Changing.{changed_next, length_kept}
 use Rattle.ref_parts.proofs.table.number_backwards.Goals as goal
 
 pub loop-slot-preserved : goal.loop-slot-preserved
 loop-slot-preserved g c =
-    let f : Slot g.row.V.Denot → Slot g.row.V.Denot = numbered c.args.texts.now c.args.shared in
+    let f : Slot g.row.V.Denot → Slot g.row.V.Denot = slot_with_word c.args.texts.now c.args.shared in
     let xs = c.loop-slot.slots in
     let ys = reverse c.args.slots.now in
     let i = c.loop-slot.slot-index in

@@ -9,15 +9,15 @@ use Rattle.ref_report.proofs.answer.followed_report.Goals as goal
 
 pub done_report-requires : goal.done_report-requires
 done_report-requires c =
-    last_without_floats c.in-Ok.followed.last (ends_without_floats c.args.registry.now c.args.base (map step_of c.args.steps.now) (followed_of c.in-Ok.followed) c.requires c.in-Ok.ensures.ok)
+    last_without_floats c.in-Ok.followed.last (ends_without_floats c.args.registry.now c.args.base (map step_of c.args.steps.now) (followed_of c.in-Ok.followed) c.requires c.in-Ok.ensures.gives)
 
 pub returns-in-Ok : goal.returns-in-Ok
 returns-in-Ok c =
     let answer = followed_steps c.args.registry.now c.args.base (map step_of c.args.steps.now) in
-    IfOk-weaker c.done_report.result _ _ (λ report is. done_is answer (followed_of c.in-Ok.followed) (report_view report) c.in-Ok.ensures.ok is) c.done_report.ensures
+    IfOk-weaker c.done_report.result _ _ (λ report is. done_is answer (followed_of c.in-Ok.followed) (report_view report) c.in-Ok.ensures.gives is) c.done_report.ensures
 
 pub returns-in-Err : goal.returns-in-Err
 returns-in-Err c =
     let answer = followed_steps c.args.registry.now c.args.base (map step_of c.args.steps.now) in
     let fault = c.in-Err.fault in
-    IfOk-weaker c.step_report.result _ _ (λ report is. step_is answer fault.step fault.error (report_view report) c.in-Err.ensures.fault is) c.step_report.ensures
+    IfOk-weaker c.step_report.result _ _ (λ report is. step_is answer fault.step fault.error (report_view report) c.in-Err.ensures.gives is) c.step_report.ensures

@@ -1,5 +1,5 @@
 use Rattle.std.proofs.Common.{◌≡◌, None, subst, rules}
-use Rattle.ref_index.specs.Index.{IsFoundWhere}
+use Rattle.ref_index.specs.Entries.{IsFoundWhere}
 use Rattle.ref_resolver.proofs.Locating.{meant_of}
 use Rattle.ref_resolver.proofs.Spotting.{entry_told}
 use Rattle.ref_resolver.proofs.located.place_of.Goals as goal

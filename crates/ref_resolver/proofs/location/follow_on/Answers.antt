@@ -8,7 +8,8 @@ use Rattle.ref_parts.specs.Segment.{part_of}
 use Rattle.ref_draft.specs.declared.reached.Reached.TheVariants.{Schema}
 use Rattle.ref_definitions.specs.Pointers.{pointed_value, walked_along}
 use Rattle.ref_error.specs.Errors.{IsFaultOf}
-use Rattle.ref_resolver.specs.Locations.{EndsAt, parts_along}
+use Rattle.ref_resolver.specs.inner.Leading.{EndsAt}
+use Rattle.ref_resolver.specs.Locations.{parts_along}
 use Rattle.ref_error.proofs.Saying.{says_of}
 use Rattle.ref_resolver.specs.inner.Walking.{passed_along}
 use Rattle.ref_resolver.proofs.Pointing.{text_pointed, bytes_pointed, fault_same}

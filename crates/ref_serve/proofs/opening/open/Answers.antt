@@ -1,6 +1,6 @@
 use Rattle.std.proofs.Common.{◌≡◌, Ok, Err, length, map, rules, sym, ap, ◌∙◌, subst}
 use Rattle.serde_json.specs.View.{view}
-use Rattle.ref_calls.specs.inner.Given.{given_of}
+use Rattle.ref_calls.specs.Given.{given_of}
 use Rattle.ref_serve.specs.Answering.{IsOpened}
 use Rattle.ref_serve.specs.Opening.{AboveLayers, AboveMetaSchemas}
 use Rattle.ref_serve.specs.inner.Openings.{layers_at, parent_view, opening_view, GivesOpened}

@@ -1,5 +1,5 @@
 use Rattle.std.proofs.Common.{◌≡◌, Err, map, rules, sym, subst}
-use Rattle.ref_calls.specs.inner.Given.{given_of}
+use Rattle.ref_calls.specs.Given.{given_of}
 use Rattle.ref_serve.specs.Opening.{AboveMetaSchemas, IsOpenedBy}
 use Rattle.ref_serve.specs.inner.Openings.{opening_view, GivesOpened}
 use Rattle.ref_serve.proofs.OpeningReads.{no_meta, meta_layers, opened_neither}

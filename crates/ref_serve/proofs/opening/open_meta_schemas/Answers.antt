@@ -2,7 +2,7 @@ use Rattle.std.proofs.Common.{Ok, map, sym, subst, rules}
 use Rattle.referencing.specs.MetaSchemas.{given_of_meta_schemas}
 use Rattle.ref_registries.specs.Worlds.{IsWorld}
 use Rattle.ref_registries.proofs.Given.{pending_seen}
-use Rattle.ref_calls.specs.inner.Given.{given_of}
+use Rattle.ref_calls.specs.Given.{given_of}
 use Rattle.ref_serve.specs.inner.Openings.{IsMetaWorldOr}
 use Rattle.ref_serve.proofs.OpeningReads.{meta_stopped}
 use Rattle.ref_serve.proofs.opening.open_meta_schemas.Goals as goal

@@ -1,7 +1,7 @@
 use Rattle.std.proofs.Common.{Ok, option_map, unwrap_or, [], refl, sym, subst}
 use Rattle.ref_registries.specs.Worlds.{IsWorld}
 use Rattle.ref_registries.proofs.Given.{pending_seen}
-use Rattle.ref_calls.specs.inner.Given.{given_of}
+use Rattle.ref_calls.specs.Given.{given_of}
 use Rattle.ref_serve.specs.Opening.{given_of_opening}
 use Rattle.ref_serve.specs.inner.Openings.{opening_view, IsWorldOr}
 use Rattle.ref_serve.proofs.OpeningReads.{world_stopped}

@@ -5,7 +5,7 @@ use Rattle.ref_uri.proofs.PlainText.{plain_front}
 use Rattle.ref_uri.proofs.LastSlash.{through_last_slash_at, through_last_slash_none, front_is_path}
 use Rattle.ref_uri.proofs.target.before_last_slash.Goals as goal
 
--- where the last slash stands
+-- where the last slash is
 abbrev IsLast : List ℕ → ℕ → Type 0
 IsLast text k = (k < length text) × (get_or text k 0 ≡ 47) × ((i : ℕ) → k < i → i < length text → get_or text i 0 ≢ 47)
 

@@ -5,7 +5,7 @@ use Rattle.ref_definitions.specs.Rows.{world, refers_to_b, c_is_true}
 use Rattle.ref_definitions.proofs.OnLiterals.{world_on_literals}
 use Rattle.referencing.proofs.laws.held_rows.Goals as goal
 
--- a pair that stands first in a list
+-- a pair that is first in a list
 first : (p : Pair) → Contains (p ∷ []) p
 first p = (0, omega (arith), refl)
 

@@ -3,7 +3,7 @@ use Rattle.ref_parts.specs.Path.{Part}
 use Rattle.ref_definitions.proofs.OnLiterals.{world_on_literals}
 use Rattle.ref_definitions.specs.Lookup.{lookup}
 use Rattle.ref_index.specs.Spots.{Spot}
-use Rattle.ref_resolver.specs.Locations.{located}
+use Rattle.ref_resolver.specs.Locations.{lookup_location}
 use Rattle.referencing.specs.Rows.{spot}
 use Rattle.referencing.proofs.laws.location_rows.Goals as goal
 
@@ -15,7 +15,7 @@ same_document : (m n : ℕ) (path : List Part) → spot 0 m path ≡ spot 0 n pa
 same_document m n path is = ap number is
 
 pub returns : goal.returns
-unfolding world_on_literals located lookup
+unfolding world_on_literals lookup_location lookup
 returns c = record {
   rows = record {
     first_of_two = refl;

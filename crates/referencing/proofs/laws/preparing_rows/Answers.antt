@@ -7,7 +7,8 @@ use Rattle.ref_definitions.specs.World.{Layer}
 use Rattle.ref_definitions.specs.Places.{root}
 use Rattle.ref_definitions.specs.Pending.{Pending}
 use Rattle.ref_definitions.specs.Wants.{Want}
-use Rattle.ref_definitions.specs.Preparing.{begun, ready, limited, IsOutcome}
+use Rattle.ref_definitions.specs.Preparing.{begun, IsOutcome}
+use Rattle.ref_definitions.proofs.Runs.{limited_run, ready_run}
 use Rattle.ref_definitions.specs.Closure.{IsUsedUp}
 use Rattle.ref_definitions.specs.Rows.{world, resolver, given_alone, given_with, refers_to_b, b_refers_to_c, c_is_true}
 use Rattle.ref_definitions.proofs.Closure.{documents_alone, outcome_laws}
@@ -47,11 +48,11 @@ no_anchor p f is says = let same : f ≡ fault.InvalidUri (parse_refusal (codes 
 
 is_ready : IsOutcome (given_alone alone) (Ok alone)
 unfolding world_on_literals
-is_ready = ready 0 alone begun (omega arith) refl refl
+is_ready = ready_run 0 alone begun (omega arith) refl refl
 
 is_limit : IsOutcome (given_with 0) (Err (fault.RetrievalLimit (codes "http://a/b") 0))
 unfolding world_on_literals
-is_limit = limited (refers_to_b ∷ []) want_of_b [] begun refl refl
+is_limit = limited_run (refers_to_b ∷ []) want_of_b [] begun refl refl
 
 no_additions : (ps : List Pending) → the_additions (Err (parse_refusal (codes "a b"))) ≡ Ok ps → ⊥
 no_additions ps is = cc

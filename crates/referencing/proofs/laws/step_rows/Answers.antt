@@ -2,7 +2,8 @@ use Rattle.std.proofs.Common.{◌≡◌, ℕ, refl, sym, ap, ◌∙◌, [], ◌�
 use Rattle.ref_definitions.specs.Fault as fault
 use Rattle.ref_definitions.specs.World.{Layer, World}
 use Rattle.ref_definitions.specs.Follow.{Followed, followed_steps}
-use Rattle.ref_definitions.specs.Preparing.{begun, ready, limited, IsOutcome}
+use Rattle.ref_definitions.specs.Preparing.{begun, IsOutcome}
+use Rattle.ref_definitions.proofs.Runs.{limited_run, ready_run}
 use Rattle.ref_definitions.specs.Rows.{world, given_alone, given_with, refers_to_b, c_is_true, look}
 use Rattle.ref_definitions.proofs.Closure.{documents_alone, outcome_laws}
 use Rattle.ref_definitions.proofs.Retrieval.{want_of_b}
@@ -16,7 +17,7 @@ alone = c_is_true ∷ []
 
 is_ready : IsOutcome (given_alone alone) (Ok alone)
 unfolding world_on_literals
-is_ready = ready 0 alone begun (omega arith) refl refl
+is_ready = ready_run 0 alone begun (omega arith) refl refl
 
 abbrev the_answer : Result Followed (ℕ × fault.Fault) → Result Followed (ℕ × fault.Fault)
 the_answer answer = answer
@@ -32,7 +33,7 @@ no_value f is = cc
 
 is_limit : IsOutcome (given_with 0) (Err (fault.RetrievalLimit (codes "http://a/b") 0))
 unfolding world_on_literals
-is_limit = limited (refers_to_b ∷ []) want_of_b [] begun refl refl
+is_limit = limited_run (refers_to_b ∷ []) want_of_b [] begun refl refl
 
 is_world : IsPreparedOf (given_alone alone) (world alone)
 is_world = (alone, is_ready, (outcome_laws (given_alone alone)).ready alone is_ready, refl)
@@ -57,8 +58,8 @@ returns c = record {
   rows = record {
     second_step = λ p is. (fault.PointerToNowhere (codes "/a"), refl, is);
     not_the_first = λ p is. let same = other_step 1 0 (fault.PointerToNowhere (codes "/a")) is.0 is.1 in omega (arith, same);
-    failed_step = λ p is. (world alone, (alone, is_ready, (outcome_laws (given_alone alone)).ready alone is_ready, refl), (fault.PointerToNowhere (codes "/x"), refl, is), (_, refl));
-    no_step = λ p is. no_fault _ (0, is.2.0) is.2.1;
+    failed_step = λ p is. (world alone, (alone, is_ready, (outcome_laws (given_alone alone)).ready alone is_ready, refl), ((fault.PointerToNowhere (codes "/x"), refl, is), (_, refl)));
+    no_step = λ p is. no_fault _ (0, is.2.0.0) is.2.0.1;
     failed_preparing = λ uri is. (fault.RetrievalLimit (codes "http://a/b") 0, is_limit, (is, refl));
     no_failed_preparing = λ uri is. no_error is.0 (documents_alone (given_alone alone) (Err is.0) refl refl is.1);
     no_memory_for_the_copy = λ e. (world alone, is_world, (_, refl));

@@ -8,8 +8,8 @@ use Rattle.referencing.proofs.steps.follow.Goals as goal
 pub loop-number-init : goal.loop-number-init
 loop-number-init c = (followed_start c.args.registry.now c.args.base (resolver_of c.in-Ok.resolver) c.args.steps.now c.in-Ok.ensures.resolver, c.in-Ok.ensures.world ∙ c.layers.ensures.value, started c.args.registry.now c.args.base (resolver_of c.in-Ok.resolver) (map step_of c.args.steps.now) c.in-Ok.ensures.resolver)
 
-pub returns-in-Err-stepped-clause-fault : goal.returns-in-Err-stepped-clause-fault
-returns-in-Err-stepped-clause-fault c =
+pub returns-in-Err-stepped-clause-gives : goal.returns-in-Err-stepped-clause-gives
+returns-in-Err-stepped-clause-gives c =
     let l = c.loop-number in
     followed_stop c.args.registry.now l.number (followed_of l.followed) c.args.steps.now c.index-steps-number.result c.in-Err-stepped.error (followed_steps c.args.registry.now c.args.base (map step_of c.args.steps.now))
     c.loop-number-test.true c.index-steps-number.is l.invariant.0 (rw l.invariant.1 at c.in-Err-stepped.ensures.gives)
@@ -31,7 +31,7 @@ returns-in-Err-stepped-clause-reached c = (followed_of c.loop-number.followed, c
 pub returns-in-Err-clause-reached : goal.returns-in-Err-clause-reached
 returns-in-Err-clause-reached c = nowhere_yet c.args.registry.now c.args.base (map step_of c.args.steps.now)
 
-pub returns-clause-ok : goal.returns-clause-ok
-returns-clause-ok c =
+pub returns-clause-gives : goal.returns-clause-gives
+returns-clause-gives c =
     let l = c.loop-number in
     l.invariant.0 ∙ followed_end c.args.registry.now l.number (followed_of l.followed) c.args.steps.now (omega arith)

@@ -1,20 +1,14 @@
-use Rattle.std.proofs.Common.{◌≡◌, Ok, refl}
-use Rattle.serde_json.specs.Data.{Data}
-use Rattle.ref_draft.specs.declared.draft.Draft.{Draft}
-use Rattle.ref_draft.specs.Views.{resource_ref}
-use Rattle.ref_definitions.specs.Fault.{as_invalid_uri}
-use Rattle.ref_definitions.specs.World.{World}
-use Rattle.ref_definitions.specs.Lookup.{Resolver, in_subresource}
-use Rattle.ref_definitions.specs.Follow as world
+use Rattle.ref_definitions.specs.Lookup.{lookup}
+use Rattle.ref_definitions.specs.Recursive.{lookup_recursive}
 use Rattle.ref_resolver.specs.Resolving.{resolver_of, world_of}
-use Rattle.referencing.specs.Following.{followed_of}
 use Rattle.referencing.proofs.steps.stepped.Goals as goal
 
-entered : (w : World) (f : world.Followed) (draft : Draft) (value : Data) (r : Resolver) → as_invalid_uri (in_subresource f.resolver draft value) ≡ Ok r → world.after_step w f (world.Enter draft value) ≡ Ok (record { last = f.last; resolver = r })
-entered w f draft value r at = rw at refl
+pub returns-in-Lookup-clause-gives : goal.returns-in-Lookup-clause-gives
+returns-in-Lookup-clause-gives c =
+    let r = c.args.followed.now.resolver in
+    rw c.in-Lookup.is (c.after_found.ensures.gives (lookup (world_of r) (resolver_of r) c.in-Lookup.reference.now) c.lookup.ensures.gives)
 
-pub returns-in_ok-resolver-in-Enter-clause-gives : goal.returns-in_ok-resolver-in-Enter-clause-gives
-returns-in_ok-resolver-in-Enter-clause-gives c =
-    let subresource = resource_ref c.in-Enter.resource in
-    let r = resolver_of c.in_ok-resolver-in-Enter.resolver in
-    rw c.in-Enter.is (entered (world_of c.args.followed.now.resolver) (followed_of c.args.followed.now) subresource.draft subresource.contents r c.in_ok-resolver-in-Enter.ensures.gives)
+pub returns-in-Recursive-clause-gives : goal.returns-in-Recursive-clause-gives
+returns-in-Recursive-clause-gives c =
+    let r = c.args.followed.now.resolver in
+    rw c.in-Recursive.is (c.after_found-in-Recursive.ensures.gives (lookup_recursive (world_of r) (resolver_of r)) c.lookup_recursive_ref.ensures.gives)

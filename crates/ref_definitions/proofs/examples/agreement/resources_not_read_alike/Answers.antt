@@ -8,12 +8,9 @@ use Rattle.ref_uri.specs.Targets.{Refusal}
 use Rattle.ref_definitions.specs.Places.{Place, root}
 use Rattle.ref_definitions.specs.Agreement.{itself, below}
 use Rattle.ref_definitions.specs.Rows.{at, yes, empty, text, one, place_below}
-use Rattle.ref_definitions.proofs.Alone.{first_or_later}
 use Rattle.ref_definitions.proofs.OnLiterals.{world_on_literals}
+use Rattle.ref_definitions.proofs.Lists.{first_or_later, none_in_nothing}
 use Rattle.ref_definitions.proofs.examples.agreement.resources_not_read_alike.Goals as goal
-
-none_in_nothing : (p : Place) → Contains [] p → ⊥
-none_in_nothing p there = omega (arith, there.1)
 
 -- whether a base is a URI
 is_uri : List ℕ → Result (List ℕ) Refusal → Bool

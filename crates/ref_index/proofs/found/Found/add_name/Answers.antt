@@ -2,7 +2,7 @@ use Rattle.std.proofs.Common.{◌≡◌, ℕ, ◌∷◌, [], ◌++◌, sym, refl
 use Rattle.std.specs.List.{AllZip}
 use Rattle.ref_draft.specs.Views.{anchor_name}
 use Rattle.ref_definitions.specs.Anchors.{Named}
-use Rattle.ref_index.specs.Found.{IsNameOf, name_entry}
+use Rattle.ref_index.specs.inner.Found.{IsNameOf, name_entry}
 use Rattle.ref_index.proofs.Holding.{zip_push}
 use Rattle.ref_index.proofs.Listing.{on_ok}
 use Rattle.ref_index.proofs.found.Found.add_name.Goals as goal

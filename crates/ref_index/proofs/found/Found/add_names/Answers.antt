@@ -2,7 +2,7 @@ use Rattle.std.proofs.Common.{◌∷◌, [], refl, subst, sym, ap, ◌∙◌}
 use Rattle.serde_json.specs.View.{view}
 use Rattle.ref_draft.specs.Anchors.{anchors}
 use Rattle.ref_draft.specs.Views.{anchor_name, resource_ref}
-use Rattle.ref_index.specs.Found.{IsNumberOf, name_entry, with_names}
+use Rattle.ref_index.specs.inner.Found.{IsNumberOf, name_entry, with_names}
 use Rattle.ref_index.proofs.Holding.{two_names}
 use Rattle.ref_index.proofs.Listing.{on_ok}
 use Rattle.ref_index.proofs.Visiting.{holds_same}

@@ -1,7 +1,7 @@
 use Rattle.std.proofs.Common.{◌≡◌, ℕ, List, ◌∷◌, [], ◌++◌, sym, refl, subst, rules}
 use Rattle.std.specs.List.{AllZip}
 use Rattle.ref_definitions.specs.Places.{Place}
-use Rattle.ref_index.specs.Found.{IsResourceOf}
+use Rattle.ref_index.specs.inner.Found.{IsResourceOf}
 use Rattle.ref_index.proofs.Holding.{known_with, zip_push}
 use Rattle.ref_index.proofs.Listing.{on_ok}
 use Rattle.ref_index.proofs.found.Found.add_resource.Goals as goal

@@ -1,5 +1,5 @@
 use Rattle.std.proofs.Common.{ap, map, rules}
-use Rattle.ref_index.specs.Found.{want_of}
+use Rattle.ref_index.specs.inner.Found.{want_of}
 use Rattle.ref_index.proofs.found.Found.new.Goals as goal
 
 pub returns : goal.returns

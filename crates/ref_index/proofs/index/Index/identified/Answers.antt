@@ -1,5 +1,5 @@
 use Rattle.std.proofs.Common.{◌≡◌, subst, rules}
-use Rattle.ref_index.specs.Index.{IsIndexOf}
+use Rattle.ref_index.specs.inner.Index.{IsIndexOf}
 use Rattle.ref_index.specs.inner.NormalUris.{IsNormalUri}
 use Rattle.ref_index.proofs.NormalUris.{normal_meaning, against_itself}
 use Rattle.ref_index.proofs.index.Index.identified.Goals as goal

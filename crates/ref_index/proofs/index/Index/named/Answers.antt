@@ -1,7 +1,7 @@
 use Rattle.std.proofs.Common.{◌≡◌, ℕ, ◌∙◌, sym, ap, subst, Some, None, option_map, option_copied, rules}
 use Rattle.std.specs.Prelude.{slice_get}
 use Rattle.ref_definitions.specs.Anchors.{Named, names, last_named}
-use Rattle.ref_index.specs.Index.{IsIndexOf}
+use Rattle.ref_index.specs.inner.Index.{IsIndexOf}
 use Rattle.ref_index.proofs.Spots.{last_name_is}
 use Rattle.ref_index.proofs.Looking.{none_is_some, name_found, name_absent, got, tells, stands_at}
 use Rattle.ref_index.proofs.index.Index.named.Goals as goal

@@ -5,8 +5,8 @@ use Rattle.ref_definitions.specs.Cached.{identifier_pairs, reference_pairs, pair
 use Rattle.ref_index.specs.Document.{document_of}
 use Rattle.ref_index.specs.inner.NormalUris.{HaveNormalUris}
 use Rattle.ref_index.specs.Spots.{numbered_resources, numbered_names}
-use Rattle.ref_index.specs.Found.{IsResourceOf, IsNameOf, IsPairOf}
-use Rattle.ref_index.specs.Index.{IsPairIn, numbered_uri}
+use Rattle.ref_index.specs.inner.Found.{IsResourceOf, IsNameOf, IsPairOf}
+use Rattle.ref_index.specs.inner.Index.{IsPairIn, numbered_uri}
 use Rattle.ref_index.proofs.Holding.{zip_join}
 use Rattle.ref_index.proofs.Looking.{zip_mapped}
 use Rattle.ref_index.proofs.index.Index.new.Goals as goal

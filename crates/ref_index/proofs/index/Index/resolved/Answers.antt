@@ -1,7 +1,7 @@
 use Rattle.std.proofs.Common.{◌∙◌, sym, ap, subst, option_copied, rules}
 use Rattle.std.specs.List.{Contains}
 use Rattle.ref_definitions.specs.Cached.{pairs}
-use Rattle.ref_index.specs.Index.{IsIndexOf}
+use Rattle.ref_index.specs.inner.Index.{IsIndexOf}
 use Rattle.ref_index.proofs.Looking.{pair_absent, pair_found, resource_found}
 use Rattle.ref_index.proofs.index.Index.resolved.Goals as goal
 

@@ -1,6 +1,6 @@
 use Rattle.std.proofs.Common.{◌≡◌, [], subst, rules}
 use Rattle.ref_parts.specs.Table.{last_value}
-use Rattle.ref_index.specs.Index.{IsIndexOf}
+use Rattle.ref_index.specs.inner.Index.{IsIndexOf}
 use Rattle.ref_index.proofs.Looking.{resource_found}
 use Rattle.ref_index.proofs.index.Index.resource.Goals as goal
 

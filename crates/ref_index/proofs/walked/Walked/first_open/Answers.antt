@@ -1,6 +1,6 @@
 use Rattle.std.proofs.Common.{◌≡◌, ◌∷◌, map, false, refl, subst}
 use Rattle.ref_definitions.specs.Wants.{wants, is_open}
-use Rattle.ref_index.specs.Visits.{IsFound, held_of}
+use Rattle.ref_index.specs.inner.Visits.{IsFound, held_of}
 use Rattle.ref_index.proofs.Opening.{all_up_to}
 use Rattle.ref_index.proofs.walked.Walked.first_open.Goals as goal
 

@@ -1,6 +1,6 @@
 use Rattle.std.proofs.Common.{[], map, sym, ap, subst, refl, arith}
 use Rattle.ref_index.specs.Document.{document_of}
-use Rattle.ref_index.specs.Visits.{IsFound}
+use Rattle.ref_index.specs.inner.Visits.{IsFound}
 use Rattle.ref_index.proofs.walked.Walked.new.Goals as goal
 
 pub invariant_of-result : goal.invariant_of-result

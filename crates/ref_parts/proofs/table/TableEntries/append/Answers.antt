@@ -1,6 +1,6 @@
 use Rattle.std.proofs.Common.{rules, ◌≡◌, ◌∙◌, ℕ, List, ◌++◌, length, map, take, drop, sym, ap, subst}
 use Rattle.std.specs.List.{All}
-use Rattle.ref_parts.specs.inner.SortedEntries.{IsWithin, entries_in, moved}
+use Rattle.ref_parts.specs.inner.SortedEntries.{IsWithin, entries_in, slot_after}
 use Rattle.ref_parts.specs.declared.table.Slot.{Slot}
 use Rattle.ref_parts.proofs.BufferLaws.{within_grown, entries_grown, entries_joined, within_joined}
 use Rattle.ref_parts.proofs.TableLaws.{refilled}
@@ -8,14 +8,14 @@ use Rattle.ref_parts.proofs.table.TableEntries.append.Goals as goal
 
 -- where texts and moved slots are put after others, each slot is within the texts, and the entries are those of both
 joined : {V : Type 0} (texts other texts' read : List ℕ) (slots others old new given slots' : List (Slot V)) (n before : ℕ)
-    → texts' ≡ texts ++ read → read ≡ other → slots' ≡ slots ++ take n (new ++ drop (length new) old) → length new ≡ n → new ≡ map (moved before) given → given ≡ others → before ≡ length texts
+    → texts' ≡ texts ++ read → read ≡ other → slots' ≡ slots ++ take n (new ++ drop (length new) old) → length new ≡ n → new ≡ map (slot_after before) given → given ≡ others → before ≡ length texts
     → All (IsWithin texts) slots → All (IsWithin other) others → All (IsWithin texts') slots' × (entries_in texts' slots' ≡ entries_in texts slots ++ entries_in other others)
 joined texts other texts' read slots others old new given slots' n before grown is more same changed are at within also =
     let now : texts' ≡ texts ++ other = grown ∙ ap (λ t. texts ++ t) is in
-    let all : slots' ≡ slots ++ map (moved (length texts)) others =
-    more ∙ ap (λ l. slots ++ l) (refilled n old new same ∙ changed ∙ ap (map (moved before)) are) ∙ ap (λ k. slots ++ map (moved k) others) at in (
+    let all : slots' ≡ slots ++ map (slot_after (length texts)) others =
+    more ∙ ap (λ l. slots ++ l) (refilled n old new same ∙ changed ∙ ap (map (slot_after before)) are) ∙ ap (λ k. slots ++ map (slot_after k) others) at in (
       subst (λ t. All (IsWithin t) slots') (sym now) (subst (All (IsWithin (texts ++ other))) (sym all) (within_joined texts other slots others within also)),
-      ap (entries_in texts') all ∙ ap (λ t. entries_in t (slots ++ map (moved (length texts)) others)) now ∙ entries_joined texts other slots others within,
+      ap (entries_in texts') all ∙ ap (λ t. entries_in t (slots ++ map (slot_after (length texts)) others)) now ∙ entries_joined texts other slots others within,
     )
 
 pub returns-in_err-append-clause-err : goal.returns-in_err-append-clause-err

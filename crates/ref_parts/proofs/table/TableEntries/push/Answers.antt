@@ -5,7 +5,7 @@ use Rattle.ref_parts.specs.declared.table.Slot.{Slot}
 use Rattle.ref_parts.proofs.BufferLaws.{within_grown, entries_grown, within_added, entries_added}
 use Rattle.ref_parts.proofs.table.TableEntries.push.Goals as goal
 
--- where two texts more stand in the buffer and the slots stay, these are within the buffer, and the entries stay
+-- where two texts more are in the buffer and the slots stay, these are within the buffer, and the entries stay
 unchanged : {V : Type 0} (texts first second texts' : List ℕ) (slots slots' : List (Slot V)) → texts' ≡ (texts ++ first) ++ second → slots' ≡ slots → All (IsWithin texts) slots
     → All (IsWithin texts') slots' × (entries_in texts' slots' ≡ entries_in texts slots)
 unchanged texts first second texts' slots slots' grown kept within =

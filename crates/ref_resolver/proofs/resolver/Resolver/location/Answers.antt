@@ -8,8 +8,9 @@ use Rattle.ref_definitions.specs.Resources.{meant_place}
 use Rattle.ref_definitions.specs.Lookup.{moved_resolver}
 use Rattle.ref_error.proofs.Saying.{uri_meant}
 use Rattle.ref_index.specs.Spots.{Spot, spot_of}
-use Rattle.ref_resolver.specs.Locations.{StandsAt, GivesWhere, uri_spot, located, location_view, with_parts, parts_along}
-use Rattle.ref_resolver.specs.Resolving.{resolver_of, world_of, at_pointer}
+use Rattle.ref_resolver.specs.Locations.{StandsAt, GivesWhere, uri_spot, lookup_location, location_view, with_parts, parts_along}
+use Rattle.ref_resolver.specs.Resolving.{resolver_of, world_of}
+use Rattle.ref_resolver.specs.inner.Leading.{at_pointer}
 use Rattle.ref_resolver.specs.inner.Names.{is_name}
 use Rattle.ref_resolver.proofs.Referring.{refused_where, pointer_leads, whole_leads, absent_says}
 use Rattle.ref_resolver.proofs.Spotting.{located_at, whole_spot, pointed_spot}
@@ -83,7 +84,7 @@ returns-in-Some-strip_prefix-clause-spot c =
     let same = located_at w r c.args.reference.now uri fragment (uri_meant (target r.base c.args.reference.now) uri c.in_ok-uri.ensures.gives) (sym c.in_ok-uri.ensures.fragment)
     ∙ pointed_spot w (moved_resolver r uri) p spot fragment rest slash (ap (meant_place w) (sym text) ∙ is) (ap (uri_spot w) (sym text) ∙ c.in-Some.ensures.spot)
     ∙ ap (λ v. Some (with_parts (parts_along fragment v parts) spot)) (sym at.there.place.value) in
-    if_ok (λ l. location_view l ≡ with_parts (parts_along fragment (view place.place.value.now) parts) spot) (λ l. located w r c.args.reference.now ≡ Some (location_view l)) c.location_along.result
+    if_ok (λ l. location_view l ≡ with_parts (parts_along fragment (view place.place.value.now) parts) spot) (λ l. lookup_location w r c.args.reference.now ≡ Some (location_view l)) c.location_along.result
     (λ l there. same ∙ ap Some (sym there)) c.location_along.ensures.spot
 
 pub returns-clause-spot : goal.returns-clause-spot

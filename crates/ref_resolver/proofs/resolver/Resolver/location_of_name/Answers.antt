@@ -2,7 +2,7 @@ use Rattle.std.proofs.Common.{◌≡◌, Some, sym, ap, subst, ◌∙◌, rules}
 use Rattle.ref_draft.specs.Anchors.{Plain, Dynamic}
 use Rattle.ref_definitions.specs.Lookup.{moved_resolver}
 use Rattle.ref_resolver.specs.inner.Located.{IsNameAt}
-use Rattle.ref_resolver.specs.Locations.{GivesWhere, anchor_spot, naming_uri, located, location_view}
+use Rattle.ref_resolver.specs.Locations.{GivesWhere, anchor_spot, naming_uri, lookup_location, location_view}
 use Rattle.ref_resolver.specs.Resolving.{resolver_of, world_of}
 use Rattle.ref_resolver.proofs.Fragments.{plain_there}
 use Rattle.ref_resolver.proofs.Names.{named_lookup}
@@ -42,7 +42,7 @@ returns-then-found-clause-spot c = λ reference is fragment name.
     let (n, same, called, means, (kind, at)) = named_lookup (IsNameAt w c.in-Some.found) w r reference c.args.uri.value c.args.name.now c.as_str.result.now text is fragment name c.in-Some.ensures.value in
     let dynamic : n.kind ≡ Dynamic = sym kind ∙ search rules in
     let spot = located_at w r reference c.args.uri.value c.args.name.now is fragment ∙ named_spot w m c.args.name.now n name means in
-    if_ok (λ l. anchor_spot w (naming_uri w m n n.kind) c.args.name.now ≡ Some (location_view l)) (λ l. located w r reference ≡ Some (location_view l)) c.location_of_dynamic.result
+    if_ok (λ l. anchor_spot w (naming_uri w m n n.kind) c.args.name.now ≡ Some (location_view l)) (λ l. lookup_location w r reference ≡ Some (location_view l)) c.location_of_dynamic.result
     (λ l there. spot ∙ there) (c.location_of_dynamic.ensures.spot n called dynamic at.there.place means)
 
 pub returns-clause-spot : goal.returns-clause-spot

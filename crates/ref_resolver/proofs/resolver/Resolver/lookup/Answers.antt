@@ -5,7 +5,8 @@ use Rattle.ref_uri.specs.Targets.{target}
 use Rattle.ref_definitions.specs.Resources.{meant_place}
 use Rattle.ref_error.specs.Errors.{Gives}
 use Rattle.ref_error.proofs.Saying.{uri_meant}
-use Rattle.ref_resolver.specs.Resolving.{resolver_of, world_of, found_of, at_pointer}
+use Rattle.ref_resolver.specs.Resolving.{resolver_of, world_of, found_of}
+use Rattle.ref_resolver.specs.inner.Leading.{at_pointer}
 use Rattle.ref_resolver.specs.inner.Names.{is_name}
 use Rattle.ref_resolver.proofs.Referring.{refused_gives, pointer_leads, whole_leads, absent_says}
 use Rattle.ref_resolver.proofs.resolver.Resolver.lookup.Goals as goal

@@ -11,4 +11,4 @@ returns-in_err-from_str-in-None-clause-gives c =
     let text = c.args.text.now in
     let fault = c.in_err-from_str-in-None.field-0.0 in
     gives_error vocabulary_of (as_invalid_uri (from_text text)) c.from_residual.result (of_uri_fault fault) c.from_residual.ensures.1
-    (text_refused text fault c.in-None.ensures c.in_err-from_str-in-None.ensures.fault)
+    (text_refused text fault c.in-None.ensures c.in_err-from_str-in-None.ensures.gives)

@@ -9,4 +9,4 @@ pub returns-clause-fault : goal.returns-clause-fault
 returns-clause-fault c =
     let (pending, is, same) = c.in_ok-builder_of.ensures.ok in
     subst (λ added. IfErr c.prepare.result (IsMetaSchemaFault added)) (sym is)
-    (subst (λ b. IfErr c.prepare.result (IsFaultyOutcome (given_of default_retriever.may_answer default_retriever.may_refuse b))) same c.prepare.ensures.fault)
+    (subst (λ b. IfErr c.prepare.result (IsFaultyOutcome (given_of default_retriever b))) same c.prepare.ensures.fault)

@@ -1,2 +1,0 @@
--- What stands here need not be believed: it says what structs stand for.
-pub mod Given

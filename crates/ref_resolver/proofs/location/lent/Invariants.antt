@@ -1,6 +1,0 @@
-use Rattle.std.proofs.Common.{◌≡◌, map, take}
-use Rattle.ref_parts.specs.Segment.{part_of}
-use Rattle.ref_resolver.proofs.location.lent.Given as goal
-
-abbrev pub invariant-loop-part : goal.invariant-loop-part
-invariant-loop-part l = map part_of l.parts.items ≡ map part_of (take l.part-index l.path)
