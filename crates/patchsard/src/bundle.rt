@@ -1,5 +1,4 @@
 //! `patchsard bundle`.
-use crate::console::Console;
 use crate::write::write_file;
 use clap::ArgMatches;
 use ref_bundle::{Bundle, Embedded};
@@ -14,7 +13,7 @@ use ref_project::given::{Given, faulty_of, read_file};
 use ref_project::world::{World, outside_of, world_above};
 use ref_reading::document::parsed;
 use ref_reading::options::maps;
-use ref_reading::{Stop, say};
+use ref_reading::{Console, Stop, say};
 use ref_uri::UriRef;
 use referencing::{Registry, ResourceRef};
 use serde_json::Value;

@@ -1,21 +1,16 @@
 //! Lints, follows, bundles, lists and draws the references of folders of JSON Schema files. What files are read is
-//! `ref_reading`, what is found in them `ref_project`, and how it is printed `ref_messages`; here is a file for each subcommand,
-//! which asks these, and writes.
+//! `ref_reading`, and how messages are printed `ref_messages`. `ref_project` has the subcommands that need neither bundles nor the
+//! server, each in a file of its name; here are `bundle` and `serve`.
 #![tactic(auto)]
 
 mod bundle;
-mod console;
-mod drawing;
-mod lint;
-mod places;
 mod refusals;
-mod resolve;
 mod serve;
 mod write;
 
-use crate::console::Console;
 use clap::ArgMatches;
-use ref_reading::{Stop, command, say};
+use ref_project::{graph, lint, places, resolve};
+use ref_reading::{Console, Stop, command, console, say};
 use std::process::ExitCode;
 use std::{env, io};
 
@@ -95,7 +90,7 @@ fn answer(
         "bundle" => bundle::bundle(rt, console, given),
         "places" => places::places(rt, console, given),
         "serve" => serve::serve_calls(rt),
-        _ => drawing::draw(rt, console, given),
+        _ => graph::graph(rt, console, given),
     }
 }
 

@@ -9,10 +9,10 @@ use Rattle.std.proofs.lemmas.Slice.Eq.{bytes_eq-Decides}
 use Rattle.std.proofs.lemmas.List.{map-append}
 use Rattle.std.proofs.lemmas.List.Elements.{filter-append}
 use Rattle.ref_parts.specs.Table.{Entry, is_under, last_value}
-use Rattle.ref_parts.specs.Path.{path_eq}
-use Rattle.ref_parts.specs.Segment.{part_of}
-use Rattle.ref_parts.specs.declared.path.JsonPointerSegment.{JsonPointerSegment}
-use Rattle.ref_parts.specs.Alike.{part_equivalence}
+use Rattle.ref_paths.specs.Path.{path_eq}
+use Rattle.ref_paths.specs.Segment.{part_of}
+use Rattle.ref_paths.specs.declared.path.JsonPointerSegment.{JsonPointerSegment}
+use Rattle.ref_paths.specs.Alike.{part_equivalence}
 use Rattle.ref_definitions.specs.World.{Document, Layer}
 use Rattle.ref_definitions.specs.Places.{Place, places}
 use Rattle.ref_definitions.specs.Resources.{last_under, resource_of, own_uri}

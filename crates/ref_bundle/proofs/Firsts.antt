@@ -6,9 +6,9 @@ use Rattle.ref_definitions.specs.World.{Document, Layer, World}
 use Rattle.ref_definitions.specs.Places.{Place, places}
 use Rattle.serde_json.specs.Data.{Data, null, boolean, number, string, array, object}
 use Rattle.serde_json.specs.Find.{as_object}
-use Rattle.ref_parts.specs.Path.{path_eq}
-use Rattle.ref_parts.specs.Segment.{part_of}
-use Rattle.ref_parts.specs.declared.path.JsonPointerSegment.{JsonPointerSegment}
+use Rattle.ref_paths.specs.Path.{path_eq}
+use Rattle.ref_paths.specs.Segment.{part_of}
+use Rattle.ref_paths.specs.declared.path.JsonPointerSegment.{JsonPointerSegment}
 use Rattle.ref_bundle.specs.Needed.{Site, sites_of_uris, site_under, Reference}
 use Rattle.ref_bundle.specs.Bundle.{Problem, AddedMember, root_problems, at_path, place_problems, place_refusals, shadowed_uri, embedded_problems, reference_problems, reference_problems_by, map_refusals, shared_uri}
 use Rattle.ref_bundle.specs.inner.Seen.{Seen, see, seen_in, own_uri_of}

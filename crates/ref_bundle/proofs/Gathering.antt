@@ -7,7 +7,7 @@ use Rattle.std.proofs.lemmas.Bool.{lt-ltb, ltb-true}
 use Rattle.std.proofs.lemmas.List.{map-append}
 use Rattle.std.proofs.lemmas.Option.{slice_get-map}
 use Rattle.std.proofs.lemmas.List.Concat.{flat_map-append}
-use Rattle.ref_parts.specs.Path.{value_at}
+use Rattle.ref_paths.specs.Path.{value_at}
 use Rattle.ref_definitions.specs.World.{Document, Layer}
 use Rattle.ref_definitions.specs.Places.{Place, places, root, levels_below}
 use Rattle.serde_json.specs.Data.{depth}

@@ -1,6 +1,6 @@
 -- The texts of problems with two parts in them, as they are written from the front.
 use Rattle.std.proofs.Common.{◌≡◌, ℕ, List, ◌++◌, codes, decimal, append_assoc}
-use Rattle.ref_parts.specs.Path.{Part}
+use Rattle.ref_paths.specs.Path.{Part}
 use Rattle.ref_bundle.specs.Bundle.{SharedUri, ReplacedUri, ShadowedUri, AddedMember}
 use Rattle.ref_bundle.specs.Saying.{problem_text}
 

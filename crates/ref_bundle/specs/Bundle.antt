@@ -7,7 +7,7 @@ use Rattle.std.specs.Str.{is_utf8}
 use Rattle.percent_encoding.specs.Percent.{percent_decode}
 use Rattle.serde_json.specs.Data.{Data, object, Members, no_members, put}
 use Rattle.serde_json.specs.Find.{get, get_member, as_object}
-use Rattle.ref_parts.specs.Path.{Part, Key, path_eq}
+use Rattle.ref_paths.specs.Path.{Part, Key, path_eq}
 use Rattle.ref_parts.specs.Pointer.{slash, unescape, tokens}
 use Rattle.ref_draft.specs.declared.draft.Draft.{Draft}
 use Rattle.ref_draft.specs.Keywords.{id_keyword, is_before_2019}

@@ -2,8 +2,4 @@ pub mod Needed
 pub mod Embedding
 pub mod Bundle
 pub mod Saying
-pub mod Rows
-pub mod Merges
-pub mod Kept
-pub mod KeptRows
 pub mod inner

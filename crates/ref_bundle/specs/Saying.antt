@@ -1,7 +1,7 @@
 -- What the program's bundles and errors say, and how refusals are displayed.
 use Rattle.std.specs.Prelude.{◌≡◌, ℕ, List, ◌++◌, codes, decimal, string_bytes, map, option_map, Result, Err, ⊤}
 use Rattle.serde_json.specs.View.{view}
-use Rattle.ref_parts.specs.Segment.{part_of}
+use Rattle.ref_paths.specs.Segment.{part_of}
 use Rattle.ref_bundle.specs.Embedding as embedding
 use Rattle.ref_bundle.specs.Embedding.{Obstacle}
 use Rattle.ref_bundle.specs.Bundle as bundle

@@ -1,8 +1,9 @@
-//! Bundles: one self-contained document in place of several of a registry. It uses public calls and clauses alone: those of
-//! `referencing`, and of `ref_uri` and `ref_parts` for URIs and pointers.
+//! Bundles: one self-contained document in place of several of a registry. It uses public calls alone: those of `referencing`,
+//! and of `ref_uri` for the parts of a reference.
 //!
 //! Read `specs/Needed.antt`, `specs/Embedding.antt` and `specs/Bundle.antt` first: which documents a bundle needs, how they
-//! are in it, and what refuses one is said there over the plain documents.
+//! are in it, and what refuses one is said there over the plain documents. What a bundle keeps of its documents is stated and
+//! proved in `ref_bundle_laws`, which has rows of these definitions too.
 #![tactic(auto)]
 
 mod among;
@@ -10,11 +11,8 @@ mod bundled;
 mod bundling;
 mod embedding;
 mod error;
-pub mod examples;
 mod first;
 mod fragment;
-mod keeping;
-pub mod laws;
 mod own;
 mod reach;
 mod referring;
@@ -25,4 +23,3 @@ mod uris;
 pub use bundled::{Bundle, Embedded};
 pub use bundling::bundle;
 pub use error::{BundleError, Obstacle, Problem, Refusal};
-pub use keeping::bundle_is_lawful;

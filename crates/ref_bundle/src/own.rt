@@ -6,7 +6,7 @@ ghost use Rattle.ref_definitions.specs.World.{Document as WorldDocument, local_d
 ghost use Rattle.referencing.specs.Document.{document_of};
 ghost use Rattle.ref_definitions.specs.Places.{Place as WorldPlace, places};
 ghost use Rattle.ref_definitions.specs.Listing.{local_places};
-ghost use Rattle.ref_parts.specs.Path.{value_at};
+ghost use Rattle.ref_paths.specs.Path.{value_at};
 ghost use Rattle.referencing.specs.ListedPlaces.{listed_of};
 ghost use Rattle.ref_bundle.specs.Needed.{counted_documents};
 ghost use Rattle.ref_bundle.specs.declared.own.Own.{Own};
@@ -148,7 +148,8 @@ fn push<'r>(
     places: Vec<Spot<'r>>,
 ) -> Result<(), AllocError>
     ensures { OnOk result
-        (MatchOption (slice_get (local_documents registry.now) number) (owns.new.items ≡ owns.old.items)
+        (MatchOption (slice_get (local_documents registry.now) number)
+        (owns.new.items ≡ owns.old.items)
         (λ d. (o : Own) × (owns.new.items ≡ owns.old.items ++ o ∷ [])
         × (numbered_document o ≡ (number, d)) × (o.places
         ≡ places.entry))) }
@@ -165,7 +166,8 @@ pub(crate) fn owns_of<'r>(
     registry: &'r Registry<'_>,
 ) -> Result<Vec<Own<'r>>, AllocError>
     ensures order { IfOk result
-        (λ owns. map numbered_document owns.items ≡ counted_documents 0 (local_documents registry.now)) }
+        (λ owns. map numbered_document owns.items
+        ≡ counted_documents 0 (local_documents registry.now)) }
     ensures places { IfOk result (λ owns. AllByRecursion HasPlaces owns.items) }
 {
     let groups = groups_of(alloc, registry)?;

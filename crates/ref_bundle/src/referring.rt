@@ -1,7 +1,7 @@
 //! What refuses a reference: the first problem of what a place refers to.
 ghost use Rattle.std.specs.Prelude.{◌≡◌, [], map, option_map, Some, string_bytes, if◌then◌else◌, IfOk};
-ghost use Rattle.ref_parts.specs.Path.{path_eq};
-ghost use Rattle.ref_parts.specs.Segment.{part_of};
+ghost use Rattle.ref_paths.specs.Path.{path_eq};
+ghost use Rattle.ref_paths.specs.Segment.{part_of};
 ghost use Rattle.ref_definitions.specs.World.{Layer};
 ghost use Rattle.ref_bundle.specs.Needed.{site_under};
 ghost use Rattle.ref_bundle.specs.Embedding.{has_other_identifier, is_added_under};

@@ -3,8 +3,8 @@ ghost use Rattle.std.specs.Prelude.{◌≡◌, [], ◌∷◌, ◌++◌, map, fla
 ghost use Rattle.std.specs.List.{AllByRecursion};
 ghost use Rattle.std.specs.Option.{option_to_list};
 ghost use Rattle.serde_json.specs.View.{view};
-ghost use Rattle.ref_parts.specs.Path.{Key};
-ghost use Rattle.ref_parts.specs.Segment.{part_of};
+ghost use Rattle.ref_paths.specs.Path.{Key};
+ghost use Rattle.ref_paths.specs.Segment.{part_of};
 ghost use Rattle.ref_definitions.specs.World.{Layer};
 ghost use Rattle.ref_bundle.specs.Embedding.{obstacle};
 ghost use Rattle.ref_bundle.specs.Bundle as bundle;

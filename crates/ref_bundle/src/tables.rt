@@ -1,8 +1,8 @@
 //! Which places have which URIs.
 ghost use Rattle.std.specs.Prelude.{◌≡◌, [], ◌∷◌, ◌++◌, map, flat_map, filter, option_map, IfOk, OnOk};
 ghost use Rattle.std.specs.List.{AllByRecursion};
-ghost use Rattle.ref_parts.specs.Path.{part_eq, path_eq};
-ghost use Rattle.ref_parts.specs.Segment.{part_of};
+ghost use Rattle.ref_paths.specs.Path.{part_eq, path_eq};
+ghost use Rattle.ref_paths.specs.Segment.{part_of};
 ghost use Rattle.ref_definitions.specs.World.{Layer};
 ghost use Rattle.ref_bundle.specs.Needed.{borne_in, sites_of_uris, site_under, document_under};
 ghost use Rattle.ref_bundle.specs.Bundle.{is_site, other_bearer};

@@ -4,7 +4,7 @@ ghost use Rattle.std.specs.Prelude.{OnOk};
 ghost use Rattle.std.specs.Option.{option_to_list};
 ghost use Rattle.std.specs.Result.{result_ok};
 ghost use Rattle.serde_json.specs.View.{view};
-ghost use Rattle.ref_parts.specs.Path.{path_eq};
+ghost use Rattle.ref_paths.specs.Path.{path_eq};
 ghost use Rattle.ref_draft.specs.Schema.{text_under};
 ghost use Rattle.ref_uri.specs.Reference.{with_fragment};
 ghost use Rattle.ref_uri.specs.Targets.{uri_against, target, uri_of};

@@ -196,7 +196,8 @@ fn wanted_of(error: &Error) -> Option<(&str, &'static str)>
 fn put_wanted(alloc: Global, members: &mut Members, error: &Error) -> Result<(), AllocError>
     ensures { (fault : Fault) → SaysFault error.now fault
         → OnOk result (members_view members.new.entries
-        ≡ with_all (spec.wanted_members (spec.wanted_document fault)) (members_view members.old.entries)) }
+        ≡ with_all (spec.wanted_members (spec.wanted_document fault))
+        (members_view members.old.entries)) }
 {
     match wanted_of(error) {
         Some((uri, kind)) => {

@@ -3,7 +3,7 @@ use Rattle.std.proofs.Common.{◌≡◌, ◌≢◌, ℕ, Bool, true, false, cond
 use Rattle.std.proofs.lemmas.List.{append-nil}
 use Rattle.std.proofs.lemmas.Slice.Eq.{bytes_eq-Decides}
 use Rattle.serde_json.specs.Data.{Data, null, boolean, number, string, array, object}
-use Rattle.ref_parts.specs.Path.{Part, Key, Index, child_at, value_at, HasFittingIndexes}
+use Rattle.ref_paths.specs.Path.{Part, Key, Index, child_at, value_at, HasFittingIndexes}
 use Rattle.ref_parts.specs.Pointer.{part_text}
 use Rattle.ref_draft.specs.declared.draft.Draft.{Draft}
 use Rattle.ref_draft.specs.Keywords.{id_keyword}

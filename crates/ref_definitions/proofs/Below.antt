@@ -5,7 +5,7 @@ use Rattle.std.proofs.lemmas.List.{append-nil, append_cancel_left, map-append}
 use Rattle.std.proofs.lemmas.List.Elements.{All-contains, All-from_recursion}
 use Rattle.serde_json.specs.Data.{Data}
 use Rattle.serde_json.specs.Find.{as_object}
-use Rattle.ref_parts.specs.Path.{Part, Key, Index, value_at, HasFittingIndexes}
+use Rattle.ref_paths.specs.Path.{Part, Key, Index, value_at, HasFittingIndexes}
 use Rattle.ref_parts.specs.Pointer.{part_text}
 use Rattle.ref_draft.specs.declared.draft.Draft.{Draft}
 use Rattle.ref_draft.specs.Keywords.{is_before_2020, is_map_keyword}

@@ -2,7 +2,7 @@
 use Rattle.std.proofs.Common.{◌≡◌, ℕ, zero, suc, ◌<◌, ◌≤◌, List, [], ◌∷◌, ◌++◌, flat_map, map, Result, Ok, Err, refl, ap, ◌∙◌, arith}
 use Rattle.std.specs.List.{AllByRecursion}
 use Rattle.serde_json.specs.Data.{depth}
-use Rattle.ref_parts.specs.Path.{Part}
+use Rattle.ref_paths.specs.Path.{Part}
 use Rattle.ref_draft.specs.declared.draft.Draft.{Draft}
 use Rattle.ref_draft.specs.Children.{Child, children as value_children, with_draft}
 use Rattle.ref_draft.proofs.Depth.{shallower as value_shallower}

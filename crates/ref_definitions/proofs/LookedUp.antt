@@ -5,7 +5,7 @@ use Rattle.std.specs.List.{AllByRecursion, Contains, last_or, take_while, prefix
 use Rattle.std.specs.Option.{option_map_or, option_to_list}
 use Rattle.std.specs.Result.{result_ok}
 use Rattle.serde_json.specs.Data.{Data}
-use Rattle.ref_parts.specs.Path.{Part, child_at, value_at}
+use Rattle.ref_paths.specs.Path.{Part, child_at, value_at}
 use Rattle.ref_draft.specs.declared.draft.Draft.{Draft}
 use Rattle.ref_draft.specs.Anchors.{Kind, Plain, Dynamic, anchors}
 use Rattle.ref_draft.specs.UniqueKeys.{HasUniqueKeys}

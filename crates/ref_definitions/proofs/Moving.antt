@@ -1,7 +1,7 @@
 -- The places of a tree that is put below a path.
 use Rattle.std.proofs.Common.{◌≡◌, ℕ, zero, suc, List, [], ◌∷◌, ◌++◌, flat_map, map, Result, Ok, Err, refl, sym, ap, ◌∙◌, append_assoc, append-nil}
 use Rattle.std.proofs.lemmas.List.{map-append}
-use Rattle.ref_parts.specs.Path.{Part}
+use Rattle.ref_paths.specs.Path.{Part}
 use Rattle.ref_draft.specs.Children.{Walked, walked_children}
 use Rattle.ref_uri.specs.Targets.{Refusal}
 use Rattle.ref_definitions.specs.Places.{Place, child_place, children_with, children_of, levels_below}

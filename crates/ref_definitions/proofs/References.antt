@@ -8,7 +8,7 @@ use Rattle.std.proofs.lemmas.List.Elements.{All-nil, All-cons}
 use Rattle.percent_encoding.specs.Percent.{percent_decode}
 use Rattle.serde_json.specs.Data.{Data, null, boolean, number, string, array, object}
 use Rattle.serde_json.specs.Find.{get_item, get_member}
-use Rattle.ref_parts.specs.Path.{Key, Index}
+use Rattle.ref_paths.specs.Path.{Key, Index}
 use Rattle.ref_parts.specs.Pointer.{unescape, tokens}
 use Rattle.ref_draft.specs.declared.draft.Draft.{Draft}
 use Rattle.ref_draft.specs.Anchors.{Kind, Plain, Dynamic}

@@ -11,7 +11,7 @@ use Rattle.std.proofs.lemmas.Str.Parse.{IsNumeralModel, numerals_by_value, tells
 use Rattle.std.proofs.lemmas.Fmt.{decimal_nonempty, digits_decimal, digits_value-decimal}
 use Rattle.serde_json.specs.Data.{Data, null, boolean, number, string, array, object}
 use Rattle.serde_json.specs.Find.{get_item, get_member}
-use Rattle.ref_parts.specs.Path.{Part, Key, Index, child_at, HasFittingIndexes}
+use Rattle.ref_paths.specs.Path.{Part, Key, Index, child_at, HasFittingIndexes}
 use Rattle.ref_parts.specs.Pointer.{part_text}
 use Rattle.ref_parts.proofs.PointerLaws.{unescape-escape}
 use Rattle.ref_draft.specs.declared.draft.Draft.{Draft}

@@ -3,7 +3,7 @@ use Rattle.std.specs.Prelude.{◌≡◌, ℕ, List, [], ◌∷◌, ◌++◌, All
 use Rattle.std.specs.List.{Contains}
 use Rattle.serde_json.specs.Data.{Data}
 use Rattle.serde_json.specs.Find.{get}
-use Rattle.ref_parts.specs.Path.{Part, HasFittingIndexes}
+use Rattle.ref_paths.specs.Path.{Part, HasFittingIndexes}
 use Rattle.ref_parts.specs.Pointer.{pointer_text}
 use Rattle.ref_draft.specs.declared.draft.Draft.{Draft}
 use Rattle.ref_draft.specs.Keywords.{is_before_2020, is_map_keyword, id_keyword}

@@ -1,7 +1,7 @@
 -- The base along a path, given by its changes. This is the rule that `Bases.along_part` computes, part by part.
 use Rattle.std.specs.Prelude.{◌≡◌, ℕ, List, [], ◌∷◌, ◌++◌, Some, Ok}
 use Rattle.serde_json.specs.Data.{Data}
-use Rattle.ref_parts.specs.Path.{Part, value_at}
+use Rattle.ref_paths.specs.Path.{Part, value_at}
 use Rattle.ref_draft.specs.declared.draft.Draft.{Draft}
 use Rattle.ref_draft.specs.Schema.{identifier}
 use Rattle.ref_draft.specs.Scan.{IsAccepted}

@@ -25,5 +25,4 @@ pub mod Follow
 pub mod Agreement
 pub mod Parts
 pub mod Listing
-pub mod MetaSchemas
 pub mod Rows

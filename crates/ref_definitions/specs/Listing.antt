@@ -1,7 +1,7 @@
 -- The places of a registry's own documents, as they are listed.
 use Rattle.std.specs.Prelude.{ℕ, suc, List, [], ◌∷◌, ◌++◌, map, Result}
 use Rattle.serde_json.specs.Data.{Data}
-use Rattle.ref_parts.specs.Path.{Part}
+use Rattle.ref_paths.specs.Path.{Part}
 use Rattle.ref_draft.specs.declared.draft.Draft.{Draft}
 use Rattle.ref_uri.specs.Targets.{Refusal}
 use Rattle.ref_definitions.specs.World.{Layer}

@@ -3,7 +3,7 @@ use Rattle.std.specs.Prelude.{ℕ, Bool, true, false, not, ◌||◌, ◌==◌, L
 use Rattle.std.specs.List.{join_by, last_or}
 use Rattle.std.specs.Option.{ok_or, unwrap_or}
 use Rattle.serde_json.specs.Data.{Data}
-use Rattle.ref_parts.specs.Path.{Part}
+use Rattle.ref_paths.specs.Path.{Part}
 use Rattle.ref_parts.specs.Pointer.{slash, pointer_text}
 use Rattle.ref_parts.specs.Encoded.{encoded_text}
 use Rattle.ref_draft.specs.declared.draft.Draft.{Draft}

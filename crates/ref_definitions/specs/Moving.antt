@@ -1,6 +1,6 @@
 -- Places of a tree that is put below a path.
 use Rattle.std.specs.Prelude.{List, ◌++◌}
-use Rattle.ref_parts.specs.Path.{Part}
+use Rattle.ref_paths.specs.Path.{Part}
 use Rattle.ref_definitions.specs.Places.{Place}
 
 -- a place, with another path before its own

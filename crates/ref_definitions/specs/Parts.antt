@@ -2,7 +2,7 @@
 use Rattle.std.specs.Prelude.{◌≡◌, List, Some}
 use Rattle.std.specs.List.{AllByRecursion, Contains}
 use Rattle.serde_json.specs.Data.{Data}
-use Rattle.ref_parts.specs.Path.{Part, value_at}
+use Rattle.ref_paths.specs.Path.{Part, value_at}
 use Rattle.ref_draft.specs.UniqueKeys.{HasUniqueKeys}
 use Rattle.ref_definitions.specs.World.{Document, Layer, World}
 use Rattle.ref_definitions.specs.Agreement.{ChildrenStand}

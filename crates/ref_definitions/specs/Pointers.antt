@@ -8,7 +8,7 @@ use Rattle.std.specs.Str.Parse.{without_leading_plus, digits_value}
 use Rattle.percent_encoding.specs.Percent.{percent_decode}
 use Rattle.serde_json.specs.Data.{Data, null, boolean, number, string, array, object}
 use Rattle.serde_json.specs.Find.{get_item, get_member}
-use Rattle.ref_parts.specs.Path.{Part, Key, Index}
+use Rattle.ref_paths.specs.Path.{Part, Key, Index}
 use Rattle.ref_parts.specs.Pointer.{unescape, tokens}
 use Rattle.ref_draft.specs.declared.draft.Draft.{Draft}
 use Rattle.ref_definitions.specs.Results.{◌>>=◌}

@@ -1,7 +1,7 @@
 -- The path that the tokens of a pointer are read as, and the first fault along them (RFC 6901, sections 4 and 7).
 use Rattle.std.specs.Prelude.{◌≡◌, ℕ, List, [], ◌∷◌, ◌++◌, Some, None, Err, IsTrue, IsFalse, ⊤}
 use Rattle.serde_json.specs.Data.{Data}
-use Rattle.ref_parts.specs.Path.{Part, Key, Index, child_at, value_at}
+use Rattle.ref_paths.specs.Path.{Part, Key, Index, child_at, value_at}
 use Rattle.ref_parts.specs.Pointer.{unescape}
 use Rattle.ref_draft.specs.declared.draft.Draft.{Draft}
 use Rattle.ref_draft.specs.Schema.{identifier}

@@ -5,7 +5,7 @@ ghost use Rattle.std.specs.Option.{option_or};
 ghost use Rattle.std.specs.Str.{is_utf8};
 ghost use Rattle.percent_encoding.specs.Percent.{percent_decode};
 ghost use Rattle.serde_json.specs.Data.{Data, depth};
-ghost use Rattle.ref_parts.specs.Path.{Part, value_at};
+ghost use Rattle.ref_paths.specs.Path.{Part, value_at};
 ghost use Rattle.ref_parts.specs.Pointer.{tokens};
 ghost use Rattle.ref_draft.specs.declared.draft.Draft.{Draft};
 ghost use Rattle.ref_draft.specs.UniqueKeys.{HasUniqueKeys};

@@ -2,7 +2,7 @@
 use Rattle.std.proofs.Common.{◌≡◌, ◌≢◌, ℕ, suc, List, [], ◌∷◌, ◌++◌, map, true, false, Option, Some, None, option_and_then, inl, inr, refl, sym, ap, subst, ◌∙◌, true≢false}
 use Rattle.std.specs.List.{AllByRecursion}
 use Rattle.serde_json.specs.Data.{Data, null, boolean, number, string, array, object, Items, no_items, item, Members, no_members, member}
-use Rattle.ref_parts.specs.Path.{Part, Key, Index, child_at, value_at}
+use Rattle.ref_paths.specs.Path.{Part, Key, Index, child_at, value_at}
 use Rattle.ref_draft.specs.declared.draft.Draft.{Draft}
 use Rattle.ref_draft.specs.declared.spec.Holding.{Holding}
 use Rattle.ref_draft.specs.declared.spec.Holding.TheVariants.{Whole, WholeObject, Elements, Members as EachMember, ElementsOrWhole, ObjectMembers, Nothing}

@@ -3,7 +3,7 @@ use Rattle.std.specs.Prelude.{◌≡◌, ◌≢◌, ℕ, Some, List, [], ◌++�
 use Rattle.std.specs.List.{AllByRecursion}
 use Rattle.serde_json.specs.Data.{Data}
 use Rattle.serde_json.specs.Find.{as_array}
-use Rattle.ref_parts.specs.Path.{Part, value_at}
+use Rattle.ref_paths.specs.Path.{Part, value_at}
 use Rattle.ref_draft.specs.declared.draft.Draft.{Draft}
 use Rattle.ref_draft.specs.Keywords.{is_before_2020, is_map_keyword}
 use Rattle.ref_draft.specs.Children.{Child, is_object, keyword_of}

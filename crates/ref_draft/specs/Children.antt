@@ -4,7 +4,7 @@ use Rattle.std.specs.Prelude.{◌≡◌, Some, ℕ, suc, List, [], ◌∷◌, �
 use Rattle.std.specs.Option.{option_map_or}
 use Rattle.serde_json.specs.Data.{Data, Items, no_items, item, Members, no_members, member}
 use Rattle.serde_json.specs.Find.{as_array, as_object}
-use Rattle.ref_parts.specs.Path.{Part, Key, Index, value_at}
+use Rattle.ref_paths.specs.Path.{Part, Key, Index, value_at}
 use Rattle.std.specs.Cmp.Lexicographic.{slice_cmp}
 use Rattle.std.specs.List.{AllByRecursion}
 use Rattle.std.specs.List.Sorted.{IsStrictlySortedBy}

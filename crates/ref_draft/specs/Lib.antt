@@ -1,5 +1,6 @@
 pub mod Keywords
 pub mod Names
+pub mod MetaSchemas
 pub mod Schema
 pub mod Children
 pub mod Anchors

@@ -1,6 +1,6 @@
 -- The scan of parts one after another: what those before lead to decides how it goes on.
 use Rattle.std.specs.Prelude.{◌≡◌, List, ◌++◌, Bool, true, false}
-use Rattle.ref_parts.specs.Path.{Part, Key, Index}
+use Rattle.ref_paths.specs.Path.{Part, Key, Index}
 use Rattle.ref_draft.specs.declared.draft.Draft.{Draft}
 use Rattle.ref_draft.specs.declared.reached.Reached.{Reached}
 use Rattle.ref_draft.specs.declared.reached.Reached.TheVariants.{Schema, Schemas, BelowItems, Other}

@@ -2,7 +2,7 @@
 use Prim.Native.String.{String as Literal}
 use Rattle.std.specs.Prelude.{true, List, map, codes}
 use Rattle.serde_json.specs.Data.{Data, boolean, string, array, object, no_items, item, no_members, member}
-use Rattle.ref_parts.specs.Path.{Part, Key}
+use Rattle.ref_paths.specs.Path.{Part, Key}
 use Rattle.ref_draft.specs.declared.draft.Draft.{Draft}
 use Rattle.ref_draft.specs.Children.{children}
 

@@ -1,7 +1,7 @@
 -- The scan of parts from their left, which accepts exactly what `Scan.IsAccepted` does (the law `scan_is_accepted`): a
 -- function, so that the base along parts computes.
 use Rattle.std.specs.Prelude.{List, [], ◌∷◌, Bool, true, false, ◌&&◌, if◌then◌else◌}
-use Rattle.ref_parts.specs.Path.{Part, Key, Index}
+use Rattle.ref_paths.specs.Path.{Part, Key, Index}
 use Rattle.ref_draft.specs.declared.draft.Draft.{Draft}
 use Rattle.ref_draft.specs.Keywords.{is_before_2020, is_items_or_dependencies}
 use Rattle.ref_draft.specs.Scan.{is_value_keyword, is_child_keyword}

@@ -5,10 +5,10 @@ use Rattle.std.specs.Slice.Iter.{iter_rest}
 use Rattle.serde_json.specs.Data.{Data, object}
 use Rattle.serde_json.specs.View.{view, members_view}
 use Rattle.serde_json.specs.declared.value.Value.{Value}
-use Rattle.ref_parts.specs.Path as path
-use Rattle.ref_parts.specs.Path.{Part}
-use Rattle.ref_parts.specs.Segment.{part_of}
-use Rattle.ref_parts.specs.declared.path.JsonPointerSegment.{JsonPointerSegment}
+use Rattle.ref_paths.specs.Path as path
+use Rattle.ref_paths.specs.Path.{Part}
+use Rattle.ref_paths.specs.Segment.{part_of}
+use Rattle.ref_paths.specs.declared.path.JsonPointerSegment.{JsonPointerSegment}
 use Rattle.ref_draft.specs.declared.draft.Draft.{Draft}
 use Rattle.ref_draft.specs.declared.resource.Resource.{Resource}
 use Rattle.ref_draft.specs.declared.resource.ResourceRef.{ResourceRef}

@@ -14,7 +14,7 @@ ghost use Rattle.ref_draft.specs.declared.reached.Reached.TheVariants.{Schema};
 ghost use Rattle.ref_draft.specs.Reached.{HasReached, accepts_at, reached_after};
 ghost use Rattle.ref_draft.specs.Beginnings.{AllEndWithin};
 ghost use Rattle.ref_draft.specs.UniqueKeys.{HasUniqueKeys};
-ghost use Rattle.ref_parts.specs.Path.{Key, Part};
+ghost use Rattle.ref_paths.specs.Path.{Key, Part};
 
 use crate::draft::Draft;
 

@@ -8,6 +8,7 @@ pub mod anchor;
 pub mod draft;
 pub mod examples;
 pub mod laws;
+pub mod meta;
 pub mod reached;
 pub mod resource;
 pub mod segments;

@@ -1,7 +1,7 @@
 //! What the segments of a pointer lead to, read one after another.
 ghost use Rattle.std.specs.Prelude.{◌≡◌, ℕ};
 ghost use Rattle.ref_draft.specs.declared.draft.Draft.{Draft as Version};
-ghost use Rattle.ref_parts.specs.Path.{Key, Index};
+ghost use Rattle.ref_paths.specs.Path.{Key, Index};
 ghost use Rattle.ref_draft.specs.Reached.{accepts_at, reached_after, reached_under};
 
 use crate::draft::Draft;

@@ -1,9 +1,9 @@
 //! The segments that a pointer has passed.
 ghost use Rattle.std.specs.Prelude.{◌≡◌, ◌∷◌, ◌++◌, [], map, OnOk, OnErr};
 ghost use Rattle.std.specs.Slice.Iter.{iter_rest};
-ghost use Rattle.ref_parts.specs.Segment.{part_of};
+ghost use Rattle.ref_paths.specs.Segment.{part_of};
 
-pub use ref_parts::path::JsonPointerSegment as Segment;
+pub use ref_paths::path::JsonPointerSegment as Segment;
 use std::alloc::{AllocError, Global};
 use std::marker::Model;
 use std::slice;
@@ -16,11 +16,11 @@ pub struct Segments<'a> {
 
 impl<'a> Model for Segments<'a> {
     ghost use Rattle.std.specs.Prelude.{List, map};
-    ghost use Rattle.ref_parts.specs.Path.{Part};
+    ghost use Rattle.ref_paths.specs.Path.{Part};
 
     ghost Value = { List Part };
 
-    ghost use Rattle.ref_parts.specs.Segment.{part_of};
+    ghost use Rattle.ref_paths.specs.Segment.{part_of};
 
     ghost view = { λ s. map part_of s.items.items };
 }

@@ -8,7 +8,7 @@ use Rattle.std.proofs.lemmas.Option.{get_or_from_slice_get}
 use Rattle.std.proofs.lemmas.List.{take_more, take-append-le, map-append}
 use Rattle.std.proofs.lemmas.List.Elements.{All-contains, All-from_recursion}
 use Rattle.serde_json.specs.Data.{Data, depth}
-use Rattle.ref_parts.specs.Path.{Part}
+use Rattle.ref_paths.specs.Path.{Part}
 use Rattle.ref_draft.specs.declared.draft.Draft.{Draft}
 use Rattle.ref_draft.specs.Schema.{text_under, identifier}
 use Rattle.ref_draft.specs.Anchors.{anchors}

@@ -4,7 +4,7 @@ use Rattle.std.specs.Option.{option_to_list, option_map_or}
 use Rattle.std.specs.List.{find, enumerate_from}
 use Rattle.ref_draft.specs.declared.draft.Draft.{Draft}
 use Rattle.ref_draft.specs.Anchors.{Kind, anchors}
-use Rattle.ref_parts.specs.Path.{Part}
+use Rattle.ref_paths.specs.Path.{Part}
 use Rattle.ref_parts.specs.Table.{Entry, is_under}
 use Rattle.ref_definitions.specs.Places.{Place}
 use Rattle.ref_definitions.specs.Resources.{own_uri}

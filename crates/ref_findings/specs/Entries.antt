@@ -1,7 +1,7 @@
 -- What the program's findings say.
 use Rattle.std.specs.Prelude.{◌≡◌, Bool, true, false, map, option_map, ⊤}
 use Rattle.serde_json.specs.View.{view}
-use Rattle.ref_parts.specs.Segment.{part_of}
+use Rattle.ref_paths.specs.Segment.{part_of}
 use Rattle.ref_uri.specs.Errors.{SaysRefusal}
 use Rattle.ref_error.specs.Errors.{SaysFault}
 use Rattle.ref_findings.specs.declared.source.Source as rust

@@ -6,13 +6,13 @@ use Rattle.ref_draft.specs.declared.draft.Draft.{Draft}
 use Rattle.ref_draft.specs.Keywords.{is_unknown, id_keyword, is_before_2019}
 use Rattle.ref_draft.specs.Schema.{text_under, trimmed_text, from_schema_uri}
 use Rattle.ref_draft.specs.Anchors.{Kind, Plain, Dynamic, anchors}
-use Rattle.ref_parts.specs.Path.{Part}
+use Rattle.ref_paths.specs.Path.{Part}
 use Rattle.ref_parts.specs.Table.{Entry, is_under}
 use Rattle.ref_uri.specs.Targets.{Refusal, target, fragment_part}
 use Rattle.ref_definitions.specs.World.{World}
 use Rattle.ref_definitions.specs.Places.{Place, identifier_of}
 use Rattle.ref_definitions.specs.Resources.{meant_place}
-use Rattle.ref_definitions.specs.MetaSchemas as meta_schemas
+use Rattle.ref_draft.specs.MetaSchemas as meta_schemas
 use Rattle.ref_definitions.specs.Wants.{schema_uri}
 use Rattle.ref_definitions.specs.Fault as fault
 use Rattle.ref_definitions.specs.Fault.{Fault}

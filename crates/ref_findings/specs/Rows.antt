@@ -2,7 +2,7 @@
 use Prim.Native.String.{String as Literal}
 use Rattle.std.specs.Prelude.{ℕ, List, [], codes, Some, None}
 use Rattle.serde_json.specs.Data.{Data}
-use Rattle.ref_parts.specs.Path.{Part}
+use Rattle.ref_paths.specs.Path.{Part}
 use Rattle.ref_findings.specs.Sources.{Source}
 use Rattle.ref_findings.specs.Findings.{Finding, Problem}
 

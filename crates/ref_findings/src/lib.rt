@@ -1,6 +1,9 @@
 //! What is wrong with the references of JSON documents, for linters: identifiers, references and names of meta-schemas
 //! that mean no URI, documents that aren't there, unresolvable pointers and anchors, and URIs and names that two places
 //! have. No finding hides another.
+//!
+//! Read `specs/Findings.antt` and `specs/Gathered.antt` first: which findings there are, and which documents they are of, is said
+//! there over the plain documents.
 #![tactic(auto)]
 
 mod base;

@@ -18,14 +18,13 @@ ghost use Rattle.ref_findings.specs.inner.Seen.{known_in};
 use crate::base::{Meaning, base_of, meta_schema_uri, target_of};
 use crate::finding::{Bearer, Problem};
 use crate::site::Site;
-use ref_draft::{Draft, trim_hashes};
+use ref_draft::{Draft, meta, trim_hashes};
 use ref_error::Error;
 use ref_index::segments_of;
 use ref_parts::{List, SortedTable};
 use ref_resolver::{Layers, Resolver};
 use ref_uri::Uri;
 use ref_uri::parts::{parts, uri_part};
-use referencing::meta;
 use std::alloc::{AllocError, Global};
 use std::rc::Rc;
 

@@ -2,7 +2,7 @@
 ghost use Rattle.std.specs.Prelude.{◌≡◌, ◌<◌, List, [], ◌∷◌, ◌++◌, map, length, slice_get, Some, IfOk, IfSome, OnOk};
 ghost use Rattle.serde_json.specs.View.{view};
 ghost use Rattle.ref_draft.specs.Children.{AllStand, walked_children};
-ghost use Rattle.ref_parts.specs.Path.{Key};
+ghost use Rattle.ref_paths.specs.Path.{Key};
 ghost use Rattle.ref_draft.specs.Views.{segment_parts, walked_child};
 ghost use Rattle.std.specs.List.{AllByRecursion};
 ghost use Rattle.ref_definitions.specs.Places.{child_place, root};

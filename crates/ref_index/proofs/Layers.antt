@@ -14,7 +14,7 @@ use Rattle.ref_definitions.specs.Cached.{identifier_pairs_at, reference_pairs_at
 use Rattle.ref_definitions.specs.Wants.{wants, faults}
 use Rattle.ref_index.specs.declared.entry.Entry.{Entry}
 use Rattle.ref_index.specs.declared.found.Found.{Found}
-use Rattle.ref_parts.specs.declared.path.JsonPointerSegment.{JsonPointerSegment}
+use Rattle.ref_paths.specs.declared.path.JsonPointerSegment.{JsonPointerSegment}
 use Rattle.ref_index.specs.declared.entry.NamedEntry.{NamedEntry}
 use Rattle.ref_index.specs.Entries.{IsPathOf, IsEntryOf}
 use Rattle.ref_index.specs.inner.Found.{IsNumberOf, IsResourceOf, IsNameOf, FoundLists, Holds}

@@ -7,7 +7,7 @@ use Rattle.std.specs.List.{AllZip, Contains, last_or}
 use Rattle.std.proofs.Math.Bool.{and-true}
 use Rattle.std.proofs.lemmas.Slice.Eq.{bytes_eq-Decides}
 use Rattle.ref_uri.specs.Targets.{uri_against}
-use Rattle.ref_parts.specs.Path.{Part}
+use Rattle.ref_paths.specs.Path.{Part}
 use Rattle.ref_parts.specs.Table as table
 use Rattle.ref_parts.specs.Table.{is_under, last_value}
 use Rattle.ref_definitions.specs.World.{Layer}

@@ -11,7 +11,7 @@ use Rattle.ref_uri.specs.Normal.{normal_text, guarded_path, normal_components, n
 use Rattle.ref_uri.specs.Reference.{is_uri_reference, with_fragment}
 use Rattle.ref_uri.specs.Resolution.{resolved_components, target_text}
 use Rattle.ref_uri.specs.Targets.{Refusal, parse_refusal, uri_of, uri_against}
-use Rattle.ref_parts.specs.Path.{Part}
+use Rattle.ref_paths.specs.Path.{Part}
 use Rattle.ref_draft.specs.Children.{Walked, walked_children}
 use Rattle.ref_definitions.specs.World.{Document, Layer}
 use Rattle.ref_definitions.specs.Places.{Place, base_within, root, child_place, children_with, places}

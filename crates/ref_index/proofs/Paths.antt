@@ -3,7 +3,7 @@ use Rattle.std.proofs.Common.{◌≡◌, List, [], ◌∷◌, ◌++◌, Some, ma
 use Rattle.std.proofs.lemmas.List.{map-append, reverse-append}
 use Rattle.std.specs.Prelude.{unwrap_or, take, length}
 use Rattle.std.specs.List.{last_or}
-use Rattle.ref_parts.specs.Path.{Part, Index, last_part, parent_path}
+use Rattle.ref_paths.specs.Path.{Part, Index, last_part, parent_path}
 
 last_behind : (part : Part) (path : List Part) → part ∷ path ≡ take (length path) (part ∷ path) ++ unwrap_or (last_or (Some part) path) (Index 0) ∷ []
 last_behind part [] = refl

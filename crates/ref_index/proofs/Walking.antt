@@ -6,7 +6,7 @@ use Rattle.std.proofs.lemmas.List.{take_more, drop_more, drop_all, take-append-l
 use Rattle.std.proofs.lemmas.Grind.{flat_map-append}
 use Rattle.serde_json.specs.Data.{Data}
 use Rattle.serde_json.specs.View.{view}
-use Rattle.ref_parts.specs.Path.{Part, Key, value_at}
+use Rattle.ref_paths.specs.Path.{Part, Key, value_at}
 use Rattle.ref_draft.specs.declared.spec.walk.Child.{Child}
 use Rattle.ref_draft.specs.Children.{Walked, AllStand, walked_children}
 use Rattle.ref_draft.specs.Views.{segment_parts, walked_child}

@@ -1,6 +1,6 @@
 -- Paths of places whose last parts have no link yet.
 use Rattle.std.specs.Prelude.{List, [], ◌∷◌, ◌++◌, Option, Some, None}
-use Rattle.ref_parts.specs.Path.{Part, Key}
+use Rattle.ref_paths.specs.Path.{Part, Key}
 use Rattle.ref_draft.specs.Views.{segment_parts}
 use Rattle.ref_index.specs.declared.path.Tail.{Tail}
 use Rattle.ref_index.specs.declared.path.Below.{Below}

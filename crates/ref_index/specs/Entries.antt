@@ -1,10 +1,10 @@
 -- That an entry of an index is that of a place of its documents.
 use Rattle.std.specs.Prelude.{◌≡◌, ℕ, List, map, slice_get, Bool, true, false, Some, Ok, IfSome, Option, None, MatchOption}
 use Rattle.serde_json.specs.View.{view}
-use Rattle.ref_parts.specs.Path.{value_at}
+use Rattle.ref_paths.specs.Path.{value_at}
 use Rattle.ref_draft.specs.Anchors.{Kind, Plain, Dynamic}
-use Rattle.ref_parts.specs.Segment.{part_of}
-use Rattle.ref_parts.specs.declared.path.JsonPointerSegment.{JsonPointerSegment}
+use Rattle.ref_paths.specs.Segment.{part_of}
+use Rattle.ref_paths.specs.declared.path.JsonPointerSegment.{JsonPointerSegment}
 use Rattle.ref_definitions.specs.World.{Document, Layer}
 use Rattle.ref_definitions.specs.Places.{Place}
 use Rattle.ref_definitions.specs.Anchors.{Named}

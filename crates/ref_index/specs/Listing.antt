@@ -1,7 +1,7 @@
 -- A place of the program as it is listed.
 use Rattle.std.specs.Prelude.{map, Ok}
 use Rattle.serde_json.specs.View.{view}
-use Rattle.ref_parts.specs.Segment.{part_of}
+use Rattle.ref_paths.specs.Segment.{part_of}
 use Rattle.ref_definitions.specs.Listing.{Listed}
 use Rattle.ref_index.specs.declared.places.Place.{Place}
 

@@ -1,8 +1,8 @@
 -- Where the places of a layer are: in the document with which number, and at which path there.
 use Rattle.std.specs.Prelude.{ℕ, suc, ◌&&◌, List, [], ◌∷◌, ◌++◌, map, filter, bytes_eq, Option, None, option_map}
 use Rattle.std.specs.List.{last_or}
-use Rattle.ref_parts.specs.Path.{Part}
-use Rattle.ref_parts.specs.Segment.{part_of}
+use Rattle.ref_paths.specs.Path.{Part}
+use Rattle.ref_paths.specs.Segment.{part_of}
 use Rattle.ref_definitions.specs.World.{Document, Layer}
 use Rattle.ref_definitions.specs.Places.{Place}
 use Rattle.ref_definitions.specs.Resources.{resources_in}

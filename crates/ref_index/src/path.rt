@@ -1,10 +1,10 @@
 //! Paths as lists of segments, whose keys are borrowed or owned: an index of places is beside the documents, and owns the
 //! keys of its paths.
 ghost use Rattle.std.specs.Prelude.{◌≡◌, [], ◌∷◌, ◌++◌, map, IfOk, OnOk, MatchOption};
-ghost use Rattle.ref_parts.specs.Path.{Key};
-ghost use Rattle.ref_parts.specs.Segment.{part_of};
+ghost use Rattle.ref_paths.specs.Path.{Key};
+ghost use Rattle.ref_paths.specs.Segment.{part_of};
 ghost use Rattle.ref_draft.specs.Views.{segment_parts};
-ghost use Rattle.ref_parts.specs.declared.path.JsonPointerSegment.{JsonPointerSegment as Segment};
+ghost use Rattle.ref_paths.specs.declared.path.JsonPointerSegment.{JsonPointerSegment as Segment};
 ghost use Rattle.ref_index.specs.Below.{parts_of, tail_parts};
 
 use ref_parts::path::{JsonPointerNode, JsonPointerSegment};

@@ -1,7 +1,7 @@
 //! The places of a document that were found, in the order in which they are visited.
 ghost use Rattle.std.specs.Prelude.{◌≡◌, [], map, IfOk, IfSome};
 ghost use Rattle.serde_json.specs.View.{view};
-ghost use Rattle.ref_parts.specs.Segment.{part_of};
+ghost use Rattle.ref_paths.specs.Segment.{part_of};
 ghost use Rattle.ref_index.specs.Contents.{tree_of};
 ghost use Rattle.ref_index.specs.Visit.{path_of, value_of};
 

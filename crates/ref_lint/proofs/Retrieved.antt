@@ -2,7 +2,7 @@
 use Rattle.std.proofs.Common.{◌≡◌, ℕ, zero, suc, List, [], ◌∷◌, map, codes, Option, Some, None, Result, Ok, Err, ⊎_elim, refl, ap, sym, subst, ◌∙◌, arith}
 use Rattle.std.specs.List.{All, AllZip, AllByRecursion, Contains}
 use Rattle.std.proofs.lemmas.List.Elements.{All-from_recursion, Contains-append_cases}
-use Rattle.ref_parts.specs.Path.{Part}
+use Rattle.ref_paths.specs.Path.{Part}
 use Rattle.ref_draft.specs.Schema.{text_under}
 use Rattle.ref_uri.specs.Targets.{Refusal}
 use Rattle.ref_definitions.specs.World.{Document, Layer, World, local_documents}

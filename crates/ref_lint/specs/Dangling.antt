@@ -1,6 +1,6 @@
 -- The references of a registry's own documents that are unresolvable (2020-12 Core, 8.2.3.1).
 use Rattle.std.specs.Prelude.{ℕ, List, [], ◌∷◌, flat_map, codes, Option, Some, None, Result, Ok, Err}
-use Rattle.ref_parts.specs.Path.{Part}
+use Rattle.ref_paths.specs.Path.{Part}
 use Rattle.ref_draft.specs.Schema.{text_under}
 use Rattle.ref_uri.specs.Targets.{Refusal}
 use Rattle.ref_definitions.specs.World.{World, local_documents}

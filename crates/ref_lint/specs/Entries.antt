@@ -1,6 +1,6 @@
 -- What is listed of unresolvable references.
 use Rattle.std.specs.Prelude.{◌≡◌, map, ⊤}
-use Rattle.ref_parts.specs.Segment.{part_of}
+use Rattle.ref_paths.specs.Segment.{part_of}
 use Rattle.ref_error.specs.declared.error.Error.{Error}
 use Rattle.ref_error.specs.declared.error.Error.TheVariants as error
 use Rattle.ref_error.specs.Errors.{SaysFault}

@@ -9,8 +9,8 @@ pub use Rattle.ref_definitions.specs.Listing
 pub use Rattle.ref_definitions.specs.Lookup
 pub use Rattle.ref_definitions.specs.Fault
 pub use Rattle.ref_uri.specs.Targets
-pub use Rattle.ref_parts.specs.Path
-pub use Rattle.ref_parts.specs.Segment
+pub use Rattle.ref_paths.specs.Path
+pub use Rattle.ref_paths.specs.Segment
 pub use Rattle.ref_draft.specs.Schema
 pub use Rattle.ref_error.specs.Errors
 pub use Rattle.ref_error.specs.declared.error.Error

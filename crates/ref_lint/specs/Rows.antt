@@ -1,7 +1,7 @@
 -- Literal references for rows that compute.
 use Prim.Native.String.{String as Literal}
 use Rattle.std.specs.Prelude.{ℕ, List, codes}
-use Rattle.ref_parts.specs.Path.{Part}
+use Rattle.ref_paths.specs.Path.{Part}
 use Rattle.ref_definitions.specs.Fault.{Fault}
 use Rattle.ref_lint.specs.Dangling.{DanglingReference}
 

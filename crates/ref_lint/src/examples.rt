@@ -2,7 +2,7 @@
 #![tactic(auto, unfolding(ref_definitions::proofs::OnLiterals::world_on_literals))]
 
 ghost use Rattle.std.specs.Prelude.{◌≡◌, [], ◌∷◌, codes, Some, Err};
-ghost use Rattle.ref_parts.specs.Path.{Key, Index};
+ghost use Rattle.ref_paths.specs.Path.{Key, Index};
 ghost use Rattle.ref_draft.specs.declared.draft.Draft.TheVariants.{Draft7, Draft202012};
 ghost use Rattle.ref_uri.specs.Targets.{parse_refusal};
 ghost use Rattle.ref_definitions.specs.Fault.{PointerToNowhere, NoSuchAnchor};

@@ -12,7 +12,7 @@ use Rattle.std.proofs.lemmas.Option.{option_and_then_some}
 use Rattle.std.proofs.lemmas.Fmt.{digits_decimal}
 use Rattle.serde_json.specs.Data.{Data, null, boolean, number, string, array, object}
 use Rattle.serde_json.specs.Find.{get_item}
-use Rattle.ref_parts.specs.Path.{Part, Key, Index, child_at, value_at, HasFittingIndexes}
+use Rattle.ref_paths.specs.Path.{Part, Key, Index, child_at, value_at, HasFittingIndexes}
 use Rattle.ref_parts.specs.Pointer.{escape, escaped_byte, unescape, tokens, part_text, pointer_text, step, value_along, evaluate}
 use Rattle.ref_parts.proofs.PointerLaws.{unescape-escape, unescape_front}
 use Rattle.ref_parts.proofs.IndexLaws.{own, parse_index-decimal}

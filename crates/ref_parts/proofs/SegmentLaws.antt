@@ -3,7 +3,7 @@ use Rattle.std.proofs.Common.{◌≡◌, List, [], ◌∷◌, ◌++◌, Option, 
 use Rattle.std.specs.Prelude.{option_and_then}
 use Rattle.std.proofs.lemmas.List.{flat_map_more}
 use Rattle.serde_json.specs.Data.{Data}
-use Rattle.ref_parts.specs.Path.{Part, Key, Index, HasFittingIndexes, child_at, value_at}
+use Rattle.ref_paths.specs.Path.{Part, Key, Index, HasFittingIndexes, child_at, value_at}
 use Rattle.ref_parts.specs.Pointer.{slash, part_text, pointer_text}
 
 pub text_more : (path : List Part) (p : Part) → pointer_text path ++ slash ∷ part_text p ≡ pointer_text (path ++ p ∷ [])

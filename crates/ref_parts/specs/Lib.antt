@@ -3,8 +3,6 @@ pub mod Encoded
 pub mod FiniteMap
 pub mod inner
 pub mod Lent
-pub mod Path
 pub mod Pointer
 pub mod Rows
-pub mod Segment
 pub mod Table

@@ -5,7 +5,7 @@ use Rattle.std.specs.Str.{all_ascii_digits}
 use Rattle.std.specs.Str.Parse.{digits_value}
 use Rattle.serde_json.specs.Data.{Data, array, object}
 use Rattle.serde_json.specs.Find.{get_item, get_member}
-use Rattle.ref_parts.specs.Path.{Part, Key, Index}
+use Rattle.ref_paths.specs.Path.{Part, Key, Index}
 
 -- the characters that are escaped (RFC 6901, section 3)
 abbrev pub tilde : ℕ

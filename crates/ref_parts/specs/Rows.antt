@@ -2,11 +2,12 @@
 pub mod Entries
 pub mod Escapes
 pub mod Maps
-pub mod Paths
+pub mod Lists
 pub mod Tables
 use Rattle.std.specs.Prelude.{◌≡◌, true, false, [], ◌∷◌, codes, Some, None}
 use Rattle.serde_json.specs.Data.{Data, null, boolean, number, unsigned, string, array, object, no_items, item, no_members, member}
-use Rattle.ref_parts.specs.Path.{Key, Index, value_at}
+use Rattle.ref_paths.specs.Path.{Key, Index, value_at}
+use Rattle.ref_paths.specs.Rows.{example, foo}
 use Rattle.ref_parts.specs.Pointer.{tilde, slash, digit_zero, digit_one, is_escaped, escaped_byte, escape, part_text, pointer_text, first_escape, replace_escape, unescape, is_index_text, parse_index, tokens, step, value_along, evaluate}
 use Rattle.ref_parts.specs.Encoded.{is_unreserved, is_sub_delim, is_fragment_byte, encoded_byte, encoded_text, IsEncoded}
 
@@ -65,25 +66,7 @@ pub record TokenRows : Type 0 where
   pub empty_token : tokens [] ≡ [] ∷ []
   pub empty_tokens : tokens (codes "/") ≡ [] ∷ [] ∷ []
 
--- the value of the key `foo` in section 5's document
-abbrev pub foo : Data
-foo = array (item (string (codes "bar")) (item (string (codes "baz")) no_items))
-
--- section 5's document, its keys in order
-abbrev pub example : Data
-example =
-    object (member [] (number (unsigned 0))
-    (member (codes " ") (number (unsigned 7))
-    (member (codes "a/b") (number (unsigned 1))
-    (member (codes "c%d") (number (unsigned 2))
-    (member (codes "e^f") (number (unsigned 3))
-    (member (codes "foo") foo
-    (member (codes "g|h") (number (unsigned 4))
-    (member (105 ∷ 92 ∷ 106 ∷ []) (number (unsigned 5))
-    (member (107 ∷ 34 ∷ 108 ∷ []) (number (unsigned 6))
-    (member (codes "m~n") (number (unsigned 8)) no_members))))))))))
-
--- section 5's pointers into it, and steps that find no value (section 4)
+-- section 5's pointers into its document, and steps that find no value (section 4)
 pub record ExampleRows : Type 0 where
   pub whole : evaluate example [] ≡ Some example
   pub array_there : evaluate example (codes "/foo") ≡ Some foo

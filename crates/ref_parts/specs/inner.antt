@@ -1,7 +1,6 @@
 -- What no public clause cites: definitions that private functions and the invariants of types speak of. A reader who wants
 -- to know what this crate promises need not read them.
 pub mod Items
-pub mod Link
 pub mod Places
 pub mod Slots
 pub mod SortedEntries

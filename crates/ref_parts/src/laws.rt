@@ -5,13 +5,13 @@ ghost use Rattle.std.specs.List.{after_first};
 ghost use Rattle.percent_encoding.specs.Percent.{percent_decode as decoded};
 ghost use Rattle.ref_parts.specs.Encoded.{encoded_text};
 ghost use Rattle.serde_json.specs.Data.{Data};
-ghost use Rattle.ref_parts.specs.Path.{Part, value_at, HasFittingIndexes};
+ghost use Rattle.ref_paths.specs.Path.{Part, value_at, HasFittingIndexes};
 ghost use Rattle.ref_parts.specs.Pointer.{slash, escape, unescape, part_text, pointer_text, tokens, evaluate, parse_index};
 ghost use Rattle.ref_parts.specs.Rows.{PointerRows, TokenRows, ExampleRows, FragmentRows};
 ghost use Rattle.ref_parts.specs.Rows.Entries.{EntryRows};
 ghost use Rattle.ref_parts.specs.Rows.Escapes.{EscapeRows};
 ghost use Rattle.ref_parts.specs.Rows.Maps.{MapRows};
-ghost use Rattle.ref_parts.specs.Rows.Paths.{PathRows, LinkRows};
+ghost use Rattle.ref_parts.specs.Rows.Lists.{ListRows};
 ghost use Rattle.ref_parts.specs.Rows.Tables.{TableRows};
 
 /// Unescaping an escaped key gives the key back.
@@ -73,10 +73,9 @@ pub fn fragment_rows()
     ensures rows { FragmentRows }
 {}
 
-/// The worked rows of paths.
-pub fn path_rows()
-    ensures paths { PathRows }
-    ensures links { LinkRows }
+/// The worked rows of shared lists.
+pub fn list_rows()
+    ensures rows { ListRows }
 {}
 
 /// The worked rows of small maps.

@@ -1,8 +1,8 @@
 //! Paths into JSON values, pointer text (RFC 6901), and the two containers that a reference resolver shares: a list with
 //! shared tails and a small map.
 //!
-//! Read `specs/Path.antt` first, which says what a path is and which value is at it, then `specs/Pointer.antt`, which
-//! says what pointer text means. `laws` has what holds of both.
+//! Read `specs/Path.antt` of `ref_paths` first, which says what a path is and which value is at it, then `specs/Pointer.antt`
+//! here, which says what pointer text means. `laws` has what holds of both.
 #![tactic(auto)]
 
 pub mod encoded;
@@ -10,7 +10,6 @@ pub mod escape;
 pub mod evaluate;
 pub mod laws;
 pub mod list;
-pub mod path;
 mod scan;
 mod segments;
 pub mod small_map;
@@ -20,7 +19,7 @@ pub use encoded::{EncodedBuffer, EncodedString};
 pub use escape::{first_escape, unescape_segment, write_escaped_str, write_index};
 pub use evaluate::{parse_index, pointer};
 pub use list::{Iter, List};
-pub use path::{JsonPointerNode, JsonPointerSegment};
+pub use ref_paths::{JsonPointerNode, JsonPointerSegment, path};
 pub use segments::{pointer_of, value_at};
 pub use small_map::{BorrowedKey, SmallMap};
 pub use table::{SortedTable, TableEntries};

@@ -1,9 +1,9 @@
 //! Paths as lists of segments: the value at one, and the pointer that one is written as.
 ghost use Rattle.std.specs.Prelude.{◌≡◌, [], ◌∷◌, ◌++◌, map, option_map, string_bytes, IfOk, OnOk};
 ghost use Rattle.serde_json.specs.View.{view};
-ghost use Rattle.ref_parts.specs.Path.{HasFittingIndexes, child_at, value_at};
+ghost use Rattle.ref_paths.specs.Path.{HasFittingIndexes, child_at, value_at};
 ghost use Rattle.ref_parts.specs.Pointer.{slash, part_text, pointer_text};
-ghost use Rattle.ref_parts.specs.Segment.{part_of};
+ghost use Rattle.ref_paths.specs.Segment.{part_of};
 
 use crate::escape::{write_escaped_str, write_index};
 use crate::path::JsonPointerSegment;

@@ -1,16 +1,21 @@
-//! The schema files that a command line names, with what they want from maps: what is wrong with their references, as messages,
-//! what a reference leads to, and which file refers to which.
+//! The schema files that a command line names, with what they want from maps, and the subcommands that ask about them: what is
+//! wrong with their references (`lint`), where a reference leads (`resolve`), which subschemas they have (`places`), and which
+//! file refers to which (`graph`). `bundle` and `serve` themselves are in `patchsard`.
 #![tactic(auto)]
 
 mod describe;
-pub mod follow;
+mod edges;
+mod follow;
 pub mod given;
 pub mod graph;
-pub mod listing;
+pub mod lint;
+mod listing;
+pub mod places;
 pub mod pointer;
+pub mod resolve;
 mod resources;
-pub mod rules;
-pub mod shown;
+mod rules;
+mod shown;
 mod spots;
 mod suggestions;
 pub mod world;

@@ -3,9 +3,9 @@ use Rattle.std.proofs.Common.{◌≡◌, List, [], ◌∷◌, ◌++◌, ℕ, cod
 use Rattle.std.specs.List.{AllZip}
 use Rattle.serde_json.specs.Data.{string}
 use Rattle.serde_json.specs.Written.{compact_text}
-use Rattle.ref_parts.specs.Path.{Part}
+use Rattle.ref_paths.specs.Path.{Part}
 use Rattle.ref_parts.specs.Pointer.{pointer_text}
-use Rattle.ref_parts.specs.Segment.{part_of}
+use Rattle.ref_paths.specs.Segment.{part_of}
 use Rattle.ref_definitions.specs.World.{World}
 use Rattle.ref_definitions.specs.Fault.{Fault, fault_text}
 use Rattle.ref_error.specs.declared.error.Error.{Error}

@@ -3,7 +3,7 @@ use Rattle.std.proofs.Common.{◌≡◌, ℕ, ◌+◌, false, List, [], ◌∷�
 use Rattle.std.specs.List.{AllByRecursion}
 use Rattle.serde_json.specs.Data.{Data}
 use Rattle.serde_json.specs.Written.{has_float, items_have_float, members_have_float}
-use Rattle.ref_parts.specs.Path.{Part, Key, Index, child_at}
+use Rattle.ref_paths.specs.Path.{Part, Key, Index, child_at}
 use Rattle.ref_draft.specs.declared.draft.Draft.{Draft}
 use Rattle.ref_draft.specs.Children.{Child, children, with_draft}
 use Rattle.ref_draft.proofs.Hereditary.{Hereditary, in_children}

@@ -143,7 +143,8 @@ fn required_documents(
     found: Option<&Value>,
 ) -> Result<Vec<Document<'_>>, Stop<BadRequest>>
     ensures { Answers (λ v. documents_view v.items) (λ e. e) result
-        (spec.required_field bad.Documents spec.documents_of (option_map (λ v. view v.now) found.entry)) }
+        (spec.required_field bad.Documents spec.documents_of
+        (option_map (λ v. view v.now) found.entry)) }
 {
     let value = found.ok_or(Stop::Because(BadRequest::Documents))?;
     documents_of(alloc, value)?.ok_or(Stop::Because(BadRequest::Documents))

@@ -3,7 +3,7 @@ use Rattle.std.proofs.Common.{◌≡◌, ℕ, true, false, List, [], ◌∷◌, 
 use Rattle.std.specs.Option.{ok_or}
 use Rattle.serde_json.specs.Data.{Data, null, boolean, number, string, array, object}
 use Rattle.serde_json.specs.Find.{get_item, get_member, as_array}
-use Rattle.ref_parts.specs.Path.{Part, Key, Index, value_at}
+use Rattle.ref_paths.specs.Path.{Part, Key, Index, value_at}
 use Rattle.ref_parts.specs.Pointer.{unescape}
 use Rattle.ref_draft.specs.declared.draft.Draft.{Draft}
 use Rattle.ref_definitions.specs.Results.{◌>>=◌}
@@ -13,7 +13,7 @@ use Rattle.ref_definitions.specs.Fault.{Fault, PointerToNowhere, InvalidArrayInd
 use Rattle.ref_definitions.specs.Pointers.{index_of, step_into, walked_along}
 use Rattle.ref_definitions.specs.Lookup.{Found}
 use Rattle.ref_definitions.proofs.Changes.{first_answers, there_or, step_leads, part_more}
-use Rattle.ref_parts.specs.Segment.{part_of}
+use Rattle.ref_paths.specs.Segment.{part_of}
 use Rattle.ref_error.specs.declared.error.Error.{Error}
 use Rattle.ref_error.specs.Errors.{IsFaultOf, Gives}
 use Rattle.ref_resolver.specs.declared.located.Located.{Located}
@@ -23,7 +23,7 @@ use Rattle.ref_resolver.specs.inner.Leading.{EndsAt}
 use Rattle.ref_draft.specs.declared.reached.Reached.{Reached}
 use Rattle.ref_draft.specs.declared.reached.Reached.TheVariants.{Schema}
 use Rattle.ref_draft.specs.Reached.{reached_after}
-use Rattle.ref_parts.specs.declared.path.JsonPointerSegment.{JsonPointerSegment}
+use Rattle.ref_paths.specs.declared.path.JsonPointerSegment.{JsonPointerSegment}
 use Rattle.ref_resolver.specs.Locations.{IsWhere, GivesWhere}
 use Rattle.ref_resolver.proofs.Pointing.{answer_same}
 use Rattle.ref_resolver.specs.inner.Walking.{Passed, stepped_into, base_after, stepped_along, passed_along}

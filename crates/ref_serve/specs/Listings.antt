@@ -1,7 +1,7 @@
 -- The results of calls on the documents of a registry as wholes.
 use Rattle.std.specs.Prelude.{ℕ, List, [], ◌∷◌, ◌++◌, map, filter, codes, Result, Ok, Err}
 use Rattle.serde_json.specs.Data.{Data, string}
-use Rattle.ref_parts.specs.Path.{Part}
+use Rattle.ref_paths.specs.Path.{Part}
 use Rattle.ref_parts.specs.Pointer.{pointer_text}
 use Rattle.ref_uri.specs.Targets.{Refusal}
 use Rattle.ref_definitions.specs.World.{World, local_documents}

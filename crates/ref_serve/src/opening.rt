@@ -190,7 +190,8 @@ fn open_meta_schemas(alloc: Global, documents: Vec<Document>) -> Result<Open, St
 
 // The URIs of a registry's own documents.
 fn uris_of(alloc: Global, registry: &Registry<'_>) -> Result<Value, AllocError>
-    ensures { IfOk result (λ list. view list ≡ texts (map (λ d. d.uri) (local_documents registry.now))) }
+    ensures { IfOk result
+        (λ list. view list ≡ texts (map (λ d. d.uri) (local_documents registry.now))) }
 {
     let mut list = Vec::new(alloc);
     for document in registry.documents() {

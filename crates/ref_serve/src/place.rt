@@ -4,7 +4,7 @@ ghost use Rattle.std.specs.Prelude.{option_map};
 ghost use Rattle.serde_json.specs.Data.{string};
 ghost use Rattle.serde_json.specs.View.{view, members_view};
 ghost use Rattle.ref_parts.specs.Pointer.{pointer_text};
-ghost use Rattle.ref_parts.specs.Segment.{part_of};
+ghost use Rattle.ref_paths.specs.Segment.{part_of};
 ghost use Rattle.ref_error.specs.Errors.{IsFaultOf};
 ghost use Rattle.ref_resolver.specs.Locations.{GivesWhere, location_view};
 ghost use Rattle.ref_resolver.specs.Resolving.{resolver_of, world_of};

@@ -44,9 +44,11 @@ impl Chunk {
     /// Reads the next bytes in place of those there.
     pub fn fill<R: Source>(&mut self, source: &mut R) -> Result<(), Failed>
         ensures bytes { IfOk result
-            (λ _. Consumes (R.remaining source.old) (R.remaining source.new) (bytes_held self.new)) }
+            (λ _. Consumes (R.remaining source.old) (R.remaining source.new)
+            (bytes_held self.new)) }
         ensures end { IfOk result
-            (λ _. self.new.has_ended ≡ true → (bytes_held self.new ≡ []) × IsTrue (R.ended source.new)
+            (λ _. self.new.has_ended ≡ true
+            → (bytes_held self.new ≡ []) × IsTrue (R.ended source.new)
             × IsAtEnd (R.remaining source.new)) }
         ensures some { IfOk result
             (λ _. self.new.has_ended ≡ false → 1 ≤ length (bytes_held self.new)) }

@@ -38,8 +38,8 @@ fn next_answer<R: Source, S: Service>(
 ) -> Result<Option<Result<Vec<u8>, AllocError>>, RunError>
     ensures next { IfOk result
         (λ answer. GotAnswer S.may_answer service.old service.new (R.remaining reader.old)
-        (R.remaining reader.new) answer (bytes_held chunk.old) (bytes_held chunk.new) chunk.old.has_ended
-        chunk.new.has_ended) }
+        (R.remaining reader.new) answer (bytes_held chunk.old) (bytes_held chunk.new)
+        chunk.old.has_ended chunk.new.has_ended) }
     ensures stays { OnErr result (service.new ≡ service.old) }
     ensures gave { OnErr result
         (Gave (R.remaining reader.old) (R.remaining reader.new) chunk.old.has_ended) }

@@ -26,17 +26,33 @@ pub use Rattle.ref_definitions.specs.Follow
 pub use Rattle.ref_definitions.specs.Agreement
 pub use Rattle.ref_definitions.specs.Listing
 pub use Rattle.ref_vocabularies.specs.Vocabularies
+pub use Rattle.ref_vocabularies.specs.Dialects
+pub use Rattle.ref_vocabularies.specs.Views as VocabularyViews
 pub use Rattle.ref_definitions.specs.Fault
 pub use Rattle.ref_definitions.specs.Results
 pub use Rattle.ref_definitions.specs.Closure
 pub use Rattle.ref_uri.specs.Targets
 pub use Rattle.ref_uri.specs.Reference
+pub use Rattle.ref_uri.specs.Components
+pub use Rattle.ref_uri.specs.Normal
+pub use Rattle.ref_uri.specs.Resolution
 pub use Rattle.ref_uri.specs.Errors as UriErrors
-pub use Rattle.ref_parts.specs.Path
+pub use Rattle.ref_uri.specs.declared.error.UriFault
+pub use Rattle.ref_uri.specs.declared.error.UriParseFault
+pub use Rattle.ref_uri.specs.declared.error.ResolveFault
+pub use Rattle.ref_paths.specs.Path
 pub use Rattle.ref_parts.specs.Pointer
-pub use Rattle.ref_parts.specs.Segment
+pub use Rattle.ref_paths.specs.Segment
+pub use Rattle.ref_paths.specs.declared.path.JsonPointerSegment
 pub use Rattle.ref_parts.specs.Encoded
+pub use Rattle.ref_parts.specs.FiniteMap
+pub use Rattle.ref_parts.specs.Lent
+pub use Rattle.ref_parts.specs.Table
 pub use Rattle.ref_draft.specs.Schema
+pub use Rattle.ref_draft.specs.Keywords
+pub use Rattle.ref_draft.specs.Names
+pub use Rattle.ref_draft.specs.Scan
+pub use Rattle.ref_draft.specs.MetaSchemas as MetaSchemaUris
 pub use Rattle.ref_draft.specs.Children
 pub use Rattle.ref_draft.specs.Views
 pub use Rattle.ref_draft.specs.Anchors as AnchorsOfValues
@@ -45,6 +61,8 @@ pub use Rattle.ref_draft.specs.declared.spec.walk.Child
 pub use Rattle.ref_error.specs.Errors
 pub use Rattle.ref_error.specs.Retrieving
 pub use Rattle.ref_error.specs.declared.error.Error
+pub use Rattle.ref_error.specs.declared.error.Reason
+pub use Rattle.ref_error.specs.declared.error.RetrieveError
 pub use Rattle.ref_index.specs.Spots
 pub use Rattle.ref_index.specs.Document
 pub use Rattle.ref_index.specs.Contents

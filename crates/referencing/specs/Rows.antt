@@ -7,7 +7,7 @@ use Rattle.ref_uri.specs.Targets.{parse_refusal}
 use Rattle.ref_uri.specs.declared.error.UriError.TheVariants.{Parse}
 use Rattle.ref_uri.specs.declared.error.ParseError.TheVariants.{Syntax}
 use Rattle.ref_definitions.specs.Fault as fault
-use Rattle.ref_parts.specs.Path.{Part, Key, Index}
+use Rattle.ref_paths.specs.Path.{Part, Key, Index}
 use Rattle.ref_definitions.specs.World.{World}
 use Rattle.ref_definitions.specs.Places.{root}
 use Rattle.ref_definitions.specs.Follow.{Followed}

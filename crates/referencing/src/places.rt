@@ -2,8 +2,8 @@
 ghost use Rattle.std.specs.Prelude.{◌≡◌, map, option_map, option_and_then, slice_get, IfOk, IfErr};
 ghost use Rattle.std.specs.List.{Contains};
 ghost use Rattle.serde_json.specs.View.{view};
-ghost use Rattle.ref_parts.specs.Path.{value_at};
-ghost use Rattle.ref_parts.specs.Segment.{part_of};
+ghost use Rattle.ref_paths.specs.Path.{value_at};
+ghost use Rattle.ref_paths.specs.Segment.{part_of};
 ghost use Rattle.ref_definitions.specs.World.{Document as WorldDocument, local_documents};
 ghost use Rattle.ref_definitions.specs.Places.{Place as WorldPlace, places};
 ghost use Rattle.ref_definitions.specs.Listing.{local_places};

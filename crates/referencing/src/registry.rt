@@ -156,7 +156,8 @@ impl<'a> Registry<'a> {
     pub(crate) fn local_index(&self) -> &Index<'a>
         ensures value { result.now ≡ local_documents self.now }
         ensures no_fault { faults (local_documents self.now) ≡ [] }
-        ensures children { (d : WorldDocument) → Contains (local_documents self.now) d → ChildrenStand d }
+        ensures children { (d : WorldDocument) → Contains (local_documents self.now) d
+            → ChildrenStand d }
     {
         self.own.children_stand();
         &self.own

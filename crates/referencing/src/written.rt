@@ -2,7 +2,7 @@
 ghost use Rattle.std.specs.Prelude.{◌≡◌, ◌<◌, ◌∷◌, map, string_bytes, All, IsUtf8, IfOk, OnOk};
 ghost use Rattle.ref_parts.specs.Encoded.{encoded_text};
 ghost use Rattle.ref_parts.specs.Pointer.{pointer_text};
-ghost use Rattle.ref_parts.specs.Segment.{part_of};
+ghost use Rattle.ref_paths.specs.Segment.{part_of};
 ghost use Rattle.ref_uri.specs.Bytes.{hash};
 ghost use Rattle.ref_definitions.specs.Agreement.{IsPathOfTexts};
 

@@ -3,7 +3,7 @@ use Rattle.std.specs.Prelude.{ℕ, ◌==◌, List, [], ◌∷◌, ◌++◌, flat
 use Rattle.std.specs.Option.{option_to_list}
 use Rattle.serde_json.specs.Data.{Data}
 use Rattle.serde_json.specs.Find.{get}
-use Rattle.ref_parts.specs.Path.{Key, path_eq}
+use Rattle.ref_paths.specs.Path.{Key, path_eq}
 use Rattle.ref_definitions.specs.World.{Document, Layer, World}
 use Rattle.ref_bundle.specs.Needed.{sites_of_uris, references_from}
 use Rattle.ref_bundle.specs.Embedding.{base_uri, obstacle}

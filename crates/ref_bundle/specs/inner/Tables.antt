@@ -1,7 +1,7 @@
 -- The tables of the URIs that places have.
 use Rattle.std.specs.Prelude.{◌≡◌, ℕ, Bool, true, false, not, List, [], map, filter, Option, Some, None, option_map}
 use Rattle.std.specs.Option.{option_map_or, option_to_list}
-use Rattle.ref_parts.specs.Segment.{part_of}
+use Rattle.ref_paths.specs.Segment.{part_of}
 use Rattle.ref_parts.specs.Table.{Entry, last_value}
 use Rattle.ref_definitions.specs.World.{Layer}
 use Rattle.ref_bundle.specs.Needed.{Site, sites_of_uris}

@@ -2,7 +2,7 @@
 #![tactic(auto, unfolding(crate::proofs::OnLiterals::world_on_literals))]
 
 ghost use Rattle.std.specs.Prelude.{◌≡◌, [], ◌∷◌, codes, Some, Ok, Err};
-ghost use Rattle.ref_parts.specs.Path.{Key};
+ghost use Rattle.ref_paths.specs.Path.{Key};
 ghost use Rattle.ref_draft.specs.declared.draft.Draft.TheVariants.{Draft4, Draft6, Draft7, Draft201909, Draft202012};
 ghost use Rattle.ref_definitions.specs.Fault.{PointerToNowhere};
 ghost use Rattle.ref_definitions.specs.Places.{root};

@@ -3,7 +3,7 @@
 
 ghost use Rattle.std.specs.Prelude.{◌≡◌, [], ◌∷◌, map, codes, Some, None, Ok, Err, option_map};
 ghost use Rattle.std.specs.Result.{result_ok};
-ghost use Rattle.ref_parts.specs.Path.{Key};
+ghost use Rattle.ref_paths.specs.Path.{Key};
 ghost use Rattle.ref_draft.specs.declared.draft.Draft.TheVariants.{Draft7, Draft201909, Draft202012};
 ghost use Rattle.ref_draft.specs.Anchors.{Plain, Dynamic};
 ghost use Rattle.ref_definitions.specs.Fault.{InvalidAnchor, NoSuchAnchor};

@@ -9,7 +9,6 @@ pub mod faults;
 pub mod follow;
 pub mod fragments;
 pub mod lookups;
-pub mod meta_schemas;
 pub mod outcomes;
 pub mod places;
 pub mod pointers;

@@ -4,7 +4,7 @@
 ghost use Rattle.std.specs.Prelude.{◌≡◌, ℕ, List, [], ◌∷◌, codes, Some, None, Ok, Err};
 ghost use Rattle.std.specs.Option.{ok_or};
 ghost use Rattle.serde_json.specs.Data.{Data, null, string};
-ghost use Rattle.ref_parts.specs.Path.{Key, Index};
+ghost use Rattle.ref_paths.specs.Path.{Key, Index};
 ghost use Rattle.ref_draft.specs.declared.draft.Draft.TheVariants.{Draft7, Draft202012};
 ghost use Rattle.ref_uri.specs.Targets.{parse_refusal};
 ghost use Rattle.ref_definitions.specs.Results.{◌>>=◌ as in_turn};

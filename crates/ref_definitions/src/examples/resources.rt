@@ -2,7 +2,7 @@
 #![tactic(auto, unfolding(crate::proofs::OnLiterals::world_on_literals))]
 
 ghost use Rattle.std.specs.Prelude.{◌≡◌, [], ◌∷◌, codes, Some, None, option_map};
-ghost use Rattle.ref_parts.specs.Path.{Key};
+ghost use Rattle.ref_paths.specs.Path.{Key};
 ghost use Rattle.ref_draft.specs.declared.draft.Draft.TheVariants.{Draft7, Draft202012};
 ghost use Rattle.ref_definitions.specs.Places.{root};
 ghost use Rattle.ref_definitions.specs.Resources.{own_uri, resource_of, resources_in, resources, last_under, meant_place};

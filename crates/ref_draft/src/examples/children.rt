@@ -1,7 +1,7 @@
 //! The subschemas of a schema.
 ghost use Rattle.std.specs.Prelude.{◌≡◌, true, false, [], ◌∷◌, codes};
 ghost use Rattle.serde_json.specs.Data.{object, no_items, item, no_members, member};
-ghost use Rattle.ref_parts.specs.Path.{Index};
+ghost use Rattle.ref_paths.specs.Path.{Index};
 ghost use Rattle.ref_draft.specs.declared.draft.Draft.TheVariants.{Draft4, Draft6, Draft7, Draft201909, Draft202012, Unknown};
 ghost use Rattle.ref_draft.specs.declared.spec.Holding.TheVariants.{Whole, WholeObject, Elements, Members, ElementsOrWhole, ObjectMembers, Nothing};
 ghost use Rattle.ref_draft.specs.Children.{AllStand, whole_child, elements_from, each_member, elements, members, is_object, has_object, held_children, children_below, children, keys_of, InKeyOrder, with_draft, walked_children, keyword_of, is_given, subresources};

@@ -3,6 +3,7 @@
 pub mod anchors;
 pub mod children;
 pub mod keywords;
+pub mod meta_schemas;
 pub mod scan;
 pub mod schemas;
 pub mod views;

@@ -1,6 +1,6 @@
 //! Where an identifier may change the base along a pointer.
 ghost use Rattle.std.specs.Prelude.{◌≡◌, true, false, [], ◌∷◌, codes};
-ghost use Rattle.ref_parts.specs.Path.{Index};
+ghost use Rattle.ref_paths.specs.Path.{Index};
 ghost use Rattle.ref_draft.specs.declared.draft.Draft.TheVariants.{Draft4, Draft6, Draft7, Draft201909, Draft202012, Unknown};
 ghost use Rattle.ref_draft.specs.Scan.{is_value_keyword, is_child_keyword, AnIndex, AValue, AChild, parts_of, spelled_path, IsPieceOf, IsWord, SpellsWord, PassesItems, IsAccepted, AcceptsChildren};
 ghost use Rattle.ref_draft.specs.ScanSteps.{scan, scan_past};

@@ -9,9 +9,9 @@ ghost use Rattle.serde_json.specs.Data.{Data, null, boolean, object, no_members,
 ghost use Rattle.serde_json.specs.View.{view};
 ghost use Rattle.serde_json.specs.declared.value.Value.{Value as Tree};
 ghost use Rattle.serde_json.specs.declared.value.Value.TheVariants.{Null, Bool};
-ghost use Rattle.ref_parts.specs.Path.{Part, Key, Index};
-ghost use Rattle.ref_parts.specs.Segment.{part_of};
-ghost use Rattle.ref_parts.specs.declared.path.JsonPointerSegment.TheVariants as pointer;
+ghost use Rattle.ref_paths.specs.Path.{Part, Key, Index};
+ghost use Rattle.ref_paths.specs.Segment.{part_of};
+ghost use Rattle.ref_paths.specs.declared.path.JsonPointerSegment.TheVariants as pointer;
 ghost use Rattle.ref_draft.specs.declared.draft.Draft.TheVariants.{Draft4, Draft7, Draft201909, Draft202012};
 ghost use Rattle.ref_draft.specs.declared.resource.ResourceRef.{ResourceRef as Borrowed};
 ghost use Rattle.ref_draft.specs.declared.anchor.Anchor.{Anchor as AnyAnchor};

@@ -1,6 +1,6 @@
 //! The walk over the children of a schema.
 ghost use Rattle.std.specs.Prelude.{◌≡◌, ◌++◌, ◌∷◌, [], map, filter, IfOk, OnOk, option_map};
-ghost use Rattle.ref_parts.specs.Path.{Key};
+ghost use Rattle.ref_paths.specs.Path.{Key};
 ghost use Rattle.serde_json.specs.View.{view, items_view, members_view};
 ghost use Rattle.ref_draft.specs.Keywords.{holding_of};
 ghost use Rattle.ref_draft.specs.Children.{AllStand, InKeyOrder, walked_children, with_draft, held_children, elements_from, each_member, has_object};
@@ -10,7 +10,7 @@ ghost use Rattle.ref_draft.specs.Views.{segment_parts, walked_child};
 
 use crate::draft::Draft;
 use crate::spec::Holding;
-use ref_parts::path::JsonPointerSegment;
+use ref_paths::path::JsonPointerSegment;
 use serde_json::{Map, Value};
 use std::alloc::{AllocError, Global};
 

@@ -1,6 +1,6 @@
 -- What texts are settled to mean.
 use Rattle.std.specs.Prelude.{◌≡◌, ℕ, Bool, true, false, List, map, Option, Some, None, Result, Ok, Err}
-use Rattle.ref_parts.specs.Segment.{part_of}
+use Rattle.ref_paths.specs.Segment.{part_of}
 use Rattle.ref_error.specs.declared.error.Error.{Error}
 use Rattle.ref_error.specs.declared.error.Error.TheVariants as error
 use Rattle.ref_error.specs.Errors.{SaysFault}

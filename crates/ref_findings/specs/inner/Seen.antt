@@ -3,7 +3,7 @@ use Rattle.std.specs.Prelude.{◌≡◌, ℕ, Bool, List, [], ◌∷◌, ◌++�
 use Rattle.std.specs.List.{AllByRecursion}
 use Rattle.std.specs.Option.{option_to_list}
 use Rattle.ref_parts.specs.Table.{Entry}
-use Rattle.ref_parts.specs.Path.{Part, Key}
+use Rattle.ref_paths.specs.Path.{Part, Key}
 use Rattle.ref_definitions.specs.World.{Document, Layer}
 use Rattle.ref_definitions.specs.Resources.{own_uri}
 use Rattle.serde_json.specs.View.{view}

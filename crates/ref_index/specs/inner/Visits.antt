@@ -4,7 +4,7 @@ use Rattle.serde_json.specs.Data.{Data}
 use Rattle.std.specs.List.{AllByRecursion, Contains}
 use Rattle.std.specs.declared.alloc.Global.{Global}
 use Rattle.std.specs.declared.rc.Rc.{Rc}
-use Rattle.ref_parts.specs.Path.{Part, value_at}
+use Rattle.ref_paths.specs.Path.{Part, value_at}
 use Rattle.ref_uri.specs.Reference.{with_fragment}
 use Rattle.ref_uri.specs.Targets.{Refusal, uri_of}
 use Rattle.ref_definitions.specs.Results.{◌>>=◌}

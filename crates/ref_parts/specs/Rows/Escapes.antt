@@ -1,6 +1,6 @@
 -- Worked rows of escapes in keys, and of a whole pointer (RFC 6901, sections 3, 4 and 6).
 use Rattle.std.specs.Prelude.{◌≡◌, [], ◌∷◌, codes, Some, None}
-use Rattle.ref_parts.specs.Path.{Key}
+use Rattle.ref_paths.specs.Path.{Key}
 use Rattle.ref_parts.specs.Pointer.{tilde, escape, unescape, first_escape, pointer_text}
 use Rattle.ref_parts.specs.Encoded.{encoded_text}
 

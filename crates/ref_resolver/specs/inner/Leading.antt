@@ -6,9 +6,9 @@ use Rattle.ref_definitions.specs.Results.{◌>>=◌}
 use Rattle.ref_definitions.specs.Fault.{Fault, as_invalid_uri}
 use Rattle.ref_definitions.specs.Pointers.{pointed_value}
 use Rattle.ref_definitions.specs.Lookup as world
-use Rattle.ref_parts.specs.Path.{value_at}
-use Rattle.ref_parts.specs.Segment.{part_of}
-use Rattle.ref_parts.specs.declared.path.JsonPointerSegment.{JsonPointerSegment}
+use Rattle.ref_paths.specs.Path.{value_at}
+use Rattle.ref_paths.specs.Segment.{part_of}
+use Rattle.ref_paths.specs.declared.path.JsonPointerSegment.{JsonPointerSegment}
 
 -- where a pointer leads in a resource of a draft that a resolver is at
 abbrev pub at_pointer : world.Resolver → Draft → List ℕ → Data → List ℕ → Result world.Found Fault

@@ -1,6 +1,6 @@
 use Rattle.std.proofs.Common.{◌≡◌, [], ℕ, cond, IfOk, List, option_map, map, ap, sym, subst}
-use Rattle.ref_parts.specs.Path.{path_eq}
-use Rattle.ref_parts.specs.Segment.{part_of}
+use Rattle.ref_paths.specs.Path.{path_eq}
+use Rattle.ref_paths.specs.Segment.{part_of}
 use Rattle.ref_definitions.specs.World.{Document}
 use Rattle.ref_bundle.specs.Bundle.{Problem, replaced_in, added_in, embedded_problems}
 use Rattle.ref_bundle.specs.Saying.{problem_said}

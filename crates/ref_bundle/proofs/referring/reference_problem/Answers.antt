@@ -1,5 +1,5 @@
 use Rattle.std.proofs.Common.{◌≡◌, ◌==◌, ℕ, List, Option, true, false, refl, None, Some, IfOk, slice_get, option_map, map, ap, sym, subst, ◌∙◌, rules}
-use Rattle.ref_parts.specs.Segment.{part_of}
+use Rattle.ref_paths.specs.Segment.{part_of}
 use Rattle.ref_definitions.specs.World.{Layer}
 use Rattle.ref_bundle.proofs.Lists.{got}
 use Rattle.ref_bundle.specs.Needed.{Site, site_under}

@@ -1,6 +1,6 @@
 use Rattle.std.proofs.Common.{◌≡◌, ◌==◌, [], true, false, length, IfOk, cond, option_map, map, ap, sym, subst, ◌∙◌, rules}
-use Rattle.ref_parts.specs.Path.{path_eq}
-use Rattle.ref_parts.specs.Segment.{part_of}
+use Rattle.ref_paths.specs.Path.{path_eq}
+use Rattle.ref_paths.specs.Segment.{part_of}
 use Rattle.ref_bundle.specs.Bundle.{added_definition}
 use Rattle.ref_bundle.specs.Saying.{problem_said}
 use Rattle.ref_bundle.specs.inner.Seen.{seen_reference, layer_in, numbered_part}

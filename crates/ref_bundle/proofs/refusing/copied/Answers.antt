@@ -1,6 +1,6 @@
 use Rattle.std.proofs.Common.{◌≡◌, rules}
 use Rattle.std.specs.List.{AllZip}
-use Rattle.ref_parts.specs.Segment.{part_of}
+use Rattle.ref_paths.specs.Segment.{part_of}
 use Rattle.ref_bundle.proofs.Bearing.{copied_parts}
 use Rattle.ref_bundle.proofs.refusing.copied.Goals as goal
 

@@ -1,6 +1,6 @@
 use Rattle.std.proofs.Common.{◌≡◌, ◌++◌, [], ◌∷◌, Option, Some, map, flat_map, option_map, ap, sym, ◌∙◌, rules}
 use Rattle.std.specs.Option.{option_map_or, option_to_list}
-use Rattle.ref_parts.specs.Segment.{part_of}
+use Rattle.ref_paths.specs.Segment.{part_of}
 use Rattle.ref_bundle.specs.Needed.{Site, sites_of_uris}
 use Rattle.ref_bundle.specs.Bundle.{Problem, SharedUri, shared_uri, other_bearer}
 use Rattle.ref_bundle.specs.inner.Tables.{site_of}

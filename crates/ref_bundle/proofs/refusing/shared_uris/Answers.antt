@@ -1,6 +1,6 @@
 use Rattle.std.proofs.Common.{◌≡◌, [], None, Some, cond, IfOk, flat_map, option_map, sym, subst}
 use Rattle.std.specs.Option.{option_to_list}
-use Rattle.ref_parts.specs.Path.{path_eq}
+use Rattle.ref_paths.specs.Path.{path_eq}
 use Rattle.ref_bundle.specs.Needed.{sites_of_uris}
 use Rattle.ref_bundle.specs.Bundle.{shared_uri}
 use Rattle.ref_bundle.specs.Saying.{problem_said}

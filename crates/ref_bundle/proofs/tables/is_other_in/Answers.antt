@@ -1,6 +1,6 @@
 use Rattle.std.proofs.Common.{◌≡◌, [], false, not, None, Some, option_map, map, ap, sym, ◌∙◌, rules}
 use Rattle.std.specs.Option.{option_map_or}
-use Rattle.ref_parts.specs.Segment.{part_of}
+use Rattle.ref_paths.specs.Segment.{part_of}
 use Rattle.ref_parts.specs.Table.{last_value}
 use Rattle.ref_bundle.specs.Needed.{Site}
 use Rattle.ref_bundle.specs.Bundle.{is_site}

@@ -1,7 +1,7 @@
 use Rattle.std.proofs.Common.{◌≡◌, map, drop, length}
 use Rattle.std.specs.Cmp.Lexicographic.{pointwise}
-use Rattle.ref_parts.specs.Path.{part_eq, path_eq}
-use Rattle.ref_parts.specs.Segment.{part_of}
+use Rattle.ref_paths.specs.Path.{part_eq, path_eq}
+use Rattle.ref_paths.specs.Segment.{part_of}
 use Rattle.ref_bundle.proofs.tables.is_path.Given as goal
 
 abbrev pub invariant-loop-index : goal.invariant-loop-index

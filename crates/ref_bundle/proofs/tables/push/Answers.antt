@@ -1,6 +1,6 @@
 use Rattle.std.proofs.Common.{◌≡◌, ◌++◌, ◌∷◌, [], map, ap, ◌∙◌, rules}
 use Rattle.std.specs.List.{AllZip}
-use Rattle.ref_parts.specs.Segment.{part_of}
+use Rattle.ref_paths.specs.Segment.{part_of}
 use Rattle.ref_bundle.specs.inner.Tables.{table_of}
 use Rattle.ref_bundle.proofs.Bearing.{one_entered, copied_parts}
 use Rattle.ref_bundle.proofs.tables.push.Goals as goal

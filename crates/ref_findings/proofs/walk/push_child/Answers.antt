@@ -1,6 +1,6 @@
 use Rattle.std.proofs.Common.{◌∙◌, [], ◌∷◌, ◌++◌, ap, append_assoc, refl}
 use Rattle.serde_json.specs.View.{view}
-use Rattle.ref_parts.specs.Path.{Key}
+use Rattle.ref_paths.specs.Path.{Key}
 use Rattle.ref_draft.specs.Views.{segment_parts, walked_child}
 use Rattle.ref_index.proofs.Listing.{on_ok}
 use Rattle.ref_findings.proofs.Placing.{place_is}

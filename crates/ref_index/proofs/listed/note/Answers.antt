@@ -1,6 +1,6 @@
 use Rattle.std.proofs.Common.{◌≡◌, ◌∷◌, [], Some, refl, subst, sym, map, flat_map, take, rules, arith}
 use Rattle.std.proofs.lemmas.List.{take_all}
-use Rattle.ref_parts.specs.Path.{value_at}
+use Rattle.ref_paths.specs.Path.{value_at}
 use Rattle.ref_definitions.specs.Places.{Place, places, root}
 use Rattle.ref_index.specs.Document.{document_of}
 use Rattle.ref_index.specs.inner.Visits.{AddsPlaces}

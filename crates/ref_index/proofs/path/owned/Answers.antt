@@ -1,6 +1,6 @@
 use Rattle.std.proofs.Common.{◌≡◌, ◌∙◌, sym, ap, map, reverse, [], ◌++◌, None, rules}
 use Rattle.std.specs.Option.{option_map_or}
-use Rattle.ref_parts.specs.Segment.{part_of}
+use Rattle.ref_paths.specs.Segment.{part_of}
 use Rattle.ref_index.proofs.Paths.{map-reverse}
 use Rattle.ref_index.proofs.path.owned.Goals as goal
 

@@ -1,6 +1,6 @@
 use Rattle.std.proofs.Common.{◌≡◌, ◌∙◌, sym, ap, Some, rules, ◌∷◌, [], ◌++◌}
-use Rattle.ref_parts.specs.Path.{parent_path}
-use Rattle.ref_parts.specs.Segment.{part_of}
+use Rattle.ref_paths.specs.Path.{parent_path}
+use Rattle.ref_paths.specs.Segment.{part_of}
 use Rattle.ref_index.proofs.Paths.{last_stands}
 use Rattle.ref_index.proofs.path.push_last.Goals as goal
 

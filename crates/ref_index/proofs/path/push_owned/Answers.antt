@@ -1,5 +1,5 @@
 use Rattle.std.proofs.Common.{◌≡◌, ◌∙◌, sym, ap, Some, rules, ◌∷◌, [], ◌++◌}
-use Rattle.ref_parts.specs.Path.{parent_path}
+use Rattle.ref_paths.specs.Path.{parent_path}
 use Rattle.ref_index.proofs.Paths.{last_stands}
 use Rattle.ref_index.proofs.path.push_owned.Goals as goal
 

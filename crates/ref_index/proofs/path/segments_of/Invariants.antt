@@ -1,6 +1,6 @@
 use Rattle.std.proofs.Common.{◌≡◌, suc, ◌++◌, [], length, map, reverse}
 use Rattle.std.specs.Option.{option_map_or}
-use Rattle.ref_parts.specs.Segment.{part_of}
+use Rattle.ref_paths.specs.Segment.{part_of}
 use Rattle.ref_index.proofs.path.segments_of.Given as goal
 
 abbrev pub invariant-loop-rest : goal.invariant-loop-rest

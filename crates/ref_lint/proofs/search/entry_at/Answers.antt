@@ -1,7 +1,7 @@
 use Rattle.std.proofs.Common.{◌≡◌, [], map, codes, Some, refl, rules}
 use Rattle.serde_json.specs.View.{view}
 use Rattle.ref_draft.specs.Schema.{text_under}
-use Rattle.ref_parts.specs.Segment.{part_of}
+use Rattle.ref_paths.specs.Segment.{part_of}
 use Rattle.ref_definitions.specs.Lookup.{lookup}
 use Rattle.ref_lint.specs.inner.Listed.{IsWhy}
 use Rattle.ref_lint.proofs.Saying.{leads_nowhere}

@@ -1,8 +1,8 @@
 use Rattle.std.proofs.Common.{◌≡◌, ◌∙◌, ◌∷◌, ◌++◌, [], ◌+◌, sym, ap, subst, map, take}
 use Rattle.std.proofs.lemmas.List.{take_more, map-append}
-use Rattle.ref_parts.specs.Path.{HasFittingIndexes}
+use Rattle.ref_paths.specs.Path.{HasFittingIndexes}
 use Rattle.ref_parts.specs.Pointer.{slash, part_text, pointer_text}
-use Rattle.ref_parts.specs.Segment.{part_of}
+use Rattle.ref_paths.specs.Segment.{part_of}
 use Rattle.ref_parts.proofs.SegmentLaws.{text_more, fits_more}
 use Rattle.ref_parts.proofs.segments.pointer_of.Goals as goal
 

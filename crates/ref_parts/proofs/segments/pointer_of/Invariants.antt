@@ -1,7 +1,7 @@
 use Rattle.std.proofs.Common.{◌≡◌, map, take, string_bytes}
-use Rattle.ref_parts.specs.Path.{HasFittingIndexes}
+use Rattle.ref_paths.specs.Path.{HasFittingIndexes}
 use Rattle.ref_parts.specs.Pointer.{pointer_text}
-use Rattle.ref_parts.specs.Segment.{part_of}
+use Rattle.ref_paths.specs.Segment.{part_of}
 use Rattle.ref_parts.proofs.segments.pointer_of.Given as goal
 
 abbrev pub invariant-loop-segment : goal.invariant-loop-segment

@@ -1,7 +1,7 @@
 use Rattle.std.proofs.Common.{◌≡◌, ◌++◌, ◌∷◌, string_bytes, OnOk, arith, subst}
 use Rattle.std.proofs.lemmas.Grind.{common_steps}
 use Rattle.ref_parts.specs.Pointer.{slash, escape, part_text}
-use Rattle.ref_parts.specs.Segment.{part_of}
+use Rattle.ref_paths.specs.Segment.{part_of}
 use Rattle.ref_parts.proofs.segments.push_segment.Goals as goal
 
 pub returns-in-Key-clause-text : goal.returns-in-Key-clause-text

@@ -1,8 +1,8 @@
 use Rattle.std.proofs.Common.{◌≡◌, ◌∙◌, refl, ◌∷◌, ◌+◌, ap, sym, map, drop, Some, None, option_map, rules}
 use Rattle.std.proofs.lemmas.List.{at_drop_more, at_drop_all}
 use Rattle.serde_json.specs.View.{view}
-use Rattle.ref_parts.specs.Path.{value_at}
-use Rattle.ref_parts.specs.Segment.{part_of}
+use Rattle.ref_paths.specs.Path.{value_at}
+use Rattle.ref_paths.specs.Segment.{part_of}
 use Rattle.ref_parts.proofs.SegmentLaws.{stepped}
 use Rattle.ref_parts.proofs.segments.value_at.Goals as goal
 

@@ -1,5 +1,5 @@
 use Rattle.std.proofs.Common.{◌≡◌, map, take}
-use Rattle.ref_parts.specs.Segment.{part_of}
+use Rattle.ref_paths.specs.Segment.{part_of}
 use Rattle.ref_resolver.proofs.location.borrowed.Given as goal
 
 abbrev pub invariant-loop-part : goal.invariant-loop-part

@@ -4,7 +4,7 @@ use Rattle.percent_encoding.specs.Iter.{decoded_bytes}
 use Rattle.serde_json.specs.View.{view}
 use Rattle.ref_definitions.specs.Fault.{InvalidPercentEncoding}
 use Rattle.ref_parts.specs.Pointer.{tokens}
-use Rattle.ref_parts.specs.Segment.{part_of}
+use Rattle.ref_paths.specs.Segment.{part_of}
 use Rattle.ref_draft.specs.declared.reached.Reached.TheVariants.{Schema}
 use Rattle.ref_definitions.specs.Pointers.{pointed_value, walked_along}
 use Rattle.ref_error.specs.Errors.{IsFaultOf}

@@ -1,9 +1,9 @@
 use Rattle.std.proofs.Common.{◌≡◌, ◌++◌, map, Some, Ok, sym, ap, subst, ◌∙◌, rules}
 use Rattle.percent_encoding.specs.Percent.{percent_decode}
 use Rattle.serde_json.specs.View.{view}
-use Rattle.ref_parts.specs.Path.{value_at}
+use Rattle.ref_paths.specs.Path.{value_at}
 use Rattle.ref_parts.specs.Pointer.{tokens}
-use Rattle.ref_parts.specs.Segment.{part_of}
+use Rattle.ref_paths.specs.Segment.{part_of}
 use Rattle.ref_definitions.specs.Pointers.{pointed_value}
 use Rattle.ref_definitions.specs.Lookup.{pointer_found}
 use Rattle.ref_error.specs.Errors.{IsFaultOf}

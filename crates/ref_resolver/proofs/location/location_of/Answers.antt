@@ -1,5 +1,5 @@
 use Rattle.std.proofs.Common.{◌≡◌, map, ap, ◌∙◌, rules}
-use Rattle.ref_parts.specs.Segment.{part_of}
+use Rattle.ref_paths.specs.Segment.{part_of}
 use Rattle.ref_resolver.proofs.Standing.{place_there}
 use Rattle.ref_resolver.proofs.location.location_of.Goals as goal
 

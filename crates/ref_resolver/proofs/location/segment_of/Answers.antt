@@ -1,7 +1,7 @@
 use Rattle.std.proofs.Common.{◌≡◌, true, false, is_some, IfOk, sym, subst, ◌∙◌, rules}
 use Rattle.serde_json.specs.View.{view}
 use Rattle.serde_json.specs.Find.{as_array}
-use Rattle.ref_parts.specs.Segment.{part_of}
+use Rattle.ref_paths.specs.Segment.{part_of}
 use Rattle.ref_resolver.proofs.Standing.{index_part, no_index, key_part}
 use Rattle.ref_resolver.proofs.location.segment_of.Goals as goal
 

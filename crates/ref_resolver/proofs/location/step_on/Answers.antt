@@ -1,7 +1,7 @@
 use Rattle.std.proofs.Common.{◌≡◌, ◌∷◌, ◌++◌, map, Some}
 use Rattle.serde_json.specs.View.{view}
-use Rattle.ref_parts.specs.Path.{value_at}
-use Rattle.ref_parts.specs.Segment.{part_of}
+use Rattle.ref_paths.specs.Path.{value_at}
+use Rattle.ref_paths.specs.Segment.{part_of}
 use Rattle.ref_resolver.specs.inner.Walking.{along_of, stepped_along}
 use Rattle.ref_resolver.proofs.Standing.{on_given, one_step_on}
 use Rattle.ref_resolver.specs.Locations.{parts_along}

@@ -1,7 +1,7 @@
 use Rattle.std.proofs.Common.{◌≡◌, ◌∷◌, ◌++◌, [], map, sym, ap, subst, ◌∙◌, append-nil, rules}
 use Rattle.serde_json.specs.View.{view}
 use Rattle.ref_parts.specs.Pointer.{tokens}
-use Rattle.ref_parts.specs.Segment.{part_of}
+use Rattle.ref_paths.specs.Segment.{part_of}
 use Rattle.ref_error.specs.Errors.{IsFaultOf}
 use Rattle.ref_resolver.specs.inner.Walking.{along_of, stepped_along}
 use Rattle.ref_resolver.proofs.Standing.{fault_given, on_both, on_ok}

@@ -3,9 +3,9 @@ use denote.Text.{Utf8}
 use denote.Shadow.{shadow}
 use Rattle.serde_json.specs.Data.{Data}
 use Rattle.serde_json.specs.View.{view}
-use Rattle.ref_parts.specs.Path.{value_at}
+use Rattle.ref_paths.specs.Path.{value_at}
 use Rattle.ref_parts.specs.Pointer.{tokens}
-use Rattle.ref_parts.specs.Segment.{part_of}
+use Rattle.ref_paths.specs.Segment.{part_of}
 use Rattle.ref_draft.specs.declared.reached.Reached.TheVariants.{Schema}
 use Rattle.ref_resolver.specs.inner.Walking.{along_of, passed_along}
 use Rattle.ref_resolver.specs.Locations.{parts_along}

@@ -1,5 +1,5 @@
 use Rattle.std.proofs.Common.{◌≡◌, ℕ, List, Option, None, Some, refl, ap, arith}
-use Rattle.ref_parts.specs.Path.{Part}
+use Rattle.ref_paths.specs.Path.{Part}
 use Rattle.ref_definitions.proofs.OnLiterals.{world_on_literals}
 use Rattle.ref_definitions.specs.Lookup.{lookup}
 use Rattle.ref_index.specs.Spots.{Spot}

@@ -1,6 +1,6 @@
 use Rattle.std.proofs.Common.{map}
 use Rattle.std.proofs.Output.{has_written_of_eq}
-use Rattle.ref_parts.specs.Segment.{part_of}
+use Rattle.ref_paths.specs.Segment.{part_of}
 use Rattle.ref_bundle.proofs.Texts.{shared, replaced, shadowed, added}
 use Rattle.ref_bundle.proofs.error.ProblemDisplay.fmt.Goals as goal
 

@@ -1,5 +1,5 @@
 use Rattle.std.proofs.Common.{◌≡◌, [], true, false, None, Some, option_map, map, filter, ap, sym, ◌∙◌, rules}
-use Rattle.ref_parts.specs.Segment.{part_of}
+use Rattle.ref_paths.specs.Segment.{part_of}
 use Rattle.ref_parts.specs.Table.{last_value}
 use Rattle.ref_bundle.specs.Needed.{Site, sites_of_uris}
 use Rattle.ref_bundle.specs.Bundle.{is_site}

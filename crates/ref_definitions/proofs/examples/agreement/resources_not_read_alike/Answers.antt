@@ -1,6 +1,6 @@
 use Rattle.std.proofs.Common.{ℕ, Bool, List, [], ◌∷◌, codes, Result, Ok, Err, is_some, ⊎_elim, refl, sym, ap, false, true≢false, bytes_eq, arith}
 use Rattle.std.specs.List.{Contains}
-use Rattle.ref_parts.specs.Path.{Key, path_eq}
+use Rattle.ref_paths.specs.Path.{Key, path_eq}
 use Rattle.ref_draft.specs.declared.draft.Draft.TheVariants.{Draft7}
 use Rattle.ref_draft.specs.Keywords.{is_before_2020}
 use Rattle.ref_draft.specs.Children.{is_object}

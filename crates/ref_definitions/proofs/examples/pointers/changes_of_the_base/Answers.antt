@@ -1,5 +1,5 @@
 use Rattle.std.proofs.Common.{◌≡◌, List, [], ◌∷◌, codes, None, Some, refl}
-use Rattle.ref_parts.specs.Path.{Part, Key, Index, value_at}
+use Rattle.ref_paths.specs.Path.{Part, Key, Index, value_at}
 use Rattle.ref_draft.specs.declared.draft.Draft.TheVariants.{Draft7, Draft202012}
 use Rattle.ref_draft.proofs.Scanning.{accepted, refused}
 use Rattle.ref_definitions.specs.Rows.{yes, empty, text, one, two}

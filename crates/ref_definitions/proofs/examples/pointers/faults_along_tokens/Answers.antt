@@ -1,6 +1,6 @@
 use Rattle.std.proofs.Common.{◌≡◌, [], ◌∷◌, codes, Ok, Err, Result, refl}
 use Rattle.serde_json.specs.Data.{Data}
-use Rattle.ref_parts.specs.Path.{Key}
+use Rattle.ref_paths.specs.Path.{Key}
 use Rattle.ref_draft.specs.declared.draft.Draft.TheVariants.{Draft202012}
 use Rattle.ref_uri.specs.Targets.{parse_refusal}
 use Rattle.ref_definitions.specs.Fault.{Fault, PointerToNowhere, InvalidArrayIndex, InvalidUri}

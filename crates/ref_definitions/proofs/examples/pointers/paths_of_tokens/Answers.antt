@@ -1,7 +1,7 @@
 use Rattle.std.proofs.Common.{codes, refl, ap, true≢false, bytes_eq}
 use Rattle.ref_definitions.proofs.OnLiterals.{world_on_literals}
 use Rattle.serde_json.specs.Data.{Data}
-use Rattle.ref_parts.specs.Path.{Key}
+use Rattle.ref_paths.specs.Path.{Key}
 use Rattle.ref_definitions.specs.Reading.{IsReadAsPart}
 use Rattle.ref_definitions.proofs.examples.pointers.paths_of_tokens.Goals as goal
 

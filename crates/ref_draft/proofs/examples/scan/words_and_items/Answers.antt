@@ -1,6 +1,6 @@
 use Rattle.std.proofs.Common.{refl}
 use Rattle.std.proofs.Common.{[], ◌∷◌, codes, inl, sym, true≢false}
-use Rattle.ref_parts.specs.Path.{Index}
+use Rattle.ref_paths.specs.Path.{Index}
 use Rattle.ref_draft.specs.declared.draft.Draft.TheVariants.{Draft7, Draft202012}
 use Rattle.ref_draft.specs.Scan.{AnIndex, AValue, AChild}
 use Rattle.ref_draft.specs.Rows.{empty, yes, key}

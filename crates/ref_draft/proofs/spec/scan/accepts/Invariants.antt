@@ -1,7 +1,7 @@
 use Rattle.std.proofs.Common.{◌≡◌, map}
 use Rattle.std.specs.Slice.Iter.{iter_rest}
 use Rattle.ref_draft.specs.ScanSteps.{scan}
-use Rattle.ref_parts.specs.Segment.{part_of}
+use Rattle.ref_paths.specs.Segment.{part_of}
 use Rattle.ref_draft.proofs.spec.scan.accepts.Given as goal
 
 abbrev pub invariant-loop-segment : goal.invariant-loop-segment

@@ -1,5 +1,5 @@
 use Rattle.std.proofs.Common.{map, rules}
-use Rattle.ref_parts.specs.Segment.{part_of}
+use Rattle.ref_paths.specs.Segment.{part_of}
 use Rattle.ref_definitions.specs.Lookup.{located_value}
 use Rattle.ref_error.specs.Errors.{Gives}
 use Rattle.ref_resolver.specs.Resolving.{found_of}

@@ -1,5 +1,0 @@
-use Rattle.ref_bundle.proofs.LawEmbeds.{embeds_needed}
-use Rattle.ref_bundle.proofs.laws.bundles_embed_what_is_needed.Goals as goal
-
-pub returns : goal.returns
-returns c = record { law = embeds_needed }

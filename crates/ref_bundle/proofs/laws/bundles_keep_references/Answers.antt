@@ -1,5 +1,0 @@
-use Rattle.ref_bundle.proofs.LawLookups.{keeps_references}
-use Rattle.ref_bundle.proofs.laws.bundles_keep_references.Goals as goal
-
-pub returns : goal.returns
-returns c = record { law = keeps_references }

@@ -1,5 +1,0 @@
-use Rattle.ref_bundle.proofs.LawFacts.{bundle_places}
-use Rattle.ref_bundle.proofs.laws.places_of_a_bundle.Goals as goal
-
-pub returns : goal.returns
-returns c = record { law = bundle_places }

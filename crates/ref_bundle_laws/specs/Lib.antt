@@ -1,0 +1,4 @@
+pub mod Rows
+pub mod Merges
+pub mod Kept
+pub mod KeptRows

@@ -1,6 +1,0 @@
-use Rattle.std.proofs.Common.{length}
-use Rattle.ref_parts.specs.inner.Link.{path_of}
-use Rattle.ref_parts.proofs.path.JsonPointerNode.drop.Given as goal
-
-abbrev pub decreases-loop-rest : goal.decreases-loop-rest
-decreases-loop-rest l = length (path_of l.rest)

@@ -1,0 +1,5 @@
+pub mod Alike
+pub mod inner
+pub mod Path
+pub mod Rows
+pub mod Segment

@@ -1,0 +1,3 @@
+-- What no public clause cites: definitions that private functions and the invariants of types speak of. A reader who wants
+-- to know what this crate promises need not read them.
+pub mod Link

@@ -1,0 +1,203 @@
+//! `patchsard lint`.
+use crate::describe::Describer;
+use crate::given::{Given, read_given};
+use crate::rules::RULES;
+use clap::ArgMatches;
+use ref_messages::{Level, Message, push_annotation, push_line, push_sarif, push_text};
+use ref_reading::{Console, Stop};
+use std::alloc::{AllocError, Global};
+use std::io;
+use std::time::Instant;
+
+// How findings are printed.
+#[derive(Clone, Copy, Drop, PartialEq, Eq)]
+enum Form {
+    Text,
+    Lines,
+    Sarif,
+    GitHub,
+}
+
+// How many references and findings there are.
+#[derive(Clone, Copy, Drop)]
+struct Count {
+    references: usize,
+    errors: usize,
+    notes: usize,
+}
+
+/// Lists what is wrong with the references of files. The status is 0 where nothing is, 1 where something is, and 2 where a path
+/// couldn't be read.
+pub fn lint(
+    rt: &HostRuntime,
+    console: &mut Console<'_>,
+    given: &ArgMatches<'_>,
+) -> Result<u8, Stop> {
+    let begin = Instant::now(rt);
+    let read = read_given(rt, given)?;
+    let is_verbose = given.get_flag("verbose");
+    let listed = list_all(rt.alloc(), console, form_of(given), is_verbose, &read);
+    let has_failed = read.has_failed;
+    let files = read.keep();
+    let Some(count) = count_of(listed)? else {
+        console.out.clear();
+        return Ok(1);
+    };
+    summary(rt, files, count)?;
+    print_time(rt, begin);
+    Ok(status_of(count, has_failed))
+}
+
+// The count, or nothing where standard output is closed.
+fn count_of(count: Result<Count, Stop>) -> Result<Option<Count>, Stop> {
+    match count {
+        Ok(count) => Ok(Some(count)),
+        Err(Stop::Closed) => Ok(None),
+        Err(stop) => Err(stop),
+    }
+}
+
+fn status_of(count: Count, has_failed: bool) -> u8 {
+    if has_failed {
+        return 2;
+    }
+    if count.errors == 0 { 0 } else { 1 }
+}
+
+// Ends the last line on standard error with the time since it began.
+fn print_time(rt: &HostRuntime, begin: io::Result<Instant>) {
+    let Ok(begin) = begin else {
+        return;
+    };
+    if let Ok(time) = begin.elapsed(rt) {
+        let _ = eprintln!(rt; " in {}.{:02} s", time.as_secs(), time.subsec_millis() / 10);
+    }
+}
+
+// Prints the findings of files.
+fn list_all(
+    alloc: Global,
+    console: &mut Console<'_>,
+    form: Form,
+    is_verbose: bool,
+    given: &Given,
+) -> Result<Count, Stop> {
+    let report = given.report(alloc)?;
+    let mut describer = Describer::new(alloc, given, report.findings.as_slice(), is_verbose)?;
+    let mut count = Count {
+        references: report.references,
+        errors: 0,
+        notes: 0,
+    };
+    let printed = print(alloc, console, form, &mut describer, &mut count);
+    drop(describer);
+    printed?;
+    Ok(count)
+}
+
+fn form_of(given: &ArgMatches<'_>) -> Form {
+    match given.get_str("format") {
+        Some("json") => Form::Lines,
+        Some("sarif") => Form::Sarif,
+        Some("github") => Form::GitHub,
+        _ => Form::Text,
+    }
+}
+
+// Prints the messages on findings, and counts them.
+fn print(
+    alloc: Global,
+    console: &mut Console<'_>,
+    form: Form,
+    describer: &mut Describer<'_, '_>,
+    count: &mut Count,
+) -> Result<(), Stop> {
+    if form == Form::Sarif {
+        print_log(alloc, console, describer, count)?;
+    } else {
+        print_each(alloc, console, form, describer, count)?;
+    }
+    console.finish()
+}
+
+fn print_each(
+    alloc: Global,
+    console: &mut Console<'_>,
+    form: Form,
+    describer: &mut Describer<'_, '_>,
+    count: &mut Count,
+) -> Result<(), Stop> {
+    for place in 0..describer.len() {
+        if let Some(message) = describer.message(place)? {
+            count.add(message.level);
+            let pushed = push_message(alloc, console, form, &message);
+            drop(message);
+            pushed?;
+        }
+    }
+    Ok(())
+}
+
+// Prints all as one log in SARIF.
+fn print_log(
+    alloc: Global,
+    console: &mut Console<'_>,
+    describer: &mut Describer<'_, '_>,
+    count: &mut Count,
+) -> Result<(), AllocError> {
+    let mut messages = Vec::new(alloc);
+    for place in 0..describer.len() {
+        if let Some(message) = describer.message(place)? {
+            count.add(message.level);
+            keep(&mut messages, message)?;
+        }
+    }
+    push_sarif(alloc, &mut console.out, "0.1.0", RULES, messages.as_slice())
+}
+
+fn keep<'m>(messages: &mut Vec<Message<'m>>, message: Message<'m>) -> Result<(), AllocError> {
+    messages.push(message)?;
+    Ok(())
+}
+
+fn push_message(
+    alloc: Global,
+    console: &mut Console<'_>,
+    form: Form,
+    message: &Message<'_>,
+) -> Result<(), Stop> {
+    match form {
+        Form::Lines => push_line(alloc, &mut console.out, message)?,
+        Form::GitHub => push_annotation(&mut console.out, message)?,
+        _ => push_text(&mut console.out, message)?,
+    }
+    console.pass()
+}
+
+impl Count {
+    fn add(&mut self, level: Level) {
+        match level {
+            Level::Error => self.errors = self.errors.saturating_add(1),
+            Level::Note => self.notes = self.notes.saturating_add(1),
+        }
+    }
+}
+
+// The last line on standard error, but for the time.
+fn summary(rt: &HostRuntime, files: usize, count: Count) -> Result<(), Stop> {
+    let mut line = String::new(rt.alloc());
+    push_count(&mut line, files, "file")?;
+    line.push_str(", ")?;
+    push_count(&mut line, count.references, "reference")?;
+    line.push_str(", ")?;
+    push_count(&mut line, count.errors, "error")?;
+    line.push_str(", ")?;
+    push_count(&mut line, count.notes, "note")?;
+    let _ = eprint!(rt; "{line}");
+    Ok(())
+}
+
+fn push_count(line: &mut String, count: usize, what: &str) -> Result<(), AllocError> {
+    write!(line, "{count} {what}")?;
+    if count == 1 { Ok(()) } else { line.push('s') }
+}

@@ -1,0 +1,78 @@
+//! `patchsard places`.
+
+use crate::given::{Given, read_given};
+use crate::listing::push_document;
+use crate::world::{World, world_of};
+use clap::ArgMatches;
+use ref_index::Place;
+use ref_reading::{Console, Document, Stop, say_of};
+use std::alloc::Global;
+
+/// Lists each subschema of files. The status is 0, 1 where a file has no places for a fault of its own, and 2 where a
+/// path couldn't be read.
+pub fn places(
+    rt: &HostRuntime,
+    console: &mut Console<'_>,
+    given: &ArgMatches<'_>,
+) -> Result<u8, Stop> {
+    let read = read_given(rt, given)?;
+    let status = listed(rt, console, &read);
+    let has_failed = read.has_failed;
+    drop(read);
+    let status = status?;
+    Ok(if has_failed { 2 } else { status })
+}
+
+fn listed(rt: &HostRuntime, console: &mut Console<'_>, given: &Given) -> Result<u8, Stop> {
+    let alloc = rt.alloc();
+    let faulty = given.faulty(alloc)?;
+    let world = world_of(rt, given, faulty.as_slice())?;
+    let documents = given.documents.as_slice();
+    list_all(alloc, console, documents, &world)?;
+    Ok(report_left_out(rt, documents, faulty.as_slice()))
+}
+
+// Prints which files were left out, and returns the status.
+fn report_left_out(rt: &HostRuntime, documents: &[Document], faulty: &[bool]) -> u8 {
+    let mut status = 0;
+    for (document, is_faulty) in documents.iter().zip(faulty.iter()) {
+        if *is_faulty || document.value().is_none() {
+            let why = "left out, since it has faults: see patchsard lint";
+            say_of(rt, document.shown.as_str(), why);
+            status = 1;
+        }
+    }
+    status
+}
+
+fn list_all(
+    alloc: Global,
+    console: &mut Console<'_>,
+    documents: &[Document],
+    world: &World<'_>,
+) -> Result<(), Stop> {
+    let places = world.places(alloc)?;
+    let mut rest = places.as_slice();
+    for (number, source) in world.sources.iter().enumerate() {
+        let count = count_of(rest, number);
+        if let Some(document) = documents.get(*source) {
+            let own = rest.get(..count).unwrap_or(rest);
+            push_document(alloc, &mut console.out, document, own)?;
+            console.pass()?;
+        }
+        rest = rest.get(count..).unwrap_or(&[]);
+    }
+    Ok(())
+}
+
+// How many places come first that are those of a document.
+fn count_of(places: &[Place<'_>], document: usize) -> usize {
+    let mut count: usize = 0;
+    for place in places {
+        if place.document != document {
+            break;
+        }
+        count = count.saturating_add(1);
+    }
+    count
+}
